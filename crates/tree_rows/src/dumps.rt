@@ -1,103 +1,105 @@
 //! The dumps of databases as great as there may be.
-ghost use Rattle.std.specs.Prelude.{◌≤◌, length};
-ghost use Rattle.odb_ascii.specs.Dumps.{dump_limit};
-
+use crate::calls::is_saved;
 use daq_text::TextBuffer;
-use daq_types::{Bytes, NoMemory};
+use daq_types::NoMemory;
 use odb_arena::ArenaTree;
-use odb_ascii::{Loaded, load, save};
+use odb_ascii::{LoadRefusal, load};
 use std::alloc::Global;
 use std::test::Fail;
 
-/// Adds a key whose value is its number.
-fn add_key(text: &mut TextBuffer, number: u64) -> Result<(), NoMemory> {
-    text.text(b"k")?;
-    text.number(number)?;
-    text.text(b" = UINT32 : ")?;
+/// A database as great as there may be.
+#[derive(Clone, Copy)]
+enum Great {
+    /// 256 directories with 255 keys each, which are 65,536 rows.
+    Rows,
+    /// 65,536 keys of the root.
+    Keys,
+    /// A key with 65,536 items of 64 bytes, which are 4,194,304 bytes.
+    Items,
+}
+
+/// Adds the line of this number: that of an item, or that of a key with the number as its value.
+fn add_line(text: &mut TextBuffer, great: Great, number: u64) -> Result<(), NoMemory> {
+    match great {
+        Great::Items => text.text(b"[64] t")?,
+        _ => {
+            text.text(b"k")?;
+            text.number(number)?;
+            text.text(b" = UINT32 : ")?;
+        }
+    }
     text.number(number)?;
     text.end_line()
 }
 
-/// Adds a directory with 255 keys.
-fn add_dir(text: &mut TextBuffer, number: u64) -> Result<(), NoMemory> {
-    text.text(b"[/d")?;
-    text.number(number)?;
-    text.text(b"]\n")?;
-    for key in 0..255 {
-        add_key(text, key)?;
+/// Adds lines with these numbers.
+fn add_lines(text: &mut TextBuffer, great: Great, count: u64) -> Result<(), NoMemory> {
+    for number in 0..count {
+        add_line(text, great, number)?;
     }
     text.end_line()
 }
 
-/// The dump of 256 directories with 255 keys each, which are 65,536 rows.
-fn dump_of_rows(alloc: Global) -> Result<TextBuffer, NoMemory> {
-    let mut text = TextBuffer::new(alloc);
-    for number in 0..256 {
-        add_dir(&mut text, number)?;
+/// Adds directories with 255 keys each.
+fn add_dirs(text: &mut TextBuffer, count: u64) -> Result<(), NoMemory> {
+    for number in 0..count {
+        text.text(b"[/d")?;
+        text.number(number)?;
+        text.text(b"]\n")?;
+        add_lines(text, Great::Keys, 255)?;
     }
-    Ok(text)
-}
-
-/// The dump of 65,536 keys of the root.
-fn dump_of_keys(alloc: Global) -> Result<TextBuffer, NoMemory> {
-    let mut text = TextBuffer::new(alloc);
-    text.text(b"[/]\n")?;
-    for key in 0..65536 {
-        add_key(&mut text, key)?;
-    }
-    text.end_line()?;
-    Ok(text)
-}
-
-/// The dump of a key with 65,536 items of 64 bytes, which are 4,194,304 bytes.
-fn dump_of_items(alloc: Global) -> Result<TextBuffer, NoMemory> {
-    let mut text = TextBuffer::new(alloc);
-    text.text(b"[/]\nx = STRING[65536] :\n")?;
-    for item in 0..65536 {
-        text.text(b"[64] t")?;
-        text.number(item)?;
-        text.end_line()?;
-    }
-    text.end_line()?;
-    Ok(text)
-}
-
-/// What was loaded of a text into a new database, and the dump of that.
-fn loaded_and_saved(alloc: Global, text: &[u8]) -> Result<(Loaded, Bytes), Fail>
-    requires { length text.now ≤ dump_limit }
-{
-    let mut database = ArenaTree::new(alloc);
-    let loaded = load(alloc, &mut database, text)?;
-    let dump = save(alloc, &database)?;
-    Ok((loaded, dump))
-}
-
-#[test]
-fn as_many_rows_as_there_may_be_load_again(rt: HostRuntime) -> Result<(), Fail> {
-    let text = dump_of_rows(rt.alloc())?;
-    assert!(rt; text.as_slice().len() <= 268_435_456);
-    let (loaded, dump) = loaded_and_saved(rt.alloc(), text.as_slice())?;
-    assert_eq!(rt; loaded.keys, 65280);
-    assert_eq!(rt; dump.as_slice(), text.as_slice());
     Ok(())
 }
 
-#[test]
-fn as_many_keys_as_there_may_be_load_again(rt: HostRuntime) -> Result<(), Fail> {
-    let text = dump_of_keys(rt.alloc())?;
-    assert!(rt; text.as_slice().len() <= 268_435_456);
-    let (loaded, dump) = loaded_and_saved(rt.alloc(), text.as_slice())?;
-    assert_eq!(rt; loaded.keys, 65536);
-    assert_eq!(rt; dump.as_slice(), text.as_slice());
-    Ok(())
+/// The dump of such a database.
+fn dump_of(alloc: Global, great: Great) -> Result<TextBuffer, NoMemory> {
+    let mut text = TextBuffer::new(alloc);
+    match great {
+        Great::Rows => add_dirs(&mut text, 256)?,
+        Great::Keys => {
+            text.text(b"[/]\n")?;
+            add_lines(&mut text, great, 65536)?;
+        }
+        Great::Items => {
+            text.text(b"[/]\nx = STRING[65536] :\n")?;
+            add_lines(&mut text, great, 65536)?;
+        }
+    }
+    Ok(text)
+}
+
+/// How many keys the database loads of a text, where that is what it then is saved as.
+fn loads_again(
+    alloc: Global,
+    database: &mut ArenaTree,
+    text: &[u8],
+) -> Result<Option<u32>, LoadRefusal> {
+    if text.len() > 268_435_456 {
+        return Ok(None);
+    }
+    let loaded = load(alloc, database, text)?;
+    let saved = is_saved(alloc, database, text)?;
+    Ok(if saved { Some(loaded.keys) } else { None })
+}
+
+/// Such databases, and how many keys their dumps have.
+const GREAT: &[(Great, u32)] = &[
+    (Great::Rows, 65280),
+    (Great::Keys, 65536),
+    (Great::Items, 1),
+];
+
+/// Whether a new database does so with the dump of such a one.
+fn is_loaded_again(alloc: Global, great: Great, keys: u32) -> Result<bool, LoadRefusal> {
+    let text = dump_of(alloc, great)?;
+    let loaded = loads_again(alloc, &mut ArenaTree::new(alloc), text.as_slice())?;
+    Ok(loaded == Some(keys))
 }
 
 #[test]
-fn as_many_bytes_as_there_may_be_load_again(rt: HostRuntime) -> Result<(), Fail> {
-    let text = dump_of_items(rt.alloc())?;
-    assert!(rt; text.as_slice().len() <= 268_435_456);
-    let (loaded, dump) = loaded_and_saved(rt.alloc(), text.as_slice())?;
-    assert_eq!(rt; loaded.keys, 1);
-    assert_eq!(rt; dump.as_slice(), text.as_slice());
+fn as_much_as_there_may_be_loads_again(rt: HostRuntime) -> Result<(), Fail> {
+    for (great, keys) in GREAT {
+        assert!(rt; is_loaded_again(rt.alloc(), *great, *keys)?, "{keys} keys");
+    }
     Ok(())
 }

@@ -1,12 +1,12 @@
-//! The rows of calls and replies that each database must meet, tried on all of them, watched or not.
+//! The rows of calls and replies that each database must meet, tried on all, watched or not.
 #![tactic(auto)]
 
+#[cfg(test)]
+mod calls;
 #[cfg(test)]
 mod commands;
 #[cfg(test)]
 mod dumps;
-#[cfg(test)]
-mod journals;
 #[cfg(test)]
 mod lines;
 #[cfg(test)]

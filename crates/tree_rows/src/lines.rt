@@ -1,177 +1,192 @@
 //! Lines of each form, and lines that are none.
-use daq_types::Tid;
+use daq_types::{NoMemory, Tid};
 use odb_lines::{
-    array, bracketed, is_passed, item_alone, item_line, key_line, read_dir_line, single, split_line,
+    ReadItem, array, bracketed, is_passed, item_alone, item_line, key_line, read_dir_line, single,
+    split_line,
 };
+use odb_path::Path;
 use std::alloc::Global;
 use std::test::Fail;
 
-#[test]
-fn lines_that_are_passed_over(rt: HostRuntime) {
-    for (line, passed) in [
-        ("", true),
-        (" \t", true),
-        ("; x", true),
-        (" ;x", false),
-        ("[/A]", false),
-        ("x = INT : 5", false),
-    ] {
-        assert_eq!(rt; is_passed(line.as_bytes()), passed, "{line}");
+/// What a line is read as in one form of lines, or what stands behind a type.
+enum Reading {
+    Passed(bool),
+    /// The digits in brackets, and what stands behind them.
+    Bracketed(Option<(&'static str, &'static str)>),
+    /// How many names the path of the directory has.
+    Directory(Option<usize>),
+    /// The name and the type of a key, and what stands behind the type.
+    Key(Option<(&'static str, Tid, &'static str)>),
+    /// How many items, where there may be so many.
+    Array(Option<Option<u64>>),
+    Single(Option<&'static str>),
+    /// The size that is given for an item of this type and index.
+    Item(Tid, u64, Option<Option<u64>>),
+    /// The same for the one item of a key.
+    Alone(Tid, Option<Option<u64>>),
+    /// The first line of a text, and the others.
+    First(Option<(&'static str, &'static str)>),
+}
+
+use Reading::*;
+
+type Row = (&'static str, Reading);
+
+/// Lines of each form, and lines that are none of it.
+const LINES: &[Row] = &[
+    // Lines that are passed over, and others.
+    ("", Passed(true)),
+    (" \t", Passed(true)),
+    ("; x", Passed(true)),
+    (" ;x", Passed(false)),
+    ("[/A]", Passed(false)),
+    ("x = INT : 5", Passed(false)),
+    // Numbers in brackets.
+    ("[32] ADC left", Bracketed(Some(("32", " ADC left")))),
+    ("[007]", Bracketed(Some(("007", "")))),
+    ("[]", Bracketed(None)),
+    ("[x] 1", Bracketed(None)),
+    ("[0x1] 1", Bracketed(None)),
+    (" [1] 1", Bracketed(None)),
+    ("[1", Bracketed(None)),
+    ("1] 1", Bracketed(None)),
+    ("", Bracketed(None)),
+    // Lines of directories.
+    ("[/]", Directory(Some(0))),
+    ("[]", Directory(Some(0))),
+    ("[/Runinfo]", Directory(Some(1))),
+    ("[Equipment/FE] \t", Directory(Some(2))),
+    (" [/A]", Directory(None)),
+    ("[/A", Directory(None)),
+    ("[/A]x", Directory(None)),
+    ("[/A/]", Directory(None)),
+    ("[/A]]", Directory(None)),
+    ("/A]", Directory(None)),
+    ("", Directory(None)),
+    // Lines of keys.
+    ("State = INT : 1", Key(Some(("State", Tid::Int32, " : 1")))),
+    (
+        " \tRun number=INT32:1",
+        Key(Some(("Run number", Tid::Int32, ":1"))),
+    ),
+    ("x = INT8[2] :", Key(Some(("x", Tid::Int8, "[2] :")))),
+    (
+        "a = STRING : [32] b = c",
+        Key(Some(("a", Tid::Text, " : [32] b = c"))),
+    ),
+    ("x =\tFLOAT", Key(Some(("x", Tid::Float, "")))),
+    ("x", Key(None)),
+    ("= INT : 1", Key(None)),
+    ("a/b = INT : 1", Key(None)),
+    ("x = INTEGER : 1", Key(None)),
+    ("x = int : 1", Key(None)),
+    ("x : INT = 1", Key(None)),
+    ("", Key(None)),
+    // What stands behind a type.
+    ("[2] :", Array(Some(Some(2)))),
+    (" [002]\t:  ", Array(Some(Some(2)))),
+    ("[65536]:", Array(Some(Some(65536)))),
+    ("[65537] :", Array(Some(None))),
+    ("[0] :", Array(None)),
+    ("[] :", Array(None)),
+    ("[ 2] :", Array(None)),
+    ("[2]", Array(None)),
+    ("[2] : 1", Array(None)),
+    (" : 1", Array(None)),
+    (" :  [2] ", Single(Some("  [2] "))),
+    ("[2] :", Single(None)),
+    // Lines of items, and items alone.
+    ("[0] 10", Item(Tid::Int32, 0, Some(Some(0)))),
+    ("[12]10", Item(Tid::Int32, 12, Some(Some(0)))),
+    ("[01] 10", Item(Tid::Int32, 1, None)),
+    ("[0] 10", Item(Tid::Int32, 1, None)),
+    ("[0] ten", Item(Tid::Int32, 0, None)),
+    ("[32] ADC right", Item(Tid::Text, 1, Some(Some(32)))),
+    ("[032] ", Item(Tid::Text, 1, Some(Some(32)))),
+    ("[1025] x", Item(Tid::Text, 1, Some(None))),
+    (" [32] x", Item(Tid::Text, 1, None)),
+    ("[0] 1.5", Item(Tid::Float, 0, None)),
+    (" [32] Mon", Alone(Tid::Text, Some(Some(32)))),
+    ("[32] ", Alone(Tid::Text, Some(Some(32)))),
+    ("  [3] a", Alone(Tid::Text, None)),
+    (" ", Alone(Tid::Char, Some(Some(0)))),
+    ("  ", Alone(Tid::Char, Some(Some(0)))),
+    ("   ", Alone(Tid::Char, None)),
+    ("   5 ", Alone(Tid::UInt8, Some(Some(0)))),
+    (" 300", Alone(Tid::UInt8, None)),
+    // The lines of a text.
+    (
+        "[/A]\r\n\nx = INT : 5\r",
+        First(Some(("[/A]", "\nx = INT : 5\r"))),
+    ),
+    ("\nx = INT : 5\r", First(Some(("", "x = INT : 5\r")))),
+    ("x = INT : 5\r", First(Some(("x = INT : 5\r", "")))),
+    ("", First(None)),
+];
+
+/// Whether these are the two texts.
+fn are_both(found: Option<(&[u8], &[u8])>, wanted: Option<(&str, &str)>) -> bool {
+    match (found, wanted) {
+        (None, None) => true,
+        (Some((left, right)), Some((first, second))) => {
+            left == first.as_bytes() && right == second.as_bytes()
+        }
+        _ => false,
     }
 }
 
-#[test]
-fn numbers_in_brackets(rt: HostRuntime) {
-    assert!(rt;
-        matches!(bracketed(b"[32] ADC left"), Some((digits, rest))
-            if digits == b"32".as_slice() && rest == b" ADC left".as_slice())
-    );
-    assert!(rt;
-        matches!(bracketed(b"[007]"), Some((digits, rest))
-            if digits == b"007".as_slice() && rest.is_empty())
-    );
-    for line in ["[]", "[x] 1", "[0x1] 1", " [1] 1", "[1", "1] 1", ""] {
-        assert!(rt; bracketed(line.as_bytes()).is_none(), "{line}");
-    }
-}
-
-#[test]
-fn lines_of_directories(rt: HostRuntime) -> Result<(), Fail> {
-    for (line, names) in [
-        ("[/]", 0),
-        ("[]", 0),
-        ("[/Runinfo]", 1),
-        ("[Equipment/FE] \t", 2),
-    ] {
-        let path = read_dir_line(rt.alloc(), line.as_bytes())?;
-        assert_eq!(rt; path.map(|path| path.names().len()), Some(names), "{line}");
-    }
-    for line in [" [/A]", "[/A", "[/A]x", "[/A/]", "[/A]]", "/A]", ""] {
-        let path = read_dir_line(rt.alloc(), line.as_bytes())?;
-        assert!(rt; path.is_none(), "{line}");
-    }
-    Ok(())
-}
-
-/// Whether the line is that of a key with this name and type, and this text behind the type.
-fn is_key(line: &str, name: &str, tid: Tid, rest: &str) -> bool {
-    match key_line(line.as_bytes()) {
-        None => false,
-        Some((found, type_found, behind)) => {
+/// Whether the line is that of this key.
+fn is_key(line: &[u8], wanted: Option<(&str, Tid, &str)>) -> bool {
+    match (key_line(line), wanted) {
+        (None, None) => true,
+        (Some((found, type_found, behind)), Some((name, tid, rest))) => {
             found.as_slice() == name.as_bytes() && type_found == tid && behind == rest.as_bytes()
         }
+        _ => false,
     }
+}
+
+/// Whether this is the text of one item.
+fn is_single(rest: &[u8], wanted: Option<&str>) -> bool {
+    match (single(rest), wanted) {
+        (None, None) => true,
+        (Some(text), Some(wanted)) => text == wanted.as_bytes(),
+        _ => false,
+    }
+}
+
+fn names_of(path: Option<Path>) -> Option<usize> {
+    match path {
+        None => None,
+        Some(path) => Some(path.names().len()),
+    }
+}
+
+fn size_of(item: Option<ReadItem>) -> Option<Option<u64>> {
+    match item {
+        None => None,
+        Some(read) => Some(read.size),
+    }
+}
+
+fn is_read(alloc: Global, line: &[u8], reading: &Reading) -> Result<bool, NoMemory> {
+    Ok(match reading {
+        Passed(passed) => is_passed(line) == *passed,
+        Bracketed(parts) => are_both(bracketed(line), *parts),
+        Directory(names) => names_of(read_dir_line(alloc, line)?) == *names,
+        Key(key) => is_key(line, *key),
+        Array(count) => array(line) == *count,
+        Single(text) => is_single(line, *text),
+        Item(tid, index, size) => size_of(item_line(alloc, *tid, *index, line)?) == *size,
+        Alone(tid, size) => size_of(item_alone(alloc, *tid, line)?) == *size,
+        First(parts) => are_both(split_line(line), *parts),
+    })
 }
 
 #[test]
-fn lines_of_keys(rt: HostRuntime) {
-    for (line, name, tid, rest) in [
-        ("State = INT : 1", "State", Tid::Int32, " : 1"),
-        (" \tRun number=INT32:1", "Run number", Tid::Int32, ":1"),
-        ("x = INT8[2] :", "x", Tid::Int8, "[2] :"),
-        ("a = STRING : [32] b = c", "a", Tid::Text, " : [32] b = c"),
-        ("x =\tFLOAT", "x", Tid::Float, ""),
-    ] {
-        assert!(rt; is_key(line, name, tid, rest), "{line}");
-    }
-    for line in [
-        "x",
-        "= INT : 1",
-        "a/b = INT : 1",
-        "x = INTEGER : 1",
-        "x = int : 1",
-        "x : INT = 1",
-        "",
-    ] {
-        assert!(rt; key_line(line.as_bytes()).is_none(), "{line}");
-    }
-}
-
-#[test]
-fn what_stands_behind_a_type(rt: HostRuntime) {
-    for (rest, count) in [
-        ("[2] :", Some(Some(2))),
-        (" [002]\t:  ", Some(Some(2))),
-        ("[65536]:", Some(Some(65536))),
-        ("[65537] :", Some(None)),
-        ("[0] :", None),
-        ("[] :", None),
-        ("[ 2] :", None),
-        ("[2]", None),
-        ("[2] : 1", None),
-        (" : 1", None),
-    ] {
-        assert_eq!(rt; array(rest.as_bytes()), count, "{rest}");
-    }
-    assert!(rt; matches!(single(b" :  [2] "), Some(text) if text == b"  [2] ".as_slice()));
-    assert!(rt; single(b"[2] :").is_none());
-}
-
-/// The size that is given for an item, where the line is that of an item.
-fn given(alloc: Global, tid: Tid, index: u64, line: &str) -> Result<Option<Option<u64>>, Fail> {
-    match item_line(alloc, tid, index, line.as_bytes())? {
-        None => Ok(None),
-        Some(read) => Ok(Some(read.size)),
-    }
-}
-
-/// The same for the one item of a key.
-fn given_alone(alloc: Global, tid: Tid, text: &str) -> Result<Option<Option<u64>>, Fail> {
-    match item_alone(alloc, tid, text.as_bytes())? {
-        None => Ok(None),
-        Some(read) => Ok(Some(read.size)),
-    }
-}
-
-#[test]
-fn lines_of_items(rt: HostRuntime) -> Result<(), Fail> {
-    for (tid, index, line, size) in [
-        (Tid::Int32, 0, "[0] 10", Some(Some(0))),
-        (Tid::Int32, 12, "[12]10", Some(Some(0))),
-        (Tid::Int32, 1, "[01] 10", None),
-        (Tid::Int32, 1, "[0] 10", None),
-        (Tid::Int32, 0, "[0] ten", None),
-        (Tid::Text, 1, "[32] ADC right", Some(Some(32))),
-        (Tid::Text, 1, "[032] ", Some(Some(32))),
-        (Tid::Text, 1, "[1025] x", Some(None)),
-        (Tid::Text, 1, " [32] x", None),
-        (Tid::Float, 0, "[0] 1.5", None),
-    ] {
-        let read = given(rt.alloc(), tid, index, line)?;
-        assert_eq!(rt; read, size, "{line}");
-    }
-    for (tid, text, size) in [
-        (Tid::Text, " [32] Mon", Some(Some(32))),
-        (Tid::Text, "[32] ", Some(Some(32))),
-        (Tid::Text, "  [3] a", None),
-        (Tid::Char, " ", Some(Some(0))),
-        (Tid::Char, "  ", Some(Some(0))),
-        (Tid::Char, "   ", None),
-        (Tid::UInt8, "   5 ", Some(Some(0))),
-        (Tid::UInt8, " 300", None),
-    ] {
-        let read = given_alone(rt.alloc(), tid, text)?;
-        assert_eq!(rt; read, size, "{text}");
+fn lines_are_read_by_the_rows(rt: HostRuntime) -> Result<(), Fail> {
+    for (line, reading) in LINES {
+        assert!(rt; is_read(rt.alloc(), line.as_bytes(), reading)?, "{line}");
     }
     Ok(())
-}
-
-#[test]
-fn lines_of_a_text(rt: HostRuntime) {
-    let text = b"[/A]\r\n\nx = INT : 5\r".as_slice();
-    let mut rest = text;
-    for line in [
-        b"[/A]".as_slice(),
-        b"".as_slice(),
-        b"x = INT : 5\r".as_slice(),
-    ] {
-        match split_line(rest) {
-            None => assert!(rt; false),
-            Some((found, behind)) => {
-                assert_eq!(rt; found, line);
-                rest = behind;
-            }
-        }
-    }
-    assert!(rt; split_line(rest).is_none());
 }

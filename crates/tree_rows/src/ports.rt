@@ -1,83 +1,89 @@
-//! Each call once, through the trait, and whose it is in the journal.
-ghost use Rattle.std.specs.Prelude.{◌≡◌, ◌≤◌, IfOk};
-ghost use Rattle.daq_types.specs.Callers.{main_caller};
-
-use daq_types::{Caller, NoMemory, Tid};
+//! Calls by a port, each made on a database that notes it, and whose they are in the journal.
+use crate::calls::{Call, Reply, Row, item_of, named, value_of};
+use daq_types::{Caller, Tid};
 use odb_journal::LocalDatabase;
 use odb_path::Path;
 use odb_port::{DatabasePort, LocalAccess};
-use odb_tree::{NewKey, PlainTree};
-use odb_value::Item;
+use odb_tree::{DatabaseEntry, NewKey, OdbRefusal, PlainTree};
 use std::alloc::Global;
+use std::sync::Wait;
 use std::test::Fail;
 
-/// A port of the main thread to a database without rows, with room for three calls.
-fn main_port(alloc: Global) -> Result<LocalAccess<PlainTree>, NoMemory>
-    ensures room { IfOk result (λ port. 3 ≤ port.room) }
-    ensures main { IfOk result (λ port. port.caller ≡ main_caller) }
-{
+/// Calls and their replies. A member writes the items, and the main thread makes the other calls.
+const CALLS: &[Row] = &[
+    (
+        "/A/b",
+        Call::Set(1, Tid::UInt8, "255"),
+        Err(OdbRefusal::NoKey),
+    ),
+    ("/", Call::Find, Ok(0)),
+    ("/", Call::List, Ok(0)),
+    ("/", Call::PathOf(0), Ok(0)),
+    ("/A/b", Call::Keys(Tid::UInt8, 2), Ok(2)),
+    ("/A/b", Call::Get, Ok(2)),
+    ("/A/b", Call::SetAll(Tid::UInt8, 2), Ok(2)),
+    ("/A/b", Call::Set(1, Tid::UInt8, "255"), Ok(2)),
+    ("/a/B", Call::Find, Ok(2)),
+    ("/", Call::List, Ok(1)),
+    ("/", Call::PathOf(2), Ok(2)),
+    ("/A/b", Call::Resize(3), Ok(2)),
+    ("/A/b", Call::SetAll(Tid::UInt8, 2), Ok(2)),
+    ("/A/b", Call::Delete, Ok(1)),
+];
+
+fn by_port<R: Wait>(
+    rt: &R,
+    alloc: Global,
+    port: &mut LocalAccess<PlainTree>,
+    path: Path,
+    call: Call,
+) -> Reply {
+    port.set_caller(Caller::MAIN);
+    port.reserve(1)?;
+    match call {
+        Call::Keys(tid, len) => port.create(rt, alloc, path, NewKey::Keys { tid, len }),
+        Call::Set(index, tid, text) => {
+            port.set_caller(Caller::of_client(0));
+            port.set(rt, alloc, path, index, item_of(alloc, tid, text)?)
+        }
+        Call::SetAll(tid, len) => port.set_all(rt, alloc, path, value_of(alloc, tid, len)?),
+        Call::Get => Ok(port.get(rt, alloc, path)?.items().len() as u32),
+        Call::Find => port.find(rt, path),
+        Call::List => Ok(port.list(rt, alloc, path)?.as_slice().len().min(9) as u32),
+        Call::Delete => port.delete(rt, path),
+        Call::Resize(len) => port.resize(rt, alloc, path, len),
+        Call::PathOf(row) => named(port.path_of(rt, alloc, row)?),
+        _ => Err(OdbRefusal::NoMemory),
+    }
+}
+
+/// Whether these are the calls of the rows, the two of a member among them.
+fn are_noted(entries: &[(Caller, DatabaseEntry)]) -> bool {
+    entries.len() == CALLS.len() && is_members(&entries[0]) && is_members(&entries[7])
+}
+
+fn is_members(entry: &(Caller, DatabaseEntry)) -> bool {
+    match entry {
+        (caller, DatabaseEntry::Set { index, .. }) => *caller == Caller::of_client(0)
+            && *index == 1,
+        _ => false,
+    }
+}
+
+#[test]
+fn calls_by_a_port_are_noted(rt: HostRuntime) -> Result<(), Fail> {
+    let alloc = rt.alloc();
     let database = LocalDatabase::new(alloc, PlainTree::new(alloc));
     let mut port = LocalAccess::new(database, Caller::MAIN);
-    port.reserve(3)?;
-    Ok(port)
-}
-
-/// A key of two bytes.
-const BYTES: NewKey = NewKey::Keys {
-    tid: Tid::UInt8,
-    len: 2,
-};
-
-#[test]
-fn a_key_is_made_and_removed(rt: HostRuntime) -> Result<(), Fail> {
-    let alloc = rt.alloc();
-    let mut port = main_port(alloc)?;
-    let made = port.create(&rt, alloc, Path::read(alloc, b"/A/b")?, BYTES);
-    assert_eq!(rt; made, Ok(2));
-    let resized = port.resize(&rt, alloc, Path::read(alloc, b"/A/b")?, 3);
-    assert_eq!(rt; resized, Ok(2));
-    let gone = port.delete(&rt, Path::read(alloc, b"/A/b")?);
-    assert_eq!(rt; gone, Ok(1));
-    Ok(())
-}
-
-#[test]
-fn a_value_is_got_and_set(rt: HostRuntime) -> Result<(), Fail> {
-    let alloc = rt.alloc();
-    let mut port = main_port(alloc)?;
-    let _ = port.create(&rt, alloc, Path::read(alloc, b"/A/b")?, BYTES);
-    let value = port.get(&rt, alloc, Path::read(alloc, b"/A/b")?)?;
-    assert_eq!(rt; value.items().len(), 2);
-    let replaced = port.set_all(&rt, alloc, Path::read(alloc, b"/A/b")?, value);
-    assert_eq!(rt; replaced, Ok(2));
-    Ok(())
-}
-
-#[test]
-fn rows_are_found(rt: HostRuntime) -> Result<(), Fail> {
-    let alloc = rt.alloc();
-    let mut port = main_port(alloc)?;
-    let found = port.find(&rt, Path::root(alloc));
-    assert_eq!(rt; found, Ok(0));
-    let children = port.list(&rt, alloc, Path::root(alloc))?;
-    assert!(rt; children.as_slice().is_empty());
-    let path = port.path_of(&rt, alloc, 0)?;
-    assert!(rt; path.is_some());
-    Ok(())
-}
-
-#[test]
-fn a_call_is_its_callers(rt: HostRuntime) -> Result<(), Fail> {
-    let alloc = rt.alloc();
-    let mut port = main_port(alloc)?;
-    let member = Caller::of_client(0);
-    port.set_caller(member);
-    let set = port.set(&rt, alloc, Path::read(alloc, b"/A/b")?, 1, Item::UInt8(255));
-    assert!(rt; set.is_err());
-    let (_, journal) = port.into_database().into_parts();
-    match journal.as_slice() {
-        [(caller, _)] => assert_eq!(rt; *caller, member),
-        _ => assert!(rt; false),
+    for (text, call, wanted) in CALLS {
+        let path = Path::read(alloc, text.as_bytes())?;
+        assert!(rt;
+            by_port(&rt, alloc, &mut port, path, *call) == *wanted,
+            "{text}"
+        );
     }
+    port.tells_legal();
+    let (_, journal) = port.into_database().into_parts();
+    assert!(rt; are_noted(journal.as_slice()));
     Ok(())
 }

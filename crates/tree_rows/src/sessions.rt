@@ -1,7 +1,4 @@
 //! The database of a new session, the number of the next run, and the front-end's key.
-ghost use Rattle.std.specs.Prelude.{◌≡◌, IfOk};
-ghost use Rattle.daq_types.specs.Callers.{main_caller};
-
 use daq_types::{Caller, Name, NoMemory, Tid};
 use odb_journal::LocalDatabase;
 use odb_path::Path;
@@ -13,6 +10,69 @@ use std::alloc::Global;
 use std::sync::Wait;
 use std::test::Fail;
 
+/// What the main thread does in a new session.
+enum Step {
+    /// Opens the front-end.
+    Open,
+    /// Makes a key in the place of the front-end.
+    MakeKey,
+    /// Makes this the number of the last run.
+    Last(i32),
+    /// Asks for the number of the next run, which is this.
+    Next(Result<u32, RunNumber>),
+}
+
+use Step::*;
+
+/// The number that a key holds at last, or the front-end's key.
+type Number = (Option<RunKey>, u64);
+
+/// The steps of a session, what its last call is answered if that makes a key, and numbers then.
+struct Story {
+    about: &'static str,
+    steps: &'static [Step],
+    made: Option<Result<u32, OdbRefusal>>,
+    numbers: &'static [Number],
+}
+
+const STORIES: &[Story] = &[
+    Story {
+        about: "a new session has a next number before a run and behind one",
+        steps: &[Open, Next(Ok(1)), Last(1), Next(Ok(2))],
+        made: None,
+        numbers: &[
+            (Some(RunKey::State), 1),
+            (Some(RunKey::RunNumber), 1),
+            (Some(RunKey::StartTime), 0),
+            (Some(RunKey::StopTime), 0),
+            (None, 0),
+        ],
+    },
+    Story {
+        about: "no number comes next",
+        steps: &[
+            Last(i32::MAX),
+            Next(Err(RunNumber { have: i32::MAX })),
+            Last(-1),
+            Next(Err(RunNumber { have: -1 })),
+        ],
+        made: None,
+        numbers: &[],
+    },
+    Story {
+        about: "the front-end is there already",
+        steps: &[Open, Open],
+        made: Some(Err(OdbRefusal::Exists)),
+        numbers: &[(None, 0)],
+    },
+    Story {
+        about: "a value stands in the place of the front-end",
+        steps: &[MakeKey, Open],
+        made: Some(Err(OdbRefusal::NotDir)),
+        numbers: &[],
+    },
+];
+
 /// The front-end.
 fn front_end() -> Name {
     match Name::new(b"FE") {
@@ -22,169 +82,115 @@ fn front_end() -> Name {
 }
 
 /// A port of the main thread to the database of a new session.
-fn session_port(alloc: Global) -> Result<LocalAccess<PlainTree>, NoMemory>
-    ensures { IfOk result (λ port. port.caller ≡ main_caller) }
-{
+fn session_port(alloc: Global) -> Result<LocalAccess<PlainTree>, NoMemory> {
     let mut tree = PlainTree::new(alloc);
     open(alloc, &mut tree)?;
     let database = LocalDatabase::new(alloc, tree);
     Ok(LocalAccess::new(database, Caller::MAIN))
 }
 
-/// Opens the front-end.
-fn open_once<R: Wait>(
+fn path_of(alloc: Global, text: &[u8]) -> Result<Path, OdbRefusal> {
+    match Path::read(alloc, text) {
+        Ok(path) => Ok(path),
+        Err(_) => Err(OdbRefusal::NoMemory),
+    }
+}
+
+/// Takes the step, and answers whether it is answered as it must be.
+fn take<R: Wait>(
     rt: &R,
     alloc: Global,
     port: &mut LocalAccess<PlainTree>,
-) -> Result<(), NoMemory>
-    requires { port.old.caller ≡ main_caller }
-    ensures { port.new.caller ≡ main_caller }
-{
-    port.reserve(1)?;
-    let opened = open_front(rt, alloc, port, front_end());
+    step: &Step,
+) -> Result<bool, OdbRefusal> {
     port.set_caller(Caller::MAIN);
-    opened
-}
-
-/// The number of the next run.
-fn next_once<R: Wait>(
-    rt: &R,
-    alloc: Global,
-    port: &mut LocalAccess<PlainTree>,
-) -> Result<Result<u32, RunNumber>, NoMemory> {
     port.reserve(1)?;
-    next_run(rt, alloc, port)
+    match step {
+        Open => open_front(rt, alloc, port, front_end())?,
+        MakeKey => {
+            let kind = NewKey::Keys {
+                tid: Tid::UInt8,
+                len: 1,
+            };
+            let _ = port.create(rt, alloc, path_of(alloc, b"/Equipment/FE")?, kind)?;
+        }
+        Last(number) => {
+            let path = RunKey::RunNumber.path(alloc)?;
+            let _ = port.set(rt, alloc, path, 0, Item::Int32(*number));
+        }
+        Next(wanted) => return Ok(next_run(rt, alloc, port)? == *wanted),
+    }
+    Ok(true)
 }
 
-/// Makes this the number of the last run.
-fn number_is<R: Wait>(
-    rt: &R,
-    alloc: Global,
-    port: &mut LocalAccess<PlainTree>,
-    have: i32,
-) -> Result<(), NoMemory> {
-    let path = RunKey::RunNumber.path(alloc)?;
-    port.reserve(1)?;
-    let _ = port.set(rt, alloc, path, 0, Item::Int32(have));
-    Ok(())
+/// What the last call was answered, where it made a key for the main thread.
+fn last_made(entries: &[(Caller, DatabaseEntry)]) -> Option<Result<u32, OdbRefusal>> {
+    match entries.last() {
+        Some((caller, DatabaseEntry::Create { reply, .. })) if *caller == Caller::MAIN => Some(
+            *reply,
+        ),
+        _ => None,
+    }
 }
 
-/// Makes a key.
-fn make_key<R: Wait>(
-    rt: &R,
-    alloc: Global,
-    port: &mut LocalAccess<PlainTree>,
-    path: &[u8],
-) -> Result<(), Fail>
-    requires { port.old.caller ≡ main_caller }
-    ensures { port.new.caller ≡ main_caller }
-{
-    port.reserve(1)?;
-    let path = Path::read(alloc, path)?;
-    let kind = NewKey::Keys {
-        tid: Tid::UInt8,
-        len: 1,
-    };
-    let made = port.create(rt, alloc, path, kind);
-    port.set_caller(Caller::MAIN);
-    made?;
-    Ok(())
-}
-
-/// The one number at this path; 0 where it is below 0, and where there is none.
-fn number_at(alloc: Global, tree: &PlainTree, path: &Path) -> Result<u64, Fail> {
+/// Whether the one item at this path is this number.
+fn holds(alloc: Global, tree: &PlainTree, path: &Path, wanted: u64) -> Result<bool, OdbRefusal> {
     let value = tree.get(alloc, path)?;
-    match value.items() {
-        [Item::Int32(number)] => Ok(u64::try_from(*number).unwrap_or(0)),
-        [Item::UInt32(number)] => Ok(*number as u64),
-        [Item::UInt64(number)] => Ok(*number),
-        _ => Ok(0),
+    Ok(match value.items() {
+        [Item::Int32(number)] => u64::try_from(*number) == Ok(wanted),
+        [Item::UInt32(number)] => *number as u64 == wanted,
+        [Item::UInt64(number)] => *number == wanted,
+        _ => false,
+    })
+}
+
+/// Whether a key or the front-end's key holds this number.
+fn is_number(alloc: Global, tree: &PlainTree, number: &Number) -> Result<bool, OdbRefusal> {
+    let (key, wanted) = number;
+    let path = match key {
+        Some(key) => key.path(alloc)?,
+        None => sent_path(alloc, front_end())?,
+    };
+    holds(alloc, tree, &path, *wanted)
+}
+
+/// Takes the steps, and answers whether each is answered as it must be.
+fn take_all<R: Wait>(
+    rt: &R,
+    alloc: Global,
+    port: &mut LocalAccess<PlainTree>,
+    steps: &[Step],
+) -> Result<bool, OdbRefusal> {
+    let mut so = true;
+    for step in steps {
+        so &= take(rt, alloc, port, step)?;
     }
+    Ok(so)
 }
 
-/// The number of a key of `/Runinfo`.
-fn parameter(alloc: Global, tree: &PlainTree, key: RunKey) -> Result<u64, Fail> {
-    let path = key.path(alloc)?;
-    number_at(alloc, tree, &path)
-}
-
-/// How many events the front-end sent.
-fn sent(alloc: Global, tree: &PlainTree) -> Result<u64, Fail> {
-    let path = sent_path(alloc, front_end())?;
-    number_at(alloc, tree, &path)
-}
-
-#[test]
-fn a_new_session(rt: HostRuntime) -> Result<(), Fail> {
-    let alloc = rt.alloc();
-    let mut port = session_port(alloc)?;
-    open_once(&rt, alloc, &mut port)?;
-    assert_eq!(rt; next_once(&rt, alloc, &mut port)?, Ok(1));
-    number_is(&rt, alloc, &mut port, 1)?;
-    assert_eq!(rt; next_once(&rt, alloc, &mut port)?, Ok(2));
-    let (tree, journal) = port.into_database().into_parts();
-    assert_eq!(rt; journal.len(), 4);
-    assert_eq!(rt; parameter(alloc, &tree, RunKey::State)?, 1);
-    assert_eq!(rt; parameter(alloc, &tree, RunKey::RunNumber)?, 1);
-    assert_eq!(rt; parameter(alloc, &tree, RunKey::StartTime)?, 0);
-    assert_eq!(rt; parameter(alloc, &tree, RunKey::StopTime)?, 0);
-    assert_eq!(rt; sent(alloc, &tree)?, 0);
-    Ok(())
-}
-
-#[test]
-fn no_number_comes_next(rt: HostRuntime) -> Result<(), Fail> {
-    let alloc = rt.alloc();
-    let mut port = session_port(alloc)?;
-    for have in [i32::MAX, -1] {
-        number_is(&rt, alloc, &mut port, have)?;
-        assert_eq!(rt; next_once(&rt, alloc, &mut port)?, Err(RunNumber { have }));
+/// Whether all hold these numbers.
+fn are_numbers(alloc: Global, tree: &PlainTree, numbers: &[Number]) -> Result<bool, OdbRefusal> {
+    let mut so = true;
+    for number in numbers {
+        so &= is_number(alloc, tree, number)?;
     }
-    Ok(())
+    Ok(so)
 }
 
-#[test]
-fn the_front_end_is_there_already(rt: HostRuntime) -> Result<(), Fail> {
-    let alloc = rt.alloc();
+/// Whether the steps come to what the story tells.
+fn comes_so<R: Wait>(rt: &R, alloc: Global, story: &Story) -> Result<bool, OdbRefusal> {
     let mut port = session_port(alloc)?;
-    open_once(&rt, alloc, &mut port)?;
-    open_once(&rt, alloc, &mut port)?;
+    let answered = take_all(rt, alloc, &mut port, story.steps)?;
     let (tree, journal) = port.into_database().into_parts();
-    let entries = journal.as_slice();
-    assert_eq!(rt; entries.len(), 2);
-    let (caller, again) = &entries[1];
-    assert_eq!(rt; *caller, Caller::MAIN);
-    assert!(rt;
-        matches!(
-            again,
-            DatabaseEntry::Create {
-                reply: Err(OdbRefusal::Exists),
-                ..
-            }
-        )
-    );
-    assert_eq!(rt; sent(alloc, &tree)?, 0);
-    Ok(())
+    let noted = journal.len() == story.steps.len();
+    let made = last_made(journal.as_slice()) == story.made;
+    Ok(answered & noted & made & are_numbers(alloc, &tree, story.numbers)?)
 }
 
 #[test]
-fn a_value_stands_in_the_place_of_the_front_end(rt: HostRuntime) -> Result<(), Fail> {
-    let alloc = rt.alloc();
-    let mut port = session_port(alloc)?;
-    make_key(&rt, alloc, &mut port, b"/Equipment/FE")?;
-    open_once(&rt, alloc, &mut port)?;
-    let (_, journal) = port.into_database().into_parts();
-    let entries = journal.as_slice();
-    assert_eq!(rt; entries.len(), 2);
-    let (_, opened) = &entries[1];
-    assert!(rt;
-        matches!(
-            opened,
-            DatabaseEntry::Create {
-                reply: Err(OdbRefusal::NotDir),
-                ..
-            }
-        )
-    );
+fn sessions_come_to_what_is_told(rt: HostRuntime) -> Result<(), Fail> {
+    for story in STORIES {
+        assert!(rt; comes_so(&rt, rt.alloc(), story)?, "{}", story.about);
+    }
     Ok(())
 }

@@ -1,285 +1,293 @@
-//! One table of rows for both databases.
+//! Rows of calls, a copy's too, for both databases.
+use crate::calls::{Call, Reply, Row, run};
+use crate::texts::{BEGUN, ENDED_EMPTY, SESSION};
 use daq_types::Tid;
 use odb_arena::ArenaTree;
-use odb_ascii::save;
-use odb_path::Path;
-use odb_tree::{Database, NewKey, OdbRefusal, PlainTree, What};
-use odb_value::{Item, TextBytes, Value};
+use odb_tree::{Database, OdbRefusal, PlainTree, What};
 use std::alloc::Global;
 use std::process::Abort;
 use std::test::Fail;
 
-/// A call of a row, whose reply is a number here.
-#[derive(Clone, Copy)]
-enum Call {
-    Dir,
-    Keys(Tid, u32),
-    /// A number, at an index.
-    Set(u32),
-    SetByte(u32),
-    /// A text of so many bytes, at an index.
-    SetText(u32, usize),
-    /// So many items.
-    SetAll(Tid, u32),
-    /// How many items.
-    Get,
-    Find,
-    /// How many children.
-    List,
-    Delete,
-    Resize(u32),
-}
+/// Calls on a new database, then on a copy of it, and then on the first again.
+type Story = (&'static [Row], &'static [Row], &'static [Row]);
 
-type Reply = Result<u32, OdbRefusal>;
+/// It has values of this other type.
+const UINT32: Reply = Err(OdbRefusal::TypeMismatch { have: Tid::UInt32 });
 
-fn set_text<D: Database>(
-    alloc: Global,
-    database: &mut D,
-    path: &Path,
-    index: u32,
-    len: usize,
-) -> Reply {
-    let bytes = vec![in alloc; b'x'; len]?;
-    match TextBytes::bad_place(bytes.as_slice()) {
-        Some(_) => Err(OdbRefusal::NoMemory),
-        None => database.set(alloc, path, index, &Item::Text(TextBytes::of(bytes))),
-    }
-}
+const ITEMS: Reply = Err(OdbRefusal::Limit { what: What::Items });
 
-fn set_all<D: Database>(alloc: Global, database: &mut D, path: &Path, tid: Tid, len: u32) -> Reply {
-    let len = len.clamp(1, 65536);
-    let value = match tid {
-        Tid::UInt8 => Value::new(alloc, Tid::UInt8, len)?,
-        _ => Value::new(alloc, Tid::UInt32, len)?,
-    };
-    database.set_all(alloc, path, &value)
-}
+const SIZE: Reply = Err(OdbRefusal::Limit { what: What::Size });
 
-fn reply<D: Database>(alloc: Global, database: &mut D, path: &Path, call: Call) -> Reply {
-    match call {
-        Call::Dir => database.create(alloc, path, NewKey::Dir),
-        Call::Keys(tid, len) => database.create(alloc, path, NewKey::Keys { tid, len }),
-        Call::Set(index) => database.set(alloc, path, index, &Item::UInt32(7)),
-        Call::SetByte(index) => database.set(alloc, path, index, &Item::UInt8(7)),
-        Call::SetText(index, len) => set_text(alloc, database, path, index, len),
-        Call::SetAll(tid, len) => set_all(alloc, database, path, tid, len),
-        Call::Get => Ok(database.get(alloc, path)?.items().len() as u32),
-        Call::Find => database.find(path),
-        Call::List => Ok(database.list(alloc, path)?.as_slice().len().min(9) as u32),
-        Call::Delete => database.delete(path),
-        Call::Resize(len) => database.resize(alloc, path, len),
-    }
-}
+const TOTAL: Reply = Err(OdbRefusal::Limit { what: What::Total });
 
-type Row<'a> = (&'a str, Call, Reply);
+const FLOAT: Reply = Err(OdbRefusal::NotKept { tid: Tid::Float });
 
-fn run<D: Database>(
+const NO_INDEX_1: Reply = Err(OdbRefusal::BadIndex { len: 1 });
+
+/// Keys are made and removed.
+const KEYS: &[Row] = &[
+    ("/", Call::Dir, Err(OdbRefusal::Exists)),
+    ("/A/x", Call::Keys(Tid::UInt32, 2), Ok(2)),
+    ("/a/X", Call::Keys(Tid::Float, 0), Err(OdbRefusal::Exists)),
+    ("/A/x/y", Call::Keys(Tid::Float, 0), Err(OdbRefusal::NotDir)),
+    ("/B/f", Call::Keys(Tid::Float, 0), FLOAT),
+    ("/B/f", Call::Keys(Tid::UInt8, 0), ITEMS),
+    ("/B/f", Call::Keys(Tid::UInt8, 65537), ITEMS),
+    ("/B", Call::Find, Err(OdbRefusal::NoKey)),
+    ("/A/d", Call::Dir, Ok(3)),
+    ("/A/y", Call::Keys(Tid::Int8, 1), Ok(4)),
+    ("/A", Call::List, Ok(3)),
+    ("/A/x", Call::List, Err(OdbRefusal::NotDir)),
+    ("/A/x/y", Call::Delete, Err(OdbRefusal::NotDir)),
+    ("/A/q", Call::Delete, Err(OdbRefusal::NoKey)),
+    ("/a/X", Call::Delete, Ok(1)),
+    ("/A/x", Call::Keys(Tid::UInt32, 1), Ok(5)),
+    ("/A/D/z", Call::SetAll(Tid::UInt32, 1), Ok(6)),
+    ("/a/d/Z", Call::Find, Ok(6)),
+    ("/", Call::Delete, Ok(5)),
+    ("/A", Call::Dir, Ok(7)),
+];
+
+/// Values are written.
+const VALUES: &[Row] = &[
+    ("/A/x", Call::SetAll(Tid::UInt32, 2), Ok(2)),
+    ("/A/x", Call::Set(2, Tid::UInt8, "7"), UINT32),
+    (
+        "/A/x",
+        Call::Set(2, Tid::UInt32, "7"),
+        Err(OdbRefusal::BadIndex { len: 2 }),
+    ),
+    ("/a/X", Call::Set(1, Tid::UInt32, "7"), Ok(2)),
+    (
+        "/A",
+        Call::Set(0, Tid::UInt32, "7"),
+        Err(OdbRefusal::NotValue),
+    ),
+    ("/", Call::Get, Err(OdbRefusal::NotValue)),
+    ("/A/q", Call::Get, Err(OdbRefusal::NoKey)),
+    ("/A/x/q", Call::Get, Err(OdbRefusal::NotDir)),
+    ("/A/x", Call::Resize(5), Ok(2)),
+    ("/a/x", Call::Get, Ok(5)),
+    ("/A/x", Call::SetAll(Tid::UInt32, 2), Ok(2)),
+    ("/A/x", Call::Get, Ok(2)),
+    ("/A/t", Call::Keys(Tid::Text, 1), Ok(3)),
+    ("/A/t", Call::SetLong(1, 1024), NO_INDEX_1),
+    ("/A/t", Call::SetLong(0, 1024), SIZE),
+    ("/A/t", Call::SetLong(0, 1023), Ok(3)),
+    ("/A/t", Call::Resize(0), ITEMS),
+    ("/A/t", Call::Resize(4096), TOTAL),
+    ("/A/t", Call::Resize(4095), Ok(3)),
+    ("/A/t", Call::Get, Ok(4095)),
+    ("/A/x", Call::SetAll(Tid::UInt32, 1024), TOTAL),
+    ("/A/x", Call::SetAll(Tid::UInt8, 1), UINT32),
+    ("/A", Call::SetAll(Tid::UInt8, 1), Err(OdbRefusal::NotValue)),
+    (
+        "/A/x/y",
+        Call::SetAll(Tid::UInt8, 1),
+        Err(OdbRefusal::NotDir),
+    ),
+];
+
+/// Keys and directories of which one key is removed and made again.
+const MADE_AGAIN: &[Row] = &[
+    ("/A/x", Call::Keys(Tid::UInt32, 1), Ok(2)),
+    ("/A/d", Call::Dir, Ok(3)),
+    ("/A/y", Call::Keys(Tid::UInt32, 1), Ok(4)),
+    ("/a/X", Call::Delete, Ok(1)),
+    ("/A/x", Call::Keys(Tid::UInt32, 1), Ok(5)),
+];
+
+/// A directory lists its keys first, and rows lie below others.
+const LISTED: &[Row] = &[
+    ("/A", Call::List, Ok(3)),
+    ("/A", Call::Child(0, "y"), Ok(0)),
+    ("/A", Call::Child(1, "x"), Ok(0)),
+    ("/A", Call::Child(2, "d"), Ok(1)),
+    ("", Call::IsBelow(5, 1), Ok(1)),
+    ("", Call::IsBelow(5, 0), Ok(1)),
+    ("", Call::IsBelow(1, 5), Ok(0)),
+    ("", Call::IsBelow(2, 1), Ok(0)),
+    ("", Call::IsBelow(0, 0), Ok(1)),
+    ("", Call::PathOf(2), Err(OdbRefusal::NoKey)),
+    ("", Call::PathOf(5), Ok(2)),
+];
+
+/// What is copied.
+const FIRST: &[Row] = &[
+    ("/A/B/x", Call::Keys(Tid::UInt32, 1), Ok(3)),
+    ("/C", Call::Dir, Ok(4)),
+];
+
+/// A copy has the numbers of the rows.
+const ON_COPY: &[Row] = &[
+    ("/a/b", Call::Delete, Ok(2)),
+    ("/A/y", Call::Keys(Tid::UInt32, 1), Ok(5)),
+    ("/A/B", Call::Find, Err(OdbRefusal::NoKey)),
+];
+
+/// It stands alone.
+const BEHIND: &[Row] = &[
+    ("/A/b/X", Call::Find, Ok(3)),
+    ("/A/y", Call::Find, Err(OdbRefusal::NoKey)),
+    ("/A/z", Call::Dir, Ok(5)),
+];
+
+/// Numbers, and a directory that was removed, are saved.
+const SAVED: &[Row] = &[
+    ("/Settings/Delay", Call::Keys(Tid::UInt32, 3), Ok(2)),
+    ("/settings/delay", Call::Set(1, Tid::UInt32, "7"), Ok(2)),
+    ("/Settings/Old", Call::Dir, Ok(3)),
+    ("/Enabled", Call::Keys(Tid::Bool, 1), Ok(4)),
+    ("/Settings/OLD", Call::Delete, Ok(1)),
+    (
+        "",
+        Call::Save(
+            "[/]\nEnabled = BOOL : n\n\n[/Settings]\nDelay = UINT32[3] :\n[0] 0\n[1] 7\n[2] 0\n\n",
+        ),
+        Ok(1),
+    ),
+];
+
+/// Texts and arrays are saved.
+const TEXTS: &[Row] = &[
+    ("/Settings/Names", Call::Keys(Tid::Text, 2), Ok(2)),
+    (
+        "/Settings/Names",
+        Call::Set(0, Tid::Text, "ADC left"),
+        Ok(2),
+    ),
+    (
+        "/Settings/Names",
+        Call::Set(1, Tid::Text, "ADC right"),
+        Ok(2),
+    ),
+    ("/Settings/Delay", Call::Keys(Tid::UInt32, 3), Ok(3)),
+    ("/Settings/Delay", Call::Set(0, Tid::UInt32, "10"), Ok(3)),
+    ("/Settings/Delay", Call::Set(1, Tid::UInt32, "20"), Ok(3)),
+    ("/Settings/Delay", Call::Set(2, Tid::UInt32, "30"), Ok(3)),
+    ("/Stop time", Call::Keys(Tid::Text, 1), Ok(4)),
+    ("/Stop time", Call::Set(0, Tid::Text, ""), Ok(4)),
+    ("/Enabled", Call::Keys(Tid::Bool, 1), Ok(5)),
+    ("/Enabled", Call::Set(0, Tid::Bool, "y"), Ok(5)),
+    (
+        "",
+        Call::Save(
+            "[/]\nStop time = STRING : [32] \nEnabled = BOOL : y\n\n[/Settings]\n\
+             Names = STRING[2] :\n[32] ADC left\n[32] ADC right\n\
+             Delay = UINT32[3] :\n[0] 10\n[1] 20\n[2] 30\n\n",
+        ),
+        Ok(1),
+    ),
+];
+
+/// A run that begins is saved.
+const RUN_BEGUN: &[Row] = &[
+    ("/Runinfo/State", Call::Keys(Tid::Int32, 1), Ok(2)),
+    ("/Runinfo/State", Call::Set(0, Tid::Int32, "1"), Ok(2)),
+    ("/Runinfo/Run number", Call::Keys(Tid::Int32, 1), Ok(3)),
+    ("/Runinfo/Run number", Call::Set(0, Tid::Int32, "1"), Ok(3)),
+    (
+        "/Runinfo/Start time binary",
+        Call::Keys(Tid::UInt32, 1),
+        Ok(4),
+    ),
+    (
+        "/Runinfo/Start time binary",
+        Call::Set(0, Tid::UInt32, "1000"),
+        Ok(4),
+    ),
+    (
+        "/Runinfo/Stop time binary",
+        Call::Keys(Tid::UInt32, 1),
+        Ok(5),
+    ),
+    (
+        "/Runinfo/Stop time binary",
+        Call::Set(0, Tid::UInt32, "0"),
+        Ok(5),
+    ),
+    (
+        "/Equipment/FE/Events sent",
+        Call::Keys(Tid::UInt64, 1),
+        Ok(8),
+    ),
+    (
+        "/Equipment/FE/Events sent",
+        Call::Set(0, Tid::UInt64, "0"),
+        Ok(8),
+    ),
+    ("", Call::Save(BEGUN), Ok(1)),
+];
+
+/// A session with a run is saved at its end.
+const RUN_ENDED: &[Row] = &[
+    ("", Call::Load(SESSION), Ok(4)),
+    (
+        "/Equipment/FE/Events sent",
+        Call::Keys(Tid::UInt64, 1),
+        Ok(8),
+    ),
+    (
+        "/Equipment/FE/Events sent",
+        Call::Set(0, Tid::UInt64, "0"),
+        Ok(8),
+    ),
+    ("/Runinfo/State", Call::Set(0, Tid::Int32, "1"), Ok(2)),
+    ("/Runinfo/Run number", Call::Set(0, Tid::Int32, "1"), Ok(3)),
+    (
+        "/Runinfo/Start time binary",
+        Call::Set(0, Tid::UInt32, "1000"),
+        Ok(4),
+    ),
+    (
+        "/Runinfo/Stop time binary",
+        Call::Set(0, Tid::UInt32, "0"),
+        Ok(5),
+    ),
+    (
+        "/Equipment/FE/Events sent",
+        Call::Set(0, Tid::UInt64, "0"),
+        Ok(8),
+    ),
+    ("/Runinfo/State", Call::Set(0, Tid::Int32, "3"), Ok(2)),
+    (
+        "/Runinfo/Stop time binary",
+        Call::Set(0, Tid::UInt32, "1010"),
+        Ok(5),
+    ),
+    ("", Call::Save(ENDED_EMPTY), Ok(1)),
+];
+
+const STORIES: &[Story] = &[
+    (KEYS, &[], &[]),
+    (VALUES, &[], &[]),
+    (MADE_AGAIN, LISTED, &[]),
+    (FIRST, ON_COPY, BEHIND),
+    (SAVED, &[], &[]),
+    (TEXTS, &[], &[]),
+    (RUN_BEGUN, &[], &[]),
+    (RUN_ENDED, &[], &[]),
+];
+
+fn play<D: Database>(
     rt: &impl Abort,
     alloc: Global,
-    database: &mut D,
-    rows: &[Row],
+    mut database: D,
+    story: Story,
 ) -> Result<(), Fail> {
-    for (text, call, wanted) in rows {
-        let path = Path::read(alloc, text.as_bytes())?;
-        let found = reply(alloc, database, &path, *call);
-        assert!(rt; found == *wanted, "{text}");
+    let (first, on_copy, behind) = story;
+    run(rt, alloc, &mut database, first)?;
+    let mut copy = database.copy(alloc)?;
+    run(rt, alloc, &mut copy, on_copy)?;
+    run(rt, alloc, &mut database, behind)
+}
+
+#[test]
+fn both_databases_reply_by_the_rows(rt: HostRuntime) -> Result<(), Fail> {
+    let alloc = rt.alloc();
+    for story in STORIES {
+        play(&rt, alloc, PlainTree::new(alloc), *story)?;
+        play(&rt, alloc, ArenaTree::new(alloc), *story)?;
     }
     Ok(())
-}
-
-fn run_on_both(rt: &impl Abort, alloc: Global, rows: &[Row]) -> Result<(), Fail> {
-    run(rt, alloc, &mut PlainTree::new(alloc), rows)?;
-    run(rt, alloc, &mut ArenaTree::new(alloc), rows)
-}
-
-fn mismatch(have: Tid) -> Reply {
-    Err(OdbRefusal::TypeMismatch { have })
-}
-
-fn limit(what: What) -> Reply {
-    Err(OdbRefusal::Limit { what })
-}
-
-#[test]
-fn keys_are_made_and_removed(rt: HostRuntime) -> Result<(), Fail> {
-    let alloc = rt.alloc();
-    let float = Err(OdbRefusal::NotKept { tid: Tid::Float });
-    run_on_both(
-        &rt,
-        alloc,
-        &[
-            ("/", Call::Dir, Err(OdbRefusal::Exists)),
-            ("/A/x", Call::Keys(Tid::UInt32, 2), Ok(2)),
-            ("/a/X", Call::Keys(Tid::Float, 0), Err(OdbRefusal::Exists)),
-            ("/A/x/y", Call::Keys(Tid::Float, 0), Err(OdbRefusal::NotDir)),
-            ("/B/f", Call::Keys(Tid::Float, 0), float),
-            ("/B/f", Call::Keys(Tid::UInt8, 0), limit(What::Items)),
-            ("/B/f", Call::Keys(Tid::UInt8, 65537), limit(What::Items)),
-            ("/B", Call::Find, Err(OdbRefusal::NoKey)),
-            ("/A/d", Call::Dir, Ok(3)),
-            ("/A/y", Call::Keys(Tid::Int8, 1), Ok(4)),
-            ("/A", Call::List, Ok(3)),
-            ("/A/x", Call::List, Err(OdbRefusal::NotDir)),
-            ("/A/x/y", Call::Delete, Err(OdbRefusal::NotDir)),
-            ("/A/q", Call::Delete, Err(OdbRefusal::NoKey)),
-            ("/a/X", Call::Delete, Ok(1)),
-            ("/A/x", Call::Keys(Tid::UInt32, 1), Ok(5)),
-            ("/A/D/z", Call::SetAll(Tid::UInt32, 1), Ok(6)),
-            ("/a/d/Z", Call::Find, Ok(6)),
-            ("/", Call::Delete, Ok(5)),
-            ("/A", Call::Dir, Ok(7)),
-        ],
-    )
-}
-
-#[test]
-fn values_are_written(rt: HostRuntime) -> Result<(), Fail> {
-    let alloc = rt.alloc();
-    run_on_both(
-        &rt,
-        alloc,
-        &[
-            ("/A/x", Call::SetAll(Tid::UInt32, 2), Ok(2)),
-            ("/A/x", Call::SetByte(2), mismatch(Tid::UInt32)),
-            ("/A/x", Call::Set(2), Err(OdbRefusal::BadIndex { len: 2 })),
-            ("/a/X", Call::Set(1), Ok(2)),
-            ("/A", Call::Set(0), Err(OdbRefusal::NotValue)),
-            ("/", Call::Get, Err(OdbRefusal::NotValue)),
-            ("/A/q", Call::Get, Err(OdbRefusal::NoKey)),
-            ("/A/x/q", Call::Get, Err(OdbRefusal::NotDir)),
-            ("/A/x", Call::Resize(5), Ok(2)),
-            ("/a/x", Call::Get, Ok(5)),
-            ("/A/x", Call::SetAll(Tid::UInt32, 2), Ok(2)),
-            ("/A/x", Call::Get, Ok(2)),
-            ("/A/t", Call::Keys(Tid::Text, 1), Ok(3)),
-            (
-                "/A/t",
-                Call::SetText(1, 1024),
-                Err(OdbRefusal::BadIndex { len: 1 }),
-            ),
-            ("/A/t", Call::SetText(0, 1024), limit(What::Size)),
-            ("/A/t", Call::SetText(0, 1023), Ok(3)),
-            ("/A/t", Call::Resize(0), limit(What::Items)),
-            ("/A/t", Call::Resize(4096), limit(What::Total)),
-            ("/A/t", Call::Resize(4095), Ok(3)),
-            ("/A/t", Call::Get, Ok(4095)),
-            ("/A/x", Call::SetAll(Tid::UInt32, 1024), limit(What::Total)),
-            ("/A/x", Call::SetAll(Tid::UInt8, 1), mismatch(Tid::UInt32)),
-            ("/A", Call::SetAll(Tid::UInt8, 1), Err(OdbRefusal::NotValue)),
-            (
-                "/A/x/y",
-                Call::SetAll(Tid::UInt8, 1),
-                Err(OdbRefusal::NotDir),
-            ),
-        ],
-    )
-}
-
-/// What a directory is listed with: names, with a slash behind those of directories.
-fn listed<D: Database>(alloc: Global, database: &D, text: &str) -> Result<Vec<u8>, Fail> {
-    let path = Path::read(alloc, text.as_bytes())?;
-    let mut listed = Vec::new(alloc);
-    for child in database.list(alloc, &path)?.as_slice() {
-        listed.extend_from_slice(child.name.as_slice())?;
-        listed.push(if child.is_dir { b'/' } else { b' ' })?;
-    }
-    Ok(listed)
-}
-
-fn lists_keys_first<D: Database>(rt: &impl Abort, alloc: Global, mut tree: D) -> Result<(), Fail> {
-    run(
-        rt,
-        alloc,
-        &mut tree,
-        &[
-            ("/A/x", Call::Keys(Tid::UInt32, 1), Ok(2)),
-            ("/A/d", Call::Dir, Ok(3)),
-            ("/A/y", Call::Keys(Tid::UInt32, 1), Ok(4)),
-            ("/a/X", Call::Delete, Ok(1)),
-            ("/A/x", Call::Keys(Tid::UInt32, 1), Ok(5)),
-        ],
-    )?;
-    let copy = tree.copy(alloc)?;
-    let names = listed(alloc, &copy, "/A")?;
-    assert_eq!(rt; names.as_slice(), b"y x d/".as_slice());
-    assert!(rt; copy.is_below(5, 1) && copy.is_below(5, 0) && !copy.is_below(1, 5));
-    assert!(rt; !copy.is_below(2, 1) && copy.is_below(0, 0));
-    assert!(rt; copy.path_of(alloc, 2)?.is_none());
-    let found = copy.path_of(alloc, 5)?;
-    assert!(rt; matches!(&found, Some(path) if path.names().len() == 2));
-    Ok(())
-}
-
-#[test]
-fn a_directory_lists_its_keys_first(rt: HostRuntime) -> Result<(), Fail> {
-    let alloc = rt.alloc();
-    lists_keys_first(&rt, alloc, PlainTree::new(alloc))?;
-    lists_keys_first(&rt, alloc, ArenaTree::new(alloc))
-}
-
-fn copy_stands_alone<D: Database>(rt: &impl Abort, alloc: Global, mut tree: D) -> Result<(), Fail> {
-    run(
-        rt,
-        alloc,
-        &mut tree,
-        &[
-            ("/A/B/x", Call::Keys(Tid::UInt32, 1), Ok(3)),
-            ("/C", Call::Dir, Ok(4)),
-        ],
-    )?;
-    let mut copy = tree.copy(alloc)?;
-    run(
-        rt,
-        alloc,
-        &mut copy,
-        &[
-            ("/a/b", Call::Delete, Ok(2)),
-            ("/A/y", Call::Keys(Tid::UInt32, 1), Ok(5)),
-            ("/A/B", Call::Find, Err(OdbRefusal::NoKey)),
-        ],
-    )?;
-    run(
-        rt,
-        alloc,
-        &mut tree,
-        &[
-            ("/A/b/X", Call::Find, Ok(3)),
-            ("/A/y", Call::Find, Err(OdbRefusal::NoKey)),
-            ("/A/z", Call::Dir, Ok(5)),
-        ],
-    )
-}
-
-#[test]
-fn a_copy_has_the_numbers_and_stands_alone(rt: HostRuntime) -> Result<(), Fail> {
-    let alloc = rt.alloc();
-    copy_stands_alone(&rt, alloc, PlainTree::new(alloc))?;
-    copy_stands_alone(&rt, alloc, ArenaTree::new(alloc))
-}
-
-fn is_saved<D: Database>(rt: &impl Abort, alloc: Global, mut tree: D) -> Result<(), Fail> {
-    run(
-        rt,
-        alloc,
-        &mut tree,
-        &[
-            ("/Settings/Delay", Call::Keys(Tid::UInt32, 3), Ok(2)),
-            ("/settings/delay", Call::Set(1), Ok(2)),
-            ("/Settings/Old", Call::Dir, Ok(3)),
-            ("/Enabled", Call::Keys(Tid::Bool, 1), Ok(4)),
-            ("/Settings/OLD", Call::Delete, Ok(1)),
-        ],
-    )?;
-    let text =
-        "[/]\nEnabled = BOOL : n\n\n[/Settings]\nDelay = UINT32[3] :\n[0] 0\n[1] 7\n[2] 0\n\n";
-    let dump = save(alloc, &tree)?;
-    assert_eq!(rt; dump.as_slice(), text.as_bytes());
-    Ok(())
-}
-
-#[test]
-fn both_are_saved_as_the_same_text(rt: HostRuntime) -> Result<(), Fail> {
-    let alloc = rt.alloc();
-    is_saved(&rt, alloc, PlainTree::new(alloc))?;
-    is_saved(&rt, alloc, ArenaTree::new(alloc))
 }

@@ -1,86 +1,17 @@
-//! Dumps of small databases, and texts that are loaded.
-use daq_types::Tid;
-use odb_ascii::{LoadRefusal, Loaded, load, save};
-use odb_path::Path;
-use odb_tree::{Database, NewKey, OdbRefusal, PlainTree, What};
-use odb_value::parse_item;
+//! Texts that are loaded or refused, and what is saved then.
+use crate::calls::{is_saved, load_text};
+use daq_types::{NoMemory, Tid};
+use odb_ascii::{LoadRefusal, Loaded};
+use odb_tree::{OdbRefusal, PlainTree, What};
 use std::alloc::Global;
-use std::process::Abort;
 use std::test::Fail;
 
-/// A key, and the texts of its items.
-type Key<'a> = (&'a str, Tid, &'a [&'a str]);
+/// The keys of a new session.
+pub const SESSION: &str =
+    "[/Runinfo]\nState = INT32 : 1\nRun number = INT32 : 0\nStart time binary = UINT32 : 0\n\
+    Stop time binary = UINT32 : 0\n";
 
-/// Makes a key with these items.
-fn put<D: Database>(alloc: Global, database: &mut D, key: &Key) -> Result<(), Fail> {
-    let (path, tid, items) = key;
-    let path = Path::read(alloc, path.as_bytes())?;
-    let len = items.len().min(9);
-    let kind = NewKey::Keys {
-        tid: *tid,
-        len: len as u32,
-    };
-    let _ = database.create(alloc, &path, kind)?;
-    for index in 0..len {
-        let item = parse_item(alloc, *tid, items[index].as_bytes())?;
-        let _ = database.set(alloc, &path, index as u32, &item)?;
-    }
-    Ok(())
-}
-
-/// The text of a database with these keys.
-fn check(rt: &impl Abort, alloc: Global, keys: &[Key], text: &str) -> Result<(), Fail> {
-    let mut database = PlainTree::new(alloc);
-    for key in keys {
-        put(alloc, &mut database, key)?;
-    }
-    let dump = save(alloc, &database)?;
-    assert_eq!(rt; dump.as_slice(), text.as_bytes());
-    Ok(())
-}
-
-#[test]
-fn run_that_begins(rt: HostRuntime) -> Result<(), Fail> {
-    let keys: [Key; 5] = [
-        ("/Runinfo/State", Tid::Int32, &["1"]),
-        ("/Runinfo/Run number", Tid::Int32, &["1"]),
-        ("/Runinfo/Start time binary", Tid::UInt32, &["1000"]),
-        ("/Runinfo/Stop time binary", Tid::UInt32, &["0"]),
-        ("/Equipment/FE/Events sent", Tid::UInt64, &["0"]),
-    ];
-    check(&rt, rt.alloc(), &keys, BEGUN)
-}
-
-#[test]
-fn texts_and_arrays(rt: HostRuntime) -> Result<(), Fail> {
-    let keys: [Key; 4] = [
-        ("/Settings/Names", Tid::Text, &["ADC left", "ADC right"]),
-        ("/Settings/Delay", Tid::UInt32, &["10", "20", "30"]),
-        ("/Stop time", Tid::Text, &[""]),
-        ("/Enabled", Tid::Bool, &["y"]),
-    ];
-    check(
-        &rt,
-        rt.alloc(),
-        &keys,
-        "[/]\nStop time = STRING : [32] \nEnabled = BOOL : y\n\n[/Settings]\nNames = STRING[2] :\n\
-         [32] ADC left\n[32] ADC right\nDelay = UINT32[3] :\n[0] 10\n[1] 20\n[2] 30\n\n",
-    )
-}
-
-/// The database that a text is loaded into, with the keys of a new session.
-fn new_session(alloc: Global) -> Result<PlainTree, Fail> {
-    let mut database = PlainTree::new(alloc);
-    let _ = load(
-        alloc,
-        &mut database,
-        b"[/Runinfo]\nState = INT32 : 1\nRun number = INT32 : 0\nStart time binary = UINT32 : 0\n\
-          Stop time binary = UINT32 : 0\n"
-            .as_slice(),
-    )?;
-    Ok(database)
-}
-
+/// A dump with older type names.
 const OLDER: &str = "[/Runinfo]\nState = INT : 1\nOnline Mode = INT : 1\nRun number = INT : 41\n\
     Transition in progress = INT : 0\nStart time = STRING : [32] Mon Mar  4 10:11:12 2024\n\
     Start time binary = DWORD : 1709547072\nStop time = STRING : [32] \nStop time binary = DWORD : 0\n\n\
@@ -90,6 +21,7 @@ const OLDER: &str = "[/Runinfo]\nState = INT : 1\nOnline Mode = INT : 1\nRun num
     [/Equipment/Trigger/Settings]\nGains = FLOAT[2] :\n[0] 1.5\n[1] 2.25\nNames = STRING[2] :\n\
     [32] ADC left\n[32] ADC right\nDelay = DWORD[3] :\n[0] 10\n[1] 20\n[2] 30\n";
 
+/// What is saved where it was loaded into the database of a new session.
 const SAVED: &str = "[/Runinfo]\nState = INT32 : 1\nRun number = INT32 : 41\n\
     Start time binary = UINT32 : 1709547072\nStop time binary = UINT32 : 0\nOnline Mode = INT32 : 1\n\
     Transition in progress = INT32 : 0\nStart time = STRING : [32] Mon Mar  4 10:11:12 2024\n\
@@ -99,125 +31,13 @@ const SAVED: &str = "[/Runinfo]\nState = INT32 : 1\nRun number = INT32 : 41\n\
     Period = INT32 : 500\nHidden = BOOL : n\n\n[/Equipment/Trigger/Settings]\nNames = STRING[2] :\n\
     [32] ADC left\n[32] ADC right\nDelay = UINT32[3] :\n[0] 10\n[1] 20\n[2] 30\n\n";
 
-#[test]
-fn older_text_is_loaded(rt: HostRuntime) -> Result<(), Fail> {
-    for (text, skipped) in [(OLDER, 2), (SAVED, 0)] {
-        let mut database = new_session(rt.alloc())?;
-        let loaded = load(rt.alloc(), &mut database, text.as_bytes())?;
-        assert_eq!(rt; loaded, Loaded { keys: 20, skipped });
-        let dump = save(rt.alloc(), &database)?;
-        assert_eq!(rt; dump.as_slice(), SAVED.as_bytes());
-    }
-    Ok(())
-}
-
-/// How many keys a new database loads from the text, or why it does not.
-fn loads(alloc: Global, text: &str) -> Result<Loaded, LoadRefusal> {
-    let mut database = PlainTree::new(alloc);
-    if text.len() > 1000 {
-        return Err(LoadRefusal::NoMemory);
-    }
-    load(alloc, &mut database, text.as_bytes())
-}
-
-#[test]
-fn texts_that_are_loaded(rt: HostRuntime) {
-    for (text, keys, skipped) in [
-        ("", 0, 0),
-        ("; comment\n \t\n[/A]  \r\n", 0, 0),
-        ("x=INT:5", 1, 0),
-        ("x = FLOAT : what\ny = LINK[2] :\n[7] a\n[0]\n", 0, 2),
-        ("[]\na = CHAR : \nb = CHAR :  \nc = STRING : [0] \n", 3, 0),
-        (
-            "a = UINT8[1] :\n[0]0xFF\n[/B]\na = BOOL [2] : \n[0] y\n[1] 0\n",
-            2,
-            0,
-        ),
-        ("x = INT : 5\nX = INT : 6\n", 2, 0),
-    ] {
-        assert_eq!(rt;
-            loads(rt.alloc(), text),
-            Ok(Loaded { keys, skipped }),
-            "{text}"
-        );
-    }
-}
-
-#[test]
-fn lines_at_fault(rt: HostRuntime) {
-    for (text, line) in [
-        ("[/A]\nx = INT : 5\ny = INT : five\n", 3),
-        (" [/A]", 1),
-        ("[/A/]\n", 1),
-        (" ;x", 1),
-        ("x = ARRAY : 1", 1),
-        ("x = INT[2] :\n[0] 1\n", 3),
-        ("x = INT[2] :\n[0] 1\n\n[1] 2\n", 3),
-        ("x = INT[2] :\n[0] 1\n[2] 2\n", 3),
-        ("x = INT[0] :\n", 1),
-        ("x = STRING : a", 1),
-        ("x = STRING[3] :\n[32] a\nb\n[1025] c\n", 3),
-        ("x = DOUBLE[2] :\n[0] 1\n", 3),
-        (
-            "[/a/a/a/a/a/a/a/a/a/a/a/a/a/a/a/a/a/a/a/a/a/a/a/a/a/a/a/a/a/a/a/a]\nx = INT : 1",
-            2,
-        ),
-    ] {
-        assert_eq!(rt;
-            loads(rt.alloc(), text),
-            Err(LoadRefusal::BadLine { line }),
-            "{text}"
-        );
-    }
-}
-
-#[test]
-fn keys_refused(rt: HostRuntime) {
-    for (text, line, why) in [
-        (
-            "x = INT[65537] :\n",
-            1,
-            OdbRefusal::Limit { what: What::Items },
-        ),
-        (
-            "\nx = FLOAT[65537] :\nbad",
-            2,
-            OdbRefusal::Limit { what: What::Items },
-        ),
-        (
-            "x = STRING : [1025] a",
-            1,
-            OdbRefusal::Limit { what: What::Size },
-        ),
-        (
-            "x = STRING[3] :\n[32] a\n[1025] b\nbad",
-            1,
-            OdbRefusal::Limit { what: What::Size },
-        ),
-        ("x = INT : 1\n[/x]\n", 2, OdbRefusal::NotDir),
-        ("x = INT : 1\n[/x/y]\n", 2, OdbRefusal::NotDir),
-        ("[/A]\n[/]\na = INT : 1\n", 3, OdbRefusal::NotValue),
-        (
-            "x = INT : 1\nx = DWORD : 1",
-            2,
-            OdbRefusal::TypeMismatch { have: Tid::Int32 },
-        ),
-    ] {
-        assert_eq!(rt;
-            loads(rt.alloc(), text),
-            Err(LoadRefusal::KeyRefused { line, why }),
-            "{text}"
-        );
-    }
-}
-
 /// The dump of a new session: 114 bytes.
 const NEW: &str =
     "[/Runinfo]\nState = INT32 : 1\nRun number = INT32 : 0\nStart time binary = UINT32 : 0\n\
     Stop time binary = UINT32 : 0\n\n";
 
 /// The dump of a run that begins: 173 bytes.
-const BEGUN: &str =
+pub const BEGUN: &str =
     "[/Runinfo]\nState = INT32 : 1\nRun number = INT32 : 1\nStart time binary = UINT32 : 1000\n\
     Stop time binary = UINT32 : 0\n\n[/Equipment]\n\n[/Equipment/FE]\nEvents sent = UINT64 : 0\n\n";
 
@@ -227,71 +47,302 @@ const ENDED: &str =
     Stop time binary = UINT32 : 1010\n\n[/Equipment]\n\n[/Equipment/FE]\nEvents sent = UINT64 : 1\n\n";
 
 /// The dump of such a run without events at its end: 176 bytes.
-const ENDED_EMPTY: &str =
+pub const ENDED_EMPTY: &str =
     "[/Runinfo]\nState = INT32 : 3\nRun number = INT32 : 1\nStart time binary = UINT32 : 1000\n\
     Stop time binary = UINT32 : 1010\n\n[/Equipment]\n\n[/Equipment/FE]\nEvents sent = UINT64 : 0\n\n";
 
-/// Sets the only item of a key.
-fn set_only<D: Database>(
-    alloc: Global,
-    database: &mut D,
-    path: &str,
-    tid: Tid,
-    text: &str,
-) -> Result<(), Fail> {
-    let path = Path::read(alloc, path.as_bytes())?;
-    let item = parse_item(alloc, tid, text.as_bytes())?;
-    let _ = database.set(alloc, &path, 0, &item)?;
-    Ok(())
-}
+use LoadRefusal::{BadLine, KeyRefused};
 
-#[test]
-fn session_at_its_end(rt: HostRuntime) -> Result<(), Fail> {
-    let alloc = rt.alloc();
-    let mut database = new_session(alloc)?;
-    let sent: Key = ("/Equipment/FE/Events sent", Tid::UInt64, &["0"]);
-    put(alloc, &mut database, &sent)?;
-    for (path, tid, text) in [
-        ("/Runinfo/State", Tid::Int32, "1"),
-        ("/Runinfo/Run number", Tid::Int32, "1"),
-        ("/Runinfo/Start time binary", Tid::UInt32, "1000"),
-        ("/Runinfo/Stop time binary", Tid::UInt32, "0"),
-        ("/Equipment/FE/Events sent", Tid::UInt64, "0"),
-        ("/Runinfo/State", Tid::Int32, "3"),
-        ("/Runinfo/Stop time binary", Tid::UInt32, "1010"),
-    ] {
-        set_only(alloc, &mut database, path, tid, text)?;
+type Reply = Result<Loaded, LoadRefusal>;
+
+const TOO_MANY: OdbRefusal = OdbRefusal::Limit { what: What::Items };
+
+const TOO_LONG: OdbRefusal = OdbRefusal::Limit { what: What::Size };
+
+const OF_INT32: OdbRefusal = OdbRefusal::TypeMismatch { have: Tid::Int32 };
+
+/// What stands before, a text, what comes of it, and what is saved then in how many bytes, if told.
+type Row = (
+    &'static str,
+    &'static str,
+    Reply,
+    Option<(usize, &'static str)>,
+);
+
+/// Texts that are loaded, or why they are not.
+const TEXTS: &[Row] = &[
+    // Texts that a new database loads.
+    (
+        "",
+        "",
+        Ok(Loaded {
+            keys: 0,
+            skipped: 0,
+        }),
+        None,
+    ),
+    (
+        "",
+        "; comment\n \t\n[/A]  \r\n",
+        Ok(Loaded {
+            keys: 0,
+            skipped: 0,
+        }),
+        None,
+    ),
+    (
+        "",
+        "x=INT:5",
+        Ok(Loaded {
+            keys: 1,
+            skipped: 0,
+        }),
+        None,
+    ),
+    (
+        "",
+        "x = FLOAT : what\ny = LINK[2] :\n[7] a\n[0]\n",
+        Ok(Loaded {
+            keys: 0,
+            skipped: 2,
+        }),
+        None,
+    ),
+    (
+        "",
+        "[]\na = CHAR : \nb = CHAR :  \nc = STRING : [0] \n",
+        Ok(Loaded {
+            keys: 3,
+            skipped: 0,
+        }),
+        None,
+    ),
+    (
+        "",
+        "a = UINT8[1] :\n[0]0xFF\n[/B]\na = BOOL [2] : \n[0] y\n[1] 0\n",
+        Ok(Loaded {
+            keys: 2,
+            skipped: 0,
+        }),
+        None,
+    ),
+    (
+        "",
+        "x = INT : 5\nX = INT : 6\n",
+        Ok(Loaded {
+            keys: 2,
+            skipped: 0,
+        }),
+        None,
+    ),
+    // Lines that the grammar does not have.
+    (
+        "",
+        "[/A]\nx = INT : 5\ny = INT : five\n",
+        Err(BadLine { line: 3 }),
+        None,
+    ),
+    ("", " [/A]", Err(BadLine { line: 1 }), None),
+    ("", "[/A/]\n", Err(BadLine { line: 1 }), None),
+    ("", " ;x", Err(BadLine { line: 1 }), None),
+    ("", "x = ARRAY : 1", Err(BadLine { line: 1 }), None),
+    ("", "x = INT[2] :\n[0] 1\n", Err(BadLine { line: 3 }), None),
+    (
+        "",
+        "x = INT[2] :\n[0] 1\n\n[1] 2\n",
+        Err(BadLine { line: 3 }),
+        None,
+    ),
+    (
+        "",
+        "x = INT[2] :\n[0] 1\n[2] 2\n",
+        Err(BadLine { line: 3 }),
+        None,
+    ),
+    ("", "x = INT[0] :\n", Err(BadLine { line: 1 }), None),
+    ("", "x = STRING : a", Err(BadLine { line: 1 }), None),
+    (
+        "",
+        "x = STRING[3] :\n[32] a\nb\n[1025] c\n",
+        Err(BadLine { line: 3 }),
+        None,
+    ),
+    (
+        "",
+        "x = DOUBLE[2] :\n[0] 1\n",
+        Err(BadLine { line: 3 }),
+        None,
+    ),
+    (
+        "",
+        "[/a/a/a/a/a/a/a/a/a/a/a/a/a/a/a/a/a/a/a/a/a/a/a/a/a/a/a/a/a/a/a/a]\nx = INT : 1",
+        Err(BadLine { line: 2 }),
+        None,
+    ),
+    // Keys that a database refuses.
+    (
+        "",
+        "x = INT[65537] :\n",
+        Err(KeyRefused {
+            line: 1,
+            why: TOO_MANY,
+        }),
+        None,
+    ),
+    (
+        "",
+        "\nx = FLOAT[65537] :\nbad",
+        Err(KeyRefused {
+            line: 2,
+            why: TOO_MANY,
+        }),
+        None,
+    ),
+    (
+        "",
+        "x = STRING : [1025] a",
+        Err(KeyRefused {
+            line: 1,
+            why: TOO_LONG,
+        }),
+        None,
+    ),
+    (
+        "",
+        "x = STRING[3] :\n[32] a\n[1025] b\nbad",
+        Err(KeyRefused {
+            line: 1,
+            why: TOO_LONG,
+        }),
+        None,
+    ),
+    (
+        "",
+        "x = INT : 1\n[/x]\n",
+        Err(KeyRefused {
+            line: 2,
+            why: OdbRefusal::NotDir,
+        }),
+        None,
+    ),
+    (
+        "",
+        "x = INT : 1\n[/x/y]\n",
+        Err(KeyRefused {
+            line: 2,
+            why: OdbRefusal::NotDir,
+        }),
+        None,
+    ),
+    (
+        "",
+        "[/A]\n[/]\na = INT : 1\n",
+        Err(KeyRefused {
+            line: 3,
+            why: OdbRefusal::NotValue,
+        }),
+        None,
+    ),
+    (
+        "",
+        "x = INT : 1\nx = DWORD : 1",
+        Err(KeyRefused {
+            line: 2,
+            why: OF_INT32,
+        }),
+        None,
+    ),
+    // Texts whose database is saved again.
+    (
+        SESSION,
+        OLDER,
+        Ok(Loaded {
+            keys: 20,
+            skipped: 2,
+        }),
+        Some((677, SAVED)),
+    ),
+    (
+        SESSION,
+        SAVED,
+        Ok(Loaded {
+            keys: 20,
+            skipped: 0,
+        }),
+        Some((677, SAVED)),
+    ),
+    (
+        "",
+        SESSION,
+        Ok(Loaded {
+            keys: 4,
+            skipped: 0,
+        }),
+        Some((114, NEW)),
+    ),
+    (
+        "",
+        NEW,
+        Ok(Loaded {
+            keys: 4,
+            skipped: 0,
+        }),
+        Some((114, NEW)),
+    ),
+    (
+        "",
+        BEGUN,
+        Ok(Loaded {
+            keys: 5,
+            skipped: 0,
+        }),
+        Some((173, BEGUN)),
+    ),
+    (
+        "",
+        ENDED,
+        Ok(Loaded {
+            keys: 5,
+            skipped: 0,
+        }),
+        Some((176, ENDED)),
+    ),
+    (
+        "",
+        ENDED_EMPTY,
+        Ok(Loaded {
+            keys: 5,
+            skipped: 0,
+        }),
+        Some((176, ENDED_EMPTY)),
+    ),
+    (
+        SESSION,
+        "[/A]\nx = INT : 5\ny = INT : five",
+        Err(BadLine { line: 3 }),
+        Some((114, NEW)),
+    ),
+];
+
+/// Whether that comes of the text of a row, and is saved.
+fn comes_so(alloc: Global, row: &Row) -> Result<bool, NoMemory> {
+    let (before, text, wanted, saved) = row;
+    let mut database = PlainTree::new(alloc);
+    let _ = load_text(alloc, &mut database, before);
+    let so = load_text(alloc, &mut database, text) == *wanted;
+    match saved {
+        None => Ok(so),
+        Some((len, saved)) => {
+            let kept = is_saved(alloc, &database, saved.as_bytes())?;
+            Ok(so & kept & (saved.len() == *len))
+        }
     }
-    let dump = save(alloc, &database)?;
-    assert_eq!(rt; dump.as_slice(), ENDED_EMPTY.as_bytes());
-    assert_eq!(rt; dump.as_slice().len(), 176);
-    Ok(())
 }
 
 #[test]
-fn dumps_load_again(rt: HostRuntime) -> Result<(), Fail> {
-    for (text, len, keys) in [(NEW, 114, 4), (BEGUN, 173, 5), (ENDED, 176, 5)] {
-        let mut database = PlainTree::new(rt.alloc());
-        let loaded = load(rt.alloc(), &mut database, text.as_bytes())?;
-        assert_eq!(rt; loaded, Loaded { keys, skipped: 0 });
-        let dump = save(rt.alloc(), &database)?;
-        assert_eq!(rt; dump.as_slice(), text.as_bytes());
-        assert_eq!(rt; text.len(), len);
+fn texts_are_loaded_or_refused(rt: HostRuntime) -> Result<(), Fail> {
+    for row in TEXTS {
+        assert!(rt; comes_so(rt.alloc(), row)?, "{}", row.1);
     }
-    Ok(())
-}
-
-#[test]
-fn nothing_stays_of_a_text_at_fault(rt: HostRuntime) -> Result<(), Fail> {
-    let mut database = new_session(rt.alloc())?;
-    let before = save(rt.alloc(), &database)?;
-    let refused = load(
-        rt.alloc(),
-        &mut database,
-        b"[/A]\nx = INT : 5\ny = INT : five".as_slice(),
-    );
-    assert_eq!(rt; refused, Err(LoadRefusal::BadLine { line: 3 }));
-    let after = save(rt.alloc(), &database)?;
-    assert_eq!(rt; after.as_slice(), before.as_slice());
     Ok(())
 }

@@ -1,102 +1,143 @@
 //! Worked rows of watches, over both databases, and each call once.
-use daq_types::Tid;
+use crate::calls::{Call, Row, run};
+use daq_types::{NoMemory, Tid};
 use odb_arena::ArenaTree;
-use odb_path::Path;
-use odb_tree::{Database, NewKey, Note, Notes, PlainTree};
-use odb_value::Item;
+use odb_tree::{Database, Note, Notes, PlainTree};
 use odb_watch::{NoWatch, WatchRefusal, Watches};
 use std::alloc::Global;
 use std::process::Abort;
 use std::test::Fail;
 
-/// Watches a directory with one key, sets the key 257 times, and takes the notes.
-fn loses_the_257th<D: Database>(rt: &impl Abort, alloc: Global, tree: D) -> Result<(), Fail> {
-    let mut database = Watches::new(alloc, tree);
-    let key = Path::read(alloc, b"/A/x")?;
-    let kind = NewKey::Keys {
-        tid: Tid::UInt32,
-        len: 1,
-    };
-    let _ = database.create(alloc, &key, kind)?;
-    let dir = Path::read(alloc, b"/A")?;
-    let row = database.find(&dir)?;
-    assert_eq!(rt; database.watch(alloc, row), Ok(0));
-    for _ in 0..257 {
-        let _ = database.set(alloc, &key, 0, &Item::UInt32(1))?;
-    }
+/// A row of a database that is watched, the changes that are then made so often, and what is noted.
+struct Watched {
+    about: &'static str,
+    before: &'static [Row],
+    row: u32,
+    times: u32,
+    changes: &'static [Row],
+    lost: u64,
+    notes: &'static [Note],
+}
+
+/// The first item of the key of the rows below is written.
+const NOTE: Note = Note { row: 2, index: 0 };
+
+const WATCHED: &[Watched] = &[
+    Watched {
+        about: "a watch keeps 256 notes",
+        before: &[
+            ("/A/x", Call::Keys(Tid::UInt32, 1), Ok(2)),
+            ("/A", Call::Find, Ok(1)),
+        ],
+        row: 1,
+        times: 257,
+        changes: &[("/A/x", Call::Set(0, Tid::UInt32, "1"), Ok(2))],
+        lost: 1,
+        notes: &[NOTE; 256],
+    },
+    Watched {
+        about: "each item that is written is noted",
+        before: &[],
+        row: 0,
+        times: 1,
+        changes: &[
+            ("/A/x", Call::Keys(Tid::UInt32, 2), Ok(2)),
+            ("/A/x", Call::Get, Ok(2)),
+            ("/A/x", Call::SetAll(Tid::UInt32, 2), Ok(2)),
+            ("/A/x", Call::Resize(3), Ok(2)),
+            ("/A/x", Call::Set(1, Tid::UInt32, "7"), Ok(2)),
+            ("/A/x", Call::Delete, Ok(1)),
+        ],
+        lost: 0,
+        notes: &[
+            NOTE,
+            NOTE,
+            Note { row: 2, index: 1 },
+            Note { row: 2, index: 2 },
+            Note { row: 2, index: 1 },
+        ],
+    },
+];
+
+/// Whether the first watch gives these notes once, then none, and ends once.
+fn gives_and_ends<D: Database>(
+    alloc: Global,
+    database: &mut Watches<D>,
+    watched: &Watched,
+) -> Result<bool, NoMemory> {
     let mut notes = Notes::new(alloc)?;
-    assert_eq!(rt; database.notes(0, &mut notes), Ok(1));
-    assert_eq!(rt; notes.len(), 256);
-    assert_eq!(rt; notes.as_slice().last(), Some(&Note { row: 2, index: 0 }));
-    assert_eq!(rt; database.notes(0, &mut notes), Ok(0));
-    assert_eq!(rt; notes.len(), 0);
-    Ok(())
+    let given = database.notes(0, &mut notes) == Ok(watched.lost);
+    let noted = notes.as_slice() == watched.notes;
+    let none = database.notes(0, &mut notes) == Ok(0);
+    let empty = notes.len() == 0;
+    let ended = database.unwatch(0) == Ok(());
+    let gone = database.unwatch(0) == Err(NoWatch);
+    let lost = database.notes(0, &mut notes) == Err(NoWatch);
+    Ok(given & noted & none & empty & ended & gone & lost)
 }
 
-#[test]
-fn the_257th_note_is_lost(rt: HostRuntime) -> Result<(), Fail> {
-    let alloc = rt.alloc();
-    loses_the_257th(&rt, alloc, PlainTree::new(alloc))?;
-    loses_the_257th(&rt, alloc, ArenaTree::new(alloc))
-}
-
-/// Makes, sets whole, resizes, sets and removes a key.
-fn change<D: Database>(alloc: Global, database: &mut D) -> Result<(), Fail> {
-    let key = Path::read(alloc, b"/A/x")?;
-    let kind = NewKey::Keys {
-        tid: Tid::UInt32,
-        len: 2,
-    };
-    let _ = database.create(alloc, &key, kind)?;
-    let value = database.get(alloc, &key)?;
-    let _ = database.set_all(alloc, &key, &value)?;
-    let _ = database.resize(alloc, &key, 3)?;
-    let _ = database.set(alloc, &key, 1, &Item::UInt32(7))?;
-    let _ = database.delete(&key)?;
-    Ok(())
-}
-
-/// Watches the root, makes these changes, and takes the notes from a copy.
-fn notes_each_change<D: Database>(rt: &impl Abort, alloc: Global, tree: D) -> Result<(), Fail> {
-    let mut database = Watches::new(alloc, tree);
-    assert_eq!(rt; database.watch(alloc, 0), Ok(0));
-    change(alloc, &mut database)?;
+/// Whether a copy's does.
+fn copy_gives<D: Database>(
+    alloc: Global,
+    database: &Watches<D>,
+    watched: &Watched,
+) -> Result<bool, NoMemory> {
     let mut copy = database.copy(alloc)?;
-    let mut notes = Notes::new(alloc)?;
-    assert_eq!(rt; copy.notes(0, &mut notes), Ok(0));
-    let wanted = [0, 0, 1, 2, 1];
-    assert_eq!(rt; notes.len(), wanted.len());
-    for (note, index) in notes.as_slice().iter().zip(wanted.as_slice()) {
-        assert_eq!(rt;
-            *note,
-            Note {
-                row: 2,
-                index: *index
-            }
-        );
+    gives_and_ends(alloc, &mut copy, watched)
+}
+
+/// Watches a row of this database, and makes the changes.
+fn change<D: Database>(
+    rt: &impl Abort,
+    alloc: Global,
+    database: &mut Watches<D>,
+    watched: &Watched,
+) -> Result<(), Fail> {
+    run(rt, alloc, database, watched.before)?;
+    assert!(rt; database.watch(alloc, watched.row) == Ok(0));
+    for _ in 0..watched.times {
+        run(rt, alloc, database, watched.changes)?;
     }
-    assert_eq!(rt; copy.unwatch(0), Ok(()));
-    assert_eq!(rt; copy.unwatch(0), Err(NoWatch));
-    assert_eq!(rt; copy.notes(0, &mut notes), Err(NoWatch));
     Ok(())
 }
 
-#[test]
-fn each_change_is_noted(rt: HostRuntime) -> Result<(), Fail> {
-    let alloc = rt.alloc();
-    notes_each_change(&rt, alloc, PlainTree::new(alloc))?;
-    notes_each_change(&rt, alloc, ArenaTree::new(alloc))
+/// Whether that is noted over this database.
+fn is_noted<D: Database>(
+    rt: &impl Abort,
+    alloc: Global,
+    tree: D,
+    watched: &Watched,
+) -> Result<bool, Fail> {
+    let mut database = Watches::new(alloc, tree);
+    change(rt, alloc, &mut database, watched)?;
+    let copied = copy_gives(alloc, &database, watched)?;
+    Ok(copied & gives_and_ends(alloc, &mut database, watched)?)
 }
 
 #[test]
-fn sixty_four_watches_live(rt: HostRuntime) -> Result<(), Fail> {
+fn changes_are_noted(rt: HostRuntime) -> Result<(), Fail> {
     let alloc = rt.alloc();
-    let mut database = Watches::new(alloc, ArenaTree::new(alloc));
+    for watched in WATCHED {
+        let plain = is_noted(&rt, alloc, PlainTree::new(alloc), watched)?;
+        let arena = is_noted(&rt, alloc, ArenaTree::new(alloc), watched)?;
+        assert!(rt; plain & arena, "{}", watched.about);
+    }
+    Ok(())
+}
+
+/// Whether 64 watches live and no more, and the number of one that ended is given again.
+fn holds_sixty_four<D: Database>(alloc: Global, database: &mut Watches<D>) -> bool {
+    let mut so = true;
     for number in 0..64 {
-        assert_eq!(rt; database.watch(alloc, 0), Ok(number));
+        so &= database.watch(alloc, 0) == Ok(number);
     }
-    assert_eq!(rt; database.watch(alloc, 0), Err(WatchRefusal::NoWatchSlot));
-    assert_eq!(rt; database.unwatch(7), Ok(()));
-    assert_eq!(rt; database.watch(alloc, 0), Ok(7));
-    Ok(())
+    so &= database.watch(alloc, 0) == Err(WatchRefusal::NoWatchSlot);
+    so &= database.unwatch(7) == Ok(());
+    so & (database.watch(alloc, 0) == Ok(7))
+}
+
+#[test]
+fn sixty_four_watches_live(rt: HostRuntime) {
+    let mut database = Watches::new(rt.alloc(), ArenaTree::new(rt.alloc()));
+    assert!(rt; holds_sixty_four(rt.alloc(), &mut database));
 }
