@@ -1,6 +1,8 @@
 //! The script that `gen` writes.
 use daq_mem::MemSink;
+use daq_types::NoMemory;
 use script_generator::write_script;
+use std::alloc::Global;
 use std::test::Fail;
 
 /// The script of 0, as it is told to users.
@@ -17,11 +19,15 @@ stop
 exit
 ";
 
+/// Whether the script of 0 is written as it is told.
+fn writes_first(alloc: Global) -> Result<bool, NoMemory> {
+    let mut out = MemSink::new(alloc, 4096, Vec::new(alloc))?;
+    let is_written = write_script(alloc, 0, &mut out).is_ok();
+    Ok(is_written && out.bytes() == FIRST.as_bytes())
+}
+
 #[test]
 fn the_first_script(rt: HostRuntime) -> Result<(), Fail> {
-    let alloc = rt.alloc();
-    let mut out = MemSink::new(alloc, 4096, Vec::new(alloc))?;
-    assert!(rt; write_script(alloc, 0, &mut out).is_ok());
-    assert!(rt; out.bytes() == FIRST.as_bytes());
+    assert!(rt; writes_first(rt.alloc())?);
     Ok(())
 }

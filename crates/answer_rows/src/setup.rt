@@ -1,223 +1,299 @@
 //! Declarations, and why each is refused.
-use daq_types::{Kind, NameRefusal};
+use daq_types::{Kind, NameRefusal, NoMemory};
 use session_setup::{Declarations, SetupRefusal};
+use std::alloc::Global;
+use std::test::Fail;
 
-/// The answer to `buffer NAME SIZE`.
-fn buffer(session: &mut Declarations, name: &str, size: u32) -> Option<SetupRefusal> {
-    session.buffer(name.as_bytes(), size).err()
+/// A line that declares something.
+#[derive(Clone, Copy)]
+enum Line<'a> {
+    /// `buffer NAME SIZE`.
+    Buffer(&'a str, u32),
+    /// `equip NAME ID 0 BUFFER 10`.
+    Equip(&'a str, u32, &'a str),
+    /// `channel N PATTERN BUFFER 65535 65535`.
+    Channel(u32, &'a str, &'a str),
+    /// `analyzer NAME BUFFER 65535 65535 all`.
+    Analyzer(&'a str, &'a str),
 }
 
-/// The answer to `equip NAME ID 0 BUFFER 10`.
-fn equip(session: &mut Declarations, name: &str, id: u32, buffer: &str) -> Option<SetupRefusal> {
-    session
-        .equip(name.as_bytes(), id, 0, buffer.as_bytes(), 10)
-        .err()
-}
+/// A line, and its refusal; none where it declares.
+type Row = (Line<'static>, Option<SetupRefusal>);
 
-/// The answer to `channel N PATTERN BUFFER 65535 65535`.
-fn channel(
-    session: &mut Declarations,
-    number: u32,
-    pattern: &str,
-    buffer: &str,
-) -> Option<SetupRefusal> {
-    session
-        .channel(number, pattern.as_bytes(), buffer.as_bytes(), 65535, 65535)
-        .err()
-}
-
-/// The answer to `analyzer NAME BUFFER 65535 65535 all`.
-fn analyzer(session: &mut Declarations, name: &str, buffer: &str) -> Option<SetupRefusal> {
-    session
-        .analyzer(name.as_bytes(), buffer.as_bytes(), 65535, 65535, Kind::All)
-        .err()
-}
+const EMPTY_NAME: SetupRefusal = SetupRefusal::BadName(NameRefusal::EmptyName);
 
 const LONG_NAME: SetupRefusal = SetupRefusal::BadName(NameRefusal::LongName);
+
+/// A name has a `/` at place 1.
+const SLASH: SetupRefusal = SetupRefusal::BadName(NameRefusal::BadByte { at: 1 });
 
 /// The buffers of a session would have more bytes than 2^30.
 const BUFFERS_TOO_LARGE: SetupRefusal = SetupRefusal::TooMany { most: 1073741824 };
 
-#[test]
-fn buffers_are_refused_in_order(rt: HostRuntime) {
-    let mut session = Declarations::new(rt.alloc()).expect(&rt, "memory");
-    for (name, size, expected) in [
-        ("", 0, Some(SetupRefusal::BadName(NameRefusal::EmptyName))),
-        ("a name of more than thirty-one by", 0, Some(LONG_NAME)),
-        (
-            "A/B",
-            0,
-            Some(SetupRefusal::BadName(NameRefusal::BadByte { at: 1 })),
-        ),
-        ("A", 248, Some(SetupRefusal::BadBufferSize)),
-        ("A", 260, Some(SetupRefusal::BadBufferSize)),
-        ("A", 268435464, Some(SetupRefusal::BadBufferSize)),
-        ("A", 256, None),
-        ("a", 0, Some(SetupRefusal::Exists)),
-        ("B", 268435456, None),
-        ("C", 268435456, None),
-        ("D", 268435456, None),
-        ("E", 268435456, Some(BUFFERS_TOO_LARGE)),
-        ("system", 0, Some(SetupRefusal::BadBufferSize)),
-        ("system", 268435456, Some(BUFFERS_TOO_LARGE)),
-        ("system", 4096, None),
-        ("E", 256, None),
-        ("F", 256, None),
-        ("G", 256, None),
-        ("H", 0, Some(SetupRefusal::BadBufferSize)),
-        ("H", 268435456, Some(SetupRefusal::TooMany { most: 8 })),
-        ("SYSTEM", 1048576, None),
-    ] {
-        let answer = buffer(&mut session, name, size);
-        assert!(rt; answer == expected, "buffer {name} {size}: {answer:?}");
+/// There are eight buffers, or eight analyzers.
+const EIGHT: SetupRefusal = SetupRefusal::TooMany { most: 8 };
+
+/// Buffers of one session, in order.
+const BUFFERS: &[Row] = &[
+    (Line::Buffer("", 0), Some(EMPTY_NAME)),
+    (
+        Line::Buffer("a name of more than thirty-one by", 0),
+        Some(LONG_NAME),
+    ),
+    (Line::Buffer("A/B", 0), Some(SLASH)),
+    (Line::Buffer("A", 248), Some(SetupRefusal::BadBufferSize)),
+    (Line::Buffer("A", 260), Some(SetupRefusal::BadBufferSize)),
+    (
+        Line::Buffer("A", 268435464),
+        Some(SetupRefusal::BadBufferSize),
+    ),
+    (Line::Buffer("A", 256), None),
+    (Line::Buffer("a", 0), Some(SetupRefusal::Exists)),
+    (Line::Buffer("B", 268435456), None),
+    (Line::Buffer("C", 268435456), None),
+    (Line::Buffer("D", 268435456), None),
+    (Line::Buffer("E", 268435456), Some(BUFFERS_TOO_LARGE)),
+    (Line::Buffer("system", 0), Some(SetupRefusal::BadBufferSize)),
+    (Line::Buffer("system", 268435456), Some(BUFFERS_TOO_LARGE)),
+    (Line::Buffer("system", 4096), None),
+    (Line::Buffer("E", 256), None),
+    (Line::Buffer("F", 256), None),
+    (Line::Buffer("G", 256), None),
+    (Line::Buffer("H", 0), Some(SetupRefusal::BadBufferSize)),
+    (Line::Buffer("H", 268435456), Some(EIGHT)),
+    (Line::Buffer("SYSTEM", 1048576), None),
+];
+
+/// Front-ends of one session, in order.
+const FRONTS: &[Row] = &[
+    (Line::Equip("", 0, "NONE"), Some(EMPTY_NAME)),
+    (
+        Line::Equip("LOGGER", 0, "NONE"),
+        Some(SetupRefusal::SameName),
+    ),
+    (Line::Equip("A", 0, "NONE"), Some(SetupRefusal::BadId)),
+    (Line::Equip("A", 32768, "NONE"), Some(SetupRefusal::BadId)),
+    (Line::Equip("A", 1, "NONE"), Some(SetupRefusal::NoBuffer)),
+    (Line::Equip("A", 1, "no/name"), Some(SetupRefusal::NoBuffer)),
+    (Line::Equip("A", 1, "system"), None),
+    (Line::Equip("a", 0, "NONE"), Some(SetupRefusal::SameName)),
+    (Line::Equip("B", 1, "NONE"), Some(SetupRefusal::SameId)),
+    (Line::Equip("B", 32767, "SYSTEM"), None),
+];
+
+/// One front-end more than a session has room for.
+const MANY_FRONTS: &[Row] = &[
+    (Line::Equip("F1", 1, "SYSTEM"), None),
+    (Line::Equip("F2", 2, "SYSTEM"), None),
+    (Line::Equip("F3", 3, "SYSTEM"), None),
+    (Line::Equip("F4", 4, "SYSTEM"), None),
+    (Line::Equip("F5", 5, "SYSTEM"), None),
+    (Line::Equip("F6", 6, "SYSTEM"), None),
+    (Line::Equip("F7", 7, "SYSTEM"), None),
+    (Line::Equip("F8", 8, "SYSTEM"), None),
+    (Line::Equip("F9", 9, "SYSTEM"), None),
+    (Line::Equip("F10", 10, "SYSTEM"), None),
+    (Line::Equip("F11", 11, "SYSTEM"), None),
+    (Line::Equip("F12", 12, "SYSTEM"), None),
+    (Line::Equip("F13", 13, "SYSTEM"), None),
+    (Line::Equip("F14", 14, "SYSTEM"), None),
+    (Line::Equip("F15", 15, "SYSTEM"), None),
+    (Line::Equip("F16", 16, "SYSTEM"), None),
+    (Line::Equip("F17", 17, "SYSTEM"), None),
+    (Line::Equip("F18", 18, "SYSTEM"), None),
+    (Line::Equip("F19", 19, "SYSTEM"), None),
+    (Line::Equip("F20", 20, "SYSTEM"), None),
+    (Line::Equip("F21", 21, "SYSTEM"), None),
+    (Line::Equip("F22", 22, "SYSTEM"), None),
+    (Line::Equip("F23", 23, "SYSTEM"), None),
+    (Line::Equip("F24", 24, "SYSTEM"), None),
+    (Line::Equip("F25", 25, "SYSTEM"), None),
+    (Line::Equip("F26", 26, "SYSTEM"), None),
+    (Line::Equip("F27", 27, "SYSTEM"), None),
+    (Line::Equip("F28", 28, "SYSTEM"), None),
+    (Line::Equip("F29", 29, "SYSTEM"), None),
+    (Line::Equip("F30", 30, "SYSTEM"), None),
+    (Line::Equip("F31", 31, "SYSTEM"), None),
+    (Line::Equip("F32", 32, "SYSTEM"), None),
+    (
+        Line::Equip("F33", 33, "SYSTEM"),
+        Some(SetupRefusal::TooMany { most: 32 }),
+    ),
+];
+
+/// Channels of one session, in order.
+const CHANNELS: &[Row] = &[
+    (
+        Line::Channel(16, "run.mid", "NONE"),
+        Some(SetupRefusal::BadChannel),
+    ),
+    (
+        Line::Channel(15, "run.mid", "NONE"),
+        Some(SetupRefusal::BadPattern),
+    ),
+    (
+        Line::Channel(15, "run%05d.gz", "NONE"),
+        Some(SetupRefusal::Compressed),
+    ),
+    (
+        Line::Channel(15, "run%05d.mid", "NONE"),
+        Some(SetupRefusal::NoBuffer),
+    ),
+    (Line::Channel(15, "run%05d.mid", "system"), None),
+    (
+        Line::Channel(15, "run.mid", "NONE"),
+        Some(SetupRefusal::SameChannel),
+    ),
+    (Line::Channel(0, "sub%05d.mid", "SYSTEM"), None),
+];
+
+/// Analyzers of one session with a front-end, in order.
+const ANALYZERS: &[Row] = &[
+    (Line::Equip("FE", 1, "SYSTEM"), None),
+    (Line::Analyzer("A/B", "NONE"), Some(SLASH)),
+    (
+        Line::Analyzer("logger", "NONE"),
+        Some(SetupRefusal::SameName),
+    ),
+    (Line::Analyzer("fe", "NONE"), Some(SetupRefusal::SameName)),
+    (Line::Analyzer("A", "NONE"), Some(SetupRefusal::NoBuffer)),
+    (Line::Analyzer("A", "system"), None),
+    (Line::Analyzer("a", "NONE"), Some(SetupRefusal::SameName)),
+    (Line::Analyzer("B", "SYSTEM"), None),
+    (Line::Analyzer("C", "SYSTEM"), None),
+    (Line::Analyzer("D", "SYSTEM"), None),
+    (Line::Analyzer("E", "SYSTEM"), None),
+    (Line::Analyzer("F", "SYSTEM"), None),
+    (Line::Analyzer("G", "SYSTEM"), None),
+    (Line::Analyzer("H", "SYSTEM"), None),
+    (Line::Analyzer("I", "SYSTEM"), Some(EIGHT)),
+    (Line::Equip("a", 2, "SYSTEM"), Some(SetupRefusal::SameName)),
+];
+
+/// Lines behind the opening.
+const OPENED: &[Row] = &[
+    (Line::Buffer("", 0), Some(SetupRefusal::Opened)),
+    (Line::Equip("", 0, "NONE"), Some(SetupRefusal::Opened)),
+    (
+        Line::Channel(16, "run.mid", "NONE"),
+        Some(SetupRefusal::Opened),
+    ),
+    (Line::Analyzer("", "NONE"), Some(SetupRefusal::Opened)),
+];
+
+/// The refusal of a line.
+fn refusal(session: &mut Declarations, line: Line<'_>) -> Option<SetupRefusal> {
+    let answer = match line {
+        Line::Buffer(name, size) => session.buffer(name.as_bytes(), size),
+        Line::Equip(name, id, buffer) => {
+            session.equip(name.as_bytes(), id, 0, buffer.as_bytes(), 10)
+        }
+        Line::Channel(number, pattern, buffer) => {
+            session.channel(number, pattern.as_bytes(), buffer.as_bytes(), 65535, 65535)
+        }
+        Line::Analyzer(name, buffer) => {
+            session.analyzer(name.as_bytes(), buffer.as_bytes(), 65535, 65535, Kind::All)
+        }
+    };
+    answer.err()
+}
+
+/// The number of the first of these lines, from 0, that is not answered as it is told; how many
+/// there are, where all are.
+fn first_wrong(session: &mut Declarations, rows: &[Row]) -> usize {
+    for (place, (line, expected)) in rows.iter().enumerate() {
+        if refusal(session, *line) != *expected {
+            return place;
+        }
     }
-    assert!(rt; session.buffers().len() == 8, "eight buffers");
+    rows.len()
+}
+
+/// How many buffers, front-ends, channels and analyzers are declared.
+fn counts(session: &Declarations) -> [usize; 4] {
+    [
+        session.buffers().len(),
+        session.fronts().len(),
+        session.channels().len(),
+        session.analyzers().len(),
+    ]
+}
+
+/// What a session declares by these lines: so many buffers, front-ends, channels and analyzers.
+const SESSIONS: &[(&[Row], [usize; 4])] = &[
+    (BUFFERS, [8, 0, 0, 0]),
+    (FRONTS, [1, 2, 0, 0]),
+    (MANY_FRONTS, [1, 32, 0, 0]),
+    (CHANNELS, [1, 0, 2, 0]),
+    (ANALYZERS, [1, 1, 0, 8]),
+];
+
+/// The first of these lines that is not answered as it is told, and what is declared behind them.
+fn declare(alloc: Global, rows: &[Row]) -> Result<(usize, [usize; 4]), NoMemory> {
+    let mut session = Declarations::new(alloc)?;
+    let wrong = first_wrong(&mut session, rows);
+    Ok((wrong, counts(&session)))
 }
 
 #[test]
-fn front_ends_are_refused_in_order(rt: HostRuntime) {
-    let mut session = Declarations::new(rt.alloc()).expect(&rt, "memory");
-    for (name, id, into, expected) in [
-        (
-            "",
-            0,
-            "NONE",
-            Some(SetupRefusal::BadName(NameRefusal::EmptyName)),
-        ),
-        ("LOGGER", 0, "NONE", Some(SetupRefusal::SameName)),
-        ("A", 0, "NONE", Some(SetupRefusal::BadId)),
-        ("A", 32768, "NONE", Some(SetupRefusal::BadId)),
-        ("A", 1, "NONE", Some(SetupRefusal::NoBuffer)),
-        ("A", 1, "no/name", Some(SetupRefusal::NoBuffer)),
-        ("A", 1, "system", None),
-        ("a", 0, "NONE", Some(SetupRefusal::SameName)),
-        ("B", 1, "NONE", Some(SetupRefusal::SameId)),
-        ("B", 32767, "SYSTEM", None),
-    ] {
-        let answer = equip(&mut session, name, id, into);
-        assert!(rt; answer == expected, "equip {name} {id} {into}: {answer:?}");
+fn lines_are_refused_in_order(rt: HostRuntime) -> Result<(), Fail> {
+    for (rows, expected) in SESSIONS {
+        let (wrong, declared) = declare(rt.alloc(), rows)?;
+        assert!(rt; wrong == rows.len(), "row {wrong}, {expected:?}");
+        assert!(rt; declared == *expected, "{declared:?}");
     }
-    assert!(rt; session.fronts().len() == 2, "two front-ends");
+    Ok(())
 }
 
-#[test]
-fn a_session_has_room_for_32_front_ends(rt: HostRuntime) {
-    let mut session = Declarations::new(rt.alloc()).expect(&rt, "memory");
-    for id in 1..33u32 {
-        let name = format!(in rt.alloc(); "F{id}").expect(&rt, "memory");
-        let answer = equip(&mut session, name.as_str(), id, "SYSTEM");
-        assert!(rt; answer.is_none(), "front-end {id} of 32: {answer:?}");
-    }
-    let answer = equip(&mut session, "F33", 33, "SYSTEM");
-    assert!(rt;
-        answer == Some(SetupRefusal::TooMany { most: 32 }),
-        "a 33rd: {answer:?}"
-    );
+/// Whether the first front-end is that of a session which declares none.
+fn has_default_front(session: &Declarations) -> bool {
+    let Some(front) = session.fronts().first() else {
+        return false;
+    };
+    front.name.as_slice() == b"FE".as_slice()
+        && front.id == 1
+        && front.mask == 0
+        && front.buffer == 0
+        && front.limit == 4294967295
 }
 
-#[test]
-fn channels_are_refused_in_order(rt: HostRuntime) {
-    let mut session = Declarations::new(rt.alloc()).expect(&rt, "memory");
-    for (number, pattern, from, expected) in [
-        (16, "run.mid", "NONE", Some(SetupRefusal::BadChannel)),
-        (15, "run.mid", "NONE", Some(SetupRefusal::BadPattern)),
-        (15, "run%05d.gz", "NONE", Some(SetupRefusal::Compressed)),
-        (15, "run%05d.mid", "NONE", Some(SetupRefusal::NoBuffer)),
-        (15, "run%05d.mid", "system", None),
-        (15, "run.mid", "NONE", Some(SetupRefusal::SameChannel)),
-        (0, "sub%05d.mid", "SYSTEM", None),
-    ] {
-        let answer = channel(&mut session, number, pattern, from);
-        assert!(rt;
-            answer == expected,
-            "channel {number} {pattern} {from}: {answer:?}"
-        );
-    }
-    assert!(rt; session.channels().len() == 2, "two channels");
+/// Whether the first channel is that of a session which declares none.
+fn has_default_channel(session: &Declarations) -> bool {
+    let Some(channel) = session.channels().first() else {
+        return false;
+    };
+    channel.number == 0
+        && channel.pattern.name(7).as_slice() == b"run00007.mid".as_slice()
+        && channel.buffer == 0
+        && channel.id == 65535
+        && channel.mask == 65535
 }
 
-#[test]
-fn analyzers_are_refused_in_order(rt: HostRuntime) {
-    let mut session = Declarations::new(rt.alloc()).expect(&rt, "memory");
-    assert!(rt;
-        equip(&mut session, "FE", 1, "SYSTEM").is_none(),
-        "a front-end"
-    );
-    for (name, from, expected) in [
-        (
-            "A/B",
-            "NONE",
-            Some(SetupRefusal::BadName(NameRefusal::BadByte { at: 1 })),
-        ),
-        ("logger", "NONE", Some(SetupRefusal::SameName)),
-        ("fe", "NONE", Some(SetupRefusal::SameName)),
-        ("A", "NONE", Some(SetupRefusal::NoBuffer)),
-        ("A", "system", None),
-        ("a", "NONE", Some(SetupRefusal::SameName)),
-        ("B", "SYSTEM", None),
-        ("C", "SYSTEM", None),
-        ("D", "SYSTEM", None),
-        ("E", "SYSTEM", None),
-        ("F", "SYSTEM", None),
-        ("G", "SYSTEM", None),
-        ("H", "SYSTEM", None),
-        ("I", "SYSTEM", Some(SetupRefusal::TooMany { most: 8 })),
-    ] {
-        let answer = analyzer(&mut session, name, from);
-        assert!(rt; answer == expected, "analyzer {name} {from}: {answer:?}");
-    }
-    assert!(rt; session.analyzers().len() == 8, "eight analyzers");
-    let answer = equip(&mut session, "a", 2, "SYSTEM");
-    assert!(rt; answer == Some(SetupRefusal::SameName), "{answer:?}");
+/// Whether the session has one of each, and no analyzer.
+fn has_defaults(session: &Declarations) -> bool {
+    has_default_front(session) && has_default_channel(session) && counts(session) == [1, 1, 1, 0]
 }
 
-#[test]
-fn an_opened_session_declares_no_more(rt: HostRuntime) {
-    let mut session = Declarations::new(rt.alloc()).expect(&rt, "memory");
-    session.open();
-    assert!(rt; session.is_opened(), "it is opened");
-    let answers = [
-        buffer(&mut session, "", 0),
-        equip(&mut session, "", 0, "NONE"),
-        channel(&mut session, 16, "run.mid", "NONE"),
-        analyzer(&mut session, "", "NONE"),
-    ];
-    for answer in answers {
-        assert!(rt; answer == Some(SetupRefusal::Opened), "{answer:?}");
-    }
-}
-
-#[test]
-fn a_session_has_a_front_end_and_a_channel(rt: HostRuntime) {
-    let mut session = Declarations::new(rt.alloc()).expect(&rt, "memory");
-    session.open();
-    for front in session.fronts() {
-        assert!(rt;
-            front.name.as_slice() == b"FE".as_slice() && front.id == 1 && front.mask == 0,
-            "the front-end's name, id and mask"
-        );
-        assert!(rt;
-            front.buffer == 0 && front.limit == 4294967295,
-            "its buffer and limit"
-        );
-    }
-    for channel in session.channels() {
-        assert!(rt;
-            channel.number == 0 && channel.pattern.name(7).as_slice() == b"run00007.mid".as_slice(),
-            "the channel's number and names"
-        );
-        assert!(rt;
-            channel.buffer == 0 && channel.id == 65535 && channel.mask == 65535,
-            "what it asks for"
-        );
-    }
-    assert!(rt;
-        session.fronts().len() == 1 && session.channels().len() == 1,
-        "one of each"
-    );
+/// Whether each of the lists that a session gives has one item.
+fn gives_one_of_each(session: Declarations) -> bool {
     let lists = session.into_lists();
-    assert!(rt;
-        lists.buffers.len() == 1 && lists.fronts.len() == 1 && lists.channels.len() == 1,
-        "the lists for themselves"
-    );
+    let counts = [
+        lists.buffers.len(),
+        lists.fronts.len(),
+        lists.channels.len(),
+    ];
+    counts == [1, 1, 1]
+}
+
+#[test]
+fn an_opened_session_has_defaults_and_declares_no_more(rt: HostRuntime) -> Result<(), Fail> {
+    let mut session = Declarations::new(rt.alloc())?;
+    session.open();
+    let is_opened = session.is_opened();
+    let wrong = first_wrong(&mut session, OPENED);
+    let has_defaults = has_defaults(&session);
+    let gives_lists = gives_one_of_each(session);
+    assert!(rt; is_opened && wrong == OPENED.len());
+    assert!(rt; has_defaults && gives_lists);
+    Ok(())
 }

@@ -1,231 +1,340 @@
 //! The tools over files in memory: worked rows.
+use command_words::Tool;
 use daq_mem::{FileFail, FileOp, MemFiles, MemSink};
 use daq_types::{FileName, NoMemory};
 use midas_tools::{InputFault, ToolEnd, analyze_file, check_file, dump_file};
 use std::alloc::{AllocError, Global};
 use std::test::Fail;
 
-/// The file of a run of one event: a record with 173 bytes, an event with 24 bytes, and a record with 176 bytes.
+/// A file that is made from that of a run of one event, which has 421 bytes.
+#[derive(Clone, Copy)]
+enum Made {
+    /// Its first so many bytes. Behind its end stands one byte.
+    Front(usize),
+    /// All of it and the byte behind its end, but with this byte at this place.
+    With(usize, u8),
+    /// Its front up to the end of the event, and a second event, whose data are longer than what is
+    /// read at a time.
+    Long,
+}
+
+/// A tool over a file, the calls that fail, and the text that is printed.
+type Row = (Tool, Made, &'static [FileFail], &'static str);
+
+/// No call fails.
+const NONE: &[FileFail] = &[];
+
+/// What the tools print.
+const ROWS: &[Row] = &[
+    // What is cut, whole, or goes on behind its end.
+    (Tool::Check, Made::Front(0), NONE, "bad NoBegin 0\n"),
+    (Tool::Check, Made::Front(10), NONE, "bad Truncated 10\n"),
+    (Tool::Check, Made::Front(229), NONE, "bad NoEnd 229\n"),
+    (
+        Tool::Check,
+        Made::Front(421),
+        NONE,
+        "ok run 1 events 1 bytes 421\n",
+    ),
+    (Tool::Check, Made::Front(422), NONE, "bad AfterEnd 421\n"),
+    (Tool::Dump, Made::Front(100), NONE, "bad Truncated 100\n"),
+    (
+        Tool::Dump,
+        Made::Front(189),
+        NONE,
+        "begin 1 1000 173\nbad NoEnd 189\n",
+    ),
+    (
+        Tool::Dump,
+        Made::Front(229),
+        NONE,
+        "begin 1 1000 173\nevent 1 0 1 1000 24\n  bank GEN0 UINT32 4\nbad NoEnd 229\n",
+    ),
+    (
+        Tool::Dump,
+        Made::Front(421),
+        NONE,
+        "begin 1 1000 173\nevent 1 0 1 1000 24\n  bank GEN0 UINT32 4\nend 1 1010 176\n",
+    ),
+    (
+        Tool::Dump,
+        Made::Front(422),
+        NONE,
+        "begin 1 1000 173\nevent 1 0 1 1000 24\n  bank GEN0 UINT32 4\nend 1 1010 176\n\
+         bad AfterEnd 421\n",
+    ),
+    (Tool::Analyze, Made::Front(0), NONE, "bad NoBegin 0\n"),
+    (Tool::Analyze, Made::Front(205), NONE, "bad Truncated 205\n"),
+    (Tool::Analyze, Made::Front(229), NONE, "bad NoEnd 229\n"),
+    (
+        Tool::Analyze,
+        Made::Front(421),
+        NONE,
+        "run 1\nevents 1\nid 1 count 1\n\
+         bank GEN0 UINT32 count 1 sum 1817669548 least 1817669548 greatest 1817669548\n\
+         rest ids 0 banks 0 bad 0\n",
+    ),
+    (Tool::Analyze, Made::Front(422), NONE, "bad AfterEnd 421\n"),
+    // Banks that are wrong or have odd names.
+    (
+        Tool::Dump,
+        Made::With(205, 0x0F),
+        NONE,
+        "begin 1 1000 173\nevent 1 0 1 1000 24\n  no banks BadSize 0\nend 1 1010 176\n\
+         bad AfterEnd 421\n",
+    ),
+    (
+        Tool::Dump,
+        Made::With(205, 0x11),
+        NONE,
+        "begin 1 1000 173\nevent 1 0 1 1000 24\n  no banks Short 24\nend 1 1010 176\n\
+         bad AfterEnd 421\n",
+    ),
+    (
+        Tool::Dump,
+        Made::With(209, 2),
+        NONE,
+        "begin 1 1000 173\nevent 1 0 1 1000 24\n  no banks BadFlags 2\nend 1 1010 176\n\
+         bad AfterEnd 421\n",
+    ),
+    (
+        Tool::Dump,
+        Made::With(213, 0x20),
+        NONE,
+        "begin 1 1000 173\nevent 1 0 1 1000 24\n  bank .EN0 UINT32 4\nend 1 1010 176\n\
+         bad AfterEnd 421\n",
+    ),
+    (
+        Tool::Dump,
+        Made::With(217, 99),
+        NONE,
+        "begin 1 1000 173\nevent 1 0 1 1000 24\n  bank GEN0 99 4\nend 1 1010 176\n\
+         bad AfterEnd 421\n",
+    ),
+    (
+        Tool::Dump,
+        Made::With(219, 9),
+        NONE,
+        "begin 1 1000 173\nevent 1 0 1 1000 24\n  no banks BadSize 8\nend 1 1010 176\n\
+         bad AfterEnd 421\n",
+    ),
+    // Calls that fail. What `dump` read before is printed.
+    (
+        Tool::Check,
+        Made::Front(421),
+        &[FileFail {
+            op: FileOp::OpenRead,
+            call: 0,
+        }],
+        "",
+    ),
+    (
+        Tool::Check,
+        Made::Front(421),
+        &[FileFail {
+            op: FileOp::Read,
+            call: 1,
+        }],
+        "",
+    ),
+    (
+        Tool::Check,
+        Made::Front(421),
+        &[FileFail {
+            op: FileOp::Close,
+            call: 0,
+        }],
+        "",
+    ),
+    (
+        Tool::Dump,
+        Made::Front(421),
+        &[FileFail {
+            op: FileOp::Read,
+            call: 0,
+        }],
+        "",
+    ),
+    (
+        Tool::Dump,
+        Made::Long,
+        &[FileFail {
+            op: FileOp::Read,
+            call: 1,
+        }],
+        "begin 1 1000 173\nevent 1 0 1 1000 24\n  bank GEN0 UINT32 4\n",
+    ),
+    (
+        Tool::Dump,
+        Made::Front(421),
+        &[FileFail {
+            op: FileOp::Read,
+            call: 1,
+        }],
+        "begin 1 1000 173\nevent 1 0 1 1000 24\n  bank GEN0 UINT32 4\nend 1 1010 176\n",
+    ),
+];
+
+/// Names of no file, and what each tool says of them.
+const NO_FILES: &[(Tool, &str, InputFault, &str)] = &[
+    (
+        Tool::Check,
+        "run00001.mid.gz",
+        InputFault::Compressed,
+        "bad Compressed\n",
+    ),
+    (
+        Tool::Dump,
+        "run00001.mid.gz",
+        InputFault::Compressed,
+        "bad Compressed\n",
+    ),
+    (
+        Tool::Analyze,
+        "run00001.mid.gz",
+        InputFault::Compressed,
+        "bad Compressed\n",
+    ),
+    (Tool::Check, "no.mid", InputFault::Missing, "bad Missing\n"),
+    (Tool::Dump, "no.mid", InputFault::Missing, "bad Missing\n"),
+    (
+        Tool::Analyze,
+        "no.mid",
+        InputFault::Missing,
+        "bad Missing\n",
+    ),
+];
+
+/// The header of a record at the begin, with 173 bytes of data.
+const BEGIN: &[u8] = &[
+    0, 0x80, 0x4D, 0x49, 1, 0, 0, 0, 0xE8, 3, 0, 0, 0xAD, 0, 0, 0,
+];
+
+/// An event with 24 bytes of data, and the header of a record at the end, with 176 bytes.
+const EVENT_AND_END: &[u8] = &[
+    1, 0, 0, 0, 1, 0, 0, 0, 0xE8, 3, 0, 0, 0x18, 0, 0, 0, // the header of the event
+    0x10, 0, 0, 0, 1, 0, 0, 0, // the header of its banks
+    0x47, 0x45, 0x4E, 0x30, 6, 0, 4, 0, 0xAC, 0x6F, 0x57, 0x6C, 0, 0, 0, 0, // a bank
+    1, 0x80, 0x4D, 0x49, 1, 0, 0, 0, 0xF2, 3, 0, 0, 0xB0, 0, 0, 0,
+];
+
+/// The file of a run of one event, and a byte behind its end.
 fn one_event(alloc: Global) -> Result<Vec<u8>, AllocError> {
-    let mut file = [
-        0, 0x80, 0x4D, 0x49, 1, 0, 0, 0, 0xE8, 3, 0, 0, 0xAD, 0, 0, 0,
-    ]
-    .to_vec(alloc)?;
+    let mut file = BEGIN.to_vec(alloc)?;
     file.resize(189, b'x')?;
-    file.extend_from_slice(&[1, 0, 0, 0, 1, 0, 0, 0, 0xE8, 3, 0, 0, 0x18, 0, 0, 0])?;
-    file.extend_from_slice(&[0x10, 0, 0, 0, 1, 0, 0, 0, 0x47, 0x45, 0x4E, 0x30])?;
-    file.extend_from_slice(&[6, 0, 4, 0, 0xAC, 0x6F, 0x57, 0x6C, 0, 0, 0, 0])?;
-    file.extend_from_slice(&[
-        1, 0x80, 0x4D, 0x49, 1, 0, 0, 0, 0xF2, 3, 0, 0, 0xB0, 0, 0, 0,
-    ])?;
+    file.extend_from_slice(EVENT_AND_END)?;
     file.resize(422, b'x')?;
     Ok(file)
 }
 
-/// Files with one of this name, which has these bytes, where these calls fail.
+/// The bytes of a file that is made so.
+fn bytes_of(alloc: Global, made: Made) -> Result<Vec<u8>, AllocError> {
+    let mut file = one_event(alloc)?;
+    match made {
+        Made::Front(len) => file.truncate(len),
+        Made::With(place, byte) => {
+            if let Some(target) = file.as_mut_slice().get_mut(place) {
+                *target = byte;
+            }
+        }
+        Made::Long => {
+            file.truncate(229);
+            file.extend_from_slice(&[1, 0, 0, 0, 2, 0, 0, 0, 0xE8, 3, 0, 0, 0, 0, 2, 0])?;
+            file.resize(131_317, b'x')?;
+        }
+    }
+    Ok(file)
+}
+
+/// Files with one of this name, which is made so, where these calls fail.
 fn files_with(
     alloc: Global,
     name: FileName,
-    bytes: &[u8],
-    fails: Vec<FileFail>,
+    made: Made,
+    fails: &[FileFail],
 ) -> Result<MemFiles, NoMemory> {
-    let mut files = MemFiles::new(alloc, 1, 150_000, fails)?;
-    files.add(name, bytes.to_vec(alloc)?)?;
+    let mut files = MemFiles::new(alloc, 1, 150_000, fails.to_vec(alloc)?)?;
+    files.add(name, bytes_of(alloc, made)?)?;
     Ok(files)
 }
 
-/// What `check` says of the front of the file, of so many bytes.
-const CUTS: [(usize, &str); 5] = [
-    (0, "bad NoBegin 0\n"),
-    (10, "bad Truncated 10\n"),
-    (229, "bad NoEnd 229\n"),
-    (421, "ok run 1 events 1 bytes 421\n"),
-    (422, "bad AfterEnd 421\n"),
-];
+/// How a tool ends over the file of this name, and the files behind it.
+fn run_tool(
+    alloc: Global,
+    tool: Tool,
+    files: MemFiles,
+    name: &FileName,
+    out: &mut MemSink,
+) -> (ToolEnd, MemFiles) {
+    match tool {
+        Tool::Check => check_file(alloc, files, name, out),
+        Tool::Dump => dump_file(alloc, files, name, out),
+        Tool::Analyze => analyze_file(alloc, files, name, out),
+    }
+}
+
+/// Whether a tool prints its text, ends by a fault of the files exactly where calls fail, and
+/// leaves the file there.
+fn is_right(alloc: Global, name: FileName, row: &Row) -> Result<bool, NoMemory> {
+    let (tool, made, fails, text) = *row;
+    let files = files_with(alloc, name, made, fails)?;
+    let mut out = MemSink::new(alloc, 1000, Vec::new(alloc))?;
+    let (end, files) = run_tool(alloc, tool, files, &name, &mut out);
+    let is_faulty = end == ToolEnd::FileFault;
+    let is_there = files.find(&name).is_some();
+    Ok(is_there && is_faulty != fails.is_empty() && out.bytes() == text.as_bytes())
+}
 
 #[test]
-fn check_of_a_cut_file(rt: HostRuntime) -> Result<(), Fail> {
-    let alloc = rt.alloc();
+fn tools_over_made_files(rt: HostRuntime) -> Result<(), Fail> {
     let name = FileName::new("run00001.mid")?;
-    let file = one_event(alloc)?;
-    for (len, text) in CUTS {
-        let (front, _) = file.as_slice().split_at(file.as_slice().len().min(len));
-        let files = files_with(alloc, name, front, Vec::new(alloc))?;
-        let mut out = MemSink::new(alloc, 1000, Vec::new(alloc))?;
-        let (_end, files) = check_file(alloc, files, &name, &mut out);
-        assert_eq!(rt; out.bytes(), text.as_bytes(), "{len} bytes");
-        assert!(rt; files.find(&name).is_some());
+    for (place, row) in ROWS.iter().enumerate() {
+        assert!(rt; is_right(rt.alloc(), name, row)?, "row {place}");
     }
     Ok(())
 }
 
-/// What `dump` says of the front of the file, of so many bytes.
-const DUMPS: [(usize, &str); 5] = [
-    (100, "bad Truncated 100\n"),
-    (189, "begin 1 1000 173\nbad NoEnd 189\n"),
-    (
-        229,
-        "begin 1 1000 173\nevent 1 0 1 1000 24\n  bank GEN0 UINT32 4\nbad NoEnd 229\n",
-    ),
-    (
-        421,
-        "begin 1 1000 173\nevent 1 0 1 1000 24\n  bank GEN0 UINT32 4\nend 1 1010 176\n",
-    ),
-    (
-        422,
-        "begin 1 1000 173\nevent 1 0 1 1000 24\n  bank GEN0 UINT32 4\nend 1 1010 176\nbad AfterEnd 421\n",
-    ),
-];
-
-#[test]
-fn dump_of_a_cut_file(rt: HostRuntime) -> Result<(), Fail> {
-    let alloc = rt.alloc();
-    let name = FileName::new("run00001.mid")?;
-    let file = one_event(alloc)?;
-    for (len, text) in DUMPS {
-        let (front, _) = file.as_slice().split_at(file.as_slice().len().min(len));
-        let files = files_with(alloc, name, front, Vec::new(alloc))?;
-        let mut out = MemSink::new(alloc, 1000, Vec::new(alloc))?;
-        let (_end, _files) = dump_file(alloc, files, &name, &mut out);
-        assert_eq!(rt; out.bytes(), text.as_bytes(), "{len} bytes");
-    }
-    Ok(())
-}
-
-/// What `analyze` says of the front of the file, of so many bytes.
-const ANALYSES: [(usize, &str); 5] = [
-    (0, "bad NoBegin 0\n"),
-    (205, "bad Truncated 205\n"),
-    (229, "bad NoEnd 229\n"),
-    (
-        421,
-        "run 1\nevents 1\nid 1 count 1\nbank GEN0 UINT32 count 1 sum 1817669548 least 1817669548 greatest 1817669548\nrest ids 0 banks 0 bad 0\n",
-    ),
-    (422, "bad AfterEnd 421\n"),
-];
-
-#[test]
-fn analysis_of_a_cut_file(rt: HostRuntime) -> Result<(), Fail> {
-    let alloc = rt.alloc();
-    let name = FileName::new("run00001.mid")?;
-    let file = one_event(alloc)?;
-    for (len, text) in ANALYSES {
-        let (front, _) = file.as_slice().split_at(file.as_slice().len().min(len));
-        let files = files_with(alloc, name, front, Vec::new(alloc))?;
-        let mut out = MemSink::new(alloc, 1000, Vec::new(alloc))?;
-        let (_end, files) = analyze_file(alloc, files, &name, &mut out);
-        assert_eq!(rt; out.bytes(), text.as_bytes(), "{len} bytes");
-        assert!(rt; files.find(&name).is_some());
-    }
-    Ok(())
-}
-
-#[test]
-fn banks_that_are_wrong_or_have_odd_names(rt: HostRuntime) -> Result<(), Fail> {
-    let alloc = rt.alloc();
-    let name = FileName::new("run00001.mid")?;
-    for (place, byte, line) in [
-        (205, 0x0F, "  no banks BadSize 0\n"),
-        (205, 0x11, "  no banks Short 24\n"),
-        (209, 2, "  no banks BadFlags 2\n"),
-        (213, 0x20, "  bank .EN0 UINT32 4\n"),
-        (217, 99, "  bank GEN0 99 4\n"),
-        (219, 9, "  no banks BadSize 8\n"),
-    ] {
-        let mut file = one_event(alloc)?;
-        for target in file.as_mut_slice().iter_mut().skip(place).take(1) {
-            *target = byte;
-        }
-        let files = files_with(alloc, name, file.as_slice(), Vec::new(alloc))?;
-        let mut out = MemSink::new(alloc, 1000, Vec::new(alloc))?;
-        let (_end, _files) = dump_file(alloc, files, &name, &mut out);
-        let (_, behind) = out.bytes().split_at(out.bytes().len().min(37));
-        assert!(rt; behind.starts_with(line.as_bytes()), "{line}");
-    }
-    Ok(())
+/// Whether a tool says this of a name where there are no files.
+fn finds_none(
+    alloc: Global,
+    tool: Tool,
+    name: FileName,
+    fault: InputFault,
+    line: &str,
+) -> Result<bool, NoMemory> {
+    let files = MemFiles::new(alloc, 1, 1000, Vec::new(alloc))?;
+    let mut out = MemSink::new(alloc, 1000, Vec::new(alloc))?;
+    let (end, _files) = run_tool(alloc, tool, files, &name, &mut out);
+    Ok(end == ToolEnd::Input(fault) && out.bytes() == line.as_bytes())
 }
 
 #[test]
 fn names_that_are_no_file(rt: HostRuntime) -> Result<(), Fail> {
-    let alloc = rt.alloc();
-    for (text, fault, line) in [
-        (
-            "run00001.mid.gz",
-            InputFault::Compressed,
-            "bad Compressed\n",
-        ),
-        ("no.mid", InputFault::Missing, "bad Missing\n"),
-    ] {
+    for (tool, text, fault, line) in NO_FILES {
         let name = FileName::new(text)?;
-        let files = MemFiles::new(alloc, 1, 1000, Vec::new(alloc))?;
-        let mut out = MemSink::new(alloc, 1000, Vec::new(alloc))?;
-        let (end, files) = check_file(alloc, files, &name, &mut out);
-        assert_eq!(rt; end, ToolEnd::Input(fault));
-        assert_eq!(rt; out.bytes(), line.as_bytes());
-        let (end, files) = dump_file(alloc, files, &name, &mut out);
-        assert_eq!(rt; end, ToolEnd::Input(fault));
-        let (end, _files) = analyze_file(alloc, files, &name, &mut out);
-        assert_eq!(rt; end, ToolEnd::Input(fault));
+        assert!(rt;
+            finds_none(rt.alloc(), *tool, name, *fault, line)?,
+            "{text}"
+        );
     }
     Ok(())
 }
 
-#[test]
-fn lines_of_what_was_read_before_a_read_fault(rt: HostRuntime) -> Result<(), Fail> {
-    let alloc = rt.alloc();
-    let name = FileName::new("run00001.mid")?;
-    let file = one_event(alloc)?;
-    let (good, _) = file.as_slice().split_at(file.as_slice().len().min(421));
-    let (front, _) = good.split_at(good.len().min(229));
-    // A second event, whose data are longer than what is read at a time.
-    let mut long = front.to_vec(alloc)?;
-    long.extend_from_slice(&[1, 0, 0, 0, 2, 0, 0, 0, 0xE8, 3, 0, 0, 0, 0, 2, 0])?;
-    long.resize(131_317, b'x')?;
-    for (bytes, call, text) in [
-        (good, 0, ""),
-        (
-            long.as_slice(),
-            1,
-            "begin 1 1000 173\nevent 1 0 1 1000 24\n  bank GEN0 UINT32 4\n",
-        ),
-        (
-            good,
-            1,
-            "begin 1 1000 173\nevent 1 0 1 1000 24\n  bank GEN0 UINT32 4\nend 1 1010 176\n",
-        ),
-    ] {
-        let op = FileOp::Read;
-        let fail = [FileFail { op, call }].to_vec(alloc)?;
-        let files = files_with(alloc, name, bytes, fail)?;
-        let mut out = MemSink::new(alloc, 1000, Vec::new(alloc))?;
-        let (end, _files) = dump_file(alloc, files, &name, &mut out);
-        assert_eq!(rt; end, ToolEnd::FileFault);
-        assert_eq!(rt; out.bytes(), text.as_bytes());
-    }
-    Ok(())
-}
-
-#[test]
-fn calls_that_fail(rt: HostRuntime) -> Result<(), Fail> {
-    let alloc = rt.alloc();
-    let name = FileName::new("run00001.mid")?;
-    let file = one_event(alloc)?;
-    let (good, _) = file.as_slice().split_at(file.as_slice().len().min(421));
-    for (op, call) in [(FileOp::OpenRead, 0), (FileOp::Read, 1), (FileOp::Close, 0)] {
-        let fail = [FileFail { op, call }].to_vec(alloc)?;
-        let files = files_with(alloc, name, good, fail)?;
-        let mut out = MemSink::new(alloc, 1000, Vec::new(alloc))?;
-        let (end, _files) = check_file(alloc, files, &name, &mut out);
-        assert_eq!(rt; end, ToolEnd::FileFault);
-        assert!(rt; out.bytes().is_empty());
-    }
-    let files = files_with(alloc, name, good, Vec::new(alloc))?;
+/// How the tools end over a good file, one behind the other, where the first call on their sink
+/// fails.
+fn ends_after_a_sink_fault(alloc: Global, name: FileName) -> Result<[ToolEnd; 3], NoMemory> {
+    let files = files_with(alloc, name, Made::Front(421), NONE)?;
     let mut out = MemSink::new(alloc, 1000, [0].to_vec(alloc)?)?;
-    let (end, files) = check_file(alloc, files, &name, &mut out);
-    assert_eq!(rt; end, ToolEnd::SinkFault);
-    let (end, files) = dump_file(alloc, files, &name, &mut out);
-    assert_eq!(rt; end, ToolEnd::Done);
-    let (end, _files) = analyze_file(alloc, files, &name, &mut out);
-    assert_eq!(rt; end, ToolEnd::Done);
+    let (checked, files) = check_file(alloc, files, &name, &mut out);
+    let (dumped, files) = dump_file(alloc, files, &name, &mut out);
+    let (analyzed, _files) = analyze_file(alloc, files, &name, &mut out);
+    Ok([checked, dumped, analyzed])
+}
+
+#[test]
+fn a_call_on_the_sink_that_fails(rt: HostRuntime) -> Result<(), Fail> {
+    let name = FileName::new("run00001.mid")?;
+    let ends = ends_after_a_sink_fault(rt.alloc(), name)?;
+    assert!(rt; matches!(ends, [ToolEnd::SinkFault, ToolEnd::Done, ToolEnd::Done]));
     Ok(())
 }

@@ -1,11 +1,11 @@
 //! Lists of words, and the forms that they have.
 use command_words::{Form, Tool, ToolCall, form_of};
-use daq_types::{FileName, NoMemory, Words};
+use daq_types::{BadFileName, FileName, NoMemory, Words};
 use std::alloc::Global;
 use std::test::Fail;
 
 /// Lists of words that have no form.
-const REFUSED: [&[&str]; 46] = [
+const REFUSED: &[&[&str]] = &[
     &[],
     &[""],
     &["-"],
@@ -54,25 +54,49 @@ const REFUSED: [&[&str]; 46] = [
     &["gen", "1", "2"],
 ];
 
-/// Words of a tool, and names that they may have.
-const FILES: [(&str, Tool, &str); 8] = [
-    ("check", Tool::Check, "run00001.mid"),
-    ("dump", Tool::Dump, "run00001.mid.gz"),
-    ("analyze", Tool::Analyze, "data/run00001.mid"),
-    ("check", Tool::Check, "-"),
-    ("dump", Tool::Dump, "a-b"),
-    ("check", Tool::Check, "check"),
-    ("check", Tool::Check, "help"),
-    ("analyze", Tool::Analyze, "name=value"),
-];
+/// A form, and what its words name.
+#[derive(Clone, Copy)]
+enum Named {
+    /// A session, with or without the flag.
+    Run(bool),
+    /// A tool on the file of this name.
+    OnFile(Tool, &'static str),
+    /// The script of this number.
+    Generate(u32),
+}
 
-/// Texts of numbers, and their values.
-const NUMBERS: [(&str, u32); 5] = [
-    ("0", 0),
-    ("007", 7),
-    ("42", 42),
-    ("4294967295", 4_294_967_295),
-    ("00000000004294967295", 4_294_967_295),
+/// Lists of words, and their forms.
+const FORMS: &[(&[&str], Named)] = &[
+    (&["run"], Named::Run(false)),
+    (&["run", "--cooperative"], Named::Run(true)),
+    (
+        &["check", "run00001.mid"],
+        Named::OnFile(Tool::Check, "run00001.mid"),
+    ),
+    (
+        &["dump", "run00001.mid.gz"],
+        Named::OnFile(Tool::Dump, "run00001.mid.gz"),
+    ),
+    (
+        &["analyze", "data/run00001.mid"],
+        Named::OnFile(Tool::Analyze, "data/run00001.mid"),
+    ),
+    (&["check", "-"], Named::OnFile(Tool::Check, "-")),
+    (&["dump", "a-b"], Named::OnFile(Tool::Dump, "a-b")),
+    (&["check", "check"], Named::OnFile(Tool::Check, "check")),
+    (&["check", "help"], Named::OnFile(Tool::Check, "help")),
+    (
+        &["analyze", "name=value"],
+        Named::OnFile(Tool::Analyze, "name=value"),
+    ),
+    (&["gen", "0"], Named::Generate(0)),
+    (&["gen", "007"], Named::Generate(7)),
+    (&["gen", "42"], Named::Generate(42)),
+    (&["gen", "4294967295"], Named::Generate(4_294_967_295)),
+    (
+        &["gen", "00000000004294967295"],
+        Named::Generate(4_294_967_295),
+    ),
 ];
 
 /// The form of these words.
@@ -84,60 +108,58 @@ fn read(alloc: Global, list: &[&str]) -> Result<Option<Form>, NoMemory> {
     form_of(alloc, &words)
 }
 
-/// A text of so many bytes, each of them this one.
-fn long_text(alloc: Global, byte: char, count: usize) -> Result<String, NoMemory> {
+/// The form that names this.
+fn form_with(named: Named) -> Result<Form, BadFileName> {
+    match named {
+        Named::Run(cooperative) => Ok(Form::Run { cooperative }),
+        Named::OnFile(tool, name) => {
+            let name = FileName::new(name)?;
+            let call = ToolCall { tool, name };
+            Ok(Form::OnFile { call })
+        }
+        Named::Generate(number) => Ok(Form::Generate { number }),
+    }
+}
+
+/// The form of this word, and a second that has so many of these bytes and then this text.
+fn read_long(
+    alloc: Global,
+    word: &str,
+    byte: char,
+    count: usize,
+    rest: &str,
+) -> Result<Option<Form>, NoMemory> {
     let mut text = String::new(alloc);
     for _ in 0..count {
         text.push(byte)?;
     }
-    Ok(text)
+    text.push_str(rest)?;
+    read(alloc, [word, text.as_str()].as_slice())
 }
 
 #[test]
 fn words_of_no_form(rt: HostRuntime) -> Result<(), Fail> {
     for words in REFUSED {
-        assert_eq!(rt; read(rt.alloc(), words)?, None, "{words:?}");
+        assert!(rt; read(rt.alloc(), words)?.is_none(), "{words:?}");
     }
     Ok(())
 }
 
 #[test]
-fn words_of_a_session(rt: HostRuntime) -> Result<(), Fail> {
-    let alone = read(rt.alloc(), ["run"].as_slice())?;
-    assert_eq!(rt; alone, Some(Form::Run { cooperative: false }));
-    let flagged = read(rt.alloc(), ["run", "--cooperative"].as_slice())?;
-    assert_eq!(rt; flagged, Some(Form::Run { cooperative: true }));
+fn words_of_each_form(rt: HostRuntime) -> Result<(), Fail> {
+    for (words, named) in FORMS {
+        let form = form_with(*named)?;
+        assert!(rt; read(rt.alloc(), words)? == Some(form), "{words:?}");
+    }
     Ok(())
 }
 
 #[test]
-fn words_of_a_tool(rt: HostRuntime) -> Result<(), Fail> {
-    for (word, tool, name) in FILES {
-        let call = ToolCall {
-            tool,
-            name: FileName::new(name)?,
-        };
-        let form = read(rt.alloc(), [word, name].as_slice())?;
-        assert_eq!(rt; form, Some(Form::OnFile { call }), "{word} {name}");
-    }
-    let longest = long_text(rt.alloc(), 'x', 255)?;
-    let form = read(rt.alloc(), ["check", longest.as_str()].as_slice())?;
-    assert!(rt; form.is_some());
-    let too_long = long_text(rt.alloc(), 'x', 256)?;
-    let form = read(rt.alloc(), ["check", too_long.as_str()].as_slice())?;
-    assert_eq!(rt; form, None);
-    Ok(())
-}
-
-#[test]
-fn words_of_a_generated_script(rt: HostRuntime) -> Result<(), Fail> {
-    for (word, number) in NUMBERS {
-        let form = read(rt.alloc(), ["gen", word].as_slice())?;
-        assert_eq!(rt; form, Some(Form::Generate { number }), "{word}");
-    }
-    let mut zeros = long_text(rt.alloc(), '0', 5000)?;
-    zeros.push('7')?;
-    let form = read(rt.alloc(), ["gen", zeros.as_str()].as_slice())?;
-    assert_eq!(rt; form, Some(Form::Generate { number: 7 }));
+fn long_words(rt: HostRuntime) -> Result<(), Fail> {
+    let alloc = rt.alloc();
+    assert!(rt; read_long(alloc, "check", 'x', 255, "")?.is_some());
+    assert!(rt; read_long(alloc, "check", 'x', 256, "")?.is_none());
+    let number = 7;
+    assert!(rt; read_long(alloc, "gen", '0', 5000, "7")? == Some(Form::Generate { number }));
     Ok(())
 }
