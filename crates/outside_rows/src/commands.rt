@@ -76,11 +76,10 @@ fn parts_of_key(command: Command<'_>) -> Parts<'_> {
             [path.as_slice(), value.as_slice()],
             [index, 0, 0],
         ),
-        Command::Get { path, index: None } => of_text(("get", ""), path, 0),
-        Command::Get {
-            path,
-            index: Some(index),
-        } => of_text(("get", "one"), path, index),
+        Command::Get { path, index } => match index {
+            None => of_text(("get", ""), path, 0),
+            Some(index) => of_text(("get", "one"), path, index),
+        },
         Command::List { path } => of_text(("list", ""), path, 0),
         Command::Remove { path } => of_text(("remove", ""), path, 0),
         other => parts_of_declared(other),

@@ -155,9 +155,9 @@ fn more_ids_and_banks_than_rows(rt: HostRuntime) -> Result<(), Fail> {
     for id in 0..256u16 {
         report.fold(&header(id), &small_area(id, 1));
     }
-    for _ in 0..2 {
-        report.fold(&header(256), &small_area(256, 2));
-    }
+    let other = small_area(256, 2);
+    report.fold(&header(256), &other);
+    report.fold(&header(256), &other);
     let mut text = TextBuffer::new(rt.alloc());
     report.print(b"", &mut text)?;
     let end = b"bank B0PP UINT8 count 2 sum 7 least 3 greatest 4\nrest ids 2 banks 2 bad 0\n";
