@@ -22,8 +22,8 @@ enum Step {
     /// The client.
     Request(u32, Result<u32, RequestRefusal>),
     Cancel(u32, u32, Result<(), RequestRefusal>),
-    /// The bytes of data.
-    Send(usize, Result<u64, SendRefusal>),
+    /// An event with 8 bytes of data.
+    Send(Result<u64, SendRefusal>),
     /// The start number.
     SendInRun(u32, Result<u64, SendRefusal>),
     Receive(u32, Received),
@@ -55,43 +55,33 @@ fn name(rt: &impl Abort) -> Name {
     Name::new(b"ANA").expect(rt, "a name")
 }
 
-/// Makes the call by a port and compares its reply.
-fn run_step<R: Abort + AllocGlobal + Wait, P: BufferPort>(
+/// Makes the call by a port, and answers whether its reply is the right one.
+fn is_right<R: Abort + AllocGlobal + Wait, P: BufferPort>(
     rt: &R,
     port: &mut P,
     step: Step,
-) -> Result<(), Fail>
+) -> Result<bool, NoMemory>
     requires room { 1 ≤ (P.access port.old).entries }
     requires bytes { 24 ≤ (P.access port.old).bytes }
 {
-    match step {
-        Attach(reply) => assert_eq!(rt; port.attach(rt, name(rt)), reply),
-        Detach(client, reply) => assert_eq!(rt; port.detach(rt, client), reply),
-        Request(client, reply) => assert_eq!(rt;
-            port.request(rt, client, ANY, ANY, Kind::All),
-            reply
-        ),
-        Cancel(client, request, reply) => assert_eq!(rt; port.cancel(rt, client, request), reply),
-        Send(size, reply) => {
-            assert!(rt; size <= DATA.len());
-            assert_eq!(rt; port.send(rt, &header(size as u32), &DATA[..size]), reply);
+    let mut into = EventBuf::new(rt.alloc(), 24)?;
+    Ok(match step {
+        Attach(reply) => port.attach(rt, name(rt)) == reply,
+        Detach(client, reply) => port.detach(rt, client) == reply,
+        Request(client, reply) => port.request(rt, client, ANY, ANY, Kind::All) == reply,
+        Cancel(client, request, reply) => port.cancel(rt, client, request) == reply,
+        Send(reply) => port.send(rt, &header(8), &DATA[..8]) == reply,
+        SendInRun(start, reply) => {
+            port.send_in_run(rt, start, &header(24), &DATA[..24]) == reply
         }
-        SendInRun(start, reply) => assert_eq!(rt;
-            port.send_in_run(rt, start, &header(24), &DATA[..24]),
-            reply
-        ),
-        Receive(client, reply) => {
-            let mut into = EventBuf::new(rt.alloc(), 24)?;
-            assert_eq!(rt; port.receive(rt, client, &mut into), reply);
-        }
-        Begin(start, reply) => assert_eq!(rt; port.begin(rt, start), reply),
-        Pause(start, reply) => assert_eq!(rt; port.pause(rt, start), reply),
-        Resume(start, reply) => assert_eq!(rt; port.resume(rt, start), reply),
-        End(start, reply) => assert_eq!(rt; port.end(rt, start), reply),
-        Level(level) => assert_eq!(rt; port.level(rt), level),
-        Accepted(accepted) => assert_eq!(rt; port.accepted(rt), accepted),
-    }
-    Ok(())
+        Receive(client, reply) => port.receive(rt, client, &mut into) == reply,
+        Begin(start, reply) => port.begin(rt, start) == reply,
+        Pause(start, reply) => port.pause(rt, start) == reply,
+        Resume(start, reply) => port.resume(rt, start) == reply,
+        End(start, reply) => port.end(rt, start) == reply,
+        Level(level) => port.level(rt) == level,
+        Accepted(accepted) => port.accepted(rt) == accepted,
+    })
 }
 
 /// A port to a new buffer of 256 bytes.
@@ -104,7 +94,7 @@ fn new_port(alloc: Global) -> Result<LocalPort<PlainBuffer>, NoMemory> {
 const STEPS: [Step; 15] = [
     Attach(Ok(0)),
     Request(0, Ok(0)),
-    Send(8, Ok(0)),
+    Send(Ok(0)),
     Begin(4, Ok(1)),
     SendInRun(4, Ok(1)),
     Receive(0, Received::Got { place: 0, start: 0 }),
@@ -128,9 +118,9 @@ const STEPS: [Step; 15] = [
 #[test]
 fn a_port_replies_as_its_buffer(rt: HostRuntime) -> Result<(), Fail> {
     let mut port = new_port(rt.alloc())?;
-    for step in &STEPS {
+    for (place, step) in STEPS.iter().enumerate() {
         port.reserve(1, 24)?;
-        run_step(&rt, &mut port, *step)?;
+        assert!(rt; is_right(&rt, &mut port, *step)?, "call {place}");
     }
     let (_, journal) = port.into_parts();
     assert_eq!(rt; journal.len(), STEPS.len());

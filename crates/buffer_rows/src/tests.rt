@@ -2,7 +2,7 @@
 use buffer_core::{
     EventBuffer, MarkRefusal, NoClient, NoSlot, Received, RequestRefusal, RunGate, SendRefusal,
 };
-use daq_types::{Kind, Name};
+use daq_types::{Kind, Name, NoMemory};
 use event_header::{EventBuf, Header};
 use plain_buffer::PlainBuffer;
 use ring_buffer::RingBuffer;
@@ -73,70 +73,61 @@ fn sent<B: EventBuffer>(
     buffer.send(&header(id, mask, size as u32), &data[..size])
 }
 
-/// Receives with room for so many bytes, and compares the reply.
-fn receive_into<R: Abort + AllocGlobal, B: EventBuffer>(
+/// What a receive with room for so many bytes answers.
+fn received<R: AllocGlobal, B: EventBuffer>(
     rt: &R,
     buffer: &mut B,
     client: u32,
     room: u32,
-    reply: Received,
-) -> Result<(), Fail> {
+) -> Result<Received, NoMemory> {
     let mut into = EventBuf::new(rt.alloc(), room)?;
-    assert_eq!(rt; buffer.receive(client, &mut into), reply);
-    Ok(())
+    Ok(buffer.receive(client, &mut into))
 }
 
-/// The first client receives an event of this id and mask and with so many bytes of data.
-fn receive_given<R: Abort + AllocGlobal, B: EventBuffer>(
+/// Whether the first client gets an event of this id and mask and with so many bytes of data.
+fn is_given<R: Abort + AllocGlobal, B: EventBuffer>(
     rt: &R,
     buffer: &mut B,
     reply: Received,
     id: u16,
     mask: u16,
     size: usize,
-) -> Result<(), Fail> {
+) -> Result<bool, NoMemory> {
     let data = data_of(id);
     assert!(rt; size <= data.len());
     let mut into = EventBuf::new(rt.alloc(), TOO_LONG as u32)?;
-    assert_eq!(rt; buffer.receive(0, &mut into), reply);
-    assert_eq!(rt; into.header(), header(id, mask, size as u32));
-    assert_eq!(rt; into.body(), &data[..size]);
-    Ok(())
+    let is_right = buffer.receive(0, &mut into) == reply;
+    Ok(is_right && into.header() == header(id, mask, size as u32) && into.body() == &data[..size])
 }
 
-/// Makes the call and compares its reply.
-fn run_step<R: Abort + AllocGlobal, B: EventBuffer>(
+/// Makes the call, and answers whether its reply is the right one.
+fn is_right<R: Abort + AllocGlobal, B: EventBuffer>(
     rt: &R,
     buffer: &mut B,
     step: Step,
-) -> Result<(), Fail> {
-    match step {
-        Attach(reply) => assert_eq!(rt; buffer.attach(name(rt)), reply),
-        Detach(client, reply) => assert_eq!(rt; buffer.detach(client), reply),
-        Request(client, id, mask, kind, reply) => assert_eq!(rt;
-            buffer.request(client, id, mask, kind),
-            reply
-        ),
-        Cancel(client, request, reply) => assert_eq!(rt; buffer.cancel(client, request), reply),
-        Send(id, mask, size, reply) => assert_eq!(rt; sent(rt, buffer, id, mask, size), reply),
-        SendShort(reply) => assert_eq!(rt; buffer.send(&header(1, 0, 8), &data_of(1)[..7]), reply),
-        SendInRun(start, reply) => assert_eq!(rt;
-            buffer.send_in_run(start, &header(1, 0, 24), &data_of(1)[..24]),
-            reply
-        ),
-        Receive(client, reply) => receive_into(rt, buffer, client, TOO_LONG as u32, reply)?,
-        ReceiveInto(client, room, reply) => receive_into(rt, buffer, client, room, reply)?,
-        Given(place, start, id, mask, size) => {
-            receive_given(rt, buffer, Received::Got { place, start }, id, mask, size)?;
+) -> Result<bool, NoMemory> {
+    Ok(match step {
+        Attach(reply) => buffer.attach(name(rt)) == reply,
+        Detach(client, reply) => buffer.detach(client) == reply,
+        Request(client, id, mask, kind, reply) => buffer.request(client, id, mask, kind) == reply,
+        Cancel(client, request, reply) => buffer.cancel(client, request) == reply,
+        Send(id, mask, size, reply) => sent(rt, buffer, id, mask, size) == reply,
+        SendShort(reply) => buffer.send(&header(1, 0, 8), &data_of(1)[..7]) == reply,
+        SendInRun(start, reply) => {
+            buffer.send_in_run(start, &header(1, 0, 24), &data_of(1)[..24]) == reply
         }
-        Begin(start, reply) => assert_eq!(rt; buffer.begin(start), reply),
-        Pause(start, reply) => assert_eq!(rt; buffer.pause(start), reply),
-        Resume(start, reply) => assert_eq!(rt; buffer.resume(start), reply),
-        End(start, reply) => assert_eq!(rt; buffer.end(start), reply),
-        Level(level) => assert_eq!(rt; buffer.level(), level),
-        Accepted(accepted) => assert_eq!(rt; buffer.accepted(), accepted),
-    }
-    Ok(())
+        Receive(client, reply) => received(rt, buffer, client, TOO_LONG as u32)? == reply,
+        ReceiveInto(client, room, reply) => received(rt, buffer, client, room)? == reply,
+        Given(place, start, id, mask, size) => {
+            is_given(rt, buffer, Received::Got { place, start }, id, mask, size)?
+        }
+        Begin(start, reply) => buffer.begin(start) == reply,
+        Pause(start, reply) => buffer.pause(start) == reply,
+        Resume(start, reply) => buffer.resume(start) == reply,
+        End(start, reply) => buffer.end(start) == reply,
+        Level(level) => buffer.level() == level,
+        Accepted(accepted) => buffer.accepted() == accepted,
+    })
 }
 
 fn name(rt: &impl Abort) -> Name {
@@ -149,8 +140,8 @@ fn run_all<R: Abort + AllocGlobal, B: EventBuffer>(
     buffer: &mut B,
     steps: &[Step],
 ) -> Result<(), Fail> {
-    for step in steps {
-        run_step(rt, buffer, *step)?;
+    for (place, step) in steps.iter().enumerate() {
+        assert!(rt; is_right(rt, buffer, *step)?, "call {place}");
     }
     Ok(())
 }

@@ -106,7 +106,7 @@ fn parts_of(command: Command<'_>) -> Parts<'_> {
 }
 
 /// Lines and the parts of their commands.
-const COMMANDS: [(&str, (&str, &str), [&str; 2], [u32; 3]); 44] = [
+const COMMANDS: &[(&str, (&str, &str), [&str; 2], [u32; 3])] = &[
     ("", ("nothing", ""), ["", ""], [0, 0, 0]),
     (" \t ", ("nothing", ""), ["", ""], [0, 0, 0]),
     ("# any \" text", ("nothing", ""), ["", ""], [0, 0, 0]),
@@ -243,7 +243,7 @@ fn refused_at(line: &[u8]) -> Option<u32> {
 
 #[test]
 fn lines_that_are_commands(rt: HostRuntime) -> Result<(), Fail> {
-    for (line, said, [first, second], numbers) in &COMMANDS {
+    for (line, said, [first, second], numbers) in COMMANDS {
         let command = Command::read(line.as_bytes()).ok().ok_or(*line)?;
         assert_eq!(rt; command.is_exit(), said.0 == "exit", "{line}");
         let parts = (*said, [first.as_bytes(), second.as_bytes()], *numbers);
@@ -253,7 +253,7 @@ fn lines_that_are_commands(rt: HostRuntime) -> Result<(), Fail> {
 }
 
 /// Lines with a word that is none, and the place at which each is refused.
-const FAULTY_WORDS: [(&str, u32); 19] = [
+const FAULTY_WORDS: &[(&str, u32)] = &[
     ("frob", 0),
     ("Start", 0),
     (" # x", 1),
@@ -276,7 +276,7 @@ const FAULTY_WORDS: [(&str, u32); 19] = [
 ];
 
 /// Lines with which no form goes on from a place.
-const NO_FORM: [(&str, u32); 34] = [
+const NO_FORM: &[(&str, u32)] = &[
     ("start now", 6),
     ("stop  1", 6),
     ("exit 0", 5),
@@ -314,7 +314,7 @@ const NO_FORM: [(&str, u32); 34] = [
 ];
 
 /// Lines of a session's declarations and files with which no form goes on from a place.
-const NO_FORM_OF_A_SESSION: [(&str, u32); 25] = [
+const NO_FORM_OF_A_SESSION: &[(&str, u32)] = &[
     ("buffer B", 8),
     ("buffer B x", 9),
     ("buffer B 4294967296", 9),
@@ -351,9 +351,9 @@ fn look_at_places(rt: &impl Abort, rows: &[(&str, u32)]) {
 
 #[test]
 fn places_at_which_lines_are_refused(rt: HostRuntime) {
-    look_at_places(&rt, &FAULTY_WORDS);
-    look_at_places(&rt, &NO_FORM);
-    look_at_places(&rt, &NO_FORM_OF_A_SESSION);
+    look_at_places(&rt, FAULTY_WORDS);
+    look_at_places(&rt, NO_FORM);
+    look_at_places(&rt, NO_FORM_OF_A_SESSION);
 }
 
 #[test]
