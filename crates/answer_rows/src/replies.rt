@@ -28,7 +28,7 @@ enum Told {
     /// A dump of so many bytes was saved.
     Saved(u64),
     /// A command for watches was refused.
-    Unwatched(WatchCommandRefusal),
+    WatchRefused(WatchCommandRefusal),
     /// Run 1 ended: what the front-ends of these names sent, and the state of a channel's file.
     Stopped(&'static [(&'static str, u64)], ChannelState),
     /// Run 2 ended, in which the analyzer ANA got no event.
@@ -45,7 +45,7 @@ const ROWS: &[(Told, u64, &str)] = &[
     (Told::LastStart, 1, "refused 1: LastStart\n"),
     (Told::Saved(269), 1, "saved 269\n"),
     (
-        Told::Unwatched(WatchCommandRefusal::NoWatch),
+        Told::WatchRefused(WatchCommandRefusal::NoWatch),
         1,
         "refused 1: NoWatch\n",
     ),
@@ -204,7 +204,7 @@ fn reply_of(alloc: Global, told: Told) -> Result<Reply, NoMemory> {
         Told::Saved(bytes) => Reply::Watch {
             reply: WatchReply::Saved { bytes },
         },
-        Told::Unwatched(why) => Reply::Watch {
+        Told::WatchRefused(why) => Reply::Watch {
             reply: WatchReply::Refused { why },
         },
         Told::Stopped(fronts, state) => return stopped(alloc, fronts, state),

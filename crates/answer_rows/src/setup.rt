@@ -1,4 +1,5 @@
 //! Declarations, and why each is refused.
+use daq_text::TextBuffer;
 use daq_types::{Kind, NameRefusal, NoMemory};
 use session_setup::{Declarations, SetupRefusal};
 use std::alloc::Global;
@@ -81,46 +82,6 @@ const FRONTS: &[Row] = &[
     (Line::Equip("B", 32767, "SYSTEM"), None),
 ];
 
-/// One front-end more than a session has room for.
-const MANY_FRONTS: &[Row] = &[
-    (Line::Equip("F1", 1, "SYSTEM"), None),
-    (Line::Equip("F2", 2, "SYSTEM"), None),
-    (Line::Equip("F3", 3, "SYSTEM"), None),
-    (Line::Equip("F4", 4, "SYSTEM"), None),
-    (Line::Equip("F5", 5, "SYSTEM"), None),
-    (Line::Equip("F6", 6, "SYSTEM"), None),
-    (Line::Equip("F7", 7, "SYSTEM"), None),
-    (Line::Equip("F8", 8, "SYSTEM"), None),
-    (Line::Equip("F9", 9, "SYSTEM"), None),
-    (Line::Equip("F10", 10, "SYSTEM"), None),
-    (Line::Equip("F11", 11, "SYSTEM"), None),
-    (Line::Equip("F12", 12, "SYSTEM"), None),
-    (Line::Equip("F13", 13, "SYSTEM"), None),
-    (Line::Equip("F14", 14, "SYSTEM"), None),
-    (Line::Equip("F15", 15, "SYSTEM"), None),
-    (Line::Equip("F16", 16, "SYSTEM"), None),
-    (Line::Equip("F17", 17, "SYSTEM"), None),
-    (Line::Equip("F18", 18, "SYSTEM"), None),
-    (Line::Equip("F19", 19, "SYSTEM"), None),
-    (Line::Equip("F20", 20, "SYSTEM"), None),
-    (Line::Equip("F21", 21, "SYSTEM"), None),
-    (Line::Equip("F22", 22, "SYSTEM"), None),
-    (Line::Equip("F23", 23, "SYSTEM"), None),
-    (Line::Equip("F24", 24, "SYSTEM"), None),
-    (Line::Equip("F25", 25, "SYSTEM"), None),
-    (Line::Equip("F26", 26, "SYSTEM"), None),
-    (Line::Equip("F27", 27, "SYSTEM"), None),
-    (Line::Equip("F28", 28, "SYSTEM"), None),
-    (Line::Equip("F29", 29, "SYSTEM"), None),
-    (Line::Equip("F30", 30, "SYSTEM"), None),
-    (Line::Equip("F31", 31, "SYSTEM"), None),
-    (Line::Equip("F32", 32, "SYSTEM"), None),
-    (
-        Line::Equip("F33", 33, "SYSTEM"),
-        Some(SetupRefusal::TooMany { most: 32 }),
-    ),
-];
-
 /// Channels of one session, in order.
 const CHANNELS: &[Row] = &[
     (
@@ -198,15 +159,14 @@ fn refusal(session: &mut Declarations, line: Line<'_>) -> Option<SetupRefusal> {
     answer.err()
 }
 
-/// The number of the first of these lines, from 0, that is not answered as it is told; how many
-/// there are, where all are.
-fn first_wrong(session: &mut Declarations, rows: &[Row]) -> usize {
+/// The place of the first of these lines that is not answered as it is told.
+fn first_wrong(session: &mut Declarations, rows: &[Row]) -> Option<usize> {
     for (place, (line, expected)) in rows.iter().enumerate() {
         if refusal(session, *line) != *expected {
-            return place;
+            return Some(place);
         }
     }
-    rows.len()
+    None
 }
 
 /// How many buffers, front-ends, channels and analyzers are declared.
@@ -223,13 +183,12 @@ fn counts(session: &Declarations) -> [usize; 4] {
 const SESSIONS: &[(&[Row], [usize; 4])] = &[
     (BUFFERS, [8, 0, 0, 0]),
     (FRONTS, [1, 2, 0, 0]),
-    (MANY_FRONTS, [1, 32, 0, 0]),
     (CHANNELS, [1, 0, 2, 0]),
     (ANALYZERS, [1, 1, 0, 8]),
 ];
 
 /// The first of these lines that is not answered as it is told, and what is declared behind them.
-fn declare(alloc: Global, rows: &[Row]) -> Result<(usize, [usize; 4]), NoMemory> {
+fn declare(alloc: Global, rows: &[Row]) -> Result<(Option<usize>, [usize; 4]), NoMemory> {
     let mut session = Declarations::new(alloc)?;
     let wrong = first_wrong(&mut session, rows);
     Ok((wrong, counts(&session)))
@@ -239,9 +198,27 @@ fn declare(alloc: Global, rows: &[Row]) -> Result<(usize, [usize; 4]), NoMemory>
 fn lines_are_refused_in_order(rt: HostRuntime) -> Result<(), Fail> {
     for (rows, expected) in SESSIONS {
         let (wrong, declared) = declare(rt.alloc(), rows)?;
-        assert!(rt; wrong == rows.len(), "row {wrong}, {expected:?}");
+        assert!(rt; wrong.is_none(), "row {wrong:?}, {expected:?}");
         assert!(rt; declared == *expected, "{declared:?}");
     }
+    Ok(())
+}
+
+#[test]
+fn a_session_has_thirty_two_front_ends(rt: HostRuntime) -> Result<(), Fail> {
+    let mut session = Declarations::new(rt.alloc())?;
+    for id in 1..=32u32 {
+        let mut name = TextBuffer::new(rt.alloc());
+        name.text(b"F")?;
+        name.number(u64::from(id))?;
+        assert_eq!(rt;
+            session.equip(name.as_slice(), id, 0, b"SYSTEM", 10),
+            Ok(())
+        );
+    }
+    let one_more = session.equip(b"F33", 33, 0, b"SYSTEM", 10);
+    assert_eq!(rt; one_more, Err(SetupRefusal::TooMany { most: 32 }));
+    assert_eq!(rt; counts(&session), [1, 32, 0, 0]);
     Ok(())
 }
 
@@ -293,7 +270,7 @@ fn an_opened_session_has_defaults_and_declares_no_more(rt: HostRuntime) -> Resul
     let wrong = first_wrong(&mut session, OPENED);
     let has_defaults = has_defaults(&session);
     let gives_lists = gives_one_of_each(session);
-    assert!(rt; is_opened && wrong == OPENED.len());
+    assert!(rt; is_opened && wrong.is_none(), "row {wrong:?}");
     assert!(rt; has_defaults && gives_lists);
     Ok(())
 }

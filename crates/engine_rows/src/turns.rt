@@ -152,8 +152,8 @@ fn make_calls(
     engine: &mut Engine,
     calls: &[Call],
 ) -> Result<(), Fail> {
-    for call in calls {
-        assert!(rt; is_right(alloc, engine, *call)?);
+    for (place, call) in calls.iter().enumerate() {
+        assert!(rt; is_right(alloc, engine, *call)?, "call {place}");
     }
     Ok(())
 }
@@ -171,10 +171,10 @@ const TWO: [Client; 2] = [(500, 500, true), (600, 600, true)];
 const THREE: [Client; 3] = [(500, 500, false), (500, 500, false), (200, 800, true)];
 
 /// An engine with these clients.
-fn new_engine(alloc: Global, clients: &[Client]) -> Result<Engine, NoMemory> {
+fn new_engine(rt: &impl Abort, alloc: Global, clients: &[Client]) -> Result<Engine, Fail> {
     let mut engine = Engine::new(alloc)?;
     for (sequence, start_abort, wants) in clients {
-        let _client = add_client(&mut engine, *sequence, *start_abort, *wants);
+        assert!(rt; add_client(&mut engine, *sequence, *start_abort, *wants).is_ok());
     }
     Ok(engine)
 }
@@ -290,7 +290,7 @@ const ROWS: [(&[Client], &[Call]); 5] = [
 #[test]
 fn calls_and_answers(rt: HostRuntime) -> Result<(), Fail> {
     for (clients, calls) in &ROWS {
-        let mut engine = new_engine(rt.alloc(), clients)?;
+        let mut engine = new_engine(&rt, rt.alloc(), clients)?;
         make_calls(&rt, rt.alloc(), &mut engine, calls)?;
     }
     Ok(())
@@ -369,7 +369,7 @@ const RUN: [Call; 10] = [
 #[test]
 fn tallies_by_answer(rt: HostRuntime) -> Result<(), Fail> {
     let alloc = rt.alloc();
-    let mut engine = new_engine(alloc, &THREE)?;
+    let mut engine = new_engine(&rt, alloc, &THREE)?;
     make_calls(&rt, alloc, &mut engine, &RUN)?;
     let counted = Tally::Front {
         sent: 7,

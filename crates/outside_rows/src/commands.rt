@@ -25,7 +25,7 @@ fn kind_word(kind: Kind) -> &'static str {
     }
 }
 
-/// The parts of a command that declares a buffer or a member; those of any other are no such.
+/// The parts of a command that declares a buffer or a member; any other has the form `no other`.
 fn parts_of_declared(command: Command<'_>) -> Parts<'_> {
     match command {
         Command::Buffer { name, size } => of_text(("buffer", ""), name, size),
@@ -66,7 +66,7 @@ fn parts_of_declared(command: Command<'_>) -> Parts<'_> {
     }
 }
 
-/// The parts of a command on the keys of the database; other commands in other ways.
+/// The parts of a command on the keys of the database, or of one that declares.
 fn parts_of_key(command: Command<'_>) -> Parts<'_> {
     match command {
         Command::Create { tid, path, len } => of_text(("create", tid.name()), path, len),

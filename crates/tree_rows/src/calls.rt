@@ -65,7 +65,7 @@ pub fn item_of(alloc: Global, tid: Tid, text: &str) -> Result<Item, OdbRefusal> 
     }
 }
 
-/// So many items of a new key.
+/// So many bytes, or else numbers of 32 bits, as a new key has them.
 pub fn value_of(alloc: Global, tid: Tid, len: u32) -> Result<Value, NoMemory> {
     let len = len.clamp(1, 65536);
     match tid {

@@ -89,7 +89,7 @@ const GREAT: &[(Great, u32)] = &[
     (Great::Items, 1),
 ];
 
-/// Whether a new database does so with the dump of such a one.
+/// Whether a new database loads so many keys of the dump of such a one, and is saved as it.
 fn is_loaded_again(alloc: Global, great: Great, keys: u32) -> Result<bool, LoadRefusal> {
     let text = dump_of(alloc, great)?;
     let loaded = loads_again(alloc, &mut ArenaTree::new(alloc), text.as_slice())?;

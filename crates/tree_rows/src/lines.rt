@@ -156,17 +156,11 @@ fn is_single(rest: &[u8], wanted: Option<&str>) -> bool {
 }
 
 fn names_of(path: Option<Path>) -> Option<usize> {
-    match path {
-        None => None,
-        Some(path) => Some(path.names().len()),
-    }
+    Some(path?.names().len())
 }
 
 fn size_of(item: Option<ReadItem>) -> Option<Option<u64>> {
-    match item {
-        None => None,
-        Some(read) => Some(read.size),
-    }
+    Some(item?.size)
 }
 
 fn is_read(alloc: Global, line: &[u8], reading: &Reading) -> Result<bool, NoMemory> {

@@ -57,7 +57,7 @@ fn by_port<R: Wait>(
     }
 }
 
-/// Whether these are the calls of the rows, the two of a member among them.
+/// Whether as many calls are noted as the rows make, the two that write an item as the member's.
 fn are_noted(entries: &[(Caller, DatabaseEntry)]) -> bool {
     entries.len() == CALLS.len() && is_members(&entries[0]) && is_members(&entries[7])
 }

@@ -161,20 +161,22 @@ fn take_all<R: Wait>(
     port: &mut LocalAccess<PlainTree>,
     steps: &[Step],
 ) -> Result<bool, OdbRefusal> {
-    let mut so = true;
     for step in steps {
-        so &= take(rt, alloc, port, step)?;
+        if !take(rt, alloc, port, step)? {
+            return Ok(false);
+        }
     }
-    Ok(so)
+    Ok(true)
 }
 
 /// Whether all hold these numbers.
 fn are_numbers(alloc: Global, tree: &PlainTree, numbers: &[Number]) -> Result<bool, OdbRefusal> {
-    let mut so = true;
     for number in numbers {
-        so &= is_number(alloc, tree, number)?;
+        if !is_number(alloc, tree, number)? {
+            return Ok(false);
+        }
     }
-    Ok(so)
+    Ok(true)
 }
 
 /// Whether the steps come to what the story tells.
@@ -184,7 +186,7 @@ fn comes_so<R: Wait>(rt: &R, alloc: Global, story: &Story) -> Result<bool, OdbRe
     let (tree, journal) = port.into_database().into_parts();
     let noted = journal.len() == story.steps.len();
     let made = last_made(journal.as_slice()) == story.made;
-    Ok(answered & noted & made & are_numbers(alloc, &tree, story.numbers)?)
+    Ok(answered && noted && made && are_numbers(alloc, &tree, story.numbers)?)
 }
 
 #[test]

@@ -12,15 +12,15 @@ use std::test::Fail;
 type Story = (&'static [Row], &'static [Row], &'static [Row]);
 
 /// It has values of this other type.
-const UINT32: Reply = Err(OdbRefusal::TypeMismatch { have: Tid::UInt32 });
+const HAS_UINT32: Reply = Err(OdbRefusal::TypeMismatch { have: Tid::UInt32 });
 
-const ITEMS: Reply = Err(OdbRefusal::Limit { what: What::Items });
+const LIMIT_ITEMS: Reply = Err(OdbRefusal::Limit { what: What::Items });
 
-const SIZE: Reply = Err(OdbRefusal::Limit { what: What::Size });
+const LIMIT_SIZE: Reply = Err(OdbRefusal::Limit { what: What::Size });
 
-const TOTAL: Reply = Err(OdbRefusal::Limit { what: What::Total });
+const LIMIT_TOTAL: Reply = Err(OdbRefusal::Limit { what: What::Total });
 
-const FLOAT: Reply = Err(OdbRefusal::NotKept { tid: Tid::Float });
+const FLOAT_NOT_KEPT: Reply = Err(OdbRefusal::NotKept { tid: Tid::Float });
 
 const NO_INDEX_1: Reply = Err(OdbRefusal::BadIndex { len: 1 });
 
@@ -30,9 +30,9 @@ const KEYS: &[Row] = &[
     ("/A/x", Call::Keys(Tid::UInt32, 2), Ok(2)),
     ("/a/X", Call::Keys(Tid::Float, 0), Err(OdbRefusal::Exists)),
     ("/A/x/y", Call::Keys(Tid::Float, 0), Err(OdbRefusal::NotDir)),
-    ("/B/f", Call::Keys(Tid::Float, 0), FLOAT),
-    ("/B/f", Call::Keys(Tid::UInt8, 0), ITEMS),
-    ("/B/f", Call::Keys(Tid::UInt8, 65537), ITEMS),
+    ("/B/f", Call::Keys(Tid::Float, 0), FLOAT_NOT_KEPT),
+    ("/B/f", Call::Keys(Tid::UInt8, 0), LIMIT_ITEMS),
+    ("/B/f", Call::Keys(Tid::UInt8, 65537), LIMIT_ITEMS),
     ("/B", Call::Find, Err(OdbRefusal::NoKey)),
     ("/A/d", Call::Dir, Ok(3)),
     ("/A/y", Call::Keys(Tid::Int8, 1), Ok(4)),
@@ -51,7 +51,7 @@ const KEYS: &[Row] = &[
 /// Values are written.
 const VALUES: &[Row] = &[
     ("/A/x", Call::SetAll(Tid::UInt32, 2), Ok(2)),
-    ("/A/x", Call::Set(2, Tid::UInt8, "7"), UINT32),
+    ("/A/x", Call::Set(2, Tid::UInt8, "7"), HAS_UINT32),
     (
         "/A/x",
         Call::Set(2, Tid::UInt32, "7"),
@@ -72,14 +72,14 @@ const VALUES: &[Row] = &[
     ("/A/x", Call::Get, Ok(2)),
     ("/A/t", Call::Keys(Tid::Text, 1), Ok(3)),
     ("/A/t", Call::SetLong(1, 1024), NO_INDEX_1),
-    ("/A/t", Call::SetLong(0, 1024), SIZE),
+    ("/A/t", Call::SetLong(0, 1024), LIMIT_SIZE),
     ("/A/t", Call::SetLong(0, 1023), Ok(3)),
-    ("/A/t", Call::Resize(0), ITEMS),
-    ("/A/t", Call::Resize(4096), TOTAL),
+    ("/A/t", Call::Resize(0), LIMIT_ITEMS),
+    ("/A/t", Call::Resize(4096), LIMIT_TOTAL),
     ("/A/t", Call::Resize(4095), Ok(3)),
     ("/A/t", Call::Get, Ok(4095)),
-    ("/A/x", Call::SetAll(Tid::UInt32, 1024), TOTAL),
-    ("/A/x", Call::SetAll(Tid::UInt8, 1), UINT32),
+    ("/A/x", Call::SetAll(Tid::UInt32, 1024), LIMIT_TOTAL),
+    ("/A/x", Call::SetAll(Tid::UInt8, 1), HAS_UINT32),
     ("/A", Call::SetAll(Tid::UInt8, 1), Err(OdbRefusal::NotValue)),
     (
         "/A/x/y",

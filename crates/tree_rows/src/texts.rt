@@ -328,14 +328,17 @@ const TEXTS: &[Row] = &[
 fn comes_so(alloc: Global, row: &Row) -> Result<bool, NoMemory> {
     let (before, text, wanted, saved) = row;
     let mut database = PlainTree::new(alloc);
-    let _ = load_text(alloc, &mut database, before);
-    let so = load_text(alloc, &mut database, text) == *wanted;
+    if load_text(alloc, &mut database, before).is_err()
+        || load_text(alloc, &mut database, text) != *wanted
+    {
+        return Ok(false);
+    }
     match saved {
-        None => Ok(so),
-        Some((len, saved)) => {
-            let kept = is_saved(alloc, &database, saved.as_bytes())?;
-            Ok(so & kept & (saved.len() == *len))
+        None => Ok(true),
+        Some((len, saved)) if saved.len() == *len => {
+            is_saved(alloc, &database, saved.as_bytes())
         }
+        Some(_) => Ok(false),
     }
 }
 

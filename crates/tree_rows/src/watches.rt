@@ -69,14 +69,14 @@ fn gives_and_ends<D: Database>(
     let given = database.notes(0, &mut notes) == Ok(watched.lost);
     let noted = notes.as_slice() == watched.notes;
     let none = database.notes(0, &mut notes) == Ok(0);
-    let empty = notes.len() == 0;
+    let empty = notes.as_slice().is_empty();
     let ended = database.unwatch(0) == Ok(());
     let gone = database.unwatch(0) == Err(NoWatch);
     let lost = database.notes(0, &mut notes) == Err(NoWatch);
-    Ok(given & noted & none & empty & ended & gone & lost)
+    Ok([given, noted, none, empty, ended, gone, lost] == [true; 7])
 }
 
-/// Whether a copy's does.
+/// Whether the first watch of a copy of this database does so.
 fn copy_gives<D: Database>(
     alloc: Global,
     database: &Watches<D>,
@@ -110,8 +110,10 @@ fn is_noted<D: Database>(
 ) -> Result<bool, Fail> {
     let mut database = Watches::new(alloc, tree);
     change(rt, alloc, &mut database, watched)?;
-    let copied = copy_gives(alloc, &database, watched)?;
-    Ok(copied & gives_and_ends(alloc, &mut database, watched)?)
+    if !copy_gives(alloc, &database, watched)? {
+        return Ok(false);
+    }
+    Ok(gives_and_ends(alloc, &mut database, watched)?)
 }
 
 #[test]
@@ -119,21 +121,23 @@ fn changes_are_noted(rt: HostRuntime) -> Result<(), Fail> {
     let alloc = rt.alloc();
     for watched in WATCHED {
         let plain = is_noted(&rt, alloc, PlainTree::new(alloc), watched)?;
+        assert!(rt; plain, "{}", watched.about);
         let arena = is_noted(&rt, alloc, ArenaTree::new(alloc), watched)?;
-        assert!(rt; plain & arena, "{}", watched.about);
+        assert!(rt; arena, "{}", watched.about);
     }
     Ok(())
 }
 
 /// Whether 64 watches live and no more, and the number of one that ended is given again.
 fn holds_sixty_four<D: Database>(alloc: Global, database: &mut Watches<D>) -> bool {
-    let mut so = true;
     for number in 0..64 {
-        so &= database.watch(alloc, 0) == Ok(number);
+        if database.watch(alloc, 0) != Ok(number) {
+            return false;
+        }
     }
-    so &= database.watch(alloc, 0) == Err(WatchRefusal::NoWatchSlot);
-    so &= database.unwatch(7) == Ok(());
-    so & (database.watch(alloc, 0) == Ok(7))
+    database.watch(alloc, 0) == Err(WatchRefusal::NoWatchSlot)
+        && database.unwatch(7) == Ok(())
+        && database.watch(alloc, 0) == Ok(7)
 }
 
 #[test]

@@ -8,7 +8,7 @@ use std::alloc::Global;
 use std::test::Fail;
 
 /// Texts that are items of a type, and how each is printed.
-const ITEMS: [(Tid, &[u8], &[u8]); 33] = [
+const ITEMS: &[(Tid, &[u8], &[u8])] = &[
     (Tid::UInt8, b"0", b"0"),
     (Tid::UInt8, b"255", b"255"),
     (Tid::Int8, b"-128", b"-128"),
@@ -49,7 +49,7 @@ const ITEMS: [(Tid, &[u8], &[u8]); 33] = [
 ];
 
 /// Texts that are no items of a type, and why.
-const REFUSED: [(Tid, &[u8], ItemRefusal); 44] = [
+const REFUSED: &[(Tid, &[u8], ItemRefusal)] = &[
     (Tid::UInt8, b"256", ItemRefusal::OutOfRange),
     (Tid::UInt8, b"0x100", ItemRefusal::OutOfRange),
     (Tid::Int8, b"128", ItemRefusal::OutOfRange),
@@ -104,26 +104,27 @@ const REFUSED: [(Tid, &[u8], ItemRefusal); 44] = [
     (Tid::Link, b"1", ItemRefusal::NotKept { tid: Tid::Link }),
 ];
 
-/// How the text, read as an item of this type, is printed again.
-fn printed(alloc: Global, tid: Tid, text: &[u8]) -> Result<TextBuffer, ItemRefusal> {
+/// The type of the item that the text is when read as this type, and how that item is printed again.
+fn printed(alloc: Global, tid: Tid, text: &[u8]) -> Result<(Tid, TextBuffer), ItemRefusal> {
     let item = parse_item(alloc, tid, text)?;
     let mut out = TextBuffer::new(alloc);
     print_item(&item, &mut out)?;
-    Ok(out)
+    Ok((item.tid(), out))
 }
 
 #[test]
 fn texts_that_are_items(rt: HostRuntime) -> Result<(), Fail> {
-    for (tid, text, wanted) in &ITEMS {
-        let found = printed(rt.alloc(), *tid, text).ok().ok_or("an item")?;
-        assert!(rt; found.as_slice() == *wanted, "{tid:?} {wanted:?}");
+    for (tid, text, wanted) in ITEMS {
+        let (found, out) = printed(rt.alloc(), *tid, text).ok().ok_or("an item")?;
+        assert_eq!(rt; found, *tid, "{text:?}");
+        assert_eq!(rt; out.as_slice(), *wanted, "{tid:?} {text:?}");
     }
     Ok(())
 }
 
 #[test]
 fn texts_that_are_no_items(rt: HostRuntime) {
-    for (tid, text, refusal) in &REFUSED {
+    for (tid, text, refusal) in REFUSED {
         let found = parse_item(rt.alloc(), *tid, text).err();
         assert_eq!(rt; found, Some(*refusal), "{tid:?} {text:?}");
     }
@@ -132,15 +133,16 @@ fn texts_that_are_no_items(rt: HostRuntime) {
 #[test]
 fn texts_of_so_many_bytes(rt: HostRuntime) -> Result<(), Fail> {
     let mut text = vec![in rt.alloc(); b'a'; 1023]?;
-    for (refusal, next) in &[
-        (None, b'b'),
-        (Some(ItemRefusal::OutOfRange), 0),
-        (Some(ItemRefusal::BadText { at: 1024 }), 0),
-    ] {
-        let found = parse_item(rt.alloc(), Tid::Text, text.as_slice()).err();
-        assert_eq!(rt; found, *refusal);
-        text.push(*next)?;
-    }
+    let (_, out) = printed(rt.alloc(), Tid::Text, text.as_slice())
+        .ok()
+        .ok_or("an item")?;
+    assert!(rt; out.as_slice() == text.as_slice());
+    text.push(b'b')?;
+    let found = parse_item(rt.alloc(), Tid::Text, text.as_slice()).err();
+    assert_eq!(rt; found, Some(ItemRefusal::OutOfRange));
+    text.push(0)?;
+    let found = parse_item(rt.alloc(), Tid::Text, text.as_slice()).err();
+    assert_eq!(rt; found, Some(ItemRefusal::BadText { at: 1024 }));
     Ok(())
 }
 

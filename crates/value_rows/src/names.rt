@@ -2,7 +2,7 @@
 use daq_types::{Caller, FileName, Name, NameRefusal, Tid, Transition};
 
 /// Texts, and why each that is no name is none.
-const NAMES: [(&[u8], Option<NameRefusal>); 9] = [
+const NAMES: &[(&[u8], Option<NameRefusal>)] = &[
     (b"", Some(NameRefusal::EmptyName)),
     (b"Run number", None),
     (b"a23456789012345678901234567890b", None),
@@ -19,13 +19,13 @@ const NAMES: [(&[u8], Option<NameRefusal>); 9] = [
 
 #[test]
 fn names_by_the_rule(rt: HostRuntime) {
-    for (text, refusal) in &NAMES {
+    for (text, refusal) in NAMES {
         assert_eq!(rt; Name::new(text).err(), *refusal);
     }
 }
 
 /// Names, and whether they are one without regard to case.
-const PAIRS: [(&[u8], &[u8], bool); 4] = [
+const PAIRS: &[(&[u8], &[u8], bool)] = &[
     (b"SYSTEM", b"SYSTEM", true),
     (b"SYSTEM", b"system", true),
     (b"SYSTEM", b"SYSTEN", false),
@@ -34,7 +34,7 @@ const PAIRS: [(&[u8], &[u8], bool); 4] = [
 
 #[test]
 fn names_without_case(rt: HostRuntime) {
-    for (ours, theirs, same) in &PAIRS {
+    for (ours, theirs, same) in PAIRS {
         let ours = Name::new(ours).expect(&rt, "a name");
         let theirs = Name::new(theirs).expect(&rt, "a name");
         assert_eq!(rt; ours.same_as(&theirs), *same);
@@ -42,7 +42,7 @@ fn names_without_case(rt: HostRuntime) {
 }
 
 #[test]
-fn numbers_of_transitions_and_callers(rt: HostRuntime) {
+fn numbers_of_transitions(rt: HostRuntime) {
     for (transition, bit) in &[
         (Transition::Start, 1),
         (Transition::Stop, 2),
@@ -52,6 +52,10 @@ fn numbers_of_transitions_and_callers(rt: HostRuntime) {
     ] {
         assert_eq!(rt; transition.bit(), *bit);
     }
+}
+
+#[test]
+fn numbers_of_callers(rt: HostRuntime) {
     for (caller, number) in [
         (Caller::MAIN, 0),
         (Caller::of_client(0), 1),
@@ -59,10 +63,11 @@ fn numbers_of_transitions_and_callers(rt: HostRuntime) {
     ] {
         assert_eq!(rt; caller.number(), number);
     }
+    assert_ne!(rt; Caller::of_client(4), Caller::of_client(5));
 }
 
 /// Texts of file names, and whether each says that the file is compressed; None for one that is no name.
-const FILES: [(&str, Option<bool>); 8] = [
+const FILES: &[(&str, Option<bool>)] = &[
     ("", None),
     ("a b", None),
     ("run00001.mid", Some(false)),
@@ -75,7 +80,7 @@ const FILES: [(&str, Option<bool>); 8] = [
 
 #[test]
 fn names_of_files(rt: HostRuntime) {
-    for (text, compressed) in &FILES {
+    for (text, compressed) in FILES {
         let found = match FileName::new(text) {
             Err(_) => None,
             Ok(name) => {

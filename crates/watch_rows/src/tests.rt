@@ -142,8 +142,8 @@ fn check_shared<R: Wait + Abort, D: Database>(
 /// A file: its name and its bytes.
 type File = (&'static str, &'static str);
 
-/// Lines with what each prints, in a session that begins with this file, if any; and the file of the last one that is then
-/// there, if any.
+/// A session that begins with a file, if one is given: its lines with what each prints, and the file that is there behind
+/// them and is looked at, if one is.
 struct Row {
     given: Option<File>,
     lines: &'static [(&'static str, &'static str)],
