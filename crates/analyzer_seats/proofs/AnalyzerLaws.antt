@@ -6,7 +6,7 @@ use Rattle.daq_types.specs.declared.runs.Transition.{Transition}
 use Rattle.daq_types.specs.declared.runs.Transition.TheVariants.{Start, Stop, Pause, Resume, StartAbort}
 use Rattle.event_report.specs.Reports.{Totals, report_of}
 use Rattle.buffer_core.specs.declared.entry.BufferEntry.{BufferEntry}
-use Rattle.buffer_core.specs.Ports.{Access, GotEvent, Called}
+use Rattle.buffer_core.specs.Ports.{Access, GotEvent, PortCalled}
 use Rattle.transitions.specs.declared.answers.Answer.{Answer}
 use Rattle.transitions.specs.declared.replies.Polled.TheVariants.{Turn}
 use Rattle.transitions.specs.declared.entry.EngineEntry.{EngineEntry}
@@ -32,7 +32,7 @@ use Rattle.analyzer_seats.specs.BareTurns.{AreBare}
 stays_same : (a b : Access) → b ≡ a → IsSameAccess a b
 stays_same a b is = (ap (λ (x : Access). x.buffer) is, ap (λ (x : Access). x.caller) is, ap (λ (x : Access). x.size) is)
 
-called_same : (a b : Access) (entry : BufferEntry) (got : List GotEvent) → Called a b entry got → IsSameAccess a b
+called_same : (a b : Access) (entry : BufferEntry) (got : List GotEvent) → PortCalled a b entry got → IsSameAccess a b
 called_same a b entry got called = (called.buffer, called.caller, called.size)
 
 pub same_then : (a b c : Access) → IsSameAccess a b → IsSameAccess b c → IsSameAccess a c

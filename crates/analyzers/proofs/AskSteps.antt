@@ -10,7 +10,7 @@ use Rattle.daq_types.specs.declared.runs.Why.TheVariants.{NotReady, Exists, Faul
 use Rattle.buffer_core.specs.declared.replies.RequestRefusal.{RequestRefusal}
 use Rattle.buffer_core.specs.declared.entry.BufferEntry.{BufferEntry}
 use Rattle.buffer_core.specs.declared.entry.BufferEntry.TheVariants.{Request}
-use Rattle.buffer_core.specs.Ports.{Access, GotEvent, Called}
+use Rattle.buffer_core.specs.Ports.{Access, GotEvent, PortCalled}
 use Rattle.event_report.specs.Reports.{Totals, report_of}
 use Rattle.transitions.specs.declared.answers.Answer.{Answer}
 use Rattle.transitions.specs.declared.answers.Answer.TheVariants.{Yes, No}
@@ -47,7 +47,7 @@ asks_push client later own e turns few alone asks = record {
   refusals = λ t why has is. reason_still own (e ∷ []) why (asks.refusals t why has is);
 }
 
-call_asks : (client later : Option ℕ) (a b : Access) (e : BufferEntry) (got : List GotEvent) (turns : List MemberTurn) → Called a b e got → attaches_by e + one_attached client ≤ one_attached later → IsLoneRequest e (calls_after [] a.own) → AnalyzerAsks client a.own turns
+call_asks : (client later : Option ℕ) (a b : Access) (e : BufferEntry) (got : List GotEvent) (turns : List MemberTurn) → PortCalled a b e got → attaches_by e + one_attached client ≤ one_attached later → IsLoneRequest e (calls_after [] a.own) → AnalyzerAsks client a.own turns
     → AnalyzerAsks later b.own turns
 call_asks client later a b e got turns called few alone asks = subst (λ (l : List BufferEntry). AnalyzerAsks later l turns) (sym called.own) (asks_push client later a.own e turns few alone asks)
 
@@ -55,7 +55,7 @@ same_asks : (client : Option ℕ) (a b : Access) (turns : List MemberTurn) → b
 same_asks client a b turns same asks = subst (λ (x : Access). AnalyzerAsks client x.own turns) (sym same) asks
 
 -- the call itself, where it was refused
-refused_call : (a b : Access) (e : BufferEntry) (got : List GotEvent) → Called a b e got → IsRefusedAsk e → HasRefusedCall b.own
+refused_call : (a b : Access) (e : BufferEntry) (got : List GotEvent) → PortCalled a b e got → IsRefusedAsk e → HasRefusedCall b.own
 refused_call a b e got called refused = record {
   entry = e;
   among = subst (λ (l : List BufferEntry). Contains l e) (sym called.own) (Contains-append_right a.own (e ∷ []) e (0, omega arith, refl));
@@ -112,7 +112,7 @@ request_asks dump wanted order blank None run answer a b turns missing none requ
     asks_more None b.own (analyzer_turn dump Start order (Some answer)) turns (λ why is. reason_is b.own (Some answer) BufferRefused why (ap (λ (x : Answer). Some x) requests.1) is refused) at
 request_asks dump wanted order blank (Some n) run answer a b turns missing none requests asks = replied requests.0 requests.1 requests.2
   where
-    replied : (reply : Result ℕ RequestRefusal) → Called a b (Request n wanted.id wanted.mask wanted.kind reply) a.got → BeginsBy reply order.start n blank run answer → AnalyzerAsks (Some n) b.own (analyzer_turn dump Start order (Some answer) ∷ turns)
+    replied : (reply : Result ℕ RequestRefusal) → PortCalled a b (Request n wanted.id wanted.mask wanted.kind reply) a.got → BeginsBy reply order.start n blank run answer → AnalyzerAsks (Some n) b.own (analyzer_turn dump Start order (Some answer) ∷ turns)
     replied (Ok number) called begins =
         asks_more (Some n) b.own (analyzer_turn dump Start order (Some answer)) turns (λ why is. absurd (no_refusal (Some answer) Plain why (ap (λ (x : Answer). Some x) begins.1) is))
         (call_asks (Some n) (Some n) a b (Request n wanted.id wanted.mask wanted.kind (Ok number)) a.got turns called (omega arith) none asks)

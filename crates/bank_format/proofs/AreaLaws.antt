@@ -7,7 +7,7 @@ use Rattle.bank_format.specs.declared.faults.BankFault.{BankFault}
 use Rattle.bank_format.specs.Formats.{header_len, padded}
 use Rattle.bank_format.specs.BankAreas.{BankValue, IsFirst, BanksBefore}
 use Rattle.bank_format.specs.Places.{front_bank, behind_bank, HasBank, banks_within, banks_in, stated_size}
-use Rattle.bank_format.specs.Faults.{bank_fault, Passes}
+use Rattle.bank_format.specs.Faults.{bank_fault, PassesBanks}
 use Rattle.bank_format.specs.Spelled.{IsBytes}
 use Rattle.bank_format.proofs.BankLaws.{front_is, front_back, behind_is_shorter, header_is_some}
 
@@ -16,7 +16,7 @@ before-snoc f [] b rest left area here first = (rest, subst (λ (xs : List ℕ).
 before-snoc f (c ∷ cs) b rest left area (middle, head, tail) first = (middle, head, before-snoc f cs b rest left middle tail first)
 
 -- one bank further
-pub passes-more : (f : Format) (area left : List ℕ) → Passes f area left → HasBank f left → IsBytes left → Passes f area (behind_bank f left)
+pub passes-more : (f : Format) (area left : List ℕ) → PassesBanks f area left → HasBank f left → IsBytes left → PassesBanks f area (behind_bank f left)
 passes-more f area left passes has small =
     record {
       banks = passes.banks ++ front_bank f left ∷ [];
@@ -24,7 +24,7 @@ passes-more f area left passes has small =
     }
 
 -- no bank leads from a place to itself
-pub passes-none : (f : Format) (area : List ℕ) → Passes f area area
+pub passes-none : (f : Format) (area : List ℕ) → PassesBanks f area area
 passes-none f area = record { banks = []; before = refl }
 
 -- an area of whole banks has something in it where it has a bank
@@ -62,7 +62,7 @@ unfolding banks_in
 area_is f bs area before = area_read f bs area (length area) before (omega arith)
 
 -- an area of whole banks is what its banks by their places spell
-pub area_whole : (f : Format) (area : List ℕ) → Passes f area [] → BanksBefore f (banks_in f area) [] area
+pub area_whole : (f : Format) (area : List ℕ) → PassesBanks f area [] → BanksBefore f (banks_in f area) [] area
 area_whole f area passes =
     subst (λ (bs : List BankValue). BanksBefore f bs [] area) (sym (area_is f passes.banks area passes.before)) passes.before
 

@@ -26,14 +26,14 @@ bank_fault f total left =
     else None))
 
 -- some whole banks lead from one place of an area to another
-pub record Passes (f : Format) (area left : List ℕ) : Type 0 where
+pub record PassesBanks (f : Format) (area left : List ℕ) : Type 0 where
   pub banks : List BankValue
   pub before : BanksBefore f banks left area
 
 -- behind some whole banks of the area stands one that does not fit
 pub record BreaksOff (f : Format) (total : ℕ) (area : List ℕ) (fault : BankFault) : Type 0 where
   pub left : List ℕ
-  pub passes : Passes f area left
+  pub passes : PassesBanks f area left
   pub is : bank_fault f total left ≡ Some fault
 
 -- the front is right and names a format, and in the area a bank does not fit

@@ -1,7 +1,7 @@
 ghost use Rattle.std.specs.Prelude.{◌≡◌, ◌≤◌, ◌<◌, length, drop, None, Some, IfOk, IfErr, OnOk, []};
 ghost use Rattle.bank_format.specs.Formats.{format_with};
 ghost use Rattle.bank_format.specs.Places.{stated_flags, HasBank, behind_bank};
-ghost use Rattle.bank_format.specs.Faults.{front_fault, bank_fault, Passes, BreaksOff};
+ghost use Rattle.bank_format.specs.Faults.{front_fault, bank_fault, PassesBanks, BreaksOff};
 
 use crate::faults::BankFault;
 use crate::formats::Format;
@@ -61,7 +61,7 @@ fn skip_bank(format: Format, total: u64, left: &[u8]) -> Result<&[u8], BankFault
 /// Goes over the banks of an area, where `total` bytes make the whole.
 pub fn check_area(format: Format, total: u64, area: &[u8]) -> Result<(), BankFault>
     requires { length area.now ≤ total }
-    ensures whole { OnOk result (Passes format area.now []) }
+    ensures whole { OnOk result (PassesBanks format area.now []) }
     ensures fault { IfErr result (λ fault. BreaksOff format total area.now fault) }
 {
     let mut left = area;

@@ -3,7 +3,7 @@ use Rattle.std.specs.Prelude.{◌≡◌, ◌≢◌, ℕ, zero, suc, ◌<◌, Lis
 use Rattle.std.proofs.Common.{sym, subst, arith, inl, inr}
 use Rattle.buffer_core.specs.declared.entry.BufferEntry.{BufferEntry}
 use Rattle.buffer_core.specs.declared.entry.BufferEntry.TheVariants.{Attach, Detach}
-use Rattle.buffer_core.specs.Ports.{Access, GotEvent, Called, IsGivenAt, IsNewNumber, knowing}
+use Rattle.buffer_core.specs.Ports.{Access, GotEvent, PortCalled, IsGivenAt, IsNewNumber, knowing}
 
 get_end : (xs : List BufferEntry) (x : BufferEntry) → slice_get (xs ++ x ∷ []) (length xs) ≡ Some x
 get_end [] x = refl
@@ -26,7 +26,7 @@ none_behind [] x y (suc i) behind is = cc (is)
 none_behind (z ∷ zs) x y zero behind is = omega (arith, behind)
 none_behind (z ∷ zs) x y (suc i) behind is = none_behind zs x y i (omega (arith, behind)) is
 
-pub client_given : (before after : Access) (name : List ℕ) (client : ℕ) (got : List GotEvent) → Called before after (Attach name (Ok client)) got
+pub client_given : (before after : Access) (name : List ℕ) (client : ℕ) (got : List GotEvent) → PortCalled before after (Attach name (Ok client)) got
     → IsGivenAt after.own (length before.own) client
 client_given before after name client got called =
     subst (λ (own : List BufferEntry). IsGivenAt own (length before.own) client) (sym called.own)
@@ -36,7 +36,7 @@ client_given before after name client got called =
       stays = λ later behind is. none_behind before.own (Attach name (Ok client)) (Detach client (Ok tt)) later behind is;
     })
 
-pub client_stays : (before after : Access) (entry : BufferEntry) (got : List GotEvent) (call client : ℕ) → Called before after entry got
+pub client_stays : (before after : Access) (entry : BufferEntry) (got : List GotEvent) (call client : ℕ) → PortCalled before after entry got
     → (entry ≡ Detach client (Ok tt) → ⊥) → IsGivenAt before.own call client → IsGivenAt after.own call client
 client_stays before after entry got call client called kept given =
     subst (λ (own : List BufferEntry). IsGivenAt own call client) (sym called.own)

@@ -14,7 +14,7 @@ use Rattle.buffer_core.specs.Slots.{slot_at}
 use Rattle.buffer_core.specs.Window.{Window, Sent, IsWindow, IsKeepable}
 use Rattle.buffer_core.specs.Calls.{IsReply, window_after, event_after}
 use Rattle.buffer_core.specs.Histories.{IsLegal, replay}
-use Rattle.buffer_core.specs.Ports.{BufferIdentity, GotEvent, Called, Calls, Receives, data_of, got_after, slots_got, GivesSound, IsSmallBuf}
+use Rattle.buffer_core.specs.Ports.{BufferIdentity, GotEvent, PortCalled, Calls, Receives, data_of, got_after, slots_got, GivesSound, IsSmallBuf}
 use Rattle.buffer_core.specs.CallersView.{access_in, given_by, given_in, taken_back_in}
 use Rattle.buffer_core.proofs.HistoryLaws.{replay-push, legal_push, window_replays, room_enough}
 use Rattle.buffer_core.proofs.GotLaws.{IsGot, got_is, given_is, slots_few}
@@ -104,7 +104,7 @@ module _ (first : Window) (by : ℕ) (h h' : List (ℕ × BufferEntry)) where
 module _ (buffer : BufferIdentity) (by : ℕ) (h h' : List (ℕ × BufferEntry)) (entries bytes entries' bytes' : ℕ) where
   -- each call is one of its caller
   pub called : (e : BufferEntry) → CallsNext buffer.opened by h h' e → entries ≤ entries' + 1 → bytes ≤ bytes' + data_of e
-      → Called (access_in buffer by h entries bytes) (access_in buffer by h' entries' bytes') e (given_in by buffer.opened h ++ given_by (replay buffer.opened h) e)
+      → PortCalled (access_in buffer by h entries bytes) (access_in buffer by h' entries' bytes') e (given_in by buffer.opened h ++ given_by (replay buffer.opened h) e)
   called e next free more =
       let same : taken_back_in by 0 h' ≡ taken_back_in by 0 h = taken_back_next buffer.opened by h h' e next in
       record {
@@ -124,7 +124,7 @@ module _ (buffer : BufferIdentity) (by : ℕ) (h h' : List (ℕ × BufferEntry))
   pub calls : (e : BufferEntry) → CallsNext buffer.opened by h h' e → entries ≤ entries' + 1 → bytes ≤ bytes' + data_of e → given_by (replay buffer.opened h) e ≡ []
       → Calls (access_in buffer by h entries bytes) (access_in buffer by h' entries' bytes') e
   calls e next free more none =
-      subst (Called (access_in buffer by h entries bytes) (access_in buffer by h' entries' bytes') e)
+      subst (PortCalled (access_in buffer by h entries bytes) (access_in buffer by h' entries' bytes') e)
       (ap (λ (gs : List GotEvent). given_in by buffer.opened h ++ gs) none ∙ append-nil (given_in by buffer.opened h)) (called e next free more)
 
   -- a receive
@@ -133,5 +133,5 @@ module _ (buffer : BufferIdentity) (by : ℕ) (h h' : List (ℕ × BufferEntry))
       → Receives (access_in buffer by h entries bytes) (access_in buffer by h' entries' bytes') client room reply held'
   receives client room reply next free more held held' after =
       let giving' : IsGiving (replay buffer.opened h) client reply held held' = gives buffer.opened by h h' client room reply next held held' after in
-      subst (Called (access_in buffer by h entries bytes) (access_in buffer by h' entries' bytes') (Receive client room reply))
+      subst (PortCalled (access_in buffer by h entries bytes) (access_in buffer by h' entries' bytes') (Receive client room reply))
       (giving'.got (given_in by buffer.opened h)) (called (Receive client room reply) next free more)

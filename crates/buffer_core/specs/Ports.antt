@@ -76,7 +76,7 @@ knowing a later = record a { taken_back = later.taken_back }
 
 -- One call more on the same buffer, after which the clients have got these events. What was known of
 -- other callers stays known, and only of clients that the caller had there may more be known.
-pub record Called (a b : Access) (entry : BufferEntry) (got : List GotEvent) : Type 0 where
+pub record PortCalled (a b : Access) (entry : BufferEntry) (got : List GotEvent) : Type 0 where
   pub buffer : b.buffer ≡ a.buffer
   pub caller : b.caller ≡ a.caller
   pub size : b.size ≡ a.size
@@ -90,7 +90,7 @@ pub record Called (a b : Access) (entry : BufferEntry) (got : List GotEvent) : T
 
 -- a call that gives no event
 abbrev pub Calls : Access → Access → BufferEntry → Type 0
-Calls a b entry = Called a b entry a.got
+Calls a b entry = PortCalled a b entry a.got
 
 -- the events got, once a receive of this client gave this reply and this event
 abbrev pub got_after : List GotEvent → (client : ℕ) → Received → Event → List GotEvent
@@ -99,7 +99,7 @@ got_after got client reply e = got
 
 -- a receive, after which the receiver holds this event
 abbrev pub Receives : Access → Access → (client room : ℕ) → Received → Event → Type 0
-Receives a b client room reply held = Called a b (Receive client room reply) (got_after a.got client reply held)
+Receives a b client room reply held = PortCalled a b (Receive client room reply) (got_after a.got client reply held)
 
 -- the slots of the events that the client of this number got
 abbrev pub slots_got : (client : ℕ) → List GotEvent → ℕ

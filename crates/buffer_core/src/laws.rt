@@ -16,7 +16,7 @@ ghost use Rattle.buffer_core.specs.Delivered.{Delivers, FailsAlone, InOrder, Com
 ghost use Rattle.buffer_core.specs.Runs.{KeepsRuns, begun_at, ended_at, segment, events_between};
 ghost use Rattle.buffer_core.specs.Continued.{sent_in, RepliesCount, GivesSent};
 ghost use Rattle.buffer_core.specs.Readers.{KeepsLife, HasReadBelow, ReadsAll, places_got, places_of, among, wanted};
-ghost use Rattle.buffer_core.specs.Ports.{Access, GotEvent, Called, IsGivenAt, IsNewNumber, knowing};
+ghost use Rattle.buffer_core.specs.Ports.{Access, GotEvent, PortCalled, IsGivenAt, IsNewNumber, knowing};
 ghost use Rattle.buffer_core.specs.Searches.{FoundIsFirst, FirstIsFound, NotFoundIsNone, NoneIsNotFound, OwedIsLeast, LeastIsOwed, NotOwedIsNone, NoneIsNotOwed, DropIsLeast, LeastIsDrop};
 ghost use Rattle.buffer_core.specs.Samples.{refused_once, got_twice, left_out, reached_back, refused_for_nobody, got_too_much, got_too_much_together, got_with_other_start, got_of_cancelled, missed, refused_for_optional, refused_at_second, refused_for_second, dropped, sent_behind, sent_in_pause, access_after, given_once, given_and_detached, given_twice};
 
@@ -198,11 +198,11 @@ pub fn tells_numbers_apart()
 pub fn keeps_numbers()
     ensures given { (before after : Access) → (name : List ℕ) → (client : ℕ) →
         (got : List GotEvent) →
-        Called before after (Attach name (Ok client)) got →
+        PortCalled before after (Attach name (Ok client)) got →
         IsGivenAt after.own (length before.own) client }
     ensures stays { (before after : Access) → (entry : BufferEntry) → (got : List GotEvent) →
         (call client : ℕ) →
-        Called before after entry got →
+        PortCalled before after entry got →
         (entry ≡ Detach client (Ok tt) → ⊥) →
         IsGivenAt before.own call client →
         IsGivenAt after.own call client }

@@ -14,7 +14,7 @@ use Rattle.buffer_core.specs.Window.{Window, IsWindow}
 use Rattle.buffer_core.specs.Calls.{IsReply, window_after, event_after}
 use Rattle.buffer_core.specs.Histories.{IsLegal, replay}
 use Rattle.buffer_core.proofs.HistoryLaws.{replay-push}
-use Rattle.buffer_core.specs.Ports.{Access, BufferIdentity, GotEvent, Called, Calls, Receives, IsNewNumber, knowing, IsGivenAt, got_after, slots_got, GivesSound, IsSmallBuf, IsSendFault, IsRunSendFault}
+use Rattle.buffer_core.specs.Ports.{Access, BufferIdentity, GotEvent, PortCalled, Calls, Receives, IsNewNumber, knowing, IsGivenAt, got_after, slots_got, GivesSound, IsSmallBuf, IsSendFault, IsRunSendFault}
 use Rattle.buffer_core.specs.CallersView.{given_by, given_in, taken_back_in}
 use Rattle.buffer_core.proofs.TakenBack.{CallsNext, new_number}
 use Rattle.buffer_core.proofs.PortCalls.{calls, receives, gives, gives_whole, gets_few, size_stays}
@@ -47,7 +47,7 @@ alone w = record { opened = w; ports = 1; numbers = [] }
 -- what came in between changes nothing for the caller, but that it may be known of more of its clients that they were
 -- taken back
 called_since : (n : ℕ) (first : Window) (seen others : List (ℕ × BufferEntry)) (b : Access) (e : BufferEntry) (got : List GotEvent) → entries_by n others ≡ []
-    → Called (ported_by n first (seen ++ others)) b e got → Called (ported_by n first seen) b e got
+    → PortCalled (ported_by n first (seen ++ others)) b e got → PortCalled (ported_by n first seen) b e got
 called_since n first seen others b e got foreign call =
     let own : entries_by n (seen ++ others) ≡ entries_by n seen =
     entries_by-append n seen others ∙ (ap (λ (l : List BufferEntry). entries_by n seen ++ l) foreign ∙ append-nil (entries_by n seen)) in
@@ -66,7 +66,7 @@ called_since n first seen others b e got foreign call =
     }
 
 -- the same call, told of this buffer
-told_of : (buffer : BufferIdentity) (a b : Access) (e : BufferEntry) (got : List GotEvent) → Called a b e got → Called (record a { buffer = buffer }) (record b { buffer = buffer }) e got
+told_of : (buffer : BufferIdentity) (a b : Access) (e : BufferEntry) (got : List GotEvent) → PortCalled a b e got → PortCalled (record a { buffer = buffer }) (record b { buffer = buffer }) e got
 told_of buffer a b e got call = record {
   buffer = refl;
   caller = call.caller;
@@ -106,9 +106,9 @@ module _ (n n' : ℕ) (first : Window) (seen after : List (ℕ × BufferEntry)) 
       let earlier : List (ℕ × BufferEntry) = seen ++ a.others in
       let call = called_since n first seen a.others (ported_by n first after) e (given_in n first earlier) a.foreign
       (calls (alone first) n earlier after endless endless endless endless e step (omega arith) (omega arith) (none (replay first earlier))) in
-      subst (λ (m : ℕ). Called (access_to buffer (ported_by n first seen)) (access_to buffer (ported_by m first after)) e (given_in n first seen)) (sym same)
+      subst (λ (m : ℕ). PortCalled (access_to buffer (ported_by n first seen)) (access_to buffer (ported_by m first after)) e (given_in n first seen)) (sym same)
       (told_of buffer (ported_by n first seen) (ported_by n first after) e (given_in n first seen)
-      (subst (λ (gs : List GotEvent). Called (ported_by n first seen) (ported_by n first after) e gs) (given_stays n first seen a.others a.foreign) call))
+      (subst (λ (gs : List GotEvent). PortCalled (ported_by n first seen) (ported_by n first after) e gs) (given_stays n first seen a.others a.foreign) call))
 
   number_since : (name : List ℕ) (reply : Result ℕ NoSlot) (earlier : List (ℕ × BufferEntry)) → entries_by n earlier ≡ entries_by n seen
       → IfOk reply (λ client. (call : ℕ) → IsGivenAt (entries_by n earlier) call client → Contains (taken_back_in n 0 after) call)
@@ -143,9 +143,9 @@ module _ (n n' : ℕ) (first : Window) (seen after : List (ℕ × BufferEntry)) 
     shared_receives buffer =
         let call = called_since n first seen a.others (ported_by n first after) (Receive client room reply) (got_after (given_in n first (seen ++ a.others)) client reply held') a.foreign
         (receives (alone first) n (seen ++ a.others) after endless endless endless endless client room reply step (omega arith) (omega arith) held held' event_then) in
-        subst (λ (m : ℕ). Called (access_to buffer (ported_by n first seen)) (access_to buffer (ported_by m first after)) (Receive client room reply) (got_after (given_in n first seen) client reply held')) (sym same)
+        subst (λ (m : ℕ). PortCalled (access_to buffer (ported_by n first seen)) (access_to buffer (ported_by m first after)) (Receive client room reply) (got_after (given_in n first seen) client reply held')) (sym same)
         (told_of buffer (ported_by n first seen) (ported_by n first after) (Receive client room reply) (got_after (given_in n first seen) client reply held')
-        (subst (λ (gs : List GotEvent). Called (ported_by n first seen) (ported_by n first after) (Receive client room reply) (got_after gs client reply held')) (given_stays n first seen a.others a.foreign) call))
+        (subst (λ (gs : List GotEvent). PortCalled (ported_by n first seen) (ported_by n first after) (Receive client room reply) (got_after gs client reply held')) (given_stays n first seen a.others a.foreign) call))
 
     pub shared_sound : GivesSound reply held'
     shared_sound = (gives first n (seen ++ a.others) after client room reply step held held' event_then).sound

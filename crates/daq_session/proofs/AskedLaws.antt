@@ -18,7 +18,7 @@ use Rattle.session_engine.specs.MadeTransitions.{TransitionIn, done_check}
 use Rattle.session_objects.specs.declared.record.SessionRecord.{SessionRecord}
 use Rattle.session_runs.specs.KeptRuns.{RunsSeen}
 use Rattle.session_runs.specs.RunsFit.{MainOwn, start_begun, start_of, starts_begun}
-use Rattle.session_lines.specs.Stages.{Stage}
+use Rattle.session_lines.specs.Stages.{SessionStage}
 use Rattle.session_commands.specs.Quotas.{quota_begun, quotas_begun, quotas_so_far}
 use Rattle.daq_session.specs.declared.ends.ScriptEnd.{ScriptEnd}
 use Rattle.daq_session.specs.Sessions.{KeepsSession, KeptRunsAsked, RunsAsked, SessionKept}
@@ -84,10 +84,10 @@ made_at own first more sheet start outcome tallies is made =
     is ∙ (ap (λ (l : List EngineEntry). l ++ more) made.whole ∙ append_assoc made.before (Begin Start sheet (Ok start) ∷ rest) more) in
     subst (λ (l : List EngineEntry). BegunAt l start sheet.quota) (sym whole) (begun_at made.before (rest ++ more) sheet start)
 
-begun_are : (final : Stage) (asked : List ℕ) → quotas_so_far final.runs ≡ asked → (last : RunsSeen) → final.runs ≡ Some last → quotas_begun last.main.own ≡ asked
+begun_are : (final : SessionStage) (asked : List ℕ) → quotas_so_far final.runs ≡ asked → (last : RunsSeen) → final.runs ≡ Some last → quotas_begun last.main.own ≡ asked
 begun_are final asked so_far last is_open = ap quotas_so_far (sym is_open) ∙ so_far
 
-module _ {D F K : Type 0} {g : _} (told : CrewTold Generator F K) (first_files : F) (final : Stage) (run_files : F) (asked : List ℕ) (so_far : quotas_so_far final.runs ≡ asked) where
+module _ {D F K : Type 0} {g : _} (told : CrewTold Generator F K) (first_files : F) (final : SessionStage) (run_files : F) (asked : List ℕ) (so_far : quotas_so_far final.runs ≡ asked) where
   -- the quota of a start is at the place of its record
   at_record : (r : SessionRecord D g) (keeps : KeepsSession told first_files final run_files r) (number : ℕ) (run : RunRecord) (quota : ℕ) → slice_get r.runs number ≡ Some run → BegunAt keeps.last.main.own run.start quota → slice_get asked number ≡ Some quota
   at_record r keeps number run quota at begun =

@@ -13,7 +13,7 @@ use Rattle.session_objects.specs.declared.record.SessionRecord.{SessionRecord}
 use Rattle.session_objects.specs.Calls.{SessionCalls}
 use Rattle.session_objects.specs.Records.{HasCalls, HoldsCalls, HoldsHistories}
 use Rattle.session_runs.specs.KeptRuns.{RunsSeen}
-use Rattle.session_lines.specs.Stages.{Stage}
+use Rattle.session_lines.specs.Stages.{SessionStage}
 use Rattle.session_replies.specs.declared.refusals.Refusals.{Refusals}
 use Rattle.script_desk.specs.declared.endings.Ending.{Ending}
 use Rattle.script_desk.specs.declared.endings.Ending.TheVariants.{Halted}
@@ -29,7 +29,7 @@ use Rattle.daq_session.specs.declared.left.LeftBehind.TheVariants.{Session, Unop
 use Rattle.session_commands.specs.Keeping.{EndsOver, MayKeep, StageKept, StageSpares}
 use Rattle.daq_session.specs.Played.{IsBack, IsEndedSession, IsSessionRecord, SessionEnds}
 
-module _ {D F K : Type 0} {g : _} (told : CrewTold Generator F K) (shared : SharedOdb D) (first_files : F) (final : Stage) (run_files : F) where
+module _ {D F K : Type 0} {g : _} (told : CrewTold Generator F K) (shared : SharedOdb D) (first_files : F) (final : SessionStage) (run_files : F) where
   -- The passes of what a script leaves are back.
   pub is_back : (ending : Ending) (left : LeftBehind D g) → SessionEnds told shared first_files final ending run_files left → IsBack shared left
   is_back ending (Session ended) ends = (ends.lists.fronts, ends.lists.analyzers, _, ends.ends.calls)

@@ -13,7 +13,7 @@ use Rattle.session_crew.specs.Crews.{CrewTold}
 use Rattle.session_objects.specs.declared.record.SessionRecord.{SessionRecord}
 use Rattle.session_runs.specs.RunEntries.{StopCalls, dump_saved}
 use Rattle.session_runs.specs.RunsFit.{MainOwn, StandCalls}
-use Rattle.session_lines.specs.Stages.{Stage}
+use Rattle.session_lines.specs.Stages.{SessionStage}
 use Rattle.session_laws.specs.ClosedSessions.{ClosedSession}
 use Rattle.session_laws.specs.CountedFaults.{state_by_dump}
 use Rattle.session_ends.specs.EndedRecords.{RecordSo}
@@ -44,7 +44,7 @@ ended_by_dump : (saved : Result (List ℕ) NoMemory) → IsOk saved → state_by
 ended_by_dump (Ok dump) is = refl
 ended_by_dump (Err wanting) is = absurd (cc is)
 
-module _ {D F K : Type 0} {g : _} (told : CrewTold Generator F K) (first_files : F) (final : Stage) (run_files : F) (all : StageSaved final) where
+module _ {D F K : Type 0} {g : _} (told : CrewTold Generator F K) (first_files : F) (final : SessionStage) (run_files : F) (all : StageSaved final) where
   runs_ended : (r : SessionRecord D g) (keeps : KeepsSession told first_files final run_files r) → RunsEnded told first_files final run_files r keeps
   runs_ended r keeps = record {
     saved = λ number run at whole. record_saved _ _ _ run (keeps.tells.runs number run at whole).so all;

@@ -19,7 +19,7 @@ use Rattle.session_objects.specs.declared.passes.SessionPasses.{SessionPasses}
 use Rattle.session_objects.specs.Objects.{AreObjectsOf, HaveCallers}
 use Rattle.session_runs.specs.RunAnswers.{ClockTold}
 use Rattle.database_desk.specs.DatabaseStages.{DatabaseStage}
-use Rattle.session_lines.specs.Stages.{Stage, unopened_stage}
+use Rattle.session_lines.specs.Stages.{SessionStage, unopened_stage}
 use Rattle.session_lines.specs.RunLines.{CutsOpening}
 use Rattle.script_desk.specs.declared.endings.Ending.{Ending}
 use Rattle.script_desk.specs.declared.endings.Ending.TheVariants.{Halted}
@@ -76,7 +76,7 @@ nothing_opened quota declared database clock = record {
 }
 
 -- The objects of an open session, behind its script.
-module _ {D F K : Type 0} {g : _} (told : CrewTold Generator F K) (lists : DeclaredLists) (objects : SessionObjects) (shared : SharedOdb D) (first_files : F) (final : Stage) (ending : Ending) (run_files : F) where
+module _ {D F K : Type 0} {g : _} (told : CrewTold Generator F K) (lists : DeclaredLists) (objects : SessionObjects) (shared : SharedOdb D) (first_files : F) (final : SessionStage) (ending : Ending) (run_files : F) where
   pub none_ended : (session : Option (SessionPasses D g × List RunRecord)) → session ≡ None → ObjectsEnd told lists objects shared first_files final ending run_files session → (final.runs ≡ None) × (run_files ≡ first_files) × (ending ≡ Halted no_memory)
   none_ended session is ends = subst (ObjectsEnd told lists objects shared first_files final ending run_files) is ends
 

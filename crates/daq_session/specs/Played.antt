@@ -26,7 +26,7 @@ use Rattle.session_objects.specs.Objects.{AreObjectsOf, HaveCallers}
 use Rattle.session_objects.specs.Records.{HasCalls, HoldsCalls, HoldsHistories}
 use Rattle.session_objects.specs.Rosters.{KeepsPasses}
 use Rattle.session_runs.specs.KeptRuns.{RunsSeen}
-use Rattle.session_lines.specs.Stages.{Stage, first_stage}
+use Rattle.session_lines.specs.Stages.{SessionStage, first_stage}
 use Rattle.script_desk.specs.declared.endings.Ending.{Ending}
 use Rattle.script_desk.specs.declared.endings.Ending.TheVariants.{Halted}
 use Rattle.script_desk.specs.declared.halts.Halt.TheVariants.{NoMemory as no_memory}
@@ -74,7 +74,7 @@ unopened_lines ending side run_files pick script = record {
 -- end; that of the run files rose exactly where it was noted; and what the outside tells, and what came of the lines that called
 -- the files of the dumps, stand in the stage.
 pub record TellsEnd {S O F E C K : Type 0} (told : OutsideTold S O F E C K) (before : Script S O) (first_files : F)
-    (lines : LinesEnd S O E C F K) (final : Stage) : Type 0 where
+    (lines : LinesEnd S O E C F K) (final : SessionStage) : Type 0 where
   pub counts : EndCounts lines.ending lines.closing (told.source_faults before.src) (told.source_faults lines.script.src)
       (told.sink_faults before.out) (told.sink_faults lines.script.out)
   pub failed : NotesFailed lines.failed (told.crew.read first_files).faults (told.crew.read lines.run_files).faults
@@ -105,7 +105,7 @@ pub record OpenedEnds {D F K : Type 0} {g : _} (told : CrewTold Generator F K) (
 -- All passes are back, and the records of the runs; or there are none, where memory was wanting to open the session, and the run
 -- files are what they were.
 abbrev pub ObjectsEnd : {D F K : Type 0} {g : _} → CrewTold Generator F K → DeclaredLists → SessionObjects → SharedOdb D →
-    (first_files : F) → (final : Stage) → Ending → (run_files : F) → Option (SessionPasses D g × List RunRecord) → Type 0
+    (first_files : F) → (final : SessionStage) → Ending → (run_files : F) → Option (SessionPasses D g × List RunRecord) → Type 0
 ObjectsEnd told lists objects shared first_files final ending run_files None =
     (final.runs ≡ None) × (run_files ≡ first_files) × (ending ≡ Halted no_memory)
 ObjectsEnd told lists objects shared first_files final ending run_files (Some (passes, records)) =
@@ -116,7 +116,7 @@ ObjectsEnd told lists objects shared first_files final ending run_files (Some (p
 pub record PlaysOpened {D S O F E C K : Type 0} {g : _} (told : OutsideTold S O F E C K) (lists : DeclaredLists)
     (objects : SessionObjects) (shared : SharedOdb D) (first_files : F) (runs : RunsSeen) (side : MainSide (SharedAccess D g) E C)
     (before : Script S O) (end : OpenedEnd D S O E C F K g) : Type 0 where
-  pub final : Stage
+  pub final : SessionStage
   pub tells : TellsEnd told before first_files end.lines final
   pub ends : ObjectsEnd told.crew lists objects shared first_files final end.lines.ending end.lines.run_files end.session
   pub finishes : FinishesLine (lines_at told before) (lines_at told end.lines.script) (stage_open (side_of told) lists runs side) final
@@ -126,7 +126,7 @@ pub record PlaysOpened {D S O F E C K : Type 0} {g : _} (told : OutsideTold S O 
 pub record PlaysObjects {D S O F E C K : Type 0} {g : _} (told : OutsideTold S O F E C K) (lists : DeclaredLists)
     (objects : SessionObjects) (shared : SharedOdb D) (first_files : F) (quota : ℕ) (declared : Declared)
     (side : MainSide (SharedAccess D g) E C) (before : Script S O) (end : OpenedEnd D S O E C F K g) : Type 0 where
-  pub final : Stage
+  pub final : SessionStage
   pub tells : TellsEnd told before first_files end.lines final
   pub ends : ObjectsEnd told.crew lists objects shared first_files final end.lines.ending end.lines.run_files end.session
   pub finishes : FinishesOpening (lines_at told before) (lines_at told end.lines.script) (stage_unopened (side_of told) quota declared side)
@@ -136,7 +136,7 @@ pub record PlaysObjects {D S O F E C K : Type 0} {g : _} (told : OutsideTold S O
 
 -- The objects of the session that a script opened, before they are closed.
 pub record IsEndedSession {D F K : Type 0} {g : _} (told : CrewTold Generator F K) (shared : SharedOdb D) (first_files : F)
-    (final : Stage) (run_files : F) (ended : EndedObjects D g) : Type 0 where
+    (final : SessionStage) (run_files : F) (ended : EndedObjects D g) : Type 0 where
   pub lists : DeclaredLists
   pub declared : declared_by lists ≡ final.declared
   pub sound : AreSound final.declared
@@ -159,7 +159,7 @@ IsMainAlone shared calls Nothing = ⊥
 
 -- What is left behind a script that ended so: the objects of its session; or the database alone, which only the main thread
 -- called; or nothing, where there was no memory to open a session. Where none was opened, the run files are what they were.
-abbrev pub SessionEnds : {D F K : Type 0} {g : _} → CrewTold Generator F K → SharedOdb D → (first_files : F) → (final : Stage) →
+abbrev pub SessionEnds : {D F K : Type 0} {g : _} → CrewTold Generator F K → SharedOdb D → (first_files : F) → (final : SessionStage) →
     Ending → (run_files : F) → LeftBehind D g → Type 0
 SessionEnds told shared first_files final ending run_files (Session ended) =
     IsEndedSession told shared first_files final run_files ended
@@ -172,7 +172,7 @@ SessionEnds told shared first_files final ending run_files Nothing =
 pub record PlaysSession {D S O F E C K : Type 0} {g : _} (told : OutsideTold S O F E C K) (shared : SharedOdb D) (first_files : F)
     (quota : ℕ) (declared : Declared) (side : MainSide (SharedAccess D g) E C) (before : Script S O)
     (lines : LinesEnd S O E C F K) (left : LeftBehind D g) : Type 0 where
-  pub final : Stage
+  pub final : SessionStage
   pub tells : TellsEnd told before first_files lines final
   pub ends : SessionEnds told.crew shared first_files final lines.ending lines.run_files left
   pub finishes : FinishesOpening (lines_at told before) (lines_at told lines.script) (stage_unopened (side_of told) quota declared side)
@@ -181,7 +181,7 @@ pub record PlaysSession {D S O F E C K : Type 0} {g : _} (told : OutsideTold S O
 -- A script was played from its beginning to its end, over a database that its main thread had not called before.
 pub record PlaysAll {D S O F E C K : Type 0} {g : _} (told : OutsideTold S O F E C K) (shared : SharedOdb D) (odb_files : E) (clock : C)
     (first_files : F) (before : Script S O) (lines : LinesEnd S O E C F K) (left : LeftBehind D g) : Type 0 where
-  pub final : Stage
+  pub final : SessionStage
   pub tells : TellsEnd told before first_files lines final
   pub ends : SessionEnds told.crew shared first_files final lines.ending lines.run_files left
   pub finished : FinishedAt
@@ -200,7 +200,7 @@ IsBack shared Nothing = ⊤
 -- The record of a session: the histories of its objects, which are those of its declarations, and hold the calls of its main
 -- thread and of its members, each of which keeps its contract; and the records of its runs. Its logger took its seat at the
 -- first run files, and has the channels that were declared.
-pub record IsSessionRecord {D F K : Type 0} {g : _} (told : CrewTold Generator F K) (first_files : F) (final : Stage) (run_files : F)
+pub record IsSessionRecord {D F K : Type 0} {g : _} (told : CrewTold Generator F K) (first_files : F) (final : SessionStage) (run_files : F)
     (r : SessionRecord D g) : Type 0 where
   pub lists : DeclaredLists
   pub declared : declared_by lists ≡ final.declared
@@ -230,13 +230,13 @@ pub record IsSessionRecord {D F K : Type 0} {g : _} (told : CrewTold Generator F
 
 -- such a record keeps the session
 abbrev pub RecordsKeep : {D F K : Type 0} {g : _} → CrewTold Generator F K → SessionRecord D g → Type 0
-RecordsKeep {D} {F} told r = (first_files : F) → (final : Stage) → (run_files : F) →
+RecordsKeep {D} {F} told r = (first_files : F) → (final : SessionStage) → (run_files : F) →
     IsSessionRecord told first_files final run_files r → KeepsSession told first_files final run_files r
 
 -- This is what is kept of a script, by what it left: its last stage is one that a script leaves, and it ended for want of memory
 -- where its lines did.
 abbrev pub KeepsLeft : {D F K : Type 0} {g : _} → CrewTold Generator F K → SharedOdb D → LeftBehind D g → Option (SessionRecord D g) → Type 0
-KeepsLeft {D} {F} told shared left kept = (first_files : F) → (final : Stage) → (ending : Ending) → (end : ScriptEnd) → (run_files : F) →
+KeepsLeft {D} {F} told shared left kept = (first_files : F) → (final : SessionStage) → (ending : Ending) → (end : ScriptEnd) → (run_files : F) →
     first_database shared ≡ unwatched session_rows → StageKept final → EndsOver final → StageSpares final →
     (ending ≡ Halted no_memory → end ≡ NoMemory) → SessionEnds told shared first_files final ending run_files left →
     SessionKept told first_files final end run_files kept

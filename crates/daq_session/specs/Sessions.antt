@@ -20,7 +20,7 @@ use Rattle.session_objects.specs.declared.record.SessionRecord.{SessionRecord}
 use Rattle.session_runs.specs.KeptRuns.{RunsSeen}
 use Rattle.session_runs.specs.RunsFit.{MainOwn}
 use Rattle.session_replies.specs.declared.refusals.Refusals.{Refusals}
-use Rattle.session_lines.specs.Stages.{Stage, first_stage}
+use Rattle.session_lines.specs.Stages.{SessionStage, first_stage}
 use Rattle.session_lines.specs.ScriptLines.{BreaksScriptLine, ClosesScript, DoesScriptLine, GivesUp}
 use Rattle.script_desk.specs.declared.endings.Ending.{Ending}
 use Rattle.script_desk.specs.declared.halts.Halt.{Halt}
@@ -36,12 +36,12 @@ use Rattle.daq_session.specs.Environments.{Environment, OutsideTold, environment
 use Rattle.daq_session.specs.ToldRecords.{RecordTells}
 
 -- the main thread's own calls on the engine, but for its close, and on the database, as a script left its session
-abbrev pub main_own : Stage → RunsSeen → MainOwn
+abbrev pub main_own : SessionStage → RunsSeen → MainOwn
 main_own final last = record { engine = last.main.own; database = own_watched final.database.access }
 
 -- What is kept of a session that was opened, with declarations that are sound: the records of its runs are those that the main
 -- thread kept, behind the last of which no run is on; and the record tells all that was called, by whom, and what came of it.
-pub record KeepsSession {D F K : Type 0} {g : _} (told : CrewTold Generator F K) (first_files : F) (final : Stage) (run_files : F)
+pub record KeepsSession {D F K : Type 0} {g : _} (told : CrewTold Generator F K) (first_files : F) (final : SessionStage) (run_files : F)
     (r : SessionRecord D g) : Type 0 where
   pub sound : AreSound final.declared
   pub last : RunsSeen
@@ -52,20 +52,20 @@ pub record KeepsSession {D F K : Type 0} {g : _} (told : CrewTold Generator F K)
 
 -- No session was opened: the run files are what they were; and where memory was not wanting, all calls that were made on the
 -- database are the main thread's.
-pub record LacksSession {F : Type 0} (first_files : F) (final : Stage) (end : ScriptEnd) (run_files : F) : Type 0 where
+pub record LacksSession {F : Type 0} (first_files : F) (final : SessionStage) (end : ScriptEnd) (run_files : F) : Type 0 where
   pub closed : final.runs ≡ None
   pub files : run_files ≡ first_files
   pub alone : end ≢ NoMemory → AllByRecursion (λ call. call.0 ≡ main_caller) final.database.access.seen
 
 -- There is a record exactly where a session was opened.
-abbrev pub SessionKept : {D F K : Type 0} {g : _} → CrewTold Generator F K → (first_files : F) → (final : Stage) → ScriptEnd →
+abbrev pub SessionKept : {D F K : Type 0} {g : _} → CrewTold Generator F K → (first_files : F) → (final : SessionStage) → ScriptEnd →
     (run_files : F) → Option (SessionRecord D g) → Type 0
 SessionKept told first_files final end run_files None = LacksSession first_files final end run_files
 SessionKept told first_files final end run_files (Some r) = KeepsSession told first_files final run_files r
 
 -- Of the runs of a session that came about, each had its dump saved as it was stopped; and where no fault of the run files was
 -- counted, each file of theirs ended.
-pub record RunsEnded {D F K : Type 0} {g : _} (told : CrewTold Generator F K) (first_files : F) (final : Stage) (run_files : F)
+pub record RunsEnded {D F K : Type 0} {g : _} (told : CrewTold Generator F K) (first_files : F) (final : SessionStage) (run_files : F)
     (r : SessionRecord D g) (keeps : KeepsSession told first_files final run_files r) : Type 0 where
   pub saved : (number : ℕ) → (run : RunRecord) → (at : slice_get r.runs number ≡ Some run) → (whole : run.outcome ≡ Completed) →
       IsOk (keeps.tells.runs number run at whole).so.fits.stop.saved
@@ -74,14 +74,14 @@ pub record RunsEnded {D F K : Type 0} {g : _} (told : CrewTold Generator F K) (f
       slice_get run.files place ≡ Some file → file.state ≡ Ended
 
 -- So it is with the session of which this is kept, if one was opened.
-abbrev pub KeptRunsEnded : {D F K : Type 0} {g : _} → (told : CrewTold Generator F K) → (first_files : F) → (final : Stage) →
+abbrev pub KeptRunsEnded : {D F K : Type 0} {g : _} → (told : CrewTold Generator F K) → (first_files : F) → (final : SessionStage) →
     (end : ScriptEnd) → (run_files : F) → (kept : Option (SessionRecord D g)) →
     SessionKept told first_files final end run_files kept → Type 0
 KeptRunsEnded told first_files final end run_files None keeps = ⊤
 KeptRunsEnded told first_files final end run_files (Some r) keeps = RunsEnded told first_files final run_files r keeps
 
 -- Each record of a session is of a start that was begun with the quota that stands at its place among these.
-pub record RunsAsked {D F K : Type 0} {g : _} (told : CrewTold Generator F K) (first_files : F) (final : Stage) (run_files : F)
+pub record RunsAsked {D F K : Type 0} {g : _} (told : CrewTold Generator F K) (first_files : F) (final : SessionStage) (run_files : F)
     (asked : List ℕ) (r : SessionRecord D g) (keeps : KeepsSession told first_files final run_files r) : Type 0 where
   pub completed : (number : ℕ) → (run : RunRecord) → (at : slice_get r.runs number ≡ Some run) → (whole : run.outcome ≡ Completed) →
       slice_get asked number ≡ Some (keeps.tells.runs number run at whole).so.quota
@@ -90,7 +90,7 @@ pub record RunsAsked {D F K : Type 0} {g : _} (told : CrewTold Generator F K) (f
       slice_get asked number ≡ Some (keeps.tells.refusals number run at client why is).quota
 
 -- So it is with the session of which this is kept, if one was opened.
-abbrev pub KeptRunsAsked : {D F K : Type 0} {g : _} → (told : CrewTold Generator F K) → (first_files : F) → (final : Stage) →
+abbrev pub KeptRunsAsked : {D F K : Type 0} {g : _} → (told : CrewTold Generator F K) → (first_files : F) → (final : SessionStage) →
     (end : ScriptEnd) → (run_files : F) → (asked : List ℕ) → (kept : Option (SessionRecord D g)) →
     SessionKept told first_files final end run_files kept → Type 0
 KeptRunsAsked told first_files final end run_files asked None keeps = ⊤
@@ -98,7 +98,7 @@ KeptRunsAsked told first_files final end run_files asked (Some r) keeps = RunsAs
 
 -- The lines of a script, from the main thread's first access to the database on, and what is behind them.
 pub record PlaysLines (access : DatabaseAccess) (before after : Environment) (ending : Ending) (closing : Option Halt)
-    (refusals : Refusals) (final : Stage) : Type 0 where
+    (refusals : Refusals) (final : SessionStage) : Type 0 where
   pub finished : Finished DoesScriptLine BreaksScriptLine ClosesScript GivesUp
       (first_stage access before.odb_files before.clock) ending closing before.source after.source before.written after.written
       final refusals
@@ -111,7 +111,7 @@ pub record PlaysLines (access : DatabaseAccess) (before after : Environment) (en
 -- asked for. The files of the database that were there stay as they were, and each new one has the name of a `save` line; and where
 -- memory was not wanting and neither source nor sink failed, a line told a fault of these files exactly where their count rose; and,
 -- however it ended, each fault and each clash of names that a line told was counted for itself.
-pub record PlaysScript (before after : Environment) (end : ScriptEnd) (replies : List (ℕ × FileReply)) (final : Stage) : Type 0 where
+pub record PlaysScript (before after : Environment) (end : ScriptEnd) (replies : List (ℕ × FileReply)) (final : SessionStage) : Type 0 where
   pub access : DatabaseAccess
   pub opens : access.database.opened ≡ unwatched session_rows
   pub caller : access.caller ≡ main_caller
@@ -138,7 +138,7 @@ pub record PlaysScript (before after : Environment) (end : ScriptEnd) (replies :
 -- the quotas that the lines asked for; and where memory was not wanting, the runs of the session ended.
 pub record RunsScript {D S O F E C K : Type 0} {g : _} (told : OutsideTold S O F E C K) (before after : Outside S O F E C K)
     (end : ScriptEnd) (replies : List (ℕ × FileReply)) (kept : Option (SessionRecord D g)) : Type 0 where
-  pub final : Stage
+  pub final : SessionStage
   pub plays : PlaysScript (environment told before) (environment told after) end replies final
   pub keeps : SessionKept told.crew before.run_files final end after.run_files kept
   pub asked : KeptRunsAsked told.crew before.run_files final end after.run_files

@@ -11,7 +11,7 @@ use Rattle.buffer_core.specs.declared.entry.BufferEntry.TheVariants.{Attach, Rec
 use Rattle.buffer_core.specs.Window.{Window}
 use Rattle.buffer_core.specs.Calls.{IsReply, window_after, event_after}
 use Rattle.buffer_core.specs.Histories.{IsLegal, replay}
-use Rattle.buffer_core.specs.Ports.{Access, BufferIdentity, GotEvent, Called, Calls, Receives, IsNewNumber, IsGivenAt, knowing, got_after, slots_got, GivesSound, IsSmallBuf}
+use Rattle.buffer_core.specs.Ports.{Access, BufferIdentity, GotEvent, PortCalled, Calls, Receives, IsNewNumber, IsGivenAt, knowing, got_after, slots_got, GivesSound, IsSmallBuf}
 use Rattle.buffer_core.specs.CallersView.{access_in, given_by, given_in, taken_back_in}
 use Rattle.buffer_core.proofs.HistoryLaws.{replay-push, legal_push}
 use Rattle.buffer_core.proofs.TakenBack.{CallsNext, new_number as number_next}
@@ -48,11 +48,11 @@ alone w = record { opened = w; ports = 1; numbers = [] }
 
 -- what is told of a history and a call more in it is what the port tells
 told_of : (p q : Ported) (e : BufferEntry) (got : List GotEvent) → AppendsCall p q e
-    → Called (access_in (alone p.start) p.caller p.history p.entries p.bytes) (access_in (alone p.start) p.caller q.history q.entries q.bytes) e got
-    → Called (access_of p) (access_of q) e got
+    → PortCalled (access_in (alone p.start) p.caller p.history p.entries p.bytes) (access_in (alone p.start) p.caller q.history q.entries q.bytes) e got
+    → PortCalled (access_of p) (access_of q) e got
 told_of p q e got does call =
     let told : Window → ℕ → Access = λ w n. record (access_in (alone w) n q.history q.entries q.bytes) { size = q.window.size } in
-    let sized : Called (access_of p) (told p.start p.caller) e got = record {
+    let sized : PortCalled (access_of p) (told p.start p.caller) e got = record {
       buffer = call.buffer;
       caller = call.caller;
       size = ap (λ (w : Window). w.size) does.window ∙ size_stays p.window e;
@@ -63,8 +63,8 @@ told_of p q e got does call =
       entries = call.entries;
       bytes = call.bytes;
     } in
-    subst (λ (w : Window). Called (access_of p) (told w q.caller) e got) (sym does.start)
-    (subst (λ (n : ℕ). Called (access_of p) (told p.start n) e got) (sym does.caller) sized)
+    subst (λ (w : Window). PortCalled (access_of p) (told w q.caller) e got) (sym does.start)
+    (subst (λ (n : ℕ). PortCalled (access_of p) (told p.start n) e got) (sym does.caller) sized)
 
 -- a call that gives no event
 pub calls : (p q : Ported) (e : BufferEntry) → given_by p.window e ≡ [] → AppendsCall p q e → Calls (access_of p) (access_of q) e

@@ -8,7 +8,7 @@ use Rattle.std.proofs.lemmas.List.Elements.{Contains-append_left, Contains-appen
 use Rattle.buffer_core.specs.declared.entry.BufferEntry.{BufferEntry}
 use Rattle.buffer_core.specs.declared.entry.BufferEntry.TheVariants.{Begin, End}
 use Rattle.buffer_core.specs.declared.replies.MarkRefusal.{MarkRefusal}
-use Rattle.buffer_core.specs.Ports.{Access, GotEvent, Called}
+use Rattle.buffer_core.specs.Ports.{Access, GotEvent, PortCalled}
 use Rattle.buffer_core.specs.Slots.{slot_at}
 use Rattle.buffer_core.proofs.SlotLaws.{split, slot_within}
 use Rattle.member_model.specs.Turns.{MemberTurn}
@@ -262,7 +262,7 @@ quietly_same p q before after same client =
     let now : CallsQuietly p p before before = record { more = []; own = sym (append-nil p.own); quiet = tt; attached = omega arith } in
     rw (same, client) now
 
-pub quietly_call : (p q : Access) (e : BufferEntry) (got : List GotEvent) (before after : Option ℕ) → Called p q e got → MakesNoMark e → attaches_by e + one_client before ≤ one_client after → CallsQuietly p q before after
+pub quietly_call : (p q : Access) (e : BufferEntry) (got : List GotEvent) (before after : Option ℕ) → PortCalled p q e got → MakesNoMark e → attaches_by e + one_client before ≤ one_client after → CallsQuietly p q before after
 quietly_call p q e got before after called none few =
     let sum : attaches_made q.own ≡ attaches_made p.own + attaches_made (e ∷ []) = ap attaches_made called.own ∙ attaches-append p.own (e ∷ []) in
     record { more = e ∷ []; own = called.own; quiet = (none, tt); attached = omega (arith, sum, few) }
@@ -334,7 +334,7 @@ noted_step B L turns e note buffer a b marks f =
     rw marks.noted now
 
 -- the port behind the call has that call
-pub refused_there : (ports : List Access) (buffer : ℕ) (p q : Access) (start : ℕ) (why : MarkRefusal) (got : List GotEvent) → slice_get ports buffer ≡ Some p → Called p q (Begin start (Err why)) got → HasRefusedBegin (slice_set ports buffer q) start
+pub refused_there : (ports : List Access) (buffer : ℕ) (p q : Access) (start : ℕ) (why : MarkRefusal) (got : List GotEvent) → slice_get ports buffer ≡ Some p → PortCalled p q (Begin start (Err why)) got → HasRefusedBegin (slice_set ports buffer q) start
 refused_there ports buffer p q start why got there called = record {
   buffer = buffer;
   port = q;
@@ -344,5 +344,5 @@ refused_there ports buffer p q start why got there called = record {
 }
 
 -- what a call that was made leaves of refusals
-pub refused_on : (ports : List Access) (buffer : ℕ) (p q : Access) (e : BufferEntry) (got : List GotEvent) (start : ℕ) → slice_get ports buffer ≡ Some p → Called p q e got → HasRefusedBegin ports start → HasRefusedBegin (slice_set ports buffer q) start
+pub refused_on : (ports : List Access) (buffer : ℕ) (p q : Access) (e : BufferEntry) (got : List GotEvent) (start : ℕ) → slice_get ports buffer ≡ Some p → PortCalled p q e got → HasRefusedBegin ports start → HasRefusedBegin (slice_set ports buffer q) start
 refused_on ports buffer p q e got start there called refused = refused_still ports (slice_set ports buffer q) start (put_grows ports buffer p q (e ∷ []) there called.own) refused

@@ -5,7 +5,7 @@ use Rattle.daq_types.specs.declared.events.Event.{Event}
 use Rattle.buffer_core.specs.declared.entry.BufferEntry.{BufferEntry}
 use Rattle.buffer_core.specs.declared.replies.Received.{Received}
 use Rattle.buffer_core.specs.declared.replies.Received.TheVariants.{Got, Empty, NoClient, SmallBuf}
-use Rattle.buffer_core.specs.Ports.{Access, GotEvent, Called}
+use Rattle.buffer_core.specs.Ports.{Access, GotEvent, PortCalled}
 use Rattle.member_model.specs.OwnCalls.{calls_after}
 use Rattle.member_model.specs.FairCalls.{AreLoneRequests}
 use Rattle.member_model.proofs.FairLaws.{NoRequest, lone-push}
@@ -22,7 +22,7 @@ AreLone a = AreLoneRequests (calls_after [] a.own)
 lone_same : (a b : Access) → b ≡ a → AreLone a → AreLone b
 lone_same a b same are = subst AreLone (sym same) are
 
-lone_call : (a b : Access) (e : BufferEntry) (got : List GotEvent) → Called a b e got → NoRequest e → AreLone a → AreLone b
+lone_call : (a b : Access) (e : BufferEntry) (got : List GotEvent) → PortCalled a b e got → NoRequest e → AreLone a → AreLone b
 lone_call a b e got called none are = subst (λ (l : List BufferEntry). AreLoneRequests (calls_after [] l)) (sym called.own) (lone-push a.own e (none (calls_after [] a.own)) are)
 
 pub cancels_lone : (standing : Option ChannelRun) (a b : Access) → CancelsStanding standing a b → AreLone a → AreLone b

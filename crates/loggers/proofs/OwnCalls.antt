@@ -12,7 +12,7 @@ use Rattle.buffer_core.specs.declared.entry.BufferEntry.TheVariants.{Attach}
 use Rattle.buffer_core.specs.declared.replies.Received.{Received}
 use Rattle.buffer_core.specs.declared.replies.Received.TheVariants.{Got, Empty, NoClient, SmallBuf}
 use Rattle.buffer_core.specs.Points.{News, Nothing as NoNews, Attached, Detached, Requested, Cancelled, Taken, Gave, Drained as FoundNone, news_of}
-use Rattle.buffer_core.specs.Ports.{Access, GotEvent, Called, Calls}
+use Rattle.buffer_core.specs.Ports.{Access, GotEvent, PortCalled, Calls}
 use Rattle.buffer_core.proofs.SlotLaws.{split}
 use Rattle.member_model.specs.SentCalls.{EachCall}
 use Rattle.member_model.specs.OwnCalls.{calls_after, gives_after, gave_number, IsOwnCall, AreOwnCalls, SendsNone}
@@ -37,7 +37,7 @@ each_more : (P : BufferEntry → Type 0) (own : List BufferEntry) (e : BufferEnt
 each_more P [] e each here = (here, tt)
 each_more P (x ∷ xs) e each here = (each.0, each_more P xs e each.1 here)
 
-pub own_more : (a b : Access) (entry : BufferEntry) (got : List GotEvent) → Called a b entry got → SendsNone entry → IsOwnCall entry (calls_after [] a.own) → KeepsOwnCalls a.own → KeepsOwnCalls b.own
+pub own_more : (a b : Access) (entry : BufferEntry) (got : List GotEvent) → PortCalled a b entry got → SendsNone entry → IsOwnCall entry (calls_after [] a.own) → KeepsOwnCalls a.own → KeepsOwnCalls b.own
 own_more a b entry got called sends own kept =
     let now : KeepsOwnCalls (a.own ++ entry ∷ []) = record {
       sends_none = each_more SendsNone a.own entry kept.sends_none sends;
@@ -59,7 +59,7 @@ still_given (Taken sent) client before is = is
 still_given (Gave n place) client before is = is
 still_given (FoundNone n) client before is = is
 
-pub client_still : (client : Option ℕ) (a b : Access) (entry : BufferEntry) (got : List GotEvent) → Called a b entry got → IsOwnClient client a.own → IsOwnClient client b.own
+pub client_still : (client : Option ℕ) (a b : Access) (entry : BufferEntry) (got : List GotEvent) → PortCalled a b entry got → IsOwnClient client a.own → IsOwnClient client b.own
 client_still None a b entry got called own = tt
 client_still (Some n) a b entry got called own =
     let now : gave_number (calls_after [] (a.own ++ entry ∷ [])) n ≡ true = subst (λ (l : List BufferEntry). gave_number l n ≡ true) (sym (calls_more [] a.own entry)) (still_given (news_of entry) n (gave_number (calls_after [] a.own) n) own) in
@@ -84,7 +84,7 @@ owned_same client p q same kept own =
     let now : PortOwned client p p = record { calls = kept; client = own; others = λ c given. given } in
     subst (λ (x : Access). PortOwned client p x) (sym same) now
 
-owned_call : (client : Option ℕ) (p q : Access) (entry : BufferEntry) (got : List GotEvent) → Called p q entry got → SendsNone entry → IsOwnCall entry (calls_after [] p.own) → KeepsOwnCalls p.own → IsOwnClient client p.own → PortOwned client p q
+owned_call : (client : Option ℕ) (p q : Access) (entry : BufferEntry) (got : List GotEvent) → PortCalled p q entry got → SendsNone entry → IsOwnCall entry (calls_after [] p.own) → KeepsOwnCalls p.own → IsOwnClient client p.own → PortOwned client p q
 owned_call client p q entry got called sends call kept own = record {
   calls = own_more p q entry got called sends call kept;
   client = client_still client p q entry got called own;

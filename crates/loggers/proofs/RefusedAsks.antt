@@ -12,7 +12,7 @@ use Rattle.daq_types.specs.declared.runs.Why.TheVariants.{NotReady, Exists, Faul
 use Rattle.buffer_core.specs.declared.entry.BufferEntry.{BufferEntry}
 use Rattle.buffer_core.specs.declared.replies.Received.{Received}
 use Rattle.buffer_core.specs.declared.replies.Received.TheVariants.{Got, Empty, NoClient, SmallBuf}
-use Rattle.buffer_core.specs.Ports.{Access, GotEvent, Called}
+use Rattle.buffer_core.specs.Ports.{Access, GotEvent, PortCalled}
 use Rattle.buffer_core.specs.Slots.{slot_at}
 use Rattle.transitions.specs.declared.answers.Answer.{Answer}
 use Rattle.transitions.specs.declared.answers.Answer.TheVariants.{Yes, No}
@@ -44,11 +44,11 @@ Grown p q = (e : BufferEntry) → Contains p.own e → Contains q.own e
 grown_same : (p q : Access) → q ≡ p → Grown p q
 grown_same p q same e has = subst (λ (x : Access). Contains x.own e) (sym same) has
 
-grown_call : (p q : Access) (entry : BufferEntry) (got : List GotEvent) → Called p q entry got → Grown p q
+grown_call : (p q : Access) (entry : BufferEntry) (got : List GotEvent) → PortCalled p q entry got → Grown p q
 grown_call p q entry got called e has = subst (λ (l : List BufferEntry). Contains l e) (sym called.own) (Contains-append_left p.own (entry ∷ []) e has)
 
 -- the call itself is among them
-called_in : (p q : Access) (entry : BufferEntry) (got : List GotEvent) → Called p q entry got → Contains q.own entry
+called_in : (p q : Access) (entry : BufferEntry) (got : List GotEvent) → PortCalled p q entry got → Contains q.own entry
 called_in p q entry got called = subst (λ (l : List BufferEntry). Contains l entry) (sym called.own) (Contains-append_right p.own (entry ∷ []) entry (0, omega arith, refl))
 
 grown_then : (p q r : Access) → Grown p q → Grown q r → Grown p r

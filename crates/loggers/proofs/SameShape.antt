@@ -12,7 +12,7 @@ use Rattle.daq_types.specs.declared.runs.Why.TheVariants.{NotReady, Exists, Faul
 use Rattle.buffer_core.specs.declared.entry.BufferEntry.{BufferEntry}
 use Rattle.buffer_core.specs.declared.replies.Received.{Received}
 use Rattle.buffer_core.specs.declared.replies.Received.TheVariants.{Got, Empty, NoClient, SmallBuf}
-use Rattle.buffer_core.specs.Ports.{Access, GotEvent, Called}
+use Rattle.buffer_core.specs.Ports.{Access, GotEvent, PortCalled}
 use Rattle.buffer_core.specs.Slots.{slot_at}
 use Rattle.buffer_core.proofs.SlotLaws.{slot_change_all}
 use Rattle.mid_logger.specs.declared.channel.Channel.{Channel}
@@ -46,7 +46,7 @@ access_then a b c first second = (second.0 ∙ first.0, second.1 ∙ first.1, se
 equal_access : (a b : Access) → b ≡ a → IsSameAccess a b
 equal_access a b same = (ap (λ (x : Access). x.buffer) same, ap (λ (x : Access). x.caller) same, ap (λ (x : Access). x.size) same)
 
-called_access : (a b : Access) (entry : BufferEntry) (got : List GotEvent) → Called a b entry got → IsSameAccess a b
+called_access : (a b : Access) (entry : BufferEntry) (got : List GotEvent) → PortCalled a b entry got → IsSameAccess a b
 called_access a b entry got called = (called.buffer, called.caller, called.size)
 
 pub same_ports : (ports : List Access) → AreSamePorts ports ports

@@ -27,7 +27,7 @@ const WATCH: usize = 512;
 const STILL: u32 = 8;
 
 /// What a member saw that looked for the floor.
-enum Seen {
+enum Noticed {
     /// It has the floor.
     Floor,
     /// Another worked.
@@ -118,18 +118,18 @@ impl Stir {
     }
 
     /// Looks for the floor until another works.
-    fn look(&self) -> Seen {
+    fn look(&self) -> Noticed {
         let from = self.count();
         for _ in 0..PATIENCE {
             if self.try_claim() {
-                return Seen::Floor;
+                return Noticed::Floor;
             }
             if self.count() != from {
-                return Seen::Work;
+                return Noticed::Work;
             }
             spin_loop();
         }
-        Seen::Nothing
+        Noticed::Nothing
     }
 
     /// Waits for the floor, and says whether it was had. It was not where others have had many turns meanwhile, and where the
@@ -137,9 +137,9 @@ impl Stir {
     pub(crate) fn claim(&self) -> bool {
         for _ in 0..TURNS {
             match self.look() {
-                Seen::Floor => return true,
-                Seen::Work => {}
-                Seen::Nothing => break,
+                Noticed::Floor => return true,
+                Noticed::Work => {}
+                Noticed::Nothing => break,
             }
         }
         thread::yield_now();

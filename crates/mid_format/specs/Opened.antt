@@ -8,7 +8,7 @@ use Rattle.mid_format.specs.declared.faults.MidFault.{MidFault}
 use Rattle.mid_format.specs.declared.progress.Progress.{Progress}
 
 -- the source, and how far its run file was read
-pub record Opened (S : Type 0) : Type 0 where
+pub record OpenedReader (S : Type 0) : Type 0 where
   pub source : S
   pub progress : Progress
 

@@ -26,9 +26,9 @@ pub struct MidReader<S> {
 
 impl<S> Model for MidReader<S> {
     ghost use Rattle.std.specs.Prelude.{◌≤◌, ◌^◌};
-    ghost use Rattle.mid_format.specs.Opened.{Opened};
+    ghost use Rattle.mid_format.specs.Opened.{OpenedReader};
 
-    ghost Value = { Opened S };
+    ghost Value = { OpenedReader S };
 
     ghost view = { λ r. record { source = r.source; progress = r.progress } };
 

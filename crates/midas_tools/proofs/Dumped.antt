@@ -13,7 +13,7 @@ use Rattle.mid_format.specs.HasRead.{FailsAfter}
 use Rattle.mid_format.specs.declared.faults.MidFault.{MidFault}
 use Rattle.mid_format.specs.declared.faults.MidFault.TheVariants.{ReadFault}
 use Rattle.midas_tools.specs.Dumps.{DumpsTo, IsDump, IsPart, ListsRead, ListsWhole, PrintsDump, PrintsRead, PrintsSome, WritesOn, WritesRead, WritesSome, end_lines}
-use Rattle.midas_tools.specs.Findings.{Finds, WritesAll, WritesPart, IsFileOpened, RefusesFile, Printed, SaysWhy, ClosesWell, Closed}
+use Rattle.midas_tools.specs.Findings.{Finds, WritesAll, WritesPart, IsFileOpened, RefusesFile, Printed, SaysWhy, ClosesWell, ClosedAs}
 use Rattle.midas_tools.specs.declared.opening.Refused.{Refused}
 use Rattle.midas_tools.specs.declared.opening.Refused.TheVariants.{NameCompressed, NameMissing, OpenFailed}
 use Rattle.midas_tools.specs.declared.ends.InputFault.TheVariants.{Mid, Compressed, Missing, ScriptTooLong}
@@ -156,7 +156,7 @@ module _ (seen : Seen) (name : List ℕ) (read_old read_new : ℕ) (told_old tol
     closed_all files_old files_new end result text finds written all (inr failed) = subst (λ (e : ToolEnd). Writes e) (sym failed.0) (o.plain, inr (end, record { text = text; finds = finds; written = written }))
 
     dump_closed : (after : Seen) (files_old files_new : ℕ) (end result : ToolEnd) → DumpsTo (told_left opened number) (told_left after number) told_old told_new end → (IsTrue opened.tells → ReadsFirst opened after number read_old read_new)
-        → Closed end files_old files_new result → WritesOn seen name read_old read_new told_old told_new result
+        → ClosedAs end files_old files_new result → WritesOn seen name read_old read_new told_old told_new result
     dump_closed after files_old files_new Done result d front c =
         closed_all files_old files_new Done result d.0 (o.plain, λ told. there seen opened name number (λ bytes. IsDump bytes None d.0) o d.1 told) d.2 (λ all. all) c
     dump_closed after files_old files_new (Input (Mid f)) result d front c =
@@ -172,7 +172,7 @@ module _ (seen : Seen) (name : List ℕ) (read_old read_new : ℕ) (told_old tol
     -- the source that was read is the one that was opened
     pub dump_read : (after : Seen) (now_read : Origin) (files_old files_new : ℕ) (end result : ToolEnd) → Some now_read ≡ Some (record { files = opened; bytes_read = read_old; number = number })
         → DumpsTo (told_left opened number) (told_left after now_read.number) told_old told_new end → (IsTrue now_read.files.tells → ReadsFirst now_read.files after now_read.number now_read.bytes_read read_new)
-        → Closed end files_old files_new result → WritesOn seen name read_old read_new told_old told_new result
+        → ClosedAs end files_old files_new result → WritesOn seen name read_old read_new told_old told_new result
     dump_read after now_read files_old files_new end result is d front c =
         let same : now_read ≡ record { files = opened; bytes_read = read_old; number = number } = same_origin now_read (record { files = opened; bytes_read = read_old; number = number }) is in
         dump_closed after files_old files_new end result (subst (λ (x : Origin). DumpsTo (told_left opened number) (told_left after x.number) told_old told_new end) same d)
@@ -184,7 +184,7 @@ done_or_failed : (files_old files_new : ℕ) (end result : ToolEnd) → end ≢ 
 done_or_failed files_old files_new end result ne (inl well) e = ne (sym well.0 ∙ e)
 done_or_failed files_old files_new end result ne (inr failed) e = let clash : FileFault ≡ NoMemory = sym failed.0 ∙ e in absurd cc
 
-pub closed_has_memory : (source now told_old told_new : Option (List ℕ)) (files_old files_new : ℕ) (end result : ToolEnd) → DumpsTo source now told_old told_new end → Closed end files_old files_new result → result ≢ NoMemory
+pub closed_has_memory : (source now told_old told_new : Option (List ℕ)) (files_old files_new : ℕ) (end result : ToolEnd) → DumpsTo source now told_old told_new end → ClosedAs end files_old files_new result → result ≢ NoMemory
 closed_has_memory source now told_old told_new files_old files_new Done result d c = done_or_failed files_old files_new Done result (λ e. absurd cc) c
 closed_has_memory source now told_old told_new files_old files_new (Input fault) result d c = done_or_failed files_old files_new (Input fault) result (λ e. absurd cc) c
 closed_has_memory source now told_old told_new files_old files_new FileFault result d c = λ e. let clash : FileFault ≡ NoMemory = sym c.0 ∙ e in absurd cc

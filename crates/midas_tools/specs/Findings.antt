@@ -187,9 +187,9 @@ FaultEnds fault page_old page_new NoMemory = fault ≢ ReadFault
 abbrev pub ClosesWell : (files_old files_new : ℕ) (end result : ToolEnd) → Type 0
 ClosesWell files_old files_new end result = ((result ≡ end) × (files_new ≡ files_old)) ⊎ ((result ≡ FileFault) × Rose files_old files_new)
 
-abbrev pub Closed : (end : ToolEnd) (files_old files_new : ℕ) (result : ToolEnd) → Type 0
-Closed Done files_old files_new result = ClosesWell files_old files_new Done result
-Closed (Input fault) files_old files_new result = ClosesWell files_old files_new (Input fault) result
-Closed FileFault files_old files_new result = (result ≡ FileFault) × (files_old ≤ files_new)
-Closed SinkFault files_old files_new result = result ≡ SinkFault
-Closed NoMemory files_old files_new result = ClosesWell files_old files_new NoMemory result
+abbrev pub ClosedAs : (end : ToolEnd) (files_old files_new : ℕ) (result : ToolEnd) → Type 0
+ClosedAs Done files_old files_new result = ClosesWell files_old files_new Done result
+ClosedAs (Input fault) files_old files_new result = ClosesWell files_old files_new (Input fault) result
+ClosedAs FileFault files_old files_new result = (result ≡ FileFault) × (files_old ≤ files_new)
+ClosedAs SinkFault files_old files_new result = result ≡ SinkFault
+ClosedAs NoMemory files_old files_new result = ClosesWell files_old files_new NoMemory result

@@ -1,7 +1,7 @@
 ghost use Rattle.std.specs.Prelude.{IsTrue};
 ghost use Rattle.daq_io.specs.FileLeft.{ReadsFirst};
 ghost use Rattle.daq_io.specs.Seen.{Ends};
-ghost use Rattle.midas_tools.specs.Findings.{Closed, FaultEnds, FinishesFile, Printed, SaysWhy};
+ghost use Rattle.midas_tools.specs.Findings.{ClosedAs, FaultEnds, FinishesFile, Printed, SaysWhy};
 
 use crate::ends::{InputFault, ToolEnd};
 use crate::lines::bad_line;
@@ -78,7 +78,7 @@ pub fn finish<F: Files, K: Sink>(
 
 /// Closes the file, of which all was printed that there was to print.
 pub fn close_dump<F: Files>(end: ToolEnd, source: FileSource<F>) -> (ToolEnd, F)
-    ensures closed { Closed end (F.faults source.files) (F.faults result.1) result.0 }
+    ensures closed { ClosedAs end (F.faults source.files) (F.faults result.1) result.0 }
     ensures front { IsTrue (F.seen source.first).tells → ReadsFirst (F.seen source.first)
         (F.seen source.files) source.number (F.bytes_read source.first) (F.bytes_read result.1) }
     ensures ended { Ends (F.seen source.first) (F.seen result.1) source.number }

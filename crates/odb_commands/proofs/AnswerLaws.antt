@@ -26,7 +26,7 @@ use Rattle.odb_commands.specs.declared.replies.CommandRefusal.{CommandRefusal}
 use Rattle.odb_commands.specs.declared.replies.CommandRefusal.TheVariants.{Protected}
 use Rattle.odb_commands.specs.declared.replies.CommandReply.{CommandReply}
 use Rattle.odb_commands.specs.declared.replies.CommandReply.TheVariants.{Key}
-use Rattle.odb_commands.specs.Answers.{Answer, refused, at_path, done_or, listed_or, create_at, item_for, set_item, set_in, set_at, key_found, shown_value, get_in, get_at, list_at, is_protected, removed, remove_at, answer_of}
+use Rattle.odb_commands.specs.Answers.{CommandAnswer, refused, at_path, done_or, listed_or, create_at, item_for, set_item, set_in, set_at, key_found, shown_value, get_in, get_at, list_at, is_protected, removed, remove_at, answer_of}
 use Rattle.odb_commands.specs.CommandCalls.{AtPath, CreatesKey, SetsItem, SetsIn, Sets, NamesFound, Shows, GetsIn, Gets, Lists, RemovesIf, RemovesKey, Performs, IsAnswered, IsAnswerOf, OthersLeave}
 
 -- A legal reply is that of the rows, where memory was not wanting.
@@ -129,7 +129,7 @@ remove_answered s p false calls reply legal does =
     let same : does.0 ≡ delete_reply s p = here.0.reply in
     (does.1 ∙ ap (λ (got : Result ℕ OdbRefusal). call.Delete p got ∷ []) same, does.3 ∙ ap done_or same)
 
-path_answered : (read : Result (List (List ℕ)) PathRefusal) (answer : List (List ℕ) → Answer) (Then : List (List ℕ) → List DatabaseEntry → CommandReply → Type 0) (calls : List DatabaseEntry) (reply : CommandReply)
+path_answered : (read : Result (List (List ℕ)) PathRefusal) (answer : List (List ℕ) → CommandAnswer) (Then : List (List ℕ) → List DatabaseEntry → CommandReply → Type 0) (calls : List DatabaseEntry) (reply : CommandReply)
     → ((p : List (List ℕ)) → Then p calls reply → IsAnswered (answer p) calls reply) → AtPath read Then calls reply → IsAnswered (at_path read answer) calls reply
 path_answered (Err why) answer Then calls reply each does = does
 path_answered (Ok p) answer Then calls reply each does = each p does

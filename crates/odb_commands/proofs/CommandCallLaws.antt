@@ -28,7 +28,7 @@ use Rattle.odb_script.specs.declared.forms.Command.TheVariants as command
 use Rattle.odb_commands.specs.declared.replies.CommandRefusal.{CommandRefusal}
 use Rattle.odb_commands.specs.declared.replies.CommandRefusal.TheVariants.{Protected}
 use Rattle.odb_commands.specs.declared.replies.CommandReply.{CommandReply}
-use Rattle.odb_commands.specs.Answers.{Answer, refused, at_path, create_at, item_for, set_item, set_in, set_at, key_found, shown_value, get_in, get_at, list_at, is_protected, removed, remove_at, answer_of}
+use Rattle.odb_commands.specs.Answers.{CommandAnswer, refused, at_path, create_at, item_for, set_item, set_in, set_at, key_found, shown_value, get_in, get_at, list_at, is_protected, removed, remove_at, answer_of}
 use Rattle.odb_commands.specs.CommandCalls.{AtPath, CreatesKey, SetsItem, SetsIn, Sets, NamesFound, Shows, GetsIn, Gets, Lists, RemovesIf, RemovesKey, Performs}
 use Rattle.odb_commands.specs.CommandCallLaws.{PerformsIf, Spares}
 
@@ -209,7 +209,7 @@ remove_performs : (s : Rows) (p : List (List ℕ)) (b : Bool) → RemovesIf b p 
 remove_performs s p true = (refl, refl)
 remove_performs s p false = (delete_reply s p, refl, delete_settled s p, refl)
 
-path_performs : (read : Result (List (List ℕ)) PathRefusal) (answer : List (List ℕ) → Answer) (Then : List (List ℕ) → List DatabaseEntry → CommandReply → Type 0)
+path_performs : (read : Result (List (List ℕ)) PathRefusal) (answer : List (List ℕ) → CommandAnswer) (Then : List (List ℕ) → List DatabaseEntry → CommandReply → Type 0)
     → ((p : List (List ℕ)) → Then p (answer p).calls (answer p).reply) → AtPath read Then (at_path read answer).calls (at_path read answer).reply
 path_performs (Err why) answer Then each = (refl, refl)
 path_performs (Ok p) answer Then each = each p

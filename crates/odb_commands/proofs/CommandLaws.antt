@@ -13,7 +13,7 @@ use Rattle.odb_script.specs.declared.forms.Command.{Command}
 use Rattle.odb_script.specs.declared.forms.Command.TheVariants.{Create, CreateDir, Set, Get, List as Ls, Remove}
 use Rattle.odb_commands.specs.declared.replies.CommandRefusal.{CommandRefusal}
 use Rattle.odb_commands.specs.declared.replies.CommandRefusal.TheVariants.{Protected}
-use Rattle.odb_commands.specs.Answers.{Answer, refused, at_path, create_at, item_for, set_item, set_in, set_at, key_found, shown_value, get_in, get_at, list_at, removed, remove_at, answer_of}
+use Rattle.odb_commands.specs.Answers.{CommandAnswer, refused, at_path, create_at, item_for, set_item, set_in, set_at, key_found, shown_value, get_in, get_at, list_at, removed, remove_at, answer_of}
 use Rattle.odb_commands.specs.CommandLaws.{AnswerSpares, SparesIf}
 
 item_spares : (s : Rows) (p : List (List ℕ)) (index : ℕ) (item : Result Item CommandRefusal) → AnswerSpares (set_item s p index item)
@@ -44,7 +44,7 @@ remove_spares : (s : Rows) (p : List (List ℕ)) → AnswerSpares (remove_at s p
 remove_spares s [] = tt
 remove_spares s (name ∷ names) = removed_spares s name names (same_name name (codes "Runinfo")) refl
 
-path_spares : (read : Result (List (List ℕ)) PathRefusal) (answer : List (List ℕ) → Answer) → ((p : List (List ℕ)) → AnswerSpares (answer p)) → AnswerSpares (at_path read answer)
+path_spares : (read : Result (List (List ℕ)) PathRefusal) (answer : List (List ℕ) → CommandAnswer) → ((p : List (List ℕ)) → AnswerSpares (answer p)) → AnswerSpares (at_path read answer)
 path_spares (Err why) answer each = tt
 path_spares (Ok p) answer each = each p
 

@@ -26,16 +26,16 @@ use Rattle.odb_commands.specs.declared.replies.CommandReply.{CommandReply}
 use Rattle.odb_commands.specs.declared.replies.CommandReply.TheVariants.{Done, Key, One, Listed, Refused}
 
 -- the calls that a command makes, in order, and what it is answered
-pub record Answer : Type 0 where
+pub record CommandAnswer : Type 0 where
   pub calls : List DatabaseEntry
   pub reply : CommandReply
 
 -- without any call
-abbrev pub refused : CommandRefusal → Answer
+abbrev pub refused : CommandRefusal → CommandAnswer
 refused why = record { calls = []; reply = Refused why }
 
 -- with this call in front
-abbrev pub with_first_call : DatabaseEntry → Answer → Answer
+abbrev pub with_first_call : DatabaseEntry → CommandAnswer → CommandAnswer
 with_first_call entry answer = record { calls = entry ∷ answer.calls; reply = answer.reply }
 
 -- a call that is accepted prints nothing
@@ -44,12 +44,12 @@ done_or (Ok n) = Done
 done_or (Err why) = Refused (Database why)
 
 -- a text that is no path is refused before any call
-abbrev pub at_path : Result (List (List ℕ)) PathRefusal → (List (List ℕ) → Answer) → Answer
+abbrev pub at_path : Result (List (List ℕ)) PathRefusal → (List (List ℕ) → CommandAnswer) → CommandAnswer
 at_path (Err why) answer = refused (Path why)
 at_path (Ok p) answer = answer p
 
 -- `create`: one call.
-abbrev pub create_at : Rows → NewKey → List (List ℕ) → Answer
+abbrev pub create_at : Rows → NewKey → List (List ℕ) → CommandAnswer
 create_at s kind p = record { calls = call.Create p kind (create_reply s p kind) ∷ []; reply = done_or (create_reply s p kind) }
 
 -- `set`: the key is got; then the index is tested, and the text; then the item is set.
@@ -62,24 +62,24 @@ item_or (Ok item) = Ok item
 abbrev pub item_for : HeldValue → (index : ℕ) → (text : List ℕ) → Result Item CommandRefusal
 item_for v index text = if nat_lt index (length v.items) then item_or (item_read v.tid text) else Err (Database (BadIndex (length v.items)))
 
-abbrev pub set_item : Rows → List (List ℕ) → (index : ℕ) → Result Item CommandRefusal → Answer
+abbrev pub set_item : Rows → List (List ℕ) → (index : ℕ) → Result Item CommandRefusal → CommandAnswer
 set_item s p index (Err why) = refused why
 set_item s p index (Ok item) = record { calls = call.Set p index item (set_reply s p index item) ∷ []; reply = done_or (set_reply s p index item) }
 
-abbrev pub set_in : Rows → List (List ℕ) → (index : ℕ) → (text : List ℕ) → Result HeldValue OdbRefusal → Answer
+abbrev pub set_in : Rows → List (List ℕ) → (index : ℕ) → (text : List ℕ) → Result HeldValue OdbRefusal → CommandAnswer
 set_in s p index text (Err why) = refused (Database why)
 set_in s p index text (Ok v) = set_item s p index (item_for v index text)
 
-abbrev pub set_at : Rows → (index : ℕ) → (text : List ℕ) → List (List ℕ) → Answer
+abbrev pub set_at : Rows → (index : ℕ) → (text : List ℕ) → List (List ℕ) → CommandAnswer
 set_at s index text p = with_first_call (call.Get p (get_reply s p)) (set_in s p index text (get_reply s p))
 
 -- `get`: the key is got; for its lines it is also found, and the path of its row gives the name as it is spelled in the
 -- database.
 
-abbrev pub key_named : Rows → HeldValue → (row : ℕ) → Answer
+abbrev pub key_named : Rows → HeldValue → (row : ℕ) → CommandAnswer
 key_named s v row = record { calls = call.PathOf row (Ok (path_with s.rows row)) ∷ []; reply = Key (unwrap_or (path_with s.rows row) []) v }
 
-abbrev pub key_found : Rows → HeldValue → Result ℕ OdbRefusal → Answer
+abbrev pub key_found : Rows → HeldValue → Result ℕ OdbRefusal → CommandAnswer
 key_found s v (Err why) = refused (Database why)
 key_found s v (Ok row) = key_named s v row
 
@@ -87,15 +87,15 @@ abbrev pub one_or : (len : ℕ) → Option Item → CommandReply
 one_or len None = Refused (Database (BadIndex len))
 one_or len (Some item) = One item
 
-abbrev pub shown_value : Rows → List (List ℕ) → Option ℕ → HeldValue → Answer
+abbrev pub shown_value : Rows → List (List ℕ) → Option ℕ → HeldValue → CommandAnswer
 shown_value s p None v = with_first_call (call.Find p (find_reply s p)) (key_found s v (find_reply s p))
 shown_value s p (Some index) v = record { calls = []; reply = one_or (length v.items) (slice_get v.items index) }
 
-abbrev pub get_in : Rows → List (List ℕ) → Option ℕ → Result HeldValue OdbRefusal → Answer
+abbrev pub get_in : Rows → List (List ℕ) → Option ℕ → Result HeldValue OdbRefusal → CommandAnswer
 get_in s p index (Err why) = refused (Database why)
 get_in s p index (Ok v) = shown_value s p index v
 
-abbrev pub get_at : Rows → Option ℕ → List (List ℕ) → Answer
+abbrev pub get_at : Rows → Option ℕ → List (List ℕ) → CommandAnswer
 get_at s index p = with_first_call (call.Get p (get_reply s p)) (get_in s p index (get_reply s p))
 
 -- `ls`: one call.
@@ -104,7 +104,7 @@ abbrev pub listed_or : Result (List Child) OdbRefusal → CommandReply
 listed_or (Err why) = Refused (Database why)
 listed_or (Ok children) = Listed children
 
-abbrev pub list_at : Rows → List (List ℕ) → Answer
+abbrev pub list_at : Rows → List (List ℕ) → CommandAnswer
 list_at s p = record { calls = call.ListDir p (list_reply s p) ∷ []; reply = listed_or (list_reply s p) }
 
 -- `rm`: one call, and none for what is protected.
@@ -114,14 +114,14 @@ abbrev pub is_protected : List (List ℕ) → Bool
 is_protected [] = true
 is_protected (name ∷ names) = same_name name (codes "Runinfo")
 
-abbrev pub removed : Rows → List (List ℕ) → Answer
+abbrev pub removed : Rows → List (List ℕ) → CommandAnswer
 removed s p = record { calls = call.Delete p (delete_reply s p) ∷ []; reply = done_or (delete_reply s p) }
 
-abbrev pub remove_at : Rows → List (List ℕ) → Answer
+abbrev pub remove_at : Rows → List (List ℕ) → CommandAnswer
 remove_at s p = if is_protected p then refused Protected else removed s p
 
 -- The answer of a command, where it is one of the database's.
-abbrev pub answer_of : Rows → Command → Option Answer
+abbrev pub answer_of : Rows → Command → Option CommandAnswer
 answer_of s (command.Create tid path len) = Some (at_path (path_reply path) (create_at s (Keys tid len)))
 answer_of s (command.CreateDir path) = Some (at_path (path_reply path) (create_at s Dir))
 answer_of s (command.Set path index value) = Some (at_path (path_reply path) (set_at s index value))

@@ -6,10 +6,10 @@ use Rattle.odb_tree.specs.declared.entry.DatabaseEntry.{DatabaseEntry}
 use Rattle.odb_port.specs.DatabasePorts.{calls_by}
 use Rattle.odb_runinfo.specs.RunNumberKept.{AllSpareRuninfo}
 use Rattle.odb_script.specs.declared.forms.Command.{Command}
-use Rattle.odb_commands.specs.Answers.{Answer}
+use Rattle.odb_commands.specs.Answers.{CommandAnswer}
 use Rattle.odb_commands.specs.CommandCalls.{Performs}
 
-abbrev pub PerformsIf : Command → Option Answer → Type 0
+abbrev pub PerformsIf : Command → Option CommandAnswer → Type 0
 PerformsIf c None = Unit {0}
 PerformsIf c (Some answer) = Performs c answer.calls answer.reply
 

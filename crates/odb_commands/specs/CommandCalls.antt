@@ -22,7 +22,7 @@ use Rattle.odb_commands.specs.declared.replies.CommandRefusal.{CommandRefusal}
 use Rattle.odb_commands.specs.declared.replies.CommandRefusal.TheVariants.{Path, Protected, Item as BadItem, Database}
 use Rattle.odb_commands.specs.declared.replies.CommandReply.{CommandReply}
 use Rattle.odb_commands.specs.declared.replies.CommandReply.TheVariants.{Done, Key, One, Listed, Refused}
-use Rattle.odb_commands.specs.Answers.{Answer, done_or, item_for, is_protected, listed_or, one_or}
+use Rattle.odb_commands.specs.Answers.{CommandAnswer, done_or, item_for, is_protected, listed_or, one_or}
 
 -- no call, and this answer
 abbrev pub SaysAtOnce : CommandReply → (calls : List DatabaseEntry) → (reply : CommandReply) → Type 0
@@ -140,11 +140,11 @@ AnswersIf a b command None = (b ≡ a) × (calls_database command ≡ false)
 AnswersIf a b command (Some reply) = Answers a b (Performs command) reply
 
 -- These are the calls and the reply of the answer.
-abbrev pub IsAnswered : Answer → (calls : List DatabaseEntry) → (reply : CommandReply) → Type 0
+abbrev pub IsAnswered : CommandAnswer → (calls : List DatabaseEntry) → (reply : CommandReply) → Type 0
 IsAnswered answer calls reply = (calls ≡ answer.calls) × (reply ≡ answer.reply)
 
 -- the same of a command that may be another's, which has none
-abbrev pub IsAnswerOf : Option Answer → (calls : List DatabaseEntry) → (reply : CommandReply) → Type 0
+abbrev pub IsAnswerOf : Option CommandAnswer → (calls : List DatabaseEntry) → (reply : CommandReply) → Type 0
 IsAnswerOf None calls reply = ⊥
 IsAnswerOf (Some answer) calls reply = IsAnswered answer calls reply
 

@@ -23,7 +23,7 @@ pub record IsNoted (n : Noted) : Type 0 where
   pub replayed : n.rows ≡ rows_replay n.start n.history
 
 -- one call more, by this caller
-pub record Does (p q : Noted) (caller : ℕ) (entry : DatabaseEntry) : Type 0 where
+pub record NotesCall (p q : Noted) (caller : ℕ) (entry : DatabaseEntry) : Type 0 where
   pub from : IsNoted p
   pub reply : IsRowsReply p.rows entry
   pub rows : q.rows ≡ rows_after p.rows entry

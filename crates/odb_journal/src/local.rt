@@ -7,7 +7,7 @@ ghost use Rattle.odb_tree.specs.declared.entry.DatabaseEntry.TheVariants.{Create
 ghost use Rattle.odb_tree.specs.Calls.{IsRowsReply};
 ghost use Rattle.odb_tree.specs.Databases.{IsDatabase};
 ghost use Rattle.odb_tree.specs.Histories.{IsLegalRows, rows_replay};
-ghost use Rattle.odb_journal.specs.Noted.{Does, KeepsCalls};
+ghost use Rattle.odb_journal.specs.Noted.{NotesCall, KeepsCalls};
 
 use daq_types::{Caller, Journal, NoMemory};
 use odb_path::Path;
@@ -164,7 +164,7 @@ impl<D: Database> LocalDatabase<D> {
     /// As `Database::create`, by the main thread.
     pub fn create(&mut self, alloc: Global, path: Path, kind: NewKey) -> Result<u32, OdbRefusal>
         requires room { 1 ≤ self.old.room }
-        ensures did { Does self.old self.new main_caller (Create path kind result) }
+        ensures did { NotesCall self.old self.new main_caller (Create path kind result) }
     {
         let _ = path.names();
         let reply = self.database.create(alloc, &path, kind);
@@ -183,7 +183,7 @@ impl<D: Database> LocalDatabase<D> {
         item: Item,
     ) -> Result<u32, OdbRefusal>
         requires room { 1 ≤ self.old.room }
-        ensures did { Does self.old self.new caller (Set path index item result) }
+        ensures did { NotesCall self.old self.new caller (Set path index item result) }
         ensures memory { result ≡ Err no_memory → tid_of item ≡ Tid.Text }
     {
         let _ = path.names();
@@ -202,7 +202,7 @@ impl<D: Database> LocalDatabase<D> {
     /// As `Database::set_all`, by the main thread.
     pub fn set_all(&mut self, alloc: Global, path: Path, value: Value) -> Result<u32, OdbRefusal>
         requires room { 1 ≤ self.old.room }
-        ensures did { Does self.old self.new main_caller (SetAll path value result) }
+        ensures did { NotesCall self.old self.new main_caller (SetAll path value result) }
     {
         let _ = path.names();
         let _ = value.tid();
@@ -215,7 +215,7 @@ impl<D: Database> LocalDatabase<D> {
     /// As `Database::get`. Where there is no memory to note the value, the call is refused for that, and so noted.
     pub fn get(&mut self, alloc: Global, caller: Caller, path: Path) -> Result<Value, OdbRefusal>
         requires room { 1 ≤ self.old.room }
-        ensures did { Does self.old self.new caller (Get path result) }
+        ensures did { NotesCall self.old self.new caller (Get path result) }
     {
         let _ = path.names();
         match get_twice(alloc, &self.database, &path) {
@@ -237,7 +237,7 @@ impl<D: Database> LocalDatabase<D> {
     /// As `Database::find`. Takes no memory.
     pub fn find(&mut self, caller: Caller, path: Path) -> Result<u32, OdbRefusal>
         requires room { 1 ≤ self.old.room }
-        ensures did { Does self.old self.new caller (Find path result) }
+        ensures did { NotesCall self.old self.new caller (Find path result) }
         ensures memory { result ≢ Err no_memory }
     {
         let _ = path.names();
@@ -255,7 +255,7 @@ impl<D: Database> LocalDatabase<D> {
         path: Path,
     ) -> Result<Children, OdbRefusal>
         requires room { 1 ≤ self.old.room }
-        ensures did { Does self.old self.new caller (ListDir path result) }
+        ensures did { NotesCall self.old self.new caller (ListDir path result) }
     {
         let _ = path.names();
         match list_twice(alloc, &self.database, &path) {
@@ -277,7 +277,7 @@ impl<D: Database> LocalDatabase<D> {
     /// As `Database::delete`, by the main thread. Takes no memory.
     pub fn delete(&mut self, path: Path) -> Result<u32, OdbRefusal>
         requires room { 1 ≤ self.old.room }
-        ensures did { Does self.old self.new main_caller (Delete path result) }
+        ensures did { NotesCall self.old self.new main_caller (Delete path result) }
         ensures memory { result ≢ Err no_memory }
     {
         let _ = path.names();
@@ -290,7 +290,7 @@ impl<D: Database> LocalDatabase<D> {
     /// As `Database::resize`, by the main thread.
     pub fn resize(&mut self, alloc: Global, path: Path, len: u32) -> Result<u32, OdbRefusal>
         requires room { 1 ≤ self.old.room }
-        ensures did { Does self.old self.new main_caller (Resize path len result) }
+        ensures did { NotesCall self.old self.new main_caller (Resize path len result) }
     {
         let _ = path.names();
         let reply = self.database.resize(alloc, &path, len);
@@ -307,7 +307,7 @@ impl<D: Database> LocalDatabase<D> {
         row: u32,
     ) -> Result<Option<Path>, NoMemory>
         requires room { 1 ≤ self.old.room }
-        ensures did { Does self.old self.new caller (PathOf row result) }
+        ensures did { NotesCall self.old self.new caller (PathOf row result) }
     {
         match path_twice(alloc, &self.database, row) {
             Ok((path, copy)) => {

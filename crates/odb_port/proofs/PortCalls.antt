@@ -10,7 +10,7 @@ use Rattle.odb_tree.specs.Noting.{Watched, watched_call}
 use Rattle.odb_watch.specs.declared.entry.WatchEntry.{WatchEntry}
 use Rattle.odb_watch.specs.declared.entry.WatchEntry.TheVariants.{Call}
 use Rattle.odb_watch.specs.Steps.{IsLegalDatabase, unwatched}
-use Rattle.odb_journal.specs.Noted.{Noted, Does}
+use Rattle.odb_journal.specs.Noted.{Noted, NotesCall}
 use Rattle.odb_port.specs.DatabasePorts.{CalledDatabase, DatabaseIdentity, AddsCall, as_watched, called_by, local_access}
 
 -- a legal history of calls on the rows is one of a watched database
@@ -25,7 +25,7 @@ legal_watched s (e ∷ history) legal =
 abbrev alone : Rows → DatabaseIdentity
 alone rows = record { opened = unwatched rows; ports = 1; numbers = [] }
 
-adds_own : (caller : ℕ) (p q : Noted) (entry : DatabaseEntry) → Does p q caller entry → IsLegalRows q.start q.history → AddsCall (local_access (called_by caller p)) (local_access (called_by caller q)) entry
+adds_own : (caller : ℕ) (p q : Noted) (entry : DatabaseEntry) → NotesCall p q caller entry → IsLegalRows q.start q.history → AddsCall (local_access (called_by caller p)) (local_access (called_by caller q)) entry
 adds_own caller p q entry did legal = record {
   same = record { database = ap alone did.start; caller = refl; undisturbed = refl };
   between = [];
@@ -39,13 +39,13 @@ adds_own caller p q entry did legal = record {
 }
 
 -- the same of a database that is seen as this one
-pub calls_port : (d : CalledDatabase) (caller : ℕ) (p q : Noted) (entry : DatabaseEntry) → called_by caller p ≡ d → Does p q caller entry → IsLegalRows q.start q.history
+pub calls_port : (d : CalledDatabase) (caller : ℕ) (p q : Noted) (entry : DatabaseEntry) → called_by caller p ≡ d → NotesCall p q caller entry → IsLegalRows q.start q.history
     → AddsCall (local_access d) (local_access (called_by caller q)) entry
 calls_port d caller p q entry view did legal = subst (λ (x : CalledDatabase). AddsCall (local_access x) (local_access (called_by caller q)) entry) view (adds_own caller p q entry did legal)
 
 -- by the main thread
-pub calls_main : (d : CalledDatabase) (caller : ℕ) (p q : Noted) (entry : DatabaseEntry) → called_by caller p ≡ d → d.caller ≡ main_caller → Does p q main_caller entry → IsLegalRows q.start q.history
+pub calls_main : (d : CalledDatabase) (caller : ℕ) (p q : Noted) (entry : DatabaseEntry) → called_by caller p ≡ d → d.caller ≡ main_caller → NotesCall p q main_caller entry → IsLegalRows q.start q.history
     → AddsCall (local_access d) (local_access (called_by caller q)) entry
 calls_main d caller p q entry view main did legal =
     let is : caller ≡ main_caller = ap (λ (x : CalledDatabase). x.caller) view ∙ main in
-    calls_port d caller p q entry view (subst (λ (by : ℕ). Does p q by entry) (sym is) did) legal
+    calls_port d caller p q entry view (subst (λ (by : ℕ). NotesCall p q by entry) (sym is) did) legal

@@ -5,7 +5,7 @@ use Rattle.std.specs.List.{starts_with}
 use Rattle.std.proofs.lemmas.List.{append-nil}
 use Rattle.daq_types.specs.declared.runs.Kind.{Kind}
 use Rattle.daq_types.specs.declared.types.Tid.{Tid}
-use Rattle.odb_script.specs.LineWords.{Words, word, ended, faulty, line_words}
+use Rattle.odb_script.specs.LineWords.{LineWords, word, ended, faulty, line_words}
 use Rattle.daq_text.specs.Numbers.{whole_number}
 use Rattle.odb_script.specs.Numbers.{most_number, most_small}
 use Rattle.odb_script.specs.TypeNames.{is_text, type_named, kind_named}
@@ -18,22 +18,22 @@ use Rattle.odb_script.proofs.TableLaws.{number_cases, type_cases, kind_cases, te
 -- From the words to the command.
 
 -- Words are read behind texts: if that gives a command, they have no more than the rest of its texts.
-abbrev Reads : List (List ℕ) → Words → Read Command → Type 0
+abbrev Reads : List (List ℕ) → LineWords → Read Command → Type 0
 Reads front ws (Ok command) = (texts : List (List ℕ)) × (texts_of ws ≡ Some texts) × Spells (front ++ texts) command
 Reads front ws (Err refusal) = Unit {0}
 
 -- the first word is one of the texts in front
-step : (front : List (List ℕ)) (at : ℕ) (text : List ℕ) (ws : Words) (read : Read Command) → Reads (front ++ text ∷ []) ws read → Reads front (word at text ws) read
+step : (front : List (List ℕ)) (at : ℕ) (text : List ℕ) (ws : LineWords) (read : Read Command) → Reads (front ++ text ∷ []) ws read → Reads front (word at text ws) read
 step front at text ws (Err refusal) h = tt
 step front at text ws (Ok command) h =
     (text ∷ h.0, ap (option_map (λ texts. text ∷ texts)) h.1, subst (λ texts. Spells texts command) (append_assoc front (text ∷ []) h.0) h.2)
 
-ends : (front : List (List ℕ)) (command : Command) (ws : Words) → Spells front command → Reads front ws (only command ws)
+ends : (front : List (List ℕ)) (command : Command) (ws : LineWords) → Spells front command → Reads front ws (only command ws)
 ends front command (word at text ws) h = tt
 ends front command (ended at) h = ([], refl, subst (λ texts. Spells texts command) (sym (append-nil front)) h)
 ends front command (faulty at) h = tt
 
-text_ends : (front : List (List ℕ)) (make : List ℕ → Command) → ((text : List ℕ) → Spells (front ++ text ∷ []) (make text)) → (ws : Words) → Reads front ws (with_text make ws)
+text_ends : (front : List (List ℕ)) (make : List ℕ → Command) → ((text : List ℕ) → Spells (front ++ text ∷ []) (make text)) → (ws : LineWords) → Reads front ws (with_text make ws)
 text_ends front make h (word at text (word next other ws)) = tt
 text_ends front make h (word at text (ended next)) = (text ∷ [], refl, h text)
 text_ends front make h (word at text (faulty next)) = tt
@@ -41,28 +41,28 @@ text_ends front make h (ended at) = tt
 text_ends front make h (faulty at) = tt
 
 number_ends : (front : List (List ℕ)) (make : ℕ → Command) → ((text : List ℕ) (n : ℕ) → whole_number most_number text ≡ Some n → Spells (front ++ text ∷ []) (make n))
-    → (ws : Words) → Reads front ws (with_number make ws)
+    → (ws : LineWords) → Reads front ws (with_number make ws)
 number_ends front make h (word at text (word next other ws)) = number_cases most_number text (λ e. rw e tt) (λ n e. rw e tt)
 number_ends front make h (word at text (ended next)) = number_cases most_number text (λ e. rw e tt) (λ n e. rw e (text ∷ [], refl, h text n e))
 number_ends front make h (word at text (faulty next)) = number_cases most_number text (λ e. rw e tt) (λ n e. rw e tt)
 number_ends front make h (ended at) = tt
 number_ends front make h (faulty at) = tt
 
-text_goes_on : (front : List (List ℕ)) (go_on : List ℕ → Words → Read Command) → ((text : List ℕ) (ws : Words) → Reads (front ++ text ∷ []) ws (go_on text ws))
-    → (ws : Words) → Reads front ws (next_text ws >>= (λ text. go_on text (words_behind ws)))
+text_goes_on : (front : List (List ℕ)) (go_on : List ℕ → LineWords → Read Command) → ((text : List ℕ) (ws : LineWords) → Reads (front ++ text ∷ []) ws (go_on text ws))
+    → (ws : LineWords) → Reads front ws (next_text ws >>= (λ text. go_on text (words_behind ws)))
 text_goes_on front go_on h (word at text ws) = step front at text ws (go_on text ws) (h text ws)
 text_goes_on front go_on h (ended at) = tt
 text_goes_on front go_on h (faulty at) = tt
 
-number_goes_on : (front : List (List ℕ)) (most : ℕ) (go_on : ℕ → Words → Read Command)
-    → ((text : List ℕ) (n : ℕ) → whole_number most text ≡ Some n → (ws : Words) → Reads (front ++ text ∷ []) ws (go_on n ws))
-    → (ws : Words) → Reads front ws (next_number most ws >>= (λ n. go_on n (words_behind ws)))
+number_goes_on : (front : List (List ℕ)) (most : ℕ) (go_on : ℕ → LineWords → Read Command)
+    → ((text : List ℕ) (n : ℕ) → whole_number most text ≡ Some n → (ws : LineWords) → Reads (front ++ text ∷ []) ws (go_on n ws))
+    → (ws : LineWords) → Reads front ws (next_number most ws >>= (λ n. go_on n (words_behind ws)))
 number_goes_on front most go_on h (word at text ws) = number_cases most text (λ e. rw e tt) (λ n e. rw e (step front at text ws (go_on n ws) (h text n e ws)))
 number_goes_on front most go_on h (ended at) = tt
 number_goes_on front most go_on h (faulty at) = tt
 
 -- a number is given
-given : (front : List (List ℕ)) (make : Option ℕ → Command) (n : ℕ) (ws : Words) → Spells front (make (Some n))
+given : (front : List (List ℕ)) (make : Option ℕ → Command) (n : ℕ) (ws : LineWords) → Spells front (make (Some n))
     → Reads front ws ((line_end ws >>= (λ end. Ok (Some n))) >>= (λ found. Ok (make found)))
 given front make n (word at text ws) h = tt
 given front make n (ended at) h = ([], refl, subst (λ texts. Spells texts (make (Some n))) (sym (append-nil front)) h)
@@ -70,7 +70,7 @@ given front make n (faulty at) h = tt
 
 maybe_number_ends : (front : List (List ℕ)) (make : Option ℕ → Command) → Spells front (make None)
     → ((text : List ℕ) (n : ℕ) → whole_number most_number text ≡ Some n → Spells (front ++ text ∷ []) (make (Some n)))
-    → (ws : Words) → Reads front ws (last_number ws >>= (λ n. Ok (make n)))
+    → (ws : LineWords) → Reads front ws (last_number ws >>= (λ n. Ok (make n)))
 maybe_number_ends front make none some (word at text ws) = number_cases most_number text
     (λ e. rw e tt)
     (λ n e. rw e (step front at text ws ((line_end ws >>= (λ end. Ok (Some n))) >>= (λ found. Ok (make found))) (given (front ++ text ∷ []) make n ws (some text n e))))
@@ -79,16 +79,16 @@ maybe_number_ends front make none some (faulty at) = tt
 
 text_number_ends : (front : List (List ℕ)) (make : List ℕ → Option ℕ → Command) → ((text : List ℕ) → Spells (front ++ text ∷ []) (make text None))
     → ((text number : List ℕ) (n : ℕ) → whole_number most_number number ≡ Some n → Spells ((front ++ text ∷ []) ++ number ∷ []) (make text (Some n)))
-    → (ws : Words) → Reads front ws (next_text ws >>= (λ text. last_number (words_behind ws) >>= (λ n. Ok (make text n))))
+    → (ws : LineWords) → Reads front ws (next_text ws >>= (λ text. last_number (words_behind ws) >>= (λ n. Ok (make text n))))
 text_number_ends front make none some ws =
     text_goes_on front (λ text behind. last_number behind >>= (λ n. Ok (make text n))) (λ text. maybe_number_ends (front ++ text ∷ []) (make text) (none text) (some text)) ws
 
-buffer : (ws : Words) → Reads (codes "buffer" ∷ []) ws (buffer_form ws)
+buffer : (ws : LineWords) → Reads (codes "buffer" ∷ []) ws (buffer_form ws)
 buffer ws =
     text_goes_on (codes "buffer" ∷ []) (λ name. with_number (Buffer name))
     (λ name. number_ends (codes "buffer" ∷ name ∷ []) (Buffer name) (λ text n number. (text, refl, number))) ws
 
-equip : (ws : Words) → Reads (codes "equip" ∷ []) ws (equip_form ws)
+equip : (ws : LineWords) → Reads (codes "equip" ∷ []) ws (equip_form ws)
 equip ws =
     text_goes_on (codes "equip" ∷ [])
     (λ name behind. next_number most_number behind >>= (λ id. next_number most_small (words_behind behind) >>= (λ mask. equip_end name id mask (words_behind (words_behind behind)))))
@@ -100,7 +100,7 @@ equip ws =
     (λ into number n is_number. (i, m, is_id, is_mask, inr (number, refl, is_number))))))
     ws
 
-channel : (ws : Words) → Reads (codes "channel" ∷ []) ws (channel_form ws)
+channel : (ws : LineWords) → Reads (codes "channel" ∷ []) ws (channel_form ws)
 channel ws =
     number_goes_on (codes "channel" ∷ []) most_number
     (λ number behind. next_text behind >>= (λ pattern. next_text (words_behind behind) >>= (λ into. channel_end number pattern into (words_behind (words_behind behind)))))
@@ -115,14 +115,14 @@ channel ws =
     ws
 
 kind_ends : (front : List (List ℕ)) (make : Kind → Command) → ((text : List ℕ) (k : Kind) → kind_named text ≡ Some k → Spells (front ++ text ∷ []) (make k))
-    → (ws : Words) → Reads front ws (next_kind ws >>= (λ kind. only (make kind) (words_behind ws)))
+    → (ws : LineWords) → Reads front ws (next_kind ws >>= (λ kind. only (make kind) (words_behind ws)))
 kind_ends front make h (word at text ws) = kind_cases text
     (λ e. rw e tt)
     (λ k e. rw e (step front at text ws (only (make k) ws) (ends (front ++ text ∷ []) (make k) ws (h text k e))))
 kind_ends front make h (ended at) = tt
 kind_ends front make h (faulty at) = tt
 
-analyzer : (ws : Words) → Reads (codes "analyzer" ∷ []) ws (analyzer_form ws)
+analyzer : (ws : LineWords) → Reads (codes "analyzer" ∷ []) ws (analyzer_form ws)
 analyzer ws =
     text_goes_on (codes "analyzer" ∷ [])
     (λ name behind. next_text behind >>= (λ into. analyzer_end name into (words_behind behind)))
@@ -135,7 +135,7 @@ analyzer ws =
     (λ k kind is_kind. (i, m, k, refl, is_id, is_mask, is_kind))))))
     ws
 
-create : (ws : Words) → Reads (codes "create" ∷ []) ws (create_form ws)
+create : (ws : LineWords) → Reads (codes "create" ∷ []) ws (create_form ws)
 create (word at kind ws) = text_cases kind (codes "DIR")
     (λ same. subst (λ text. Reads (codes "create" ∷ []) (word at text ws) (create_form (word at text ws))) same
     (step (codes "create" ∷ []) at (codes "DIR") ws (with_text CreateDir ws)
@@ -150,22 +150,22 @@ create (word at kind ws) = text_cases kind (codes "DIR")
 create (ended at) = tt
 create (faulty at) = tt
 
-set_without_index : (path first : List ℕ) (ws : Words) → Reads (codes "set" ∷ path ∷ first ∷ []) ws (set_end path first None ws)
+set_without_index : (path first : List ℕ) (ws : LineWords) → Reads (codes "set" ∷ path ∷ first ∷ []) ws (set_end path first None ws)
 set_without_index path first (word at value ws) = tt
 set_without_index path first (ended at) = ([], refl, inl (refl, refl))
 set_without_index path first (faulty at) = tt
 
-set_with_index : (path first : List ℕ) (n : ℕ) → whole_number most_number first ≡ Some n → (ws : Words) → Reads (codes "set" ∷ path ∷ first ∷ []) ws (set_end path first (Some n) ws)
+set_with_index : (path first : List ℕ) (n : ℕ) → whole_number most_number first ≡ Some n → (ws : LineWords) → Reads (codes "set" ∷ path ∷ first ∷ []) ws (set_end path first (Some n) ws)
 set_with_index path first n number (word at value ws) =
     step (codes "set" ∷ path ∷ first ∷ []) at value ws (only (Set path n value) ws)
     (ends (codes "set" ∷ path ∷ first ∷ value ∷ []) (Set path n value) ws (inr (first, refl, number)))
 set_with_index path first n number (ended at) = ([], refl, inl (refl, refl))
 set_with_index path first n number (faulty at) = tt
 
-set_value : (path first : List ℕ) (ws : Words) → Reads (codes "set" ∷ path ∷ first ∷ []) ws (set_end path first (whole_number most_number first) ws)
+set_value : (path first : List ℕ) (ws : LineWords) → Reads (codes "set" ∷ path ∷ first ∷ []) ws (set_end path first (whole_number most_number first) ws)
 set_value path first ws = number_cases most_number first (λ e. rw e (set_without_index path first ws)) (λ n e. rw e (set_with_index path first n e ws))
 
-set : (ws : Words) → Reads (codes "set" ∷ []) ws (set_form ws)
+set : (ws : LineWords) → Reads (codes "set" ∷ []) ws (set_form ws)
 set (word at path (word next first ws)) =
     step (codes "set" ∷ []) at path (word next first ws) (set_end path first (whole_number most_number first) ws)
     (step (codes "set" ∷ path ∷ []) next first ws (set_end path first (whole_number most_number first) ws) (set_value path first ws))
@@ -174,18 +174,18 @@ set (word at path (faulty next)) = tt
 set (ended at) = tt
 set (faulty at) = tt
 
-get : (ws : Words) → Reads (codes "get" ∷ []) ws (get_form ws)
+get : (ws : LineWords) → Reads (codes "get" ∷ []) ws (get_form ws)
 get ws = text_number_ends (codes "get" ∷ []) Get (λ path. refl) (λ path text n number. (text, refl, number)) ws
 
 -- the forms that begin with a name
-abbrev Named : ℕ → Words → List ℕ → Type 0
+abbrev Named : ℕ → LineWords → List ℕ → Type 0
 Named at ws name = Reads [] (word at name ws) (named_form at name ws)
 
 -- a form behind its name
-form : (at : ℕ) (name : List ℕ) (ws : Words) (read : Read Command) → Reads (name ∷ []) ws read → Reads [] (word at name ws) read
+form : (at : ℕ) (name : List ℕ) (ws : LineWords) (read : Read Command) → Reads (name ∷ []) ws read → Reads [] (word at name ws) read
 form at name ws read h = step [] at name ws read h
 
-named : (at : ℕ) (name : List ℕ) (ws : Words) → Named at ws name
+named : (at : ℕ) (name : List ℕ) (ws : LineWords) → Named at ws name
 unfolding named_form declaring_form key_form watching_form
 named at name ws =
     text_cases name (codes "events") (λ e. subst (Named at ws) e (form at (codes "events") ws (with_number Events ws) (number_ends (codes "events" ∷ []) Events (λ text n number. (text, refl, number)) ws))) (λ no_events.
@@ -210,7 +210,7 @@ named at name ws =
     text_cases name (codes "unwatch") (λ e. subst (Named at ws) e (form at (codes "unwatch") ws (with_number Unwatch ws) (number_ends (codes "unwatch" ∷ []) Unwatch (λ text n number. (text, refl, number)) ws))) (λ no_unwatch.
     rw (no_events, no_start, no_stop, no_pause, no_resume, no_exit, no_buffer, no_equip, no_channel, no_analyzer, no_create, no_set, no_get, no_ls, no_rm, no_load, no_save, no_watch, no_notes, no_unwatch) tt))))))))))))))))))))
 
-reads : (ws : Words) → Reads [] ws (words_form ws)
+reads : (ws : LineWords) → Reads [] ws (words_form ws)
 reads (word at name ws) = named at name ws
 reads (ended at) = ([], refl, refl)
 reads (faulty at) = tt
@@ -218,8 +218,8 @@ reads (faulty at) = tt
 -- From the command to the words.
 
 -- words that begin with a text
-on_word : (P : Words → Type 0) (ws : Words) (text : List ℕ) (texts : List (List ℕ)) → texts_of ws ≡ Some (text ∷ texts)
-    → ((at : ℕ) (rest : Words) → texts_of rest ≡ Some texts → P (word at text rest)) → P ws
+on_word : (P : LineWords → Type 0) (ws : LineWords) (text : List ℕ) (texts : List (List ℕ)) → texts_of ws ≡ Some (text ∷ texts)
+    → ((at : ℕ) (rest : LineWords) → texts_of rest ≡ Some texts → P (word at text rest)) → P ws
 on_word P (word at first rest) text texts h f =
     elim (texts_of rest) as (λ found. texts_of rest ≡ found → option_map (λ more. first ∷ more) found ≡ Some (text ∷ texts) → P (word at first rest)) [
       | None ↦ (λ is e. cc)
@@ -229,36 +229,36 @@ on_word P (word at first rest) text texts h f =
 on_word P (ended at) text texts h f = cc
 on_word P (faulty at) text texts h f = cc
 
-on_none : (P : Words → Type 0) (ws : Words) → texts_of ws ≡ Some [] → ((at : ℕ) → P (ended at)) → P ws
+on_none : (P : LineWords → Type 0) (ws : LineWords) → texts_of ws ≡ Some [] → ((at : ℕ) → P (ended at)) → P ws
 on_none P (word at first rest) h f =
     elim (texts_of rest) as (λ found. option_map (λ more. first ∷ more) found ≡ Some [] → P (word at first rest)) [ None ↦ (λ e. cc) | Some more ↦ (λ e. cc) ] h
 on_none P (ended at) h f = f at
 on_none P (faulty at) h f = cc
 
-on_one : (P : Words → Type 0) (ws : Words) (a : List ℕ) → texts_of ws ≡ Some (a ∷ []) → ((i j : ℕ) → P (word i a (ended j))) → P ws
+on_one : (P : LineWords → Type 0) (ws : LineWords) (a : List ℕ) → texts_of ws ≡ Some (a ∷ []) → ((i j : ℕ) → P (word i a (ended j))) → P ws
 on_one P ws a h f = on_word P ws a [] h (λ i rest r. on_none (λ w. P (word i a w)) rest r (f i))
 
-on_two : (P : Words → Type 0) (ws : Words) (a b : List ℕ) → texts_of ws ≡ Some (a ∷ b ∷ []) → ((i j k : ℕ) → P (word i a (word j b (ended k)))) → P ws
+on_two : (P : LineWords → Type 0) (ws : LineWords) (a b : List ℕ) → texts_of ws ≡ Some (a ∷ b ∷ []) → ((i j k : ℕ) → P (word i a (word j b (ended k)))) → P ws
 on_two P ws a b h f = on_word P ws a (b ∷ []) h (λ i rest r. on_one (λ w. P (word i a w)) rest b r (f i))
 
-on_three : (P : Words → Type 0) (ws : Words) (a b c : List ℕ) → texts_of ws ≡ Some (a ∷ b ∷ c ∷ [])
+on_three : (P : LineWords → Type 0) (ws : LineWords) (a b c : List ℕ) → texts_of ws ≡ Some (a ∷ b ∷ c ∷ [])
     → ((i j k l : ℕ) → P (word i a (word j b (word k c (ended l))))) → P ws
 on_three P ws a b c h f = on_word P ws a (b ∷ c ∷ []) h (λ i rest r. on_two (λ w. P (word i a w)) rest b c r (f i))
 
-on_four : (P : Words → Type 0) (ws : Words) (a b c d : List ℕ) → texts_of ws ≡ Some (a ∷ b ∷ c ∷ d ∷ [])
+on_four : (P : LineWords → Type 0) (ws : LineWords) (a b c d : List ℕ) → texts_of ws ≡ Some (a ∷ b ∷ c ∷ d ∷ [])
     → ((i j k l m : ℕ) → P (word i a (word j b (word k c (word l d (ended m)))))) → P ws
 on_four P ws a b c d h f = on_word P ws a (b ∷ c ∷ d ∷ []) h (λ i rest r. on_three (λ w. P (word i a w)) rest b c d r (f i))
 
-on_five : (P : Words → Type 0) (ws : Words) (a b c d e : List ℕ) → texts_of ws ≡ Some (a ∷ b ∷ c ∷ d ∷ e ∷ [])
+on_five : (P : LineWords → Type 0) (ws : LineWords) (a b c d e : List ℕ) → texts_of ws ≡ Some (a ∷ b ∷ c ∷ d ∷ e ∷ [])
     → ((i j k l m n : ℕ) → P (word i a (word j b (word k c (word l d (word m e (ended n))))))) → P ws
 on_five P ws a b c d e h f = on_word P ws a (b ∷ c ∷ d ∷ e ∷ []) h (λ i rest r. on_four (λ w. P (word i a w)) rest b c d e r (f i))
 
-on_six : (P : Words → Type 0) (ws : Words) (a b c d e g : List ℕ) → texts_of ws ≡ Some (a ∷ b ∷ c ∷ d ∷ e ∷ g ∷ [])
+on_six : (P : LineWords → Type 0) (ws : LineWords) (a b c d e g : List ℕ) → texts_of ws ≡ Some (a ∷ b ∷ c ∷ d ∷ e ∷ g ∷ [])
     → ((i j k l m n o : ℕ) → P (word i a (word j b (word k c (word l d (word m e (word n g (ended o)))))))) → P ws
 on_six P ws a b c d e g h f = on_word P ws a (b ∷ c ∷ d ∷ e ∷ g ∷ []) h (λ i rest r. on_five (λ w. P (word i a w)) rest b c d e g r (f i))
 
 -- the words are read as a command
-abbrev AreOf : Command → Words → Type 0
+abbrev AreOf : Command → LineWords → Type 0
 AreOf command ws = words_form ws ≡ Ok command
 
 -- `DIR` names no type
@@ -267,7 +267,7 @@ no_type type t named = text_cases type (codes "DIR")
     (λ same. let nothing : type_named type ≡ None = ap type_named (sym same) ∙ no_directory_type in cc)
     (λ other. other)
 
-spelled : (ws : Words) (texts : List (List ℕ)) (command : Command) → texts_of ws ≡ Some texts → Spells texts command → AreOf command ws
+spelled : (ws : LineWords) (texts : List (List ℕ)) (command : Command) → texts_of ws ≡ Some texts → Spells texts command → AreOf command ws
 unfolding named_form declaring_form key_form watching_form
 spelled ws texts Nothing h is = on_none (AreOf Nothing) ws (h ∙ ap Some is) (λ i. refl)
 spelled ws texts (Buffer name size) h is = on_three (AreOf (Buffer name size)) ws (codes "buffer") name is.0 (h ∙ ap Some is.1) (λ i j k l. rw is.2 refl)

@@ -3,7 +3,7 @@ use Rattle.std.specs.Prelude.{ℕ, nat_lt, nat_eq, if◌then◌else◌, List, le
 use Rattle.std.specs.List.{starts_with}
 use Rattle.daq_types.specs.declared.runs.Kind.{Kind}
 use Rattle.daq_types.specs.declared.types.Tid.{Tid}
-use Rattle.odb_script.specs.LineWords.{Words, word, ended, faulty, line_words}
+use Rattle.odb_script.specs.LineWords.{LineWords, word, ended, faulty, line_words}
 use Rattle.daq_text.specs.Numbers.{whole_number}
 use Rattle.odb_script.specs.Numbers.{most_number, most_small}
 use Rattle.odb_script.specs.TypeNames.{is_text, type_named, kind_named}
@@ -22,19 +22,19 @@ Ok x >>= f = f x
 Err e >>= f = Err e
 
 -- the text of the next word, which has to be there
-abbrev pub next_text : Words → Read (List ℕ)
+abbrev pub next_text : LineWords → Read (List ℕ)
 next_text (word at text ws) = Ok text
 next_text (ended at) = Err (BadCommand at)
 next_text (faulty at) = Err (BadCommand at)
 
 -- what stands behind the next word
-abbrev pub words_behind : Words → Words
+abbrev pub words_behind : LineWords → LineWords
 words_behind (word at text ws) = ws
 words_behind (ended at) = ended at
 words_behind (faulty at) = faulty at
 
 -- the line ends here
-abbrev pub line_end : Words → Read (Unit {0})
+abbrev pub line_end : LineWords → Read (Unit {0})
 line_end (word at text ws) = Err (BadCommand at)
 line_end (ended at) = Ok tt
 line_end (faulty at) = Err (BadCommand at)
@@ -45,7 +45,7 @@ read_number_at at None = Err (BadCommand at)
 read_number_at at (Some n) = Ok n
 
 -- the next word, which has to be a number of at most this
-abbrev pub next_number : (most : ℕ) → Words → Read ℕ
+abbrev pub next_number : (most : ℕ) → LineWords → Read ℕ
 next_number most (word at text ws) = read_number_at at (whole_number most text)
 next_number most (ended at) = Err (BadCommand at)
 next_number most (faulty at) = Err (BadCommand at)
@@ -56,13 +56,13 @@ read_kind_at at None = Err (BadCommand at)
 read_kind_at at (Some kind) = Ok kind
 
 -- the next word, which has to name one
-abbrev pub next_kind : Words → Read Kind
+abbrev pub next_kind : LineWords → Read Kind
 next_kind (word at text ws) = read_kind_at at (kind_named text)
 next_kind (ended at) = Err (BadCommand at)
 next_kind (faulty at) = Err (BadCommand at)
 
 -- a number at the line's end, which may be left out
-abbrev pub last_number : Words → Read (Option ℕ)
+abbrev pub last_number : LineWords → Read (Option ℕ)
 last_number (word at text ws) = do
   n ← read_number_at at (whole_number most_number text)
   _ ← line_end ws
@@ -71,52 +71,52 @@ last_number (ended at) = Ok None
 last_number (faulty at) = Err (BadCommand at)
 
 -- the text of the last word
-abbrev pub only_text : Words → Read (List ℕ)
+abbrev pub only_text : LineWords → Read (List ℕ)
 only_text ws = do
   text ← next_text ws
   _ ← line_end (words_behind ws)
   Ok text
 
 -- the last word, which is a number
-abbrev pub only_number : Words → Read ℕ
+abbrev pub only_number : LineWords → Read ℕ
 only_number ws = do
   n ← next_number most_number ws
   _ ← line_end (words_behind ws)
   Ok n
 
 -- a command of one word
-abbrev pub only : Command → Words → Read Command
+abbrev pub only : Command → LineWords → Read Command
 only command ws = do
   _ ← line_end ws
   Ok command
 
 -- a command with one text
-abbrev pub with_text : (List ℕ → Command) → Words → Read Command
+abbrev pub with_text : (List ℕ → Command) → LineWords → Read Command
 with_text make ws = do
   text ← only_text ws
   Ok (make text)
 
 -- a command with one number
-abbrev pub with_number : (ℕ → Command) → Words → Read Command
+abbrev pub with_number : (ℕ → Command) → LineWords → Read Command
 with_number make ws = do
   n ← only_number ws
   Ok (make n)
 
 -- `buffer NAME SIZE`
-abbrev pub buffer_form : Words → Read Command
+abbrev pub buffer_form : LineWords → Read Command
 buffer_form ws = do
   name ← next_text ws
   with_number (Buffer name) (words_behind ws)
 
 -- what stands behind `equip NAME ID MASK`: a buffer's name and maybe LIMIT, which is else the greatest number
-abbrev pub equip_end : (name : List ℕ) (id mask : ℕ) → Words → Read Command
+abbrev pub equip_end : (name : List ℕ) (id mask : ℕ) → LineWords → Read Command
 equip_end name id mask ws = do
   buffer ← next_text ws
   limit ← last_number (words_behind ws)
   Ok (Equip name id mask buffer (unwrap_or limit most_number))
 
 -- `equip NAME ID MASK BUFFER [LIMIT]`
-abbrev pub equip_form : Words → Read Command
+abbrev pub equip_form : LineWords → Read Command
 equip_form ws = do
   name ← next_text ws
   id ← next_number most_number (words_behind ws)
@@ -124,14 +124,14 @@ equip_form ws = do
   equip_end name id mask (words_behind (words_behind (words_behind ws)))
 
 -- what stands behind `channel N PATTERN BUFFER`
-abbrev pub channel_end : (number : ℕ) (pattern buffer : List ℕ) → Words → Read Command
+abbrev pub channel_end : (number : ℕ) (pattern buffer : List ℕ) → LineWords → Read Command
 channel_end number pattern buffer ws = do
   id ← next_number most_small ws
   mask ← next_number most_small (words_behind ws)
   only (Channel number pattern buffer id mask) (words_behind (words_behind ws))
 
 -- `channel N PATTERN BUFFER ID MASK`
-abbrev pub channel_form : Words → Read Command
+abbrev pub channel_form : LineWords → Read Command
 channel_form ws = do
   number ← next_number most_number ws
   pattern ← next_text (words_behind ws)
@@ -139,7 +139,7 @@ channel_form ws = do
   channel_end number pattern buffer (words_behind (words_behind (words_behind ws)))
 
 -- what stands behind `analyzer NAME BUFFER`
-abbrev pub analyzer_end : (name buffer : List ℕ) → Words → Read Command
+abbrev pub analyzer_end : (name buffer : List ℕ) → LineWords → Read Command
 analyzer_end name buffer ws = do
   id ← next_number most_small ws
   mask ← next_number most_small (words_behind ws)
@@ -147,46 +147,46 @@ analyzer_end name buffer ws = do
   only (Analyzer name buffer id mask kind) (words_behind (words_behind (words_behind ws)))
 
 -- `analyzer NAME BUFFER ID MASK all`, or `some` in the place of `all`
-abbrev pub analyzer_form : Words → Read Command
+abbrev pub analyzer_form : LineWords → Read Command
 analyzer_form ws = do
   name ← next_text ws
   buffer ← next_text (words_behind ws)
   analyzer_end name buffer (words_behind (words_behind ws))
 
 -- `create DIR PATH`
-abbrev pub directory_form : Words → Read Command
+abbrev pub directory_form : LineWords → Read Command
 directory_form = with_text CreateDir
 
 -- `create TYPE PATH` and maybe LEN, which is else 1
-abbrev pub value_form : ℕ → Option Tid → Words → Read Command
+abbrev pub value_form : ℕ → Option Tid → LineWords → Read Command
 value_form at None ws = Err (BadCommand at)
 value_form at (Some tid) ws = do
   path ← next_text ws
   len ← last_number (words_behind ws)
   Ok (Create tid path (unwrap_or len 1))
 
-abbrev pub create_form : Words → Read Command
+abbrev pub create_form : LineWords → Read Command
 create_form (word at kind ws) = if is_text kind (codes "DIR") then directory_form ws else value_form at (type_named kind) ws
 create_form (ended at) = Err (BadCommand at)
 create_form (faulty at) = Err (BadCommand at)
 
 -- What stands behind `set PATH` and one more word, which is the value where the line ends. Else it is the index, and
 -- the next word the value; no form goes on there if it is no number.
-abbrev pub set_end : List ℕ → List ℕ → Option ℕ → Words → Read Command
+abbrev pub set_end : List ℕ → List ℕ → Option ℕ → LineWords → Read Command
 set_end path first index (ended at) = Ok (Set path 0 first)
 set_end path first index (faulty at) = Err (BadCommand at)
 set_end path first None (word at value ws) = Err (BadCommand at)
 set_end path first (Some index) (word at value ws) = only (Set path index value) ws
 
 -- `set PATH VALUE` or `set PATH INDEX VALUE`
-abbrev pub set_form : Words → Read Command
+abbrev pub set_form : LineWords → Read Command
 set_form ws = do
   path ← next_text ws
   first ← next_text (words_behind ws)
   set_end path first (whole_number most_number first) (words_behind (words_behind ws))
 
 -- `get PATH` and maybe INDEX
-abbrev pub get_form : Words → Read Command
+abbrev pub get_form : LineWords → Read Command
 get_form ws = do
   path ← next_text ws
   index ← last_number (words_behind ws)
@@ -195,7 +195,7 @@ get_form ws = do
 -- The form that begins with a name, which stands at a place, with what is behind it.
 
 -- a dump's or a watch's; none begins with another name
-unfoldable pub watching_form : ℕ → List ℕ → Words → Read Command
+unfoldable pub watching_form : ℕ → List ℕ → LineWords → Read Command
 watching_form at name ws =
     if is_text name (codes "load") then with_text Load ws
     else if is_text name (codes "save") then with_text Save ws
@@ -205,7 +205,7 @@ watching_form at name ws =
     else Err (BadCommand at)
 
 -- a key's, or one of those
-unfoldable pub key_form : ℕ → List ℕ → Words → Read Command
+unfoldable pub key_form : ℕ → List ℕ → LineWords → Read Command
 key_form at name ws =
     if is_text name (codes "create") then create_form ws
     else if is_text name (codes "set") then set_form ws
@@ -215,7 +215,7 @@ key_form at name ws =
     else watching_form at name ws
 
 -- a declaration's, or one of those
-unfoldable pub declaring_form : ℕ → List ℕ → Words → Read Command
+unfoldable pub declaring_form : ℕ → List ℕ → LineWords → Read Command
 declaring_form at name ws =
     if is_text name (codes "buffer") then buffer_form ws
     else if is_text name (codes "equip") then equip_form ws
@@ -224,7 +224,7 @@ declaring_form at name ws =
     else key_form at name ws
 
 -- a run's, that of `exit`, or one of those
-unfoldable pub named_form : ℕ → List ℕ → Words → Read Command
+unfoldable pub named_form : ℕ → List ℕ → LineWords → Read Command
 named_form at name ws =
     if is_text name (codes "events") then with_number Events ws
     else if is_text name (codes "start") then only Start ws
@@ -235,7 +235,7 @@ named_form at name ws =
     else declaring_form at name ws
 
 -- a line of no word is passed over
-abbrev pub words_form : Words → Read Command
+abbrev pub words_form : LineWords → Read Command
 words_form (word at name ws) = named_form at name ws
 words_form (ended at) = Ok Nothing
 words_form (faulty at) = Err (BadCommand at)

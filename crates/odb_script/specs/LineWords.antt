@@ -5,10 +5,10 @@ use Rattle.daq_text.specs.Numbers.{is_blank}
 -- What a line has from a place on: words, each with the place of its first byte and its text, which has no quotes round
 -- it; then its end, whose place is the line's length. In place of the end may stand what is no word, with the place at
 -- which it is refused.
-pub data Words : Type 0 where
-  word : (at : ℕ) (text : List ℕ) (rest : Words) → Words
-  ended : (at : ℕ) → Words
-  faulty : (at : ℕ) → Words
+pub data LineWords : Type 0 where
+  word : (at : ℕ) (text : List ℕ) (rest : LineWords) → LineWords
+  ended : (at : ℕ) → LineWords
+  faulty : (at : ℕ) → LineWords
 
 abbrev pub is_quote : ℕ → Bool
 is_quote b = b == 34
@@ -24,7 +24,7 @@ pub data Standing : Type 0 where
 -- The words of the bytes from a place on. Blanks part words. A word in quotes may have blanks and may be empty; it has
 -- no quote in it, and a blank or the line's end behind it. A word outside quotes has no quote. Where one of these rules
 -- is broken the word is faulty from its first byte on, and quotes that are not closed are faulty at the line's end.
-abbrev pub words_from : Standing → ℕ → List ℕ → Words
+abbrev pub words_from : Standing → ℕ → List ℕ → LineWords
 words_from between at [] = ended at
 words_from (inside start so_far) at [] = word start so_far (ended at)
 words_from (quoted start so_far) at [] = faulty at
@@ -45,5 +45,5 @@ words_from (closed start text) at (b ∷ bs) =
     else faulty start
 
 -- the words of a line
-unfoldable pub line_words : List ℕ → Words
+unfoldable pub line_words : List ℕ → LineWords
 line_words line = words_from between 0 line

@@ -1,14 +1,14 @@
 -- What a reader of words gives, and how it cuts them out of a line.
 use Rattle.std.specs.Prelude.{◌≡◌, ℕ, Bool, true, false, not, ◌||◌, List, [], ◌∷◌}
 use Rattle.daq_text.specs.Numbers.{is_blank}
-use Rattle.odb_script.specs.LineWords.{Words, word, ended, faulty, is_quote}
+use Rattle.odb_script.specs.LineWords.{LineWords, word, ended, faulty, is_quote}
 use Rattle.odb_script.specs.declared.words.NextWord.{NextWord}
 use Rattle.odb_script.specs.declared.words.NextWord.TheVariants.{Word, End, Faulty}
 use Rattle.odb_script.specs.declared.words.Part.{Part}
 use Rattle.odb_script.specs.declared.words.Part.TheVariants.{Blanks, Plain, Quoted}
 
 -- this is the next of the words, and the others stand behind it
-abbrev pub IsNextWord : NextWord → Words → Words → Type 0
+abbrev pub IsNextWord : NextWord → LineWords → LineWords → Type 0
 IsNextWord (Word at text) old new = old ≡ word at text new
 IsNextWord (End at) old new = old ≡ ended at
 IsNextWord (Faulty at) old new = old ≡ faulty at

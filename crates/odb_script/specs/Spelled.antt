@@ -1,6 +1,6 @@
 -- The words of which each command of a script is made.
 use Rattle.std.specs.Prelude.{◌≡◌, ◌⊎◌, ℕ, List, [], ◌∷◌, Option, Some, None, option_map, codes}
-use Rattle.odb_script.specs.LineWords.{Words, word, ended, faulty}
+use Rattle.odb_script.specs.LineWords.{LineWords, word, ended, faulty}
 use Rattle.daq_text.specs.Numbers.{whole_number}
 use Rattle.odb_script.specs.Numbers.{most_number, most_small}
 use Rattle.odb_script.specs.TypeNames.{type_named, kind_named}
@@ -8,7 +8,7 @@ use Rattle.odb_script.specs.declared.forms.Command.{Command}
 use Rattle.odb_script.specs.declared.forms.Command.TheVariants.{Nothing, Buffer, Equip, Channel, Analyzer, Events, Start, Stop, Pause, Resume, Create, CreateDir, Set, Get, List as Ls, Remove, Load, Save, Watch, Notes, Unwatch, Exit}
 
 -- the texts of words, where nothing else stands among them
-abbrev pub texts_of : Words → Option (List (List ℕ))
+abbrev pub texts_of : LineWords → Option (List (List ℕ))
 texts_of (word at text rest) = option_map (λ texts. text ∷ texts) (texts_of rest)
 texts_of (ended at) = Some []
 texts_of (faulty at) = None
@@ -53,5 +53,5 @@ Spells texts (Unwatch watch) = (number : List ℕ) × (texts ≡ codes "unwatch"
 Spells texts Exit = texts ≡ codes "exit" ∷ []
 
 -- words have the texts of a command and no more
-abbrev pub Spelled : Words → Command → Type 0
+abbrev pub Spelled : LineWords → Command → Type 0
 Spelled words command = (texts : List (List ℕ)) × (texts_of words ≡ Some texts) × Spells texts command

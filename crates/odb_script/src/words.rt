@@ -38,10 +38,10 @@ pub struct WordReader<'a> {
 
 impl<'a> Model for WordReader<'a> {
     ghost use Rattle.std.specs.Prelude.{◌+◌, ◌≤◌, length};
-    ghost use Rattle.odb_script.specs.LineWords.{Words, between, words_from};
+    ghost use Rattle.odb_script.specs.LineWords.{LineWords, between, words_from};
     ghost use Rattle.odb_script.specs.WordsStored.{words_code};
 
-    ghost Value = { Words };
+    ghost Value = { LineWords };
 
     ghost coded = { words_code };
 

@@ -23,7 +23,7 @@ use Rattle.session_setup.specs.declared.declared.AnalyzerDeclared.{AnalyzerDecla
 use Rattle.session_objects.specs.declared.record.BufferRecord.{BufferRecord}
 use Rattle.session_objects.specs.declared.record.SessionRecord.{SessionRecord}
 use Rattle.session_laws.specs.ClosedSessions.{ClosedSession}
-use Rattle.session_lines.specs.Stages.{Stage}
+use Rattle.session_lines.specs.Stages.{SessionStage}
 use Rattle.daq_session.specs.Sessions.{KeepsSession}
 use Rattle.daq_session.specs.ToldRecords.{IsCountedInRun, RunTells}
 use Rattle.midas_tools.specs.Analyses.{Analyzes}
@@ -79,7 +79,7 @@ ReportsReadBack = (c : ClosedSession) → (moments : (client : ℕ) → List ℕ
 
 -- So it is with each run that came about of a session of which this record is kept.
 abbrev pub SessionReadsBack : {D F K : Type 0} {g : _} → CrewTold Generator F K → SessionRecord D g → Type 0
-SessionReadsBack {D} {F} told r = (first_files : F) → (final : Stage) → (run_files : F) →
+SessionReadsBack {D} {F} told r = (first_files : F) → (final : SessionStage) → (run_files : F) →
     KeepsSession told first_files final run_files r → (number : ℕ) → (run : RunRecord) →
     slice_get r.runs number ≡ Some run → run.outcome ≡ Completed → (file : FileRecord) → (report : Totals) →
     HasFileAndReport final.declared r.buffers (history_of r.engine) run file report →

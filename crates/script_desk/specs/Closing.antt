@@ -14,7 +14,7 @@ use Rattle.script_desk.specs.Playing.{AreLines, CutBy, Played, PlaysFrom, Wrote}
 use Rattle.session_replies.specs.declared.replies.Reply.{Reply}
 use Rattle.session_replies.specs.declared.refusals.Refusals.{Refusals}
 use Rattle.session_replies.specs.Console.{console_text, refused_lines}
-use Rattle.session_replies.specs.Refused.{Counts}
+use Rattle.session_replies.specs.Refused.{CountsRefusals}
 
 -- whether anything more may be printed behind the lines
 abbrev pub prints : Ending → Bool
@@ -108,7 +108,7 @@ module _ {St : Type 0} (does : (number : ℕ) → Read Command → St → Reply 
     pub is_cut : CutBy does breaks ending source lines between cut
     pub behind : List Reply
     pub closed : ClosesBy closes gives_up closing behind cut final
-    pub counts : Counts (refused_lines 1 replies) refusals
+    pub counts : CountsRefusals (refused_lines 1 replies) refusals
     pub are_lines : (text : List ℕ) → source ≡ Some text → AreLines ending text left lines
     pub numbered : length replies ≡ length lines
     pub told_lines : Option (List ℕ)

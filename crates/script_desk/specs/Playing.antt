@@ -20,7 +20,7 @@ use Rattle.script_desk.specs.Reading.{ReadsNext}
 use Rattle.session_replies.specs.declared.replies.Reply.{Reply}
 use Rattle.session_replies.specs.declared.refusals.Refusals.{Refusals}
 use Rattle.session_replies.specs.Console.{text_of, console_text, refuses_line, refused_lines}
-use Rattle.session_replies.specs.Refused.{refusals_after, Counts}
+use Rattle.session_replies.specs.Refused.{refusals_after, CountsRefusals}
 
 -- One line.
 
@@ -68,7 +68,7 @@ module _ {St : Type 0} (does : (number : ℕ) → Read Command → St → Reply 
     pub lines : List (List ℕ)
     pub replies : List Reply
     pub plays : PlaysFrom 1 lines replies first now
-    pub counts : Counts (refused_lines 1 replies) refusals
+    pub counts : CountsRefusals (refused_lines 1 replies) refusals
     pub read : HasReadLines source_first source_now reading lines
     pub go_on : GoOn lines
     pub wrote : Appends told_first told_now (console_text 1 replies)
@@ -183,7 +183,7 @@ module _ {St : Type 0} (does : (number : ℕ) → Read Command → St → Reply 
     pub behind : St
     pub plays : PlaysFrom does 1 lines replies first behind
     pub cut : CutBy ending source lines behind now
-    pub counts : Counts (refused_lines 1 replies) refusals
+    pub counts : CountsRefusals (refused_lines 1 replies) refusals
     pub are_lines : (text : List ℕ) → source ≡ Some text → AreLines ending text left lines
     pub wrote : Wrote ending told_first told_now replies
     pub numbered : length replies ≡ length lines

@@ -5,7 +5,7 @@ use Rattle.odb_script.specs.declared.forms.Command.{Command}
 use Rattle.odb_script.specs.Forms.{Read}
 use Rattle.session_replies.specs.declared.replies.Reply.{Reply}
 use Rattle.session_replies.specs.declared.refusals.Refusals.{Refusals}
-use Rattle.session_lines.specs.Stages.{Stage}
+use Rattle.session_lines.specs.Stages.{SessionStage}
 use Rattle.session_lines.specs.ScriptLines.{BreaksScriptLine, ClosesScript, DoesScriptLine, GivesUp}
 use Rattle.script_desk.specs.declared.endings.Ending.{Ending}
 use Rattle.script_desk.specs.declared.endings.Ending.TheVariants.{End, TooLong, SourceFault, Halted}
@@ -15,7 +15,7 @@ use Rattle.script_desk.specs.Playing.{CutBy}
 use Rattle.script_desk.specs.Closing.{ClosesBy, Finished, GaveUp, IsClosed, ended_by}
 use Rattle.script_desk.proofs.KeepingLaws.{plays_keep}
 
-not_cut : (ending : Ending) (closing : Option Halt) (source : Option (List ℕ)) (lines : List (List ℕ)) (old new : Stage) → ended_by ending closing ≢ Halted NoMemory → CutBy DoesScriptLine BreaksScriptLine ending source lines old new → new ≡ old
+not_cut : (ending : Ending) (closing : Option Halt) (source : Option (List ℕ)) (lines : List (List ℕ)) (old new : SessionStage) → ended_by ending closing ≢ Halted NoMemory → CutBy DoesScriptLine BreaksScriptLine ending source lines old new → new ≡ old
 not_cut End closing source lines old new found cut = cut
 not_cut TooLong closing source lines old new found cut = cut
 not_cut SourceFault closing source lines old new found cut = cut
@@ -31,17 +31,17 @@ wanting_behind SourceFault = refl
 wanting_behind (Halted NoMemory) = refl
 wanting_behind (Halted SinkFault) = refl
 
-is_closed : (ending : Ending) (closing : Option Halt) (behind : List Reply) (old new : Stage) → ended_by ending closing ≢ Halted NoMemory → ClosesBy ClosesScript GivesUp closing behind old new → IsClosed ClosesScript GivesUp behind old new
+is_closed : (ending : Ending) (closing : Option Halt) (behind : List Reply) (old new : SessionStage) → ended_by ending closing ≢ Halted NoMemory → ClosesBy ClosesScript GivesUp closing behind old new → IsClosed ClosesScript GivesUp behind old new
 is_closed ending closing behind old new found by = ⊎_elim
     (λ (is : IsClosed ClosesScript GivesUp behind old new). is)
     (λ (gave : GaveUp ClosesScript GivesUp closing behind old new). absurd (found (ap (ended_by ending) gave.closing_is ∙ wanting_behind ending)))
     by
 
 -- What each answered line keeps, and what is done behind them, the script keeps.
-pub answered_keeps : (Kept : Stage → Type 0)
-    → ((number : ℕ) → (line : Read Command) → (old new : Stage) → (reply : Reply) → DoesScriptLine number line old reply new → Kept old → Kept new)
-    → ((old new : Stage) → (reply : Option Reply) → ClosesScript old reply new → Kept old → Kept new)
-    → (first final : Stage) (ending : Ending) (closing : Option Halt) (source left told_first told : Option (List ℕ)) (refusals : Refusals)
+pub answered_keeps : (Kept : SessionStage → Type 0)
+    → ((number : ℕ) → (line : Read Command) → (old new : SessionStage) → (reply : Reply) → DoesScriptLine number line old reply new → Kept old → Kept new)
+    → ((old new : SessionStage) → (reply : Option Reply) → ClosesScript old reply new → Kept old → Kept new)
+    → (first final : SessionStage) (ending : Ending) (closing : Option Halt) (source left told_first told : Option (List ℕ)) (refusals : Refusals)
     → Finished DoesScriptLine BreaksScriptLine ClosesScript GivesUp first ending closing source left told_first told final refusals
     → ended_by ending closing ≢ Halted NoMemory → Kept first → Kept final
 answered_keeps Kept each behind first final ending closing source left told_first told refusals finished found kept =

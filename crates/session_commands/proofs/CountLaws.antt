@@ -9,7 +9,7 @@ use Rattle.database_files.specs.declared.replies.FileReply.TheVariants as file
 use Rattle.watch_commands.specs.WatchCalls.{ClashesIf, FaultsIf}
 use Rattle.database_desk.specs.DatabaseStages.{DumpFiles}
 use Rattle.database_desk.specs.DatabaseLines.{file_replied}
-use Rattle.session_lines.specs.Stages.{Stage}
+use Rattle.session_lines.specs.Stages.{SessionStage}
 use Rattle.session_lines.specs.ScriptLines.{BreaksScriptLine, ClosesScript, DoesScriptLine, GivesUp}
 use Rattle.session_replies.specs.declared.refusals.Refusals.{Refusals}
 use Rattle.script_desk.specs.declared.endings.Ending.{Ending}
@@ -64,7 +64,7 @@ pub none_counted : (files : DumpFiles) → OneReply [] files files
 none_counted files = record { faults = same_rose files.faults files.faults refl; clashes = same_rose files.clashes files.clashes refl }
 
 -- So it is behind a whole script, however it ended.
-pub script_counted : (first final : Stage) (ending : Ending) (closing : Option Halt) (source left told_first told : Option (List ℕ)) (refusals : Refusals)
+pub script_counted : (first final : SessionStage) (ending : Ending) (closing : Option Halt) (source left told_first told : Option (List ℕ)) (refusals : Refusals)
     → Finished DoesScriptLine BreaksScriptLine ClosesScript GivesUp first ending closing source left told_first told final refusals
     → first.database.replies ≡ [] → OneReply final.database.replies first.database.files final.database.files
 script_counted first final ending closing source left told_first told refusals finished none =

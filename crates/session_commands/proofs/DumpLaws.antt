@@ -18,7 +18,7 @@ use Rattle.session_replies.specs.declared.refusals.Refusals.{Refusals}
 use Rattle.session_runs.specs.KeptRuns.{RunsSeen}
 use Rattle.database_desk.specs.DatabaseStages.{DatabaseStage, DumpFiles}
 use Rattle.database_desk.specs.DatabaseLines.{BreaksDatabase, CutsDump, CutsRows, DoesDatabase, PerformsDump, PerformsRows}
-use Rattle.session_lines.specs.Stages.{Stage}
+use Rattle.session_lines.specs.Stages.{SessionStage}
 use Rattle.session_lines.specs.RunLines.{BreaksStart, BreaksStop, ClosesRun, CutsOpening, DoesPause, DoesResume, DoesStart, DoesStop}
 use Rattle.session_lines.specs.ScriptLines.{BreaksScriptLine, CallsDatabase, ClosesScript, DoesScriptLine, GivesUp}
 use Rattle.script_desk.specs.declared.endings.Ending.{Ending}
@@ -92,7 +92,7 @@ performed_step (Unwatch watch) old new calls answer does = same_step (Saves (Unw
 performed_step command old new calls answer does = absurd does
 
 -- what the files of the dumps tell in a stage
-abbrev files_seen : Stage → Seen
+abbrev files_seen : SessionStage → Seen
 files_seen s = s.database.files.seen
 
 database_step : (number : ℕ) (command : Command) (old : DatabaseStage) (reply : Reply) (new : DatabaseStage) → DoesDatabase number command old reply new → StepsFiles (Saves command) old.files.seen new.files.seen
@@ -101,30 +101,30 @@ database_step number command old reply new does = ⊎_elim
     (λ (dump : PerformsDump number command old reply new). performed_step command old.files.seen new.files.seen dump.answers.calls dump.answer dump.answers.does)
     does
 
-stage_step : (Saved : List ℕ → Type 0) (old new : Stage) → new.database.files ≡ old.database.files → StepsFiles Saved (files_seen old) (files_seen new)
+stage_step : (Saved : List ℕ → Type 0) (old new : SessionStage) → new.database.files ≡ old.database.files → StepsFiles Saved (files_seen old) (files_seen new)
 stage_step Saved old new same = same_step Saved (files_seen old) (files_seen new) (ap (λ (f : DumpFiles). f.seen) same)
 
-start_files : (runs : Option RunsSeen) (old : Stage) (reply : Reply) (new : Stage) → DoesStart runs old reply new → new.database.files ≡ old.database.files
+start_files : (runs : Option RunsSeen) (old : SessionStage) (reply : Reply) (new : SessionStage) → DoesStart runs old reply new → new.database.files ≡ old.database.files
 start_files None old reply new does = does.4.files ∙ does.3.files
 start_files (Some runs) old reply new does = does.files
 
-stop_files : (runs : Option RunsSeen) (old : Stage) (reply : Reply) (new : Stage) → DoesStop runs old reply new → new.database.files ≡ old.database.files
-stop_files None old reply new does = ap (λ (s : Stage). s.database.files) does.1
+stop_files : (runs : Option RunsSeen) (old : SessionStage) (reply : Reply) (new : SessionStage) → DoesStop runs old reply new → new.database.files ≡ old.database.files
+stop_files None old reply new does = ap (λ (s : SessionStage). s.database.files) does.1
 stop_files (Some runs) old reply new does = does.files
 
-pause_files : (runs : Option RunsSeen) (old : Stage) (reply : Reply) (new : Stage) → DoesPause runs old reply new → new.database.files ≡ old.database.files
-pause_files None old reply new does = ap (λ (s : Stage). s.database.files) does.1
+pause_files : (runs : Option RunsSeen) (old : SessionStage) (reply : Reply) (new : SessionStage) → DoesPause runs old reply new → new.database.files ≡ old.database.files
+pause_files None old reply new does = ap (λ (s : SessionStage). s.database.files) does.1
 pause_files (Some runs) old reply new does = does.files
 
-resume_files : (runs : Option RunsSeen) (old : Stage) (reply : Reply) (new : Stage) → DoesResume runs old reply new → new.database.files ≡ old.database.files
-resume_files None old reply new does = ap (λ (s : Stage). s.database.files) does.1
+resume_files : (runs : Option RunsSeen) (old : SessionStage) (reply : Reply) (new : SessionStage) → DoesResume runs old reply new → new.database.files ≡ old.database.files
+resume_files None old reply new does = ap (λ (s : SessionStage). s.database.files) does.1
 resume_files (Some runs) old reply new does = does.files
 
 -- the line was read as a `save` of this name
 abbrev SavesLine : Read Command → List ℕ → Type 0
 SavesLine line name = line ≡ Ok (Save name)
 
-calls_step : (number : ℕ) (line : Read Command) (command : Command) (old : Stage) (reply : Reply) (new : Stage) → line ≡ Ok command → CallsDatabase number command old reply new → StepsFiles (SavesLine line) (files_seen old) (files_seen new)
+calls_step : (number : ℕ) (line : Read Command) (command : Command) (old : SessionStage) (reply : Reply) (new : SessionStage) → line ≡ Ok command → CallsDatabase number command old reply new → StepsFiles (SavesLine line) (files_seen old) (files_seen new)
 calls_step number line command old reply new is does =
     let step = database_step number command old.database reply new.database does.0 in
     record {
@@ -136,17 +136,17 @@ calls_step number line command old reply new is does =
           (step.added tells name file at);
     }
 
-kind_step : (number : ℕ) (line : Read Command) (old : Stage) (reply : Reply) (new : Stage) → LineKind number line old reply new → StepsFiles (SavesLine line) (files_seen old) (files_seen new)
-kind_step number line old reply new (IsStill same) = stage_step (SavesLine line) old new (ap (λ (s : Stage). s.database.files) same)
-kind_step number line old reply new (Declares opened same) = stage_step (SavesLine line) old new (ap (λ (s : Stage). s.database.files) same)
-kind_step number line old reply new (SetsQuota count same) = stage_step (SavesLine line) old new (ap (λ (s : Stage). s.database.files) same)
+kind_step : (number : ℕ) (line : Read Command) (old : SessionStage) (reply : Reply) (new : SessionStage) → LineKind number line old reply new → StepsFiles (SavesLine line) (files_seen old) (files_seen new)
+kind_step number line old reply new (IsStill same) = stage_step (SavesLine line) old new (ap (λ (s : SessionStage). s.database.files) same)
+kind_step number line old reply new (Declares opened same) = stage_step (SavesLine line) old new (ap (λ (s : SessionStage). s.database.files) same)
+kind_step number line old reply new (SetsQuota count same) = stage_step (SavesLine line) old new (ap (λ (s : SessionStage). s.database.files) same)
 kind_step number line old reply new (IsStart does) = stage_step (SavesLine line) old new (start_files old.runs old reply new does)
 kind_step number line old reply new (IsStop does) = stage_step (SavesLine line) old new (stop_files old.runs old reply new does)
 kind_step number line old reply new (IsPause does) = stage_step (SavesLine line) old new (pause_files old.runs old reply new does)
 kind_step number line old reply new (IsResume does) = stage_step (SavesLine line) old new (resume_files old.runs old reply new does)
 kind_step number line old reply new (CallsRows command is does) = calls_step number line command old reply new is does
 
-line_step : (number : ℕ) (line : Read Command) (old : Stage) (reply : Reply) (new : Stage) → DoesScriptLine number line old reply new → StepsFiles (SavesLine line) (files_seen old) (files_seen new)
+line_step : (number : ℕ) (line : Read Command) (old : SessionStage) (reply : Reply) (new : SessionStage) → DoesScriptLine number line old reply new → StepsFiles (SavesLine line) (files_seen old) (files_seen new)
 line_step number line old reply new does = kind_step number line old reply new (line_kind number line old reply new does)
 
 -- All lines.
@@ -177,8 +177,8 @@ one_more line lines old between new step keeps = record {
       (keeps.added (subst IsTrue (sym step.tells) tells) name file at);
 }
 
-lines_keep : (number : ℕ) (lines : List (List ℕ)) (replies : List Reply) (old new : Stage) → PlaysFrom DoesScriptLine number lines replies old new → KeepsDumps lines (files_seen old) (files_seen new)
-lines_keep number [] [] old new plays = none_keep [] (files_seen old) (files_seen new) (record { tells = ap (λ (s : Stage). (files_seen s).tells) plays; at = λ name. ap (λ (s : Stage). (files_seen s).at name) plays })
+lines_keep : (number : ℕ) (lines : List (List ℕ)) (replies : List Reply) (old new : SessionStage) → PlaysFrom DoesScriptLine number lines replies old new → KeepsDumps lines (files_seen old) (files_seen new)
+lines_keep number [] [] old new plays = none_keep [] (files_seen old) (files_seen new) (record { tells = ap (λ (s : SessionStage). (files_seen s).tells) plays; at = λ name. ap (λ (s : SessionStage). (files_seen s).at name) plays })
 lines_keep number [] (reply ∷ replies) old new plays = absurd plays
 lines_keep number (line ∷ lines) [] old new plays = absurd plays
 lines_keep number (line ∷ lines) (reply ∷ replies) old new plays =
@@ -187,7 +187,7 @@ lines_keep number (line ∷ lines) (reply ∷ replies) old new plays =
 
 -- Where memory ended no file changed, nor behind the lines.
 
-same_files : (old new : Stage) → new.database.files ≡ old.database.files → KeepsFiles (files_seen old) (files_seen new)
+same_files : (old new : SessionStage) → new.database.files ≡ old.database.files → KeepsFiles (files_seen old) (files_seen new)
 same_files old new same = record { tells = ap (λ (f : DumpFiles). f.seen.tells) same; at = λ name. ap (λ (f : DumpFiles). f.seen.at name) same }
 
 database_cut : (command : Command) (old new : DatabaseStage) → BreaksDatabase command old new → KeepsFiles old.files.seen new.files.seen
@@ -199,38 +199,38 @@ database_cut command old new broke = ⊎_elim
     cut)
     broke
 
-start_cut : (runs : Option RunsSeen) (old new : Stage) → BreaksStart runs old new → new.database.files ≡ old.database.files
+start_cut : (runs : Option RunsSeen) (old new : SessionStage) → BreaksStart runs old new → new.database.files ≡ old.database.files
 start_cut None old new broke = ⊎_elim
-    (λ (cut : CutsOpening old new). ap (λ (s : Stage). s.database.files) cut.same)
-    (λ cut. ap (λ (s : Stage). s.database.files) cut.4.same ∙ cut.3.files)
+    (λ (cut : CutsOpening old new). ap (λ (s : SessionStage). s.database.files) cut.same)
+    (λ cut. ap (λ (s : SessionStage). s.database.files) cut.4.same ∙ cut.3.files)
     broke
-start_cut (Some runs) old new broke = ap (λ (s : Stage). s.database.files) broke.same
+start_cut (Some runs) old new broke = ap (λ (s : SessionStage). s.database.files) broke.same
 
-stop_cut : (runs : Option RunsSeen) (old new : Stage) → BreaksStop runs old new → new.database.files ≡ old.database.files
+stop_cut : (runs : Option RunsSeen) (old new : SessionStage) → BreaksStop runs old new → new.database.files ≡ old.database.files
 stop_cut None old new broke = absurd broke
-stop_cut (Some runs) old new broke = ap (λ (s : Stage). s.database.files) broke.1
+stop_cut (Some runs) old new broke = ap (λ (s : SessionStage). s.database.files) broke.1
 
-cut_files : (old new : Stage) → LineCut old new → KeepsFiles (files_seen old) (files_seen new)
+cut_files : (old new : SessionStage) → LineCut old new → KeepsFiles (files_seen old) (files_seen new)
 cut_files old new (CutsStartLine broke) = same_files old new (start_cut old.runs old new broke)
 cut_files old new (CutsStopLine broke) = same_files old new (stop_cut old.runs old new broke)
 cut_files old new (CutsCalls command broke same) = database_cut command old.database new.database broke
 
-cut_keeps : (ending : Ending) (source : Option (List ℕ)) (lines : List (List ℕ)) (old new : Stage) → CutBy DoesScriptLine BreaksScriptLine ending source lines old new → KeepsFiles (files_seen old) (files_seen new)
-cut_keeps End source lines old new same = same_files old new (ap (λ (s : Stage). s.database.files) same)
-cut_keeps too_long source lines old new same = same_files old new (ap (λ (s : Stage). s.database.files) same)
-cut_keeps source_fault source lines old new same = same_files old new (ap (λ (s : Stage). s.database.files) same)
-cut_keeps (Halted sink_fault) source lines old new same = same_files old new (ap (λ (s : Stage). s.database.files) same)
+cut_keeps : (ending : Ending) (source : Option (List ℕ)) (lines : List (List ℕ)) (old new : SessionStage) → CutBy DoesScriptLine BreaksScriptLine ending source lines old new → KeepsFiles (files_seen old) (files_seen new)
+cut_keeps End source lines old new same = same_files old new (ap (λ (s : SessionStage). s.database.files) same)
+cut_keeps too_long source lines old new same = same_files old new (ap (λ (s : SessionStage). s.database.files) same)
+cut_keeps source_fault source lines old new same = same_files old new (ap (λ (s : SessionStage). s.database.files) same)
+cut_keeps (Halted sink_fault) source lines old new same = same_files old new (ap (λ (s : SessionStage). s.database.files) same)
 cut_keeps (Halted no_memory) source lines old new cut = ⊎_elim
-    (λ (same : new ≡ old). same_files old new (ap (λ (s : Stage). s.database.files) same))
+    (λ (same : new ≡ old). same_files old new (ap (λ (s : SessionStage). s.database.files) same))
     (λ (at : BreaksAt DoesScriptLine BreaksScriptLine source lines old new). cut_files old new (line_cut (1 + length lines) (command_of at.line) old new at.broke))
     cut
 
-run_closed : (runs : Option RunsSeen) (old : Stage) (reply : Option Reply) (new : Stage) → ClosesRun runs old reply new → new.database.files ≡ old.database.files
-run_closed None old reply new closed = ap (λ (s : Stage). s.database.files) closed.1
-run_closed (Some runs) old None new closed = ap (λ (s : Stage). s.database.files) closed.1
+run_closed : (runs : Option RunsSeen) (old : SessionStage) (reply : Option Reply) (new : SessionStage) → ClosesRun runs old reply new → new.database.files ≡ old.database.files
+run_closed None old reply new closed = ap (λ (s : SessionStage). s.database.files) closed.1
+run_closed (Some runs) old None new closed = ap (λ (s : SessionStage). s.database.files) closed.1
 run_closed (Some runs) old (Some reply) new closed = closed.1.files
 
-closing_keeps : (closing : Option Halt) (behind : List Reply) (old new : Stage) → ClosesBy ClosesScript GivesUp closing behind old new → KeepsFiles (files_seen old) (files_seen new)
+closing_keeps : (closing : Option Halt) (behind : List Reply) (old new : SessionStage) → ClosesBy ClosesScript GivesUp closing behind old new → KeepsFiles (files_seen old) (files_seen new)
 closing_keeps closing behind old new by = ⊎_elim
     (λ (is : IsClosed ClosesScript GivesUp behind old new). same_files old new (run_closed old.runs old is.reply new is.closed))
     (λ (gave : GaveUp ClosesScript GivesUp closing behind old new). same_files old new (stop_cut old.runs old new gave.gave_up.1))
@@ -247,7 +247,7 @@ kept_behind lines a b c keeps files = record {
 }
 
 -- A whole script.
-pub script_keeps : (first final : Stage) (ending : Ending) (closing : Option Halt) (source left told_first told : Option (List ℕ)) (refusals : Refusals)
+pub script_keeps : (first final : SessionStage) (ending : Ending) (closing : Option Halt) (source left told_first told : Option (List ℕ)) (refusals : Refusals)
     → (finished : Finished DoesScriptLine BreaksScriptLine ClosesScript GivesUp first ending closing source left told_first told final refusals)
     → KeepsDumps finished.lines first.database.files.seen final.database.files.seen
 script_keeps first final ending closing source left told_first told refusals finished =

@@ -10,7 +10,7 @@ use Rattle.watch_commands.specs.WatchCalls.{FaultsIf}
 use Rattle.session_replies.specs.declared.refusals.Refusals.{Refusals}
 use Rattle.database_desk.specs.DatabaseStages.{DumpFiles}
 use Rattle.database_desk.specs.DatabaseLines.{file_replied}
-use Rattle.session_lines.specs.Stages.{Stage}
+use Rattle.session_lines.specs.Stages.{SessionStage}
 use Rattle.session_lines.specs.ScriptLines.{BreaksScriptLine, ClosesScript, DoesScriptLine, GivesUp}
 use Rattle.script_desk.specs.declared.endings.Ending.{Ending}
 use Rattle.script_desk.specs.declared.endings.Ending.TheVariants.{Halted}
@@ -63,7 +63,7 @@ notes_told true old new rose = rose
 notes_told false old new same = omega (arith, same)
 
 -- Where the files are asked behind a whole script, what came of its lines tells whether their count rose.
-pub script_told : (first final : Stage) (ending : Ending) (closing : Option Halt) (source left told_first told : Option (List ℕ)) (refusals : Refusals)
+pub script_told : (first final : SessionStage) (ending : Ending) (closing : Option Halt) (source left told_first told : Option (List ℕ)) (refusals : Refusals)
     → Finished DoesScriptLine BreaksScriptLine ClosesScript GivesUp first ending closing source left told_first told final refusals
     → first.database.replies ≡ [] → asks_files (ended_by ending closing) ≡ true
     → NotesFailed (list_any is_fault final.database.replies) first.database.files.faults final.database.files.faults

@@ -12,14 +12,14 @@ use Rattle.session_runs.specs.declared.replies.RunReply.{RunReply}
 use Rattle.session_runs.specs.KeptRuns.{RunsSeen}
 use Rattle.database_desk.specs.DatabaseStages.{DatabaseStage, DumpFiles}
 use Rattle.database_desk.specs.DatabaseLines.{BreaksDatabase, CutsDump, CutsRows, DoesDatabase, PerformsDump, PerformsRows, file_replied}
-use Rattle.session_lines.specs.Stages.{Stage}
+use Rattle.session_lines.specs.Stages.{SessionStage}
 use Rattle.session_lines.specs.RunLines.{BreaksStart, BreaksStop, ClosesRun, CutsOpening, DoesPause, DoesResume, DoesStart, DoesStop, PausesBy, ResumesBy, RunsCommand, StartsBy, StopsBy}
 use Rattle.session_lines.specs.ScriptLines.{BreaksScriptLine, ClosesScript, DoesScriptLine, GivesUp}
 use Rattle.session_commands.proofs.LineKinds.{LineCut, CutsCalls, CutsStartLine, CutsStopLine, LineKind, CallsRows, Declares, IsPause, IsResume, IsStart, IsStill, IsStop, SetsQuota, line_cut, line_kind}
 
 module _ (Kept : List (ℕ × FileReply) → DumpFiles → Type 0) where
   -- what came so far of the lines, and what the files count
-  abbrev pub FilesKept : Stage → Type 0
+  abbrev pub FilesKept : SessionStage → Type 0
   FilesKept s = Kept s.database.replies s.database.files
 
   -- a line keeps it that called the files, with what came of that, or did not
@@ -36,40 +36,40 @@ module _ (Kept : List (ℕ × FileReply) → DumpFiles → Type 0) where
 
   -- Commands of runs, which call no file.
 
-  runs_kept : (Does : RunReply → (old new : Stage) → (before after : RunsSeen) → Type 0) (before : RunsSeen) (old : Stage) (reply : Reply) (new : Stage) → RunsCommand Does before old reply new → FilesKept old → FilesKept new
+  runs_kept : (Does : RunReply → (old new : SessionStage) → (before after : RunsSeen) → Type 0) (before : RunsSeen) (old : SessionStage) (reply : Reply) (new : SessionStage) → RunsCommand Does before old reply new → FilesKept old → FilesKept new
   runs_kept Does before old reply new c kept = same_kept old.database new.database c.files c.replies kept
 
-  start_kept : (runs : Option RunsSeen) (old : Stage) (reply : Reply) (new : Stage) → DoesStart runs old reply new → FilesKept old → FilesKept new
+  start_kept : (runs : Option RunsSeen) (old : SessionStage) (reply : Reply) (new : SessionStage) → DoesStart runs old reply new → FilesKept old → FilesKept new
   start_kept None old reply new does kept = runs_kept StartsBy does.1 does.0 reply new does.4 (same_kept old.database does.0.database does.3.files does.3.replies kept)
   start_kept (Some runs) old reply new does kept = runs_kept StartsBy runs old reply new does kept
 
-  stop_kept : (runs : Option RunsSeen) (old : Stage) (reply : Reply) (new : Stage) → DoesStop runs old reply new → FilesKept old → FilesKept new
+  stop_kept : (runs : Option RunsSeen) (old : SessionStage) (reply : Reply) (new : SessionStage) → DoesStop runs old reply new → FilesKept old → FilesKept new
   stop_kept None old reply new does kept = subst FilesKept (sym does.1) kept
   stop_kept (Some runs) old reply new does kept = runs_kept StopsBy runs old reply new does kept
 
-  pause_kept : (runs : Option RunsSeen) (old : Stage) (reply : Reply) (new : Stage) → DoesPause runs old reply new → FilesKept old → FilesKept new
+  pause_kept : (runs : Option RunsSeen) (old : SessionStage) (reply : Reply) (new : SessionStage) → DoesPause runs old reply new → FilesKept old → FilesKept new
   pause_kept None old reply new does kept = subst FilesKept (sym does.1) kept
   pause_kept (Some runs) old reply new does kept = runs_kept PausesBy runs old reply new does kept
 
-  resume_kept : (runs : Option RunsSeen) (old : Stage) (reply : Reply) (new : Stage) → DoesResume runs old reply new → FilesKept old → FilesKept new
+  resume_kept : (runs : Option RunsSeen) (old : SessionStage) (reply : Reply) (new : SessionStage) → DoesResume runs old reply new → FilesKept old → FilesKept new
   resume_kept None old reply new does kept = subst FilesKept (sym does.1) kept
   resume_kept (Some runs) old reply new does kept = runs_kept ResumesBy runs old reply new does kept
 
   -- Behind all lines.
 
-  run_closed : (runs : Option RunsSeen) (old : Stage) (reply : Option Reply) (new : Stage) → ClosesRun runs old reply new → FilesKept old → FilesKept new
+  run_closed : (runs : Option RunsSeen) (old : SessionStage) (reply : Option Reply) (new : SessionStage) → ClosesRun runs old reply new → FilesKept old → FilesKept new
   run_closed None old reply new closed kept = subst FilesKept (sym closed.1) kept
   run_closed (Some runs) old None new closed kept = subst FilesKept (sym closed.1) kept
   run_closed (Some runs) old (Some reply) new closed kept = runs_kept StopsBy runs old reply new closed.1 kept
 
-  pub closed_kept : (old new : Stage) (reply : Option Reply) → ClosesScript old reply new → FilesKept old → FilesKept new
+  pub closed_kept : (old new : SessionStage) (reply : Option Reply) → ClosesScript old reply new → FilesKept old → FilesKept new
   closed_kept old new reply closed kept = run_closed old.runs old reply new closed kept
 
-  stop_cut : (runs : Option RunsSeen) (old new : Stage) → BreaksStop runs old new → FilesKept old → FilesKept new
+  stop_cut : (runs : Option RunsSeen) (old new : SessionStage) → BreaksStop runs old new → FilesKept old → FilesKept new
   stop_cut None old new broke kept = absurd broke
-  stop_cut (Some runs) old new broke kept = same_kept old.database new.database (ap (λ (s : Stage). s.database.files) broke.1) (ap (λ (s : Stage). s.database.replies) broke.1) kept
+  stop_cut (Some runs) old new broke kept = same_kept old.database new.database (ap (λ (s : SessionStage). s.database.files) broke.1) (ap (λ (s : SessionStage). s.database.replies) broke.1) kept
 
-  pub given_up_kept : (old new : Stage) → GivesUp old new → FilesKept old → FilesKept new
+  pub given_up_kept : (old new : SessionStage) → GivesUp old new → FilesKept old → FilesKept new
   given_up_kept old new gave kept = stop_cut old.runs old new gave.1 kept
 
   -- Lines.
@@ -82,7 +82,7 @@ module _ (Kept : List (ℕ × FileReply) → DumpFiles → Type 0) where
         subst (λ (came : List (ℕ × FileReply)). Kept came new.files) (sym dump.replies) (more dump.answer.file number old.replies old.files new.files dump.faults dump.clashes kept))
         does
 
-    kind_kept : (number : ℕ) (line : Read Command) (old : Stage) (reply : Reply) (new : Stage) → LineKind number line old reply new → FilesKept old → FilesKept new
+    kind_kept : (number : ℕ) (line : Read Command) (old : SessionStage) (reply : Reply) (new : SessionStage) → LineKind number line old reply new → FilesKept old → FilesKept new
     kind_kept number line old reply new (IsStill same) kept = subst FilesKept (sym same) kept
     kind_kept number line old reply new (Declares opened same) kept = subst FilesKept (sym same) kept
     kind_kept number line old reply new (SetsQuota count same) kept = subst FilesKept (sym same) kept
@@ -92,7 +92,7 @@ module _ (Kept : List (ℕ × FileReply) → DumpFiles → Type 0) where
     kind_kept number line old reply new (IsResume does) kept = resume_kept old.runs old reply new does kept
     kind_kept number line old reply new (CallsRows command is does) kept = database_kept number command old.database reply new.database does.0 kept
 
-    pub line_kept : (number : ℕ) (line : Read Command) (old new : Stage) (reply : Reply) → DoesScriptLine number line old reply new → FilesKept old → FilesKept new
+    pub line_kept : (number : ℕ) (line : Read Command) (old new : SessionStage) (reply : Reply) → DoesScriptLine number line old reply new → FilesKept old → FilesKept new
     line_kept number line old new reply does kept = kind_kept number line old reply new (line_kind number line old reply new does) kept
 
   -- Where memory ended.
@@ -108,17 +108,17 @@ module _ (Kept : List (ℕ × FileReply) → DumpFiles → Type 0) where
         made)
         broke
 
-    start_cut : (runs : Option RunsSeen) (old new : Stage) → BreaksStart runs old new → FilesKept old → FilesKept new
+    start_cut : (runs : Option RunsSeen) (old new : SessionStage) → BreaksStart runs old new → FilesKept old → FilesKept new
     start_cut None old new broke kept = ⊎_elim
-        (λ (opening : CutsOpening old new). same_kept old.database new.database (ap (λ (s : Stage). s.database.files) opening.same) (ap (λ (s : Stage). s.database.replies) opening.same) kept)
-        (λ run. same_kept old.database new.database (ap (λ (s : Stage). s.database.files) run.4.same ∙ run.3.files) (ap (λ (s : Stage). s.database.replies) run.4.same ∙ run.3.replies) kept)
+        (λ (opening : CutsOpening old new). same_kept old.database new.database (ap (λ (s : SessionStage). s.database.files) opening.same) (ap (λ (s : SessionStage). s.database.replies) opening.same) kept)
+        (λ run. same_kept old.database new.database (ap (λ (s : SessionStage). s.database.files) run.4.same ∙ run.3.files) (ap (λ (s : SessionStage). s.database.replies) run.4.same ∙ run.3.replies) kept)
         broke
-    start_cut (Some runs) old new broke kept = same_kept old.database new.database (ap (λ (s : Stage). s.database.files) broke.same) (ap (λ (s : Stage). s.database.replies) broke.same) kept
+    start_cut (Some runs) old new broke kept = same_kept old.database new.database (ap (λ (s : SessionStage). s.database.files) broke.same) (ap (λ (s : SessionStage). s.database.replies) broke.same) kept
 
-    kind_cut : (old new : Stage) → LineCut old new → FilesKept old → FilesKept new
+    kind_cut : (old new : SessionStage) → LineCut old new → FilesKept old → FilesKept new
     kind_cut old new (CutsStartLine broke) kept = start_cut old.runs old new broke kept
     kind_cut old new (CutsStopLine broke) kept = stop_cut old.runs old new broke kept
     kind_cut old new (CutsCalls command broke same) kept = database_cut command old.database new.database broke kept
 
-    pub break_kept : (number : ℕ) (line : Read Command) (old new : Stage) → BreaksScriptLine number line old new → FilesKept old → FilesKept new
+    pub break_kept : (number : ℕ) (line : Read Command) (old new : SessionStage) → BreaksScriptLine number line old new → FilesKept old → FilesKept new
     break_kept number line old new broke kept = kind_cut old new (line_cut number line old new broke) kept

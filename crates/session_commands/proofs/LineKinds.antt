@@ -9,14 +9,14 @@ use Rattle.odb_script.specs.Forms.{Read}
 use Rattle.session_replies.specs.declared.replies.Reply.{Reply}
 use Rattle.session_setup.specs.Setup.{Declared}
 use Rattle.database_desk.specs.DatabaseLines.{BreaksDatabase, DoesDatabase, calls_objects}
-use Rattle.session_lines.specs.Stages.{Stage, with_quota}
+use Rattle.session_lines.specs.Stages.{SessionStage, with_quota}
 use Rattle.session_lines.specs.SetupReplies.{SetupUnless}
 use Rattle.session_lines.specs.RunLines.{BreaksStart, BreaksStop, DoesPause, DoesResume, DoesStart, DoesStop}
 use Rattle.session_lines.specs.ScriptLines.{BreaksCommand, BreaksScriptLine, CallsDatabase, DoesCommand, DoesScriptLine}
 
 -- It changes nothing; it declares something, unless the session was opened; it sets the quota; it is a command of runs; or it calls
 -- the online database.
-pub data LineKind (number : ℕ) (line : Read Command) (old : Stage) (reply : Reply) (new : Stage) : Type 0 where
+pub data LineKind (number : ℕ) (line : Read Command) (old : SessionStage) (reply : Reply) (new : SessionStage) : Type 0 where
   IsStill : new ≡ old → LineKind number line old reply new
   Declares : (old.declared.opened ≡ true → new.declared ≡ old.declared) → new ≡ record old { declared = new.declared } → LineKind number line old reply new
   SetsQuota : (count : ℕ) → new ≡ with_quota count old → LineKind number line old reply new
@@ -31,10 +31,10 @@ opened_same : (opened : Bool) (Then : Type 0) (old : Declared) (reply : Reply) (
 opened_same true Then old reply new does is = does.1
 opened_same false Then old reply new does is = absurd (cc is)
 
-setup_kind : (number : ℕ) (line : Read Command) (old : Stage) (reply : Reply) (new : Stage) (Then : Type 0) → SetupUnless old.declared.opened Then old.declared reply new.declared → new ≡ record old { declared = new.declared } → LineKind number line old reply new
+setup_kind : (number : ℕ) (line : Read Command) (old : SessionStage) (reply : Reply) (new : SessionStage) (Then : Type 0) → SetupUnless old.declared.opened Then old.declared reply new.declared → new ≡ record old { declared = new.declared } → LineKind number line old reply new
 setup_kind number line old reply new Then does same = Declares (opened_same old.declared.opened Then old.declared reply new.declared does) same
 
-command_kind : (number : ℕ) (command : Command) (old : Stage) (reply : Reply) (new : Stage) → DoesCommand number command old reply new → LineKind number (Ok command) old reply new
+command_kind : (number : ℕ) (command : Command) (old : SessionStage) (reply : Reply) (new : SessionStage) → DoesCommand number command old reply new → LineKind number (Ok command) old reply new
 command_kind number Nothing old reply new does = IsStill does.1
 command_kind number Exit old reply new does = IsStill does.1
 command_kind number (Buffer name size) old reply new does = setup_kind number (Ok (Buffer name size)) old reply new _ does.0 does.1
@@ -48,22 +48,22 @@ command_kind number Pause old reply new does = IsPause does
 command_kind number Resume old reply new does = IsResume does
 command_kind number command old reply new does = CallsRows command refl does
 
-pub line_kind : (number : ℕ) (line : Read Command) (old : Stage) (reply : Reply) (new : Stage) → DoesScriptLine number line old reply new → LineKind number line old reply new
+pub line_kind : (number : ℕ) (line : Read Command) (old : SessionStage) (reply : Reply) (new : SessionStage) → DoesScriptLine number line old reply new → LineKind number line old reply new
 line_kind number (Err (no_command at)) old reply new does = IsStill does.1
 line_kind number (Ok command) old reply new does = command_kind number command old reply new does
 
 -- Where memory ended: in a start, in a stop, or in a command of the online database.
-pub data LineCut (old new : Stage) : Type 0 where
+pub data LineCut (old new : SessionStage) : Type 0 where
   CutsStartLine : BreaksStart old.runs old new → LineCut old new
   CutsStopLine : BreaksStop old.runs old new → LineCut old new
   CutsCalls : (command : Command) → BreaksDatabase command old.database new.database → new ≡ record old { database = new.database } → LineCut old new
 
-command_cut : (command : Command) (old new : Stage) → BreaksCommand command old new → LineCut old new
+command_cut : (command : Command) (old new : SessionStage) → BreaksCommand command old new → LineCut old new
 command_cut Start old new broke = CutsStartLine broke
 command_cut Stop old new broke = CutsStopLine broke
 command_cut command old new broke = CutsCalls command broke.1 broke.2
 
-pub line_cut : (number : ℕ) (line : Read Command) (old new : Stage) → BreaksScriptLine number line old new → LineCut old new
+pub line_cut : (number : ℕ) (line : Read Command) (old new : SessionStage) → BreaksScriptLine number line old new → LineCut old new
 line_cut number (Err refusal) old new broke = absurd broke
 line_cut number (Ok command) old new broke = command_cut command old new broke
 
@@ -91,7 +91,7 @@ calls_so Resume nothing exit buffer equip channel analyzer events start stop pau
 calls_so command nothing exit buffer equip channel analyzer events start stop pause resume = refl
 
 -- what such a command does there the line does
-called_command : (number : ℕ) (command : Command) (old : Stage) (reply : Reply) (new : Stage) → calls_objects command ≡ true → CallsDatabase number command old reply new → DoesCommand number command old reply new
+called_command : (number : ℕ) (command : Command) (old : SessionStage) (reply : Reply) (new : SessionStage) → calls_objects command ≡ true → CallsDatabase number command old reply new → DoesCommand number command old reply new
 called_command number Nothing old reply new is does = absurd (cc is)
 called_command number Exit old reply new is does = absurd (cc is)
 called_command number (Buffer name size) old reply new is does = absurd (cc is)
@@ -106,17 +106,17 @@ called_command number Resume old reply new is does = absurd (cc is)
 called_command number command old reply new is does = does
 
 -- and so it breaks off
-cut_command : (command : Command) (old new : Stage) → calls_objects command ≡ true → BreaksDatabase command old.database new.database → new ≡ record old { database = new.database } → BreaksCommand command old new
+cut_command : (command : Command) (old new : SessionStage) → calls_objects command ≡ true → BreaksDatabase command old.database new.database → new ≡ record old { database = new.database } → BreaksCommand command old new
 cut_command Start old new is broke same = absurd (cc is)
 cut_command Stop old new is broke same = absurd (cc is)
 cut_command command old new is broke same = (is, broke, same)
 
-pub called_line : (number : ℕ) (line : Read Command) (command : Command) (old : Stage) (reply : Reply) (new : Stage) → line ≡ Ok command → calls_objects command ≡ true → DoesDatabase number command old.database reply new.database → new ≡ record old { database = new.database }
+pub called_line : (number : ℕ) (line : Read Command) (command : Command) (old : SessionStage) (reply : Reply) (new : SessionStage) → line ≡ Ok command → calls_objects command ≡ true → DoesDatabase number command old.database reply new.database → new ≡ record old { database = new.database }
     → DoesScriptLine number line old reply new
 called_line number line command old reply new at is does same =
     subst (λ (x : Read Command). DoesScriptLine number x old reply new) (sym at) (called_command number command old reply new is (does, same))
 
-pub cut_called : (number : ℕ) (line : Read Command) (command : Command) (old new : Stage) → line ≡ Ok command → calls_objects command ≡ true → BreaksDatabase command old.database new.database → new ≡ record old { database = new.database }
+pub cut_called : (number : ℕ) (line : Read Command) (command : Command) (old new : SessionStage) → line ≡ Ok command → calls_objects command ≡ true → BreaksDatabase command old.database new.database → new ≡ record old { database = new.database }
     → BreaksScriptLine number line old new
 cut_called number line command old new at is broke same =
     subst (λ (x : Read Command). BreaksScriptLine number x old new) (sym at) (cut_command command old new is broke same)

@@ -19,7 +19,7 @@ use Rattle.database_desk.specs.DatabaseStages.{DatabaseStage}
 use Rattle.session_lines.specs.NothingSaid.{NothingSaid, own_point}
 use Rattle.session_lines.specs.Keeping.{KeptByCommand}
 use Rattle.session_lines.specs.Staying.{StaysOpen}
-use Rattle.session_lines.specs.Stages.{Stage, open_stage}
+use Rattle.session_lines.specs.Stages.{SessionStage, open_stage}
 use Rattle.session_lines.specs.RunLines.{BreaksStop, RunsCommand, StartsBy, StopsBy, behind_command, reply_for}
 use Rattle.session_lines.specs.ScriptLines.{BreaksScriptLine, DoesScriptLine}
 use Rattle.session_lines.proofs.StayingLaws.{rounds_more}
@@ -40,10 +40,10 @@ pub cut_runs : {M : Type 0} (before after : ClockTold) (old new : CommandPoint M
 cut_runs before after old new c = ⊎_elim (λ cut. cut.1.runs) (λ cut. cut.3.runs ∙ cut.2.runs) c.cut
 
 module _ (d : Declared) (db : DatabaseStage) (a : DatabaseAccess) (k l : ClockTold) (runs later : RunsSeen) where
-  abbrev old_stage : Stage
+  abbrev old_stage : SessionStage
   old_stage = open_stage d db k runs
 
-  abbrev new_stage : Stage
+  abbrev new_stage : SessionStage
   new_stage = open_stage d (record db { access = a }) l later
 
   pub start_command : (reply : Reply) (said : RunReply) → AnswersStart NothingSaid said k l (own_point runs db.access) (own_point later a) → reply ≡ reply_for later said → later.quota ≡ runs.quota → RunsCommand StartsBy runs (open_stage d db k runs) reply (open_stage d (record db { access = a }) l later)

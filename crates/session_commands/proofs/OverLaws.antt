@@ -20,7 +20,7 @@ use Rattle.session_replies.specs.declared.replies.Reply.{Reply}
 use Rattle.session_replies.specs.declared.refusals.Refusals.{Refusals}
 use Rattle.session_lines.specs.declared.passed_over.PassedOver.{PassedOver}
 use Rattle.session_lines.specs.NothingSaid.{NothingSaid, own_point}
-use Rattle.session_lines.specs.Stages.{Stage}
+use Rattle.session_lines.specs.Stages.{SessionStage}
 use Rattle.session_lines.specs.RunLines.{BreaksStop, ClosesRun, RunsCommand, StopsBy}
 use Rattle.session_lines.specs.ScriptLines.{BreaksScriptLine, ClosesScript, DoesScriptLine, GivesUp}
 use Rattle.script_desk.specs.declared.endings.Ending.{Ending}
@@ -71,12 +71,12 @@ answered_over (answer.Started number) before after old new run on knows a = absu
 answered_over (answer.Paused number) before after old new run on knows a = absurd a.0
 answered_over (answer.Resumed number) before after old new run on knows a = absurd a.0
 
-closed_over : (runs : Option RunsSeen) (old : Stage) (reply : Option Reply) (new : Stage) → old.runs ≡ runs → ClosesRun runs old reply new → EndsOver new
+closed_over : (runs : Option RunsSeen) (old : SessionStage) (reply : Option Reply) (new : SessionStage) → old.runs ≡ runs → ClosesRun runs old reply new → EndsOver new
 closed_over None old reply new none closed = λ last is knows.
-    let both : Some last ≡ None = sym is ∙ (ap (λ (s : Stage). s.runs) closed.1 ∙ none) in
+    let both : Some last ≡ None = sym is ∙ (ap (λ (s : SessionStage). s.runs) closed.1 ∙ none) in
     absurd (cc both)
 closed_over (Some runs) old None new there closed = λ last is knows.
-    let same : last ≡ runs = same_some last runs (sym is ∙ (ap (λ (s : Stage). s.runs) closed.1 ∙ there)) in
+    let same : last ≡ runs = same_some last runs (sym is ∙ (ap (λ (s : SessionStage). s.runs) closed.1 ∙ there)) in
     ap (λ (s : RunsSeen). s.on) same ∙ closed.0
 closed_over (Some runs) old (Some reply) new there closed = λ last is knows.
     let c : RunsCommand StopsBy runs old reply new = closed.1 in
@@ -85,17 +85,17 @@ closed_over (Some runs) old (Some reply) new there closed = λ last is knows.
     ∙ answered_over c.answer old.clock new.clock (own_point runs old.database.access) (own_point c.after new.database.access) closed.0.0 closed.0.1
     (subst KnowsRuns same knows) c.does
 
-gave_over : (runs : Option RunsSeen) (old new : Stage) → BreaksStop runs old new → EndsOver new
+gave_over : (runs : Option RunsSeen) (old new : SessionStage) → BreaksStop runs old new → EndsOver new
 gave_over None old new broke = absurd broke
 gave_over (Some runs) old new broke = λ last is knows.
-    let same : last ≡ broke.0 = same_some last broke.0 (sym is ∙ ap (λ (s : Stage). s.runs) broke.1) in
+    let same : last ≡ broke.0 = same_some last broke.0 (sym is ∙ ap (λ (s : SessionStage). s.runs) broke.1) in
     ap (λ (s : RunsSeen). s.on) same ∙ ⊎_elim
     (λ stopped. stopped_over stopped.1.0 (Ok stopped.1.2) old.clock new.clock (own_point runs old.database.access) (own_point broke.0 new.database.access) stopped.1.3)
     (λ unsaved. stopped_over unsaved.0 (Err (record {})) old.clock new.clock (own_point runs old.database.access) (own_point broke.0 new.database.access) unsaved.1)
     broke.2
 
 -- A whole script.
-pub script_over : (first final : Stage) (ending : Ending) (closing : Option Halt) (source left told_first told : Option (List ℕ)) (refusals : Refusals)
+pub script_over : (first final : SessionStage) (ending : Ending) (closing : Option Halt) (source left told_first told : Option (List ℕ)) (refusals : Refusals)
     → Finished DoesScriptLine BreaksScriptLine ClosesScript GivesUp first ending closing source left told_first told final refusals → EndsOver final
 script_over first final ending closing source left told_first told refusals finished = ⊎_elim
     (λ (is : IsClosed ClosesScript GivesUp finished.behind finished.cut final). closed_over finished.cut.runs finished.cut is.reply final refl is.closed)

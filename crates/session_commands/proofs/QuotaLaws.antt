@@ -34,7 +34,7 @@ use Rattle.session_runs.specs.RunAnswers.{AnswersPause, AnswersResume, AnswersSt
 use Rattle.database_desk.specs.DatabaseLines.{DoesDatabase, PerformsDump, PerformsRows}
 use Rattle.session_lines.specs.declared.passed_over.PassedOver.{PassedOver}
 use Rattle.session_lines.specs.NothingSaid.{NothingSaid, own_point}
-use Rattle.session_lines.specs.Stages.{Stage, members_declared, runs_with_quota, with_quota}
+use Rattle.session_lines.specs.Stages.{SessionStage, members_declared, runs_with_quota, with_quota}
 use Rattle.session_lines.specs.SetupReplies.{SetupUnless, TakesChannel, TakesSetup}
 use Rattle.session_lines.specs.RunLines.{BreaksStart, BreaksStop, ClosesRun, CutsOpening, CutsRun, DoesPause, DoesResume, DoesStart, DoesStop, OpensSession, PausesBy, ResumesBy, RunsCommand, StartsBy, StopsBy, reply_for}
 use Rattle.session_lines.specs.ScriptLines.{BreaksScriptLine, CallsDatabase, ClosesScript, DoesCommand, DoesScriptLine, GivesUp}
@@ -173,11 +173,11 @@ abbrev MayAsk : (quota : ℕ) → Option RunsSeen → Type 0
 MayAsk quota None = ⊤
 MayAsk quota (Some runs) = runs.quota ≡ quota
 
-abbrev StageAsks : Stage → Type 0
+abbrev StageAsks : SessionStage → Type 0
 StageAsks s = MayAsk s.quota s.runs
 
 -- A line sets the quota where it is an `events` line, and begins a start with the quota that stood where its reply tells of one.
-record LineAsks (line : Read Command) (old : Stage) (said : Reply) (new : Stage) : Type 0 where
+record LineAsks (line : Read Command) (old : SessionStage) (said : Reply) (new : SessionStage) : Type 0 where
   quota : new.quota ≡ quota_behind line old.quota
   begun : StageAsks old → quotas_so_far new.runs ≡ quotas_so_far old.runs ++ quota_told said old.quota
   asks : StageAsks old → StageAsks new
@@ -186,15 +186,15 @@ none_more : (begun told : List ℕ) → told ≡ [] → begun ≡ begun ++ told
 none_more begun told none = sym (append-nil begun) ∙ ap (λ (l : List ℕ). begun ++ l) (sym none)
 
 -- a line that leaves the quota and the runs
-other_line : (line : Read Command) (old : Stage) (said : Reply) (new : Stage) → ((q : ℕ) → quota_behind line q ≡ q) → ((q : ℕ) → quota_told said q ≡ []) → new.quota ≡ old.quota → new.runs ≡ old.runs → LineAsks line old said new
+other_line : (line : Read Command) (old : SessionStage) (said : Reply) (new : SessionStage) → ((q : ℕ) → quota_behind line q ≡ q) → ((q : ℕ) → quota_told said q ≡ []) → new.quota ≡ old.quota → new.runs ≡ old.runs → LineAsks line old said new
 other_line line old said new stays none quota runs = record {
   quota = quota ∙ sym (stays old.quota);
   begun = λ asks. ap quotas_so_far runs ∙ none_more (quotas_so_far old.runs) (quota_told said old.quota) (none old.quota);
   asks = λ asks. subst (λ (q : ℕ). MayAsk q new.runs) (sym quota) (subst (MayAsk old.quota) (sym runs) asks);
 }
 
-still_line : (line : Read Command) (old : Stage) (said : Reply) (new : Stage) → ((q : ℕ) → quota_behind line q ≡ q) → ((q : ℕ) → quota_told said q ≡ []) → new ≡ old → LineAsks line old said new
-still_line line old said new stays none same = other_line line old said new stays none (ap (λ (s : Stage). s.quota) same) (ap (λ (s : Stage). s.runs) same)
+still_line : (line : Read Command) (old : SessionStage) (said : Reply) (new : SessionStage) → ((q : ℕ) → quota_behind line q ≡ q) → ((q : ℕ) → quota_told said q ≡ []) → new ≡ old → LineAsks line old said new
+still_line line old said new stays none same = other_line line old said new stays none (ap (λ (s : SessionStage). s.quota) same) (ap (λ (s : SessionStage). s.runs) same)
 
 as_said : (said known : Reply) → said ≡ known → ((q : ℕ) → quota_told known q ≡ []) → (q : ℕ) → quota_told said q ≡ []
 as_said said known is none q = ap (λ (r : Reply). quota_told r q) is ∙ none q
@@ -213,8 +213,8 @@ setup_none : (opened : Bool) (Then : Type 0) (old : Declared) (said : Reply) (ne
 setup_none true Then old said new does none q = as_said said (reply.Setup _) does.0 (λ n. refl) q
 setup_none false Then old said new does none q = none does q
 
-setup_line : (line : Read Command) (old : Stage) (said : Reply) (new : Stage) → ((q : ℕ) → quota_behind line q ≡ q) → ((q : ℕ) → quota_told said q ≡ []) → new ≡ record old { declared = new.declared } → LineAsks line old said new
-setup_line line old said new stays none same = other_line line old said new stays none (ap (λ (s : Stage). s.quota) same) (ap (λ (s : Stage). s.runs) same)
+setup_line : (line : Read Command) (old : SessionStage) (said : Reply) (new : SessionStage) → ((q : ℕ) → quota_behind line q ≡ q) → ((q : ℕ) → quota_told said q ≡ []) → new ≡ record old { declared = new.declared } → LineAsks line old said new
+setup_line line old said new stays none same = other_line line old said new stays none (ap (λ (s : SessionStage). s.quota) same) (ap (λ (s : SessionStage). s.runs) same)
 
 -- `events`
 
@@ -226,17 +226,17 @@ quota_set : (count : ℕ) (runs : Option RunsSeen) → MayAsk count (option_map 
 quota_set count None = tt
 quota_set count (Some runs) = refl
 
-events_line : (count : ℕ) (old : Stage) (said : Reply) (new : Stage) → said ≡ reply.Silent → new ≡ with_quota count old → LineAsks (Ok (Events count)) old said new
+events_line : (count : ℕ) (old : SessionStage) (said : Reply) (new : SessionStage) → said ≡ reply.Silent → new ≡ with_quota count old → LineAsks (Ok (Events count)) old said new
 events_line count old said new is same = record {
-  quota = ap (λ (s : Stage). s.quota) same;
-  begun = λ asks. ap (λ (s : Stage). quotas_so_far s.runs) same
+  quota = ap (λ (s : SessionStage). s.quota) same;
+  begun = λ asks. ap (λ (s : SessionStage). quotas_so_far s.runs) same
       ∙ (quota_left count old.runs ∙ none_more (quotas_so_far old.runs) (quota_told said old.quota) (as_said said reply.Silent is (λ n. refl) old.quota));
   asks = λ asks. subst StageAsks (sym same) (quota_set count old.runs);
 }
 
 -- commands of an open session
 
-run_line : (line : Read Command) (Does : RunReply → (old new : Stage) → (before after : RunsSeen) → Type 0) (before : RunsSeen) (old : Stage) (said : Reply) (new : Stage)
+run_line : (line : Read Command) (Does : RunReply → (old new : SessionStage) → (before after : RunsSeen) → Type 0) (before : RunsSeen) (old : SessionStage) (said : Reply) (new : SessionStage)
     → ((q : ℕ) → quota_behind line q ≡ q) → old.runs ≡ Some before → (c : RunsCommand Does before old said new) → Asks before c.after (asked_by c.answer before.quota) → LineAsks line old said new
 run_line line Does before old said new stays there c did = record {
   quota = c.quota ∙ sym (stays old.quota);
@@ -251,17 +251,17 @@ run_line line Does before old said new stays there c did = record {
   asks = λ asks. subst (MayAsk new.quota) (sym c.runs) (did.quota ∙ (subst (MayAsk old.quota) there asks ∙ sym c.quota));
 }
 
-stopped_line : (line : Read Command) (old : Stage) (said : Reply) (new : Stage) → ((q : ℕ) → quota_behind line q ≡ q) → said ≡ reply.WrongState is_stopped → new ≡ old → LineAsks line old said new
+stopped_line : (line : Read Command) (old : SessionStage) (said : Reply) (new : SessionStage) → ((q : ℕ) → quota_behind line q ≡ q) → said ≡ reply.WrongState is_stopped → new ≡ old → LineAsks line old said new
 stopped_line line old said new stays is same = still_line line old said new stays (as_said said (reply.WrongState is_stopped) is (λ n. refl)) same
 
 -- a session opens with no start begun
-opens_none : (old ready : Stage) → OpensSession old ready → (quotas_so_far ready.runs ≡ []) × StageAsks ready
+opens_none : (old ready : SessionStage) → OpensSession old ready → (quotas_so_far ready.runs ≡ []) × StageAsks ready
 opens_none old ready opens = (
   ap quotas_so_far opens.runs ∙ registered_none 0 (members_declared ready.declared),
   subst (MayAsk ready.quota) (sym opens.runs) (sym opens.quota),
 )
 
-first_line : (old ready : Stage) (said : Reply) (new : Stage) → old.runs ≡ None → OpensSession old ready → LineAsks (Ok Start) ready said new → LineAsks (Ok Start) old said new
+first_line : (old ready : SessionStage) (said : Reply) (new : SessionStage) → old.runs ≡ None → OpensSession old ready → LineAsks (Ok Start) ready said new → LineAsks (Ok Start) old said new
 first_line old ready said new closed opens line = record {
   quota = line.quota ∙ opens.quota;
   begun = λ asks. line.begun (opens_none old ready opens).1
@@ -271,41 +271,41 @@ first_line old ready said new closed opens line = record {
   asks = λ asks. line.asks (opens_none old ready opens).1;
 }
 
-start_line : (runs : Option RunsSeen) (old : Stage) (said : Reply) (new : Stage) → old.runs ≡ runs → DoesStart runs old said new → LineAsks (Ok Start) old said new
+start_line : (runs : Option RunsSeen) (old : SessionStage) (said : Reply) (new : SessionStage) → old.runs ≡ runs → DoesStart runs old said new → LineAsks (Ok Start) old said new
 start_line None old said new closed does = first_line old does.0 said new closed does.3
     (run_line (Ok Start) StartsBy does.1 does.0 said new (λ q. refl) does.2 does.4
     (start_asks does.4.answer does.0.clock new.clock (own_point does.1 does.0.database.access) (own_point does.4.after new.database.access) does.4.does))
 start_line (Some runs) old said new there does = run_line (Ok Start) StartsBy runs old said new (λ q. refl) there does
     (start_asks does.answer old.clock new.clock (own_point runs old.database.access) (own_point does.after new.database.access) does.does)
 
-stop_line : (runs : Option RunsSeen) (old : Stage) (said : Reply) (new : Stage) → old.runs ≡ runs → DoesStop runs old said new → LineAsks (Ok Stop) old said new
+stop_line : (runs : Option RunsSeen) (old : SessionStage) (said : Reply) (new : SessionStage) → old.runs ≡ runs → DoesStop runs old said new → LineAsks (Ok Stop) old said new
 stop_line None old said new closed does = stopped_line (Ok Stop) old said new (λ q. refl) does.0 does.1
 stop_line (Some runs) old said new there does = run_line (Ok Stop) StopsBy runs old said new (λ q. refl) there does
     (stop_asks does.answer old.clock new.clock (own_point runs old.database.access) (own_point does.after new.database.access) does.does)
 
-pause_line : (runs : Option RunsSeen) (old : Stage) (said : Reply) (new : Stage) → old.runs ≡ runs → DoesPause runs old said new → LineAsks (Ok Pause) old said new
+pause_line : (runs : Option RunsSeen) (old : SessionStage) (said : Reply) (new : SessionStage) → old.runs ≡ runs → DoesPause runs old said new → LineAsks (Ok Pause) old said new
 pause_line None old said new closed does = stopped_line (Ok Pause) old said new (λ q. refl) does.0 does.1
 pause_line (Some runs) old said new there does = run_line (Ok Pause) PausesBy runs old said new (λ q. refl) there does
     (pause_asks does.answer (own_point runs old.database.access) (own_point does.after new.database.access) does.does.0)
 
-resume_line : (runs : Option RunsSeen) (old : Stage) (said : Reply) (new : Stage) → old.runs ≡ runs → DoesResume runs old said new → LineAsks (Ok Resume) old said new
+resume_line : (runs : Option RunsSeen) (old : SessionStage) (said : Reply) (new : SessionStage) → old.runs ≡ runs → DoesResume runs old said new → LineAsks (Ok Resume) old said new
 resume_line None old said new closed does = stopped_line (Ok Resume) old said new (λ q. refl) does.0 does.1
 resume_line (Some runs) old said new there does = run_line (Ok Resume) ResumesBy runs old said new (λ q. refl) there does
     (resume_asks does.answer (own_point runs old.database.access) (own_point does.after new.database.access) does.does.0)
 
 -- commands of the online database
 
-database_none : (number : ℕ) (command : Command) (old : Stage) (said : Reply) (new : Stage) → DoesDatabase number command old.database said new.database → (q : ℕ) → quota_told said q ≡ []
+database_none : (number : ℕ) (command : Command) (old : SessionStage) (said : Reply) (new : SessionStage) → DoesDatabase number command old.database said new.database → (q : ℕ) → quota_told said q ≡ []
 database_none number command old said new does q = ⊎_elim
     (λ (rows : PerformsRows command old.database said new.database). as_said said (reply.Database rows.answer) rows.reply_is (λ n. refl) q)
     (λ (dump : PerformsDump number command old.database said new.database). as_said said (reply.Watch dump.answer.reply) dump.reply_is (λ n. refl) q)
     does
 
-calls_line : (number : ℕ) (command : Command) (old : Stage) (said : Reply) (new : Stage) → ((q : ℕ) → quota_behind (Ok command) q ≡ q) → CallsDatabase number command old said new → LineAsks (Ok command) old said new
+calls_line : (number : ℕ) (command : Command) (old : SessionStage) (said : Reply) (new : SessionStage) → ((q : ℕ) → quota_behind (Ok command) q ≡ q) → CallsDatabase number command old said new → LineAsks (Ok command) old said new
 calls_line number command old said new stays does = other_line (Ok command) old said new stays (database_none number command old said new does.0)
-    (ap (λ (s : Stage). s.quota) does.1) (ap (λ (s : Stage). s.runs) does.1)
+    (ap (λ (s : SessionStage). s.quota) does.1) (ap (λ (s : SessionStage). s.runs) does.1)
 
-command_asks : (number : ℕ) (command : Command) (old : Stage) (said : Reply) (new : Stage) → DoesCommand number command old said new → LineAsks (Ok command) old said new
+command_asks : (number : ℕ) (command : Command) (old : SessionStage) (said : Reply) (new : SessionStage) → DoesCommand number command old said new → LineAsks (Ok command) old said new
 command_asks number Nothing old said new does = still_line (Ok Nothing) old said new (λ q. refl) (as_said said reply.Silent does.0 (λ n. refl)) does.1
 command_asks number Exit old said new does = still_line (Ok Exit) old said new (λ q. refl) (as_said said reply.Silent does.0 (λ n. refl)) does.1
 command_asks number (Buffer name size) old said new does = setup_line (Ok (Buffer name size)) old said new (λ q. refl) (setup_none old.declared.opened _ old.declared said new.declared does.0 (λ d. taken_none _ _ old.declared said new.declared d.2)) does.1
@@ -319,13 +319,13 @@ command_asks number Pause old said new does = pause_line old.runs old said new r
 command_asks number Resume old said new does = resume_line old.runs old said new refl does
 command_asks number command old said new does = calls_line number command old said new (λ q. refl) does
 
-line_asks : (number : ℕ) (line : Read Command) (old : Stage) (said : Reply) (new : Stage) → DoesScriptLine number line old said new → LineAsks line old said new
+line_asks : (number : ℕ) (line : Read Command) (old : SessionStage) (said : Reply) (new : SessionStage) → DoesScriptLine number line old said new → LineAsks line old said new
 line_asks number (Err (no_command at)) old said new does = still_line (Err (no_command at)) old said new (λ q. refl) (as_said said (reply.BadCommand at) does.0 (λ n. refl)) does.1
 line_asks number (Ok command) old said new does = command_asks number command old said new does
 
-lines_ask : (number : ℕ) (lines : List (List ℕ)) (replies : List Reply) (old new : Stage) → PlaysFrom DoesScriptLine number lines replies old new → StageAsks old
+lines_ask : (number : ℕ) (lines : List (List ℕ)) (replies : List Reply) (old new : SessionStage) → PlaysFrom DoesScriptLine number lines replies old new → StageAsks old
     → quotas_so_far new.runs ≡ quotas_so_far old.runs ++ quotas_asked old.quota lines replies
-lines_ask number [] [] old new same asks = ap (λ (s : Stage). quotas_so_far s.runs) same ∙ sym (append-nil (quotas_so_far old.runs))
+lines_ask number [] [] old new same asks = ap (λ (s : SessionStage). quotas_so_far s.runs) same ∙ sym (append-nil (quotas_so_far old.runs))
 lines_ask number [] (said ∷ replies) old new plays asks = absurd plays
 lines_ask number (line ∷ lines) [] old new plays asks = absurd plays
 lines_ask number (line ∷ lines) (said ∷ replies) old new plays asks =
@@ -337,30 +337,30 @@ lines_ask number (line ∷ lines) (said ∷ replies) old new plays asks =
 
 -- What is behind the lines begins no start, nor does a line that memory was wanting for.
 
-cut_run_same : (before : RunsSeen) (old new : Stage) → CutsRun before old new → quotas_so_far new.runs ≡ quotas_so_far old.runs
-cut_run_same before old new cut = ap (λ (s : Stage). quotas_so_far s.runs) cut.same
+cut_run_same : (before : RunsSeen) (old new : SessionStage) → CutsRun before old new → quotas_so_far new.runs ≡ quotas_so_far old.runs
+cut_run_same before old new cut = ap (λ (s : SessionStage). quotas_so_far s.runs) cut.same
 
-start_cut : (runs : Option RunsSeen) (old new : Stage) → old.runs ≡ runs → BreaksStart runs old new → quotas_so_far new.runs ≡ quotas_so_far old.runs
+start_cut : (runs : Option RunsSeen) (old new : SessionStage) → old.runs ≡ runs → BreaksStart runs old new → quotas_so_far new.runs ≡ quotas_so_far old.runs
 start_cut None old new closed broke = ⊎_elim
-    (λ (cut : CutsOpening old new). ap (λ (s : Stage). quotas_so_far s.runs) cut.same)
+    (λ (cut : CutsOpening old new). ap (λ (s : SessionStage). quotas_so_far s.runs) cut.same)
     (λ cut. cut_run_same cut.1 cut.0 new cut.4 ∙ ((opens_none old cut.0 cut.3).0 ∙ ap quotas_so_far (sym closed)))
     broke
 start_cut (Some runs) old new there broke = cut_run_same runs old new broke
 
-none_begun : (runs later : RunsSeen) (old new : Stage) → old.runs ≡ Some runs → new.runs ≡ Some later → Asks runs later [] → quotas_so_far new.runs ≡ quotas_so_far old.runs
+none_begun : (runs later : RunsSeen) (old new : SessionStage) → old.runs ≡ Some runs → new.runs ≡ Some later → Asks runs later [] → quotas_so_far new.runs ≡ quotas_so_far old.runs
 none_begun runs later old new there is asks = ap quotas_so_far is ∙ (asks.begun ∙ (append-nil (quotas_begun runs.main.own) ∙ ap quotas_so_far (sym there)))
 
-stop_cut : (runs : Option RunsSeen) (old new : Stage) → old.runs ≡ runs → BreaksStop runs old new → quotas_so_far new.runs ≡ quotas_so_far old.runs
+stop_cut : (runs : Option RunsSeen) (old new : SessionStage) → old.runs ≡ runs → BreaksStop runs old new → quotas_so_far new.runs ≡ quotas_so_far old.runs
 stop_cut None old new closed broke = absurd broke
-stop_cut (Some runs) old new there broke = none_begun runs broke.0 old new there (ap (λ (s : Stage). s.runs) broke.1) (⊎_elim
+stop_cut (Some runs) old new there broke = none_begun runs broke.0 old new there (ap (λ (s : SessionStage). s.runs) broke.1) (⊎_elim
     (λ stopped. stop_asks (answer.Stopped stopped.0) old.clock new.clock (own_point runs old.database.access) (own_point broke.0 new.database.access) stopped.1)
     (λ unsaved. stopped_asks unsaved.0 (Err (record {})) old.clock new.clock (own_point runs old.database.access) (own_point broke.0 new.database.access) unsaved.1)
     broke.2)
 
-cut_same : (old new : Stage) → LineCut old new → quotas_so_far new.runs ≡ quotas_so_far old.runs
+cut_same : (old new : SessionStage) → LineCut old new → quotas_so_far new.runs ≡ quotas_so_far old.runs
 cut_same old new (CutsStartLine broke) = start_cut old.runs old new refl broke
 cut_same old new (CutsStopLine broke) = stop_cut old.runs old new refl broke
-cut_same old new (CutsCalls command broke same) = ap (λ (s : Stage). quotas_so_far s.runs) same
+cut_same old new (CutsCalls command broke same) = ap (λ (s : SessionStage). quotas_so_far s.runs) same
 
 -- a stop begins no start
 stop_answers : (said : RunReply) (before after : ClockTold) (old new : CommandPoint PassedOver) → AnswersStop NothingSaid said before after old new → asked_by said old.runs.quota ≡ []
@@ -373,9 +373,9 @@ stop_answers (answer.Started run) before after old new a = absurd a.0
 stop_answers (answer.Paused run) before after old new a = refl
 stop_answers (answer.Resumed run) before after old new a = refl
 
-closed_same : (runs : Option RunsSeen) (old : Stage) (said : Option Reply) (new : Stage) → old.runs ≡ runs → ClosesRun runs old said new → quotas_so_far new.runs ≡ quotas_so_far old.runs
-closed_same None old said new closed closes = ap (λ (s : Stage). quotas_so_far s.runs) closes.1
-closed_same (Some runs) old None new there closes = ap (λ (s : Stage). quotas_so_far s.runs) closes.1
+closed_same : (runs : Option RunsSeen) (old : SessionStage) (said : Option Reply) (new : SessionStage) → old.runs ≡ runs → ClosesRun runs old said new → quotas_so_far new.runs ≡ quotas_so_far old.runs
+closed_same None old said new closed closes = ap (λ (s : SessionStage). quotas_so_far s.runs) closes.1
+closed_same (Some runs) old None new there closes = ap (λ (s : SessionStage). quotas_so_far s.runs) closes.1
 closed_same (Some runs) old (Some said) new there closes =
     let c : RunsCommand StopsBy runs old said new = closes.1 in
     let before : CommandPoint PassedOver = own_point runs old.database.access in
@@ -383,11 +383,11 @@ closed_same (Some runs) old (Some said) new there closes =
     none_begun runs c.after old new there c.runs
     (subst (Asks runs c.after) (stop_answers c.answer old.clock new.clock before after c.does) (stop_asks c.answer old.clock new.clock before after c.does))
 
-abbrev HaveBegun : (asked : List ℕ) → Stage → Type 0
+abbrev HaveBegun : (asked : List ℕ) → SessionStage → Type 0
 HaveBegun asked s = quotas_so_far s.runs ≡ asked
 
 -- A whole script, however it ended.
-pub script_asks : (first final : Stage) (ending : Ending) (closing : Option Halt) (source left told_first told : Option (List ℕ)) (refusals : Refusals)
+pub script_asks : (first final : SessionStage) (ending : Ending) (closing : Option Halt) (source left told_first told : Option (List ℕ)) (refusals : Refusals)
     → (finished : Finished DoesScriptLine BreaksScriptLine ClosesScript GivesUp first ending closing source left told_first told final refusals)
     → first.runs ≡ None → quotas_so_far final.runs ≡ quotas_asked first.quota finished.lines finished.replies
 script_asks first final ending closing source left told_first told refusals finished none =

@@ -19,7 +19,7 @@ use Rattle.session_runs.specs.RunAnswers.{AnswersPause, AnswersResume, AnswersSt
 use Rattle.database_desk.specs.DatabaseLines.{BreaksDatabase}
 use Rattle.session_lines.specs.declared.passed_over.PassedOver.{PassedOver}
 use Rattle.session_lines.specs.NothingSaid.{NothingSaid, own_point}
-use Rattle.session_lines.specs.Stages.{Stage, members_declared, opened_runs, runs_with_quota, with_quota}
+use Rattle.session_lines.specs.Stages.{SessionStage, members_declared, opened_runs, runs_with_quota, with_quota}
 use Rattle.session_lines.specs.RunLines.{BreaksStart, BreaksStop, ClosesRun, CutsOpening, CutsRun, DoesPause, DoesResume, DoesStart, DoesStop, OpensSession, PausesBy, ResumesBy, RunsCommand, StartsBy, StopsBy}
 use Rattle.session_lines.specs.ScriptLines.{BreaksScriptLine, CallsDatabase, ClosesScript, DoesScriptLine, GivesUp}
 use Rattle.session_commands.specs.Keeping.{MayKeep, RunsKept, StageKept}
@@ -66,19 +66,19 @@ may_more laws d (Some runs) a b grows kept = more_kept laws d runs a b grows kep
 -- Stages.
 
 -- with other calls on the database
-moved_kept : FitLaws → (old moved new : Stage) → new ≡ moved → moved.declared ≡ old.declared → moved.runs ≡ old.runs → Grows old.database.access moved.database.access → StageKept old → StageKept new
+moved_kept : FitLaws → (old moved new : SessionStage) → new ≡ moved → moved.declared ≡ old.declared → moved.runs ≡ old.runs → Grows old.database.access moved.database.access → StageKept old → StageKept new
 moved_kept laws old moved new is declared runs grows kept = subst StageKept (sym is)
     (subst (λ (d : Declared). MayKeep d (own_watched moved.database.access) moved.runs) (sym declared)
     (subst (λ (r : Option RunsSeen). MayKeep old.declared (own_watched moved.database.access) r) (sym runs)
     (may_more laws old.declared old.runs old.database.access moved.database.access grows kept)))
 
-open_kept : (s : Stage) (runs : RunsSeen) → s.runs ≡ Some runs → StageKept s → RunsKept s.declared (own_watched s.database.access) runs
+open_kept : (s : SessionStage) (runs : RunsSeen) → s.runs ≡ Some runs → StageKept s → RunsKept s.declared (own_watched s.database.access) runs
 open_kept s runs is kept = subst (λ (r : Option RunsSeen). MayKeep s.declared (own_watched s.database.access) r) is kept
 
-kept_open : (s : Stage) (runs : RunsSeen) → s.runs ≡ Some runs → RunsKept s.declared (own_watched s.database.access) runs → StageKept s
+kept_open : (s : SessionStage) (runs : RunsSeen) → s.runs ≡ Some runs → RunsKept s.declared (own_watched s.database.access) runs → StageKept s
 kept_open s runs is kept = subst (λ (r : Option RunsSeen). MayKeep s.declared (own_watched s.database.access) r) (sym is) kept
 
-kept_closed : (s : Stage) → s.runs ≡ None → StageKept s
+kept_closed : (s : SessionStage) → s.runs ≡ None → StageKept s
 kept_closed s is = subst (λ (r : Option RunsSeen). MayKeep s.declared (own_watched s.database.access) r) (sym is) tt
 
 steered_kept : (d : Declared) (old new : RunsSeen) (own later : List WatchEntry) → SteersOn old new → RunsFit new later → RunsKept d own old → RunsKept d later new
@@ -95,37 +95,37 @@ steered_kept d old new own later on fit kept = record {
 
 -- Commands of runs.
 
-command_kept : (Does : RunReply → (old new : Stage) → (before after : RunsSeen) → Type 0) (before : RunsSeen) (old : Stage) (reply : Reply) (new : Stage) → (c : RunsCommand Does before old reply new)
+command_kept : (Does : RunReply → (old new : SessionStage) → (before after : RunsSeen) → Type 0) (before : RunsSeen) (old : SessionStage) (reply : Reply) (new : SessionStage) → (c : RunsCommand Does before old reply new)
     → SteersOn before c.after → RunsFit c.after (own_watched new.database.access) → RunsKept old.declared (own_watched old.database.access) before → StageKept new
 command_kept Does before old reply new c on fit kept = kept_open new c.after c.runs
     (subst (λ (d : Declared). RunsKept d (own_watched new.database.access) c.after) (sym c.declared)
     (steered_kept old.declared before c.after (own_watched old.database.access) (own_watched new.database.access) on fit kept))
 
-start_command : FitLaws → (before : RunsSeen) (old : Stage) (reply : Reply) (new : Stage) → RunsCommand StartsBy before old reply new → RunsKept old.declared (own_watched old.database.access) before → StageKept new
+start_command : FitLaws → (before : RunsSeen) (old : SessionStage) (reply : Reply) (new : SessionStage) → RunsCommand StartsBy before old reply new → RunsKept old.declared (own_watched old.database.access) before → StageKept new
 start_command laws before old reply new c kept = command_kept StartsBy before old reply new c
     (start_moves laws.spares NothingSaid c.answer old.clock new.clock (own_point before old.database.access) (own_point c.after new.database.access) c.does).steers
     (laws.start c.answer old.clock new.clock (own_point before old.database.access) (own_point c.after new.database.access) c.does kept.fit)
     kept
 
-stop_command : FitLaws → (before : RunsSeen) (old : Stage) (reply : Reply) (new : Stage) → RunsCommand StopsBy before old reply new → RunsKept old.declared (own_watched old.database.access) before → StageKept new
+stop_command : FitLaws → (before : RunsSeen) (old : SessionStage) (reply : Reply) (new : SessionStage) → RunsCommand StopsBy before old reply new → RunsKept old.declared (own_watched old.database.access) before → StageKept new
 stop_command laws before old reply new c kept = command_kept StopsBy before old reply new c
     (stop_moves laws.spares NothingSaid c.answer old.clock new.clock (own_point before old.database.access) (own_point c.after new.database.access) c.does).steers
     (laws.stop c.answer old.clock new.clock (own_point before old.database.access) (own_point c.after new.database.access) c.does kept.fit)
     kept
 
-pause_command : FitLaws → (before : RunsSeen) (old : Stage) (reply : Reply) (new : Stage) → RunsCommand PausesBy before old reply new → RunsKept old.declared (own_watched old.database.access) before → StageKept new
+pause_command : FitLaws → (before : RunsSeen) (old : SessionStage) (reply : Reply) (new : SessionStage) → RunsCommand PausesBy before old reply new → RunsKept old.declared (own_watched old.database.access) before → StageKept new
 pause_command laws before old reply new c kept = command_kept PausesBy before old reply new c
     (pause_moves laws.spares NothingSaid c.answer (own_point before old.database.access) (own_point c.after new.database.access) c.does.0).steers
     (laws.pause c.answer (own_point before old.database.access) (own_point c.after new.database.access) c.does.0 kept.fit)
     kept
 
-resume_command : FitLaws → (before : RunsSeen) (old : Stage) (reply : Reply) (new : Stage) → RunsCommand ResumesBy before old reply new → RunsKept old.declared (own_watched old.database.access) before → StageKept new
+resume_command : FitLaws → (before : RunsSeen) (old : SessionStage) (reply : Reply) (new : SessionStage) → RunsCommand ResumesBy before old reply new → RunsKept old.declared (own_watched old.database.access) before → StageKept new
 resume_command laws before old reply new c kept = command_kept ResumesBy before old reply new c
     (resume_moves laws.spares NothingSaid c.answer (own_point before old.database.access) (own_point c.after new.database.access) c.does.0).steers
     (laws.resume c.answer (own_point before old.database.access) (own_point c.after new.database.access) c.does.0 kept.fit)
     kept
 
-opened_kept : FitLaws → (old ready : Stage) → OpensSession old ready → StageKept ready
+opened_kept : FitLaws → (old ready : SessionStage) → OpensSession old ready → StageKept ready
 opened_kept laws old ready opens = kept_open ready (opened_runs old.quota ready.declared opens.engine) opens.runs (record {
   opened = ap (λ (d : Declared). d.opened) opens.declared;
   fronts = refl;
@@ -137,31 +137,31 @@ opened_kept laws old ready opens = kept_open ready (opened_runs old.quota ready.
   fit = laws.opening (opened_runs old.quota ready.declared opens.engine) (own_watched ready.database.access) refl refl (laws.registered 0 (members_declared ready.declared));
 })
 
-start_kept : FitLaws → (runs : Option RunsSeen) (old : Stage) (reply : Reply) (new : Stage) → old.runs ≡ runs → DoesStart runs old reply new → StageKept old → StageKept new
+start_kept : FitLaws → (runs : Option RunsSeen) (old : SessionStage) (reply : Reply) (new : SessionStage) → old.runs ≡ runs → DoesStart runs old reply new → StageKept old → StageKept new
 start_kept laws None old reply new is does kept = start_command laws does.1 does.0 reply new does.4 (open_kept does.0 does.1 does.2 (opened_kept laws old does.0 does.3))
 start_kept laws (Some runs) old reply new is does kept = start_command laws runs old reply new does (open_kept old runs is kept)
 
-stop_kept : FitLaws → (runs : Option RunsSeen) (old : Stage) (reply : Reply) (new : Stage) → old.runs ≡ runs → DoesStop runs old reply new → StageKept old → StageKept new
+stop_kept : FitLaws → (runs : Option RunsSeen) (old : SessionStage) (reply : Reply) (new : SessionStage) → old.runs ≡ runs → DoesStop runs old reply new → StageKept old → StageKept new
 stop_kept laws None old reply new is does kept = subst StageKept (sym does.1) kept
 stop_kept laws (Some runs) old reply new is does kept = stop_command laws runs old reply new does (open_kept old runs is kept)
 
-pause_kept : FitLaws → (runs : Option RunsSeen) (old : Stage) (reply : Reply) (new : Stage) → old.runs ≡ runs → DoesPause runs old reply new → StageKept old → StageKept new
+pause_kept : FitLaws → (runs : Option RunsSeen) (old : SessionStage) (reply : Reply) (new : SessionStage) → old.runs ≡ runs → DoesPause runs old reply new → StageKept old → StageKept new
 pause_kept laws None old reply new is does kept = subst StageKept (sym does.1) kept
 pause_kept laws (Some runs) old reply new is does kept = pause_command laws runs old reply new does (open_kept old runs is kept)
 
-resume_kept : FitLaws → (runs : Option RunsSeen) (old : Stage) (reply : Reply) (new : Stage) → old.runs ≡ runs → DoesResume runs old reply new → StageKept old → StageKept new
+resume_kept : FitLaws → (runs : Option RunsSeen) (old : SessionStage) (reply : Reply) (new : SessionStage) → old.runs ≡ runs → DoesResume runs old reply new → StageKept old → StageKept new
 resume_kept laws None old reply new is does kept = subst StageKept (sym does.1) kept
 resume_kept laws (Some runs) old reply new is does kept = resume_command laws runs old reply new does (open_kept old runs is kept)
 
 -- Other lines.
 
-setup_by : (runs : Option RunsSeen) (old new : Stage) → old.runs ≡ runs → (old.declared.opened ≡ true → new.declared ≡ old.declared) → new ≡ record old { declared = new.declared } → StageKept old → StageKept new
-setup_by None old new is opened same kept = kept_closed new (ap (λ (s : Stage). s.runs) same ∙ is)
+setup_by : (runs : Option RunsSeen) (old new : SessionStage) → old.runs ≡ runs → (old.declared.opened ≡ true → new.declared ≡ old.declared) → new ≡ record old { declared = new.declared } → StageKept old → StageKept new
+setup_by None old new is opened same kept = kept_closed new (ap (λ (s : SessionStage). s.runs) same ∙ is)
 setup_by (Some runs) old new is opened same kept =
     let nothing : new ≡ old = same ∙ ap (λ (d : Declared). record old { declared = d }) (opened (open_kept old runs is kept).opened) in
     subst StageKept (sym nothing) kept
 
-setup_kept : (old new : Stage) → (old.declared.opened ≡ true → new.declared ≡ old.declared) → new ≡ record old { declared = new.declared } → StageKept old → StageKept new
+setup_kept : (old new : SessionStage) → (old.declared.opened ≡ true → new.declared ≡ old.declared) → new ≡ record old { declared = new.declared } → StageKept old → StageKept new
 setup_kept old new opened same kept = setup_by old.runs old new refl opened same kept
 
 quota_runs : (count : ℕ) (d : Declared) (own : List WatchEntry) (runs : Option RunsSeen) → MayKeep d own runs → MayKeep d own (option_map (runs_with_quota count) runs)
@@ -177,14 +177,14 @@ quota_runs count d own (Some runs) kept = record {
   fit = record { each_start = kept.fit.each_start; runs = kept.fit.runs; on = kept.fit.on };
 }
 
-quota_kept : (count : ℕ) (old new : Stage) → new ≡ with_quota count old → StageKept old → StageKept new
+quota_kept : (count : ℕ) (old new : SessionStage) → new ≡ with_quota count old → StageKept old → StageKept new
 quota_kept count old new is kept = subst StageKept (sym is) (quota_runs count old.declared (own_watched old.database.access) old.runs kept)
 
-calls_kept : FitLaws → (number : ℕ) (command : Command) (old : Stage) (reply : Reply) (new : Stage) → CallsDatabase number command old reply new → StageKept old → StageKept new
+calls_kept : FitLaws → (number : ℕ) (command : Command) (old : SessionStage) (reply : Reply) (new : SessionStage) → CallsDatabase number command old reply new → StageKept old → StageKept new
 calls_kept laws number command old reply new does kept =
     moved_kept laws old (record old { database = new.database }) new does.1 refl refl (forget old.database.access new.database.access (database_on laws.spares number command old.database reply new.database does.0)) kept
 
-kind_keeps : FitLaws → (number : ℕ) (line : Read Command) (old : Stage) (reply : Reply) (new : Stage) → LineKind number line old reply new → StageKept old → StageKept new
+kind_keeps : FitLaws → (number : ℕ) (line : Read Command) (old : SessionStage) (reply : Reply) (new : SessionStage) → LineKind number line old reply new → StageKept old → StageKept new
 kind_keeps laws number line old reply new (IsStill same) kept = subst StageKept (sym same) kept
 kind_keeps laws number line old reply new (Declares opened same) kept = setup_kept old new opened same kept
 kind_keeps laws number line old reply new (SetsQuota count same) kept = quota_kept count old new same kept
@@ -194,26 +194,26 @@ kind_keeps laws number line old reply new (IsPause does) kept = pause_kept laws 
 kind_keeps laws number line old reply new (IsResume does) kept = resume_kept laws old.runs old reply new refl does kept
 kind_keeps laws number line old reply new (CallsRows command is does) kept = calls_kept laws number command old reply new does kept
 
-pub line_keeps : FitLaws → (number : ℕ) (line : Read Command) (old new : Stage) (reply : Reply) → DoesScriptLine number line old reply new → StageKept old → StageKept new
+pub line_keeps : FitLaws → (number : ℕ) (line : Read Command) (old new : SessionStage) (reply : Reply) → DoesScriptLine number line old reply new → StageKept old → StageKept new
 line_keeps laws number line old new reply does kept = kind_keeps laws number line old reply new (line_kind number line old reply new does) kept
 
 -- Where memory ended.
 
-cut_run_kept : FitLaws → (before : RunsSeen) (old new : Stage) → CutsRun before old new → StageKept old → StageKept new
+cut_run_kept : FitLaws → (before : RunsSeen) (old new : SessionStage) → CutsRun before old new → StageKept old → StageKept new
 cut_run_kept laws before old new cut kept = moved_kept laws old _ new cut.same refl refl
     (forget old.database.access new.database.access (cut_on laws.spares old.clock new.clock (own_point before old.database.access) (own_point before new.database.access) cut.cut)) kept
 
-cut_opening_kept : (old new : Stage) → CutsOpening old new → StageKept new
-cut_opening_kept old new cut = kept_closed new (ap (λ (s : Stage). s.runs) cut.same ∙ cut.closed)
+cut_opening_kept : (old new : SessionStage) → CutsOpening old new → StageKept new
+cut_opening_kept old new cut = kept_closed new (ap (λ (s : SessionStage). s.runs) cut.same ∙ cut.closed)
 
-start_breaks : FitLaws → (runs : Option RunsSeen) (old new : Stage) → old.runs ≡ runs → BreaksStart runs old new → StageKept old → StageKept new
+start_breaks : FitLaws → (runs : Option RunsSeen) (old new : SessionStage) → old.runs ≡ runs → BreaksStart runs old new → StageKept old → StageKept new
 start_breaks laws None old new is broke kept = ⊎_elim
     (λ (cut : CutsOpening old new). cut_opening_kept old new cut)
     (λ cut. cut_run_kept laws cut.1 cut.0 new cut.4 (opened_kept laws old cut.0 cut.3))
     broke
 start_breaks laws (Some runs) old new is broke kept = cut_run_kept laws runs old new broke kept
 
-stop_breaks : FitLaws → (runs : Option RunsSeen) (old new : Stage) → old.runs ≡ runs → BreaksStop runs old new → StageKept old → StageKept new
+stop_breaks : FitLaws → (runs : Option RunsSeen) (old new : SessionStage) → old.runs ≡ runs → BreaksStop runs old new → StageKept old → StageKept new
 stop_breaks laws None old new is broke kept = absurd broke
 stop_breaks laws (Some runs) old new is broke kept =
     let after : RunsSeen = broke.0 in
@@ -227,26 +227,26 @@ stop_breaks laws (Some runs) old new is broke kept =
     (unsaved_moves laws.spares NothingSaid old.clock new.clock a b unsaved).steers (laws.unsaved old.clock new.clock a b unsaved shown.fit) shown)
     broke.2)
 
-other_breaks : FitLaws → (command : Command) (old new : Stage) → BreaksDatabase command old.database new.database → new ≡ record old { database = new.database } → StageKept old → StageKept new
+other_breaks : FitLaws → (command : Command) (old new : SessionStage) → BreaksDatabase command old.database new.database → new ≡ record old { database = new.database } → StageKept old → StageKept new
 other_breaks laws command old new broke same kept = moved_kept laws old (record old { database = new.database }) new same refl refl (forget old.database.access new.database.access (broken_on laws.spares command old.database new.database broke)) kept
 
-cut_keeps : FitLaws → (old new : Stage) → LineCut old new → StageKept old → StageKept new
+cut_keeps : FitLaws → (old new : SessionStage) → LineCut old new → StageKept old → StageKept new
 cut_keeps laws old new (CutsStartLine broke) kept = start_breaks laws old.runs old new refl broke kept
 cut_keeps laws old new (CutsStopLine broke) kept = stop_breaks laws old.runs old new refl broke kept
 cut_keeps laws old new (CutsCalls command broke same) kept = other_breaks laws command old new broke same kept
 
-pub line_breaks : FitLaws → (number : ℕ) (line : Read Command) (old new : Stage) → BreaksScriptLine number line old new → StageKept old → StageKept new
+pub line_breaks : FitLaws → (number : ℕ) (line : Read Command) (old new : SessionStage) → BreaksScriptLine number line old new → StageKept old → StageKept new
 line_breaks laws number line old new broke kept = cut_keeps laws old new (line_cut number line old new broke) kept
 
 -- Behind all lines.
 
-run_closes : FitLaws → (runs : Option RunsSeen) (old : Stage) (reply : Option Reply) (new : Stage) → old.runs ≡ runs → ClosesRun runs old reply new → StageKept old → StageKept new
+run_closes : FitLaws → (runs : Option RunsSeen) (old : SessionStage) (reply : Option Reply) (new : SessionStage) → old.runs ≡ runs → ClosesRun runs old reply new → StageKept old → StageKept new
 run_closes laws None old reply new is closed kept = subst StageKept (sym closed.1) kept
 run_closes laws (Some runs) old None new is closed kept = subst StageKept (sym closed.1) kept
 run_closes laws (Some runs) old (Some reply) new is closed kept = stop_command laws runs old reply new closed.1 (open_kept old runs is kept)
 
-pub script_closes : FitLaws → (old new : Stage) (reply : Option Reply) → ClosesScript old reply new → StageKept old → StageKept new
+pub script_closes : FitLaws → (old new : SessionStage) (reply : Option Reply) → ClosesScript old reply new → StageKept old → StageKept new
 script_closes laws old new reply closed kept = run_closes laws old.runs old reply new refl closed kept
 
-pub script_gives_up : FitLaws → (old new : Stage) → GivesUp old new → StageKept old → StageKept new
+pub script_gives_up : FitLaws → (old new : SessionStage) → GivesUp old new → StageKept old → StageKept new
 script_gives_up laws old new gave kept = stop_breaks laws old.runs old new refl gave.1 kept

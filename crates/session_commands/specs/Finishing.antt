@@ -11,7 +11,7 @@ use Rattle.session_runs.specs.KeptRuns.{RunsSeen}
 use Rattle.session_runs.specs.RunAnswers.{ClockTold, clock_of}
 use Rattle.session_replies.specs.declared.refusals.Refusals.{Refusals}
 use Rattle.database_desk.specs.DatabaseStages.{DatabaseStage, DumpFiles, dump_files}
-use Rattle.session_lines.specs.Stages.{Stage, first_stage, open_stage, unopened_stage}
+use Rattle.session_lines.specs.Stages.{SessionStage, first_stage, open_stage, unopened_stage}
 use Rattle.session_lines.specs.ScriptLines.{BreaksScriptLine, ClosesScript, DoesScriptLine, GivesUp, opens_session}
 use Rattle.script_desk.specs.declared.endings.Ending.{Ending}
 use Rattle.script_desk.specs.declared.halts.Halt.{Halt}
@@ -47,10 +47,10 @@ module _ {D E C : Type 0} (told : SideTold D E C) where
       record { access = told.access side.access; files = told.files side.files; replies = side.replies.replies }
 
   -- the stage of a session that is not open, and that of an open one
-  abbrev pub stage_unopened : (quota : ℕ) → Declared → MainSide D E C → Stage
+  abbrev pub stage_unopened : (quota : ℕ) → Declared → MainSide D E C → SessionStage
   stage_unopened quota declared side = unopened_stage quota declared (database_at side) (told.clock side.clock)
 
-  abbrev pub stage_open : DeclaredLists → RunsSeen → MainSide D E C → Stage
+  abbrev pub stage_open : DeclaredLists → RunsSeen → MainSide D E C → SessionStage
   stage_open lists runs side = open_stage (declared_by lists) (database_at side) (told.clock side.clock) runs
 
 -- Lines.
@@ -83,30 +83,30 @@ PlaysFirst told access files clock source written end behind quota declared side
     end behind.left behind.written behind.reading behind.last (stage_unopened told quota declared side) behind.refusals behind.number
 
 -- A script that began so was played to its end.
-abbrev pub FinishedAt : (first : Stage) (source written : Option (List ℕ)) (ending : Ending) (closing : Option Halt)
-    (behind : ScriptAt) (final : Stage) → Type 0
+abbrev pub FinishedAt : (first : SessionStage) (source written : Option (List ℕ)) (ending : Ending) (closing : Option Halt)
+    (behind : ScriptAt) (final : SessionStage) → Type 0
 FinishedAt first source written ending closing behind final =
     Finished DoesScriptLine BreaksScriptLine ClosesScript GivesUp first ending closing source behind.left written behind.written
     final behind.refusals
 
 -- From the line that was read on, a script is played to its end, however it began.
-abbrev pub FinishesLine : (at behind : ScriptAt) (now final : Stage) (ending : Ending) (closing : Option Halt) → Type 0
+abbrev pub FinishesLine : (at behind : ScriptAt) (now final : SessionStage) (ending : Ending) (closing : Option Halt) → Type 0
 FinishesLine at behind now final ending closing =
-    (first : Stage) (source written : Option (List ℕ)) →
+    (first : SessionStage) (source written : Option (List ℕ)) →
     HasLine DoesScriptLine BreaksScriptLine first source at.left written at.written at.reading at.last now at.refusals at.number →
     FinishedAt first source written ending closing behind final
 
 -- The same of the first start, which opens the session.
-abbrev pub FinishesOpening : (at behind : ScriptAt) (now final : Stage) (ending : Ending) (closing : Option Halt) → Type 0
+abbrev pub FinishesOpening : (at behind : ScriptAt) (now final : SessionStage) (ending : Ending) (closing : Option Halt) → Type 0
 FinishesOpening at behind now final ending closing =
-    (first : Stage) (source written : Option (List ℕ)) →
+    (first : SessionStage) (source written : Option (List ℕ)) →
     OpensAt DoesScriptLine BreaksScriptLine opens_session first source at.left written at.written at.reading at.last now
     at.refusals at.number →
     FinishedAt first source written ending closing behind final
 
 -- Where the lines of a script opened no session, it was played to its end with the last of them.
 abbrev pub UnopenedFinish : Type 0
-UnopenedFinish = (first now : Stage) (ending : Ending) (source left told_first told : Option (List ℕ)) (refusals : Refusals) →
+UnopenedFinish = (first now : SessionStage) (ending : Ending) (source left told_first told : Option (List ℕ)) (refusals : Refusals) →
     Played DoesScriptLine BreaksScriptLine first ending source left told_first told now refusals → now.runs ≡ None →
     Finished DoesScriptLine BreaksScriptLine ClosesScript GivesUp first ending None source left told_first told now refusals
 

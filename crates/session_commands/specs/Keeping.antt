@@ -11,7 +11,7 @@ use Rattle.session_engine.specs.Members.{registrations}
 use Rattle.session_setup.specs.Setup.{Declared}
 use Rattle.session_runs.specs.KeptRuns.{IsInStep, RunsSeen, channels_of}
 use Rattle.session_runs.specs.RunsFit.{RunsFit, SteersEngine}
-use Rattle.session_lines.specs.Stages.{Stage, analyzer_names, front_names, members_declared}
+use Rattle.session_lines.specs.Stages.{SessionStage, analyzer_names, front_names, members_declared}
 use Rattle.watch_commands.specs.WatchSpares.{SparesWatched}
 
 -- The main thread keeps the names of the declared front-ends, the declared channels and the names of the declared analyzers; it
@@ -32,7 +32,7 @@ MayKeep declared database None = ⊤
 MayKeep declared database (Some runs) = RunsKept declared database runs
 
 -- That holds where a session is open.
-abbrev pub StageKept : Stage → Type 0
+abbrev pub StageKept : SessionStage → Type 0
 StageKept s = MayKeep s.declared (own_watched s.database.access) s.runs
 
 -- By its own calls the main thread stands between two transitions, and a run is on exactly where the engine's state is not
@@ -42,7 +42,7 @@ pub record KnowsRuns (runs : RunsSeen) : Type 0 where
   pub free : StandsFree runs.main.own
 
 -- Where it knows that behind a script, no run is on.
-abbrev pub EndsOver : Stage → Type 0
+abbrev pub EndsOver : SessionStage → Type 0
 EndsOver s = (last : RunsSeen) → s.runs ≡ Some last → KnowsRuns last → last.on ≡ None
 
 -- these calls remove nothing of `/Runinfo`
@@ -50,7 +50,7 @@ abbrev pub AllSpare : List WatchEntry → Type 0
 AllSpare calls = AllByRecursion SparesWatched calls
 
 -- No call of the main thread on the database does.
-abbrev pub StageSpares : Stage → Type 0
+abbrev pub StageSpares : SessionStage → Type 0
 StageSpares s = AllSpare (own_watched s.database.access)
 
 -- where the call asks for the text of the database, there was memory for it
@@ -63,5 +63,5 @@ abbrev pub AllSaved : List WatchEntry → Type 0
 AllSaved calls = AllByRecursion SavesDump calls
 
 -- So it is with the calls of the main thread on the database.
-abbrev pub StageSaved : Stage → Type 0
+abbrev pub StageSaved : SessionStage → Type 0
 StageSaved s = AllSaved (own_watched s.database.access)

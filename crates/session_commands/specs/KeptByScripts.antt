@@ -8,7 +8,7 @@ use Rattle.script_desk.specs.declared.halts.Halt.TheVariants.{NoMemory as no_mem
 use Rattle.script_desk.specs.Closing.{Finished, ended_by}
 use Rattle.session_replies.specs.declared.refusals.Refusals.{Refusals}
 use Rattle.session_replies.specs.declared.replies.Reply.{Reply}
-use Rattle.session_lines.specs.Stages.{Stage}
+use Rattle.session_lines.specs.Stages.{SessionStage}
 use Rattle.session_lines.specs.ScriptLines.{BreaksScriptLine, ClosesScript, DoesScriptLine, GivesUp}
 use Rattle.session_commands.specs.Endings.{NotesFailed, OneReply, asks_files, is_fault}
 use Rattle.session_commands.specs.Keeping.{EndsOver, StageKept, StageSaved, StageSpares}
@@ -23,7 +23,7 @@ use Rattle.session_commands.specs.Quotas.{quotas_asked, quotas_so_far}
 -- is a fault exactly where their count rose; and however it ended, each of these replies that is a fault, or a clash of names, was
 -- counted for itself.
 pub record KeptByScript (lines : List (List ℕ)) (replies : List Reply) (ending : Ending) (closing : Option Halt)
-    (first final : Stage) : Type 0 where
+    (first final : SessionStage) : Type 0 where
   pub kept : StageKept first → StageKept final
   pub over : EndsOver final
   pub spares : StageSpares first → StageSpares final
@@ -37,7 +37,7 @@ pub record KeptByScript (lines : List (List ℕ)) (replies : List Reply) (ending
 
 -- So does each script that was played to its end.
 abbrev pub ScriptsKeep : Type 0
-ScriptsKeep = (first final : Stage) (ending : Ending) (closing : Option Halt) (source left told_first told : Option (List ℕ))
+ScriptsKeep = (first final : SessionStage) (ending : Ending) (closing : Option Halt) (source left told_first told : Option (List ℕ))
     (refusals : Refusals) →
     (finished : Finished DoesScriptLine BreaksScriptLine ClosesScript GivesUp first ending closing source left told_first told final
     refusals) →

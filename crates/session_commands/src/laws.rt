@@ -4,7 +4,7 @@ ghost use Rattle.script_desk.specs.declared.endings.Ending.{Ending};
 ghost use Rattle.script_desk.specs.declared.endings.Ending.TheVariants.{Halted};
 ghost use Rattle.script_desk.specs.declared.halts.Halt.{Halt};
 ghost use Rattle.script_desk.specs.declared.halts.Halt.TheVariants.{NoMemory as no_memory};
-ghost use Rattle.session_lines.specs.Stages.{Stage};
+ghost use Rattle.session_lines.specs.Stages.{SessionStage};
 ghost use Rattle.session_lines.specs.RunLines.{CutsOpening, OpensSession};
 ghost use Rattle.session_commands.specs.Finishing.{FinishesLine, FinishesOpening, ScriptAt, UnopenedFinish};
 ghost use Rattle.session_commands.specs.KeptByScripts.{ScriptsKeep};
@@ -24,11 +24,11 @@ use watch_commands::laws::watch_commands_spare_runinfo;
 /// What the first start does once its session is open it does from where the session was not open. Where there is no memory to
 /// open it, the script ended there. And behind a script that opened no session nothing is done.
 pub fn first_start_opens<'a, D: Database, E: Files, C: Clock>(_shared: &'a SharedOdb<D>)
-    ensures ready { (at behind : ScriptAt) (now ready final : Stage) (ending : Ending)
+    ensures ready { (at behind : ScriptAt) (now ready final : SessionStage) (ending : Ending)
         (closing : Option Halt) → OpensSession now ready
         → FinishesLine at behind ready final ending closing
         → FinishesOpening at behind now final ending closing }
-    ensures cut { (at : ScriptAt) (now new : Stage) → CutsOpening now new
+    ensures cut { (at : ScriptAt) (now new : SessionStage) → CutsOpening now new
         → FinishesOpening at at now new (Halted no_memory) None }
     ensures unopened { UnopenedFinish }
 {

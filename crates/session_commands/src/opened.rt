@@ -44,7 +44,7 @@ fn begin_line<R: Wait, M: Rounds>(rt: &R, members: &mut M, begun: &mut bool)
 }
 
 impl<'a, D: LastingPort, M: Rounds, E: Files, C: Clock> Answerer for Opened<'a, D, M, E, C> {
-    ghost use Rattle.session_lines.specs.Stages.{Stage, open_stage};
+    ghost use Rattle.session_lines.specs.Stages.{SessionStage, open_stage};
     ghost use Rattle.session_setup.specs.Setup.{declared_by};
     ghost use Rattle.session_lines.specs.ScriptLines.{BreaksScriptLine, ClosesScript, DoesScriptLine, GivesUp};
     ghost use Rattle.database_desk.specs.DatabaseStages.{database_stage};
@@ -52,7 +52,7 @@ impl<'a, D: LastingPort, M: Rounds, E: Files, C: Clock> Answerer for Opened<'a, 
     ghost use Rattle.session_lines.specs.Staying.{StaysOpen};
     ghost use Rattle.session_lines.proofs.StayingLaws.{stays_open, stays_open_on};
 
-    ghost Stage = { Stage };
+    ghost Stage = { SessionStage };
 
     ghost stage = { λ s. open_stage (declared_by s.lists.now)
         (database_stage (D.access s.database.access) (E.seen s.database.files)

@@ -25,14 +25,14 @@ pub struct Unopened<D: LastingPort, E: Files, C: Clock> {
 }
 
 impl<D: LastingPort, E: Files, C: Clock> Answerer for Unopened<D, E, C> {
-    ghost use Rattle.session_lines.specs.Stages.{Stage, unopened_stage};
+    ghost use Rattle.session_lines.specs.Stages.{SessionStage, unopened_stage};
     ghost use Rattle.session_lines.specs.ScriptLines.{BreaksScriptLine, ClosesScript, DoesScriptLine, GivesUp, opens_session};
     ghost use Rattle.database_desk.specs.DatabaseStages.{database_stage};
     ghost use Rattle.session_runs.specs.RunAnswers.{clock_of};
     ghost use Rattle.odb_port.specs.DatabasePorts.{IsSamePort};
     ghost use Rattle.std.proofs.Common.{refl, ◌∙◌};
 
-    ghost Stage = { Stage };
+    ghost Stage = { SessionStage };
 
     ghost stage = { λ s. unopened_stage s.quota s.declarations
         (database_stage (D.access s.database.access) (E.seen s.database.files)

@@ -26,7 +26,7 @@ use Rattle.session_runs.specs.RunAnswers.{AnswersPause, AnswersResume, AnswersSt
 use Rattle.session_replies.specs.declared.replies.Reply.{Reply}
 use Rattle.session_replies.specs.declared.replies.Reply.TheVariants.{WrongState, LastStart, RunNumber, StartRefused, Started as run_started, Paused as run_paused, Resumed as run_resumed, Stopped as run_stopped}
 use Rattle.session_lines.specs.NothingSaid.{NothingSaid, own_point}
-use Rattle.session_lines.specs.Stages.{Stage, front_names, open_stage, opened_runs}
+use Rattle.session_lines.specs.Stages.{SessionStage, front_names, open_stage, opened_runs}
 
 -- Replies.
 
@@ -75,7 +75,7 @@ reply_for runs (answer.Stopped run) =
 -- Commands of an open session, by the main thread's own calls. What its members did meanwhile is not said here.
 
 -- A command of runs that does so leads from the one stage to the other, with this reply.
-pub record RunsCommand (Does : RunReply → (old new : Stage) → (before after : RunsSeen) → Type 0) (before : RunsSeen) (old : Stage) (reply : Reply) (new : Stage) : Type 0 where
+pub record RunsCommand (Does : RunReply → (old new : SessionStage) → (before after : RunsSeen) → Type 0) (before : RunsSeen) (old : SessionStage) (reply : Reply) (new : SessionStage) : Type 0 where
   pub after : RunsSeen
   pub answer : RunReply
   pub does : Does answer old new before after
@@ -86,17 +86,17 @@ pub record RunsCommand (Does : RunReply → (old new : Stage) → (before after 
   pub files : new.database.files ≡ old.database.files
   pub replies : new.database.replies ≡ old.database.replies
 
-abbrev pub StartsBy : RunReply → (old new : Stage) → (before after : RunsSeen) → Type 0
+abbrev pub StartsBy : RunReply → (old new : SessionStage) → (before after : RunsSeen) → Type 0
 StartsBy reply old new before after = AnswersStart NothingSaid reply old.clock new.clock (own_point before old.database.access) (own_point after new.database.access)
 
-abbrev pub StopsBy : RunReply → (old new : Stage) → (before after : RunsSeen) → Type 0
+abbrev pub StopsBy : RunReply → (old new : SessionStage) → (before after : RunsSeen) → Type 0
 StopsBy reply old new before after = AnswersStop NothingSaid reply old.clock new.clock (own_point before old.database.access) (own_point after new.database.access)
 
-abbrev pub PausesBy : RunReply → (old new : Stage) → (before after : RunsSeen) → Type 0
+abbrev pub PausesBy : RunReply → (old new : SessionStage) → (before after : RunsSeen) → Type 0
 PausesBy reply old new before after =
     AnswersPause NothingSaid reply (own_point before old.database.access) (own_point after new.database.access) × (new.clock ≡ old.clock)
 
-abbrev pub ResumesBy : RunReply → (old new : Stage) → (before after : RunsSeen) → Type 0
+abbrev pub ResumesBy : RunReply → (old new : SessionStage) → (before after : RunsSeen) → Type 0
 ResumesBy reply old new before after =
     AnswersResume NothingSaid reply (own_point before old.database.access) (own_point after new.database.access) × (new.clock ≡ old.clock)
 
@@ -115,7 +115,7 @@ KeysMade fronts old new = (keys : List DatabaseEntry) × MakesKeys fronts keys �
 
 -- The session opens: what is declared is completed and stands from here on; the front-ends' keys are made; and the members are
 -- registered on an engine that is new.
-pub record OpensSession (old new : Stage) : Type 0 where
+pub record OpensSession (old new : SessionStage) : Type 0 where
   pub closed : old.runs ≡ None
   pub declared : new.declared ≡ opened_with_defaults old.declared
   pub keys : KeysMade (front_names new.declared) old.database.access new.database.access
@@ -139,50 +139,50 @@ pub record CutsKeys (fronts : List (List ℕ)) (old new : DatabaseAccess) : Type
       ⊎ ((name : List ℕ) × (slice_get fronts count ≡ Some name) × AddsCall between new (sent_key_made name (Err no_memory)))
 
 -- Memory ended as the session was to open: the first of the keys were made, and nothing else.
-pub record CutsOpening (old new : Stage) : Type 0 where
+pub record CutsOpening (old new : SessionStage) : Type 0 where
   pub closed : old.runs ≡ None
   pub keys : CutsKeys (front_names (opened_with_defaults old.declared)) old.database.access new.database.access
   pub same : new ≡ record old { database = record old.database { access = new.database.access } }
 
 -- The commands, by whether the session is open. One that is not open is stopped.
 
-abbrev pub DoesStart : Option RunsSeen → (old : Stage) → Reply → (new : Stage) → Type 0
+abbrev pub DoesStart : Option RunsSeen → (old : SessionStage) → Reply → (new : SessionStage) → Type 0
 DoesStart None old reply new =
-    (ready : Stage) × (opened : RunsSeen) × (ready.runs ≡ Some opened) × OpensSession old ready × RunsCommand StartsBy opened ready reply new
+    (ready : SessionStage) × (opened : RunsSeen) × (ready.runs ≡ Some opened) × OpensSession old ready × RunsCommand StartsBy opened ready reply new
 DoesStart (Some runs) old reply new = RunsCommand StartsBy runs old reply new
 
-abbrev pub IsStopped : (old : Stage) → Reply → (new : Stage) → Type 0
+abbrev pub IsStopped : (old : SessionStage) → Reply → (new : SessionStage) → Type 0
 IsStopped old reply new = (reply ≡ WrongState Stopped) × (new ≡ old)
 
-abbrev pub DoesStop : Option RunsSeen → (old : Stage) → Reply → (new : Stage) → Type 0
+abbrev pub DoesStop : Option RunsSeen → (old : SessionStage) → Reply → (new : SessionStage) → Type 0
 DoesStop None old reply new = IsStopped old reply new
 DoesStop (Some runs) old reply new = RunsCommand StopsBy runs old reply new
 
-abbrev pub DoesPause : Option RunsSeen → (old : Stage) → Reply → (new : Stage) → Type 0
+abbrev pub DoesPause : Option RunsSeen → (old : SessionStage) → Reply → (new : SessionStage) → Type 0
 DoesPause None old reply new = IsStopped old reply new
 DoesPause (Some runs) old reply new = RunsCommand PausesBy runs old reply new
 
-abbrev pub DoesResume : Option RunsSeen → (old : Stage) → Reply → (new : Stage) → Type 0
+abbrev pub DoesResume : Option RunsSeen → (old : SessionStage) → Reply → (new : SessionStage) → Type 0
 DoesResume None old reply new = IsStopped old reply new
 DoesResume (Some runs) old reply new = RunsCommand ResumesBy runs old reply new
 
 -- Memory ended in a start, before its run was begun.
-pub record CutsRun (before : RunsSeen) (old new : Stage) : Type 0 where
+pub record CutsRun (before : RunsSeen) (old new : SessionStage) : Type 0 where
   pub cut : CutsStart old.clock new.clock (own_point before old.database.access) (own_point before new.database.access)
   pub same : new ≡ record old { clock = new.clock; database = record old.database { access = new.database.access } }
 
-abbrev pub BreaksStart : Option RunsSeen → (old new : Stage) → Type 0
+abbrev pub BreaksStart : Option RunsSeen → (old new : SessionStage) → Type 0
 BreaksStart None old new =
-    CutsOpening old new ⊎ ((ready : Stage) × (opened : RunsSeen) × (ready.runs ≡ Some opened) × OpensSession old ready × CutsRun opened ready new)
+    CutsOpening old new ⊎ ((ready : SessionStage) × (opened : RunsSeen) × (ready.runs ≡ Some opened) × OpensSession old ready × CutsRun opened ready new)
 BreaksStart (Some runs) old new = CutsRun runs old new
 
 -- The stage with what a stop leaves of it.
-abbrev pub behind_command : (old new : Stage) → (after : RunsSeen) → Stage
+abbrev pub behind_command : (old new : SessionStage) → (after : RunsSeen) → SessionStage
 behind_command old new after = record old { clock = new.clock; database = record old.database { access = new.database.access }; runs = Some after }
 
 -- Memory ended in a stop: its dump was not saved, and it went on without; or it was made, and there was no memory for its
 -- reply.
-abbrev pub BreaksStop : Option RunsSeen → (old new : Stage) → Type 0
+abbrev pub BreaksStop : Option RunsSeen → (old new : SessionStage) → Type 0
 BreaksStop None old new = ⊥
 BreaksStop (Some runs) old new = (after : RunsSeen) × (new ≡ behind_command old new after)
     × (((run : ℕ) × StopsBy (answer.Stopped run) old new runs after)
@@ -194,7 +194,7 @@ abbrev pub runs_on : Option RunsSeen → Type 0
 runs_on None = ⊥
 runs_on (Some runs) = (run : _) × (runs.on ≡ Some run)
 
-abbrev pub ClosesRun : Option RunsSeen → (old : Stage) → Option Reply → (new : Stage) → Type 0
+abbrev pub ClosesRun : Option RunsSeen → (old : SessionStage) → Option Reply → (new : SessionStage) → Type 0
 ClosesRun None old reply new = (reply ≡ None) × (new ≡ old)
 ClosesRun (Some runs) old None new = (runs.on ≡ None) × (new ≡ old)
 ClosesRun (Some runs) old (Some reply) new = runs_on (Some runs) × RunsCommand StopsBy runs old reply new

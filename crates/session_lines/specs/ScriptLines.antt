@@ -8,21 +8,21 @@ use Rattle.odb_script.specs.Forms.{Read}
 use Rattle.session_replies.specs.declared.replies.Reply.{Reply}
 use Rattle.session_replies.specs.declared.replies.Reply.TheVariants.{Silent, BadCommand}
 use Rattle.session_setup.specs.Setup.{Declared}
-use Rattle.session_lines.specs.Stages.{Stage, with_quota}
+use Rattle.session_lines.specs.Stages.{SessionStage, with_quota}
 use Rattle.session_lines.specs.SetupReplies.{DeclaresBuffer, DeclaresFront, DeclaresChannel, DeclaresAnalyzer}
 use Rattle.database_desk.specs.DatabaseLines.{BreaksDatabase, DoesDatabase, calls_objects}
 use Rattle.session_lines.specs.RunLines.{BreaksStart, BreaksStop, ClosesRun, DoesPause, DoesResume, DoesStart, DoesStop, runs_on}
 
 -- a line that declares something
-abbrev pub SetsUp : (Declares : Declared → Reply → Declared → Type 0) → (old : Stage) → Reply → (new : Stage) → Type 0
+abbrev pub SetsUp : (Declares : Declared → Reply → Declared → Type 0) → (old : SessionStage) → Reply → (new : SessionStage) → Type 0
 SetsUp Declares old reply new = Declares old.declared reply new.declared × (new ≡ record old { declared = new.declared })
 
 -- a command of the online database
-abbrev pub CallsDatabase : (number : ℕ) → Command → (old : Stage) → Reply → (new : Stage) → Type 0
+abbrev pub CallsDatabase : (number : ℕ) → Command → (old : SessionStage) → Reply → (new : SessionStage) → Type 0
 CallsDatabase number command old reply new = DoesDatabase number command old.database reply new.database × (new ≡ record old { database = new.database })
 
 -- what a command does in the line of this number
-abbrev pub DoesCommand : (number : ℕ) → Command → (old : Stage) → Reply → (new : Stage) → Type 0
+abbrev pub DoesCommand : (number : ℕ) → Command → (old : SessionStage) → Reply → (new : SessionStage) → Type 0
 DoesCommand number Nothing old reply new = (reply ≡ Silent) × (new ≡ old)
 DoesCommand number Exit old reply new = (reply ≡ Silent) × (new ≡ old)
 DoesCommand number (Buffer name size) old reply new = SetsUp (DeclaresBuffer name size) old reply new
@@ -47,19 +47,19 @@ DoesCommand number (Notes watch) old reply new = CallsDatabase number (Notes wat
 DoesCommand number (Unwatch watch) old reply new = CallsDatabase number (Unwatch watch) old reply new
 
 -- What the line of this number does: nothing but its reply where it is no command.
-abbrev pub DoesScriptLine : (number : ℕ) → Read Command → (old : Stage) → Reply → (new : Stage) → Type 0
+abbrev pub DoesScriptLine : (number : ℕ) → Read Command → (old : SessionStage) → Reply → (new : SessionStage) → Type 0
 DoesScriptLine number (Err (no_command at)) old reply new = (reply ≡ BadCommand at) × (new ≡ old)
 DoesScriptLine number (Ok command) old reply new = DoesCommand number command old reply new
 
 -- Memory ended before the line of this number was answered, and so much was done of it. Only a start, a stop and the commands of
 -- the online database take memory.
-abbrev pub BreaksCommand : Command → (old new : Stage) → Type 0
+abbrev pub BreaksCommand : Command → (old new : SessionStage) → Type 0
 BreaksCommand Start old new = BreaksStart old.runs old new
 BreaksCommand Stop old new = BreaksStop old.runs old new
 BreaksCommand command old new =
     (calls_objects command ≡ true) × BreaksDatabase command old.database new.database × (new ≡ record old { database = new.database })
 
-abbrev pub BreaksScriptLine : (number : ℕ) → Read Command → (old new : Stage) → Type 0
+abbrev pub BreaksScriptLine : (number : ℕ) → Read Command → (old new : SessionStage) → Type 0
 BreaksScriptLine number (Err refusal) old new = ⊥
 BreaksScriptLine number (Ok command) old new = BreaksCommand command old new
 
@@ -69,9 +69,9 @@ opens_session (Ok Start) = true
 opens_session _ = false
 
 -- What is done behind all lines.
-abbrev pub ClosesScript : (old : Stage) → Option Reply → (new : Stage) → Type 0
+abbrev pub ClosesScript : (old : SessionStage) → Option Reply → (new : SessionStage) → Type 0
 ClosesScript old reply new = ClosesRun old.runs old reply new
 
 -- and where memory ended in that
-abbrev pub GivesUp : (old new : Stage) → Type 0
+abbrev pub GivesUp : (old new : SessionStage) → Type 0
 GivesUp old new = runs_on old.runs × BreaksStop old.runs old new

@@ -13,7 +13,7 @@ use Rattle.session_runs.specs.KeptRuns.{RunsSeen, channels_of}
 use Rattle.session_runs.specs.RunAnswers.{ClockTold}
 
 -- Where a session stands.
-pub record Stage : Type 0 where
+pub record SessionStage : Type 0 where
   -- how many events each front-end has to send in the runs that are started from here on
   pub quota : ℕ
   -- what is declared, and whether a start opened the session
@@ -26,7 +26,7 @@ pub record Stage : Type 0 where
   pub runs : Option RunsSeen
 
 -- a session before its first line
-abbrev pub first_stage : DatabaseAccess → DumpFiles → ClockTold → Stage
+abbrev pub first_stage : DatabaseAccess → DumpFiles → ClockTold → SessionStage
 first_stage access files clock = record {
   quota = 0;
   declared = nothing_declared;
@@ -36,7 +36,7 @@ first_stage access files clock = record {
 }
 
 -- the stage of a session that is not open
-abbrev pub unopened_stage : (quota : ℕ) → Declared → DatabaseStage → ClockTold → Stage
+abbrev pub unopened_stage : (quota : ℕ) → Declared → DatabaseStage → ClockTold → SessionStage
 unopened_stage quota declared database clock = record {
   quota = quota;
   declared = declared;
@@ -46,7 +46,7 @@ unopened_stage quota declared database clock = record {
 }
 
 -- the stage of an open session
-abbrev pub open_stage : Declared → DatabaseStage → ClockTold → RunsSeen → Stage
+abbrev pub open_stage : Declared → DatabaseStage → ClockTold → RunsSeen → SessionStage
 open_stage declared database clock runs = record {
   quota = runs.quota;
   declared = declared;
@@ -59,7 +59,7 @@ open_stage declared database clock runs = record {
 abbrev pub runs_with_quota : ℕ → RunsSeen → RunsSeen
 runs_with_quota count runs = record runs { quota = count }
 
-abbrev pub with_quota : ℕ → Stage → Stage
+abbrev pub with_quota : ℕ → SessionStage → SessionStage
 with_quota count s = record s { quota = count; runs = option_map (runs_with_quota count) s.runs }
 
 -- the names of the declared front-ends

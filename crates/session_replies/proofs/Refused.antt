@@ -6,10 +6,10 @@ use Rattle.session_replies.specs.declared.replies.Reply.{Reply}
 use Rattle.session_replies.specs.declared.refusals.Refusals.{Refusals}
 use Rattle.session_replies.specs.Console.{refuses_line, refused_lines, line_if}
 use Rattle.session_replies.proofs.ConsoleLaws.{refused_lines-more}
-use Rattle.session_replies.specs.Refused.{refusals_after, Counts}
+use Rattle.session_replies.specs.Refused.{refusals_after, CountsRefusals}
 
 -- one line more
-counts_more : (lines : List ℕ) (refusals : Refusals) (line : ℕ) → Counts lines refusals → (refused : Bool) → Counts (lines ++ line_if refused line) (refusals_after refusals line refused)
+counts_more : (lines : List ℕ) (refusals : Refusals) (line : ℕ) → CountsRefusals lines refusals → (refused : Bool) → CountsRefusals (lines ++ line_if refused line) (refusals_after refusals line refused)
 counts_more lines refusals line counts false = rw (append-nil lines) counts
 counts_more [] refusals line counts true = record { count = ap (λ (n : ℕ). n + 1) counts.count; first = rw counts.count refl }
 counts_more (x ∷ xs) refusals line counts true = record {
@@ -17,5 +17,5 @@ counts_more (x ∷ xs) refusals line counts true = record {
   first = let some : (refusals.count == 0) ≡ false = ne_eqb refusals.count 0 (omega (arith, counts.count)) in rw some counts.first;
 }
 
-pub counts_noted : (replies : List Reply) (reply : Reply) (refusals : Refusals) → Counts (refused_lines 1 replies) refusals → Counts (refused_lines 1 (replies ++ reply ∷ [])) (refusals_after refusals (1 + length replies) (refuses_line reply))
+pub counts_noted : (replies : List Reply) (reply : Reply) (refusals : Refusals) → CountsRefusals (refused_lines 1 replies) refusals → CountsRefusals (refused_lines 1 (replies ++ reply ∷ [])) (refusals_after refusals (1 + length replies) (refuses_line reply))
 counts_noted replies reply refusals counts = rw (refused_lines-more 1 replies reply) (counts_more (refused_lines 1 replies) refusals (1 + length replies) counts (refuses_line reply))

@@ -9,6 +9,6 @@ refusals_after old line true = record { count = old.count + 1; first = if old.co
 refusals_after old line false = old
 
 -- these lines are counted, and this is the first of them
-pub record Counts (lines : List ℕ) (refusals : Refusals) : Type 0 where
+pub record CountsRefusals (lines : List ℕ) (refusals : Refusals) : Type 0 where
   pub count : refusals.count ≡ length lines
   pub first : refusals.first ≡ first_line lines

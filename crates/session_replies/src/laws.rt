@@ -3,7 +3,7 @@ ghost use Rattle.std.specs.Prelude.{◌≡◌, ◌+◌, ◌++◌, ◌∷◌, [],
 ghost use Rattle.session_replies.specs.declared.replies.Reply.{Reply};
 ghost use Rattle.session_replies.specs.declared.refusals.Refusals.{Refusals};
 ghost use Rattle.session_replies.specs.Console.{console_text, line_if, refused_lines, refuses_line, text_of};
-ghost use Rattle.session_replies.specs.Refused.{Counts, refusals_after};
+ghost use Rattle.session_replies.specs.Refused.{CountsRefusals, refusals_after};
 
 /// A reply more prints its text behind that of the others.
 pub fn text_grows()
@@ -19,7 +19,7 @@ pub fn refusals_grow()
         → refused_lines line (replies ++ reply ∷ []) ≡ refused_lines line replies
         ++ line_if (refuses_line reply) (line + length replies) }
     ensures counted { (replies : List Reply) (reply : Reply) (refusals : Refusals)
-        → Counts (refused_lines 1 replies) refusals
-        → Counts (refused_lines 1 (replies ++ reply ∷ []))
+        → CountsRefusals (refused_lines 1 replies) refusals
+        → CountsRefusals (refused_lines 1 (replies ++ reply ∷ []))
         (refusals_after refusals (1 + length replies) (refuses_line reply)) }
 {}

@@ -4,7 +4,7 @@ ghost use Rattle.turn_lock.specs.Views.{carried};
 
 use crate::object::{Call, Machine};
 use crate::rule::{LockKey, LockRule, View};
-use crate::steps::{Counts, Frees, Joins, Looks, Says, SplitsNote, TakesTurn};
+use crate::steps::{Counts, Frees, Joins, Looks, Says, SplitsNote, TakesFreeTurn};
 use atomic_table::{Seat, Table};
 use std::alloc::Global;
 use std::hint::spin_loop;
@@ -118,7 +118,7 @@ impl<M: Machine> Turns<M> {
         let found = self
             .table
             .shared
-            .compare_exchange::<TakesTurn<M>>(&mut pass.seat, TURN, FREE, number);
+            .compare_exchange::<TakesFreeTurn<M>>(&mut pass.seat, TURN, FREE, number);
         if found == FREE {
             let value = self
                 .table

@@ -8,11 +8,11 @@ use atomic_table::{Join, Play, Split};
 use std::marker::{Brand, PhantomData};
 
 /// The compare and exchange of the turn from free to the pass's number.
-pub(crate) struct TakesTurn<M> {
+pub(crate) struct TakesFreeTurn<M> {
     machine: PhantomData<M>,
 }
 
-impl<M: Machine> Play<Option<Box<M>>, View<M::State, M::Entry>> for TakesTurn<M> {
+impl<M: Machine> Play<Option<Box<M>>, View<M::State, M::Entry>> for TakesFreeTurn<M> {
     ghost then = { takes_turn (λ boxed. M.state boxed.value) };
 }
 

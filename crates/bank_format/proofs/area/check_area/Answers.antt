@@ -1,5 +1,5 @@
 use Rattle.std.proofs.Common.{List, ℕ, length, sym, subst, ap, arith}
-use Rattle.bank_format.specs.Faults.{Passes}
+use Rattle.bank_format.specs.Faults.{PassesBanks}
 use Rattle.bank_format.specs.Spelled.{IsBytes}
 use Rattle.bank_format.proofs.BankLaws.{behind_is_shorter, IsBytes-behind, header_is_some}
 use Rattle.bank_format.proofs.AreaLaws.{passes-more, passes-none}
@@ -14,7 +14,7 @@ loop-left-preserved c =
     let has = c.in_ok-left.ensures.whole in
     let rest = c.in_ok-left.ensures.rest in
     record {
-      passes = subst (λ (xs : List ℕ). Passes c.args.format c.args.area.now xs) (sym rest) (passes-more c.args.format c.args.area.now c.loop-left.left.now inv.passes has inv.small);
+      passes = subst (λ (xs : List ℕ). PassesBanks c.args.format c.args.area.now xs) (sym rest) (passes-more c.args.format c.args.area.now c.loop-left.left.now inv.passes has inv.small);
       small = subst (λ (xs : List ℕ). IsBytes xs) (sym rest) (IsBytes-behind c.args.format c.loop-left.left.now inv.small);
       within = omega (arith, ap length rest, behind_is_shorter c.args.format c.loop-left.left.now has);
     }

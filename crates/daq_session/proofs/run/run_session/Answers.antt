@@ -2,7 +2,7 @@ use Rattle.std.proofs.Common.{refl}
 use Rattle.std.specs.Prelude.{◌≢◌, []}
 use Rattle.daq_types.specs.Callers.{main_caller}
 use Rattle.odb_lock.specs.SharedAccesses.{odb_identity, shared_access}
-use Rattle.session_lines.specs.Stages.{Stage}
+use Rattle.session_lines.specs.Stages.{SessionStage}
 use Rattle.session_commands.specs.Keeping.{StageSaved}
 use Rattle.daq_session.specs.declared.ends.ScriptEnd.TheVariants.{NoMemory}
 use Rattle.daq_session.proofs.AskedLaws.{kept_asked}
@@ -23,7 +23,7 @@ returns g c =
     let all = c.play_all-lines in
     let played = all.ensures.played in
     let lines = all.result.0 in
-    let final : Stage = played.final in
+    let final : SessionStage = played.final in
     let refusals = lines.script.desk.refusals in
     let kept = c.scripts_keep.ensures _ final lines.ending lines.closing _ _ _ _ refusals played.finished in
     let end = c.end_of-end.ensures (g.F.Files.faults outside.run_files) (g.E.Files.faults outside.odb_files) in
