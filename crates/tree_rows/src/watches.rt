@@ -121,9 +121,9 @@ fn changes_are_noted(rt: HostRuntime) -> Result<(), Fail> {
     let alloc = rt.alloc();
     for watched in WATCHED {
         let plain = is_noted(&rt, alloc, PlainTree::new(alloc), watched)?;
-        assert!(rt; plain, "{}", watched.about);
+        assert!(rt; plain, "plain: {}", watched.about);
         let arena = is_noted(&rt, alloc, ArenaTree::new(alloc), watched)?;
-        assert!(rt; arena, "{}", watched.about);
+        assert!(rt; arena, "arena: {}", watched.about);
     }
     Ok(())
 }

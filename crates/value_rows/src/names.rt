@@ -20,7 +20,7 @@ const NAMES: &[(&[u8], Option<NameRefusal>)] = &[
 #[test]
 fn names_by_the_rule(rt: HostRuntime) {
     for (text, refusal) in NAMES {
-        assert_eq!(rt; Name::new(text).err(), *refusal);
+        assert_eq!(rt; Name::new(text).err(), *refusal, "{text:?}");
     }
 }
 
