@@ -29,20 +29,26 @@ fn reads<E: Files>(
     Ok(same && read.reply() == wanted)
 }
 
+/// What the writing of these bytes answers, and whether the file then is that of one empty directory.
+fn write_and_read<E: Files>(
+    alloc: Global,
+    files: &mut E,
+    bytes: &[u8],
+) -> Result<(FileReply, bool), NoMemory> {
+    let reply = write_file(files, &dump_name(), bytes);
+    Ok((reply, reads(alloc, files, FileReply::Done, b"[/A]\n\n")?))
+}
+
 #[test]
 fn written_and_read_back(rt: HostRuntime) -> Result<(), Fail> {
     let alloc = rt.alloc();
     let mut files = MemFiles::new(alloc, 2, 1000, Vec::new(alloc))?;
-    let name = dump_name();
-    assert!(rt;
-        reads(alloc, &mut files, FileReply::Clash, b"")?,
-        "no file is there"
-    );
-    assert_eq!(rt; write_file(&mut files, &name, b"[/A]\n\n"), FileReply::Done);
-    assert!(rt; files.is_closed(&name));
-    assert!(rt; reads(alloc, &mut files, FileReply::Done, b"[/A]\n\n")?);
-    assert_eq!(rt; write_file(&mut files, &name, b"x"), FileReply::Clash);
-    assert!(rt; reads(alloc, &mut files, FileReply::Done, b"[/A]\n\n")?);
+    let found = reads(alloc, &mut files, FileReply::Clash, b"")?;
+    let written = write_and_read(alloc, &mut files, b"[/A]\n\n")?;
+    let again = write_and_read(alloc, &mut files, b"x")?;
+    assert!(rt; found, "no file is there");
+    assert!(rt; (written, again) == ((FileReply::Done, true), (FileReply::Clash, true)));
+    assert!(rt; files.is_closed(&dump_name()));
     Ok(())
 }
 
@@ -60,8 +66,7 @@ fn each_call_fails_once(rt: HostRuntime) -> Result<(), Fail> {
         let mut files = MemFiles::new(alloc, 2, 1000, fails)?;
         let reply = write_file(&mut files, &dump_name(), b"text");
         let got = read_file(alloc, &mut files, &dump_name())?.reply();
-        assert_eq!(rt; reply, *written);
-        assert_eq!(rt; got, *read);
+        assert!(rt; (reply, got) == (*written, *read), "{op:?}");
     }
     Ok(())
 }
@@ -72,10 +77,10 @@ fn replies_by_line(rt: HostRuntime) -> Result<(), Fail> {
     replies.push(3, FileReply::Done);
     replies.reserve(2)?;
     replies.push(7, FileReply::Clash);
-    assert_eq!(rt; replies.len(), 2);
-    assert_eq!(rt; replies.get(0), Some(&(3, FileReply::Done)));
-    assert_eq!(rt; replies.pop(), Some((7, FileReply::Clash)));
-    assert_eq!(rt; replies.as_slice(), [(3, FileReply::Done)].as_slice());
+    let two = [(3, FileReply::Done), (7, FileReply::Clash)];
+    assert!(rt; (replies.len(), replies.get(0)) == (2, Some(&two[0])));
+    assert!(rt; replies.as_slice() == two.as_slice());
+    assert!(rt; (replies.pop(), replies.len()) == (Some(two[1]), 1));
     assert!(rt; FileReplies::empty(rt.alloc()).pop().is_none());
     Ok(())
 }

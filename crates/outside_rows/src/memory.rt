@@ -1,5 +1,7 @@
 //! Worked rows of the objects in memory.
-use crate::objects::{copy, first_three, is_send, next_three, write_and_read};
+use crate::objects::{
+    copy, first_three, is_send, made_again_and_removed_twice, next_three, write_and_read,
+};
 use daq_io::{Failed, FileSource, Files, Gate, NameRefused, Point, Sink, Source, write_all};
 use daq_mem::{FileFail, FileOp, MemClock, MemFiles, MemPick, MemSink, MemSource, NoGate};
 use daq_types::FileName;
@@ -14,32 +16,47 @@ fn source_and_sink_in_memory(rt: HostRuntime) -> Result<(), Fail> {
     let alloc = rt.alloc();
     let mut source = MemSource::new(b"events 3".to_vec(alloc)?, Vec::new(alloc));
     let mut sink = MemSink::new(alloc, 8, Vec::new(alloc))?;
-    assert_eq!(rt; copy(&mut source, &mut sink), Ok(8));
-    assert_eq!(rt; sink.bytes(), b"events 3".as_slice());
-    assert_eq!(rt; sink.write(b"\n"), Err(Failed), "no room is left");
-    assert_eq!(rt; sink.bytes(), b"events 3".as_slice());
+    let copied = copy(&mut source, &mut sink);
+    let behind = sink.write(b"\n");
+    assert!(rt; (copied, behind) == (Ok(8), Err(Failed)), "no room is left");
+    assert!(rt; sink.bytes() == b"events 3".as_slice());
     Ok(())
 }
 
-#[test]
-fn listed_reads_and_writes_fail(rt: HostRuntime) -> Result<(), Fail> {
-    let alloc = rt.alloc();
+/// What four readings of up to four bytes answer.
+fn four_readings(source: &mut MemSource) -> [Result<usize, Failed>; 4] {
     let mut piece = [0; 4];
-    let mut source = MemSource::new(b"start".to_vec(alloc)?, vec![in alloc; 1]?);
-    assert_eq!(rt; source.read(&mut piece), Ok(4));
-    assert_eq!(rt; source.read(&mut piece), Err(Failed));
-    assert_eq!(rt;
+    [
         source.read(&mut piece),
-        Ok(1),
-        "the failed call took nothing"
-    );
-    assert_eq!(rt; source.read(&mut piece), Ok(0));
+        source.read(&mut piece),
+        source.read(&mut piece),
+        source.read(&mut piece),
+    ]
+}
 
+#[test]
+fn a_listed_reading_fails_and_takes_nothing(rt: HostRuntime) -> Result<(), Fail> {
+    let alloc = rt.alloc();
+    let mut source = MemSource::new(b"start".to_vec(alloc)?, vec![in alloc; 1]?);
+    assert!(rt; four_readings(&mut source) == [Ok(4), Err(Failed), Ok(1), Ok(0)]);
+    Ok(())
+}
+
+/// What the writing of these three texts answers.
+fn three_writings(sink: &mut MemSink) -> [Result<(), Failed>; 3] {
+    [
+        write_all(sink, b"a"),
+        write_all(sink, b"bc"),
+        write_all(sink, b"d"),
+    ]
+}
+
+#[test]
+fn listed_writings_fail(rt: HostRuntime) -> Result<(), Fail> {
+    let alloc = rt.alloc();
     let mut sink = MemSink::new(alloc, 8, vec![in alloc; 0, 2]?)?;
-    assert_eq!(rt; write_all(&mut sink, b"a"), Err(Failed));
-    assert_eq!(rt; write_all(&mut sink, b"bc"), Ok(()));
-    assert_eq!(rt; write_all(&mut sink, b"d"), Err(Failed));
-    assert_eq!(rt; sink.bytes(), b"bc".as_slice());
+    assert!(rt; three_writings(&mut sink) == [Err(Failed), Ok(()), Err(Failed)]);
+    assert!(rt; sink.bytes() == b"bc".as_slice());
     Ok(())
 }
 
@@ -47,26 +64,49 @@ fn listed_reads_and_writes_fail(rt: HostRuntime) -> Result<(), Fail> {
 fn files_in_memory(rt: HostRuntime) -> Result<(), Fail> {
     let alloc = rt.alloc();
     let run = FileName::new("run00001.mid")?;
-    let dump = FileName::new("all.odb")?;
     let mut files = MemFiles::new(alloc, 2, 8, Vec::new(alloc))?;
     let mut into = [0; 8];
-    assert_eq!(rt;
-        write_and_read(&mut files, &run, b"MIDAS", &mut into),
-        Ok(5)
+    let count = write_and_read(&mut files, &run, b"MIDAS", &mut into)?;
+    assert!(rt; (count, into) == (5, *b"MIDAS\0\0\0"));
+    assert!(rt; (files.find(&run), files.is_closed(&run)) == (Some(b"MIDAS".as_slice()), true));
+    let answers = made_again_and_removed_twice(&mut files, &run);
+    assert!(rt;
+        answers
+            == (
+                Err(NameRefused::Exists),
+                [Ok(()); 2],
+                Err(NameRefused::Missing)
+            )
     );
-    assert_eq!(rt; &into[..5], b"MIDAS".as_slice());
-    assert_eq!(rt; files.find(&run), Some(b"MIDAS".as_slice()));
-    assert!(rt; files.is_closed(&run));
-    assert_eq!(rt; files.create(&run), Err(NameRefused::Exists));
-    assert_eq!(rt; files.open_read(&dump), Err(NameRefused::Missing));
-    assert_eq!(rt; files.remove(&dump), Ok(()));
-    assert_eq!(rt; files.first_fault(), None, "a clash of names is no fault");
-    files.add(dump, b"[/]".to_vec(alloc)?)?;
-    assert_eq!(rt; files.find(&dump), Some(b"[/]".as_slice()));
-    assert_eq!(rt; files.remove(&run), Ok(()));
-    assert_eq!(rt; files.find(&run), None);
+    assert!(rt;
+        (files.find(&run), files.first_fault()) == (None, None),
+        "a clash is no fault"
+    );
     is_send(&files);
     Ok(())
+}
+
+#[test]
+fn a_file_that_is_there_from_the_first(rt: HostRuntime) -> Result<(), Fail> {
+    let alloc = rt.alloc();
+    let dump = FileName::new("all.odb")?;
+    let mut files = MemFiles::new(alloc, 2, 8, Vec::new(alloc))?;
+    files.add(dump, b"[/]".to_vec(alloc)?)?;
+    assert!(rt; files.find(&dump) == Some(b"[/]".as_slice()));
+    Ok(())
+}
+
+/// Makes a file of three bytes, and answers what two more come to, for which no room is left, and what a second file does.
+fn overfill(
+    files: &mut MemFiles,
+    first: &FileName,
+    second: &FileName,
+) -> Result<(Result<(), Failed>, Result<u32, NameRefused>), NameRefused> {
+    let number = files.create(first)?;
+    files.append(number, b"abc")?;
+    let appended = files.append(number, b"de");
+    files.close(number)?;
+    Ok((appended, files.create(second)))
 }
 
 #[test]
@@ -75,17 +115,13 @@ fn what_does_not_fit_is_a_fault(rt: HostRuntime) -> Result<(), Fail> {
     let first = FileName::new("run00001.mid")?;
     let second = FileName::new("run00002.mid")?;
     let mut files = MemFiles::new(alloc, 1, 4, Vec::new(alloc))?;
-    let number = files.create(&first)?;
-    files.append(number, b"abc")?;
-    assert!(rt; files.append(number, b"de") == Err(Failed));
-    files.close(number)?;
-    assert_eq!(rt;
-        files.find(&first),
-        Some(b"abc".as_slice()),
+    let answers = overfill(&mut files, &first, &second)?;
+    assert!(rt; answers == (Err(Failed), Err(NameRefused::Failed)));
+    assert!(rt;
+        files.find(&first) == Some(b"abc".as_slice()),
         "nothing of the new bytes"
     );
-    assert_eq!(rt; files.create(&second), Err(NameRefused::Failed));
-    assert_eq!(rt; files.first_fault(), Some(first));
+    assert!(rt; files.first_fault() == Some(first));
     Ok(())
 }
 
@@ -104,8 +140,8 @@ fn listed_calls_on_files_fail(rt: HostRuntime) -> Result<(), Fail> {
         let mut files = MemFiles::new(alloc, 1, 4, fails)?;
         let mut into = [0; 4];
         let answer = write_and_read(&mut files, &run, b"abc", &mut into);
-        assert_eq!(rt; answer, Err(NameRefused::Failed), "{op:?}");
-        assert_eq!(rt; files.first_fault(), Some(run), "{op:?}");
+        let told = (answer, files.first_fault());
+        assert!(rt; told == (Err(NameRefused::Failed), Some(run)), "{op:?}");
     }
     Ok(())
 }
@@ -130,11 +166,10 @@ fn one_file_as_a_source(rt: HostRuntime) -> Result<(), Fail> {
     files.add(run, b"MIDAS".to_vec(alloc)?)?;
     let number = files.open_read(&run)?;
     let mut source = FileSource::new(files, number);
-    let mut sink = MemSink::new(alloc, 8, Vec::new(alloc))?;
-    assert_eq!(rt; copy(&mut source, &mut sink), Ok(5));
-    assert_eq!(rt; sink.bytes(), b"MIDAS".as_slice());
+    let mut into = [0; 8];
+    let count = source.read(&mut into);
+    assert!(rt; (count, into) == (Ok(5), *b"MIDAS\0\0\0"));
     let number = source.file();
-    let mut files = source.into_files();
-    assert_eq!(rt; files.close(number), Ok(()));
+    assert!(rt; source.into_files().close(number).is_ok());
     Ok(())
 }

@@ -20,6 +20,47 @@ pub fn write_and_read<F: Files>(
     Ok(count)
 }
 
+/// What a file's creation, opening and removal answer, in this order.
+pub fn made_opened_and_removed<F: Files>(
+    files: &mut F,
+    name: &FileName,
+) -> (
+    Result<u32, NameRefused>,
+    Result<u32, NameRefused>,
+    Result<(), Failed>,
+) {
+    (
+        files.create(name),
+        files.open_read(name),
+        files.remove(name),
+    )
+}
+
+/// What a file that is there answers when it is made, removed, opened and removed once more.
+pub fn made_again_and_removed_twice<F: Files>(
+    files: &mut F,
+    name: &FileName,
+) -> (
+    Result<u32, NameRefused>,
+    [Result<(), Failed>; 2],
+    Result<u32, NameRefused>,
+) {
+    let made = files.create(name);
+    let removed = files.remove(name);
+    let opened = files.open_read(name);
+    (made, [removed, files.remove(name)], opened)
+}
+
+/// Opens a file, and answers what one reading and the closing do.
+pub fn read_once<F: Files>(
+    files: &mut F,
+    name: &FileName,
+) -> Result<(Result<usize, Failed>, Result<(), Failed>), NameRefused> {
+    let number = files.open_read(name)?;
+    let read = files.read(number, &mut [0; 8]);
+    Ok((read, files.close(number)))
+}
+
 /// Appends to a file, and answers whether it took the bytes. It is still being written.
 fn is_appended<F: Files>(files: &mut F, file: u32, bytes: &[u8]) -> bool
     requires { IsTrue ((F.seen files.old).writes file) }

@@ -3,7 +3,7 @@ ghost use Rattle.std.specs.Prelude.{◌≡◌, ◌≤◌, ◌<◌, None, IfOk, v
 
 use daq_io::{Failed, Source, copy_front};
 use daq_mem::MemSource;
-use event_header::EventBuf;
+use event_header::{EventBuf, Header};
 use mid_format::{Ahead, BlockSource, MidFault, MidReader, begin_record, end_record};
 use std::alloc::{AllocError, Global};
 use std::test::Fail;
@@ -128,6 +128,27 @@ fn files_with_one_wrong_field(rt: HostRuntime) -> Result<(), Fail> {
     Ok(())
 }
 
+/// The number of the run, and the begin and end records, so far as they were read.
+type Records = (Option<u32>, Option<Header>, Option<Header>);
+
+fn records<S: Source>(reader: &MidReader<S>) -> Records {
+    (reader.run(), reader.begin(), reader.last())
+}
+
+/// The records before the first event, behind it and at the end of a file of one event, and what the two readings answer.
+fn read_through<S: Source>(
+    reader: &mut MidReader<S>,
+    into: &mut EventBuf,
+) -> ([Records; 3], [Result<Option<()>, MidFault>; 2])
+    requires { 4194304 ≤ into.old.room }
+{
+    let before = records(reader);
+    let first = reader.next(into);
+    let between = records(reader);
+    let second = reader.next(into);
+    ([before, between, records(reader)], [first, second])
+}
+
 #[test]
 fn a_source_in_single_bytes(rt: HostRuntime) -> Result<(), Fail> {
     let file = one_event(rt.alloc())?;
@@ -135,16 +156,20 @@ fn a_source_in_single_bytes(rt: HostRuntime) -> Result<(), Fail> {
     let mut reader = MidReader::new(SingleBytes {
         rest: file.as_slice(),
     });
-    assert_eq!(rt; reader.run(), None);
-    assert_eq!(rt; reader.next(&mut into), Ok(Some(())));
-    assert_eq!(rt; into.bytes().len(), 40);
-    assert_eq!(rt; into.header().serial_number, 1);
-    assert_eq!(rt; reader.run(), Some(1));
-    assert_eq!(rt; reader.begin(), Some(begin_record(1, 1000, 173)));
-    assert_eq!(rt; reader.last(), None);
-    assert_eq!(rt; reader.next(&mut into), Ok(None));
-    assert_eq!(rt; reader.last(), Some(end_record(1, 1010, 176)));
-    assert_eq!(rt; reader.into_source().read(&mut [0; 8]), Ok(0));
+    let (records, answers) = read_through(&mut reader, &mut into);
+    let begin = Some(begin_record(1, 1000, 173));
+    let end = Some(end_record(1, 1010, 176));
+    assert!(rt;
+        records
+            == [
+                (None, None, None),
+                (Some(1), begin, None),
+                (Some(1), begin, end)
+            ]
+    );
+    assert!(rt; answers == [Ok(Some(())), Ok(None)]);
+    assert!(rt; (into.bytes().len(), into.header().serial_number) == (40, 1));
+    assert!(rt; reader.into_source().read(&mut [0; 8]) == Ok(0));
     Ok(())
 }
 
@@ -155,8 +180,8 @@ fn a_source_that_fails_in_an_event(rt: HostRuntime) -> Result<(), Fail> {
     let source = MemSource::new(one_event(alloc)?, vec![in alloc; 3]?);
     let mut reader = MidReader::new(source);
     let failed = Err(MidFault::ReadFault);
-    assert_eq!(rt; read_two(&mut reader, &mut into), [failed, failed]);
-    assert_eq!(rt; reader.run(), Some(1));
+    let answers = read_two(&mut reader, &mut into);
+    assert!(rt; (answers, reader.run()) == ([failed, failed], Some(1)));
     Ok(())
 }
 
@@ -201,6 +226,18 @@ fn read_on<S: Ahead>(
     }
 }
 
+/// The next two answers of a reader, and its place behind them.
+fn read_two_on<S: Ahead>(
+    reader: &mut MidReader<S>,
+    into: &mut EventBuf,
+) -> ([Result<Option<u32>, MidFault>; 2], u64)
+    requires { 4194304 ≤ into.old.room }
+    ensures { into.new.room ≡ into.old.room }
+{
+    let answers = [read_on(reader, into), read_on(reader, into)];
+    (answers, reader.place())
+}
+
 #[test]
 fn events_at_hand(rt: HostRuntime) -> Result<(), Fail> {
     let alloc = rt.alloc();
@@ -208,12 +245,10 @@ fn events_at_hand(rt: HostRuntime) -> Result<(), Fail> {
         let mut into = EventBuf::new(alloc, 4_194_304)?;
         let file = MemSource::new(three_events(alloc)?, Vec::new(alloc));
         let mut reader = MidReader::new(BlockSource::new(file, block_of(alloc, *len)?));
-        assert_eq!(rt; read_on(&mut reader, &mut into), Ok(Some(24)));
-        assert_eq!(rt; read_on(&mut reader, &mut into), Ok(Some(24)), "{len}");
-        assert_eq!(rt; reader.place(), 269);
-        assert_eq!(rt; read_on(&mut reader, &mut into), Ok(Some(24)));
-        assert_eq!(rt; read_on(&mut reader, &mut into), Ok(None));
-        assert_eq!(rt; reader.place(), 501);
+        let front = read_two_on(&mut reader, &mut into);
+        let end = read_two_on(&mut reader, &mut into);
+        assert!(rt; front == ([Ok(Some(24)), Ok(Some(24))], 269), "{len}");
+        assert!(rt; end == ([Ok(Some(24)), Ok(None)], 501), "{len}");
     }
     Ok(())
 }

@@ -1,7 +1,8 @@
 //! Rows of each real object.
 use crate::failing_disk::{FailingDisk, FailingStep};
 use crate::objects::{
-    append_twice_and_close, copy, first_three, is_send, next_three, write_and_read,
+    append_twice_and_close, copy, first_three, is_send, made_again_and_removed_twice,
+    made_opened_and_removed, next_three, read_once, write_and_read,
 };
 use daq_io::{Failed, Files, NameRefused};
 use daq_std::{RoundPick, StdClock, StdFiles, StdSink, StdSource};
@@ -17,61 +18,87 @@ fn files_of_a_folder(rt: HostRuntime) -> Result<(), Fail> {
     let run = FileName::new("run00001.mid")?;
     let mut files = StdFiles::new(rt.alloc(), rt, folder, 1)?;
     let mut into = [0; 8];
-    assert_eq!(rt;
-        write_and_read(&mut files, &run, b"MIDAS", &mut into),
-        Ok(5)
-    );
-    assert!(rt; into.starts_with(b"MIDAS"));
+    let count = write_and_read(&mut files, &run, b"MIDAS", &mut into)?;
     let lies_below = fs::read(&rt, "files_of_a_folder/run00001.mid")?;
-    assert_eq!(rt; lies_below.as_slice(), b"MIDAS".as_slice());
-    assert_eq!(rt; files.create(&run), Err(NameRefused::Exists));
-    assert_eq!(rt; files.remove(&run), Ok(()));
-    assert_eq!(rt; files.open_read(&run), Err(NameRefused::Missing));
-    assert_eq!(rt; files.remove(&run), Ok(()));
-    assert_eq!(rt; files.first_fault(), None);
-
-    let nothing = FileName::new("/dev/null")?;
-    let number = files.open_read(&nothing)?;
-    assert_eq!(rt;
-        files.read(number, &mut into),
-        Ok(0),
-        "a name from the root"
+    assert!(rt; (count, into) == (5, *b"MIDAS\0\0\0"));
+    assert!(rt; lies_below.as_slice() == b"MIDAS".as_slice());
+    let answers = made_again_and_removed_twice(&mut files, &run);
+    assert!(rt;
+        answers
+            == (
+                Err(NameRefused::Exists),
+                [Ok(()); 2],
+                Err(NameRefused::Missing)
+            )
     );
-    files.close(number)?;
-    assert_eq!(rt; files.create(&nothing), Err(NameRefused::Exists));
+    assert_eq!(rt; files.first_fault(), None, "a clash of names is no fault");
     is_send(&files);
     fs::remove_dir(&rt, folder)?;
     Ok(())
 }
 
 #[test]
+fn a_name_from_the_root(rt: HostRuntime) -> Result<(), Fail> {
+    let folder = "a_name_from_the_root";
+    fs::create_dir(&rt, folder)?;
+    let mut files = StdFiles::new(rt.alloc(), rt, folder, 1)?;
+    let nothing = FileName::new("/dev/null")?;
+    let answers = (read_once(&mut files, &nothing), files.create(&nothing));
+    assert!(rt; answers == (Ok((Ok(0), Ok(()))), Err(NameRefused::Exists)));
+    fs::remove_dir(&rt, folder)?;
+    Ok(())
+}
+
+#[test]
+fn a_folder_is_no_file(rt: HostRuntime) -> Result<(), Fail> {
+    let folder = "a_folder_is_no_file";
+    fs::create_dir(&rt, folder)?;
+    fs::create_dir(&rt, "a_folder_is_no_file/part")?;
+    let mut files = StdFiles::new(rt.alloc(), rt, folder, 1)?;
+    let part = FileName::new("part")?;
+    let answers = (files.remove(&part), read_once(&mut files, &part));
+    assert!(rt; answers == (Err(Failed), Ok((Err(Failed), Ok(())))));
+    fs::remove_dir_all(&rt, folder)?;
+    Ok(())
+}
+
+/// Names in a folder with one file, and what a file's creation, opening and removal answer for each.
+const REFUSED_NAMES: &[(&str, NameRefused, NameRefused, Result<(), Failed>)] = &[
+    (
+        "no/run00001.mid",
+        NameRefused::Failed,
+        NameRefused::Missing,
+        Ok(()),
+    ),
+    (
+        "run00001.mid/x",
+        NameRefused::Failed,
+        NameRefused::Failed,
+        Err(Failed),
+    ),
+    (
+        "/dev/null/x",
+        NameRefused::Failed,
+        NameRefused::Failed,
+        Err(Failed),
+    ),
+];
+
+#[test]
 fn names_that_the_system_refuses(rt: HostRuntime) -> Result<(), Fail> {
     let folder = "names_that_the_system_refuses";
     fs::create_dir(&rt, folder)?;
-    fs::create_dir(&rt, "names_that_the_system_refuses/part")?;
-    let mut files = StdFiles::new(rt.alloc(), rt, folder, 1)?;
-    let mut into = [0; 8];
-    let run = FileName::new("run00001.mid")?;
-    write_and_read(&mut files, &run, b"MIDAS", &mut into)?;
-    let below_nothing = FileName::new("no/run00001.mid")?;
-    assert_eq!(rt; files.open_read(&below_nothing), Err(NameRefused::Missing));
-    assert_eq!(rt; files.remove(&below_nothing), Ok(()));
-    assert_eq!(rt; files.first_fault(), None, "a clash of names is no fault");
-
-    let below_file = FileName::new("run00001.mid/x")?;
-    assert_eq!(rt; files.open_read(&below_file), Err(NameRefused::Failed));
-    assert_eq!(rt; files.first_fault(), Some(below_file));
-    assert_eq!(rt; files.remove(&below_file), Err(Failed));
-    assert_eq!(rt; files.create(&below_file), Err(NameRefused::Failed));
-    assert_eq!(rt; files.create(&below_nothing), Err(NameRefused::Failed));
-    let below_root = FileName::new("/dev/null/x")?;
-    assert_eq!(rt; files.remove(&below_root), Err(Failed));
-
-    let part = FileName::new("part")?;
-    assert_eq!(rt; files.remove(&part), Err(Failed), "a folder");
-    let number = files.open_read(&part)?;
-    assert_eq!(rt; files.read(number, &mut into), Err(Failed), "a folder");
-    files.close(number)?;
+    fs::create(&rt, "names_that_the_system_refuses/run00001.mid")?;
+    for (text, created, opened, removed) in REFUSED_NAMES {
+        let name = FileName::new(text)?;
+        let mut files = StdFiles::new(rt.alloc(), rt, folder, 1)?;
+        let answers = made_opened_and_removed(&mut files, &name);
+        assert!(rt;
+            answers == (Err(*created), Err(*opened), *removed),
+            "{text}"
+        );
+        assert_eq!(rt; files.first_fault(), Some(name), "{text}");
+    }
     fs::remove_dir_all(&rt, folder)?;
     Ok(())
 }
@@ -79,7 +106,7 @@ fn names_that_the_system_refuses(rt: HostRuntime) -> Result<(), Fail> {
 /// A reason of the system, and what a file's creation, opening and removal answer for it.
 type Reason = (ErrorKind, NameRefused, NameRefused, Result<(), Failed>);
 
-const REASONS: [Reason; 3] = [
+const REASONS: &[Reason] = &[
     (
         ErrorKind::AlreadyExists,
         NameRefused::Exists,
@@ -103,19 +130,21 @@ const REASONS: [Reason; 3] = [
 #[test]
 fn reasons_of_the_system(rt: HostRuntime) -> Result<(), Fail> {
     let run = FileName::new("run00001.mid")?;
-    for (kind, created, opened, removed) in &REASONS {
+    for (kind, created, opened, removed) in REASONS {
         let step = FailingStep::Path(*kind);
         let mut files = StdFiles::new(rt.alloc(), FailingDisk { step }, "runs", 1)?;
-        assert_eq!(rt; files.create(&run), Err(*created), "{kind:?}");
-        assert_eq!(rt; files.open_read(&run), Err(*opened), "{kind:?}");
-        assert_eq!(rt; files.remove(&run), *removed, "{kind:?}");
+        let answers = made_opened_and_removed(&mut files, &run);
+        assert!(rt;
+            answers == (Err(*created), Err(*opened), *removed),
+            "{kind:?}"
+        );
         assert_eq!(rt; files.first_fault(), Some(run), "{kind:?}");
     }
     Ok(())
 }
 
 /// The step that fails, the length of a second append, and which of two appends and a close answer that all went well.
-const STEPS: [(FailingStep, usize, [bool; 3]); 5] = [
+const STEPS: &[(FailingStep, usize, [bool; 3])] = &[
     (FailingStep::Nothing, 65537, [true, true, true]),
     (FailingStep::Sync, 0, [true, true, false]),
     (FailingStep::SecondWrite, 0, [true, true, true]),
@@ -127,14 +156,20 @@ const STEPS: [(FailingStep, usize, [bool; 3]); 5] = [
 fn steps_that_fail(rt: HostRuntime) -> Result<(), Fail> {
     let run = FileName::new("run00001.mid")?;
     let bytes = vec![in rt.alloc(); 0; 65537]?;
-    for (step, count, expected) in &STEPS {
+    for (step, count, expected) in STEPS {
         let disk = FailingDisk { step: *step };
         let mut files = StdFiles::new(rt.alloc(), disk, "runs", 1)?;
-        let second = bytes.get(..*count).ok_or("bytes")?;
+        let (second, _) = bytes.split_at(bytes.len().min(*count));
         let answer = append_twice_and_close(&mut files, &run, b"MIDAS", second)?;
-        assert_eq!(rt; answer, *expected, "{step:?} {count}");
-        let first_fault = if answer == [true; 3] { None } else { Some(run) };
-        assert_eq!(rt; files.first_fault(), first_fault, "{step:?} {count}");
+        let first_fault = if *expected == [true; 3] {
+            None
+        } else {
+            Some(run)
+        };
+        assert!(rt;
+            (answer, files.first_fault()) == (*expected, first_fault),
+            "{step:?} {count}"
+        );
     }
     Ok(())
 }
