@@ -1,5 +1,5 @@
 //! A ring of bytes.
-ghost use Rattle.std.specs.Prelude.{◌≡◌, ◌<◌};
+ghost use Rattle.std.specs.Prelude.{◌≡◌, ◌≤◌, ◌<◌, length};
 
 use daq_types::Steps;
 use ring_bytes::Ring;
@@ -7,6 +7,15 @@ use std::marker::Brand;
 use std::process::Abort;
 use std::sync::ledger::{Blank, Ledger};
 use std::test::Fail;
+
+/// The eight bytes of the ring from this offset.
+fn read_at<L: Ledger>(ring: &Ring, off: u64, steps: &mut Steps<L>) -> [u8; 8]
+    requires { 8 ≤ length ring.now }
+{
+    let mut whole = [9; 8];
+    ring.get_at(off, &mut whole, steps);
+    whole
+}
 
 /// Writes over the end of a ring of eight bytes, and reads on both sides of it.
 fn write_over_the_end<L: Ledger, R: Abort>(rt: &R, ring: &mut Ring, blank: Blank)
@@ -16,15 +25,19 @@ fn write_over_the_end<L: Ledger, R: Abort>(rt: &R, ring: &mut Ring, blank: Blank
 {
     assert_eq!(rt; ring.size(), 8);
     let mut steps = Steps::<L>::new(blank);
-    let mut whole = [9; 8];
     ring.put_at(14, &[1, 2, 3, 4]);
-    ring.get_at(14, &mut whole, &mut steps);
-    assert_eq!(rt; whole, [1, 2, 3, 4, 0, 0, 0, 0]);
-    ring.get_at(0, &mut whole, &mut steps);
-    assert_eq!(rt; whole, [3, 4, 0, 0, 0, 0, 1, 2]);
+    let behind = read_at(ring, 14, &mut steps);
+    let all = read_at(ring, 0, &mut steps);
     ring.put_at(1, &[5]);
-    ring.get_at(u64::MAX, &mut whole, &mut steps);
-    assert_eq!(rt; whole, [2, 3, 5, 0, 0, 0, 0, 1]);
+    let around = read_at(ring, u64::MAX, &mut steps);
+    assert!(rt;
+        [behind, all, around]
+            == [
+                [1, 2, 3, 4, 0, 0, 0, 0],
+                [3, 4, 0, 0, 0, 0, 1, 2],
+                [2, 3, 5, 0, 0, 0, 0, 1],
+            ]
+    );
 }
 
 #[test]

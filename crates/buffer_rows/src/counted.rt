@@ -1,7 +1,7 @@
 //! Calls on a ring whose reads are counted.
 ghost use Rattle.std.specs.Prelude.{◌≡◌, ◌<◌};
 
-use buffer_core::{EventBuffer, Received};
+use buffer_core::{EventBuffer, Received, SendRefusal};
 use daq_types::{Kind, Name, Steps};
 use event_header::{EventBuf, Header};
 use ring_buffer::RingBuffer;
@@ -22,41 +22,48 @@ fn header(id: u16) -> Header {
     }
 }
 
-/// Sends three events into a ring of 256 bytes, and gets them. The third lies at the offsets 192 to 287, over
-/// the ring's end.
-fn send_over_the_end<L: Ledger, R: Abort + AllocGlobal>(
-    rt: &R,
-    buffer: &mut RingBuffer,
-    steps: &mut Steps<L>,
-) -> Result<(), Fail> {
-    let mut into = EventBuf::new(rt.alloc(), 72)?;
-    assert_eq!(rt;
-        buffer.attach(Name::new(b"ANA").expect(rt, "a name")),
-        Ok(0)
-    );
+/// Attaches a client that asks for all events, and begins a run.
+fn begin(rt: &impl Abort, buffer: &mut RingBuffer) {
+    let name = Name::new(b"ANA").expect(rt, "a name");
+    assert_eq!(rt; buffer.attach(name), Ok(0));
     assert_eq!(rt; buffer.request(0, 0xFFFF, 0xFFFF, Kind::All), Ok(0));
     assert_eq!(rt; buffer.begin(7), Ok(0));
-    assert_eq!(rt; buffer.send_counted(&header(1), &[1; 72], steps), Ok(0));
-    assert_eq!(rt;
-        buffer.send_in_run_counted(7, &header(2), &[2; 72], steps),
-        Ok(1)
-    );
-    assert_eq!(rt;
-        buffer.receive_counted(0, &mut into, steps),
-        Received::Got { place: 0, start: 0 }
-    );
-    assert_eq!(rt;
-        buffer.send_in_run_counted(7, &header(3), &[3; 72], steps),
-        Ok(2)
-    );
-    for (place, byte) in [(1, 2), (2, 3)] {
+}
+
+/// Sends three events into a ring of 256 bytes, and gets the first of them before the third is sent. The third
+/// lies at the offsets 192 to 287, over the ring's end.
+fn send_over_the_end<L: Ledger>(
+    buffer: &mut RingBuffer,
+    into: &mut EventBuf,
+    steps: &mut Steps<L>,
+) -> ([Result<u64, SendRefusal>; 3], Received) {
+    let first = buffer.send_counted(&header(1), &[1; 72], steps);
+    let second = buffer.send_in_run_counted(7, &header(2), &[2; 72], steps);
+    let received = buffer.receive_counted(0, into, steps);
+    let third = buffer.send_in_run_counted(7, &header(3), &[3; 72], steps);
+    ([first, second, third], received)
+}
+
+/// The places of the two events that are left, and the byte that the data of each have.
+const LEFT: &[(u64, u8)] = &[(1, 2), (2, 3)];
+
+/// Gets the events that are left.
+fn receive_the_rest<L: Ledger>(
+    rt: &impl Abort,
+    buffer: &mut RingBuffer,
+    into: &mut EventBuf,
+    steps: &mut Steps<L>,
+) {
+    for (place, byte) in LEFT {
         assert_eq!(rt;
-            buffer.receive_counted(0, &mut into, steps),
-            Received::Got { place, start: 7 }
+            buffer.receive_counted(0, into, steps),
+            Received::Got {
+                place: *place,
+                start: 7
+            }
         );
-        assert_eq!(rt; into.body(), [byte; 72].as_slice());
+        assert_eq!(rt; into.body(), [*byte; 72].as_slice());
     }
-    Ok(())
 }
 
 fn go_over_the_end<L: Ledger, R: Abort + AllocGlobal>(rt: &R, blank: Blank) -> Result<(), Fail>
@@ -66,7 +73,13 @@ fn go_over_the_end<L: Ledger, R: Abort + AllocGlobal>(rt: &R, blank: Blank) -> R
 {
     let mut steps = Steps::<L>::new(blank);
     let mut buffer = RingBuffer::over(Ring::new(rt.alloc(), 256)?);
-    send_over_the_end(rt, &mut buffer, &mut steps)?;
+    let mut into = EventBuf::new(rt.alloc(), 72)?;
+    begin(rt, &mut buffer);
+    assert!(rt;
+        send_over_the_end(&mut buffer, &mut into, &mut steps)
+            == ([Ok(0), Ok(1), Ok(2)], Received::Got { place: 0, start: 0 })
+    );
+    receive_the_rest(rt, &mut buffer, &mut into, &mut steps);
     Ok(())
 }
 

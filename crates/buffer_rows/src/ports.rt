@@ -7,7 +7,7 @@ use buffer_core::{
 };
 use daq_types::{Caller, Kind, Name, NoMemory};
 use event_header::{EventBuf, Header};
-use local_port::LocalPort;
+use local_port::{BufferJournal, LocalPort};
 use plain_buffer::PlainBuffer;
 use std::alloc::Global;
 use std::process::Abort;
@@ -55,6 +55,18 @@ fn name(rt: &impl Abort) -> Name {
     Name::new(b"ANA").expect(rt, "a name")
 }
 
+/// What a receive by a port answers.
+fn received<R: AllocGlobal + Wait, P: BufferPort>(
+    rt: &R,
+    port: &mut P,
+    client: u32,
+) -> Result<Received, NoMemory>
+    requires { 1 ≤ (P.access port.old).entries }
+{
+    let mut into = EventBuf::new(rt.alloc(), 24)?;
+    Ok(port.receive(rt, client, &mut into))
+}
+
 /// Makes the call by a port, and answers whether its reply is the right one.
 fn is_right<R: Abort + AllocGlobal + Wait, P: BufferPort>(
     rt: &R,
@@ -64,7 +76,6 @@ fn is_right<R: Abort + AllocGlobal + Wait, P: BufferPort>(
     requires room { 1 ≤ (P.access port.old).entries }
     requires bytes { 24 ≤ (P.access port.old).bytes }
 {
-    let mut into = EventBuf::new(rt.alloc(), 24)?;
     Ok(match step {
         Attach(reply) => port.attach(rt, name(rt)) == reply,
         Detach(client, reply) => port.detach(rt, client) == reply,
@@ -74,7 +85,7 @@ fn is_right<R: Abort + AllocGlobal + Wait, P: BufferPort>(
         SendInRun(start, reply) => {
             port.send_in_run(rt, start, &header(24), &DATA[..24]) == reply
         }
-        Receive(client, reply) => port.receive(rt, client, &mut into) == reply,
+        Receive(client, reply) => received(rt, port, client)? == reply,
         Begin(start, reply) => port.begin(rt, start) == reply,
         Pause(start, reply) => port.pause(rt, start) == reply,
         Resume(start, reply) => port.resume(rt, start) == reply,
@@ -91,7 +102,7 @@ fn new_port(alloc: Global) -> Result<LocalPort<PlainBuffer>, NoMemory> {
     Ok(port)
 }
 
-const STEPS: [Step; 15] = [
+const STEPS: &[Step] = &[
     Attach(Ok(0)),
     Request(0, Ok(0)),
     Send(Ok(0)),
@@ -115,19 +126,32 @@ const STEPS: [Step; 15] = [
     Detach(0, Ok(())),
 ];
 
-#[test]
-fn a_port_replies_as_its_buffer(rt: HostRuntime) -> Result<(), Fail> {
-    let mut port = new_port(rt.alloc())?;
+/// Makes the calls by the port, and compares their replies.
+fn make_calls<R: Abort + AllocGlobal + Wait>(
+    rt: &R,
+    port: &mut LocalPort<PlainBuffer>,
+) -> Result<(), Fail> {
     for (place, step) in STEPS.iter().enumerate() {
         port.reserve(1, 24)?;
-        assert!(rt; is_right(&rt, &mut port, *step)?, "call {place}");
+        assert!(rt; is_right(rt, port, *step)?, "call {place}");
     }
-    let (_, journal) = port.into_parts();
+    Ok(())
+}
+
+/// Looks for the calls in the journal, and at the fifth, which is a send.
+fn look_at(rt: &impl Abort, journal: &BufferJournal) {
     assert_eq!(rt; journal.len(), STEPS.len());
     assert!(rt; journal.len() > 4);
     let sent = journal.get(4);
-    assert_eq!(rt; sent.caller, Caller::of_client(3));
+    assert!(rt; (sent.caller, sent.body) == (Caller::of_client(3), DATA.as_slice()));
     assert!(rt; matches!(sent.entry, BufferEntry::SendInRun { start: 4, .. }));
-    assert_eq!(rt; sent.body, DATA.as_slice());
+}
+
+#[test]
+fn a_port_replies_as_its_buffer(rt: HostRuntime) -> Result<(), Fail> {
+    let mut port = new_port(rt.alloc())?;
+    make_calls(&rt, &mut port)?;
+    let (_, journal) = port.into_parts();
+    look_at(&rt, &journal);
     Ok(())
 }

@@ -152,7 +152,7 @@ const NOTHING: Received = Received::Empty {
     last: 0,
 };
 
-const MUST_GET: [Step; 15] = [
+const MUST_GET: &[Step] = &[
     Attach(Ok(0)),
     Request(0, 1, ANY, All, Ok(0)),
     Send(1, 0, 8, Ok(0)),
@@ -178,7 +178,7 @@ const MUST_GET: [Step; 15] = [
     Accepted(9),
 ];
 
-const PUSHED: [Step; 12] = [
+const PUSHED: &[Step] = &[
     Attach(Ok(0)),
     Request(0, 1, ANY, NonBlocking, Ok(0)),
     Send(1, 0, 8, Ok(0)),
@@ -193,7 +193,7 @@ const PUSHED: [Step; 12] = [
     Receive(0, Received::Got { place: 1, start: 0 }),
 ];
 
-const NOT_OWED: [Step; 12] = [
+const NOT_OWED: &[Step] = &[
     Attach(Ok(0)),
     Request(0, 2, ANY, All, Ok(0)),
     Send(1, 0, 8, Ok(0)),
@@ -216,7 +216,7 @@ const NOT_OWED: [Step; 12] = [
     ),
 ];
 
-const REFUSED: [Step; 8] = [
+const REFUSED: &[Step] = &[
     Send(
         1,
         0,
@@ -239,7 +239,7 @@ const REFUSED: [Step; 8] = [
 ];
 
 /// The third event lies over the end of the ring, at the offsets 192 to 287.
-const OVER_THE_END: [Step; 11] = [
+const OVER_THE_END: &[Step] = &[
     Attach(Ok(0)),
     Request(0, ANY, ANY, All, Ok(0)),
     Send(1, 0, 72, Ok(0)),
@@ -253,7 +253,7 @@ const OVER_THE_END: [Step; 11] = [
     Detach(0, Ok(())),
 ];
 
-const GIVEN_AS_SENT: [Step; 7] = [
+const GIVEN_AS_SENT: &[Step] = &[
     Attach(Ok(0)),
     Request(0, ANY, ANY, All, Ok(0)),
     Begin(4, Ok(0)),
@@ -263,7 +263,7 @@ const GIVEN_AS_SENT: [Step; 7] = [
     Given(1, 4, 1, 0, 24),
 ];
 
-const MATCHED: [Step; 13] = [
+const MATCHED: &[Step] = &[
     Attach(Ok(0)),
     Attach(Ok(1)),
     Attach(Ok(2)),
@@ -279,7 +279,7 @@ const MATCHED: [Step; 13] = [
     Receive(3, Received::NoClient),
 ];
 
-const CANCELLED: [Step; 10] = [
+const CANCELLED: &[Step] = &[
     Attach(Ok(0)),
     Request(0, 1, ANY, All, Ok(0)),
     Request(0, ANY, ANY, All, Ok(1)),
@@ -292,7 +292,7 @@ const CANCELLED: [Step; 10] = [
     Receive(0, NOTHING),
 ];
 
-const PASSED_OVER: [Step; 12] = [
+const PASSED_OVER: &[Step] = &[
     Attach(Ok(0)),
     Request(0, 2, ANY, All, Ok(0)),
     Send(1, 0, 8, Ok(0)),
@@ -307,7 +307,7 @@ const PASSED_OVER: [Step; 12] = [
     Send(1, 0, 8, Ok(8)),
 ];
 
-const GATED: [Step; 14] = [
+const GATED: &[Step] = &[
     Begin(1, Ok(0)),
     Begin(2, Err(MarkRefusal::GateOpen { start: 1 })),
     SendInRun(
@@ -350,31 +350,31 @@ const GATED: [Step; 14] = [
 ];
 
 /// What events a buffer holds back and gives, and which calls it refuses.
-const ROWS: [&[Step]; 10] = [
+const ROWS: &[&[Step]] = &[
     // A client that must get all events holds back sends.
-    &MUST_GET,
+    MUST_GET,
     // A client that need not get them is pushed.
-    &PUSHED,
+    PUSHED,
     // Events that nobody is owed are dropped.
-    &NOT_OWED,
+    NOT_OWED,
     // Events that are no good are refused.
-    &REFUSED,
+    REFUSED,
     // An event over the end of the ring is given whole, and stays where the room is too small.
-    &OVER_THE_END,
+    OVER_THE_END,
     // An event is given with its header, its data and its start number.
-    &GIVEN_AS_SENT,
+    GIVEN_AS_SENT,
     // Requests match by id and mask.
-    &MATCHED,
+    MATCHED,
     // A cancelled request asks no more.
-    &CANCELLED,
+    CANCELLED,
     // A client that has passed over all events holds back none.
-    &PASSED_OVER,
+    PASSED_OVER,
     // The gate lets one run in.
-    &GATED,
+    GATED,
 ];
 
 /// A request and a client give their numbers back, which are the next ones then.
-const FREED: [Step; 8] = [
+const FREED: &[Step] = &[
     Request(7, 1, ANY, All, Err(RequestRefusal::NoRequestSlot)),
     Cancel(7, 3, Ok(())),
     Request(7, 1, ANY, All, Ok(3)),
@@ -396,7 +396,7 @@ fn use_numbers_again<R: Abort + AllocGlobal, B: EventBuffer>(
     for request in 0..10 {
         assert_eq!(rt; buffer.request(7, 1, ANY, All), Ok(request));
     }
-    run_all(rt, buffer, &FREED)
+    run_all(rt, buffer, FREED)
 }
 
 /// Makes the calls on a new buffer of 256 bytes of each kind.
@@ -411,7 +411,7 @@ fn both_run<R: Abort + AllocGlobal>(rt: &R, steps: &[Step]) -> Result<(), Fail> 
 
 #[test]
 fn both_buffers_reply_by_the_rows(rt: HostRuntime) -> Result<(), Fail> {
-    for steps in &ROWS {
+    for steps in ROWS {
         both_run(&rt, steps)?;
     }
     use_numbers_again(&rt, &mut PlainBuffer::new(rt.alloc(), 256)?)?;

@@ -4,7 +4,7 @@ use run_states::{Role, after, allowed};
 use std::test::Fail;
 
 /// States, transitions, and the state that follows where the transition is allowed.
-const TRANSITIONS: [(RunState, Transition, Option<RunState>); 15] = [
+const TRANSITIONS: &[(RunState, Transition, Option<RunState>)] = &[
     (
         RunState::Stopped,
         Transition::Start,
@@ -32,7 +32,7 @@ const TRANSITIONS: [(RunState, Transition, Option<RunState>); 15] = [
 
 #[test]
 fn transitions_by_state(rt: HostRuntime) {
-    for (state, transition, next) in &TRANSITIONS {
+    for (state, transition, next) in TRANSITIONS {
         let found = if allowed(*state, *transition) {
             Some(after(*state, *transition))
         } else {
@@ -56,17 +56,12 @@ fn numbers_of(role: Role) -> [Option<u32>; 5] {
 
 #[test]
 fn numbers_by_role(rt: HostRuntime) -> Result<(), Fail> {
-    assert_eq!(rt;
-        numbers_of(Role::FrontEnd),
-        [Some(500), Some(500), Some(500), Some(500), Some(500)]
+    assert!(rt;
+        numbers_of(Role::FrontEnd) == [Some(500), Some(500), Some(500), Some(500), Some(500)]
     );
-    assert_eq!(rt;
-        numbers_of(Role::Logger),
-        [Some(200), Some(800), Some(800), Some(200), Some(800)]
+    assert!(rt;
+        numbers_of(Role::Logger) == [Some(200), Some(800), Some(800), Some(200), Some(800)]
     );
-    assert_eq!(rt;
-        numbers_of(Role::Analyzer),
-        [Some(300), Some(900), None, None, Some(900)]
-    );
+    assert!(rt; numbers_of(Role::Analyzer) == [Some(300), Some(900), None, None, Some(900)]);
     Ok(())
 }

@@ -162,13 +162,13 @@ fn make_calls(
 type Client = (u32, u32, bool);
 
 /// A client that wants the dump and a report.
-const ONE: [Client; 1] = [(500, 500, true)];
+const ONE: &[Client] = &[(500, 500, true)];
 
 /// Two such clients, of which the first is called first.
-const TWO: [Client; 2] = [(500, 500, true), (600, 600, true)];
+const TWO: &[Client] = &[(500, 500, true), (600, 600, true)];
 
 /// Two clients that want neither, and one that wants both, is called first, and last for start-abort.
-const THREE: [Client; 3] = [(500, 500, false), (500, 500, false), (200, 800, true)];
+const THREE: &[Client] = &[(500, 500, false), (500, 500, false), (200, 800, true)];
 
 /// An engine with these clients.
 fn new_engine(rt: &impl Abort, alloc: Global, clients: &[Client]) -> Result<Engine, Fail> {
@@ -187,10 +187,20 @@ fn told_at(tallies: &Tallies, place: usize) -> Option<(u32, bool)> {
     }
 }
 
+/// What the tallies tell at the first four places.
+fn all_told(tallies: &Tallies) -> [Option<(u32, bool)>; 4] {
+    [
+        told_at(tallies, 0),
+        told_at(tallies, 1),
+        told_at(tallies, 2),
+        told_at(tallies, 3),
+    ]
+}
+
 /// What a lock guards crosses threads.
 fn is_sent<T: Send + Drop>(_value: &T) {}
 
-const BY_SEQUENCE: [Call; 19] = [
+const BY_SEQUENCE: &[Call] = &[
     Poll(9, Found::NoClient),
     Begin(
         Pause,
@@ -217,7 +227,7 @@ const BY_SEQUENCE: [Call; 19] = [
     Check(Progress::None, 0),
 ];
 
-const WITHOUT_CLIENTS: [Call; 6] = [
+const WITHOUT_CLIENTS: &[Call] = &[
     BeginBare(Start, Ok(1)),
     Check(DONE, 0),
     Check(Progress::None, 0),
@@ -238,7 +248,7 @@ const REFUSED: Progress = Progress::Done {
     },
 };
 
-const START_REFUSED: [Call; 14] = [
+const START_REFUSED: &[Call] = &[
     Begin(Start, Ok(1)),
     Poll(2, Found::Turn(Start, true, true)),
     Yes(2, true),
@@ -255,7 +265,7 @@ const START_REFUSED: [Call; 14] = [
     Begin(Start, Ok(2)),
 ];
 
-const STOP_NOT_REFUSED: [Call; 9] = [
+const STOP_NOT_REFUSED: &[Call] = &[
     Begin(Start, Ok(1)),
     Poll(0, Found::Turn(Start, true, true)),
     Yes(0, true),
@@ -267,7 +277,7 @@ const STOP_NOT_REFUSED: [Call; 9] = [
     Check(DONE, 1),
 ];
 
-const DUMP_GIVEN_ONCE: [Call; 8] = [
+const DUMP_GIVEN_ONCE: &[Call] = &[
     Begin(Start, Ok(1)),
     Poll(0, Found::Turn(Start, true, true)),
     Poll(0, Found::Turn(Start, false, false)),
@@ -279,17 +289,17 @@ const DUMP_GIVEN_ONCE: [Call; 8] = [
 ];
 
 /// Clients, and calls on an engine that has them.
-const ROWS: [(&[Client], &[Call]); 5] = [
-    (&THREE, &BY_SEQUENCE),
-    (&[], &WITHOUT_CLIENTS),
-    (&THREE, &START_REFUSED),
-    (&ONE, &STOP_NOT_REFUSED),
-    (&TWO, &DUMP_GIVEN_ONCE),
+const ROWS: &[(&[Client], &[Call])] = &[
+    (THREE, BY_SEQUENCE),
+    (&[], WITHOUT_CLIENTS),
+    (THREE, START_REFUSED),
+    (ONE, STOP_NOT_REFUSED),
+    (TWO, DUMP_GIVEN_ONCE),
 ];
 
 #[test]
 fn calls_and_answers(rt: HostRuntime) -> Result<(), Fail> {
-    for (clients, calls) in &ROWS {
+    for (clients, calls) in ROWS {
         let mut engine = new_engine(&rt, rt.alloc(), clients)?;
         make_calls(&rt, rt.alloc(), &mut engine, calls)?;
     }
@@ -310,50 +320,52 @@ fn each_agrees(
     Ok(())
 }
 
+/// Registers as many clients as an engine takes.
+fn register_most(rt: &impl Abort, engine: &mut Engine) {
+    for number in 0..64u32 {
+        assert_eq!(rt; add_client(engine, 500, 500, false), Ok(number));
+    }
+}
+
+const BEGUN: &[Call] = &[
+    Register(Err(RegisterRefusal::NoSlot)),
+    Poll(63, Found::Idle(RunState::Stopped)),
+    Begin(Start, Ok(1)),
+];
+
+const LAST_REFUSES: &[Call] = &[Poll(63, Found::Turn(Start, false, false)), No(63, true)];
+
+const MOST_TALLIES: &[Call] = &[
+    Check(
+        Progress::Done {
+            outcome: StartOutcome::Refused {
+                client: 63,
+                why: Why::NotReady,
+            },
+        },
+        127,
+    ),
+    Check(Progress::None, 0),
+];
+
+/// Begins a start that the last of 64 clients refuses, and calls it off.
+fn refuse_last(rt: &impl Abort, alloc: Global, engine: &mut Engine) -> Result<(), Fail> {
+    make_calls(rt, alloc, engine, BEGUN)?;
+    each_agrees(rt, alloc, engine, 63, Found::Turn(Start, false, false))?;
+    make_calls(rt, alloc, engine, LAST_REFUSES)?;
+    each_agrees(rt, alloc, engine, 64, Found::Turn(StartAbort, false, false))?;
+    make_calls(rt, alloc, engine, MOST_TALLIES)
+}
+
 #[test]
 fn most_clients_and_tallies(rt: HostRuntime) -> Result<(), Fail> {
-    let alloc = rt.alloc();
-    let mut engine = Engine::new(alloc)?;
-    for number in 0..64u32 {
-        assert_eq!(rt; add_client(&mut engine, 500, 500, false), Ok(number));
-    }
-    let turn = Found::Turn(Start, false, false);
-    make_calls(
-        &rt,
-        alloc,
-        &mut engine,
-        &[
-            Register(Err(RegisterRefusal::NoSlot)),
-            Poll(63, Found::Idle(RunState::Stopped)),
-            Begin(Start, Ok(1)),
-        ],
-    )?;
-    each_agrees(&rt, alloc, &mut engine, 63, turn)?;
-    make_calls(&rt, alloc, &mut engine, &[Poll(63, turn), No(63, true)])?;
-    each_agrees(
-        &rt,
-        alloc,
-        &mut engine,
-        64,
-        Found::Turn(StartAbort, false, false),
-    )?;
-    let outcome = StartOutcome::Refused {
-        client: 63,
-        why: Why::NotReady,
-    };
-    make_calls(
-        &rt,
-        alloc,
-        &mut engine,
-        &[
-            Check(Progress::Done { outcome }, 127),
-            Check(Progress::None, 0),
-        ],
-    )
+    let mut engine = Engine::new(rt.alloc())?;
+    register_most(&rt, &mut engine);
+    refuse_last(&rt, rt.alloc(), &mut engine)
 }
 
 /// Calls of a run whose stop is answered by its clients.
-const RUN: [Call; 10] = [
+const RUN: &[Call] = &[
     Begin(Start, Ok(1)),
     Poll(2, Found::Turn(Start, true, true)),
     Yes(2, true),
@@ -366,58 +378,77 @@ const RUN: [Call; 10] = [
     Poll(2, Found::Turn(Stop, true, false)),
 ];
 
-#[test]
-fn tallies_by_answer(rt: HostRuntime) -> Result<(), Fail> {
-    let alloc = rt.alloc();
-    let mut engine = new_engine(&rt, alloc, &THREE)?;
-    make_calls(&rt, alloc, &mut engine, &RUN)?;
+/// The other two answer to the stop, one of them No.
+const STOPPED: &[Call] = &[
+    Poll(0, Found::Turn(Stop, false, false)),
+    No(0, true),
+    Poll(1, Found::Turn(Stop, false, false)),
+    Yes(1, true),
+];
+
+/// Makes the calls of the run, where the first client that is stopped counts what it sent.
+fn stop_run(rt: &impl Abort, alloc: Global, engine: &mut Engine) -> Result<(), Fail> {
+    make_calls(rt, alloc, engine, RUN)?;
     let counted = Tally::Front {
         sent: 7,
         ended: FrontEnded::Quota,
     };
     assert!(rt; engine.answer(2, Answer::Yes(counted)).is_ok());
-    let turn = Found::Turn(Stop, false, false);
-    make_calls(
-        &rt,
-        alloc,
-        &mut engine,
-        &[Poll(0, turn), No(0, true), Poll(1, turn), Yes(1, true)],
-    )?;
+    make_calls(rt, alloc, engine, STOPPED)
+}
+
+/// The tallies that move out at the end of the run.
+fn tallies_of_run(rt: &impl Abort, alloc: Global) -> Result<Tallies, Fail> {
+    let mut engine = new_engine(rt, alloc, THREE)?;
+    stop_run(rt, alloc, &mut engine)?;
     let mut tallies = Tallies::new(alloc)?;
     assert!(rt; engine.check(&mut tallies) == DONE);
-    for (place, told) in &[
-        (0, Some((2, false))),
-        (1, Some((0, true))),
-        (2, Some((1, true))),
-        (3, None),
-    ] {
-        assert_eq!(rt; told_at(&tallies, *place), *told);
-    }
+    Ok(tallies)
+}
+
+#[test]
+fn tallies_by_answer(rt: HostRuntime) -> Result<(), Fail> {
+    let mut tallies = tallies_of_run(&rt, rt.alloc())?;
+    assert!(rt; all_told(&tallies) == [Some((2, false)), Some((0, true)), Some((1, true)), None]);
     assert_eq!(rt; tallies.as_slice().len(), 3);
     assert!(rt; tallies.pop().is_some());
     assert_eq!(rt; tallies.into_vec().len(), 2);
     Ok(())
 }
 
+/// What blank reports answer, from which the first is taken: how many there are, and whether there is a second one
+/// before and after.
+fn take_blank(blanks: &mut Reports) -> (usize, bool, bool, bool) {
+    let len = blanks.len();
+    let before = blanks.get(1).is_some();
+    let is_taken = blanks.take_first().is_some();
+    (len, before, is_taken, blanks.get(1).is_some())
+}
+
+/// The sheet of a pause that is refused.
+fn refused_sheet(alloc: Global) -> Result<Sheet, Fail> {
+    let mut engine = Engine::new(alloc)?;
+    match engine.begin(Pause, new_sheet(alloc)?) {
+        Ok(_) => Err(Fail::from("the engine was stopped")),
+        Err((_, sheet)) => Ok(sheet),
+    }
+}
+
 #[test]
-fn handed_back(rt: HostRuntime) -> Result<(), Fail> {
+fn a_sheet_is_handed_back(rt: HostRuntime) -> Result<(), Fail> {
+    let sheet = refused_sheet(rt.alloc())?;
+    assert!(rt; sheet.dump.is_some());
+    let mut blanks = sheet.blanks;
+    assert!(rt; take_blank(&mut blanks) == (2, true, true, false));
+    assert_eq!(rt; blanks.into_vec().len(), 1);
+    Ok(())
+}
+
+#[test]
+fn an_answer_is_handed_back(rt: HostRuntime) -> Result<(), Fail> {
     let mut engine = Engine::new(rt.alloc())?;
     is_sent(&engine);
-    match engine.begin(Pause, new_sheet(rt.alloc())?) {
-        Ok(_) => assert!(rt; false),
-        Err((_, sheet)) => {
-            assert!(rt; sheet.dump.is_some());
-            let mut blanks = sheet.blanks;
-            assert_eq!(rt; blanks.len(), 2);
-            assert!(rt; blanks.get(1).is_some());
-            assert!(rt; blanks.take_first().is_some());
-            assert!(rt; blanks.get(1).is_none());
-            assert_eq!(rt; blanks.into_vec().len(), 1);
-        }
-    }
-    match engine.answer(0, Answer::No(Why::NotReady)) {
-        Ok(_) => assert!(rt; false),
-        Err((_, answer)) => assert!(rt; matches!(answer, Answer::No(Why::NotReady))),
-    }
+    let answered = engine.answer(0, Answer::No(Why::NotReady));
+    assert!(rt; matches!(answered, Err((_, Answer::No(Why::NotReady)))));
     Ok(())
 }

@@ -6,7 +6,7 @@ use std::fmt::Display;
 use std::process::Abort;
 use std::test::Fail;
 
-const FAULTS_OF_BANKS: [(BankFault, &str); 3] = [
+const FAULTS_OF_BANKS: &[(BankFault, &str)] = &[
     (
         BankFault::Short { at: 7 },
         "the banks end at byte 7, too early",
@@ -21,7 +21,7 @@ const FAULTS_OF_BANKS: [(BankFault, &str); 3] = [
     ),
 ];
 
-const REFUSALS_OF_BANKS: [(BankRefusal, &str); 3] = [
+const REFUSALS_OF_BANKS: &[(BankRefusal, &str)] = &[
     (
         BankRefusal::TooLong { len: 65_536 },
         "65536 bytes do not fit a bank of this format",
@@ -36,7 +36,7 @@ const REFUSALS_OF_BANKS: [(BankRefusal, &str); 3] = [
     ),
 ];
 
-const REFUSALS_OF_PATHS: [(PathRefusal, &str); 5] = [
+const REFUSALS_OF_PATHS: &[(PathRefusal, &str)] = &[
     (PathRefusal::EmptyName, "a name of the path is empty"),
     (
         PathRefusal::LongName,
@@ -61,7 +61,7 @@ fn say<E: Display>(rt: &impl Abort, alloc: Global, errors: &[(E, &str)]) -> Resu
 
 #[test]
 fn errors_of_banks_and_paths(rt: HostRuntime) -> Result<(), Fail> {
-    say(&rt, rt.alloc(), &FAULTS_OF_BANKS)?;
-    say(&rt, rt.alloc(), &REFUSALS_OF_BANKS)?;
-    say(&rt, rt.alloc(), &REFUSALS_OF_PATHS)
+    say(&rt, rt.alloc(), FAULTS_OF_BANKS)?;
+    say(&rt, rt.alloc(), REFUSALS_OF_BANKS)?;
+    say(&rt, rt.alloc(), REFUSALS_OF_PATHS)
 }

@@ -2,7 +2,17 @@
 use daq_types::{Order, RunState};
 use event_header::EventBuf;
 use frontend_kit::{EVENT_ROOM, Generator};
+use std::process::Abort;
 use std::test::Fail;
+
+/// The ids of two front-ends, and the word of the first event of each.
+const WORDS: &[(u16, u32)] = &[(1, 1817669548), (2, 3102535385)];
+
+/// Looks at the word that ends the bank of an event with this data.
+fn look_at(rt: &impl Abort, body: &[u8], word: u32) {
+    assert_eq!(rt; body.len(), 24);
+    assert_eq!(rt; &body[16..20], word.to_le_bytes().as_slice());
+}
 
 #[test]
 fn first_events_of_two_front_ends(rt: HostRuntime) -> Result<(), Fail> {
@@ -13,7 +23,7 @@ fn first_events_of_two_front_ends(rt: HostRuntime) -> Result<(), Fail> {
         from: RunState::Stopped,
         quota: 3,
     };
-    for (id, word) in &[(1, 1817669548u32), (2, 3102535385)] {
+    for (id, word) in WORDS {
         let mut event = EventBuf::new(rt.alloc(), EVENT_ROOM)?;
         let generator = Generator {
             id: *id,
@@ -22,9 +32,7 @@ fn first_events_of_two_front_ends(rt: HostRuntime) -> Result<(), Fail> {
         };
         assert!(rt; generator.check(&order));
         generator.event(&order, 1, &mut event);
-        let body = event.body();
-        assert_eq!(rt; body.len(), 24);
-        assert_eq!(rt; &body[16..20], word.to_le_bytes().as_slice());
+        look_at(&rt, event.body(), *word);
     }
     Ok(())
 }

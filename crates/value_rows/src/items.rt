@@ -1,10 +1,15 @@
 //! Items of the online database, their texts, and values.
+ghost use Rattle.std.specs.Prelude.{◌≤◌, IsTrue};
+ghost use Rattle.odb_value.specs.Items.{is_kept};
+ghost use Rattle.odb_value.specs.Values.{items_limit};
+
 use daq_text::TextBuffer;
-use daq_types::Tid;
+use daq_types::{NoMemory, Tid};
 use odb_value::{
     CharByte, Item, ItemRefusal, Items, TextBytes, Value, parse_item, print_item, print_key,
 };
 use std::alloc::Global;
+use std::process::Abort;
 use std::test::Fail;
 
 /// Texts that are items of a type, and how each is printed.
@@ -116,8 +121,7 @@ fn printed(alloc: Global, tid: Tid, text: &[u8]) -> Result<(Tid, TextBuffer), It
 fn texts_that_are_items(rt: HostRuntime) -> Result<(), Fail> {
     for (tid, text, wanted) in ITEMS {
         let (found, out) = printed(rt.alloc(), *tid, text).ok().ok_or("an item")?;
-        assert_eq!(rt; found, *tid, "{text:?}");
-        assert_eq!(rt; out.as_slice(), *wanted, "{tid:?} {text:?}");
+        assert!(rt; (found, out.as_slice()) == (*tid, *wanted), "{text:?}");
     }
     Ok(())
 }
@@ -130,65 +134,113 @@ fn texts_that_are_no_items(rt: HostRuntime) {
     }
 }
 
+/// Why a text of 1023 bytes a with these behind them is none.
+fn refused(alloc: Global, end: &[u8]) -> Result<Option<ItemRefusal>, Fail> {
+    let mut text = vec![in alloc; b'a'; 1023]?;
+    text.extend_from_slice(end)?;
+    Ok(parse_item(alloc, Tid::Text, text.as_slice()).err())
+}
+
 #[test]
-fn texts_of_so_many_bytes(rt: HostRuntime) -> Result<(), Fail> {
-    let mut text = vec![in rt.alloc(); b'a'; 1023]?;
+fn the_longest_text(rt: HostRuntime) -> Result<(), Fail> {
+    let text = vec![in rt.alloc(); b'a'; 1023]?;
     let (_, out) = printed(rt.alloc(), Tid::Text, text.as_slice())
         .ok()
         .ok_or("an item")?;
     assert!(rt; out.as_slice() == text.as_slice());
-    text.push(b'b')?;
-    let found = parse_item(rt.alloc(), Tid::Text, text.as_slice()).err();
-    assert_eq!(rt; found, Some(ItemRefusal::OutOfRange));
-    text.push(0)?;
-    let found = parse_item(rt.alloc(), Tid::Text, text.as_slice()).err();
-    assert_eq!(rt; found, Some(ItemRefusal::BadText { at: 1024 }));
     Ok(())
+}
+
+#[test]
+fn texts_that_are_too_long(rt: HostRuntime) -> Result<(), Fail> {
+    assert_eq!(rt; refused(rt.alloc(), b"b")?, Some(ItemRefusal::OutOfRange));
+    assert_eq!(rt;
+        refused(rt.alloc(), b"b\0")?,
+        Some(ItemRefusal::BadText { at: 1024 })
+    );
+    Ok(())
+}
+
+#[test]
+fn new_values(rt: HostRuntime) -> Result<(), Fail> {
+    let value = Value::new(rt.alloc(), Tid::Text, 2)?;
+    assert!(rt; (value.tid(), value.size(), value.items().len()) == (Tid::Text, 32, 2));
+    Ok(())
+}
+
+/// A value of two texts, the second of which has 40 bytes.
+fn long_value(rt: &(impl Abort + AllocGlobal)) -> Result<Value, Fail> {
+    let text = vec![in rt.alloc(); b'x'; 40]?;
+    assert!(rt; TextBytes::bad_place(text.as_slice()).is_none());
+    let mut value = Value::new(rt.alloc(), Tid::Text, 2)?;
+    value.put(1, Item::Text(TextBytes::of(text)));
+    assert_eq!(rt; value.size(), 41);
+    Ok(value)
+}
+
+/// A copy of the value with three items, where one is left of its own.
+fn copy_of_three(alloc: Global, value: &mut Value) -> Result<Value, NoMemory> {
+    value.resize(alloc, 3)?;
+    let copy = value.try_clone(alloc)?;
+    value.resize(alloc, 1)?;
+    Ok(copy)
+}
+
+/// How many items there are in the value, which is taken apart.
+fn count_items(value: Value) -> usize {
+    value.into_items().into_vec().len()
 }
 
 #[test]
 fn values_of_keys(rt: HostRuntime) -> Result<(), Fail> {
-    let mut value = Value::new(rt.alloc(), Tid::Text, 2)?;
-    assert_eq!(rt; value.tid(), Tid::Text);
-    assert_eq!(rt; value.size(), 32);
-    assert_eq!(rt; value.items().len(), 2);
-    let text = vec![in rt.alloc(); b'x'; 40]?;
-    assert!(rt; TextBytes::bad_place(text.as_slice()).is_none());
-    value.put(1, Item::Text(TextBytes::of(text)));
-    assert_eq!(rt; value.size(), 41);
-    value.resize(rt.alloc(), 3)?;
-    let copy = value.try_clone(rt.alloc())?;
-    assert_eq!(rt; copy.size(), 41);
-    value.resize(rt.alloc(), 1)?;
-    assert_eq!(rt; value.items().len(), 1);
-    assert_eq!(rt; copy.into_items().into_vec().len(), 3);
+    let mut value = long_value(&rt)?;
+    let copy = copy_of_three(rt.alloc(), &mut value)?;
+    assert!(rt; (copy.size(), value.items().len(), count_items(copy)) == (41, 1, 3));
     Ok(())
 }
 
 #[test]
-fn parts_of_items(rt: HostRuntime) -> Result<(), Fail> {
+fn bytes_of_chars(rt: HostRuntime) -> Result<(), Fail> {
     assert!(rt; CharByte::new(b'\t').is_none());
     let byte = CharByte::new(b'q').ok_or("a byte")?;
     assert_eq!(rt; byte.get(), b'q');
+    Ok(())
+}
+
+#[test]
+fn lists_of_items(rt: HostRuntime) -> Result<(), Fail> {
     let mut list = Vec::new(rt.alloc());
     list.push(Item::Char(CharByte::none()))?;
     list.push(Item::Text(TextBytes::empty(rt.alloc())))?;
     let items = Items::of(list);
-    assert_eq!(rt; items.len(), 2);
-    assert_eq!(rt; items.as_slice().len(), 2);
+    assert!(rt; (items.len(), items.as_slice().len()) == (2, 2));
     Ok(())
 }
+
+/// Prints a new key of this type, with so many items, behind the text.
+fn print_new(
+    alloc: Global,
+    text: &mut TextBuffer,
+    name: &[u8],
+    tid: Tid,
+    len: u32,
+) -> Result<(), NoMemory>
+    requires kept { IsTrue (is_kept tid) }
+    requires some { 1 ≤ len }
+    requires many { len ≤ items_limit }
+{
+    let value = Value::new(alloc, tid, len)?;
+    print_key(name, &value, text)
+}
+
+/// The text of two new keys.
+const DUMPED: &[u8] = b"Enabled = BOOL : n\nChannels = UINT16[2] :\n[0] 0\n[1] 0\n";
 
 #[test]
 fn keys_as_in_a_dump(rt: HostRuntime) -> Result<(), Fail> {
     let mut text = TextBuffer::new(rt.alloc());
-    let one = Value::new(rt.alloc(), Tid::Bool, 1)?;
-    print_key(b"Enabled", &one, &mut text)?;
-    let two = Value::new(rt.alloc(), Tid::UInt16, 2)?;
-    print_key(b"Channels", &two, &mut text)?;
-    assert_eq!(rt;
-        text.as_slice(),
-        b"Enabled = BOOL : n\nChannels = UINT16[2] :\n[0] 0\n[1] 0\n".as_slice()
-    );
+    print_new(rt.alloc(), &mut text, b"Enabled", Tid::Bool, 1)?;
+    print_new(rt.alloc(), &mut text, b"Channels", Tid::UInt16, 2)?;
+    assert_eq!(rt; text.as_slice(), DUMPED);
     Ok(())
 }

@@ -41,28 +41,30 @@ fn names_without_case(rt: HostRuntime) {
     }
 }
 
+const BITS: &[(Transition, u32)] = &[
+    (Transition::Start, 1),
+    (Transition::Stop, 2),
+    (Transition::Pause, 4),
+    (Transition::Resume, 8),
+    (Transition::StartAbort, 16),
+];
+
 #[test]
 fn numbers_of_transitions(rt: HostRuntime) {
-    for (transition, bit) in &[
-        (Transition::Start, 1),
-        (Transition::Stop, 2),
-        (Transition::Pause, 4),
-        (Transition::Resume, 8),
-        (Transition::StartAbort, 16),
-    ] {
+    for (transition, bit) in BITS {
         assert_eq!(rt; transition.bit(), *bit);
     }
 }
 
 #[test]
 fn numbers_of_callers(rt: HostRuntime) {
-    for (caller, number) in [
-        (Caller::MAIN, 0),
-        (Caller::of_client(0), 1),
-        (Caller::of_client(4), 5),
-    ] {
-        assert_eq!(rt; caller.number(), number);
-    }
+    assert!(rt;
+        [
+            Caller::MAIN.number(),
+            Caller::of_client(0).number(),
+            Caller::of_client(4).number(),
+        ] == [0, 1, 5]
+    );
     assert_ne!(rt; Caller::of_client(4), Caller::of_client(5));
 }
 
@@ -92,23 +94,29 @@ fn names_of_files(rt: HostRuntime) {
     }
 }
 
+/// Numbers of types, their names, and the sizes of their items.
+const TYPES: &[(u32, &str, u32)] = &[
+    (1, "UINT8", 1),
+    (6, "UINT32", 4),
+    (10, "DOUBLE", 8),
+    (12, "STRING", 0),
+    (18, "UINT64", 8),
+];
+
 #[test]
-fn types_by_number_and_name(rt: HostRuntime) {
-    for (code, name, size) in &[
-        (1, "UINT8", 1),
-        (6, "UINT32", 4),
-        (10, "DOUBLE", 8),
-        (12, "STRING", 0),
-        (18, "UINT64", 8),
-    ] {
+fn types_by_number(rt: HostRuntime) {
+    for (code, name, size) in TYPES {
         let tid = Tid::from_code(*code).expect(&rt, "a type");
-        assert_eq!(rt; tid.code(), *code);
-        assert_eq!(rt; tid.name(), *name);
-        assert_eq!(rt; tid.size(), *size);
-        assert_eq!(rt; Tid::from_name(name.as_bytes()), Some(tid));
+        let named = Tid::from_name(name.as_bytes());
+        assert!(rt;
+            (tid.code(), tid.name(), tid.size(), named) == (*code, *name, *size, Some(tid)),
+            "{name}"
+        );
     }
-    assert_eq!(rt; Tid::from_code(0), None);
-    assert_eq!(rt; Tid::from_code(19), None);
-    assert_eq!(rt; Tid::from_name(b"DWORD"), Some(Tid::UInt32));
-    assert_eq!(rt; Tid::from_name(b"dword"), None);
+}
+
+#[test]
+fn numbers_and_names_of_no_type(rt: HostRuntime) {
+    assert!(rt; [Tid::from_code(0), Tid::from_code(19)] == [None, None]);
+    assert!(rt; [Tid::from_name(b"DWORD"), Tid::from_name(b"dword")] == [Some(Tid::UInt32), None]);
 }

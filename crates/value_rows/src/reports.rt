@@ -1,8 +1,12 @@
 //! Reports of events, and their text.
+ghost use Rattle.std.specs.Prelude.{◌≡◌};
+
 use bank_format::{BankWriter, Format};
 use daq_text::TextBuffer;
+use daq_types::NoMemory;
 use event_header::Header;
 use event_report::Report;
+use std::alloc::Global;
 use std::test::Fail;
 
 /// The header of an event with this id.
@@ -27,13 +31,10 @@ const SECOND: [u8; 24] = [
     0,
 ];
 
-/// The text of a report over these events, each an id and its data.
-fn report_text(
-    rt: &(impl AllocGlobal),
-    events: &[(u16, &[u8])],
-    start: &[u8],
-) -> Result<TextBuffer, Fail> {
-    let mut report = Report::new(rt.alloc())?;
+/// Folds these events, each an id and its data, into a new report.
+fn fold_all(report: &mut Report, events: &[(u16, &[u8])])
+    requires { report.old.bytes ≡ 0 }
+{
     let mut left = 1 << 62;
     for (id, body) in events {
         let need = 16 + body.len();
@@ -43,9 +44,31 @@ fn report_text(
         left -= need;
         report.fold(&header(*id), body);
     }
-    let mut text = TextBuffer::new(rt.alloc());
+}
+
+/// The text of a report whose lines begin with this.
+fn text_of(alloc: Global, report: &Report, start: &[u8]) -> Result<TextBuffer, NoMemory> {
+    let mut text = TextBuffer::new(alloc);
     report.print(start, &mut text)?;
     Ok(text)
+}
+
+/// The text of a report over these events, each an id and its data.
+fn report_text(
+    rt: &(impl AllocGlobal),
+    events: &[(u16, &[u8])],
+    start: &[u8],
+) -> Result<TextBuffer, Fail> {
+    let mut report = Report::new(rt.alloc())?;
+    fold_all(&mut report, events);
+    Ok(text_of(rt.alloc(), &report, start)?)
+}
+
+/// Adds banks with name, type and data, where they fit.
+fn add_all(writer: &mut BankWriter, banks: &[([u8; 4], u32, &[u8])]) {
+    for (name, tid, body) in banks {
+        let _ = writer.add(*name, *tid, body);
+    }
 }
 
 /// A bank area in a format, of banks with name, type and data.
@@ -55,57 +78,60 @@ fn area(
     banks: &[([u8; 4], u32, &[u8])],
 ) -> Result<Vec<u8>, Fail> {
     let mut writer = BankWriter::new(rt.alloc(), format, 4096)?;
-    for (name, tid, body) in banks {
-        let _ = writer.add(*name, *tid, body);
-    }
+    add_all(&mut writer, banks);
     Ok(writer.finish().to_vec(rt.alloc())?)
 }
 
+/// Events, what each line begins with, and the lines.
+const REPORTS: &[(&[(u16, &[u8])], &[u8], &[u8])] = &[
+    (
+        &[(1, &FIRST), (2, &SECOND)],
+        b"ANA ",
+        b"ANA events 2\nANA id 1 count 1\nANA id 2 count 1\n\
+ANA bank GEN0 UINT32 count 2 sum 4920204933 least 1817669548 greatest 3102535385\n\
+ANA rest ids 0 banks 0 bad 0\n",
+    ),
+    (
+        &[(1, &FIRST)],
+        b"",
+        b"events 1\nid 1 count 1\n\
+bank GEN0 UINT32 count 1 sum 1817669548 least 1817669548 greatest 1817669548\n\
+rest ids 0 banks 0 bad 0\n",
+    ),
+    (&[], b"", b"events 0\nrest ids 0 banks 0 bad 0\n"),
+];
+
 #[test]
 fn two_generated_events(rt: HostRuntime) -> Result<(), Fail> {
-    let both = report_text(&rt, &[(1, &FIRST), (2, &SECOND)], b"ANA ")?;
-    let expected = b"ANA events 2\nANA id 1 count 1\nANA id 2 count 1\n\
-ANA bank GEN0 UINT32 count 2 sum 4920204933 least 1817669548 greatest 3102535385\n\
-ANA rest ids 0 banks 0 bad 0\n";
-    assert_eq!(rt; both.as_slice(), expected.as_slice());
-    let one = report_text(&rt, &[(1, &FIRST)], b"")?;
-    let expected = b"events 1\nid 1 count 1\n\
-bank GEN0 UINT32 count 1 sum 1817669548 least 1817669548 greatest 1817669548\n\
-rest ids 0 banks 0 bad 0\n";
-    assert_eq!(rt; one.as_slice(), expected.as_slice());
-    let none = report_text(&rt, &[], b"")?;
-    assert_eq!(rt;
-        none.as_slice(),
-        b"events 0\nrest ids 0 banks 0 bad 0\n".as_slice()
-    );
+    for (events, start, expected) in REPORTS {
+        let text = report_text(&rt, events, start)?;
+        assert_eq!(rt; text.as_slice(), *expected);
+    }
     Ok(())
 }
 
-#[test]
-fn integers_of_each_type(rt: HostRuntime) -> Result<(), Fail> {
-    let low = [
-        0, 0, 0, 0, 0, 0, 0, 0x80, 0xff, 0xff, 0xff, 0xff, 0xff, 0xff, 0xff, 0x7f,
-    ];
-    let body = area(
-        &rt,
-        Format::Bank32,
-        &[
-            (*b"UN64", 18, &[0xff; 16]),
-            (*b"IN64", 17, &low),
-            (*b"IN32", 7, &[0, 0, 0, 0x80]),
-            (*b"UN32", 6, &[0, 0, 0, 0x80, 9, 9, 9]),
-            (*b"IN16", 5, &[0, 0x80, 0xff, 0xff, 7]),
-            (*b"UN16", 4, &[0, 0x80]),
-            (*b"IN08", 2, &[0xff]),
-            (*b"UN08", 1, &[0xff, 1]),
-            (*b"CHAR", 3, &[65]),
-            (*b"BOOL", 8, &[1, 0, 0, 0]),
-            (*b"WIDE", 65_542, &[1, 0, 0, 0]),
-            (*b"NONE", 6, &[1, 2, 3]),
-        ],
-    )?;
-    let text = report_text(&rt, &[(7, &body)], b"")?;
-    let expected = b"events 1\nid 7 count 1\n\
+/// The least and the greatest integer of 64 bits with a sign.
+const LOW: [u8; 16] = [
+    0, 0, 0, 0, 0, 0, 0, 0x80, 0xff, 0xff, 0xff, 0xff, 0xff, 0xff, 0xff, 0x7f,
+];
+
+const INTEGERS: &[([u8; 4], u32, &[u8])] = &[
+    (*b"UN64", 18, &[0xff; 16]),
+    (*b"IN64", 17, &LOW),
+    (*b"IN32", 7, &[0, 0, 0, 0x80]),
+    (*b"UN32", 6, &[0, 0, 0, 0x80, 9, 9, 9]),
+    (*b"IN16", 5, &[0, 0x80, 0xff, 0xff, 7]),
+    (*b"UN16", 4, &[0, 0x80]),
+    (*b"IN08", 2, &[0xff]),
+    (*b"UN08", 1, &[0xff, 1]),
+    (*b"CHAR", 3, &[65]),
+    (*b"BOOL", 8, &[1, 0, 0, 0]),
+    (*b"WIDE", 65_542, &[1, 0, 0, 0]),
+    (*b"NONE", 6, &[1, 2, 3]),
+];
+
+/// The report of an event with these banks.
+const INTEGER_LINES: &[u8] = b"events 1\nid 7 count 1\n\
 bank IN08 INT8 count 1 sum -1 least -1 greatest -1\n\
 bank IN16 INT16 count 2 sum -32769 least -32768 greatest -1\n\
 bank IN32 INT32 count 1 sum -2147483648 least -2147483648 greatest -2147483648\n\
@@ -115,28 +141,33 @@ bank UN16 UINT16 count 1 sum 32768 least 32768 greatest 32768\n\
 bank UN32 UINT32 count 1 sum 2147483648 least 2147483648 greatest 2147483648\n\
 bank UN64 UINT64 count 2 sum 36893488147419103230 least 18446744073709551615 greatest 18446744073709551615\n\
 rest ids 0 banks 0 bad 0\n";
-    assert_eq!(rt; text.as_slice(), expected.as_slice());
+
+#[test]
+fn integers_of_each_type(rt: HostRuntime) -> Result<(), Fail> {
+    let body = area(&rt, Format::Bank32, INTEGERS)?;
+    let text = report_text(&rt, &[(7, &body)], b"")?;
+    assert_eq!(rt; text.as_slice(), INTEGER_LINES);
     Ok(())
 }
 
-#[test]
-fn order_of_lines_and_bad_events(rt: HostRuntime) -> Result<(), Fail> {
-    let body = area(
-        &rt,
-        Format::Bank16,
-        &[
-            (*b"B\x00\xff ", 4, &[1, 0]),
-            (*b"ADC0", 7, &[1, 0, 0, 0]),
-            (*b"ADC0", 4, &[2, 0]),
-        ],
-    )?;
-    let text = report_text(&rt, &[(300, &body), (2, b"no banks"), (2, b"")], b"> ")?;
-    let expected = b"> events 3\n> id 2 count 2\n> id 300 count 1\n\
+const OUT_OF_ORDER: &[([u8; 4], u32, &[u8])] = &[
+    (*b"B\x00\xff ", 4, &[1, 0]),
+    (*b"ADC0", 7, &[1, 0, 0, 0]),
+    (*b"ADC0", 4, &[2, 0]),
+];
+
+/// The report of an event with these banks, and of two events without.
+const ORDERED_LINES: &[u8] = b"> events 3\n> id 2 count 2\n> id 300 count 1\n\
 > bank ADC0 UINT16 count 1 sum 2 least 2 greatest 2\n\
 > bank ADC0 INT32 count 1 sum 1 least 1 greatest 1\n\
 > bank B... UINT16 count 1 sum 1 least 1 greatest 1\n\
 > rest ids 0 banks 0 bad 2\n";
-    assert_eq!(rt; text.as_slice(), expected.as_slice());
+
+#[test]
+fn order_of_lines_and_bad_events(rt: HostRuntime) -> Result<(), Fail> {
+    let body = area(&rt, Format::Bank16, OUT_OF_ORDER)?;
+    let text = report_text(&rt, &[(300, &body), (2, b"no banks"), (2, b"")], b"> ")?;
+    assert_eq!(rt; text.as_slice(), ORDERED_LINES);
     Ok(())
 }
 
@@ -149,19 +180,38 @@ fn small_area(id: u16, kind: u8) -> [u8; 24] {
     ]
 }
 
-#[test]
-fn more_ids_and_banks_than_rows(rt: HostRuntime) -> Result<(), Fail> {
-    let mut report = Report::new(rt.alloc())?;
+/// Folds an event of each of the ids 0 to 255 into a new report, and two of the id 256.
+fn fold_257_ids(report: &mut Report)
+    requires { report.old.bytes ≡ 0 }
+{
     for id in 0..256u16 {
         report.fold(&header(id), &small_area(id, 1));
     }
     let other = small_area(256, 2);
     report.fold(&header(256), &other);
     report.fold(&header(256), &other);
-    let mut text = TextBuffer::new(rt.alloc());
-    report.print(b"", &mut text)?;
-    let end = b"bank B0PP UINT8 count 2 sum 7 least 3 greatest 4\nrest ids 2 banks 2 bad 0\n";
-    assert!(rt; text.as_slice().ends_with(end.as_slice()));
-    assert_eq!(rt; text.as_slice().split(|b| *b == b'\n').count(), 515);
+}
+
+/// The text of a report over the events of 257 ids.
+fn text_of_257_ids(alloc: Global) -> Result<TextBuffer, NoMemory> {
+    let mut report = Report::new(alloc)?;
+    fold_257_ids(&mut report);
+    text_of(alloc, &report, b"")
+}
+
+/// How many parts the line ends split the text into.
+fn count_parts(text: &[u8]) -> usize {
+    text.split(|byte| *byte == b'\n').count()
+}
+
+/// The last two lines of the text over 257 ids.
+const LAST_LINES: &[u8] =
+    b"bank B0PP UINT8 count 2 sum 7 least 3 greatest 4\nrest ids 2 banks 2 bad 0\n";
+
+#[test]
+fn more_ids_and_banks_than_rows(rt: HostRuntime) -> Result<(), Fail> {
+    let text = text_of_257_ids(rt.alloc())?;
+    assert!(rt; text.as_slice().ends_with(LAST_LINES));
+    assert_eq!(rt; count_parts(text.as_slice()), 515);
     Ok(())
 }

@@ -1,16 +1,19 @@
 //! Requests, and the events that they match.
 use request_match::{ANY, matches};
 
+/// The id and the mask of a request, those of an event, and whether they match.
+const ROWS: &[(u16, u16, u16, u16, bool)] = &[
+    (ANY, ANY, 1, 0, true),
+    (1, ANY, 1, 0, true),
+    (2, ANY, 1, 0, false),
+    (ANY, 1, 1, 2, false),
+    (ANY, 3, 1, 2, true),
+    (ANY, 0, 1, ANY, false),
+];
+
 #[test]
 fn matches_by_the_rule(rt: HostRuntime) {
-    for (id, mask, event_id, event_mask, matched) in &[
-        (ANY, ANY, 1, 0, true),
-        (1, ANY, 1, 0, true),
-        (2, ANY, 1, 0, false),
-        (ANY, 1, 1, 2, false),
-        (ANY, 3, 1, 2, true),
-        (ANY, 0, 1, ANY, false),
-    ] {
+    for (id, mask, event_id, event_mask, matched) in ROWS {
         assert_eq!(rt;
             matches(*id, *mask, *event_id, *event_mask),
             *matched,

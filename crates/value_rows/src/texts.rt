@@ -1,19 +1,25 @@
 //! Texts that grow, and numbers in texts.
 use daq_text::{TextBuffer, behind_blanks, ended, is_blank, number, unsigned};
+use daq_types::NoMemory;
 use std::test::Fail;
 
-#[test]
-fn texts(rt: HostRuntime) -> Result<(), Fail> {
-    let mut text = TextBuffer::new(rt.alloc());
+/// What `write` makes of an empty text.
+const WRITTEN: &[u8] = b"run 18446744073709551615\n-127";
+
+/// A word and a number, a line's end, and two numbers more.
+fn write(text: &mut TextBuffer) -> Result<(), NoMemory> {
     text.text(b"run")?;
     text.blank_number(18446744073709551615)?;
     text.end_line()?;
     text.signed(-12)?;
-    text.number(7)?;
-    assert_eq!(rt;
-        text.as_slice(),
-        b"run 18446744073709551615\n-127".as_slice()
-    );
+    text.number(7)
+}
+
+#[test]
+fn texts(rt: HostRuntime) -> Result<(), Fail> {
+    let mut text = TextBuffer::new(rt.alloc());
+    write(&mut text)?;
+    assert_eq!(rt; text.as_slice(), WRITTEN);
     text.truncate(3);
     assert_eq!(rt; text.as_slice(), b"run".as_slice());
     text.clear();
@@ -22,7 +28,7 @@ fn texts(rt: HostRuntime) -> Result<(), Fail> {
 }
 
 /// Texts, the most that each may spell, and the number that is all of it, if there is one.
-const WHOLE: [(&str, u64, Option<u64>); 11] = [
+const WHOLE: &[(&str, u64, Option<u64>)] = &[
     ("0", 0, Some(0)),
     ("007", 7, Some(7)),
     ("8", 7, None),
@@ -38,22 +44,29 @@ const WHOLE: [(&str, u64, Option<u64>); 11] = [
 
 #[test]
 fn numbers(rt: HostRuntime) {
-    for (text, most, spelled) in &WHOLE {
+    for (text, most, spelled) in WHOLE {
         assert_eq!(rt; number(text.as_bytes(), *most), *spelled, "{text}");
     }
 }
 
+/// Texts, the most that each may spell, and the number that is read, or how many bytes are left at the first wrong one.
+const READ: &[(&str, u64, Result<Option<u64>, usize>)] = &[
+    ("12 \t", 99, Ok(Some(12))),
+    ("0x1F", 30, Ok(None)),
+    ("12 x", 99, Err(1)),
+    ("x", 99, Err(1)),
+    ("0x", 99, Err(0)),
+];
+
 #[test]
-fn numbers_and_what_is_behind_them(rt: HostRuntime) {
-    for (text, most, read) in &[
-        ("12 \t", 99, Ok(Some(12))),
-        ("0x1F", 30, Ok(None)),
-        ("12 x", 99, Err(1)),
-        ("x", 99, Err(1)),
-        ("0x", 99, Err(0)),
-    ] {
+fn numbers_with_blanks_behind_them(rt: HostRuntime) {
+    for (text, most, read) in READ {
         assert_eq!(rt; unsigned(text.as_bytes(), *most), *read, "{text}");
     }
+}
+
+#[test]
+fn blanks(rt: HostRuntime) {
     assert_eq!(rt; ended(true, b" \t".as_slice()), Ok(true));
     assert!(rt; is_blank(b'\t'));
     assert_eq!(rt; behind_blanks(b"\t x ".as_slice()), b"x ".as_slice());
