@@ -269,25 +269,35 @@ const STORIES: &[Story] = &[
     (RUN_ENDED, &[], &[]),
 ];
 
+/// Makes the calls on a copy of the database.
+fn run_on_copy<D: Database>(
+    rt: &impl Abort,
+    alloc: Global,
+    database: &D,
+    rows: &[Row],
+) -> Result<(), Fail> {
+    let mut copy = database.copy(alloc)?;
+    run(rt, alloc, &mut copy, rows)
+}
+
 fn play<D: Database>(
     rt: &impl Abort,
     alloc: Global,
-    mut database: D,
+    database: &mut D,
     story: Story,
 ) -> Result<(), Fail> {
     let (first, on_copy, behind) = story;
-    run(rt, alloc, &mut database, first)?;
-    let mut copy = database.copy(alloc)?;
-    run(rt, alloc, &mut copy, on_copy)?;
-    run(rt, alloc, &mut database, behind)
+    run(rt, alloc, database, first)?;
+    run_on_copy(rt, alloc, database, on_copy)?;
+    run(rt, alloc, database, behind)
 }
 
 #[test]
 fn both_databases_reply_by_the_rows(rt: HostRuntime) -> Result<(), Fail> {
     let alloc = rt.alloc();
     for story in STORIES {
-        play(&rt, alloc, PlainTree::new(alloc), *story)?;
-        play(&rt, alloc, ArenaTree::new(alloc), *story)?;
+        play(&rt, alloc, &mut PlainTree::new(alloc), *story)?;
+        play(&rt, alloc, &mut ArenaTree::new(alloc), *story)?;
     }
     Ok(())
 }
