@@ -88,11 +88,12 @@ const GREAT: &[(Great, u32)] = &[
 ];
 
 /// Whether a new database loads so many keys of the dump of such a one, and is saved as it.
-fn is_loaded_again(alloc: Global, great: Great, keys: u32) -> Result<bool, LoadRefusal> {
+fn is_loaded_again(alloc: Global, great: Great, keys: u32) -> Result<bool, NoMemory> {
     let mut text = TextBuffer::new(alloc);
     add_dump(&mut text, great)?;
-    let loaded = loads_again(alloc, &mut ArenaTree::new(alloc), text.as_slice())?;
-    Ok(loaded == Some(keys))
+    let mut database = ArenaTree::new(alloc);
+    let loaded = loads_again(alloc, &mut database, text.as_slice());
+    Ok(loaded == Ok(Some(keys)))
 }
 
 #[test]

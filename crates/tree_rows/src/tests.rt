@@ -283,21 +283,21 @@ fn run_on_copy<D: Database>(
 fn play<D: Database>(
     rt: &impl Abort,
     alloc: Global,
-    database: &mut D,
+    mut database: D,
     story: Story,
 ) -> Result<(), Fail> {
     let (first, on_copy, behind) = story;
-    run(rt, alloc, database, first)?;
-    run_on_copy(rt, alloc, database, on_copy)?;
-    run(rt, alloc, database, behind)
+    run(rt, alloc, &mut database, first)?;
+    run_on_copy(rt, alloc, &database, on_copy)?;
+    run(rt, alloc, &mut database, behind)
 }
 
 #[test]
 fn both_databases_reply_by_the_rows(rt: HostRuntime) -> Result<(), Fail> {
     let alloc = rt.alloc();
     for story in STORIES {
-        play(&rt, alloc, &mut PlainTree::new(alloc), *story)?;
-        play(&rt, alloc, &mut ArenaTree::new(alloc), *story)?;
+        play(&rt, alloc, PlainTree::new(alloc), *story)?;
+        play(&rt, alloc, ArenaTree::new(alloc), *story)?;
     }
     Ok(())
 }
