@@ -319,6 +319,23 @@ fn pop_pass(
     passes.pop().expect(rt, "a pass")
 }
 
+/// Attaches client 0, and requests all events: whether each is done.
+fn attach_for_all<R: Wait>(
+    shared: &SharedBuffer<PlainBuffer>,
+    rt: &R,
+    pass: &mut BufferPass<PlainBuffer>,
+    name: Name,
+) -> [bool; 2]
+    requires own { IsOf (lock_of shared.now) pass.old }
+    requires idle { held_by pass.old ≡ None }
+    ensures own { IsOf (lock_of shared.now) pass.new }
+    ensures idle { held_by pass.new ≡ None }
+{
+    let attached = shared.attach(rt, pass, name) == Ok(0);
+    let requested = shared.request(rt, pass, 0, ANY, ANY, Kind::All) == Ok(0);
+    [attached, requested]
+}
+
 #[test]
 fn a_reader_gets_all_that_four_threads_send(rt: HostRuntime) {
     let buffer = PlainBuffer::new(rt.alloc(), 4096).expect(&rt, "memory");
@@ -326,11 +343,8 @@ fn a_reader_gets_all_that_four_threads_send(rt: HostRuntime) {
     let name = Name::new(b"ANA").expect(&rt, "a name");
     let (shared, mut passes) = SharedBuffer::new(rt.alloc(), buffer, 5).expect(&rt, "memory");
     let mut reader = pop_pass(&shared, &rt, &mut passes);
-    assert!(rt; shared.attach(&rt, &mut reader, name) == Ok(0), "a client");
-    assert!(rt;
-        shared.request(&rt, &mut reader, 0, ANY, ANY, Kind::All) == Ok(0),
-        "all events"
-    );
+    let attached = attach_for_all(&shared, &rt, &mut reader, name);
+    assert!(rt; attached == [true, true], "a client with a request");
     let mut reader = send_in_four_and_read(&shared, &rt, &mut passes, reader, into);
     assert!(rt;
         shared.accepted(&rt, &mut reader) == 2000,
@@ -338,63 +352,70 @@ fn a_reader_gets_all_that_four_threads_send(rt: HostRuntime) {
     );
 }
 
-/// Makes each call but the marks, by any port, on a buffer that is as it opened.
-fn make_calls<R: Abort + Wait, P: BufferPort>(rt: &R, port: &mut P, into: &mut EventBuf)
+/// Makes each call but the marks, by any port, on a buffer that is as it opened: whether each is answered so.
+fn make_calls<R: Wait, P: BufferPort>(
+    rt: &R,
+    port: &mut P,
+    name: Name,
+    into: &mut EventBuf,
+) -> [bool; 8]
     requires room { 8 ≤ (P.access port.old).entries }
     requires bytes { 16 ≤ (P.access port.old).bytes }
 {
-    let name = Name::new(b"ANA").expect(rt, "a name");
-    assert!(rt; port.attach(rt, name) == Ok(0), "attach");
-    assert!(rt;
-        port.request(rt, 0, ANY, ANY, Kind::All) == Ok(0),
-        "request"
-    );
-    assert!(rt; port.send(rt, &header(1), &DATA) == Ok(0), "send");
-    assert!(rt; port.level(rt) == 32, "level");
-    assert!(rt; port.accepted(rt) == 1, "accepted");
     let got = Received::Got { place: 0, start: 0 };
-    assert!(rt; port.receive(rt, 0, into) == got, "receive");
-    assert!(rt; port.cancel(rt, 0, 0) == Ok(()), "cancel");
-    assert!(rt; port.detach(rt, 0) == Ok(()), "detach");
+    [
+        port.attach(rt, name) == Ok(0),
+        port.request(rt, 0, ANY, ANY, Kind::All) == Ok(0),
+        port.send(rt, &header(1), &DATA) == Ok(0),
+        port.level(rt) == 32,
+        port.accepted(rt) == 1,
+        port.receive(rt, 0, into) == got,
+        port.cancel(rt, 0, 0) == Ok(()),
+        port.detach(rt, 0) == Ok(()),
+    ]
 }
 
-/// Makes the marks of a run with one event in it.
-fn make_run<R: Abort + Wait, P: BufferPort>(rt: &R, port: &mut P)
+/// Makes the marks of a run with one event in it: whether each is answered so.
+fn make_run<R: Wait, P: BufferPort>(rt: &R, port: &mut P) -> [bool; 5]
     requires room { 5 ≤ (P.access port.old).entries }
     requires bytes { 8 ≤ (P.access port.old).bytes }
 {
-    assert!(rt; port.begin(rt, 1) == Ok(1), "begin");
-    assert!(rt;
+    [
+        port.begin(rt, 1) == Ok(1),
         port.send_in_run(rt, 1, &header(2), &DATA) == Ok(1),
-        "send in the run"
-    );
-    assert!(rt; port.pause(rt, 1) == Ok(2), "pause");
-    assert!(rt; port.resume(rt, 1) == Ok(2), "resume");
-    assert!(rt; port.end(rt, 1) == Ok(2), "end");
+        port.pause(rt, 1) == Ok(2),
+        port.resume(rt, 1) == Ok(2),
+        port.end(rt, 1) == Ok(2),
+    ]
 }
 
 #[test]
 fn a_port_makes_each_call(rt: HostRuntime) {
     let buffer = PlainBuffer::new(rt.alloc(), 256).expect(&rt, "memory");
     let mut into = EventBuf::new(rt.alloc(), 8).expect(&rt, "memory");
+    let name = Name::new(b"ANA").expect(&rt, "a name");
     let (shared, mut passes) = SharedBuffer::new(rt.alloc(), buffer, 1).expect(&rt, "memory");
     let pass = pop_pass(&shared, &rt, &mut passes);
     let mut port = SharedPort::new(&shared, pass);
-    make_calls(&rt, &mut port, &mut into);
-    make_run(&rt, &mut port);
+    let calls = make_calls(&rt, &mut port, name, &mut into);
+    let run = make_run(&rt, &mut port);
     assert!(rt;
-        into.body() == DATA.as_slice(),
-        "the data of the event that was got"
+        (calls, run) == ([true; 8], [true; 5]),
+        "each call, and each mark of a run"
     );
-    assert!(rt; port.into_pass().number() == 0, "the pass comes back");
+    assert!(rt;
+        (into.body(), port.into_pass().number()) == (DATA.as_slice(), 0),
+        "the data of the event that was got, and the pass that comes back"
+    );
 }
 
-/// Tries each call that can be made in one try, on a free buffer in whose run of start number 1 nothing was sent.
+/// Tries each call that can be made in one try, on a free buffer in whose run of start number 1 nothing was sent: whether
+/// each is made.
 fn try_each(
     shared: &SharedBuffer<PlainBuffer>,
     pass: &mut BufferPass<PlainBuffer>,
     into: &mut EventBuf,
-) -> bool
+) -> [bool; 3]
     requires own { IsOf (lock_of shared.now) pass.old }
     requires idle { held_by pass.old ≡ None }
     ensures own { IsOf (lock_of shared.now) pass.new }
@@ -403,7 +424,11 @@ fn try_each(
     let sent = shared.try_send(pass, &header(1), &DATA);
     let in_run = shared.try_send_in_run(pass, 1, &header(2), &DATA);
     let got = shared.try_receive(pass, 0, into);
-    sent == Ok(0) && in_run == Ok(1) && got == Ok(Received::Got { place: 0, start: 0 })
+    [
+        sent == Ok(0),
+        in_run == Ok(1),
+        got == Ok(Received::Got { place: 0, start: 0 }),
+    ]
 }
 
 /// The second pass has then seen what the first has.
@@ -429,13 +454,13 @@ fn calls_in_one_try_on_a_free_buffer(rt: HostRuntime) {
     let name = Name::new(b"ANA").expect(&rt, "a name");
     let (shared, mut passes) = SharedBuffer::new(rt.alloc(), buffer, 2).expect(&rt, "memory");
     let (mut first, mut second) = two_passes(&shared, &mut passes);
-    assert!(rt; shared.attach(&rt, &mut first, name) == Ok(0), "a client");
-    assert!(rt;
-        shared.request(&rt, &mut first, 0, ANY, ANY, Kind::All) == Ok(0),
-        "all events"
-    );
-    assert!(rt; shared.begin(&rt, &mut first, 1) == Ok(0), "a run");
-    assert!(rt; try_each(&shared, &mut first, &mut into), "each is made");
+    let attached = attach_for_all(&shared, &rt, &mut first, name);
+    let begun = shared.begin(&rt, &mut first, 1);
+    let tried = try_each(&shared, &mut first, &mut into);
     meet_what_was_seen(&shared, &mut first, &mut second);
-    assert!(rt; shared.accepted(&rt, &mut second) == 2, "two events");
+    let accepted = shared.accepted(&rt, &mut second);
+    assert!(rt;
+        (attached, begun, tried, accepted) == ([true; 2], Ok(0), [true; 3], 2),
+        "each is made, and two events are accepted"
+    );
 }

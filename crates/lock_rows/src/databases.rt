@@ -1,15 +1,20 @@
 //! Calls on a shared database, by the main thread and by another.
-ghost use Rattle.std.specs.Prelude.{◌≡◌, [], ◌∷◌};
-ghost use Rattle.turn_lock.specs.Passes.{number_of, IsOf};
+ghost use Rattle.std.specs.Prelude.{◌≡◌, [], ◌∷◌, None};
+ghost use Rattle.daq_types.specs.Callers.{main_caller};
+ghost use Rattle.turn_lock.specs.Passes.{passes_of, number_of, held_by, IsOf};
 ghost use Rattle.turn_lock.specs.Roster.{items_of, numbers_of, ArePassesOf, AreFresh, IsFresh};
+ghost use Rattle.odb_lock.specs.SharedAccesses.{odb_pass_of};
 ghost use Rattle.odb_lock.specs.SharedOdbs.{odb_lock_of};
 
-use daq_types::Tid;
-use odb_lock::{OdbPass, OdbPasses, SharedAccess, SharedOdb};
+use daq_types::{NoMemory, Tid};
+use odb_lock::{OdbClosed, OdbPass, OdbPasses, SharedAccess, SharedOdb};
 use odb_path::Path;
 use odb_port::{DatabasePort, WatchPort};
-use odb_tree::{Database, NewKey, Notes, PlainTree};
+use odb_tree::{Database, NewKey, Notes, OdbRefusal, PlainTree};
 use odb_value::Item;
+use std::alloc::Global;
+use std::process::Abort;
+use std::sync::Wait;
 use std::test::Fail;
 
 /// Takes both passes of a database with two out of the list, the main thread's first.
@@ -35,56 +40,126 @@ fn two_passes(
     (main, other)
 }
 
-#[test]
-fn the_main_thread_makes_rows(rt: HostRuntime) -> Result<(), Fail> {
-    let alloc = rt.alloc();
-    let (shared, mut passes) = SharedOdb::new(alloc, PlainTree::new(alloc), 2)?;
-    let (mut main, other) = two_passes(&shared, &mut passes);
-    let path = Path::read(alloc, b"/A/b")?;
-    let kind = NewKey::Keys {
-        tid: Tid::UInt8,
-        len: 2,
-    };
-    assert_eq!(rt; shared.create(&rt, &mut main, alloc, &path, kind), Ok(2));
-    let value = shared.get(&rt, &mut main, alloc, &path)?;
-    assert_eq!(rt; shared.resize(&rt, &mut main, alloc, &path, 3), Ok(2));
-    assert_eq!(rt; shared.set_all(&rt, &mut main, alloc, &path, &value), Ok(2));
-    assert_eq!(rt; shared.delete(&rt, &mut main, &path), Ok(1));
+/// Ends the sharing between two passes, which are all there are.
+fn close_two(
+    rt: &impl Abort,
+    shared: SharedOdb<PlainTree>,
+    mut passes: OdbPasses<PlainTree>,
+    main: OdbPass<PlainTree>,
+    other: OdbPass<PlainTree>,
+) -> OdbClosed<PlainTree>
+    requires two { passes_of (odb_lock_of shared) ≡ 2 }
+    requires none { ArePassesOf (odb_lock_of shared) passes × (items_of passes ≡ []) }
+    requires own { IsOf (odb_lock_of shared) main × IsOf (odb_lock_of shared) other }
+    requires idle { (held_by main ≡ None) × (held_by other ≡ None) }
+{
     passes.push(main);
     passes.push(other);
     let Ok(closed) = shared.close(passes) else {
         panic!(rt; "both passes are there")
     };
+    closed
+}
+
+/// Makes a key by the main thread, makes it longer, sets all of it and removes it.
+fn make_rows<R: Wait>(
+    shared: &SharedOdb<PlainTree>,
+    rt: &R,
+    main: &mut OdbPass<PlainTree>,
+    alloc: Global,
+    path: &Path,
+) -> Result<[Result<u32, OdbRefusal>; 4], OdbRefusal>
+    requires main { number_of main.old ≡ main_caller }
+    requires own { IsOf (odb_lock_of shared.now) main.old }
+    requires idle { held_by main.old ≡ None }
+    ensures own { IsOf (odb_lock_of shared.now) main.new }
+    ensures idle { held_by main.new ≡ None }
+{
+    let kind = NewKey::Keys {
+        tid: Tid::UInt8,
+        len: 2,
+    };
+    let made = shared.create(rt, main, alloc, path, kind);
+    let value = shared.get(rt, main, alloc, path)?;
+    let resized = shared.resize(rt, main, alloc, path, 3);
+    let set = shared.set_all(rt, main, alloc, path, &value);
+    Ok([made, resized, set, shared.delete(rt, main, path)])
+}
+
+#[test]
+fn the_main_thread_makes_rows(rt: HostRuntime) -> Result<(), Fail> {
+    let alloc = rt.alloc();
+    let path = Path::read(alloc, b"/A/b")?;
+    let (shared, mut passes) = SharedOdb::new(alloc, PlainTree::new(alloc), 2)?;
+    let (mut main, other) = two_passes(&shared, &mut passes);
+    let replies = make_rows(&shared, &rt, &mut main, alloc, &path);
+    let closed = close_two(&rt, shared, passes, main, other);
+    let is_gone = closed.value.database.find(&path).is_err();
     assert!(rt;
-        closed.value.database.find(&path).is_err(),
-        "the key is gone"
+        (replies, is_gone) == (Ok([Ok(2), Ok(2), Ok(2), Ok(1)]), true),
+        "each call, and the key is gone"
     );
     Ok(())
+}
+
+/// Watches all by the other port, loads a text by the main thread's and sets an item by the other: the watch, whether the
+/// text is loaded, and the item's key.
+fn load_and_set<R: Wait>(
+    rt: &R,
+    alloc: Global,
+    main: &mut SharedAccess<'_, PlainTree>,
+    other: &mut SharedAccess<'_, PlainTree>,
+    path: &Path,
+) -> (Option<u32>, bool, Result<u32, OdbRefusal>)
+    requires main { number_of (odb_pass_of main.old) ≡ main_caller }
+{
+    let watch = other.watch(rt, alloc, 0).ok();
+    let text = b"[/A]\nb = UINT8[2] :\n[0] 7\n[1] 8\n\n";
+    let is_loaded = main.load(rt, alloc, text).is_ok();
+    let set = other.set_lent(rt, alloc, path, 1, &Item::UInt8(9));
+    (watch, is_loaded, set)
+}
+
+/// How many notes the watch lost and how many it kept, and whether it ends.
+fn take_notes<R: Wait>(
+    rt: &R,
+    alloc: Global,
+    port: &mut SharedAccess<'_, PlainTree>,
+) -> Result<(Option<u64>, usize, bool), NoMemory> {
+    let mut notes = Notes::new(alloc)?;
+    let lost = port.notes(rt, 0, &mut notes).ok();
+    Ok((lost, notes.len(), port.unwatch(rt, 0).is_ok()))
+}
+
+/// Whether the text with the item that was set is saved.
+fn is_set<R: Wait>(
+    rt: &R,
+    alloc: Global,
+    port: &mut SharedAccess<'_, PlainTree>,
+) -> Result<bool, NoMemory> {
+    let dump = port.save(rt, alloc)?;
+    Ok(dump.as_slice() == b"[/A]\nb = UINT8[2] :\n[0] 7\n[1] 9\n\n".as_slice())
 }
 
 #[test]
 fn ports_lead_to_one_database(rt: HostRuntime) -> Result<(), Fail> {
     let alloc = rt.alloc();
+    let path = Path::read(alloc, b"/A/b")?;
     let (shared, mut passes) = SharedOdb::new(alloc, PlainTree::new(alloc), 2)?;
     let (main, other) = two_passes(&shared, &mut passes);
     let mut main = SharedAccess::new(&shared, main);
     let mut other = SharedAccess::new(&shared, other);
-    let path = Path::read(alloc, b"/A/b")?;
-    let mut notes = Notes::new(alloc)?;
-    assert_eq!(rt; other.watch(&rt, alloc, 0), Ok(0));
-    let text = b"[/A]\nb = UINT8[2] :\n[0] 7\n[1] 8\n\n";
-    assert!(rt; main.load(&rt, alloc, text).is_ok(), "the text is loaded");
-    let set = other.set_lent(&rt, alloc, &path, 1, &Item::UInt8(9));
-    assert_eq!(rt; set, Ok(2));
-    assert_eq!(rt; other.notes(&rt, 0, &mut notes), Ok(0));
-    assert_eq!(rt; notes.len(), 3);
-    assert_eq!(rt; other.unwatch(&rt, 0), Ok(()));
-    let dump = main.save(&rt, alloc)?;
-    assert_eq!(rt;
-        dump.as_slice(),
-        b"[/A]\nb = UINT8[2] :\n[0] 7\n[1] 9\n\n".as_slice()
+    let set = load_and_set(&rt, alloc, &mut main, &mut other, &path);
+    let noted = take_notes(&rt, alloc, &mut other);
+    let saved = is_set(&rt, alloc, &mut main);
+    let found = main.find(&rt, path);
+    assert!(rt;
+        (set, noted) == ((Some(0), true, Ok(2)), Ok((Some(0), 3, true))),
+        "the item is set and noted"
     );
-    assert_eq!(rt; main.find(&rt, path), Ok(2));
-    assert_eq!(rt; other.into_pass().number(), 1);
+    assert!(rt;
+        (saved, found, other.into_pass().number()) == (Ok(true), Ok(2), 1),
+        "it is saved, and the key is found"
+    );
     Ok(())
 }

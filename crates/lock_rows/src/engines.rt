@@ -1,16 +1,21 @@
 //! Calls on a shared engine, by the main thread and by another.
-ghost use Rattle.std.specs.Prelude.{◌≡◌, [], ◌∷◌};
-ghost use Rattle.turn_lock.specs.Passes.{number_of, IsOf};
+ghost use Rattle.std.specs.Prelude.{◌≡◌, [], ◌∷◌, None};
+ghost use Rattle.daq_types.specs.Callers.{main_caller};
+ghost use Rattle.turn_lock.specs.Passes.{passes_of, number_of, held_by, IsOf};
 ghost use Rattle.turn_lock.specs.Roster.{items_of, numbers_of, ArePassesOf, AreFresh, IsFresh};
 ghost use Rattle.transitions.specs.EngineHistories.{IsSheet};
 ghost use Rattle.transition_lock.specs.SharedEngines.{engine_lock_of};
 
-use daq_types::{Name, StartOutcome, Transition};
+use daq_types::{Name, NoMemory, StartOutcome, Transition};
 use run_states::Sequences;
 use std::alloc::Global;
+use std::process::Abort;
+use std::sync::Wait;
 use std::test::Fail;
-use transition_lock::{EnginePass, EnginePasses, SharedEngine};
-use transitions::{Answer, Engine, Polled, Progress, Reports, Sheet, Tallies, Tally};
+use transition_lock::{EngineClosed, EnginePass, EnginePasses, SharedEngine};
+use transitions::{
+    Answer, Engine, Polled, Progress, RegisterRefusal, Reports, Sheet, Tallies, Tally,
+};
 
 /// Takes both passes of an engine with two out of the list, the main thread's first.
 fn two_passes(_shared: &SharedEngine, passes: &mut EnginePasses) -> (EnginePass, EnginePass)
@@ -46,11 +51,20 @@ fn bare_sheet(alloc: Global) -> Sheet
     }
 }
 
-#[test]
-fn a_client_takes_its_turn(rt: HostRuntime) -> Result<(), Fail> {
-    let alloc = rt.alloc();
-    let (shared, mut passes) = SharedEngine::new(alloc, Engine::new(alloc)?, 2)?;
-    let (mut main, mut other) = two_passes(&shared, &mut passes);
+/// Registers a client that takes part in starts, and begins one: the client's number, and whether the start is begun.
+fn begin_start<R: Wait>(
+    shared: &SharedEngine,
+    rt: &R,
+    main: &mut EnginePass,
+    alloc: Global,
+    name: Name,
+) -> (Result<u32, RegisterRefusal>, bool)
+    requires main { number_of main.old ≡ main_caller }
+    requires own { IsOf (engine_lock_of shared.now) main.old }
+    requires idle { held_by main.old ≡ None }
+    ensures own { IsOf (engine_lock_of shared.now) main.new }
+    ensures idle { held_by main.new ≡ None }
+{
     let sequences = Sequences {
         start: Some(500),
         stop: None,
@@ -58,30 +72,71 @@ fn a_client_takes_its_turn(rt: HostRuntime) -> Result<(), Fail> {
         resume: None,
         start_abort: None,
     };
-    let name = Name::new(b"FE").expect(&rt, "a name");
-    assert_eq!(rt;
-        shared.register(&rt, &mut main, name, sequences, false, false),
-        Ok(0)
-    );
-    let begun = shared.begin(&rt, &mut main, Transition::Start, bare_sheet(alloc));
-    assert!(rt; begun.is_ok(), "the start is begun");
-    let polled = shared.poll(&rt, &mut other, 0);
-    assert!(rt;
-        matches!(polled, Polled::Turn { .. }),
-        "the client has its turn"
-    );
-    let answered = shared.answer(&rt, &mut other, 0, Answer::Yes(Tally::Plain));
-    assert!(rt; answered.is_ok(), "its answer is taken");
+    let client = shared.register(rt, main, name, sequences, false, false);
+    let begun = shared.begin(rt, main, Transition::Start, bare_sheet(alloc));
+    (client, begun.is_ok())
+}
+
+/// Whether the client has its turn, and whether its answer is taken.
+fn take_turn<R: Wait>(shared: &SharedEngine, rt: &R, other: &mut EnginePass) -> [bool; 2]
+    requires own { IsOf (engine_lock_of shared.now) other.old }
+    requires idle { held_by other.old ≡ None }
+    ensures own { IsOf (engine_lock_of shared.now) other.new }
+    ensures idle { held_by other.new ≡ None }
+{
+    let has_turn = matches!(shared.poll(rt, other, 0), Polled::Turn { .. });
+    let answered = shared.answer(rt, other, 0, Answer::Yes(Tally::Plain));
+    [has_turn, answered.is_ok()]
+}
+
+/// Ends the sharing between two passes, which are all there are.
+fn close_two(
+    rt: &impl Abort,
+    shared: SharedEngine,
+    mut passes: EnginePasses,
+    main: EnginePass,
+    other: EnginePass,
+) -> EngineClosed
+    requires two { passes_of (engine_lock_of shared) ≡ 2 }
+    requires none { ArePassesOf (engine_lock_of shared) passes × (items_of passes ≡ []) }
+    requires own { IsOf (engine_lock_of shared) main × IsOf (engine_lock_of shared) other }
+    requires idle { (held_by main ≡ None) × (held_by other ≡ None) }
+{
     passes.push(main);
     passes.push(other);
     let Ok(closed) = shared.close_lock(passes) else {
         panic!(rt; "both passes are there")
     };
+    closed
+}
+
+/// How far the transition is when the engine is shared no more.
+fn progress_behind(alloc: Global, closed: EngineClosed) -> Result<Progress, NoMemory> {
     let mut engine = closed.value.engine;
+    let mut tallies = Tallies::new(alloc)?;
+    Ok(engine.check(&mut tallies))
+}
+
+#[test]
+fn a_client_takes_its_turn(rt: HostRuntime) -> Result<(), Fail> {
+    let alloc = rt.alloc();
+    let name = Name::new(b"FE").expect(&rt, "a name");
+    let (shared, mut passes) = SharedEngine::new(alloc, Engine::new(alloc)?, 2)?;
+    let (mut main, mut other) = two_passes(&shared, &mut passes);
+    let begun = begin_start(&shared, &rt, &mut main, alloc, name);
+    let taken = take_turn(&shared, &rt, &mut other);
+    let closed = close_two(&rt, shared, passes, main, other);
     let done = Progress::Done {
         outcome: StartOutcome::Completed,
     };
-    assert_eq!(rt; engine.check(&mut Tallies::new(alloc)?), done);
+    assert!(rt;
+        (begun, taken) == ((Ok(0), true), [true, true]),
+        "the start is begun, and the client answers in its turn"
+    );
+    assert!(rt;
+        progress_behind(alloc, closed) == Ok(done),
+        "the start is done"
+    );
     Ok(())
 }
 

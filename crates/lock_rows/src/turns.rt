@@ -1,11 +1,12 @@
 //! Calls under the lock, by two threads and by one.
 ghost use Rattle.std.specs.Prelude.{◌≡◌, ℕ, ◌+◌, ◌%◌, ◌^◌, ◌<◌, [], ◌∷◌, length, None, IfOk};
 ghost use Rattle.daq_types.specs.Callers.{entries_by};
-ghost use Rattle.turn_lock.specs.Passes.{number_of, own_entries, held_by, IsOf};
+ghost use Rattle.turn_lock.specs.Passes.{passes_of, number_of, own_entries, held_by, IsOf};
 ghost use Rattle.turn_lock.specs.Roster.{items_of, numbers_of, ArePassesOf, AreFresh, IsFresh};
 ghost use Rattle.turn_lock.specs.Closing.{history_of};
 
 use std::alloc::{AllocError, Global};
+use std::process::Abort;
 use std::sync::Wait;
 use std::thread::{Threads, join};
 use turn_lock::{Call, Closed, Machine, MissingPass, Pass, Passes, Taken, Turns};
@@ -158,36 +159,64 @@ fn two_threads_close_with_one_history(rt: HostRuntime) {
     assert!(rt; closed.value.count == 2000, "each of 2,000 calls counts");
 }
 
-#[test]
-fn the_turn_is_taken_until_it_is_put_back(rt: HostRuntime) {
-    let (lock, mut passes) = Turns::new(rt.alloc(), Counter { count: 0 }, 2).expect(&rt, "memory");
-    let (mut first, mut second) = two_passes(&lock, &mut passes);
-    let mut held = lock.take(&rt, &mut first);
-    let refused = try_increment(&lock, &mut second);
+/// Tries a call by the second pass while the first has the turn, and again behind that.
+fn try_twice<R: Wait>(
+    lock: &Turns<Counter>,
+    rt: &R,
+    first: &mut Pass<Counter>,
+    second: &mut Pass<Counter>,
+) -> [Result<u64, Taken>; 2]
+    requires own { IsOf lock.now first.old × IsOf lock.now second.old }
+    requires idle { (held_by first.old ≡ None) × (held_by second.old ≡ None) }
+    ensures own { IsOf lock.now first.new × IsOf lock.now second.new }
+    ensures idle { (held_by first.new ≡ None) × (held_by second.new ≡ None) }
+{
+    let mut held = lock.take(rt, first);
+    let refused = try_increment(lock, second);
     let found = held.value.count;
     held.value.count = found.wrapping_add(1);
-    lock.put(&mut first, held, &OneMore { found });
-    assert!(rt;
-        refused == Err(Taken { holder: 0 }),
-        "pass 0 holds the turn"
-    );
-    assert!(rt;
-        try_increment(&lock, &mut second) == Ok(1),
-        "the turn is free again"
-    );
+    lock.put(first, held, &OneMore { found });
+    [refused, try_increment(lock, second)]
+}
+
+/// Closes without the second pass and then with it: which pass is missing at first, and the count in the end.
+fn close_twice(
+    rt: &impl Abort,
+    lock: Turns<Counter>,
+    mut passes: Passes<Counter>,
+    first: Pass<Counter>,
+    second: Pass<Counter>,
+) -> (MissingPass, u64)
+    requires two { passes_of lock ≡ 2 }
+    requires none { ArePassesOf lock passes × (items_of passes ≡ []) }
+    requires own { IsOf lock first × IsOf lock second }
+    requires idle { (held_by first ≡ None) × (held_by second ≡ None) }
+{
     passes.push(first);
     let Err((missing, lock, mut passes)) = lock.close(passes) else {
         panic!(rt; "pass 1 is missing")
     };
-    assert!(rt;
-        missing == MissingPass { number: 1 },
-        "pass 1 is the least missing"
-    );
     passes.push(second);
     let Ok(closed) = lock.close(passes) else {
         panic!(rt; "all passes are there")
     };
-    assert!(rt; closed.value.count == 2, "one call of each pass");
+    (missing, closed.value.count)
+}
+
+#[test]
+fn the_turn_is_taken_until_it_is_put_back(rt: HostRuntime) {
+    let (lock, mut passes) = Turns::new(rt.alloc(), Counter { count: 0 }, 2).expect(&rt, "memory");
+    let (mut first, mut second) = two_passes(&lock, &mut passes);
+    let tried = try_twice(&lock, &rt, &mut first, &mut second);
+    let closed = close_twice(&rt, lock, passes, first, second);
+    assert!(rt;
+        tried == [Err(Taken { holder: 0 }), Ok(1)],
+        "pass 0 holds the turn, and then it is free again"
+    );
+    assert!(rt;
+        closed == (MissingPass { number: 1 }, 2),
+        "pass 1 is the least missing, and each made one call"
+    );
 }
 
 /// The second pass has then seen what the first has.

@@ -21,24 +21,38 @@ pub enum Told {
     Other,
 }
 
+/// How many channels ended in this state.
+fn count_in(states: &[ChannelState], state: ChannelState) -> usize {
+    states.iter().filter(|told| **told == state).count()
+}
+
+/// What an answer tells that accepts.
+fn read_tally(tally: &Tally) -> Told {
+    match tally {
+        Tally::Plain => Told::Plain,
+        Tally::Channels(states) => Told::Ended(
+            count_in(states.as_slice(), ChannelState::Ended),
+            count_in(states.as_slice(), ChannelState::Broken),
+        ),
+        _ => Told::Other,
+    }
+}
+
+/// What an answer tells that refuses.
+fn read_refusal(why: Why) -> Told {
+    match why {
+        Why::Fault { channel } => Told::Fault(channel),
+        Why::Exists { channel } => Told::Taken(channel),
+        _ => Told::Other,
+    }
+}
+
 /// What the answer tells.
-pub fn read_answer(answer: &Option<Answer>) -> Told {
+pub fn read_answer(answer: Option<Answer>) -> Told {
     match answer {
         None => Told::Waits,
-        Some(Answer::Yes(Tally::Plain)) => Told::Plain,
-        Some(Answer::No(Why::Fault { channel })) => Told::Fault(*channel),
-        Some(Answer::No(Why::Exists { channel })) => Told::Taken(*channel),
-        Some(Answer::Yes(Tally::Channels(states))) => Told::Ended(
-            states
-                .iter()
-                .filter(|told| **told == ChannelState::Ended)
-                .count(),
-            states
-                .iter()
-                .filter(|told| **told == ChannelState::Broken)
-                .count(),
-        ),
-        Some(_) => Told::Other,
+        Some(Answer::Yes(tally)) => read_tally(&tally),
+        Some(Answer::No(why)) => read_refusal(why),
     }
 }
 

@@ -44,7 +44,7 @@ use Step::{
 use Told::{Ended, Fault, Plain, Taken, Waits};
 
 /// 189 bytes of each record, and 18 of the event. Channels 7 and 15 read buffer 7.
-const SIXTEEN: [Step; 9] = [
+const SIXTEEN: &[Step] = &[
     Start(Plain),
     Send(7, 1, 2),
     Stop(Running, Waits),
@@ -56,10 +56,10 @@ const SIXTEEN: [Step; 9] = [
     Failed(false),
 ];
 
-const TAKEN: [Step; 4] = [Start(Taken(2)), Files(1), Closed(2, 0), TakeBack(Plain)];
+const TAKEN: &[Step] = &[Start(Taken(2)), Files(1), Closed(2, 0), TakeBack(Plain)];
 
 /// The first buffer has room for an event that no other has.
-const LARGE: [Step; 8] = [
+const LARGE: &[Step] = &[
     Start(Plain),
     Send(0, 1, 1000),
     Send(1, 1, 2),
@@ -71,7 +71,7 @@ const LARGE: [Step; 8] = [
 ];
 
 /// The event that was sent in the pause was refused by the buffer.
-const PAUSED: [Step; 8] = [
+const PAUSED: &[Step] = &[
     Start(Plain),
     Send(0, 1, 2),
     Pause(Plain),
@@ -83,7 +83,7 @@ const PAUSED: [Step; 8] = [
 ];
 
 /// Another has begun the next run in the buffer, and sends in it.
-const BEHIND: [Step; 11] = [
+const BEHIND: &[Step] = &[
     Start(Plain),
     Send(0, 1, 2),
     Stop(Running, Waits),
@@ -97,7 +97,7 @@ const BEHIND: [Step; 11] = [
     Closed(0, 396),
 ];
 
-const BROKEN: [Step; 8] = [
+const BROKEN: &[Step] = &[
     Start(Plain),
     Send(0, 1, 2),
     Pull(0, Broke),
@@ -109,12 +109,12 @@ const BROKEN: [Step; 8] = [
 ];
 
 /// A fault at a start of two channels: no file is left.
-const FAULT_AT_0: [Step; 3] = [Start(Fault(0)), Files(0), Failed(true)];
+const FAULT_AT_0: &[Step] = &[Start(Fault(0)), Files(0), Failed(true)];
 
-const FAULT_AT_1: [Step; 3] = [Start(Fault(1)), Files(0), Failed(true)];
+const FAULT_AT_1: &[Step] = &[Start(Fault(1)), Files(0), Failed(true)];
 
 /// A fault behind the event.
-const LATE: [Step; 7] = [
+const LATE: &[Step] = &[
     Start(Plain),
     Send(0, 1, 2),
     Stop(Running, Waits),
@@ -125,10 +125,10 @@ const LATE: [Step; 7] = [
 ];
 
 /// The third channel's name is taken, and a file of the first two is not removed.
-const LEFT: [Step; 3] = [Start(Taken(2)), Files(2), Failed(true)];
+const LEFT: &[Step] = &[Start(Taken(2)), Files(2), Failed(true)];
 
 /// The bytes of the events' data.
-const DATA: [u8; 1000] = [7; 1000];
+const DATA: &[u8] = &[7; 1000];
 
 /// How many files of the first channels there are.
 fn count_files(alloc: Global, row: &Fixture, channels: u32) -> Result<usize, Fail> {
@@ -150,6 +150,12 @@ fn pull_each<R: Abort + Wait>(rt: &R, row: &mut Fixture, channels: u32) -> usize
     wrote
 }
 
+/// Sends an event of so many bytes.
+fn send<R: Abort + Wait>(rt: &R, row: &mut Fixture, buffer: usize, start: u32, len: usize) {
+    let (body, _) = DATA.split_at(len.min(1000));
+    row.send(rt, buffer, start, body);
+}
+
 /// Makes a call on a logger of so many channels, and answers whether it came to what it must.
 fn is_right<R: Abort + Wait>(
     rt: &R,
@@ -159,14 +165,13 @@ fn is_right<R: Abort + Wait>(
     step: Step,
 ) -> Result<bool, Fail> {
     match step {
-        Start(wanted) => Ok(read_answer(&row.start(rt, alloc)) == wanted),
-        Pause(wanted) => Ok(read_answer(&row.pause(rt, alloc)) == wanted),
-        Stop(from, wanted) => Ok(read_answer(&row.stop(rt, alloc, from)) == wanted),
-        TakeBack(wanted) => Ok(read_answer(&row.take_back(rt, alloc)) == wanted),
-        Finish(wanted) => Ok(read_answer(&row.finish()) == wanted),
+        Start(wanted) => Ok(read_answer(row.start(rt, alloc)) == wanted),
+        Pause(wanted) => Ok(read_answer(row.pause(rt, alloc)) == wanted),
+        Stop(from, wanted) => Ok(read_answer(row.stop(rt, alloc, from)) == wanted),
+        TakeBack(wanted) => Ok(read_answer(row.take_back(rt, alloc)) == wanted),
+        Finish(wanted) => Ok(read_answer(row.finish()) == wanted),
         Send(buffer, start, len) => {
-            let (body, _) = DATA.split_at(len.min(1000));
-            row.send(rt, buffer, start, body);
+            send(rt, row, buffer, start, len);
             Ok(true)
         }
         Begin(buffer, start) => {
@@ -181,6 +186,20 @@ fn is_right<R: Abort + Wait>(
     }
 }
 
+/// Makes the calls on a logger of so many channels.
+fn play_steps<R: Abort + Wait>(
+    rt: &R,
+    alloc: Global,
+    row: &mut Fixture,
+    channels: u32,
+    steps: &[Step],
+) -> Result<(), Fail> {
+    for step in steps {
+        assert!(rt; is_right(rt, alloc, row, channels, *step)?);
+    }
+    Ok(())
+}
+
 /// Makes the calls on a logger of so many channels on so many buffers over these files.
 fn play<R: Abort + Wait>(
     rt: &R,
@@ -190,10 +209,7 @@ fn play<R: Abort + Wait>(
     steps: &[Step],
 ) -> Result<(), Fail> {
     let mut row = Fixture::new(alloc, channels.min(16), buffers.max(1), files)?;
-    for step in steps {
-        assert!(rt; is_right(rt, alloc, &mut row, channels, *step)?);
-    }
-    Ok(())
+    play_steps(rt, alloc, &mut row, channels, steps)
 }
 
 /// Files of which no call fails.
@@ -217,41 +233,47 @@ fn with_third<F: daq_io::Files + Drop>(alloc: Global, mut files: F) -> Result<F,
 /// How many channels and buffers a logger has.
 type Counts = (u32, u32);
 
-const RUNS: [(Counts, &[Step]); 4] = [
-    ((16, 8), &SIXTEEN),
-    ((2, 2), &LARGE),
-    ((1, 1), &PAUSED),
-    ((1, 1), &BEHIND),
+const RUNS: &[(Counts, &[Step])] = &[
+    ((16, 8), SIXTEEN),
+    ((2, 2), LARGE),
+    ((1, 1), PAUSED),
+    ((1, 1), BEHIND),
 ];
 
 #[test]
 fn runs_of_several_channels(rt: HostRuntime) -> Result<(), Fail> {
     let alloc = rt.alloc();
-    for (counts, steps) in &RUNS {
+    for (counts, steps) in RUNS {
         play(&rt, alloc, *counts, sound_files(alloc)?, steps)?;
     }
+    Ok(())
+}
+
+#[test]
+fn the_name_of_a_file_is_taken(rt: HostRuntime) -> Result<(), Fail> {
+    let alloc = rt.alloc();
     let files = with_third(alloc, sound_files(alloc)?)?;
-    play(&rt, alloc, (4, 2), files, &TAKEN)
+    play(&rt, alloc, (4, 2), files, TAKEN)
 }
 
 /// Which call of a kind fails. A begin record is two appends, an event one, an end record two.
-const FAILS: [(Counts, FileOp, u64, &[Step]); 10] = [
-    ((2, 1), FileOp::Create, 0, &FAULT_AT_0),
-    ((2, 1), FileOp::Append, 0, &FAULT_AT_0),
-    ((2, 1), FileOp::Append, 1, &FAULT_AT_0),
-    ((2, 1), FileOp::Create, 1, &FAULT_AT_1),
-    ((2, 1), FileOp::Append, 2, &FAULT_AT_1),
-    ((2, 1), FileOp::Append, 3, &FAULT_AT_1),
-    ((1, 1), FileOp::Append, 2, &BROKEN),
-    ((1, 1), FileOp::Append, 3, &LATE),
-    ((1, 1), FileOp::Append, 4, &LATE),
-    ((1, 1), FileOp::Close, 0, &LATE),
+const FAILS: &[(Counts, FileOp, u64, &[Step])] = &[
+    ((2, 1), FileOp::Create, 0, FAULT_AT_0),
+    ((2, 1), FileOp::Append, 0, FAULT_AT_0),
+    ((2, 1), FileOp::Append, 1, FAULT_AT_0),
+    ((2, 1), FileOp::Create, 1, FAULT_AT_1),
+    ((2, 1), FileOp::Append, 2, FAULT_AT_1),
+    ((2, 1), FileOp::Append, 3, FAULT_AT_1),
+    ((1, 1), FileOp::Append, 2, BROKEN),
+    ((1, 1), FileOp::Append, 3, LATE),
+    ((1, 1), FileOp::Append, 4, LATE),
+    ((1, 1), FileOp::Close, 0, LATE),
 ];
 
 #[test]
 fn each_call_fails_in_turn(rt: HostRuntime) -> Result<(), Fail> {
     let alloc = rt.alloc();
-    for (counts, op, call, steps) in &FAILS {
+    for (counts, op, call, steps) in FAILS {
         play(
             &rt,
             alloc,
@@ -260,9 +282,15 @@ fn each_call_fails_in_turn(rt: HostRuntime) -> Result<(), Fail> {
             steps,
         )?;
     }
+    Ok(())
+}
+
+#[test]
+fn a_file_is_left_where_its_removal_fails(rt: HostRuntime) -> Result<(), Fail> {
+    let alloc = rt.alloc();
     for call in 0..2u64 {
         let files = failing_files(alloc, FileOp::Remove, call)?;
-        play(&rt, alloc, (3, 1), with_third(alloc, files)?, &LEFT)?;
+        play(&rt, alloc, (3, 1), with_third(alloc, files)?, LEFT)?;
     }
     Ok(())
 }

@@ -2,7 +2,7 @@
 use daq_types::{NoMemory, Tid};
 use odb_ascii::{LoadRefusal, Loaded, load, save};
 use odb_path::Path;
-use odb_tree::{Database, NewKey, OdbRefusal};
+use odb_tree::{Children, Database, NewKey, OdbRefusal};
 use odb_value::{Item, TextBytes, Value, parse_item};
 use std::alloc::Global;
 use std::process::Abort;
@@ -49,9 +49,19 @@ pub fn is_saved<D: Database>(alloc: Global, database: &D, text: &[u8]) -> Result
     Ok(dump.as_slice() == text)
 }
 
+/// How many items the value has.
+pub fn items_in(value: Result<Value, OdbRefusal>) -> Reply {
+    Ok(value?.items().len() as u32)
+}
+
+/// How many children the list has, up to 9.
+pub fn children_in(list: Result<Children, OdbRefusal>) -> Reply {
+    Ok(list?.as_slice().len().min(9) as u32)
+}
+
 /// How many names the path has.
-pub fn named(path: Option<Path>) -> Reply {
-    match path {
+pub fn named(path: Result<Option<Path>, NoMemory>) -> Reply {
+    match path? {
         None => Err(OdbRefusal::NoKey),
         Some(path) => Ok(path.names().len().min(32) as u32),
     }
@@ -74,6 +84,18 @@ pub fn value_of(alloc: Global, tid: Tid, len: u32) -> Result<Value, NoMemory> {
     }
 }
 
+fn set<D: Database>(
+    alloc: Global,
+    database: &mut D,
+    path: &Path,
+    index: u32,
+    tid: Tid,
+    text: &str,
+) -> Reply {
+    let item = item_of(alloc, tid, text)?;
+    database.set(alloc, path, index, &item)
+}
+
 fn set_long<D: Database>(
     alloc: Global,
     database: &mut D,
@@ -86,6 +108,11 @@ fn set_long<D: Database>(
         Some(_) => Err(OdbRefusal::NoMemory),
         None => database.set(alloc, path, index, &Item::Text(TextBytes::of(bytes))),
     }
+}
+
+fn set_all<D: Database>(alloc: Global, database: &mut D, path: &Path, tid: Tid, len: u32) -> Reply {
+    let value = value_of(alloc, tid, len)?;
+    database.set_all(alloc, path, &value)
 }
 
 fn child<D: Database>(alloc: Global, database: &D, path: &Path, place: usize, name: &str) -> Reply {
@@ -108,27 +135,30 @@ pub fn load_text<D: Database>(
     load(alloc, database, text.as_bytes())
 }
 
+/// How many keys were loaded.
+fn keys_loaded(loaded: Result<Loaded, LoadRefusal>) -> Reply {
+    match loaded {
+        Ok(loaded) => Ok(loaded.keys),
+        Err(_) => Err(OdbRefusal::NoMemory),
+    }
+}
+
 fn reply<D: Database>(alloc: Global, database: &mut D, path: &Path, call: Call) -> Reply {
     match call {
         Call::Dir => database.create(alloc, path, NewKey::Dir),
         Call::Keys(tid, len) => database.create(alloc, path, NewKey::Keys { tid, len }),
-        Call::Set(index, tid, text) => {
-            database.set(alloc, path, index, &item_of(alloc, tid, text)?)
-        }
+        Call::Set(index, tid, text) => set(alloc, database, path, index, tid, text),
         Call::SetLong(index, len) => set_long(alloc, database, path, index, len),
-        Call::SetAll(tid, len) => database.set_all(alloc, path, &value_of(alloc, tid, len)?),
-        Call::Get => Ok(database.get(alloc, path)?.items().len() as u32),
+        Call::SetAll(tid, len) => set_all(alloc, database, path, tid, len),
+        Call::Get => items_in(database.get(alloc, path)),
         Call::Find => database.find(path),
-        Call::List => Ok(database.list(alloc, path)?.as_slice().len().min(9) as u32),
+        Call::List => children_in(database.list(alloc, path)),
         Call::Child(place, name) => child(alloc, database, path, place, name),
         Call::Delete => database.delete(path),
         Call::Resize(len) => database.resize(alloc, path, len),
-        Call::PathOf(row) => named(database.path_of(alloc, row)?),
+        Call::PathOf(row) => named(database.path_of(alloc, row)),
         Call::IsBelow(row, above) => Ok(database.is_below(row, above) as u32),
-        Call::Load(text) => match load_text(alloc, database, text) {
-            Ok(loaded) => Ok(loaded.keys),
-            Err(_) => Err(OdbRefusal::NoMemory),
-        },
+        Call::Load(text) => keys_loaded(load_text(alloc, database, text)),
         Call::Save(text) => Ok(is_saved(alloc, database, text.as_bytes())? as u32),
     }
 }

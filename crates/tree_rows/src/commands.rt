@@ -1,7 +1,7 @@
 //! Worked commands: what each prints, and how many calls it makes.
 use daq_text::TextBuffer;
 use daq_types::{Caller, NoMemory};
-use odb_commands::{COMMAND_CALLS, run_command};
+use odb_commands::{COMMAND_CALLS, CommandReply, run_command};
 use odb_journal::LocalDatabase;
 use odb_port::LocalAccess;
 use odb_script::Command;
@@ -58,6 +58,18 @@ const LINES: &[(u64, &str, &str)] = &[
     (29, "start", ""),
 ];
 
+/// Writes what the reply to the line of this number prints, if there is one.
+fn print_reply(
+    number: u64,
+    reply: Option<CommandReply>,
+    text: &mut TextBuffer,
+) -> Result<(), NoMemory> {
+    match reply {
+        Some(reply) => reply.print(number, text),
+        None => Ok(()),
+    }
+}
+
 /// Writes what a line of the main thread's prints.
 fn print_line<R: Wait>(
     rt: &R,
@@ -70,12 +82,10 @@ fn print_line<R: Wait>(
     text.clear();
     port.set_caller(Caller::MAIN);
     port.reserve(COMMAND_CALLS)?;
-    if let Ok(command) = Command::read(line.as_bytes()) {
-        if let Some(reply) = run_command(rt, alloc, port, &command)? {
-            reply.print(number, text)?;
-        }
+    match Command::read(line.as_bytes()) {
+        Ok(command) => print_reply(number, run_command(rt, alloc, port, &command)?, text),
+        Err(_) => Ok(()),
     }
-    Ok(())
 }
 
 /// Gives all lines to the main thread, and compares what each prints.

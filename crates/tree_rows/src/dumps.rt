@@ -51,21 +51,19 @@ fn add_dirs(text: &mut TextBuffer, count: u64) -> Result<(), NoMemory> {
     Ok(())
 }
 
-/// The dump of such a database.
-fn dump_of(alloc: Global, great: Great) -> Result<TextBuffer, NoMemory> {
-    let mut text = TextBuffer::new(alloc);
+/// Adds the dump of such a database.
+fn add_dump(text: &mut TextBuffer, great: Great) -> Result<(), NoMemory> {
     match great {
-        Great::Rows => add_dirs(&mut text, 256)?,
+        Great::Rows => add_dirs(text, 256),
         Great::Keys => {
             text.text(b"[/]\n")?;
-            add_lines(&mut text, great, 65536)?;
+            add_lines(text, great, 65536)
         }
         Great::Items => {
             text.text(b"[/]\nx = STRING[65536] :\n")?;
-            add_lines(&mut text, great, 65536)?;
+            add_lines(text, great, 65536)
         }
     }
-    Ok(text)
 }
 
 /// How many keys the database loads of a text, where that is what it then is saved as.
@@ -90,10 +88,12 @@ const GREAT: &[(Great, u32)] = &[
 ];
 
 /// Whether a new database loads so many keys of the dump of such a one, and is saved as it.
-fn is_loaded_again(alloc: Global, great: Great, keys: u32) -> Result<bool, LoadRefusal> {
-    let text = dump_of(alloc, great)?;
-    let loaded = loads_again(alloc, &mut ArenaTree::new(alloc), text.as_slice())?;
-    Ok(loaded == Some(keys))
+fn is_loaded_again(alloc: Global, great: Great, keys: u32) -> Result<bool, NoMemory> {
+    let mut text = TextBuffer::new(alloc);
+    add_dump(&mut text, great)?;
+    let mut database = ArenaTree::new(alloc);
+    let loaded = loads_again(alloc, &mut database, text.as_slice());
+    Ok(loaded == Ok(Some(keys)))
 }
 
 #[test]

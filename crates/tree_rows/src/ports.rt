@@ -1,5 +1,8 @@
 //! Calls by a port, each made on a database that notes it, and whose they are in the journal.
-use crate::calls::{Call, Reply, Row, item_of, named, value_of};
+ghost use Rattle.std.specs.Prelude.{◌≡◌, ◌≤◌};
+ghost use Rattle.daq_types.specs.Callers.{main_caller};
+
+use crate::calls::{Call, Reply, Row, children_in, item_of, items_in, named, value_of};
 use daq_types::{Caller, Tid};
 use odb_journal::LocalDatabase;
 use odb_path::Path;
@@ -31,6 +34,38 @@ const CALLS: &[Row] = &[
     ("/A/b", Call::Delete, Ok(1)),
 ];
 
+/// Sets the item of this type and text, as a member.
+fn set_by_member<R: Wait>(
+    rt: &R,
+    alloc: Global,
+    port: &mut LocalAccess<PlainTree>,
+    path: Path,
+    index: u32,
+    tid: Tid,
+    text: &str,
+) -> Reply
+    requires room { 1 ≤ port.old.room }
+{
+    let item = item_of(alloc, tid, text)?;
+    port.set_caller(Caller::of_client(0));
+    port.set(rt, alloc, path, index, item)
+}
+
+fn set_all<R: Wait>(
+    rt: &R,
+    alloc: Global,
+    port: &mut LocalAccess<PlainTree>,
+    path: Path,
+    tid: Tid,
+    len: u32,
+) -> Reply
+    requires main { port.old.caller ≡ main_caller }
+    requires room { 1 ≤ port.old.room }
+{
+    let value = value_of(alloc, tid, len)?;
+    port.set_all(rt, alloc, path, value)
+}
+
 fn by_port<R: Wait>(
     rt: &R,
     alloc: Global,
@@ -42,17 +77,14 @@ fn by_port<R: Wait>(
     port.reserve(1)?;
     match call {
         Call::Keys(tid, len) => port.create(rt, alloc, path, NewKey::Keys { tid, len }),
-        Call::Set(index, tid, text) => {
-            port.set_caller(Caller::of_client(0));
-            port.set(rt, alloc, path, index, item_of(alloc, tid, text)?)
-        }
-        Call::SetAll(tid, len) => port.set_all(rt, alloc, path, value_of(alloc, tid, len)?),
-        Call::Get => Ok(port.get(rt, alloc, path)?.items().len() as u32),
+        Call::Set(index, tid, text) => set_by_member(rt, alloc, port, path, index, tid, text),
+        Call::SetAll(tid, len) => set_all(rt, alloc, port, path, tid, len),
+        Call::Get => items_in(port.get(rt, alloc, path)),
         Call::Find => port.find(rt, path),
-        Call::List => Ok(port.list(rt, alloc, path)?.as_slice().len().min(9) as u32),
+        Call::List => children_in(port.list(rt, alloc, path)),
         Call::Delete => port.delete(rt, path),
         Call::Resize(len) => port.resize(rt, alloc, path, len),
-        Call::PathOf(row) => named(port.path_of(rt, alloc, row)?),
+        Call::PathOf(row) => named(port.path_of(rt, alloc, row)),
         _ => Err(OdbRefusal::NoMemory),
     }
 }

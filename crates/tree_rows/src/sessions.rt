@@ -1,4 +1,7 @@
 //! The database of a new session, the number of the next run, and the front-end's key.
+ghost use Rattle.std.specs.Prelude.{◌≡◌, ◌≤◌};
+ghost use Rattle.daq_types.specs.Callers.{main_caller};
+
 use daq_types::{Caller, Name, NoMemory, Tid};
 use odb_journal::LocalDatabase;
 use odb_path::Path;
@@ -96,6 +99,38 @@ fn path_of(alloc: Global, text: &[u8]) -> Result<Path, OdbRefusal> {
     }
 }
 
+/// Makes a key in the place of the front-end.
+fn make_key<R: Wait>(
+    rt: &R,
+    alloc: Global,
+    port: &mut LocalAccess<PlainTree>,
+) -> Result<(), OdbRefusal>
+    requires main { port.old.caller ≡ main_caller }
+    requires room { 1 ≤ port.old.room }
+{
+    let kind = NewKey::Keys {
+        tid: Tid::UInt8,
+        len: 1,
+    };
+    let path = path_of(alloc, b"/Equipment/FE")?;
+    let _ = port.create(rt, alloc, path, kind)?;
+    Ok(())
+}
+
+/// Makes this the number of the last run.
+fn set_last<R: Wait>(
+    rt: &R,
+    alloc: Global,
+    port: &mut LocalAccess<PlainTree>,
+    number: i32,
+) -> Result<(), OdbRefusal>
+    requires room { 1 ≤ port.old.room }
+{
+    let path = RunKey::RunNumber.path(alloc)?;
+    let _ = port.set(rt, alloc, path, 0, Item::Int32(number));
+    Ok(())
+}
+
 /// Takes the step, and answers whether it is answered as it must be.
 fn take<R: Wait>(
     rt: &R,
@@ -107,17 +142,8 @@ fn take<R: Wait>(
     port.reserve(1)?;
     match step {
         Open => open_front(rt, alloc, port, front_end())?,
-        MakeKey => {
-            let kind = NewKey::Keys {
-                tid: Tid::UInt8,
-                len: 1,
-            };
-            let _ = port.create(rt, alloc, path_of(alloc, b"/Equipment/FE")?, kind)?;
-        }
-        Last(number) => {
-            let path = RunKey::RunNumber.path(alloc)?;
-            let _ = port.set(rt, alloc, path, 0, Item::Int32(*number));
-        }
+        MakeKey => make_key(rt, alloc, port)?,
+        Last(number) => set_last(rt, alloc, port, *number)?,
         Next(wanted) => return Ok(next_run(rt, alloc, port)? == *wanted),
     }
     Ok(true)
@@ -179,14 +205,19 @@ fn are_numbers(alloc: Global, tree: &PlainTree, numbers: &[Number]) -> Result<bo
     Ok(true)
 }
 
+/// Whether each step is noted as one call, and the last is answered as it must be if it makes a key.
+fn are_noted(entries: &[(Caller, DatabaseEntry)], story: &Story) -> bool {
+    entries.len() == story.steps.len() && last_made(entries) == story.made
+}
+
 /// Whether the steps come to what the story tells.
 fn comes_so<R: Wait>(rt: &R, alloc: Global, story: &Story) -> Result<bool, OdbRefusal> {
     let mut port = session_port(alloc)?;
     let answered = take_all(rt, alloc, &mut port, story.steps)?;
     let (tree, journal) = port.into_database().into_parts();
-    let noted = journal.len() == story.steps.len();
-    let made = last_made(journal.as_slice()) == story.made;
-    Ok(answered && noted && made && are_numbers(alloc, &tree, story.numbers)?)
+    let noted = are_noted(journal.as_slice(), story);
+    let held = are_numbers(alloc, &tree, story.numbers)?;
+    Ok([answered, noted, held] == [true; 3])
 }
 
 #[test]

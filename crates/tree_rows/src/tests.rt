@@ -269,6 +269,17 @@ const STORIES: &[Story] = &[
     (RUN_ENDED, &[], &[]),
 ];
 
+/// Makes the calls on a copy of the database.
+fn run_on_copy<D: Database>(
+    rt: &impl Abort,
+    alloc: Global,
+    database: &D,
+    rows: &[Row],
+) -> Result<(), Fail> {
+    let mut copy = database.copy(alloc)?;
+    run(rt, alloc, &mut copy, rows)
+}
+
 fn play<D: Database>(
     rt: &impl Abort,
     alloc: Global,
@@ -277,8 +288,7 @@ fn play<D: Database>(
 ) -> Result<(), Fail> {
     let (first, on_copy, behind) = story;
     run(rt, alloc, &mut database, first)?;
-    let mut copy = database.copy(alloc)?;
-    run(rt, alloc, &mut copy, on_copy)?;
+    run_on_copy(rt, alloc, &database, on_copy)?;
     run(rt, alloc, &mut database, behind)
 }
 

@@ -324,22 +324,27 @@ const TEXTS: &[Row] = &[
     ),
 ];
 
+/// Whether the database is saved as this text of so many bytes, if that is told.
+fn is_saved_as(
+    alloc: Global,
+    database: &PlainTree,
+    saved: Option<(usize, &str)>,
+) -> Result<bool, NoMemory> {
+    match saved {
+        None => Ok(true),
+        Some((len, saved)) if saved.len() == len => is_saved(alloc, database, saved.as_bytes()),
+        Some(_) => Ok(false),
+    }
+}
+
 /// Whether that comes of the text of a row, and is saved.
 fn comes_so(alloc: Global, row: &Row) -> Result<bool, NoMemory> {
     let (before, text, wanted, saved) = row;
     let mut database = PlainTree::new(alloc);
-    if load_text(alloc, &mut database, before).is_err()
-        || load_text(alloc, &mut database, text) != *wanted
-    {
-        return Ok(false);
-    }
-    match saved {
-        None => Ok(true),
-        Some((len, saved)) if saved.len() == *len => {
-            is_saved(alloc, &database, saved.as_bytes())
-        }
-        Some(_) => Ok(false),
-    }
+    let stands = load_text(alloc, &mut database, before).is_ok();
+    let loads = load_text(alloc, &mut database, text) == *wanted;
+    let saves = is_saved_as(alloc, &database, *saved)?;
+    Ok([stands, loads, saves] == [true; 3])
 }
 
 #[test]

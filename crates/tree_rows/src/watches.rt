@@ -110,10 +110,9 @@ fn is_noted<D: Database>(
 ) -> Result<bool, Fail> {
     let mut database = Watches::new(alloc, tree);
     change(rt, alloc, &mut database, watched)?;
-    if !copy_gives(alloc, &database, watched)? {
-        return Ok(false);
-    }
-    Ok(gives_and_ends(alloc, &mut database, watched)?)
+    let copied = copy_gives(alloc, &database, watched)?;
+    let given = gives_and_ends(alloc, &mut database, watched)?;
+    Ok([copied, given] == [true; 2])
 }
 
 #[test]
