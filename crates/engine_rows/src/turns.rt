@@ -416,8 +416,8 @@ fn tallies_by_answer(rt: HostRuntime) -> Result<(), Fail> {
     Ok(())
 }
 
-/// What blank reports answer, from which the first is taken: how many there are, and whether there is a second one
-/// before and after.
+/// Takes the first blank report: how many there were, whether there was a second one, whether one was taken, and whether
+/// there is a second one then.
 fn take_blank(blanks: &mut Reports) -> (usize, bool, bool, bool) {
     let len = blanks.len();
     let before = blanks.get(1).is_some();

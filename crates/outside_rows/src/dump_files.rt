@@ -80,7 +80,8 @@ fn replies_by_line(rt: HostRuntime) -> Result<(), Fail> {
     let two = [(3, FileReply::Done), (7, FileReply::Clash)];
     assert!(rt; (replies.len(), replies.get(0)) == (2, Some(&two[0])));
     assert!(rt; replies.as_slice() == two.as_slice());
-    assert!(rt; (replies.pop(), replies.len()) == (Some(two[1]), 1));
+    assert!(rt; replies.pop() == Some(two[1]));
+    assert!(rt; replies.as_slice() == &two[..1]);
     assert!(rt; FileReplies::empty(rt.alloc()).pop().is_none());
     Ok(())
 }

@@ -92,11 +92,15 @@ fn a_file_that_is_there_from_the_first(rt: HostRuntime) -> Result<(), Fail> {
     let dump = FileName::new("all.odb")?;
     let mut files = MemFiles::new(alloc, 2, 8, Vec::new(alloc))?;
     files.add(dump, b"[/]".to_vec(alloc)?)?;
+    let other = FileName::new("run00001.mid")?;
+    let answers = (files.open_read(&other), files.remove(&other));
+    assert!(rt; answers == (Err(NameRefused::Missing), Ok(())));
     assert!(rt; files.find(&dump) == Some(b"[/]".as_slice()));
     Ok(())
 }
 
-/// Makes a file of three bytes, and answers what two more come to, for which no room is left, and what a second file does.
+/// Makes a file of three bytes: what appending two more answers, for which there is no room, and what making a second
+/// file answers.
 fn overfill(
     files: &mut MemFiles,
     first: &FileName,
@@ -167,8 +171,8 @@ fn one_file_as_a_source(rt: HostRuntime) -> Result<(), Fail> {
     let number = files.open_read(&run)?;
     let mut source = FileSource::new(files, number);
     let mut into = [0; 8];
-    let count = source.read(&mut into);
-    assert!(rt; (count, into) == (Ok(5), *b"MIDAS\0\0\0"));
+    let counts = [source.read(&mut into), source.read(&mut [0; 8])];
+    assert!(rt; (counts, into) == ([Ok(5), Ok(0)], *b"MIDAS\0\0\0"));
     let number = source.file();
     assert!(rt; source.into_files().close(number).is_ok());
     Ok(())

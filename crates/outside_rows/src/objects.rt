@@ -36,7 +36,8 @@ pub fn made_opened_and_removed<F: Files>(
     )
 }
 
-/// What a file that is there answers when it is made, removed, opened and removed once more.
+/// Makes a file that is there, removes it, opens it and removes it once more. Answers the making, both removals, and the
+/// opening.
 pub fn made_again_and_removed_twice<F: Files>(
     files: &mut F,
     name: &FileName,

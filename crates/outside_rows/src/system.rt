@@ -62,6 +62,19 @@ fn a_folder_is_no_file(rt: HostRuntime) -> Result<(), Fail> {
     Ok(())
 }
 
+#[test]
+fn a_name_below_no_folder_is_missing(rt: HostRuntime) -> Result<(), Fail> {
+    let folder = "a_name_below_no_folder_is_missing";
+    fs::create_dir(&rt, folder)?;
+    let mut files = StdFiles::new(rt.alloc(), rt, folder, 1)?;
+    let name = FileName::new("no/run00001.mid")?;
+    let answers = (files.open_read(&name), files.remove(&name));
+    assert!(rt; answers == (Err(NameRefused::Missing), Ok(())));
+    assert_eq!(rt; files.first_fault(), None, "a clash of names is no fault");
+    fs::remove_dir(&rt, folder)?;
+    Ok(())
+}
+
 /// Names in a folder with one file, and what a file's creation, opening and removal answer for each.
 const REFUSED_NAMES: &[(&str, NameRefused, NameRefused, Result<(), Failed>)] = &[
     (

@@ -8,8 +8,8 @@ use std::test::Fail;
 /// The ids of two front-ends, and the word of the first event of each.
 const WORDS: &[(u16, u32)] = &[(1, 1817669548), (2, 3102535385)];
 
-/// Looks at the word that ends the bank of an event with this data.
-fn look_at(rt: &impl Abort, body: &[u8], word: u32) {
+/// Looks at the length of an event's data, and at the word that ends its bank.
+fn look_at_word(rt: &impl Abort, body: &[u8], word: u32) {
     assert_eq!(rt; body.len(), 24);
     assert_eq!(rt; &body[16..20], word.to_le_bytes().as_slice());
 }
@@ -32,7 +32,7 @@ fn first_events_of_two_front_ends(rt: HostRuntime) -> Result<(), Fail> {
         };
         assert!(rt; generator.check(&order));
         generator.event(&order, 1, &mut event);
-        look_at(&rt, event.body(), *word);
+        look_at_word(&rt, event.body(), *word);
     }
     Ok(())
 }

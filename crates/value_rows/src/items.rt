@@ -121,7 +121,10 @@ fn printed(alloc: Global, tid: Tid, text: &[u8]) -> Result<(Tid, TextBuffer), It
 fn texts_that_are_items(rt: HostRuntime) -> Result<(), Fail> {
     for (tid, text, wanted) in ITEMS {
         let (found, out) = printed(rt.alloc(), *tid, text).ok().ok_or("an item")?;
-        assert!(rt; (found, out.as_slice()) == (*tid, *wanted), "{text:?}");
+        assert!(rt;
+            (found, out.as_slice()) == (*tid, *wanted),
+            "{tid:?} {text:?}"
+        );
     }
     Ok(())
 }
