@@ -217,7 +217,7 @@ fn comes_so<R: Wait>(rt: &R, alloc: Global, story: &Story) -> Result<bool, OdbRe
     let (tree, journal) = port.into_database().into_parts();
     let noted = are_noted(journal.as_slice(), story);
     let held = are_numbers(alloc, &tree, story.numbers)?;
-    Ok([answered, noted, held] == [true; 3])
+    Ok(answered && noted && held)
 }
 
 #[test]

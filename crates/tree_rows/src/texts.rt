@@ -344,7 +344,7 @@ fn comes_so(alloc: Global, row: &Row) -> Result<bool, NoMemory> {
     let stands = load_text(alloc, &mut database, before).is_ok();
     let loads = load_text(alloc, &mut database, text) == *wanted;
     let saves = is_saved_as(alloc, &database, *saved)?;
-    Ok([stands, loads, saves] == [true; 3])
+    Ok(stands && loads && saves)
 }
 
 #[test]

@@ -73,7 +73,7 @@ fn gives_and_ends<D: Database>(
     let ended = database.unwatch(0) == Ok(());
     let gone = database.unwatch(0) == Err(NoWatch);
     let lost = database.notes(0, &mut notes) == Err(NoWatch);
-    Ok([given, noted, none, empty, ended, gone, lost] == [true; 7])
+    Ok(given && noted && none && empty && ended && gone && lost)
 }
 
 /// Whether the first watch of a copy of this database does so.
@@ -112,7 +112,7 @@ fn is_noted<D: Database>(
     change(rt, alloc, &mut database, watched)?;
     let copied = copy_gives(alloc, &database, watched)?;
     let given = gives_and_ends(alloc, &mut database, watched)?;
-    Ok([copied, given] == [true; 2])
+    Ok(copied && given)
 }
 
 #[test]
