@@ -1,2 +1,3 @@
 mod ZerosBehind
+mod TidTable
 pub mod CallersLaws

@@ -1,6 +1,6 @@
-ghost use Rattle.std.specs.Prelude.{◌≡◌, ◌≢◌, IfSome, IfNone};
+ghost use Rattle.std.specs.Prelude.{◌≡◌, ◌≢◌, ◌↔◌, IsTrue, IfSome, IfNone};
 ghost use Rattle.daq_types.specs.declared.types.Tid.{Tid};
-ghost use Rattle.daq_types.specs.Tids.{tid_code, tid_name, tid_size, IsNamed};
+ghost use Rattle.daq_types.specs.Tids.{tid_code, tid_name, tid_older_name, tid_size, IsNamed};
 
 /// The type of a bank's items or of a key of the online database, with the numbers and names that MIDAS gives them.
 #[derive(Clone, Copy, Debug, PartialEq, Eq)]
@@ -105,26 +105,51 @@ impl Tid {
         ensures found { IfSome result (IsNamed name.now) }
         ensures none { IfNone result ((tid : Tid) → ¬ (IsNamed name.now tid)) }
     {
-        match name {
-            b"UINT8" | b"BYTE" => Some(Tid::UInt8),
-            b"INT8" | b"SBYTE" => Some(Tid::Int8),
-            b"CHAR" => Some(Tid::Char),
-            b"UINT16" | b"WORD" => Some(Tid::UInt16),
-            b"INT16" | b"SHORT" => Some(Tid::Int16),
-            b"UINT32" | b"DWORD" => Some(Tid::UInt32),
-            b"INT32" | b"INT" => Some(Tid::Int32),
-            b"BOOL" => Some(Tid::Bool),
-            b"FLOAT" => Some(Tid::Float),
-            b"DOUBLE" => Some(Tid::Double),
-            b"BITFIELD" => Some(Tid::BitField),
-            b"STRING" => Some(Tid::Text),
-            b"ARRAY" => Some(Tid::Array),
-            b"STRUCT" => Some(Tid::Struct),
-            b"KEY" => Some(Tid::Key),
-            b"LINK" => Some(Tid::Link),
-            b"INT64" => Some(Tid::Int64),
-            b"UINT64" => Some(Tid::UInt64),
+        TYPES.iter().copied().find(|tid| tid.is_named(name))
+    }
+
+    /// The name that older programs give the type.
+    fn older_name(&self) -> Option<&'static [u8]>
+        ensures given { IfSome result (λ older. tid_older_name self.now ≡ Some older.now) }
+        ensures none { IfNone result (tid_older_name self.now ≡ None) }
+    {
+        match self {
+            Tid::UInt8 => Some(b"BYTE"),
+            Tid::Int8 => Some(b"SBYTE"),
+            Tid::UInt16 => Some(b"WORD"),
+            Tid::Int16 => Some(b"SHORT"),
+            Tid::UInt32 => Some(b"DWORD"),
+            Tid::Int32 => Some(b"INT"),
             _ => None,
         }
     }
+
+    /// Whether the type has this name, or older programs give it this name.
+    fn is_named(&self, name: &[u8]) -> bool
+        ensures { IsTrue result ↔ IsNamed name.now self.now }
+    {
+        self.name().as_bytes() == name || self.older_name() == Some(name)
+    }
 }
+
+/// All types.
+const TYPES: [Tid; 18] = [
+    Tid::UInt8,
+    Tid::Int8,
+    Tid::Char,
+    Tid::UInt16,
+    Tid::Int16,
+    Tid::UInt32,
+    Tid::Int32,
+    Tid::Bool,
+    Tid::Float,
+    Tid::Double,
+    Tid::BitField,
+    Tid::Text,
+    Tid::Array,
+    Tid::Struct,
+    Tid::Key,
+    Tid::Link,
+    Tid::Int64,
+    Tid::UInt64,
+];
