@@ -5,8 +5,8 @@ use Rattle.std.proofs.lemmas.List.Elements.{All-append, All-nil}
 use Rattle.std.proofs.lemmas.Bool.{cases_lt}
 use Rattle.std.proofs.Math.Logic.{⊎_elim}
 use Rattle.std.specs.Str.Lines.{strip_carriage_return}
-use Rattle.std.specs.Io.KnownBytes.{Consumes, IsAtEnd}
-use Rattle.odb_script.specs.Lines.{Reading, Takes, ReadsLine, ReadsLast, ReadsTooMuch, script_limit}
+use Rattle.std.specs.Io.KnownBytes.{Consumes, IsAtEnd, Keeps}
+use Rattle.odb_script.specs.Lines.{Reading, Takes, ReadsLine, ReadsLast, ReadsNone, ReadsTooMuch, ReadsPart, script_limit}
 use Rattle.odb_script.specs.Advances.{Refills, Scans}
 
 -- a part of the line was passed, and no end
@@ -26,6 +26,12 @@ Consumes-trans None b c xs ys p q = tt
 Consumes-trans (Some x) None c xs ys p q = absurd p
 Consumes-trans (Some x) (Some y) None xs ys p q = absurd q
 Consumes-trans (Some x) (Some y) (Some z) xs ys p q = p ∙ ap (λ rest. xs ++ rest) q ∙ sym (append_assoc xs ys z)
+
+Consumes-kept : (a b c : Option (List ℕ)) (xs : List ℕ) → Consumes a b xs → Keeps b c → Consumes a c xs
+Consumes-kept None b c xs p q = tt
+Consumes-kept (Some x) None c xs p q = absurd p
+Consumes-kept (Some x) (Some y) None xs p q = absurd q
+Consumes-kept (Some x) (Some y) (Some z) xs p q = p ∙ ap (λ rest. xs ++ rest) (sym q)
 
 -- nothing was passed yet
 pub so_far_first : (old now : Reading) (before : Option (List ℕ)) → now.pending ≡ old.pending → now.line ≡ [] → now.taken ≡ old.taken → old.taken ≤ script_limit → SoFar old now before before
@@ -128,3 +134,32 @@ reads_last old now new before mid after s f p e some =
 
 pub reads_too_much : (old now : Reading) (before after : Option (List ℕ)) → SoFar old now before after → 0 < length now.pending → now.taken ≡ script_limit → ReadsTooMuch old now before after
 reads_too_much old now before after s some full = record { part = s.part; takes = s.takes; more = some; taken = s.taken; limit = full }
+
+take-none : (n : ℕ) (xs : List ℕ) → take (suc n) xs ≡ [] → xs ≡ []
+take-none n [] e = refl
+take-none n (x ∷ xs) e = cc
+
+pub reads_none : (old now new : Reading) (before mid after : Option (List ℕ)) → SoFar old now before mid → Refills now new mid after → new.pending ≡ [] → IsAtEnd after → new.line ≡ []
+    → ReadsNone old (record new { line = take 4097 new.line }) before after
+reads_none old now new before mid after s f p e none =
+    let t : SoFar old new before after = so_far_refilled old now new before mid after s f in
+    let part : t.part ≡ [] = take-none 4097 t.part (sym t.line ∙ none) in record {
+      takes = record { more = t.takes.more; consumed = t.takes.consumed; bytes = t.takes.bytes ∙ ap (λ xs. xs ++ new.pending) part ∙ p; plain = All-nil (λ b. b ≢ 10) };
+      at_end = e;
+      none_pending = p;
+      taken = omega (arith, t.taken, ap (length {A = ℕ}) part);
+    }
+
+pub reads_part : (old now new : Reading) (before mid after : Option (List ℕ)) → SoFar old now before mid → new ≡ now → now.pending ≡ [] → Keeps mid after → ReadsPart old new before after
+reads_part old now new before mid after s same p kept = record {
+  part = s.part;
+  takes = record {
+    more = s.takes.more;
+    consumed = Consumes-kept before mid after s.takes.more s.takes.consumed kept;
+    bytes = s.takes.bytes ∙ ap (λ (r : Reading). s.part ++ r.pending) (sym same);
+    plain = s.takes.plain;
+  };
+  none_pending = ap (λ (r : Reading). r.pending) same ∙ p;
+  taken = ap (λ (r : Reading). r.taken) same ∙ s.taken;
+  within = omega (arith, ap (λ (r : Reading). r.taken) same, s.within);
+}

@@ -6,7 +6,7 @@ ghost use Rattle.odb_script.specs.Forms.{buffer_form, equip_form, channel_form, 
 use crate::key_forms::{read_create, read_get, read_set};
 use crate::line_text::LineText;
 use crate::pieces::{
-    end, last_number, next_kind, next_number, next_small, only_number, only_text, text,
+    end, is_name, last_number, next_kind, next_number, next_small, only_number, only_text, text,
 };
 use crate::refusals::{LINE_BYTES, LineRefusal};
 use crate::words::{NextWord, WordReader};
@@ -200,23 +200,23 @@ fn read_watching<'a>(
 ) -> Result<Command<'a>, LineRefusal>
     ensures { result ≡ watching_form at name.now words.old }
 {
-    if name == b"load".as_slice() {
+    if is_name(name, "load") {
         let file = only_text(words)?;
         return Ok(Command::Load { file });
     }
-    if name == b"save".as_slice() {
+    if is_name(name, "save") {
         let file = only_text(words)?;
         return Ok(Command::Save { file });
     }
-    if name == b"watch".as_slice() {
+    if is_name(name, "watch") {
         let path = only_text(words)?;
         return Ok(Command::Watch { path });
     }
-    if name == b"notes".as_slice() {
+    if is_name(name, "notes") {
         let watch = only_number(words)?;
         return Ok(Command::Notes { watch });
     }
-    if name == b"unwatch".as_slice() {
+    if is_name(name, "unwatch") {
         let watch = only_number(words)?;
         return Ok(Command::Unwatch { watch });
     }
@@ -232,20 +232,20 @@ fn read_key<'a>(
 ) -> Result<Command<'a>, LineRefusal>
     ensures { result ≡ key_form at name.now words.old }
 {
-    if name == b"create".as_slice() {
+    if is_name(name, "create") {
         return read_create(words);
     }
-    if name == b"set".as_slice() {
+    if is_name(name, "set") {
         return read_set(words);
     }
-    if name == b"get".as_slice() {
+    if is_name(name, "get") {
         return read_get(words);
     }
-    if name == b"ls".as_slice() {
+    if is_name(name, "ls") {
         let path = only_text(words)?;
         return Ok(Command::List { path });
     }
-    if name == b"rm".as_slice() {
+    if is_name(name, "rm") {
         let path = only_text(words)?;
         return Ok(Command::Remove { path });
     }
@@ -261,16 +261,16 @@ fn read_declaring<'a>(
 ) -> Result<Command<'a>, LineRefusal>
     ensures { result ≡ declaring_form at name.now words.old }
 {
-    if name == b"buffer".as_slice() {
+    if is_name(name, "buffer") {
         return read_buffer(words);
     }
-    if name == b"equip".as_slice() {
+    if is_name(name, "equip") {
         return read_equip(words);
     }
-    if name == b"channel".as_slice() {
+    if is_name(name, "channel") {
         return read_channel(words);
     }
-    if name == b"analyzer".as_slice() {
+    if is_name(name, "analyzer") {
         return read_analyzer(words);
     }
     read_key(at, name, words)
@@ -286,23 +286,23 @@ fn read_form<'a>(
 ) -> Result<Command<'a>, LineRefusal>
     ensures { result ≡ named_form at name.now words.old }
 {
-    if name == b"events".as_slice() {
+    if is_name(name, "events") {
         let count = only_number(words)?;
         return Ok(Command::Events { count });
     }
-    if name == b"start".as_slice() {
+    if is_name(name, "start") {
         return read_only(Command::Start, words);
     }
-    if name == b"stop".as_slice() {
+    if is_name(name, "stop") {
         return read_only(Command::Stop, words);
     }
-    if name == b"pause".as_slice() {
+    if is_name(name, "pause") {
         return read_only(Command::Pause, words);
     }
-    if name == b"resume".as_slice() {
+    if is_name(name, "resume") {
         return read_only(Command::Resume, words);
     }
-    if name == b"exit".as_slice() {
+    if is_name(name, "exit") {
         return read_only(Command::Exit, words);
     }
     read_declaring(at, name, words)

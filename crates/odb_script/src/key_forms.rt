@@ -4,7 +4,7 @@ ghost use Rattle.odb_script.specs.Forms.{directory_form, value_form, create_form
 
 use crate::forms::Command;
 use crate::line_text::LineText;
-use crate::pieces::{end, last_number, only_text, text, type_of, word_number};
+use crate::pieces::{end, is_name, last_number, only_text, text, type_of, word_number};
 use crate::refusals::LineRefusal;
 use crate::words::{NextWord, WordReader};
 use daq_types::Tid;
@@ -39,7 +39,7 @@ pub(crate) fn read_create<'a>(words: &mut WordReader<'a>) -> Result<Command<'a>,
 {
     match words.next() {
         NextWord::Word { at, text } => {
-            if text.as_slice() == b"DIR".as_slice() {
+            if is_name(text.as_slice(), "DIR") {
                 read_directory(words)
             } else {
                 read_value(at, type_of(text.as_slice()), words)

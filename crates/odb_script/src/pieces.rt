@@ -2,7 +2,7 @@
 ghost use Rattle.std.specs.Prelude.{◌≡◌, ◌≤◌, IfOk, IfSome, OnOk};
 ghost use Rattle.daq_text.specs.Numbers.{whole_number};
 ghost use Rattle.odb_script.specs.Numbers.{most_small};
-ghost use Rattle.odb_script.specs.TypeNames.{type_named, kind_named};
+ghost use Rattle.odb_script.specs.TypeNames.{is_text, type_named, kind_named};
 ghost use Rattle.odb_script.specs.Forms.{next_text, words_behind, line_end, read_number_at, next_number as number_next, read_kind_at, next_kind as kind_next, last_number as number_last, only_text as text_alone, only_number as number_alone};
 
 use crate::line_text::LineText;
@@ -18,15 +18,22 @@ pub(crate) fn type_of(name: &[u8]) -> Option<Tid>
     Tid::from_name(name)
 }
 
+/// Whether the word is this name.
+pub(crate) fn is_name(word: &[u8], name: &str) -> bool
+    ensures { result ≡ is_text word.now name.now }
+{
+    word == name.as_bytes()
+}
+
 /// The kind of request that a word names.
 #[tactic(auto, unfolding(crate::specs::TypeNames::kind_named))]
 pub(crate) fn kind_of(name: &[u8]) -> Option<Kind>
     ensures { result ≡ kind_named name.now }
 {
-    if name == b"all".as_slice() {
+    if is_name(name, "all") {
         return Some(Kind::All);
     }
-    if name == b"some".as_slice() {
+    if is_name(name, "some") {
         return Some(Kind::NonBlocking);
     }
     None
