@@ -1,6 +1,6 @@
 -- Signed numbers that grow past 64 bits.
-use Rattle.std.proofs.Common.{◌≡◌, ℕ, ◌-◌, ◌^◌, ◌<◌, ◌≤◌, refl, sym, ap, subst, ◌∙◌, arith, le-leb}
-use Rattle.std.specs.Prelude.{Option, Some, None, MatchOption, Result, Ok, Err, ℤ, pos}
+use Rattle.std.proofs.Common.{◌≡◌, ℕ, zero, suc, ◌-◌, ◌^◌, ◌<◌, ◌≤◌, refl, sym, ap, subst, ◌∙◌, arith, le-leb}
+use Rattle.std.specs.Prelude.{Option, Some, None, MatchOption, Result, Ok, Err, ℤ, pos, neg_ℤ}
 use Rattle.std.proofs.lemmas.Bool.{lt-leb, cases_lt}
 use Rattle.std.proofs.Math.Logic.{⊎_elim}
 use Rattle.daq_text.specs.Numbers.{mapped, up_to}
@@ -33,3 +33,8 @@ positive_of (Ok v) n r e h =
     let same : n ≡ up_to (2 ^ 64 - 1) v = (cc) in
     let P : Option ℕ → Type 0 = λ o. MatchOption o (r ≡ None) (λ x. r ≡ in_signed_64_bits (pos x)) in
     ap (λ (o : Option ℤ). let x : Result (Option ℤ) ℕ = Ok o in x) (positive_of_number v r (subst P same h))
+
+-- a number below zero that fits
+pub negative_held : (n : ℕ) (z : ℤ) → n - 1 ≤ 2 ^ 63 - 1 → z ≡ neg_ℤ (pos n) → Some z ≡ in_signed_64_bits (neg_ℤ (pos n))
+negative_held zero z small e = ap (λ (y : ℤ). let o : Option ℤ = Some y in o) e
+negative_held (suc k) z small e = rw (le-leb k (2 ^ 63 - 1) (omega (arith, small))) (ap (λ (y : ℤ). let o : Option ℤ = Some y in o) e)

@@ -1,14 +1,14 @@
 -- A value that is changed is one again.
-use Rattle.std.proofs.Common.{◌≡◌, ℕ, ◌-◌, ◌≤◌, ◌++◌, length, get_or, refl, subst, arith, length-append, length-take, rules}
+use Rattle.std.proofs.Common.{◌≡◌, ℕ, ◌-◌, ◌≤◌, ◌++◌, length, get_or, refl, sym, subst, arith, length-append, length-take, rules}
 use Rattle.std.specs.Prelude.{All, IsTrue, false, replicate}
-use Rattle.std.proofs.lemmas.List.{length-replicate}
-use Rattle.std.proofs.lemmas.List.Elements.{All-take, All-append, All-replicate}
+use Rattle.std.proofs.lemmas.List.{length-replicate, length-set}
+use Rattle.std.proofs.lemmas.List.Elements.{All-take, All-append, All-replicate, All-set}
 use Rattle.daq_types.specs.declared.types.Tid.{Tid}
 use Rattle.odb_value.specs.declared.items.Item.{Item}
 use Rattle.odb_value.specs.declared.items.Item.TheVariants.{UInt8, Int8, Char, UInt16, Int16, UInt32, Int32, Bool as Truth, Text, Int64, UInt64}
 use Rattle.odb_value.specs.Items.{tid_of, is_kept, IsItem}
-use Rattle.odb_value.specs.Values.{HeldValue, IsValue, IsShorter, items_limit}
-use Rattle.odb_value.specs.ValueChanges.{default_item, resized}
+use Rattle.odb_value.specs.Values.{HeldValue, IsValue, IsShorter, IsSizeOf, items_limit, size_limit}
+use Rattle.odb_value.specs.ValueChanges.{default_item, resized, size_with_item, put_in}
 
 -- Every item is of a type that is kept.
 is_kept-item : (item : Item) → IsTrue (is_kept (tid_of item))
@@ -88,3 +88,43 @@ is_value-resized v len some many h = record {
   size = h.size;
   shorter = resized_all (IsShorter v.size) v len h.shorter (default_shorter_in v h);
 }
+
+-- A size that rises with an item is still one of its type, and above the item's text.
+size_with_item-kept : (size : ℕ) (item : Item) → IsSizeOf (tid_of item) size → IsShorter size_limit item
+    → IsSizeOf (tid_of item) (size_with_item size item) × IsShorter (size_with_item size item) item × (size ≤ size_with_item size item)
+size_with_item-kept size (UInt8 n) s h = (s, tt, omega arith)
+size_with_item-kept size (Int8 z) s h = (s, tt, omega arith)
+size_with_item-kept size (Char b) s h = (s, tt, omega arith)
+size_with_item-kept size (UInt16 n) s h = (s, tt, omega arith)
+size_with_item-kept size (Int16 z) s h = (s, tt, omega arith)
+size_with_item-kept size (UInt32 n) s h = (s, tt, omega arith)
+size_with_item-kept size (Int32 z) s h = (s, tt, omega arith)
+size_with_item-kept size (Truth t) s h = (s, tt, omega arith)
+size_with_item-kept size (Text bytes) s h = (omega (arith, s, h), omega arith, omega arith)
+size_with_item-kept size (Int64 z) s h = (s, tt, omega arith)
+size_with_item-kept size (UInt64 n) s h = (s, tt, omega arith)
+
+shorter_than_more : (size more : ℕ) (item : Item) → size ≤ more → IsShorter size item → IsShorter more item
+shorter_than_more size more (UInt8 n) _ h = tt
+shorter_than_more size more (Int8 z) _ h = tt
+shorter_than_more size more (Char b) _ h = tt
+shorter_than_more size more (UInt16 n) _ h = tt
+shorter_than_more size more (Int16 z) _ h = tt
+shorter_than_more size more (UInt32 n) _ h = tt
+shorter_than_more size more (Int32 z) _ h = tt
+shorter_than_more size more (Truth t) _ h = tt
+shorter_than_more size more (Text bytes) more_is h = omega (arith, more_is, h)
+shorter_than_more size more (Int64 z) _ h = tt
+shorter_than_more size more (UInt64 n) _ h = tt
+
+pub is_value-put : (v : HeldValue) (index : ℕ) (item : Item) → IsItem v.tid item → IsShorter size_limit item → IsValue v → IsValue (put_in v index item)
+is_value-put v index item of_type short h =
+    let sized = size_with_item-kept v.size item (subst (λ (t : Tid). IsSizeOf t v.size) (sym of_type.tid) h.size) short in
+    record {
+      some = omega (arith, length-set v.items index item, h.some);
+      many = omega (arith, length-set v.items index item, h.many);
+      of_type = All-set (IsItem v.tid) v.items index item of_type h.of_type;
+      size = subst (λ (t : Tid). IsSizeOf t (size_with_item v.size item)) of_type.tid sized.0;
+      shorter = All-set (IsShorter (size_with_item v.size item)) v.items index item sized.1
+          (λ k d inside. shorter_than_more v.size (size_with_item v.size item) (get_or v.items k d) sized.2 (h.shorter k d inside));
+    }
