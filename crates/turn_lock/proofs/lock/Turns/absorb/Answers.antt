@@ -1,12 +1,11 @@
-use Rattle.std.proofs.Common.{rules, ◌≡◌, [], ◌++◌, refl, sym, ap, ◌∙◌, append-nil, None}
+use Rattle.std.proofs.Common.{rules, ◌≡◌, [], ◌++◌, refl, sym, ap, ◌∙◌, append-nil, inr, None}
 use Rattle.std.proofs.lemmas.List.Elements.{All-nil, All-same}
 use Rattle.turn_lock.specs.declared.lock.Pass.{Pass}
 use Rattle.turn_lock.specs.Views.{carried}
-use Rattle.turn_lock.specs.Passes.{held_by}
+use Rattle.turn_lock.specs.Passes.{held_by, IsOf}
 use Rattle.turn_lock.specs.Closing.{Absorbs}
 use Rattle.turn_lock.proofs.Endings.{Absorbing-join}
-use Rattle.turn_lock.proofs.LockLaws.{All_last}
-use Rattle.turn_lock.proofs.LockLaws.{prefix_self}
+use Rattle.turn_lock.proofs.LockLaws.{All_last, prefix_self}
 use Rattle.turn_lock.proofs.lock.Turns.absorb.Goals as goal
 
 pub loop-pass-init : goal.loop-pass-init
@@ -22,6 +21,13 @@ loop-pass-init g c = record {
   items = sym (append-nil _);
   absorbed = All-nil _;
 }
+
+pub join-requires-clause-table : goal.join-requires-clause-table
+join-requires-clause-table g c = let lock = c.args.self.now in
+    (All_last (IsOf lock) c.pop.new.self.items c.in-Some.pass (All-same (IsOf lock) _ _ (sym c.in-Some.ensures.items) c.loop-pass.invariant.left_own)).table
+
+pub join-requires-clause-asked : goal.join-requires-clause-asked
+join-requires-clause-asked g c = inr c.loop-pass.invariant.number
 
 pub join-requires-clause-idle : goal.join-requires-clause-idle
 join-requires-clause-idle g c = let pass = c.in-Some.pass in
