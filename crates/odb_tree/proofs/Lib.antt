@@ -2,6 +2,7 @@ pub mod Along
 pub mod Limited
 pub mod Changing
 pub mod FaultLemmas
+pub mod Made
 pub mod CallLemmas
 pub mod Trees
 pub mod Kept

@@ -1,5 +1,5 @@
 -- Each call keeps a database one.
-use Rattle.std.proofs.Common.{◌≡◌, ℕ, ◌≤◌, ◌^◌, Bool, true, false, not, cond, List, [], ◌∷◌, ◌++◌, length, Option, Some, None, Result, Ok, Err, refl, sym, ap, ◌∙◌, subst, arith}
+use Rattle.std.proofs.Common.{◌≡◌, ℕ, Bool, true, false, not, cond, List, [], ◌∷◌, length, Option, Some, None, Result, Ok, Err, refl, sym, ap, ◌∙◌, subst, arith}
 use Rattle.std.specs.Prelude.{All, IfSome, IsTrue}
 use Rattle.std.specs.Option.{option_or, option_map}
 use Rattle.std.proofs.lemmas.List.Elements.{All-nil, All-append, All-filter}
@@ -20,17 +20,16 @@ use Rattle.odb_tree.specs.declared.entry.DatabaseEntry.TheVariants.{Create, Set,
 use Rattle.odb_tree.specs.Rows.{Rows, no_rows, row_at, change_row, change_at, rows_outside}
 use Rattle.odb_tree.specs.Lookups.{obstacle_to_new, seek_key, absent_fault}
 use Rattle.odb_tree.specs.Limits.{IsWithin, len_fault, limit_fault}
-use Rattle.odb_tree.specs.Changes.{CanPut, IsKeyAt}
+use Rattle.odb_tree.specs.Changes.{IsKeyAt}
 use Rattle.odb_tree.specs.Places.{made_for}
-use Rattle.odb_tree.specs.Calls.{GivesItem, IsRowsReply, rows_after, reply_or, create_fault, create_reply, exists_fault, kept_fault, items_fault, tid_fault, new_value, after_create, set_fault, set_reply, set_reply_to, after_set, set_all_fault, set_all_reply, after_set_all, after_set_all_at, number_at, after_resize, resize_reply_to, count_gone}
+use Rattle.odb_tree.specs.Calls.{GivesItem, IsRowsReply, rows_after, reply_or, create_fault, exists_fault, kept_fault, items_fault, new_value, after_create, set_fault, set_reply, set_reply_to, after_set, set_all_fault, set_all_reply, after_set_all, after_set_all_at, number_at, after_resize, resize_reply_to, count_gone}
 use Rattle.odb_tree.specs.Making.{new_number, created}
 use Rattle.odb_tree.specs.Histories.{IsLegalRows, rows_replay}
-use Rattle.odb_tree.specs.Trees.{AreShort}
 use Rattle.odb_tree.specs.Databases.{IsRow, IsDatabase, IsSoundCall}
 use Rattle.odb_tree.proofs.Limited.{or_none_left, or_none_right, own_none, within}
 use Rattle.odb_tree.proofs.CallLemmas.{create_within, outside_within, sought_key, can_put, can_put_there, set_within, set_all_within}
 use Rattle.odb_tree.proofs.Kept.{tree_after, tree_begins, short_more, create_makes, set_all_makes}
-use Rattle.odb_tree.proofs.EachRow.{all_changed, short_rows, made_rows, value_put, value_new, value_resized}
+use Rattle.odb_tree.proofs.EachRow.{all_changed, made_rows, value_put, value_new, value_resized}
 
 -- replies
 
@@ -161,17 +160,32 @@ pub database_created : (s : Rows) (p : List (List ℕ)) (kind : NewKey) (r : Opt
 database_created s p kind r h path is none =
     database_after s (Create p kind (Ok (new_number s p))) h path (reply_none (create_fault s p kind) (new_number s p) (sym is ∙ none))
 
-to_item : (type : Tid) (n : ℕ) (reply : Result ℕ OdbRefusal) → reply ≡ Ok n → GivesItem type (Ok n) reply
-to_item tid.Text n reply h = h
-to_item _ n reply h = sym h
+-- the reply of `set` from what the code finds
+
+pub item_given : (type : Tid) (given reply : Result ℕ OdbRefusal) → reply ≡ given → GivesItem type given reply
+item_given tid.Text (Ok n) reply h = h
+item_given tid.Text (Err refusal) reply h = λ _. h
+item_given _ given reply h = sym h
+
+pub set_replied : (s : Rows) (p : List (List ℕ)) (index : ℕ) (item : Item) (n : ℕ) (v : HeldValue) (r : Option OdbRefusal) → seek_key s.rows p ≡ Ok (n, v) → r ≡ set_fault s p index item v → r ≡ None
+    → set_reply s p index item ≡ Ok n
+set_replied s p index item n v r key is none = ap (set_reply_to s p index item) key ∙ reply_none (set_fault s p index item v) n (sym is ∙ none)
+
+pub set_refused : (s : Rows) (p : List (List ℕ)) (index : ℕ) (item : Item) (n : ℕ) (v : HeldValue) (r : Option OdbRefusal) (refusal : OdbRefusal) → seek_key s.rows p ≡ Ok (n, v) → r ≡ set_fault s p index item v
+    → r ≡ Some refusal → set_reply s p index item ≡ Err refusal
+set_refused s p index item n v r refusal key is some = ap (set_reply_to s p index item) key ∙ ap (λ (o : Option OdbRefusal). reply_or o n) (sym is ∙ some)
+
+pub set_left : (s : Rows) (p : List (List ℕ)) (index : ℕ) (item given : Item) (left : List Row) → given ≡ item → left ≡ change_at s.rows p (λ w. put_in w index given)
+    → record { rows = left; next = s.next } ≡ after_set s p index item
+set_left s p index item given left same changed =
+    ap (λ (rows : List Row). record { rows = rows; next = s.next }) (changed ∙ ap (λ (i : Item). change_at s.rows p (λ w. put_in w index i)) same)
 
 pub database_set : (s : Rows) (p : List (List ℕ)) (index : ℕ) (item given : Item) (n : ℕ) (v : HeldValue) (r : Option OdbRefusal) (left : List Row) → IsDatabase s → IsPath p → IsSound item
     → seek_key s.rows p ≡ Ok (n, v) → r ≡ set_fault s p index item v → r ≡ None → given ≡ item → left ≡ change_at s.rows p (λ w. put_in w index given)
     → IsDatabase (record { rows = left; next = s.next })
 database_set s p index item given n v r left h path sound key is none same changed =
-    let reply : set_reply s p index item ≡ Ok n = ap (set_reply_to s p index item) key ∙ reply_none (set_fault s p index item v) n (sym is ∙ none) in
-    with_left s.next left (change_at s.rows p (λ w. put_in w index item)) (changed ∙ ap (λ (i : Item). change_at s.rows p (λ w. put_in w index i)) same)
-    (database_after s (Set p index item (Ok n)) h (path, sound) (to_item (tid_of item) n (set_reply s p index item) reply))
+    subst IsDatabase (sym (set_left s p index item given left same changed))
+    (database_after s (Set p index item (Ok n)) h (path, sound) (item_given (tid_of item) (Ok n) (set_reply s p index item) (set_replied s p index item n v r key is none)))
 
 pub database_set_all : (s : Rows) (p : List (List ℕ)) (v : HeldValue) (r : Option OdbRefusal) → IsDatabase s → IsPath p → IsValue v → r ≡ set_all_fault s p v → r ≡ None → IsDatabase (after_set_all s p v)
 database_set_all s p v r h path value is none =

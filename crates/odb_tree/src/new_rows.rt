@@ -1,9 +1,10 @@
 ghost use Rattle.std.specs.Prelude.{◌≡◌, ◌≢◌, ◌≤◌, ◌<◌, ◌^◌, ◌+◌, ◌++◌, ◌∷◌, [], length, IfOk, OnOk, OnErr, IsTrue, None};
 ghost use Rattle.std.specs.Option.{option_copied};
 ghost use Rattle.odb_path.specs.Paths.{depth_limit};
-ghost use Rattle.odb_tree.specs.Making.{no_way, further, go_on, missing_at, missing_from};
+ghost use Rattle.odb_tree.specs.Limits.{IsWithin};
+ghost use Rattle.odb_tree.specs.Making.{no_way, further, go_on, missing_at, missing_from, way_to, new_row, created};
 
-use crate::lookups::row_at;
+use crate::lookups::{parent, row_at};
 use crate::rows::Row;
 use daq_types::{Name, NoMemory};
 use odb_path::Path;
@@ -13,7 +14,7 @@ use std::marker::Model;
 
 /// The way to a new row: the path of its directory as it is spelled, and the directories that are made.
 #[derive(Drop)]
-pub struct Way {
+struct Way {
     path: Path,
     dirs: Vec<Row>,
 }
@@ -94,7 +95,7 @@ impl Way {
     }
 
     /// The way through the directories with these names.
-    pub fn to(alloc: Global, rows: &[Row], next: u64, names: &[Name]) -> Result<Way, NoMemory>
+    fn to(alloc: Global, rows: &[Row], next: u64, names: &[Name]) -> Result<Way, NoMemory>
         requires depth { length names.now < depth_limit }
         requires fits { next + missing_from rows.now [] names.now ≤ 2 ^ 32 }
         ensures way { IfOk result (λ way. way ≡ go_on rows.now next [] names.now no_way) }
@@ -108,12 +109,7 @@ impl Way {
     }
 
     /// The new directories, and behind them a row of this name.
-    pub fn into_rows(
-        self,
-        next: u64,
-        name: Name,
-        value: Option<Value>,
-    ) -> Result<Vec<Row>, NoMemory>
+    fn into_rows(self, next: u64, name: Name, value: Option<Value>) -> Result<Vec<Row>, NoMemory>
         requires depth { length self.path < depth_limit }
         requires fits { next + length self.dirs < 2 ^ 32 }
         ensures { IfOk result (λ rows. rows.items ≡ self.dirs ++ record
@@ -131,4 +127,23 @@ impl Way {
         })?;
         Ok(rows)
     }
+}
+
+/// A new row of this path, and before it the missing directories.
+pub fn new_rows(
+    alloc: Global,
+    rows: &[Row],
+    next: u64,
+    names: &[Name],
+    value: Option<Value>,
+) -> Result<Vec<Row>, NoMemory>
+    requires named { 0 < length names.now }
+    requires depth { length names.now ≤ depth_limit }
+    requires within { IsWithin (created (record { rows = rows.now; next = next }) names.now value) }
+    ensures { IfOk result (λ made. made.items
+        ≡ (way_to (record { rows = rows.now; next = next }) names.now).dirs
+        ++ new_row (record { rows = rows.now; next = next }) names.now value ∷ []) }
+{
+    let way = Way::to(alloc, rows, next, parent(names))?;
+    way.into_rows(next, names[names.len() - 1], value)
 }

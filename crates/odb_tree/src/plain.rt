@@ -19,7 +19,7 @@ use crate::faults::{
 use crate::limits::{bytes_of, bytes_with, len_fault, limit_fault, raised_size, text_fault, total};
 use crate::listing::children_of;
 use crate::lookups::{check_dir, check_there, obstacle, parent, path_with, row_at, seek, seek_key};
-use crate::new_rows::{Way, count_missing};
+use crate::new_rows::{count_missing, new_rows};
 use crate::refusals::{OdbRefusal, What};
 use crate::rows::{NewKey, Row};
 use daq_types::{Name, NoMemory};
@@ -171,8 +171,7 @@ impl PlainTree {
         ensures ok { OnOk result (self.new ≡ created self.old names.now value) }
         ensures err { OnErr result (self.new ≡ self.old) }
     {
-        let way = Way::to(alloc, self.rows.as_slice(), self.next, parent(names))?;
-        let mut made = way.into_rows(self.next, names[names.len() - 1], value)?;
+        let mut made = new_rows(alloc, self.rows.as_slice(), self.next, names, value)?;
         let count = made.len() as u64;
         self.rows.append(&mut made)?;
         self.next += count;
