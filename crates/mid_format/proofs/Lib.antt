@@ -2,6 +2,7 @@ mod PartsRead
 mod Allowed
 mod Beginnings
 mod Failing
+mod Ends
 mod Going
 pub mod AtHand
 pub mod HeadersBack

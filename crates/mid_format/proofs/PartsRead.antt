@@ -84,6 +84,15 @@ passed_more a b c size rest block count left p g e = record {
   consumed = Consumes-trans a b c p.bytes (take count block) p.consumed g.consumed;
 }
 
+pub passed_all : (before after : Option (List ℕ)) (size rest : ℕ) → Passed before after size rest → rest ≡ 0 → PassesOver before after size size
+passed_all before after size rest p none = record {
+  bytes = p.bytes;
+  length = omega (arith, p.length, none);
+  within = omega arith;
+  consumed = p.consumed;
+  ended = λ less. absurd (omega (arith, less));
+}
+
 pub passed_end : (a b c : Option (List ℕ)) (size rest part : ℕ) (block : List ℕ) (count : ℕ) → Passed a b size rest → Gathers b c block count → length block ≡ part → part ≤ rest → count < part
     → PassesOver a c size (size - (rest - count))
 passed_end a b c size rest part block count p g len small short = record {

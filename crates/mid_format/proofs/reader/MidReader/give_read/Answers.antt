@@ -19,3 +19,18 @@ returns-in-Ok-None-clause-gives g c = λ first events r t. record {
 
 pub returns-in-Err-clause-gives : goal.returns-in-Err-clause-gives
 returns-in-Err-clause-gives g c = λ first events r t. record { event = c.next.new.into.event; read = c.in-Err.ensures.reads first events r; taken = t }
+
+pub returns-in-Ok-Some-clause-end : goal.returns-in-Ok-Some-clause-end
+returns-in-Ok-Some-clause-end g c = rw c.in-Ok-Some.field-0-is at c.in-Ok-Some.ensures.end
+
+pub returns-in-Ok-Some-clause-counted : goal.returns-in-Ok-Some-clause-counted
+returns-in-Ok-Some-clause-counted g c = rw c.in-Ok-Some.field-0-is at c.in-Ok-Some.ensures.counted
+
+pub returns-in-Ok-None-clause-end : goal.returns-in-Ok-None-clause-end
+returns-in-Ok-None-clause-end g c = rw c.in-Ok-None.field-0-is at c.in-Ok-None.ensures.end
+
+pub returns-in-Ok-None-clause-counted : goal.returns-in-Ok-None-clause-counted
+returns-in-Ok-None-clause-counted g c = rw c.in-Ok-None.field-0-is at c.in-Ok-None.ensures.counted
+
+pub returns-in-Err-clause-counted : goal.returns-in-Err-clause-counted
+returns-in-Err-clause-counted g c = c.in-Err.ensures.counted
