@@ -8,3 +8,4 @@ pub mod Ordered
 pub mod BankAreaLaws
 pub mod Reports
 pub mod WorkedRows
+pub mod Printed

@@ -1,5 +1,5 @@
 ghost use Rattle.std.specs.Prelude.{◌≡◌, ◌++◌, OnOk, OnErr, map};
-ghost use Rattle.std.specs.Fmt.{decimal};
+ghost use Rattle.std.specs.Fmt.{decimal, signed_decimal};
 ghost use Rattle.std.specs.List.{flat_map};
 ghost use Rattle.event_report.specs.Texts as texts;
 ghost use Rattle.event_report.specs.Texts.{HasInFront, bank_text, figures_text, id_text, kind_text, line};
@@ -37,6 +37,15 @@ pub fn append_named(name: &[u8], number: u64, text: &mut TextBuffer) -> Result<(
     text.number(number)
 }
 
+/// Appends words and a number with a sign.
+fn append_signed(name: &[u8], number: i128, text: &mut TextBuffer) -> Result<(), NoMemory>
+    ensures added { OnOk result (text.new ≡ text.old ++ (name.now ++ signed_decimal number)) }
+    ensures begins { OnErr result (HasInFront text.old text.new) }
+{
+    text.text(name)?;
+    text.signed(number)
+}
+
 /// Appends the line of an id.
 fn append_id(row: &IdRow, start: &[u8], text: &mut TextBuffer) -> Result<(), NoMemory>
     ensures added { OnOk result (text.new ≡ text.old ++ line start.now (id_text row.now)) }
@@ -65,12 +74,9 @@ fn append_figures(figures: &Figures, text: &mut TextBuffer) -> Result<(), NoMemo
     ensures begins { OnErr result (HasInFront text.old text.new) }
 {
     append_named(b" count ", figures.count, text)?;
-    text.text(b" sum ")?;
-    text.signed(figures.sum)?;
-    text.text(b" least ")?;
-    text.signed(figures.least)?;
-    text.text(b" greatest ")?;
-    text.signed(figures.greatest)
+    append_signed(b" sum ", figures.sum, text)?;
+    append_signed(b" least ", figures.least, text)?;
+    append_signed(b" greatest ", figures.greatest, text)
 }
 
 /// Appends the line of a name and type of banks.
