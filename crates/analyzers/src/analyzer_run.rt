@@ -2,7 +2,7 @@ use daq_types::Kind;
 use event_report::Report;
 
 /// Which events an analyzer asks for.
-#[derive(Clone, Copy, Debug, PartialEq, Eq)]
+#[derive(Clone, Copy)]
 pub struct EventRequest {
     /// The id of the events; 65,535 for those of any.
     pub id: u16,
@@ -13,7 +13,7 @@ pub struct EventRequest {
 }
 
 /// How far an analyzer has read a run.
-#[derive(Clone, Copy, Debug, PartialEq, Eq)]
+#[derive(Clone, Copy)]
 pub enum AnalyzerStage {
     /// The run is on.
     Counting,
@@ -24,7 +24,7 @@ pub enum AnalyzerStage {
 }
 
 /// A run of which an analyzer counts the events.
-#[derive(Debug, Drop)]
+#[derive(Drop)]
 pub struct AnalyzerRun {
     /// The start number.
     pub start: u32,

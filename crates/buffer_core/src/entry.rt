@@ -2,7 +2,7 @@ use crate::replies::{MarkRefusal, NoClient, NoSlot, Received, RequestRefusal, Se
 use daq_types::{Event, Kind, Name};
 
 /// A call on a buffer, with its arguments and its reply.
-#[derive(Debug, Drop)]
+#[derive(Drop)]
 pub enum BufferEntry {
     Attach {
         name: Name,

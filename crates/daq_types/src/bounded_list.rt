@@ -9,7 +9,7 @@ use std::marker::Model;
 
 /// A list in room that was taken once: `ROOM` entries never want memory. Contracts see the entries, so two lists are
 /// equal where their entries are.
-#[derive(Debug, Drop)]
+#[derive(Drop)]
 pub struct BoundedList<T, const ROOM: usize> {
     entries: Vec<T>,
 }

@@ -2,7 +2,7 @@ use crate::byte_list::Bytes;
 
 /// An event as a front-end sends it and as a run file stores it: the fields of the MIDAS event header, but for the
 /// length, which is that of the data.
-#[derive(Debug, Drop)]
+#[derive(Drop)]
 pub struct Event {
     /// Which kind of event it is; each front-end has its own.
     pub id: u16,

@@ -8,7 +8,7 @@ use std::marker::Model;
 
 /// What came of the lines of a script that called the database files, in order: each one's number, and its reply. Room
 /// for a line's entry is taken before the line's first call.
-#[derive(Debug, Drop)]
+#[derive(Drop)]
 pub struct FileReplies {
     entries: Vec<(u64, FileReply)>,
 }

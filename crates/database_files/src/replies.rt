@@ -17,7 +17,7 @@ pub enum FileReply {
 }
 
 /// What came of reading a file.
-#[derive(Debug, Drop)]
+#[derive(Drop)]
 pub enum FileRead {
     /// These are its bytes.
     Whole { text: Bytes },

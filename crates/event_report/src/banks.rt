@@ -17,7 +17,7 @@ use std::alloc::Global;
 use std::marker::Model;
 
 /// The banks of integers of events, by rising name and type, in room that was taken once.
-#[derive(Debug, Drop)]
+#[derive(Drop)]
 pub struct BankTable {
     rows: Vec<BankRow>,
     rest: u64,

@@ -11,7 +11,7 @@ use std::alloc::Global;
 use std::marker::Model;
 
 /// The ids of events, by rising id, in room that was taken once.
-#[derive(Debug, Drop)]
+#[derive(Drop)]
 pub struct IdTable {
     rows: Vec<IdRow>,
     rest: u64,

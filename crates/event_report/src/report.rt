@@ -15,7 +15,7 @@ use std::alloc::Global;
 use std::marker::Model;
 
 /// What is counted of events that come one at a time. Only `new` and `print` take memory.
-#[derive(Debug, Drop)]
+#[derive(Drop)]
 pub struct Report {
     bytes: u64,
     events: u64,

@@ -1,7 +1,7 @@
 use daq_types::Order;
 
 /// A run that a front-end takes part in.
-#[derive(Clone, Copy, Debug, PartialEq, Eq)]
+#[derive(Clone, Copy)]
 pub struct FrontRun {
     /// The order of its start.
     pub order: Order,

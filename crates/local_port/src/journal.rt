@@ -19,7 +19,7 @@ pub struct Line {
 }
 
 /// A call that was noted, as it is read.
-#[derive(Clone, Copy, Debug)]
+#[derive(Clone, Copy)]
 pub struct NotedCall<'a> {
     pub caller: Caller,
     /// The call with its reply. An event that it sends stands here without its data.

@@ -1,5 +1,5 @@
 /// How far the run is that a logger was last told to start.
-#[derive(Clone, Copy, Debug, PartialEq, Eq)]
+#[derive(Clone, Copy, PartialEq, Eq)]
 pub enum RunPart {
     /// Its start was refused.
     Refused,
@@ -10,7 +10,7 @@ pub enum RunPart {
 }
 
 /// The run that a logger was last told to start, until that is over.
-#[derive(Clone, Copy, Debug, PartialEq, Eq)]
+#[derive(Clone, Copy)]
 pub struct LoggedRun {
     /// The start number.
     pub start: u32,

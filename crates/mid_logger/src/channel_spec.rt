@@ -1,7 +1,7 @@
 use crate::pattern::Pattern;
 
 /// What a channel of the logger writes, and where.
-#[derive(Debug, Drop)]
+#[derive(Drop)]
 pub struct ChannelSpec {
     /// The channel's number, below 16.
     pub number: u32,

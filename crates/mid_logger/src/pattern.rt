@@ -16,7 +16,7 @@ const PLACEHOLDER: &[u8] = b"%05d";
 
 /// A pattern for the names of a channel's run files: a text with `%05d` in it, where the run number stands in at least
 /// five digits with zeros in front. With ten digits there it is the name of a file, and it has no other `%`.
-#[derive(Debug, Drop)]
+#[derive(Drop)]
 pub struct Pattern {
     front: NameBytes,
     back: NameBytes,

@@ -1,5 +1,5 @@
 /// What a channel got from its buffer.
-#[derive(Clone, Copy, Debug, PartialEq, Eq)]
+#[derive(Clone, Copy, PartialEq, Eq)]
 pub enum Pulled {
     /// The event of this place, which was written.
     Wrote { place: u64 },

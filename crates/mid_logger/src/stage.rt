@@ -1,5 +1,5 @@
 /// A run that a channel writes.
-#[derive(Clone, Copy, Debug, PartialEq, Eq)]
+#[derive(Clone, Copy)]
 pub struct ChannelRun {
     /// The run number.
     pub run: u32,
@@ -14,7 +14,7 @@ pub struct ChannelRun {
 }
 
 /// A run that was begun, as its client reads it.
-#[derive(Clone, Copy, Debug, PartialEq, Eq)]
+#[derive(Clone, Copy)]
 pub struct BegunRun {
     pub opened: ChannelRun,
     /// The place at which it was begun.
@@ -24,7 +24,7 @@ pub struct BegunRun {
 }
 
 /// How far a channel is.
-#[derive(Clone, Copy, Debug, PartialEq, Eq)]
+#[derive(Clone, Copy)]
 pub enum ChannelStage {
     /// It writes no run.
     Idle,

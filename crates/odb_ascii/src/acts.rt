@@ -4,7 +4,7 @@ use odb_tree::OdbRefusal;
 use odb_value::Value;
 
 /// What some lines of a database text ask for.
-#[derive(Debug, Drop)]
+#[derive(Drop)]
 pub enum Act {
     /// To make a directory, and those above it, where they are missing.
     Make { path: Path },

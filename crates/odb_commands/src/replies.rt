@@ -19,7 +19,7 @@ pub enum CommandRefusal {
 }
 
 /// What a command of the database is answered.
-#[derive(Debug, Drop)]
+#[derive(Drop)]
 pub enum CommandReply {
     /// Done, and nothing is printed.
     Done,

@@ -13,7 +13,7 @@ pub const MAX_DEPTH: usize = 32;
 
 /// A path of the online database: the names of the directories from the root down, and of the key. The root has no
 /// name. A path has at most 32 names, each by the rule of names.
-#[derive(Debug, Drop)]
+#[derive(Drop)]
 pub struct Path {
     names: Vec<Name>,
 }

@@ -6,7 +6,7 @@ use odb_path::Path;
 use odb_value::{Item, Value};
 
 /// A call on the database, with its arguments and its reply.
-#[derive(Debug, Drop)]
+#[derive(Drop)]
 pub enum DatabaseEntry {
     Create {
         path: Path,

@@ -3,7 +3,7 @@ use odb_path::Path;
 use odb_value::Value;
 
 /// A row of the database: a key with its value, or a directory.
-#[derive(Debug, Drop)]
+#[derive(Drop)]
 pub struct Row {
     /// From 1 on in order of making. The root has number 0 and is no row.
     pub number: u32,

@@ -7,7 +7,7 @@ use daq_types::{NoMemory, Tid};
 use std::alloc::Global;
 
 /// One item of a value of the online database.
-#[derive(Debug, Drop)]
+#[derive(Drop)]
 pub enum Item {
     UInt8(u8),
     Int8(i8),

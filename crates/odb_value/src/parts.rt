@@ -54,7 +54,7 @@ impl CharByte {
 }
 
 /// The bytes of a STRING's text: tabs, 0x20 to 0x7E and 0x80 to 0xFF.
-#[derive(Debug, Drop)]
+#[derive(Drop)]
 pub struct TextBytes {
     bytes: Bytes,
 }

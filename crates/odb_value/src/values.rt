@@ -81,7 +81,7 @@ fn raised_size(size: u32, item: &Item) -> u32
 
 /// The value of a key: 1 to 65,536 items of one type. For a STRING the item size is above each text's length and at
 /// most 1,024, for any other type it is the type's.
-#[derive(Debug, Drop)]
+#[derive(Drop)]
 pub struct Value {
     tid: Tid,
     size: u32,

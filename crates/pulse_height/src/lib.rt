@@ -14,7 +14,7 @@ const HEIGHTS: u32 = 8;
 const HEIGHT_BYTES: u32 = 2;
 
 /// A detector that gives the pulse heights of a table in turn, one an event.
-#[derive(Debug, Drop)]
+#[derive(Drop)]
 pub struct PulseHeight {
     /// The id of its events, 1 to 32,767.
     pub id: u16,

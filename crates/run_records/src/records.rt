@@ -17,7 +17,7 @@ pub type SentLines = BoundedList<SentLine, 32>;
 pub type ReportLines = BoundedList<ReportLine, 8>;
 
 /// What is kept of a start and of the run that it began.
-#[derive(Debug, Drop)]
+#[derive(Drop)]
 pub struct RunRecord {
     /// The run number. It is used again after a refused start.
     pub run: u32,
@@ -60,7 +60,7 @@ pub struct FileRecord {
 }
 
 /// What an analyzer counted in a run.
-#[derive(Debug, Drop)]
+#[derive(Drop)]
 pub struct ReportTally {
     /// Its client number.
     pub client: u32,
@@ -78,7 +78,7 @@ pub struct SentLine {
 }
 
 /// What the console tells of an analyzer as a run ends.
-#[derive(Debug, Drop)]
+#[derive(Drop)]
 pub struct ReportLine {
     /// What stands before each line of the report: the analyzer's name and a blank.
     pub start: Bytes,

@@ -5,7 +5,7 @@ use session_setup::SetupRefusal;
 use watch_commands::WatchReply;
 
 /// What a line of the script is answered.
-#[derive(Debug, Drop)]
+#[derive(Drop)]
 pub enum Reply {
     /// Nothing is printed.
     Silent,

@@ -10,7 +10,7 @@ use std::alloc::Global;
 const NUMBERS: u32 = 16;
 
 /// A channel of the logger.
-#[derive(Debug, Drop)]
+#[derive(Drop)]
 pub struct RunChannel {
     /// Its number.
     pub number: u32,

@@ -22,7 +22,7 @@ const ANY: u16 = 0xFFFF;
 
 /// What a session has before it opens: buffers, of which `SYSTEM` is there from the beginning, front-ends, the channels
 /// of its logger, and analyzers. The room for all that can be declared is taken once.
-#[derive(Debug, Drop)]
+#[derive(Drop)]
 pub struct Declarations {
     opened: bool,
     buffers: BoundedList<BufferDeclared, 8>,

@@ -41,7 +41,7 @@ pub struct AnalyzerDeclared {
 }
 
 /// The lists of a session's declarations, each in its order and in room for as many as there may be.
-#[derive(Debug, Drop)]
+#[derive(Drop)]
 pub struct DeclaredLists {
     /// The buffers. A buffer's number is its place.
     pub buffers: BoundedList<BufferDeclared, 8>,

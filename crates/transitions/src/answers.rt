@@ -5,7 +5,7 @@ use event_report::Report;
 pub const TALLIES: usize = 128;
 
 /// What a client answers to its turn.
-#[derive(Debug, Drop)]
+#[derive(Drop)]
 pub enum Answer {
     Yes(Tally),
     /// The client refuses. Only a start can be refused.
@@ -13,7 +13,7 @@ pub enum Answer {
 }
 
 /// What a client has to tell of a transition.
-#[derive(Debug, Drop)]
+#[derive(Drop)]
 pub enum Tally {
     Plain,
     /// What a front-end sent, and why it sends no more.
@@ -25,7 +25,7 @@ pub enum Tally {
 }
 
 /// What this client told.
-#[derive(Debug, Drop)]
+#[derive(Drop)]
 pub struct ClientTally {
     pub client: u32,
     pub tally: Tally,

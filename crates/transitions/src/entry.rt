@@ -5,7 +5,7 @@ use daq_types::{Name, Transition};
 use run_states::Sequences;
 
 /// A call on the engine, with its arguments and its reply.
-#[derive(Debug, Drop)]
+#[derive(Drop)]
 pub enum EngineEntry {
     Register {
         name: Name,

@@ -24,7 +24,7 @@ pub enum BeginRefusal {
 }
 
 /// What a client finds that asks whether it has its turn.
-#[derive(Debug, Drop)]
+#[derive(Drop)]
 pub enum Polled {
     /// It has its turn of this transition and is to answer.
     Turn {

@@ -2,7 +2,7 @@ use daq_types::{BoundedList, Bytes};
 use event_report::Report;
 
 /// What a transition is begun with.
-#[derive(Debug, Drop)]
+#[derive(Drop)]
 pub struct Sheet {
     pub run: u32,
     /// When the transition is ordered, in seconds since 1970.

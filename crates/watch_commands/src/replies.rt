@@ -34,7 +34,7 @@ pub enum WatchCommandRefusal {
 }
 
 /// A note that was read, with the path of its row where that is still there.
-#[derive(Debug, Drop)]
+#[derive(Drop)]
 pub struct ToldNote {
     pub note: Note,
     pub path: Option<Path>,
@@ -44,7 +44,7 @@ pub struct ToldNote {
 pub type ToldNotes = BoundedList<ToldNote, 256>;
 
 /// What a command for watches or dumps is answered.
-#[derive(Debug, Drop)]
+#[derive(Drop)]
 pub enum WatchReply {
     /// The watch ended, and nothing is printed.
     Ended,
@@ -65,7 +65,7 @@ pub enum WatchReply {
 pub type FileReplies = Journal<(u64, FileReply)>;
 
 /// What came of a command: its reply, and where it called the files of the database, what came of those calls.
-#[derive(Debug, Drop)]
+#[derive(Drop)]
 pub struct WatchAnswer {
     pub reply: WatchReply,
     pub file: Option<FileReply>,
