@@ -1,7 +1,9 @@
 -- What stands in a directory, child by child.
-use Rattle.std.proofs.Common.{◌≡◌, ℕ, zero, suc, ◌+◌, ◌<◌, Bool, true, false, not, cond, List, [], ◌∷◌, ◌++◌, length, map, get_or, All, Option, Some, None, Ok, refl, sym, ap, ◌∙◌, subst, arith, append_assoc, append-nil}
+use Rattle.std.proofs.Common.{◌≡◌, ℕ, zero, suc, ◌+◌, ◌<◌, Bool, true, false, not, cond, List, [], ◌∷◌, ◌++◌, length, map, get_or, take, All, Option, Some, None, Ok, refl, sym, ap, ◌∙◌, subst, arith, append_assoc, append-nil}
 use Rattle.std.specs.List.{filter, flat_map}
+use Rattle.std.proofs.lemmas.List.{take_more, flat_map_more}
 use Rattle.std.proofs.lemmas.List.Concat.{flat_map-append}
+use Rattle.std.proofs.lemmas.List.Elements.{All-get_or}
 use Rattle.odb_path.specs.Paths.{depth_limit}
 use Rattle.odb_tree.specs.declared.rows.Row.{Row}
 use Rattle.odb_tree.specs.declared.children.Child.{Child}
@@ -161,3 +163,18 @@ root_is rows = cases (keys_in rows []) (dirs_in rows []) (listed_kind true [] ro
 
 pub root_with : (rows : List Row) (t : Bool) (children : List Child) → children ≡ children_of rows [] → begins_with_key children ≡ t → root_text rows ≡ cond t (section_text rows []) []
 root_with rows t children e h = root_is rows ∙ ap (λ (b : Bool). cond b (section_text rows []) []) (ap begins_with_key (sym e) ∙ h)
+
+-- A loop over the children.
+
+-- each of the children stands in the directory
+pub child_at : (s : Rows) (p : List (List ℕ)) (children items : List Child) (i : ℕ) (child : Child) → All (IsChildIn s p) children → items ≡ children → i < length items → child ≡ get_or items i child → IsChildIn s p child
+child_at s p children items i child all same within is =
+    let stand : All (IsChildIn s p) items = subst (All (IsChildIn s p)) (sym same) all in
+    subst (IsChildIn s p) (sym is) (All-get_or (IsChildIn s p) items i child within stand)
+
+-- what one child more adds
+pub parts_more : (part : Child → List ℕ) (items : List Child) (i : ℕ) (child : Child) (first before after : List ℕ) → i < length items → child ≡ get_or items i child → before ≡ first ++ flat_map part (take i items)
+    → after ≡ before ++ part child → after ≡ first ++ flat_map part (take (i + 1) items)
+parts_more part items i child first before after within is so_far more =
+    let taken : take i items ++ child ∷ [] ≡ take (i + 1) items = ap (λ (c : Child). take i items ++ c ∷ []) is ∙ sym (take_more items i child within) in
+    more ∙ (ap (λ (l : List ℕ). l ++ part child) so_far ∙ (flat_map_more part first (take i items) child ∙ ap (λ (cs : List Child). first ++ flat_map part cs) taken))
