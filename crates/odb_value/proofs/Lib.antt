@@ -4,3 +4,4 @@ pub mod Stops
 pub mod FirstPlace
 pub mod KeyLines
 pub mod ReadAgain
+mod SignedReads
