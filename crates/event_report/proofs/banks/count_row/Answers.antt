@@ -8,7 +8,7 @@ use Rattle.event_report.specs.Found.{IsRowAt}
 use Rattle.event_report.specs.Steps.{row_number, more_figures, bank_rows_after}
 use Rattle.event_report.specs.Held.{IsRising, FiguresWithin}
 use Rattle.event_report.proofs.Sums.{within_more}
-use Rattle.event_report.proofs.Rising.{after_found, table_set}
+use Rattle.event_report.proofs.Rising.{after_found, takes_found, table_set}
 use Rattle.event_report.proofs.banks.count_row.Goals as goal
 
 pub find_row-requires : goal.find_row-requires
@@ -19,6 +19,12 @@ found rows slice n m at e f stands = subst (λ (k : ℕ). IsRowAt row_number k r
 
 abbrev with_figures : BankRow → Figures → BankRow
 with_figures r f = record { name = r.name; kind = r.kind; figures = f }
+
+pub returns-in-Ok-clause-taken : goal.returns-in-Ok-clause-taken
+returns-in-Ok-clause-taken c =
+    let rows : List BankRow = c.args.rows.now.items in
+    let stands = found rows c.deref.result.now c.order_number.result (row_number c.args.bank) c.in-Ok.at c.deref.ensures.value c.order_number.ensures c.in-Ok.ensures in
+    sym (takes_found row_number (row_number c.args.bank) rows c.in-Ok.at stands)
 
 pub returns-in-Ok-clause-rows : goal.returns-in-Ok-clause-rows
 unfolding bank_rows_after
