@@ -1,6 +1,6 @@
 -- What a front-end keeps at a turn and when it finishes.
 use Rattle.std.specs.Option.{option_map}
-use Rattle.std.specs.Prelude.{◌≡◌, ◌≢◌, ℕ, Bool, true, false, ◌||◌, if◌then◌else◌, List, [], ◌∷◌, Option, Some, None, refl}
+use Rattle.std.specs.Prelude.{◌≡◌, ◌≢◌, ℕ, ◌≤◌, Bool, true, false, ◌||◌, if◌then◌else◌, List, [], ◌∷◌, Option, Some, None, refl}
 use Rattle.std.proofs.Common.{ap, sym, subst, ◌∙◌, inl, inr, arith}
 use Rattle.std.proofs.lemmas.Bool.{eqb-true, eqb-false}
 use Rattle.daq_types.specs.declared.events.Event.{Event}
@@ -17,7 +17,7 @@ use Rattle.transitions.specs.declared.answers.Tally.TheVariants.{Plain, Front}
 use Rattle.member_model.specs.Turns.{MemberTurn, IsAcceptedStart, HasTurnOf, HasAnswer, NoneOpen, current_run, IsOfRun, AreEngineTurns, latest_answered}
 use Rattle.member_model.proofs.TurnLaws.{HasTurnOf-earlier}
 use Rattle.front_ends.specs.declared.front_run.FrontRun.{FrontRun}
-use Rattle.front_ends.specs.Fronts.{front_turn, front_answer, run_after, begun_run, paused_run, stopping_run, is_stop_of, is_over, is_done, is_at_work, is_from_pause, front_tally, front_ended, finish_answer, finish_with, run_finished}
+use Rattle.front_ends.specs.Fronts.{IsWithinQuota, front_turn, front_answer, run_after, begun_run, paused_run, stopping_run, is_stop_of, is_over, is_done, is_at_work, is_from_pause, front_tally, front_ended, finish_answer, finish_with, run_finished}
 use Rattle.front_ends.specs.FrontKept.{IsMade, EndedSo, IsFrontTally, IsWaiting, TakesPart, IsInRun, IsInCurrent, answered_last, last_answered, FrontStands}
 use Rattle.front_ends.proofs.FrontGrows.{AnswersStart, TellsTally, sends_turns, accepted_earlier, keeps_more, Tally-more, LeavesRun, fresh_more, on_more, on_paused, none_sent, tally_holds}
 
@@ -206,6 +206,23 @@ turn_kept dump takes makes part run own turns StartAbort order is none stands =
       current = λ are. current_none None (t ∷ turns) refl;
       rests = λ last. refl;
     }
+
+within_stopped : (r : FrontRun) (order : Order) (same over : Bool) → r.sent ≤ r.order.quota → IsWithinQuota (if same then (if over then None else Some (stopping_run order r)) else Some r)
+within_stopped r order true true within = tt
+within_stopped r order true false within = within
+within_stopped r order false over within = within
+
+-- no turn takes a run beyond its quota
+pub within_after : (part : Bool) (run : Option FrontRun) (transition : Transition) (order : Order) → IsWithinQuota run → IsWithinQuota (run_after part run transition order)
+within_after true run Start order within = omega arith
+within_after false run Start order within = within
+within_after part None Stop order within = within
+within_after part (Some r) Stop order within = within_stopped r order (is_stop_of r order) (is_over r order) within
+within_after part None Pause order within = within
+within_after part (Some r) Pause order within = within
+within_after part None Resume order within = within
+within_after part (Some r) Resume order within = within
+within_after part run StartAbort order within = tt
 
 -- The answer to the stop that waited.
 
