@@ -77,20 +77,20 @@ fn cancel_live<R: Wait, P: BufferPort>(rt: &R, port: &mut P, run: &AnalyzerRun)
     }
 }
 
-/// The run, once it was stopped: what the buffer took so far is to be read.
-fn stopped<R: Wait, P: BufferPort>(rt: &R, port: &mut P, run: AnalyzerRun) -> AnalyzerRun
+/// Stops this run: what the buffer took so far is to be read.
+fn stop_run<R: Wait, P: BufferPort>(rt: &R, port: &mut P, run: &mut AnalyzerRun)
     requires entries { 1 ≤ (P.access port.old).entries }
-    ensures stops { StopsRun run.stage run result (P.access port.old) (P.access port.new) }
+    ensures stops { StopsRun run.old.stage run.old run.new
+        (P.access port.old) (P.access port.new) }
     ensures size { (P.access port.new).size ≡ (P.access port.old).size }
 {
     match run.stage {
-        AnalyzerStage::Counting => AnalyzerRun {
-            stage: AnalyzerStage::Draining {
+        AnalyzerStage::Counting => {
+            run.stage = AnalyzerStage::Draining {
                 accepted: port.accepted(rt),
-            },
-            ..run
-        },
-        AnalyzerStage::Draining { .. } | AnalyzerStage::Drained => run,
+            };
+        }
+        AnalyzerStage::Draining { .. } | AnalyzerStage::Drained => {}
     }
 }
 
@@ -320,15 +320,13 @@ impl Analyzer {
         }) result }
         ensures size { (P.access port.new).size ≡ (P.access port.old).size }
     {
-        let Some(run) = self.run.take() else {
-            return Some(plain());
-        };
-        if run.start != order.start {
-            self.run = Some(run);
-            return Some(plain());
+        match &mut self.run {
+            Some(run) if run.start == order.start => {
+                stop_run(rt, port, run);
+                None
+            }
+            _ => Some(plain()),
         }
-        self.run = Some(stopped(rt, port, run));
-        None
     }
 
     /// Takes a turn.
