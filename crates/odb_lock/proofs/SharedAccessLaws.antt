@@ -1,5 +1,5 @@
 -- Each call by a port to a shared database is one of the port's caller.
-use Rattle.std.specs.Prelude.{◌≡◌, ℕ, ◌+◌, ◌≤◌, true, false, IsTrue, List, refl}
+use Rattle.std.specs.Prelude.{◌≡◌, ℕ, true, false, IsTrue, List, refl}
 use Rattle.std.proofs.Common.{arith}
 use Rattle.odb_watch.specs.declared.entry.WatchEntry.{WatchEntry}
 use Rattle.odb_watch.specs.Steps.{IsLegalDatabase}

@@ -49,12 +49,17 @@ look_step before entry reply rows none = (
       (sym (none_noted before.slots) ∙ ap (λ (cs : List Change). all_noted cs before.slots) (sym none)),
 )
 
+-- a call that may write, from the state that was held
+pub write_step : (before held after : Watched) (entry : DatabaseEntry) → held ≡ before → IsRowsReply held.rows entry → after.rows ≡ rows_after held.rows entry
+    → after.slots ≡ all_noted (changes_of held.rows entry) held.slots → StepsWatched before (Call entry) after
+write_step before held after entry same reply rows notes =
+    subst (λ (s : Watched). StepsWatched s (Call entry) after) same (call_step held after entry reply rows notes)
+
 -- a removal from the state that was held
 pub removal_step : (before held after : Watched) (entry : DatabaseEntry) → held ≡ before → IsRowsReply held.rows entry → after.rows ≡ rows_after held.rows entry → after.slots ≡ held.slots
     → changes_of held.rows entry ≡ [] → StepsWatched before (Call entry) after
 removal_step before held after entry same reply rows slots none =
-    subst (λ (s : Watched). StepsWatched s (Call entry) after) same
-    (call_step held after entry reply rows (slots ∙ sym (none_noted held.slots) ∙ ap (λ (cs : List Change). all_noted cs held.slots) (sym none)))
+    write_step before held after entry same reply rows (slots ∙ sym (none_noted held.slots) ∙ ap (λ (cs : List Change). all_noted cs held.slots) (sym none))
 
 pub save_step : (before : Watched) (reply : Result (List ℕ) NoMemory) → IfOk reply (λ text. text ≡ dump_text before.rows) → StepsWatched before (Save reply) before
 save_step before (Ok text) h = (h, refl)

@@ -87,7 +87,6 @@ impl<D: Database> SharedOdb<D> {
     }
 
     /// As `Database::create`, by the main thread.
-    #[tactic(auto, using(crate::proofs::SharedLaws::call_step))]
     pub fn create<R: Wait>(
         &self,
         rt: &R,
@@ -273,7 +272,6 @@ impl<D: Database> SharedOdb<D> {
     }
 
     /// As `Database::resize`, by the main thread.
-    #[tactic(auto, using(crate::proofs::SharedLaws::call_step))]
     pub fn resize<R: Wait>(
         &self,
         rt: &R,
@@ -380,7 +378,6 @@ impl<D: Database> SharedOdb<D> {
     }
 
     /// As `odb_ascii::save`.
-    #[tactic(auto, using(crate::proofs::SharedLaws::save_step))]
     pub fn save<R: Wait>(
         &self,
         rt: &R,
