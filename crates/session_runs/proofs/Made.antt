@@ -26,7 +26,7 @@ use Rattle.session_runs.specs.declared.replies.RunReply.{RunReply}
 use Rattle.session_runs.specs.declared.replies.RunReply.TheVariants.{WrongState, LastStart, RunNumber, StartRefused, Started as run_started, Paused as run_paused, Resumed as run_resumed, Stopped as run_stopped}
 use Rattle.session_runs.specs.KeptRuns.{RunsSeen, IsInStep, behind_start, behind_stop, record_of, refused_start, with_calls}
 use Rattle.session_runs.specs.RunEntries.{AnnounceCalls, AnnouncesStop, BeginCalls, StopCalls, blank_reports, dump_saved, later_sheet, outcome_sets, start_sheet}
-use Rattle.session_runs.specs.RunAnswers.{ClockTold, CommandPoint, ReadsClock, AnswersBegin, AnswersStart, AnswersStop, BeginsRun, CutsBegin, CutsStart, GotNumber, MakesStart, MakesStop, StopsUnsaved, point_of, run_by_start}
+use Rattle.session_runs.specs.RunAnswers.{AnnouncesRun, ClockTold, CommandPoint, CutsAnnouncing, ReadsClock, AnswersBegin, AnswersStart, AnswersStop, BeginsRun, CutsBegin, CutsStart, GotNumber, MakesStart, MakesStop, StopsUnsaved, point_of, run_by_start}
 use Rattle.session_runs.proofs.Calls.{CallsAreEntries, begin_calls, stop_calls}
 use Rattle.session_runs.proofs.Steps.{stop_begins}
 
@@ -77,13 +77,6 @@ recorded count fronts listed channels others analyzers r time told rec is count_
     is ∙ (ap (λ (n : ℕ). record_of n listed others r time told) count_is
     ∙ (ap (λ (l : List RunChannel). record_of fronts l others r time told) channels_are ∙ ap (λ (n : ℕ). record_of fronts channels n r time told) analyzers_are))
 
--- what a start is begun with, from what it was made of
-pub start_sheet_is : (run time quota : ℕ) (dump : List ℕ) (blanks : List Totals) (count analyzers : ℕ) (sheet : Sheet) → sheet ≡ record { run = run; time = time; quota = quota; dump = Some dump; blanks = blanks } → blanks ≡ blank_reports count
-    → count ≡ analyzers → sheet ≡ start_sheet analyzers run time quota dump
-start_sheet_is run time quota dump blanks count analyzers sheet is made same =
-    let with_blanks : List Totals → Sheet = λ b. record { run = run; time = time; quota = quota; dump = Some dump; blanks = b } in
-    is ∙ ap with_blanks (made ∙ ap blank_reports same)
-
 -- the text was saved, or there was no memory for it
 
 pub saved_none : (saved : Result (List ℕ) NoMemory) → is_err saved ≡ true → saved ≡ Err (record {})
@@ -99,13 +92,27 @@ not_saved (Ok dump) none = absurd (none dump refl)
 not_saved (Err wanting) none = refl
 
 -- the run was announced, and there was no memory for the text
-pub cut_announced : {M : Type 0} (run time : ℕ) (saved : Result (List ℕ) NoMemory) (before after : ClockTold) (s later : RunsSeen) (a b : DatabaseAccess) (members : M) → later ≡ s → ReadsClock before after time
-    → ((entries : List WatchEntry) × AnnounceCalls run time saved entries × AddsEntries a b entries) → saved ≡ Err (record {}) → CutsBegin run before after (point_of s a members) (point_of later b members)
-cut_announced run time saved before after s later a b members same reading announced is = record {
-  runs = same;
-  members = refl;
-  calls = inr (time, announced.0, reading, subst (λ (r : Result (List ℕ) NoMemory). AnnounceCalls run time r announced.0) is announced.1, announced.2);
-}
+pub cut_announced : (run time : ℕ) (saved : Result (List ℕ) NoMemory) (before after : ClockTold) (a b : DatabaseAccess) → ReadsClock before after time
+    → ((entries : List WatchEntry) × AnnounceCalls run time saved entries × AddsEntries a b entries) → saved ≡ Err (record {}) → CutsAnnouncing run before after a b
+cut_announced run time saved before after a b reading announced is =
+    inr (time, announced.0, reading, subst (λ (r : Result (List ℕ) NoMemory). AnnounceCalls run time r announced.0) is announced.1, announced.2)
+
+-- the run was announced, and this text saved
+pub run_announced : (run time quota count : ℕ) (saved : Result (List ℕ) NoMemory) (dump : List ℕ) (blanks : List Totals) (sheet : Sheet) (before after : ClockTold) (a b : DatabaseAccess) → ReadsClock before after time
+    → ((entries : List WatchEntry) × AnnounceCalls run time saved entries × AddsEntries a b entries) → saved ≡ Ok dump → sheet ≡ record { run = run; time = time; quota = quota; dump = Some dump; blanks = blanks } → blanks ≡ blank_reports count
+    → AnnouncesRun run quota count before after a b sheet
+run_announced run time quota count saved dump blanks sheet before after a b reading announced is sheet_is made =
+    let at : time ≡ sheet.time = sym (ap (λ (x : Sheet). x.time) sheet_is) in
+    let calls : AnnounceCalls run time (Ok dump) announced.0 = subst (λ (r : Result (List ℕ) NoMemory). AnnounceCalls run time r announced.0) is announced.1 in
+    let with_blanks : List Totals → Sheet = λ l. record { run = run; time = time; quota = quota; dump = Some dump; blanks = l } in
+    record {
+      reading = subst (ReadsClock before after) at reading;
+      dump = dump;
+      entries = announced.0;
+      calls = subst (λ (t : ℕ). AnnounceCalls run t (Ok dump) announced.0) at calls;
+      adds = announced.2;
+      is = sheet_is ∙ (ap with_blanks made ∙ ap (λ (t : ℕ). start_sheet count run t quota dump) at);
+    }
 
 same_number : (start number : ℕ) (k : MainKnows) → begin_known k Stop ≡ Ok start → begin_known k Stop ≡ Ok number → start ≡ number
 same_number start number k is also = let both : Ok start ≡ Ok number = sym is ∙ also in cc (both)
@@ -114,25 +121,25 @@ stop_is_none : Stop ≢ Start
 stop_is_none is = absurd (cc (is))
 
 module _ {M : Type 0} (round : M → M → Type 0) where
-  pub begins_run : CallsAreEntries → (run start time : ℕ) (outcome ended : StartOutcome) (dump : List ℕ) (saved : Result (List ℕ) NoMemory) (sheet : Sheet) (before after : ClockTold) (s later : RunsSeen)
-      (a b c : DatabaseAccess) (members turned : M) → s.on ≡ None → begin_known (known_from s.main.own) Start ≡ Ok start → ReadsClock before after time
-      → ((entries : List WatchEntry) × AnnounceCalls run time saved entries × AddsEntries a b entries) → saved ≡ Ok dump → SetsNumbers b c (outcome_sets run ended) → ended ≡ outcome
-      → sheet ≡ start_sheet (length s.analyzers) run time s.quota dump
+  pub begins_run : CallsAreEntries → (run start : ℕ) (outcome ended : StartOutcome) (sheet : Sheet) (before after : ClockTold) (s later : RunsSeen)
+      (a b c : DatabaseAccess) (members turned : M) → s.on ≡ None → begin_known (known_from s.main.own) Start ≡ Ok start → AnnouncesRun run s.quota (length s.analyzers) before after a b sheet
+      → SetsNumbers b c (outcome_sets run ended) → ended ≡ outcome
       → ((told : List ClientTally) × DrivesTransition round Start sheet start ended told s.main.own later.main.own members turned)
-      → later ≡ with_calls (behind_start s (run_by_start s run start time) outcome) later.main.own
+      → later ≡ with_calls (behind_start s (run_by_start s run start sheet.time) outcome) later.main.own
       → BeginsRun round run outcome before after (point_of s a members) (point_of later c turned)
-  begins_run are run start time outcome ended dump saved sheet before after s later a b c members turned idle begins reading announced is sets done sheet_is made kept =
-      let first : AnnounceCalls run time (Ok dump) announced.0 = subst (λ (r : Result (List ℕ) NoMemory). AnnounceCalls run time r announced.0) is announced.1 in
+  begins_run are run start outcome ended sheet before after s later a b c members turned idle begins announced sets done made kept =
+      let time = sheet.time in
+      let dump = announced.dump in
       let last : SetsNumbers b c (outcome_sets run outcome) = subst (λ (o : StartOutcome). SetsNumbers b c (outcome_sets run o)) done sets in
-      let whole : (entries : List WatchEntry) × BeginCalls run time outcome dump entries × AddsEntries a c entries = begin_calls are a b c run time outcome dump announced.0 first announced.2 last in
+      let whole : (entries : List WatchEntry) × BeginCalls run time outcome dump entries × AddsEntries a c entries = begin_calls are a b c run time outcome dump announced.entries announced.calls announced.adds last in
       let drives : DrivesTransition round Start (start_sheet (length s.analyzers) run time s.quota dump) start ended made.0 s.main.own later.main.own members turned =
-      subst (λ (x : Sheet). DrivesTransition round Start x start ended made.0 s.main.own later.main.own members turned) sheet_is made.1 in
+      subst (λ (x : Sheet). DrivesTransition round Start x start ended made.0 s.main.own later.main.own members turned) announced.is made.1 in
       record {
         idle = idle;
         start = start;
         begins = begins;
         time = time;
-        reading = reading;
+        reading = announced.reading;
         dump = dump;
         entries = whole.0;
         calls = whole.1;

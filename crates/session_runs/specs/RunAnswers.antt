@@ -12,6 +12,7 @@ use Rattle.odb_watch.specs.declared.entry.WatchEntry.{WatchEntry}
 use Rattle.odb_port.specs.DatabasePorts.{DatabaseAccess, AddsEntries, MayAdd, row_calls}
 use Rattle.odb_runinfo.specs.RunSets.{AreSets, GetsNumber, number_asked, state_set}
 use Rattle.transitions.specs.declared.answers.ClientTally.{ClientTally}
+use Rattle.transitions.specs.declared.sheet.Sheet.{Sheet}
 use Rattle.transitions.specs.declared.replies.BeginRefusal.TheVariants.{WrongState as state_refused, LastStart as number_refused}
 use Rattle.session_engine.specs.MainKnowledge.{MainKnows, known_from, begin_known}
 use Rattle.session_engine.specs.MadeTransitions.{DrivesTransition}
@@ -73,15 +74,28 @@ pub record GotNumber {M : Type 0} (run : ℕ) (old new : CommandPoint M) : Type 
   pub runs : new.runs ≡ old.runs
   pub members : new.members ≡ old.members
 
--- Memory ended before the run of this number was begun, and the main thread keeps what it kept. The clock was not read, and
--- the database not called; or the run was announced there at the time that the clock gave, and there was no memory for the
--- database's text.
+-- The run of this number was announced in the database, and is begun with this sheet: with a blank report for each of so many
+-- analyzers, the quota, the time that the clock gave, and the database's text.
+pub record AnnouncesRun (run quota analyzers : ℕ) (before after : ClockTold) (old new : DatabaseAccess) (sheet : Sheet) : Type 0 where
+  pub reading : ReadsClock before after sheet.time
+  pub dump : List ℕ
+  pub entries : List WatchEntry
+  pub calls : AnnounceCalls run sheet.time (Ok dump) entries
+  pub adds : AddsEntries old new entries
+  pub is : sheet ≡ start_sheet analyzers run sheet.time quota dump
+
+-- Memory ended before the run of this number could be begun. The clock was not read, and the database not called; or the run
+-- was announced there at the time that the clock gave, and there was no memory for the database's text.
+abbrev pub CutsAnnouncing : (run : ℕ) → (before after : ClockTold) → (old new : DatabaseAccess) → Type 0
+CutsAnnouncing run before after old new = ((after ≡ before) × (new ≡ old))
+    ⊎ ((time : ℕ) × (entries : List WatchEntry) × ReadsClock before after time
+    × AnnounceCalls run time (Err (record {})) entries × AddsEntries old new entries)
+
+-- Memory ended before the run of this number was begun, and the main thread keeps what it kept.
 pub record CutsBegin {M : Type 0} (run : ℕ) (before after : ClockTold) (old new : CommandPoint M) : Type 0 where
   pub runs : new.runs ≡ old.runs
   pub members : new.members ≡ old.members
-  pub calls : ((after ≡ before) × (new.database ≡ old.database))
-      ⊎ ((time : ℕ) × (entries : List WatchEntry) × ReadsClock before after time
-      × AnnounceCalls run time (Err (record {})) entries × AddsEntries old.database new.database entries)
+  pub calls : CutsAnnouncing run before after old.database new.database
 
 -- There was no memory for the run number, which was got or not.
 pub record CutsNumber {M : Type 0} (old new : CommandPoint M) : Type 0 where

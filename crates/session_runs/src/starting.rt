@@ -7,9 +7,10 @@ ghost use Rattle.odb_port.specs.DatabasePorts.{AddsEntries};
 ghost use Rattle.odb_runinfo.specs.RunSets.{SetsNumbers};
 ghost use Rattle.daq_types.specs.declared.runs.Transition.TheVariants.{Start};
 ghost use Rattle.session_engine.specs.MainKnowledge.{known_from, begin_known};
+ghost use Rattle.transitions.specs.EngineHistories.{IsSheet};
 ghost use Rattle.session_runs.specs.KeptRuns.{refused_start};
 ghost use Rattle.session_runs.specs.RunEntries.{AnnounceCalls, outcome_sets};
-ghost use Rattle.session_runs.specs.RunAnswers.{AnswersStart, CutsStart, AnswersBegin, CutsBegin, ReadsClock, clock_of, point_of};
+ghost use Rattle.session_runs.specs.RunAnswers.{AnnouncesRun, AnswersStart, CutsAnnouncing, CutsStart, AnswersBegin, CutsBegin, ReadsClock, clock_of, point_of};
 
 use crate::making::{blank_reports, make_untold, start_sheet};
 use crate::on::{CurrentRun, OpenRun, RunRooms};
@@ -25,6 +26,7 @@ use run_records::RunRecord;
 use session_engine::Rounds;
 use std::alloc::Global;
 use std::sync::Wait;
+use transitions::Sheet;
 
 /// Announces a run in the database, before it begins: reads the clock, sets the run's parameters, and takes the text of the
 /// database.
@@ -48,6 +50,36 @@ fn announce<R: Wait, D: WatchPort, C: Clock>(
     paths.set_starting(rt, alloc, database, run, time);
     let saved = database.save(rt, alloc);
     (time, saved)
+}
+
+/// Takes all memory that a run needs up to its end, and announces it in the database: the run's rooms, and what it is begun with.
+fn announce_run<R: Wait, D: WatchPort, C: Clock>(
+    rt: &R,
+    alloc: Global,
+    database: &mut D,
+    clock: &mut C,
+    run: u32,
+    quota: u32,
+    count: usize,
+) -> Result<(RunRooms, Sheet), NoMemory>
+    requires small { run < 2 ^ 31 }
+    ensures announced { IfOk result (λ made. AnnouncesRun run quota count
+        (clock_of (C.tells clock.old) (C.ahead clock.old))
+        (clock_of (C.tells clock.new) (C.ahead clock.new))
+        (D.access database.old) (D.access database.new) made.1) }
+    ensures sheet { IfOk result (λ made. IsSheet made.1) }
+    ensures interrupted { OnErr result (CutsAnnouncing run
+        (clock_of (C.tells clock.old) (C.ahead clock.old))
+        (clock_of (C.tells clock.new) (C.ahead clock.new))
+        (D.access database.old) (D.access database.new)) }
+{
+    let rooms = RunRooms::new(alloc)?;
+    let blanks = blank_reports(alloc, count)?;
+    let (time, saved) = announce(rt, alloc, &rooms.paths, database, clock, run);
+    let Ok(dump) = saved else {
+        return Err(NoMemory);
+    };
+    Ok((rooms, start_sheet(run, time, quota, dump, blanks)))
 }
 
 /// Sets what a start that ended so sets last.
@@ -126,16 +158,11 @@ impl<'a> Runs<'a> {
             (point_of self.new (D.access database.new) members.new)) }
     {
         self.runs.reserve(1)?;
-        let rooms = RunRooms::new(alloc)?;
-        let count = self.analyzers.len();
-        let blanks = blank_reports(alloc, count)?;
-        calls_add_up();
-        let (time, saved) = announce(rt, alloc, &rooms.paths, database, clock, run);
-        let Ok(dump) = saved else {
-            return Err(NoMemory);
-        };
         let quota = self.quota;
-        let sheet = start_sheet(run, time, quota, dump, blanks);
+        let count = self.analyzers.len();
+        let (rooms, sheet) = announce_run(rt, alloc, database, clock, run, quota, count)?;
+        let time = sheet.time;
+        calls_add_up();
         let made = make_untold(
             rt,
             &mut self.seat,

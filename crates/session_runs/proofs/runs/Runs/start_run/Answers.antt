@@ -1,12 +1,11 @@
-use Rattle.std.specs.Prelude.{◌≡◌, List, Option, Some, None, length, refl}
+use Rattle.std.specs.Prelude.{◌≡◌, ℕ, Option, Some, None, length, refl}
 use Rattle.std.specs.Option.{option_map}
 use Rattle.std.proofs.Common.{ap, subst, ◌∙◌}
 use Rattle.daq_types.specs.declared.runs.StartOutcome.TheVariants.{Completed, Refused}
-use Rattle.run_records.specs.declared.records.RunRecord.{RunRecord}
 use Rattle.session_runs.specs.declared.on.CurrentRun.{CurrentRun}
 use Rattle.session_runs.specs.KeptRuns.{RunsSeen}
-use Rattle.session_runs.specs.RunAnswers.{BeginsRun, clock_of, point_of}
-use Rattle.session_runs.proofs.Made.{begins_run, cut_announced, kept_on, kept_refused, not_saved, seen_of, start_sheet_is}
+use Rattle.session_runs.specs.RunAnswers.{AnnouncesRun, BeginsRun, clock_of, point_of}
+use Rattle.session_runs.proofs.Made.{begins_run, kept_on, kept_refused, seen_of}
 use Rattle.session_runs.proofs.runs.Runs.start_run.Goals as goal
 
 pub returns-in-Completed-clause-did : goal.returns-in-Completed-clause-did
@@ -14,20 +13,22 @@ returns-in-Completed-clause-did g c =
     let inside = c.self.inside in
     let seat = c.make_untold-made.new.seat in
     let made = c.make_untold-made.ensures in
-    let time = c.announce-time.result.0 in
+    let sheet = c.in_ok-rooms.sheet in
+    let time = sheet.time in
     let access = g.D.DatabasePort.access in
     let before = clock_of (g.C.Clock.tells c.args.clock.now) (g.C.Clock.ahead c.args.clock.now) in
-    let after = clock_of (g.C.Clock.tells c.announce-time.new.clock) (g.C.Clock.ahead c.announce-time.new.clock) in
+    let after = clock_of (g.C.Clock.tells c.announce_run.new.clock) (g.C.Clock.ahead c.announce_run.new.clock) in
+    let announced : AnnouncesRun c.args.run inside.quota (length inside.analyzers) before after (access c.args.database.now) (access c.announce_run.new.database) sheet =
+    subst (λ (n : ℕ). AnnouncesRun c.args.run inside.quota n before after (access c.args.database.now) (access c.announce_run.new.database) sheet) c.len-count.ensures c.in_ok-rooms.ensures.announced in
     let current : CurrentRun = record { run = c.args.run; start = c.make_untold-made.result.start; time = time; quota = inside.quota } in
     let on : Option CurrentRun = option_map (λ o. o.run) inside.on in
     let s : RunsSeen = seen_of inside.quota inside.runs.items inside.fronts inside.channels inside.analyzers on inside.seat in
     let later : RunsSeen = seen_of inside.quota c.reserve.new.self.items inside.fronts inside.channels inside.analyzers (Some current) seat in
     let kept = kept_on inside.quota inside.runs.items c.reserve.new.self.items inside.fronts inside.channels inside.analyzers on inside.seat seat current c.reserve.ensures.items made.engine in
-    let sheet = start_sheet_is c.args.run time inside.quota c.in-Ok.dump c.in_ok-blanks.blanks c.len-count.result (length inside.analyzers) c.start_sheet-sheet.result c.start_sheet-sheet.ensures.is c.in_ok-blanks.ensures.made c.len-count.ensures in
     let idle : on ≡ None = ap (λ (x : RunsSeen). x.on) c.self.view_is ∙ c.requires.idle in
-    let does = begins_run g.M.Rounds.round c.calls_add_up.ensures.are c.args.run c.make_untold-made.result.start time Completed c.make_untold-made.result.outcome c.in-Ok.dump c.announce-time.result.1 c.start_sheet-sheet.result before after s later
-    (access c.args.database.now) (access c.announce-time.new.database) (access c.set_outcome.new.database) c.args.members.now c.make_untold-made.new.members idle made.begun c.announce-time.ensures.reading c.announce-time.ensures.calls c.in-Ok.is c.set_outcome.ensures
-    c.in-Completed.is sheet made.made kept in (
+    let does = begins_run g.M.Rounds.round c.calls_add_up.ensures.are c.args.run c.make_untold-made.result.start Completed c.make_untold-made.result.outcome sheet before after s later
+    (access c.args.database.now) (access c.announce_run.new.database) (access c.set_outcome.new.database) c.args.members.now c.make_untold-made.new.members idle made.begun announced c.set_outcome.ensures
+    c.in-Completed.is made.made kept in (
       refl,
       subst (λ (x : RunsSeen). BeginsRun g.M.Rounds.round c.args.run Completed before after (point_of x (access c.args.database.now) c.args.members.now) (point_of later (access c.set_outcome.new.database) c.make_untold-made.new.members))
           c.self.view_is does,
@@ -38,33 +39,23 @@ returns-in-Refused-clause-did g c =
     let inside = c.self.inside in
     let seat = c.make_untold-made.new.seat in
     let made = c.make_untold-made.ensures in
-    let time = c.announce-time.result.0 in
+    let sheet = c.in_ok-rooms.sheet in
+    let time = sheet.time in
     let outcome = c.make_untold-made.result.outcome in
     let access = g.D.DatabasePort.access in
     let before = clock_of (g.C.Clock.tells c.args.clock.now) (g.C.Clock.ahead c.args.clock.now) in
-    let after = clock_of (g.C.Clock.tells c.announce-time.new.clock) (g.C.Clock.ahead c.announce-time.new.clock) in
+    let after = clock_of (g.C.Clock.tells c.announce_run.new.clock) (g.C.Clock.ahead c.announce_run.new.clock) in
+    let announced : AnnouncesRun c.args.run inside.quota (length inside.analyzers) before after (access c.args.database.now) (access c.announce_run.new.database) sheet =
+    subst (λ (n : ℕ). AnnouncesRun c.args.run inside.quota n before after (access c.args.database.now) (access c.announce_run.new.database) sheet) c.len-count.ensures c.in_ok-rooms.ensures.announced in
     let current : CurrentRun = record { run = c.args.run; start = c.make_untold-made.result.start; time = time; quota = inside.quota } in
     let on : Option CurrentRun = option_map (λ o. o.run) inside.on in
     let s : RunsSeen = seen_of inside.quota inside.runs.items inside.fronts inside.channels inside.analyzers on inside.seat in
     let later : RunsSeen = seen_of inside.quota c.push_reserved.new.self.items inside.fronts inside.channels inside.analyzers on seat in
     let kept = kept_refused inside.quota inside.runs.items c.reserve.new.self.items c.push_reserved.new.self.items inside.fronts inside.channels inside.analyzers on inside.seat seat current outcome c.in-Refused.client c.in-Refused.why c.refused_record.result
     c.reserve.ensures.items c.push_reserved.ensures.items c.refused_record.ensures c.in-Refused.is made.engine in
-    let sheet = start_sheet_is c.args.run time inside.quota c.in-Ok.dump c.in_ok-blanks.blanks c.len-count.result (length inside.analyzers) c.start_sheet-sheet.result c.start_sheet-sheet.ensures.is c.in_ok-blanks.ensures.made c.len-count.ensures in
     let idle : on ≡ None = ap (λ (x : RunsSeen). x.on) c.self.view_is ∙ c.requires.idle in
-    let does = begins_run g.M.Rounds.round c.calls_add_up.ensures.are c.args.run c.make_untold-made.result.start time (Refused c.in-Refused.client c.in-Refused.why) outcome c.in-Ok.dump c.announce-time.result.1 c.start_sheet-sheet.result before
-    after s later (access c.args.database.now) (access c.announce-time.new.database) (access c.set_outcome.new.database) c.args.members.now c.make_untold-made.new.members idle made.begun c.announce-time.ensures.reading c.announce-time.ensures.calls
-    c.in-Ok.is c.set_outcome.ensures c.in-Refused.is sheet made.made kept in
+    let does = begins_run g.M.Rounds.round c.calls_add_up.ensures.are c.args.run c.make_untold-made.result.start (Refused c.in-Refused.client c.in-Refused.why) outcome sheet before
+    after s later (access c.args.database.now) (access c.announce_run.new.database) (access c.set_outcome.new.database) c.args.members.now c.make_untold-made.new.members idle made.begun announced
+    c.set_outcome.ensures c.in-Refused.is made.made kept in
     subst (λ (x : RunsSeen). BeginsRun g.M.Rounds.round c.args.run (Refused c.in-Refused.client c.in-Refused.why) before after (point_of x (access c.args.database.now) c.args.members.now)
     (point_of later (access c.set_outcome.new.database) c.make_untold-made.new.members)) c.self.view_is does
-
-pub returns-in_default-clause-interrupted : goal.returns-in_default-clause-interrupted
-returns-in_default-clause-interrupted g c =
-    let inside = c.self.inside in
-    let access = g.D.DatabasePort.access in
-    let before = clock_of (g.C.Clock.tells c.args.clock.now) (g.C.Clock.ahead c.args.clock.now) in
-    let after = clock_of (g.C.Clock.tells c.announce-time.new.clock) (g.C.Clock.ahead c.announce-time.new.clock) in
-    let on : Option CurrentRun = option_map (λ o. o.run) inside.on in
-    let later : RunsSeen = seen_of inside.quota c.reserve.new.self.items inside.fronts inside.channels inside.analyzers on inside.seat in
-    let same : later ≡ c.args.self.now = ap (λ (l : List RunRecord). seen_of inside.quota l inside.fronts inside.channels inside.analyzers on inside.seat) c.reserve.ensures.items ∙ c.self.view_is in
-    cut_announced c.args.run c.announce-time.result.0 c.announce-time.result.1 before after c.args.self.now later (access c.args.database.now) (access c.announce-time.new.database) c.args.members.now same c.announce-time.ensures.reading
-    c.announce-time.ensures.calls (not_saved c.announce-time.result.1 c.in_default.not-Ok)
