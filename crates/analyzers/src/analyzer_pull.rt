@@ -1,5 +1,5 @@
 /// What an analyzer got from its buffer.
-#[derive(Clone, Copy)]
+#[derive(Clone, Copy, PartialEq, Eq)]
 pub enum AnalyzerPull {
     /// The event of this place, which is one of the run and was counted.
     Folded { place: u64 },
