@@ -5,7 +5,7 @@ use buffer_core::SendRefusal;
 use turn_lock::Taken;
 
 /// Why an event was not taken, by a send that tried for the turn once.
-#[derive(Clone, Copy)]
+#[derive(Clone, Copy, PartialEq, Eq)]
 pub enum TrySend {
     /// The buffer refused the event.
     Refused(SendRefusal),

@@ -1,7 +1,7 @@
 use buffer_core::RunGate;
 
 /// What a step of a front-end came to.
-#[derive(Clone, Copy)]
+#[derive(Clone, Copy, PartialEq, Eq)]
 pub enum FrontStep {
     /// The next event was taken, at this place.
     Sent { place: u64 },
