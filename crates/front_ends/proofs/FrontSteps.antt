@@ -1,5 +1,5 @@
 -- What a front-end keeps at a step.
-use Rattle.std.specs.Prelude.{◌≡◌, ◌≢◌, ℕ, suc, ◌<◌, ◌||◌, nat_le, is_some, Bool, true, false, List, [], ◌∷◌, ◌++◌, length, Option, Some, Result, Ok, Err, refl}
+use Rattle.std.specs.Prelude.{◌≡◌, ◌≢◌, ℕ, suc, ◌<◌, ◌||◌, ◌&&◌, not, nat_le, is_some, Bool, true, false, List, [], ◌∷◌, ◌++◌, length, Option, Some, Result, Ok, Err, refl}
 use Rattle.std.proofs.Common.{ap, sym, subst, ◌∙◌, inl, inr, arith}
 use Rattle.std.proofs.lemmas.Bool.Decides.{eqb_tells, leb_tells}
 use Rattle.daq_types.specs.declared.events.Event.{Event}
@@ -14,7 +14,9 @@ use Rattle.member_model.specs.Turns.{MemberTurn, HasTurnOf, HasAnswer, AreEngine
 use Rattle.member_model.specs.SentCalls.{sent_by_call, own_sent, IsSendInRun}
 use Rattle.member_model.proofs.SentLaws.{own_sent-push, EachCall-push, WasSpent-here}
 use Rattle.front_ends.specs.declared.front_run.FrontRun.{FrontRun}
-use Rattle.front_ends.specs.Fronts.{is_done, is_at_work, run_sent}
+use Rattle.front_ends.specs.declared.front_step.FrontStep.{FrontStep}
+use Rattle.front_ends.specs.declared.front_step.FrontStep.TheVariants.{NoWork}
+use Rattle.front_ends.specs.Fronts.{IsWithinQuota, is_done, is_at_work, IsStepOf, run_sent}
 use Rattle.front_ends.specs.FrontKept.{made_events, IsMade, IsNextCall, KeepsFront, TakesPart, last_answered, FrontStands}
 use Rattle.front_ends.proofs.FrontGrows.{length-made_events, sends_push, IsMade-same, Tally-pushed, spent_pushed, sent_same}
 
@@ -32,6 +34,33 @@ work_left r e = elim (leb_tells r.order.quota r.sent) as (λ w. r.sent < r.order
   | inl is ↦ absurd (let never = or_none (nat_le r.order.quota r.sent) (is_some r.spent) e in cc (is.0, never))
   | inr is ↦ is.1
 ]
+
+pub at_work : (r : FrontRun) → r.paused ≡ false → is_done r ≡ false → is_at_work (Some r) ≡ true
+at_work r on more = ap (λ (paused : Bool). not paused && not (is_done r)) on ∙ ap (λ (done : Bool). not done) more
+
+-- a run at work does not rest
+pub not_at_rest : {A : Type 0} (before : Option FrontRun) (r : FrontRun) → before ≡ Some r → is_at_work (Some r) ≡ true → is_at_work before ≡ false → A
+not_at_rest before r is work rests = absurd (let never : true ≡ false = sym work ∙ (ap (λ (run : Option FrontRun). is_at_work run) (sym is) ∙ rests) in cc (never))
+
+-- a send comes to a step
+pub step_made : (reply : Result ℕ SendRefusal) (step : FrontStep) → IsStepOf reply step → step ≢ NoWork
+step_made (Ok place) step is = λ none. cc
+step_made (Err (Spent total)) step is = λ none. cc
+step_made (Err (NotRunning gate)) step is = λ none. cc
+step_made (Err (BadSize stated given)) step is = absurd is
+step_made (Err (ReservedId id)) step is = absurd is
+step_made (Err (TooLarge slot size)) step is = absurd is
+step_made (Err (Full client place)) step is = λ none. cc
+
+-- a send keeps a run that wants more within its quota
+pub within_sent : (r : FrontRun) (reply : Result ℕ SendRefusal) → r.sent < r.order.quota → IsWithinQuota (Some (run_sent reply r))
+within_sent r (Ok place) more = omega arith
+within_sent r (Err (Spent total)) more = omega arith
+within_sent r (Err (NotRunning gate)) more = omega arith
+within_sent r (Err (BadSize stated given)) more = omega arith
+within_sent r (Err (ReservedId id)) more = omega arith
+within_sent r (Err (TooLarge slot size)) more = omega arith
+within_sent r (Err (Full client place)) more = omega arith
 
 -- the send is the next one of the run
 next_send : (makes : Order → ℕ → Event) (own : List BufferEntry) (turns : List MemberTurn) (r : FrontRun) (reply : Result ℕ SendRefusal) → TakesPart makes own turns r → r.sent < r.order.quota → AreEngineTurns turns

@@ -4,12 +4,11 @@ use Rattle.front_ends.proofs.FrontMoments.{turn_moments}
 use Rattle.front_ends.proofs.front_end.FrontEnd.on_turn.Goals as goal
 
 pub invariant_of-self : goal.invariant_of-self
-invariant_of-self g c =
-    (
-      c.self.invariant.0,
-      c.self.invariant.1,
-      rw c.run_behind_turn-self-inside.ensures (within_after c.check-takes.result c.self.inside.run c.args.transition c.args.order.now c.self.invariant.2),
-    )
+invariant_of-self g c = (
+  c.self.invariant.0,
+  c.self.invariant.1,
+  rw c.run_behind_turn-self-inside.ensures (within_after c.check-takes.result c.self.inside.run c.args.transition c.args.order.now c.self.invariant.2),
+)
 
 pub returns-clause-answer : goal.returns-clause-answer
 returns-clause-answer g c = rw (← c.self.view_is, ← c.check-takes.ensures) c.answer_of_turn-answer.ensures
