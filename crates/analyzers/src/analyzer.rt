@@ -126,55 +126,68 @@ fn answer_by(start: u32, reply: Received) -> AnalyzerPull
     }
 }
 
-/// The run with this event counted, where it has the run's start number.
-fn counted(run: AnalyzerRun, start: u32, event: &EventBuf) -> AnalyzerRun
-    requires room { run.report.bytes + (16 + length event.now.event.body) ≤ 2 ^ 62 }
-    ensures counts { CountsOwn (run.start == start) run result event.now.event }
-    ensures bytes { result.report.bytes ≤ run.report.bytes + (16 + length event.now.event.body) }
-    ensures client { result.client ≡ run.client }
+/// Counts this event, where it has the start number of the run.
+fn count(run: &mut AnalyzerRun, start: u32, event: &EventBuf)
+    requires room { run.old.report.bytes + (16 + length event.now.event.body) ≤ 2 ^ 62 }
+    ensures counts { CountsOwn (run.old.start == start) run.old run.new event.now.event }
+    ensures bytes { run.new.report.bytes ≤
+        run.old.report.bytes + (16 + length event.now.event.body) }
+    ensures client { run.new.client ≡ run.old.client }
 {
-    if run.start != start {
-        return run;
-    }
-    let mut report = run.report;
-    report.fold(&event.header(), event.body());
-    AnalyzerRun { report, ..run }
-}
-
-/// The run behind a receive with this reply.
-fn counted_by(run: AnalyzerRun, reply: Received, event: &EventBuf) -> AnalyzerRun
-    requires room { run.report.bytes + got_bytes reply event.now.event ≤ 2 ^ 62 }
-    ensures counts { CountsReply reply run result event.now.event }
-    ensures bytes { result.report.bytes ≤ run.report.bytes + got_bytes reply event.now.event }
-    ensures client { result.client ≡ run.client }
-{
-    match reply {
-        Received::Got { start, .. } => counted(run, start, event),
-        _ => run,
+    if run.start == start {
+        run.report.fold(&event.header(), event.body());
     }
 }
 
-/// The run behind a receive. A client that was drained has its request cancelled.
-fn end_reading<R: Wait, P: BufferPort>(
+/// Counts what a receive with this reply got, where that is of the run.
+fn count_reply(run: &mut AnalyzerRun, reply: Received, event: &EventBuf)
+    requires room { run.old.report.bytes + got_bytes reply event.now.event ≤ 2 ^ 62 }
+    ensures counts { CountsReply reply run.old run.new event.now.event }
+    ensures bytes { run.new.report.bytes ≤
+        run.old.report.bytes + got_bytes reply event.now.event }
+    ensures client { run.new.client ≡ run.old.client }
+{
+    if let Received::Got { start, .. } = reply {
+        count(run, start, event);
+    }
+}
+
+/// Receives once for this run, and counts what it gets, where that is of the run.
+fn receive_for<R: Wait, P: BufferPort>(
     rt: &R,
     port: &mut P,
-    run: AnalyzerRun,
-    drained: bool,
-) -> AnalyzerRun
+    event: &mut EventBuf,
+    run: &mut AnalyzerRun,
+) -> Received
     requires entries { 1 ≤ (P.access port.old).entries }
-    ensures ends { EndsReading drained run (Some result) (P.access port.old) (P.access port.new) }
+    requires room { min event_limit ((P.access port.old).size - 24) ≤ event.old.room }
+    requires counted { IsWithinGot (Some run.old) (P.access port.old).got }
+    ensures room { event.new.room ≡ event.old.room }
+    ensures receives { ReceivesFor run.old run.new event.old.room (P.access port.old)
+        (P.access port.new)
+        result }
+    ensures counted { IsWithinGot (Some run.new) (P.access port.new).got }
+    ensures size { (P.access port.new).size ≡ (P.access port.old).size }
+    ensures entries { (P.access port.old).entries ≤ (P.access port.new).entries + 1 }
+{
+    let reply = port.receive(rt, run.client, event);
+    count_reply(run, reply, event);
+    reply
+}
+
+/// Ends the reading of a client that was drained: its request is cancelled.
+fn end_reading<R: Wait, P: BufferPort>(rt: &R, port: &mut P, run: &mut AnalyzerRun, drained: bool)
+    requires entries { 1 ≤ (P.access port.old).entries }
+    ensures ends { EndsReading drained run.old (Some run.new) (P.access port.old)
+        (P.access port.new) }
     ensures got { (P.access port.new).got ≡ (P.access port.old).got }
     ensures size { (P.access port.new).size ≡ (P.access port.old).size }
-    ensures client { result.client ≡ run.client }
-    ensures report { result.report ≡ run.report }
+    ensures client { run.new.client ≡ run.old.client }
+    ensures report { run.new.report ≡ run.old.report }
 {
-    if !drained {
-        return run;
-    }
-    let _ = port.cancel(rt, run.client, run.request);
-    AnalyzerRun {
-        stage: AnalyzerStage::Drained,
-        ..run
+    if drained {
+        let _ = port.cancel(rt, run.client, run.request);
+        run.stage = AnalyzerStage::Drained;
     }
 }
 
@@ -404,28 +417,6 @@ impl Analyzer {
         self.take_turn(rt, port, transition, order, blank)
     }
 
-    /// Receives once for this run, and counts what it gets, where that is of the run.
-    fn receive_for<R: Wait, P: BufferPort>(
-        &mut self,
-        rt: &R,
-        port: &mut P,
-        run: AnalyzerRun,
-    ) -> (AnalyzerRun, Received)
-        requires entries { 1 ≤ (P.access port.old).entries }
-        requires room { min event_limit ((P.access port.old).size - 24) ≤ self.old.room }
-        requires counted { IsWithinGot (Some run) (P.access port.old).got }
-        ensures after { self.new ≡ self.old }
-        ensures receives { ReceivesFor run result.0 self.old.room (P.access port.old)
-            (P.access port.new)
-            result.1 }
-        ensures counted { IsWithinGot (Some result.0) (P.access port.new).got }
-        ensures size { (P.access port.new).size ≡ (P.access port.old).size }
-        ensures entries { (P.access port.old).entries ≤ (P.access port.new).entries + 1 }
-    {
-        let reply = port.receive(rt, run.client, &mut self.event);
-        (counted_by(run, reply, &self.event), reply)
-    }
-
     /// Receives once, where a run is read, and counts what it gets.
     fn pull_once<R: Wait, P: BufferPort>(&mut self, rt: &R, port: &mut P) -> AnalyzerPull
         requires entries { 2 ≤ (P.access port.old).entries }
@@ -445,16 +436,15 @@ impl Analyzer {
         ensures size { (P.access port.new).size ≡ (P.access port.old).size }
         ensures counted { IsWithinGot self.new.run (P.access port.new).got }
     {
-        let Some(run) = self.run.take() else {
+        let Some(run) = &mut self.run else {
             return AnalyzerPull::Nothing;
         };
         if is_drained(run.stage) {
-            self.run = Some(run);
             return AnalyzerPull::Nothing;
         }
         let (start, stage) = (run.start, run.stage);
-        let (run, reply) = self.receive_for(rt, port, run);
-        self.run = Some(end_reading(rt, port, run, drains(stage, reply)));
+        let reply = receive_for(rt, port, &mut self.event, run);
+        end_reading(rt, port, run, drains(stage, reply));
         answer_by(start, reply)
     }
 
