@@ -1,4 +1,4 @@
-use Rattle.std.proofs.Common.{◌≡◌, ◌∙◌, ap, sym, arith, Some, None}
+use Rattle.std.proofs.Common.{◌≡◌, ◌∙◌, ap, sym, arith, None}
 use Rattle.daq_model.specs.Events.{slot_of_length, slot_size}
 use Rattle.event_header.specs.Headers.{event_of}
 use Rattle.ring_buffer.proofs.WholeWalk.{whole_walk, reply_by_way}
@@ -13,10 +13,3 @@ returns-in-Ok-clause-taken g c =
     reply_by_way c.self.inside c.args.self.now c.args.header.now.data_size c.from-2.result (event_of c.args.header.now c.args.body.now) None c.self.view_is c.if-header-body.false c.if-header-gt-MAX_DATA.false
     (sym c.is_id_reserved.ensures ∙ c.if-is_id_reserved.false) slot (omega (arith, c.if-slot-size.false, c.size-size.ensures.size, c.from-2.ensures)) (omega (arith, c.if-self-from-gt-MAX_TOTAL.false, c.from.ensures, c.from-2.ensures))
     c.in-Ok.ensures.way.free
-
-pub returns-in-Err-clause-refused : goal.returns-in-Err-clause-refused
-returns-in-Err-clause-refused g c =
-    let slot : c.from-2.result ≡ slot_size (event_of c.args.header.now c.args.body.now) = c.from-2.ensures ∙ (c.slot_len-slot.ensures ∙ ap slot_of_length c.if-header-body.false) in
-    reply_by_way c.self.inside c.args.self.now c.args.header.now.data_size c.from-2.result (event_of c.args.header.now c.args.body.now) (Some (c.in-Err.field-0.client, c.in-Err.field-0.place)) c.self.view_is c.if-header-body.false c.if-header-gt-MAX_DATA.false
-    (sym c.is_id_reserved.ensures ∙ c.if-is_id_reserved.false) slot (omega (arith, c.if-slot-size.false, c.size-size.ensures.size, c.from-2.ensures)) (omega (arith, c.if-self-from-gt-MAX_TOTAL.false, c.from.ensures, c.from-2.ensures))
-    c.in-Err.ensures.owed
