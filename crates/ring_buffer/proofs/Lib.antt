@@ -6,3 +6,4 @@ pub mod GivenEvents
 pub mod Clients
 pub mod Lives
 pub mod ReadRows
+mod WholeWalk
