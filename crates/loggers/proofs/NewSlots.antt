@@ -63,6 +63,11 @@ all_added specs rooms slots added = record { many = added.many; each = λ place 
 
 -- One spec after another, from the last on.
 
+-- where some are to come, one is left
+pub none_left : (specs : List ChannelSpec) (k : ℕ) → k ≤ length specs → 0 < k → take k specs ≡ [] → ⊥
+none_left specs k fits some none =
+    let short : length (take k specs) ≡ 0 = ap (λ (l : List ChannelSpec). length l) none in omega (arith, short, some, length-take-le k specs fits)
+
 none_taken : {X : Type 0} (before : List X) (x : X) → [] ≡ before ++ x ∷ [] → ⊥
 none_taken {X} [] x is = cc (is)
 none_taken {X} (b ∷ bs) x is = cc (is)
