@@ -266,18 +266,18 @@ done_step bytes left line next dir new_dir loaded counts before after slots fres
   new_state = ap (λ (x : Rows). watched_as x fresh) r ∙ ap (λ (l : List (Option Watch)). watched_as (after_act before act) l) w;
 })
 
-pub room_left : (line next left behind before : ℕ) (loaded counts : Loaded) (dir ls rest : List (List ℕ)) (act : Act) (count : ℕ) → IsRoomy line before loaded → IsBlock dir ls act rest count
-    → left + count ≤ behind + 1 → behind < before → next ≡ line + count → counts ≡ counts_with loaded act → IsRoomy next left counts
-room_left line next left behind before loaded counts dir ls rest act count room b shorter less n k =
+pub room_left : (line next left before : ℕ) (loaded counts : Loaded) (dir ls rest : List (List ℕ)) (act : Act) (count : ℕ) → IsRoomy line before loaded → IsBlock dir ls act rest count
+    → left + count ≤ before → next ≡ line + count → counts ≡ counts_with loaded act → IsRoomy next left counts
+room_left line next left before loaded counts dir ls rest act count room b shorter n k =
     let keys : counts.keys ≡ loaded.keys + written act = ap (λ (l : Loaded). l.keys) k in
     let skips : counts.skipped ≡ loaded.skipped + skipped act = ap (λ (l : Loaded). l.skipped) k in
     record {
-      lines_fit = omega (arith, room.lines_fit, shorter, less, n);
+      lines_fit = omega (arith, room.lines_fit, shorter, n);
       counts_fit = omega (arith, room.counts_fit, n, keys, skips, one_key act, own_some dir b.own act b.spells, b.counted);
     }
 
-pub shorter_left : (left behind before count : ℕ) (dir ls rest : List (List ℕ)) (act : Act) → IsBlock dir ls act rest count → left + count ≤ behind + 1 → behind < before → left < before
-shorter_left left behind before count dir ls rest act b shorter less = omega (arith, shorter, less, own_some dir b.own act b.spells, b.counted)
+pub shorter_left : (left before count : ℕ) (dir ls rest : List (List ℕ)) (act : Act) → IsBlock dir ls act rest count → left + count ≤ before → left < before
+shorter_left left before count dir ls rest act b shorter = omega (arith, shorter, own_some dir b.own act b.spells, b.counted)
 
 -- the numbers of lines at fault
 

@@ -164,6 +164,10 @@ root_is rows = cases (keys_in rows []) (dirs_in rows []) (listed_kind true [] ro
 pub root_with : (rows : List Row) (t : Bool) (children : List Child) → children ≡ children_of rows [] → begins_with_key children ≡ t → root_text rows ≡ cond t (section_text rows []) []
 root_with rows t children e h = root_is rows ∙ ap (λ (b : Bool). cond b (section_text rows []) []) (ap begins_with_key (sym e) ∙ h)
 
+-- without a key in the root it adds nothing
+pub root_without : (text : List ℕ) (rows : List Row) (children : List Child) → children ≡ children_of rows [] → begins_with_key children ≡ false → text ≡ text ++ root_text rows
+root_without text rows children e h = sym (append-nil text) ∙ ap (λ (l : List ℕ). text ++ l) (sym (root_with rows false children e h))
+
 -- A loop over the children.
 
 -- each of the children stands in the directory

@@ -128,6 +128,7 @@ fn begins_with_key(children: &[Child]) -> bool
 }
 
 /// Adds the root, where keys stand in it.
+#[tactic(auto, using(crate::proofs::Parts::root_with, crate::proofs::Parts::root_without))]
 pub fn add_root<D: Database>(
     alloc: Global,
     database: &D,

@@ -9,6 +9,7 @@ ghost use Rattle.odb_ascii.specs.declared.acts.Act.TheVariants.{Make, Write};
 ghost use Rattle.odb_ascii.specs.TextSteps.{is_exists, there_already, make_fault, after_make, rows_fault, after_act, changes_of_act, dir_after, written, skipped};
 ghost use Rattle.odb_tree.specs.Calls.{set_all_fault, after_set_all};
 ghost use Rattle.odb_ascii.specs.TextFaults.{IsTextFault};
+ghost use Rattle.odb_ascii.specs.Blocks.{IsBlock};
 ghost use Rattle.odb_ascii.specs.Loads.{IsLoaded, watched_as, AdvancesText, IsTextFaultAt, counts_with, place_at, IsRoomy, IsNear, broken_at, refused_at};
 
 use crate::acts::{Act, LoadRefusal, Loaded};
@@ -202,6 +203,36 @@ impl<'a> Cursor<'a> {
     }
 }
 
+/// Does the step of these lines, with which the text begins that is left, and goes on behind them.
+fn do_step<'a, D: Database>(
+    alloc: Global,
+    database: &mut D,
+    at: &mut Cursor<'a>,
+    block: Block<'a>,
+) -> Result<(), LoadRefusal>
+    requires block { IsBlock at.old.dir (lines at.old.rest.now) block.act (lines block.rest.now)
+        block.lines }
+    requires shorter { length block.rest.now + block.lines ≤ length at.old.rest.now }
+    requires room { IsRoomy at.old.line (length at.old.rest.now) at.old.loaded }
+    ensures on { OnOk result
+        (AdvancesText (place_at at.old.rest.now at.old.line at.old.dir at.old.loaded)
+        (place_at at.new.rest.now at.new.line at.new.dir at.new.loaded)
+        (watched_as (D.rows database.old) (D.watches database.old))
+        (watched_as (D.rows database.new) (D.watches database.new))) }
+    ensures room { OnOk result (IsRoomy at.new.line (length at.new.rest.now) at.new.loaded) }
+    ensures shorter { OnOk result (length at.new.rest.now < length at.old.rest.now) }
+    ensures fault { IfErr result (IsTextFaultAt (place_at at.old.rest.now at.old.line at.old.dir
+        at.old.loaded) (D.rows database.old)) }
+{
+    match do_act(alloc, database, &block.act) {
+        Err(why) => Err(refused_at(at.line, why)),
+        Ok(()) => {
+            at.pass(block);
+            Ok(())
+        }
+    }
+}
+
 /// Does the step that begins with this line.
 fn do_block<'a, D: Database>(
     alloc: Global,
@@ -226,13 +257,7 @@ fn do_block<'a, D: Database>(
 {
     match read_block(alloc, &at.dir, line, behind) {
         Err(fault) => Err(broken_at(at.line, fault)),
-        Ok(block) => match do_act(alloc, database, &block.act) {
-            Err(why) => Err(refused_at(at.line, why)),
-            Ok(()) => {
-                at.pass(block);
-                Ok(())
-            }
-        },
+        Ok(block) => do_step(alloc, database, at, block),
     }
 }
 
