@@ -1,10 +1,10 @@
-ghost use Rattle.std.specs.Prelude.{◌≡◌, ◌≤◌, ◌+◌, IfOk, OnErr, Err};
+ghost use Rattle.std.specs.Prelude.{◌≡◌, ◌≤◌, ◌+◌, IfSome, IfNone, IfOk, OnErr, Err, IsFalse};
 ghost use Rattle.daq_types.specs.Callers.{main_caller};
 ghost use Rattle.odb_path.specs.PathText.{path_reply};
 ghost use Rattle.odb_port.specs.DatabasePorts.{IsSamePort};
 ghost use Rattle.odb_tree.specs.declared.rows.NewKey.TheVariants.{Dir, Keys};
 ghost use Rattle.odb_commands.specs.Answers.{done_or, listed_or};
-ghost use Rattle.odb_commands.specs.CommandCalls.{Answers, AnswersIf, AtPath, CreatesKey, CutsAnswer, Gets, GetsIn, Lists, Names, NamesFound, Performs, RemovesKey, Sets, SetsIn, SetsItem, Shows};
+ghost use Rattle.odb_commands.specs.CommandCalls.{Answers, AnswersIf, AtPath, calls_database, CreatesKey, CutsAnswer, Gets, GetsIn, Lists, Names, NamesFound, Performs, RemovesKey, Sets, SetsIn, SetsItem, Shows};
 
 use crate::reading::{is_protected, item_for, one_of, read_path, settled};
 use crate::replies::{CommandRefusal, CommandReply};
@@ -413,6 +413,61 @@ pub fn remove<R: Wait, P: DatabasePort>(
     }
 }
 
+/// The answer to a command of the database; None for any other command.
+fn answer<R: Wait, P: DatabasePort>(
+    rt: &R,
+    alloc: Global,
+    port: &mut P,
+    command: &Command<'_>,
+) -> Option<Result<CommandReply, NoMemory>>
+    requires main { (P.access port.old).caller ≡ main_caller }
+    requires room { COMMAND_CALLS ≤ (P.access port.old).room }
+    ensures did { IfSome result (λ answer. IfOk answer (Answers (P.access port.old) (P.access port.new)
+        (Performs command.now))) }
+    ensures interrupted { IfSome result (λ answer. OnErr answer (CutsAnswer (P.access port.old)
+        (P.access port.new) (Performs command.now))) }
+    ensures no_call { IfNone result (P.access port.new ≡ P.access port.old) }
+    ensures other { IfNone result (IsFalse (calls_database command.now)) }
+    ensures same { IsSamePort (P.access port.old) (P.access port.new) }
+    ensures room { (P.access port.old).room ≤ (P.access port.new).room + COMMAND_CALLS }
+{
+    match command {
+        Command::Create { tid, path, len } => {
+            let kind = NewKey::Keys {
+                tid: *tid,
+                len: *len,
+            };
+            Some(create(rt, alloc, port, path.as_slice(), kind))
+        }
+        Command::CreateDir { path } => {
+            Some(create(rt, alloc, port, path.as_slice(), NewKey::Dir))
+        }
+        Command::Set { path, index, value } => {
+            let text = value.as_slice();
+            Some(set(rt, alloc, port, path.as_slice(), *index, text))
+        }
+        Command::Get { path, index } => Some(get(rt, alloc, port, path.as_slice(), *index)),
+        Command::List { path } => Some(list(rt, alloc, port, path.as_slice())),
+        Command::Remove { path } => Some(remove(rt, alloc, port, path.as_slice())),
+        Command::Nothing
+        | Command::Buffer { .. }
+        | Command::Equip { .. }
+        | Command::Channel { .. }
+        | Command::Analyzer { .. }
+        | Command::Events { .. }
+        | Command::Start
+        | Command::Stop
+        | Command::Pause
+        | Command::Resume
+        | Command::Load { .. }
+        | Command::Save { .. }
+        | Command::Watch { .. }
+        | Command::Notes { .. }
+        | Command::Unwatch { .. }
+        | Command::Exit => None,
+    }
+}
+
 /// Answers a command of the database, by the main thread: makes its calls, each once and in order, and gives the reply. None
 /// for any other command. Where memory ends, the first of its calls were made, the last of them maybe with that reply, and all
 /// of them only where its own reply takes memory behind them.
@@ -430,39 +485,8 @@ pub fn run_command<R: Wait, P: DatabasePort>(
     ensures same { IsSamePort (P.access port.old) (P.access port.new) }
     ensures room { (P.access port.old).room ≤ (P.access port.new).room + COMMAND_CALLS }
 {
-    match command {
-        Command::Create { tid, path, len } => {
-            let kind = NewKey::Keys {
-                tid: *tid,
-                len: *len,
-            };
-            Ok(Some(create(rt, alloc, port, path.as_slice(), kind)?))
-        }
-        Command::CreateDir { path } => {
-            Ok(Some(create(rt, alloc, port, path.as_slice(), NewKey::Dir)?))
-        }
-        Command::Set { path, index, value } => {
-            let text = value.as_slice();
-            Ok(Some(set(rt, alloc, port, path.as_slice(), *index, text)?))
-        }
-        Command::Get { path, index } => Ok(Some(get(rt, alloc, port, path.as_slice(), *index)?)),
-        Command::List { path } => Ok(Some(list(rt, alloc, port, path.as_slice())?)),
-        Command::Remove { path } => Ok(Some(remove(rt, alloc, port, path.as_slice())?)),
-        Command::Nothing
-        | Command::Buffer { .. }
-        | Command::Equip { .. }
-        | Command::Channel { .. }
-        | Command::Analyzer { .. }
-        | Command::Events { .. }
-        | Command::Start
-        | Command::Stop
-        | Command::Pause
-        | Command::Resume
-        | Command::Load { .. }
-        | Command::Save { .. }
-        | Command::Watch { .. }
-        | Command::Notes { .. }
-        | Command::Unwatch { .. }
-        | Command::Exit => Ok(None),
+    match answer(rt, alloc, port, command) {
+        Some(reply) => Ok(Some(reply?)),
+        None => Ok(None),
     }
 }
