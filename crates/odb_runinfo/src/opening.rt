@@ -2,11 +2,12 @@ ghost use Rattle.std.specs.Prelude.{◌≡◌, IfOk, OnOk, IsTrue, None};
 ghost use Rattle.odb_value.specs.Items.{is_kept, tid_of};
 ghost use Rattle.odb_value.specs.Values.{IsShorter, size_limit};
 ghost use Rattle.odb_tree.specs.Rows.{no_rows};
-ghost use Rattle.odb_tree.specs.Calls.{set_all_fault};
+ghost use Rattle.odb_tree.specs.Calls.{after_set_all, set_all_fault};
 ghost use Rattle.odb_runinfo.specs.RunKeys.{key_path, value_of_one, with_key, session_rows};
 
 use crate::keys::RunKey;
 use daq_types::NoMemory;
+use odb_path::Path;
 use odb_tree::{Database, OdbRefusal};
 use odb_value::{Item, Value};
 use std::alloc::Global;
@@ -20,6 +21,23 @@ fn value_of_one(alloc: Global, item: Item) -> Result<Value, NoMemory>
     let mut value = Value::new(alloc, item.tid(), 1)?;
     value.put(0, item);
     Ok(value)
+}
+
+/// Sets the value of the key at this path, where nothing refuses it.
+fn set_key<D: Database>(
+    alloc: Global,
+    database: &mut D,
+    path: &Path,
+    value: &Value,
+) -> Result<(), NoMemory>
+    requires free { set_all_fault (D.rows database.old) path.now value.now ≡ None }
+    ensures { OnOk result (D.rows database.new ≡ after_set_all (D.rows database.old) path.now value.now) }
+{
+    match database.set_all(alloc, path, value) {
+        Ok(_) => Ok(()),
+        Err(OdbRefusal::NoMemory) => Err(NoMemory),
+        Err(_) => unreachable!(),
+    }
 }
 
 /// Makes the key with this one item, where nothing refuses it.
@@ -36,11 +54,7 @@ fn add_key<D: Database>(
 {
     let path = key.path(alloc)?;
     let value = value_of_one(alloc, item)?;
-    match database.set_all(alloc, &path, &value) {
-        Ok(_) => Ok(()),
-        Err(OdbRefusal::NoMemory) => Err(NoMemory),
-        Err(_) => unreachable!(),
-    }
+    set_key(alloc, database, &path, &value)
 }
 
 /// Makes the keys of `/Runinfo` in a new database, which may have some of them where memory is wanting.
