@@ -79,6 +79,12 @@ is_sent step = false
 abbrev pub asked_so : (client : ℕ) → List EngineEntry → Polled → List EngineEntry
 asked_so client calls reply = calls ++ Poll client reply ∷ []
 
+-- At this place, where the turn with this start number was owed, if one was, the engine was asked and replied so.
+pub record Asked (before after : Seat) (owed : Option ℕ) (reply : Polled) : Type 0 where
+  pub client : after.client ≡ before.client
+  pub calls : own_entries after.pass ≡ asked_so before.client (own_entries before.pass) reply
+  pub owed_is : start_owed before.client (own_entries before.pass) ≡ owed
+
 -- The number is set in the front-end's key, if there is one.
 abbrev pub SetsSent : (name : List ℕ) → Option ℕ → (a b : DatabaseAccess) → Type 0
 SetsSent name None a b = b ≡ a

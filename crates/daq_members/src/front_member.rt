@@ -14,9 +14,10 @@ ghost use Rattle.event_report.specs.Reports.{Totals};
 ghost use Rattle.front_ends.specs.FrontIds.{event_room};
 ghost use Rattle.front_ends.specs.Fronts.{front_answer, run_after, finish_answer, run_finished, events_sent};
 ghost use Rattle.loggers.specs.Moments.{IsSameAccess};
+ghost use Rattle.daq_members.specs.declared.seat.Seat.{Seat as Place};
 ghost use Rattle.daq_members.specs.OwnTurns.{start_owed, GivesAnswer};
 ghost use Rattle.daq_members.specs.SentSets.{number_set_at, number_if, AddsNumberIf};
-ghost use Rattle.daq_members.specs.FrontTaken.{turned_by, is_sent, SetsSent, StepsFront, TakesFront, FrontMemberStands, KeepsFrontStanding, front_member_taken};
+ghost use Rattle.daq_members.specs.FrontTaken.{Asked, turned_by, is_sent, SetsSent, StepsFront, TakesFront, FrontMemberStands, KeepsFrontStanding, front_member_taken};
 
 use crate::seat::Seat;
 use crate::turned::Turned;
@@ -168,7 +169,42 @@ impl<'a, E: Equipment> FrontMember<'a, E> {
             (P.access port.new) (D.access database.old) (D.access database.new) result) }
     {
         let owed = self.seat.owed;
-        match self.seat.poll(rt) {
+        let reply = self.seat.poll(rt);
+        self.go_on(rt, port, database, gate, owed, &reply)
+    }
+
+    /// Goes on by what the engine replied, where the turn with this start number was owed before, if one was.
+    fn go_on<R: Wait, P: BufferPort, D: WatchPort, G: Gate>(
+        &mut self,
+        rt: &R,
+        port: &mut P,
+        database: &mut D,
+        gate: &G,
+        owed: Option<u32>,
+        reply: &Polled,
+    ) -> Turned
+        requires entries { 1 ≤ (P.access port.old).entries }
+        requires bytes { event_room ≤ (P.access port.old).bytes }
+        requires size { 104 ≤ (P.access port.old).size }
+        ensures takes { (before : Place) → Asked before self.old.seat owed reply.now →
+            TakesFront (front_member_taken E.takes E.makes self.old.name before
+            self.new.seat self.old.front self.new.front (P.access port.old) (P.access port.new)
+            (D.access database.old) (D.access database.new) result) }
+        ensures client { self.new.seat.client ≡ self.old.seat.client }
+        ensures engine { self.new.seat.engine.now ≡ self.old.seat.engine.now }
+        ensures name { self.new.name ≡ self.old.name }
+        ensures equipment_takes { E.takes self.new.front.equipment
+            ≡ E.takes self.old.front.equipment }
+        ensures equipment_makes { E.makes self.new.front.equipment
+            ≡ E.makes self.old.front.equipment }
+        ensures same_port { IsSameAccess (P.access port.old) (P.access port.new) }
+        ensures same { IsSamePort (D.access database.old) (D.access database.new) }
+        ensures keeps { (before : Place) → Asked before self.old.seat owed reply.now →
+            KeepsFrontStanding (front_member_taken E.takes E.makes self.old.name before
+            self.new.seat self.old.front self.new.front (P.access port.old) (P.access port.new)
+            (D.access database.old) (D.access database.new) result) }
+    {
+        match reply {
             Polled::Closed => Turned::Ended,
             Polled::NoClient => Turned::Idle,
             Polled::Idle { .. } => turned_by(is_sent(self.step(rt, port, gate))),
@@ -178,7 +214,7 @@ impl<'a, E: Equipment> FrontMember<'a, E> {
                 ..
             } => match owed {
                 None => {
-                    self.take_turn(rt, database, transition, &order);
+                    self.take_turn(rt, database, *transition, order);
                     Turned::Worked
                 }
                 Some(start) => {

@@ -3,6 +3,7 @@ ghost use Rattle.std.specs.Option.{option_copied};
 ghost use Rattle.daq_types.specs.Callers.{caller_of_client};
 ghost use Rattle.daq_model.specs.Events.{record_limit};
 ghost use Rattle.buffer_core.specs.Slots.{slot_at};
+ghost use Rattle.transitions.specs.EngineHistories.{IsFairTurn};
 ghost use Rattle.turn_lock.specs.Passes.{own_entries};
 ghost use Rattle.member_model.specs.Turns.{MemberTurn};
 ghost use Rattle.member_model.specs.TurnCalls.{member_turns};
@@ -11,7 +12,8 @@ ghost use Rattle.loggers.specs.NewLoggers.{NoneTakenBack};
 ghost use Rattle.loggers.specs.SlotPulls.{HasEventRoom, PullsNumbered};
 ghost use Rattle.loggers.specs.Turning.{IsIdleOutside, buffers_begun};
 ghost use Rattle.loggers.specs.LoggerStands.{LoggerStands};
-ghost use Rattle.daq_members.specs.FrontTaken.{turned_by};
+ghost use Rattle.daq_members.specs.declared.seat.Seat.{Seat as Place};
+ghost use Rattle.daq_members.specs.FrontTaken.{Asked, turned_by};
 ghost use Rattle.daq_members.specs.LoggerTaken.{TakesLogger, KeepsLoggerMember, logger_member_taken, HaveCaller, PullsBelow, pulled_channels, has_pulled};
 
 use crate::front_member::turned_by;
@@ -117,7 +119,50 @@ impl<'a> LoggerMember<'a> {
             (map P.access ports.new) files.old files.new result) }
     {
         let owed = self.seat.owed;
-        match self.seat.poll(rt) {
+        let mut reply = self.seat.poll(rt);
+        self.go_on(rt, ports, files, gate, owed, &mut reply)
+    }
+
+    /// Goes on by what the engine replied, where the turn with this start number was owed before, if one was. A new
+    /// turn's dump is taken out of the reply.
+    fn go_on<R: Wait, P: BufferPort, F: Files, G: Gate>(
+        &mut self,
+        rt: &R,
+        ports: &mut Ports<P>,
+        files: &mut F,
+        gate: &G,
+        owed: Option<u32>,
+        reply: &mut Polled,
+    ) -> Turned
+        requires ready { IsLoggerReady self.old.logger.channels (map P.access ports.old)
+            (F.seen files.old) }
+        requires entries { HaveEntries 49 (map P.access ports.old) }
+        requires room { (number : ℕ) → HasEventRoom number self.old.logger.channels
+            (map P.access ports.old) }
+        requires idle { IsIdleOutside self.old.logger.run self.old.logger.channels }
+        requires begun { buffers_begun self.old.logger.run ≤ length ports.old }
+        requires small { IfSome self.old.logger.stop_dump (λ bytes. length bytes ≤ record_limit) }
+        requires fair { IsFairTurn reply.old }
+        ensures takes { (before : Place) → Asked before self.old.seat owed reply.old →
+            TakesLogger (logger_member_taken (files_by F.seen F.faults F.clashes F.first)
+            (record { seat = before; logger = self.old.logger }) self.new
+            (map P.access ports.old) (map P.access ports.new) files.old files.new result) }
+        ensures client { self.new.seat.client ≡ self.old.seat.client }
+        ensures engine { self.new.seat.engine.now ≡ self.old.seat.engine.now }
+        ensures same { AreSamePorts (map P.access ports.old) (map P.access ports.new) }
+        ensures ready { IsLoggerReady self.new.logger.channels (map P.access ports.new)
+            (F.seen files.new) }
+        ensures room { (number : ℕ) → HasEventRoom number self.new.logger.channels
+            (map P.access ports.new) }
+        ensures idle { IsIdleOutside self.new.logger.run self.new.logger.channels }
+        ensures begun { buffers_begun self.new.logger.run ≤ length ports.new }
+        ensures small { IfSome self.new.logger.stop_dump (λ bytes. length bytes ≤ record_limit) }
+        ensures keeps { (before : Place) → Asked before self.old.seat owed reply.old →
+            KeepsLoggerMember (logger_member_taken (files_by F.seen F.faults F.clashes F.first)
+            (record { seat = before; logger = self.old.logger }) self.new
+            (map P.access ports.old) (map P.access ports.new) files.old files.new result) }
+    {
+        match reply {
             Polled::Closed => Turned::Ended,
             Polled::NoClient => Turned::Idle,
             Polled::Idle { .. } => turned_by(self.pull_all(rt, ports, files, gate)),
@@ -128,9 +173,10 @@ impl<'a> LoggerMember<'a> {
                 ..
             } => match owed {
                 None => {
+                    let dump = dump.take();
                     let answer = self
                         .logger
-                        .on_turn(rt, files, ports, transition, &order, dump);
+                        .on_turn(rt, files, ports, *transition, order, dump);
                     self.seat.give(rt, answer);
                     Turned::Worked
                 }
