@@ -1,5 +1,5 @@
 -- A start and a stop, put together.
-use Rattle.std.specs.Prelude.{◌≡◌, ◌≢◌, ℕ, true, false, List, [], ◌∷◌, ◌++◌, length, Option, Some, None, Result, Ok, Err, is_err, IsOk, IfOk, OnErr, refl}
+use Rattle.std.specs.Prelude.{◌≡◌, ◌≢◌, ℕ, Bool, true, false, List, [], ◌∷◌, ◌++◌, length, Option, Some, None, Result, Ok, Err, is_err, IsOk, IfOk, OnErr, refl}
 use Rattle.std.proofs.Common.{ap, sym, subst, ◌∙◌, inr}
 use Rattle.daq_types.specs.declared.memory.NoMemory.{NoMemory}
 use Rattle.daq_types.specs.declared.runs.StartOutcome.{StartOutcome}
@@ -26,7 +26,7 @@ use Rattle.session_runs.specs.declared.replies.RunReply.{RunReply}
 use Rattle.session_runs.specs.declared.replies.RunReply.TheVariants.{WrongState, LastStart, RunNumber, StartRefused, Started as run_started, Paused as run_paused, Resumed as run_resumed, Stopped as run_stopped}
 use Rattle.session_runs.specs.KeptRuns.{RunsSeen, IsInStep, behind_start, behind_stop, record_of, refused_start, with_calls}
 use Rattle.session_runs.specs.RunEntries.{AnnounceCalls, AnnouncesStop, BeginCalls, StopCalls, blank_reports, dump_saved, later_sheet, outcome_sets, start_sheet}
-use Rattle.session_runs.specs.RunAnswers.{AnnouncesRun, ClockTold, CommandPoint, CutsAnnouncing, ReadsClock, AnswersBegin, AnswersStart, AnswersStop, BeginsRun, CutsBegin, CutsStart, GotNumber, MakesStart, MakesStop, StopsUnsaved, point_of, run_by_start}
+use Rattle.session_runs.specs.RunAnswers.{AnnouncesRun, ClockTold, CommandPoint, CutsAnnouncing, ReadsClock, AnswersBegin, AnswersStart, AnswersStop, BeginsRun, CutsBegin, CutsStart, DrivesStop, GotNumber, MakesStart, MakesStop, StopsUnsaved, point_of, run_by_start}
 use Rattle.session_runs.proofs.Calls.{CallsAreEntries, begin_calls, stop_calls}
 use Rattle.session_runs.proofs.Steps.{stop_begins}
 
@@ -117,8 +117,12 @@ run_announced run time quota count saved dump blanks sheet before after a b read
 same_number : (start number : ℕ) (k : MainKnows) → begin_known k Stop ≡ Ok start → begin_known k Stop ≡ Ok number → start ≡ number
 same_number start number k is also = let both : Ok start ≡ Ok number = sym is ∙ also in cc (both)
 
-stop_is_none : Stop ≢ Start
+pub stop_is_none : Stop ≢ Start
 stop_is_none is = absurd (cc (is))
+
+-- the stop of the run that is on would begin
+pub on_begins : (r : CurrentRun) (on : Option CurrentRun) (own : List EngineEntry) → on ≡ Some r → IsInStep on (known_from own) → StandsFree own → begin_known (known_from own) Stop ≡ Ok r.start
+on_begins r on own is step between = stop_begins r (known_from own) between.open_yet between.none_going (subst (λ (o : Option CurrentRun). IsInStep o (known_from own)) is step)
 
 module _ {M : Type 0} (round : M → M → Type 0) where
   pub begins_run : CallsAreEntries → (run start : ℕ) (outcome ended : StartOutcome) (sheet : Sheet) (before after : ClockTold) (s later : RunsSeen)
@@ -172,33 +176,47 @@ module _ {M : Type 0} (round : M → M → Type 0) where
   start_cut (Ok reply) run before after old ready new begins got cut = tt
   start_cut (Err wanting) run before after old ready new begins got cut = record { begins = begins; cut = inr (run, ready, got, cut) }
 
-  pub stops_run : CallsAreEntries → (r : CurrentRun) (start time : ℕ) (outcome : StartOutcome) (state : RunState) (saved : Result (List ℕ) NoMemory) (sheet : Sheet) (tallies : List ClientTally) (before after : ClockTold)
-      (s later : RunsSeen) (a b c : DatabaseAccess) (members turned : M) → s.on ≡ Some r → IsInStep s.on (known_from s.main.own) → StandsFree s.main.own → state ≡ (known_from s.main.own).state
-      → begin_known (known_from s.main.own) Stop ≡ Ok start → ReadsClock before after time → ((entries : List WatchEntry) × AnnouncesStop state time saved entries × AddsEntries a b entries)
-      → SetsNumbers b c (state_set Stopped) → sheet ≡ later_sheet r time (dump_saved saved) → DrivesTransition round Stop sheet start outcome tallies s.main.own later.main.own members turned
-      → (Stop ≢ Start → outcome ≡ Completed) → later ≡ with_calls (behind_stop s r time tallies) later.main.own
-      → MakesStop round r saved before after (point_of s a members) (point_of later c turned)
-  stops_run are r start time outcome state saved sheet tallies before after s later a b c members turned on step between state_is begun reading announced sets sheet_is made completed kept =
-      let k : MainKnows = known_from s.main.own in
-      let begins : begin_known k Stop ≡ Ok r.start = stop_begins r k between.open_yet between.none_going (subst (λ (o : Option CurrentRun). IsInStep o k) on step) in
+  pub drives_stop : CallsAreEntries → (r : CurrentRun) (start time : ℕ) (outcome : StartOutcome) (state : RunState) (saved : Result (List ℕ) NoMemory) (lacking : Bool) (sheet : Sheet) (tallies : List ClientTally) (before after : ClockTold)
+      (own later : List EngineEntry) (a b c : DatabaseAccess) (members turned : M) → state ≡ (known_from own).state
+      → begin_known (known_from own) Stop ≡ Ok start → ReadsClock before after time → ((entries : List WatchEntry) × AnnouncesStop state time saved entries × AddsEntries a b entries)
+      → SetsNumbers b c (state_set Stopped) → sheet ≡ later_sheet r time (dump_saved saved) → DrivesTransition round Stop sheet start outcome tallies own later members turned
+      → outcome ≡ Completed → lacking ≡ is_err saved
+      → DrivesStop round r time lacking tallies before after own later a c members turned
+  drives_stop are r start time outcome state saved lacking sheet tallies before after own later a b c members turned state_is begun reading announced sets sheet_is made completed lacks =
+      let k : MainKnows = known_from own in
       let first : AnnouncesStop k.state time saved announced.0 = subst (λ (x : RunState). AnnouncesStop x time saved announced.0) state_is announced.1 in
       let whole : (entries : List WatchEntry) × StopCalls k.state time saved entries × AddsEntries a c entries = stop_calls are a b c k.state time saved announced.0 first announced.2 sets in
-      let by_sheet : DrivesTransition round Stop (later_sheet r time (dump_saved saved)) start outcome tallies s.main.own later.main.own members turned =
-      subst (λ (x : Sheet). DrivesTransition round Stop x start outcome tallies s.main.own later.main.own members turned) sheet_is made in
-      let by_number : DrivesTransition round Stop (later_sheet r time (dump_saved saved)) r.start outcome tallies s.main.own later.main.own members turned =
-      subst (λ (n : ℕ). DrivesTransition round Stop (later_sheet r time (dump_saved saved)) n outcome tallies s.main.own later.main.own members turned) (same_number start r.start k begun begins) by_sheet in
+      let by_sheet : DrivesTransition round Stop (later_sheet r time (dump_saved saved)) start outcome tallies own later members turned =
+      subst (λ (x : Sheet). DrivesTransition round Stop x start outcome tallies own later members turned) sheet_is made in
       record {
-        on = on;
-        begins = begins;
-        time = time;
+        saved = saved;
+        lacks = lacks;
+        start = start;
+        begins = begun;
         reading = reading;
         entries = whole.0;
         calls = whole.1;
         adds = whole.2;
-        tallies = tallies;
-        drives = subst (λ (o : StartOutcome). DrivesTransition round Stop (later_sheet r time (dump_saved saved)) r.start o tallies s.main.own later.main.own members turned) (completed stop_is_none) by_number;
-        kept = kept;
+        drives = subst (λ (o : StartOutcome). DrivesTransition round Stop (later_sheet r time (dump_saved saved)) start o tallies own later members turned) completed by_sheet;
       }
+
+  pub stops_run : (r : CurrentRun) (time : ℕ) (lacking : Bool) (tallies : List ClientTally) (before after : ClockTold) (s later : RunsSeen) (a c : DatabaseAccess) (members turned : M)
+      → (d : DrivesStop round r time lacking tallies before after s.main.own later.main.own a c members turned)
+      → s.on ≡ Some r → begin_known (known_from s.main.own) Stop ≡ Ok r.start → later ≡ with_calls (behind_stop s r time tallies) later.main.own
+      → MakesStop round r d.saved before after (point_of s a members) (point_of later c turned)
+  stops_run r time lacking tallies before after s later a c members turned d on begins kept = record {
+    on = on;
+    begins = begins;
+    time = time;
+    reading = d.reading;
+    entries = d.entries;
+    calls = d.calls;
+    adds = d.adds;
+    tallies = tallies;
+    drives = subst (λ (n : ℕ). DrivesTransition round Stop (later_sheet r time (dump_saved d.saved)) n Completed tallies s.main.own later.main.own members turned)
+        (same_number d.start r.start (known_from s.main.own) d.begins begins) d.drives;
+    kept = kept;
+  }
 
   -- the same, where the text was saved or not
   pub stop_unsaved : (r : CurrentRun) (saved : Result (List ℕ) NoMemory) (before after : ClockTold) (old new : CommandPoint M) → is_err saved ≡ true → MakesStop round r saved before after old new

@@ -1,5 +1,5 @@
 -- What the main thread's run commands do, by their replies.
-use Rattle.std.specs.Prelude.{◌≡◌, ◌⊎◌, ℕ, ◌+◌, ℤ, Bool, IsTrue, length, List, Some, None, Result, Ok, Err, IsOk}
+use Rattle.std.specs.Prelude.{◌≡◌, ◌⊎◌, ℕ, ◌+◌, ℤ, Bool, IsTrue, length, List, Some, None, Result, Ok, Err, is_err, IsOk}
 use Rattle.daq_types.specs.declared.memory.NoMemory.{NoMemory}
 use Rattle.daq_types.specs.declared.runs.StartOutcome.{StartOutcome}
 use Rattle.daq_types.specs.declared.runs.StartOutcome.TheVariants.{Completed, Refused}
@@ -14,6 +14,7 @@ use Rattle.odb_runinfo.specs.RunSets.{AreSets, GetsNumber, number_asked, state_s
 use Rattle.transitions.specs.declared.answers.ClientTally.{ClientTally}
 use Rattle.transitions.specs.declared.sheet.Sheet.{Sheet}
 use Rattle.transitions.specs.declared.replies.BeginRefusal.TheVariants.{WrongState as state_refused, LastStart as number_refused}
+use Rattle.transitions.specs.declared.entry.EngineEntry.{EngineEntry}
 use Rattle.session_engine.specs.MainKnowledge.{MainKnows, known_from, begin_known}
 use Rattle.session_engine.specs.MadeTransitions.{DrivesTransition}
 use Rattle.session_runs.specs.declared.on.CurrentRun.{CurrentRun}
@@ -138,6 +139,20 @@ module _ {M : Type 0} (round : M → M → Type 0) where
       (number ≡ run) × BeginsRun run Completed before after old new
   AnswersBegin run (StartRefused client why) before after old new = BeginsRun run (Refused client why) before after old new
   AnswersBegin run reply before after old new = ⊥
+
+  -- The calls of a stop of this run at this time, on the database, the clock and the engine, and whether there was no memory
+  -- for the text of the database.
+  pub record DrivesStop (r : CurrentRun) (time : ℕ) (lacking : Bool) (tallies : List ClientTally) (before after : ClockTold)
+      (own later : List EngineEntry) (old new : DatabaseAccess) (members turned : M) : Type 0 where
+    pub saved : Result (List ℕ) NoMemory
+    pub lacks : lacking ≡ is_err saved
+    pub start : ℕ
+    pub begins : begin_known (known_from own) Stop ≡ Ok start
+    pub reading : ReadsClock before after time
+    pub entries : List WatchEntry
+    pub calls : StopCalls (known_from own).state time saved entries
+    pub adds : AddsEntries old new entries
+    pub drives : DrivesTransition round Stop (later_sheet r time (dump_saved saved)) start Completed tallies own later members turned
 
   -- The stop of the run that is on. It is begun with the text of the database behind the first sets, if there was memory
   -- for it; the last set comes behind its end; and the record is kept of what the clients told then.

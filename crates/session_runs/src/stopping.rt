@@ -1,11 +1,14 @@
 // A stop of the run that is on.
-ghost use Rattle.std.specs.Prelude.{◌≡◌, ◌≤◌, List, length, IfOk, OnErr};
+ghost use Rattle.std.specs.Prelude.{◌≡◌, ◌≤◌, [], List, length, IsOk, IfOk, OnErr};
 ghost use Rattle.odb_ascii.specs.Dumps.{dump_limit};
 ghost use Rattle.odb_watch.specs.declared.entry.WatchEntry.{WatchEntry};
 ghost use Rattle.odb_port.specs.DatabasePorts.{AddsEntries};
+ghost use Rattle.daq_types.specs.declared.runs.StartOutcome.TheVariants.{Completed};
+ghost use Rattle.daq_types.specs.declared.runs.Transition.TheVariants.{Stop};
+ghost use Rattle.session_engine.specs.MainKnowledge.{known_from, begin_known, known_behind};
 ghost use Rattle.session_runs.specs.KeptRuns.{record_of};
 ghost use Rattle.session_runs.specs.RunEntries.{AnnouncesStop, dump_saved};
-ghost use Rattle.session_runs.specs.RunAnswers.{AnswersStop, StopsUnsaved, ReadsClock, clock_of, point_of};
+ghost use Rattle.session_runs.specs.RunAnswers.{AnswersStop, DrivesStop, StopsUnsaved, ReadsClock, clock_of, point_of};
 
 use crate::channels::RunChannel;
 use crate::making::sheet_for;
@@ -19,7 +22,7 @@ use odb_port::WatchPort;
 use odb_port::laws::{calls_add_up, entries_add_up};
 use odb_runinfo::KeyPaths;
 use run_records::RunRecord;
-use session_engine::Rounds;
+use session_engine::{MainSeat, Rounds};
 use std::alloc::Global;
 use std::sync::Wait;
 use transitions::Tallies;
@@ -57,6 +60,39 @@ fn dump_saved(saved: Result<Bytes, NoMemory>) -> Option<Bytes>
     }
 }
 
+/// The record of a run that was stopped at this time, in the room that was taken for it, with nothing yet of what the clients
+/// told.
+fn untold_record(ended: OpenRun, time: u32) -> RunRecord
+    ensures { result ≡ record {
+      run = ended.run.run;
+      start = ended.run.start;
+      time0 = ended.run.time;
+      time1 = time;
+      outcome = Completed;
+      fronts = [];
+      files = [];
+      reports = [];
+    } }
+{
+    let OpenRun { run, rooms } = ended;
+    let RunRooms {
+        fronts,
+        files,
+        reports,
+        ..
+    } = rooms;
+    RunRecord {
+        run: run.run,
+        start: run.start,
+        time0: run.time,
+        time1: time,
+        outcome: StartOutcome::Completed,
+        fronts,
+        files,
+        reports,
+    }
+}
+
 /// The record of a run that was stopped at this time, by what the clients told, in the room that was taken for it.
 fn record_of(
     ended: OpenRun,
@@ -71,26 +107,47 @@ fn record_of(
     requires analyzers { analyzers ≤ 8 }
     ensures { result ≡ record_of count channels.now analyzers ended.run time tallies.old }
 {
-    let OpenRun { run, rooms } = ended;
-    let RunRooms {
-        mut fronts,
-        mut files,
-        mut reports,
-        ..
-    } = rooms;
-    take_fronts(&mut fronts, count, tallies.as_slice());
-    take_files(&mut files, run.run, channels, count, tallies.as_slice());
-    take_reports(&mut reports, count + 1, analyzers, tallies);
-    RunRecord {
-        run: run.run,
-        start: run.start,
-        time0: run.time,
-        time1: time,
-        outcome: StartOutcome::Completed,
-        fronts,
-        files,
-        reports,
-    }
+    let run = ended.run.run;
+    let mut record = untold_record(ended, time);
+    take_fronts(&mut record.fronts, count, tallies.as_slice());
+    take_files(&mut record.files, run, channels, count, tallies.as_slice());
+    take_reports(&mut record.reports, count + 1, analyzers, tallies);
+    record
+}
+
+/// Makes the stop of this run: announces it in the database, and sets there that no run is on once the engine told its end.
+/// When it was, and whether there was no memory for the text of the database.
+fn make_stop<R: Wait, D: WatchPort, M: Rounds, C: Clock>(
+    rt: &R,
+    alloc: Global,
+    seat: &mut MainSeat<'_>,
+    tallies: &mut Tallies,
+    database: &mut D,
+    members: &mut M,
+    clock: &mut C,
+    on: &OpenRun,
+) -> (u32, bool)
+    requires begins { IsOk (begin_known (known_from seat.old.own) Stop) }
+    requires empty { tallies.old ≡ [] }
+    ensures drives { DrivesStop M.round on.now.run result.0 result.1 tallies.new
+        (clock_of (C.tells clock.old) (C.ahead clock.old))
+        (clock_of (C.tells clock.new) (C.ahead clock.new)) seat.old.own seat.new.own
+        (D.access database.old) (D.access database.new) members.old members.new }
+    ensures known { known_from seat.new.own
+        ≡ known_behind Stop Completed (known_from seat.old.own) }
+    ensures engine { seat.new.engine ≡ seat.old.engine }
+{
+    calls_add_up();
+    let state = seat.state();
+    let CurrentRun { run, quota, .. } = on.run;
+    let (time, saved) = announce_stop(rt, alloc, &on.rooms.paths, database, clock, state);
+    let lacking = saved.is_err();
+    let sheet = sheet_for(alloc, run, time, quota, dump_saved(saved));
+    let _ = seat.make(rt, Transition::Stop, sheet, tallies, members);
+    on.rooms
+        .paths
+        .set_state(rt, alloc, database, RunState::Stopped);
+    (time, lacking)
 }
 
 impl<'a> Runs<'a> {
@@ -115,21 +172,21 @@ impl<'a> Runs<'a> {
             (point_of self.old (D.access database.old) members.old)
             (point_of self.new (D.access database.new) members.new)) }
     {
-        calls_add_up();
         let state = self.seat.state();
         let Some(open) = self.on.take() else {
             return Ok(RunReply::WrongState { state });
         };
-        let CurrentRun { run, quota, .. } = open.run;
-        let (time, saved) = announce_stop(rt, alloc, &open.rooms.paths, database, clock, state);
-        let lacking = saved.is_err();
-        let sheet = sheet_for(alloc, run, time, quota, dump_saved(saved));
-        let _ = self
-            .seat
-            .make(rt, Transition::Stop, sheet, &mut self.tallies, members);
-        open.rooms
-            .paths
-            .set_state(rt, alloc, database, RunState::Stopped);
+        let run = open.run.run;
+        let (time, lacking) = make_stop(
+            rt,
+            alloc,
+            &mut self.seat,
+            &mut self.tallies,
+            database,
+            members,
+            clock,
+            &open,
+        );
         let count = self.fronts.len() as u32;
         let analyzers = self.analyzers.len() as u32;
         self.runs.push_reserved(record_of(
