@@ -3,6 +3,7 @@
 use Rattle.std.specs.Prelude.{◌≡◌, ◌≢◌, ℕ, Bool, true, false, IsTrue, List, [], ◌∷◌, length, slice_get, Option, Some, None, Result, Ok, Err}
 use Rattle.std.specs.Option.{unwrap_or}
 use Rattle.daq_types.specs.Callers.{main_caller}
+use Rattle.daq_types.specs.declared.memory.NoMemory.{NoMemory}
 use Rattle.odb_path.specs.declared.refusals.PathRefusal.{PathRefusal}
 use Rattle.odb_path.specs.PathText.{path_reply}
 use Rattle.odb_value.specs.declared.items.Item.{Item}
@@ -123,6 +124,11 @@ pub record CutsAnswer (a b : DatabaseAccess) (Does : List DatabaseEntry → Comm
   pub short : IsCutShort calls made
   pub rest : made ≡ calls → IsTrue (reply_takes_memory reply)
   pub adds : AddsCalls a b made
+
+-- what a command that does this came to: its reply, or memory ended before that
+abbrev pub EndsCommand : (a b : DatabaseAccess) → (Does : List DatabaseEntry → CommandReply → Type 0) → Result CommandReply NoMemory → Type 0
+EndsCommand a b Does (Ok reply) = Answers a b Does reply
+EndsCommand a b Does (Err wanting) = CutsAnswer a b Does
 
 -- whether the command is one of the database's
 abbrev pub calls_database : Command → Bool

@@ -4,7 +4,7 @@ ghost use Rattle.odb_path.specs.PathText.{path_reply};
 ghost use Rattle.odb_port.specs.DatabasePorts.{IsSamePort};
 ghost use Rattle.odb_tree.specs.declared.rows.NewKey.TheVariants.{Dir, Keys};
 ghost use Rattle.odb_commands.specs.Answers.{done_or, listed_or};
-ghost use Rattle.odb_commands.specs.CommandCalls.{Answers, AnswersIf, AtPath, calls_database, CreatesKey, CutsAnswer, Gets, GetsIn, Lists, Names, NamesFound, Performs, RemovesKey, Sets, SetsIn, SetsItem, Shows};
+ghost use Rattle.odb_commands.specs.CommandCalls.{Answers, AnswersIf, AtPath, calls_database, CreatesKey, CutsAnswer, EndsCommand, Gets, GetsIn, Lists, Names, NamesFound, Performs, RemovesKey, Sets, SetsIn, SetsItem, Shows};
 
 use crate::reading::{is_protected, item_for, one_of, read_path, settled};
 use crate::replies::{CommandRefusal, CommandReply};
@@ -422,10 +422,8 @@ fn answer<R: Wait, P: DatabasePort>(
 ) -> Option<Result<CommandReply, NoMemory>>
     requires main { (P.access port.old).caller ≡ main_caller }
     requires room { COMMAND_CALLS ≤ (P.access port.old).room }
-    ensures did { IfSome result (λ answer. IfOk answer (Answers (P.access port.old) (P.access port.new)
-        (Performs command.now))) }
-    ensures interrupted { IfSome result (λ answer. OnErr answer (CutsAnswer (P.access port.old)
-        (P.access port.new) (Performs command.now))) }
+    ensures ends { IfSome result (EndsCommand (P.access port.old) (P.access port.new)
+        (Performs command.now)) }
     ensures no_call { IfNone result (P.access port.new ≡ P.access port.old) }
     ensures other { IfNone result (IsFalse (calls_database command.now)) }
     ensures same { IsSamePort (P.access port.old) (P.access port.new) }
