@@ -1,6 +1,7 @@
 //! Worked rows of the engine, as tables of calls with what they answer.
+ghost use Rattle.std.specs.List.{AllByRecursion};
 ghost use Rattle.std.specs.Prelude.{IfOk};
-ghost use Rattle.transitions.specs.EngineHistories.{IsSheet};
+ghost use Rattle.transitions.specs.EngineHistories.{IsBlank, IsSheet};
 
 use daq_types::{Bytes, FrontEnded, Name, NoMemory, RunState, StartOutcome, Transition, Why};
 use event_report::Report;
@@ -13,7 +14,7 @@ use transitions::{
 };
 
 /// What a poll found; of a turn whether it has the dump and whether it has a blank report.
-#[derive(Clone, Copy, Debug, PartialEq, Eq)]
+#[derive(Clone, Copy, PartialEq, Eq)]
 enum Found {
     Turn(Transition, bool, bool),
     Idle(RunState),
@@ -25,41 +26,58 @@ enum Found {
 #[derive(Clone, Copy)]
 enum Call {
     Register(Result<u32, RegisterRefusal>),
+    /// So many clients, which get the numbers from 0 on.
+    RegisterMany(u32),
     Begin(Transition, Result<u32, BeginRefusal>),
     /// By a sheet without dump and blank reports.
     BeginBare(Transition, Result<u32, BeginRefusal>),
+    /// What is refused hands its sheet back.
+    BeginInVain(Transition),
     Poll(u32, Found),
     /// Whether the answer is accepted.
     Yes(u32, bool),
+    /// The client counts what it sent.
+    YesCounted(u32, bool),
     No(u32, bool),
+    /// What is refused hands the answer back.
+    NoInVain(u32),
+    /// Each client below this number finds this turn and answers Yes to it.
+    AllYes(u32, Found),
     /// And how many tallies move out.
     Check(Progress, usize),
+    /// And what the three tallies that move out tell at the first four places.
+    CheckThree(Progress, &'static [Option<(u32, bool)>; 4]),
     /// Whether the engine is closed.
     Close(bool),
 }
 
-use Call::{Begin, BeginBare, Check, Close, No, Poll, Register, Yes};
+use Call::*;
 use Transition::{Pause, Start, StartAbort, Stop};
 
 const DONE: Progress = Progress::Done {
     outcome: StartOutcome::Completed,
 };
 
-/// A sheet with a dump and two blank reports.
-fn new_sheet(alloc: Global) -> Result<Sheet, NoMemory>
-    ensures { IfOk result IsSheet }
+fn two_blanks(alloc: Global) -> Result<Reports, NoMemory>
+    ensures { IfOk result (AllByRecursion IsBlank) }
 {
     let mut reports = Vec::new(alloc);
     reports.push(Report::new(alloc)?)?;
     reports.push(Report::new(alloc)?)?;
-    let mut dump = Vec::new(alloc);
-    dump.push(7)?;
+    Ok(Reports::of(reports))
+}
+
+/// A sheet with a dump and two blank reports.
+fn new_sheet(alloc: Global) -> Result<Sheet, NoMemory>
+    ensures { IfOk result IsSheet }
+{
+    let dump = [7].to_vec(alloc)?;
     Ok(Sheet {
         run: 1,
         time: 1000,
         quota: 0,
         dump: Some(Bytes::of(dump)),
-        blanks: Reports::of(reports),
+        blanks: two_blanks(alloc)?,
     })
 }
 
@@ -77,7 +95,7 @@ fn bare_sheet(alloc: Global) -> Sheet
 }
 
 /// A client that is called by this number, and by that one for start-abort.
-fn add_client(
+fn register(
     engine: &mut Engine,
     sequence: u32,
     start_abort: u32,
@@ -96,6 +114,64 @@ fn add_client(
     engine.register(name, sequences, wants, wants)
 }
 
+/// Whether so many clients get the numbers from 0 on.
+fn are_registered(engine: &mut Engine, clients: u32) -> bool {
+    for number in 0..clients {
+        if register(engine, 500, 500, false) != Ok(number) {
+            return false;
+        }
+    }
+    true
+}
+
+fn begin(engine: &mut Engine, transition: Transition, sheet: Sheet) -> Result<u32, BeginRefusal>
+    requires { IsSheet sheet }
+{
+    match engine.begin(transition, sheet) {
+        Ok(start) => Ok(start),
+        Err((refusal, _)) => Err(refusal),
+    }
+}
+
+/// Whether this is the reply to a begin by a sheet with a dump and two blank reports.
+fn is_begun(
+    alloc: Global,
+    engine: &mut Engine,
+    transition: Transition,
+    reply: Result<u32, BeginRefusal>,
+) -> Result<bool, NoMemory> {
+    Ok(begin(engine, transition, new_sheet(alloc)?) == reply)
+}
+
+/// Takes the first blank report: how many there were, whether there was a second one, whether one was taken, and whether
+/// there is a second one then.
+fn take_blank(blanks: &mut Reports) -> (usize, bool, bool, bool) {
+    let len = blanks.len();
+    let before = blanks.get(1).is_some();
+    let is_taken = blanks.take_first().is_some();
+    (len, before, is_taken, blanks.get(1).is_some())
+}
+
+/// Whether this is the sheet with a dump and two blank reports.
+fn is_new_sheet(mut sheet: Sheet) -> bool {
+    let has_dump = sheet.dump.is_some();
+    let taken = take_blank(&mut sheet.blanks);
+    let left = sheet.blanks.into_vec().len();
+    has_dump && taken == (2, true, true, false) && left == 1
+}
+
+/// Whether the transition is refused, and its sheet is handed back.
+fn is_sheet_back(
+    alloc: Global,
+    engine: &mut Engine,
+    transition: Transition,
+) -> Result<bool, NoMemory> {
+    Ok(match engine.begin(transition, new_sheet(alloc)?) {
+        Ok(_) => false,
+        Err((_, back)) => is_new_sheet(back),
+    })
+}
+
 fn find_turn(polled: &Polled) -> Found {
     match polled {
         Polled::Turn {
@@ -110,39 +186,115 @@ fn find_turn(polled: &Polled) -> Found {
     }
 }
 
-fn begin(engine: &mut Engine, transition: Transition, sheet: Sheet) -> Result<u32, BeginRefusal>
-    requires { IsSheet sheet }
-{
-    match engine.begin(transition, sheet) {
-        Ok(start) => Ok(start),
-        Err((refusal, _)) => Err(refusal),
+fn poll(engine: &mut Engine, client: u32) -> Found {
+    find_turn(&engine.poll(client))
+}
+
+/// Whether the answer is accepted.
+fn is_accepted(engine: &mut Engine, client: u32, answer: Answer) -> bool {
+    engine.answer(client, answer).is_ok()
+}
+
+/// Whether a No is refused, and is handed back.
+fn is_no_back(engine: &mut Engine, client: u32) -> bool {
+    let answered = engine.answer(client, Answer::No(Why::NotReady));
+    matches!(answered, Err((_, Answer::No(Why::NotReady))))
+}
+
+/// Whether each client below this number finds this turn, and its Yes is accepted.
+fn do_all_agree(engine: &mut Engine, clients: u32, turn: Found) -> bool {
+    for client in 0..clients {
+        if poll(engine, client) != turn || !is_accepted(engine, client, Answer::Yes(Tally::Plain)) {
+            return false;
+        }
+    }
+    true
+}
+
+/// Whether this is the progress of the transition, and so many tallies move out.
+fn is_checked(
+    alloc: Global,
+    engine: &mut Engine,
+    progress: Progress,
+    count: usize,
+) -> Result<bool, NoMemory> {
+    let mut tallies = Tallies::new(alloc)?;
+    Ok(engine.check(&mut tallies) == progress && tallies.len() == count)
+}
+
+/// The client of the tally at this place, and whether it is a plain one.
+fn told_at(tallies: &Tallies, place: usize) -> Option<(u32, bool)> {
+    match tallies.get(place) {
+        None => None,
+        Some(told) => Some((told.client, matches!(told.tally, Tally::Plain))),
     }
 }
 
-fn check(alloc: Global, engine: &mut Engine) -> Result<(Progress, usize), NoMemory> {
+/// What the tallies tell at the first four places.
+fn all_told(tallies: &Tallies) -> [Option<(u32, bool)>; 4] {
+    [
+        told_at(tallies, 0),
+        told_at(tallies, 1),
+        told_at(tallies, 2),
+        told_at(tallies, 3),
+    ]
+}
+
+/// Whether three tallies tell this at the first four places, and two are left once one is taken.
+fn are_three(mut tallies: Tallies, told: &[Option<(u32, bool)>; 4]) -> bool {
+    let is_told = all_told(&tallies) == *told;
+    let len = tallies.as_slice().len();
+    let is_taken = tallies.pop().is_some();
+    is_told && len == 3 && is_taken && tallies.into_vec().len() == 2
+}
+
+/// Whether this is the progress of the transition, and three tallies move out that tell this.
+fn is_checked_by_three(
+    alloc: Global,
+    engine: &mut Engine,
+    progress: Progress,
+    told: &[Option<(u32, bool)>; 4],
+) -> Result<bool, NoMemory> {
     let mut tallies = Tallies::new(alloc)?;
-    let progress = engine.check(&mut tallies);
-    Ok((progress, tallies.len()))
+    let is_right = engine.check(&mut tallies) == progress;
+    Ok(are_three(tallies, told) && is_right)
+}
+
+/// What the client that counts what it sent answers.
+const COUNTED: Tally = Tally::Front {
+    sent: 7,
+    ended: FrontEnded::Quota,
+};
+
+/// Makes a call of a client, and answers whether it answered as it is to.
+fn is_right_for_client(engine: &mut Engine, call: Call) -> bool {
+    match call {
+        Poll(client, found) => poll(engine, client) == found,
+        Yes(client, accepted) => {
+            is_accepted(engine, client, Answer::Yes(Tally::Plain)) == accepted
+        }
+        YesCounted(client, accepted) => {
+            is_accepted(engine, client, Answer::Yes(COUNTED)) == accepted
+        }
+        No(client, accepted) => is_accepted(engine, client, Answer::No(Why::NotReady)) == accepted,
+        NoInVain(client) => is_no_back(engine, client),
+        AllYes(clients, turn) => do_all_agree(engine, clients, turn),
+        _ => false,
+    }
 }
 
 /// Makes a call, and answers whether it answered as it is to.
 fn is_right(alloc: Global, engine: &mut Engine, call: Call) -> Result<bool, NoMemory> {
     match call {
-        Register(reply) => Ok(add_client(engine, 500, 500, false) == reply),
-        Begin(transition, reply) => Ok(begin(engine, transition, new_sheet(alloc)?) == reply),
+        Register(reply) => Ok(register(engine, 500, 500, false) == reply),
+        RegisterMany(clients) => Ok(are_registered(engine, clients)),
+        Begin(transition, reply) => is_begun(alloc, engine, transition, reply),
         BeginBare(transition, reply) => Ok(begin(engine, transition, bare_sheet(alloc)) == reply),
-        Poll(client, found) => Ok(find_turn(&engine.poll(client)) == found),
-        Yes(client, accepted) => Ok(
-            engine.answer(client, Answer::Yes(Tally::Plain)).is_ok() == accepted,
-        ),
-        No(client, accepted) => Ok(
-            engine.answer(client, Answer::No(Why::NotReady)).is_ok() == accepted,
-        ),
-        Check(progress, count) => {
-            let (told, moved) = check(alloc, engine)?;
-            Ok(told == progress && moved == count)
-        }
+        BeginInVain(transition) => is_sheet_back(alloc, engine, transition),
+        Check(progress, count) => is_checked(alloc, engine, progress, count),
+        CheckThree(progress, told) => is_checked_by_three(alloc, engine, progress, told),
         Close(closed) => Ok(engine.close().is_ok() == closed),
+        call => Ok(is_right_for_client(engine, call)),
     }
 }
 
@@ -170,35 +322,22 @@ const TWO: &[Client] = &[(500, 500, true), (600, 600, true)];
 /// Two clients that want neither, and one that wants both, is called first, and last for start-abort.
 const THREE: &[Client] = &[(500, 500, false), (500, 500, false), (200, 800, true)];
 
-/// An engine with these clients.
-fn new_engine(rt: &impl Abort, alloc: Global, clients: &[Client]) -> Result<Engine, Fail> {
-    let mut engine = Engine::new(alloc)?;
+fn register_all(rt: &impl Abort, engine: &mut Engine, clients: &[Client]) {
     for (sequence, start_abort, wants) in clients {
-        assert!(rt; add_client(&mut engine, *sequence, *start_abort, *wants).is_ok());
+        assert!(rt; register(engine, *sequence, *start_abort, *wants).is_ok());
     }
-    Ok(engine)
-}
-
-/// The client of the tally at this place, and whether it is a plain one.
-fn told_at(tallies: &Tallies, place: usize) -> Option<(u32, bool)> {
-    match tallies.get(place) {
-        None => None,
-        Some(told) => Some((told.client, matches!(told.tally, Tally::Plain))),
-    }
-}
-
-/// What the tallies tell at the first four places.
-fn all_told(tallies: &Tallies) -> [Option<(u32, bool)>; 4] {
-    [
-        told_at(tallies, 0),
-        told_at(tallies, 1),
-        told_at(tallies, 2),
-        told_at(tallies, 3),
-    ]
 }
 
 /// What a lock guards crosses threads.
 fn is_sent<T: Send + Drop>(_value: &T) {}
+
+/// Makes the calls on an engine that has these clients.
+fn play(rt: &impl Abort, alloc: Global, clients: &[Client], calls: &[Call]) -> Result<(), Fail> {
+    let mut engine = Engine::new(alloc)?;
+    is_sent(&engine);
+    register_all(rt, &mut engine, clients);
+    make_calls(rt, alloc, &mut engine, calls)
+}
 
 const BY_SEQUENCE: &[Call] = &[
     Poll(9, Found::NoClient),
@@ -288,54 +427,15 @@ const DUMP_GIVEN_ONCE: &[Call] = &[
     Check(DONE, 2),
 ];
 
-/// Clients, and calls on an engine that has them.
-const ROWS: &[(&[Client], &[Call])] = &[
-    (THREE, BY_SEQUENCE),
-    (&[], WITHOUT_CLIENTS),
-    (THREE, START_REFUSED),
-    (ONE, STOP_NOT_REFUSED),
-    (TWO, DUMP_GIVEN_ONCE),
-];
-
-#[test]
-fn calls_and_answers(rt: HostRuntime) -> Result<(), Fail> {
-    for (clients, calls) in ROWS {
-        let mut engine = new_engine(&rt, rt.alloc(), clients)?;
-        make_calls(&rt, rt.alloc(), &mut engine, calls)?;
-    }
-    Ok(())
-}
-
-/// Each client below this number finds this turn and answers Yes to it.
-fn each_agrees(
-    rt: &impl Abort,
-    alloc: Global,
-    engine: &mut Engine,
-    clients: u32,
-    turn: Found,
-) -> Result<(), Fail> {
-    for client in 0..clients {
-        make_calls(rt, alloc, engine, &[Poll(client, turn), Yes(client, true)])?;
-    }
-    Ok(())
-}
-
-/// Registers as many clients as an engine takes.
-fn register_most(rt: &impl Abort, engine: &mut Engine) {
-    for number in 0..64u32 {
-        assert_eq!(rt; add_client(engine, 500, 500, false), Ok(number));
-    }
-}
-
-const BEGUN: &[Call] = &[
+const MOST_CLIENTS_AND_TALLIES: &[Call] = &[
+    RegisterMany(64),
     Register(Err(RegisterRefusal::NoSlot)),
     Poll(63, Found::Idle(RunState::Stopped)),
     Begin(Start, Ok(1)),
-];
-
-const LAST_REFUSES: &[Call] = &[Poll(63, Found::Turn(Start, false, false)), No(63, true)];
-
-const MOST_TALLIES: &[Call] = &[
+    AllYes(63, Found::Turn(Start, false, false)),
+    Poll(63, Found::Turn(Start, false, false)),
+    No(63, true),
+    AllYes(64, Found::Turn(StartAbort, false, false)),
     Check(
         Progress::Done {
             outcome: StartOutcome::Refused {
@@ -348,24 +448,8 @@ const MOST_TALLIES: &[Call] = &[
     Check(Progress::None, 0),
 ];
 
-/// Begins a start that the last of 64 clients refuses, and calls it off.
-fn refuse_last(rt: &impl Abort, alloc: Global, engine: &mut Engine) -> Result<(), Fail> {
-    make_calls(rt, alloc, engine, BEGUN)?;
-    each_agrees(rt, alloc, engine, 63, Found::Turn(Start, false, false))?;
-    make_calls(rt, alloc, engine, LAST_REFUSES)?;
-    each_agrees(rt, alloc, engine, 64, Found::Turn(StartAbort, false, false))?;
-    make_calls(rt, alloc, engine, MOST_TALLIES)
-}
-
-#[test]
-fn most_clients_and_tallies(rt: HostRuntime) -> Result<(), Fail> {
-    let mut engine = Engine::new(rt.alloc())?;
-    register_most(&rt, &mut engine);
-    refuse_last(&rt, rt.alloc(), &mut engine)
-}
-
-/// Calls of a run whose stop is answered by its clients.
-const RUN: &[Call] = &[
+/// Calls of a run whose stop is answered by its clients. The first one counts what it sent, and another one says No.
+const TALLIES_BY_ANSWER: &[Call] = &[
     Begin(Start, Ok(1)),
     Poll(2, Found::Turn(Start, true, true)),
     Yes(2, true),
@@ -376,79 +460,35 @@ const RUN: &[Call] = &[
     Check(DONE, 3),
     Begin(Stop, Ok(1)),
     Poll(2, Found::Turn(Stop, true, false)),
-];
-
-/// The other two answer to the stop, one of them No.
-const STOPPED: &[Call] = &[
+    YesCounted(2, true),
     Poll(0, Found::Turn(Stop, false, false)),
     No(0, true),
     Poll(1, Found::Turn(Stop, false, false)),
     Yes(1, true),
+    CheckThree(
+        DONE,
+        &[Some((2, false)), Some((0, true)), Some((1, true)), None],
+    ),
 ];
 
-/// Makes the calls of the run, where the first client that is stopped counts what it sent.
-fn stop_run(rt: &impl Abort, alloc: Global, engine: &mut Engine) -> Result<(), Fail> {
-    make_calls(rt, alloc, engine, RUN)?;
-    let counted = Tally::Front {
-        sent: 7,
-        ended: FrontEnded::Quota,
-    };
-    assert!(rt; engine.answer(2, Answer::Yes(counted)).is_ok());
-    make_calls(rt, alloc, engine, STOPPED)
-}
+const HANDED_BACK: &[Call] = &[NoInVain(0), BeginInVain(Pause)];
 
-/// The tallies that move out at the end of the run.
-fn tallies_of_run(rt: &impl Abort, alloc: Global) -> Result<Tallies, Fail> {
-    let mut engine = new_engine(rt, alloc, THREE)?;
-    stop_run(rt, alloc, &mut engine)?;
-    let mut tallies = Tallies::new(alloc)?;
-    assert!(rt; engine.check(&mut tallies) == DONE);
-    Ok(tallies)
-}
+/// Clients, and calls on an engine that has them.
+const ROWS: &[(&[Client], &[Call])] = &[
+    (THREE, BY_SEQUENCE),
+    (&[], WITHOUT_CLIENTS),
+    (THREE, START_REFUSED),
+    (ONE, STOP_NOT_REFUSED),
+    (TWO, DUMP_GIVEN_ONCE),
+    (&[], MOST_CLIENTS_AND_TALLIES),
+    (THREE, TALLIES_BY_ANSWER),
+    (&[], HANDED_BACK),
+];
 
 #[test]
-fn tallies_by_answer(rt: HostRuntime) -> Result<(), Fail> {
-    let mut tallies = tallies_of_run(&rt, rt.alloc())?;
-    assert!(rt; all_told(&tallies) == [Some((2, false)), Some((0, true)), Some((1, true)), None]);
-    assert_eq!(rt; tallies.as_slice().len(), 3);
-    assert!(rt; tallies.pop().is_some());
-    assert_eq!(rt; tallies.into_vec().len(), 2);
-    Ok(())
-}
-
-/// Takes the first blank report: how many there were, whether there was a second one, whether one was taken, and whether
-/// there is a second one then.
-fn take_blank(blanks: &mut Reports) -> (usize, bool, bool, bool) {
-    let len = blanks.len();
-    let before = blanks.get(1).is_some();
-    let is_taken = blanks.take_first().is_some();
-    (len, before, is_taken, blanks.get(1).is_some())
-}
-
-/// The sheet of a pause that is refused.
-fn refused_sheet(alloc: Global) -> Result<Sheet, Fail> {
-    let mut engine = Engine::new(alloc)?;
-    match engine.begin(Pause, new_sheet(alloc)?) {
-        Ok(_) => Err(Fail::from("the engine was stopped")),
-        Err((_, sheet)) => Ok(sheet),
+fn calls_and_answers(rt: HostRuntime) -> Result<(), Fail> {
+    for (clients, calls) in ROWS {
+        play(&rt, rt.alloc(), clients, calls)?;
     }
-}
-
-#[test]
-fn a_sheet_is_handed_back(rt: HostRuntime) -> Result<(), Fail> {
-    let sheet = refused_sheet(rt.alloc())?;
-    assert!(rt; sheet.dump.is_some());
-    let mut blanks = sheet.blanks;
-    assert!(rt; take_blank(&mut blanks) == (2, true, true, false));
-    assert_eq!(rt; blanks.into_vec().len(), 1);
-    Ok(())
-}
-
-#[test]
-fn an_answer_is_handed_back(rt: HostRuntime) -> Result<(), Fail> {
-    let mut engine = Engine::new(rt.alloc())?;
-    is_sent(&engine);
-    let answered = engine.answer(0, Answer::No(Why::NotReady));
-    assert!(rt; matches!(answered, Err((_, Answer::No(Why::NotReady)))));
     Ok(())
 }
