@@ -357,7 +357,7 @@ const NO_FORM_OF_A_SESSION: &[(&str, u32)] = &[
 /// Looks at the places at which these lines are refused.
 fn look_at_places(rt: &impl Abort, rows: &[(&str, u32)]) {
     for (line, place) in rows {
-        assert_eq!(rt; refused_at(line.as_bytes()), Some(*place), "{line}");
+        assert!(rt; refused_at(line.as_bytes()) == Some(*place), "{line}");
     }
 }
 
@@ -377,7 +377,7 @@ fn lines_at_the_limit(rt: HostRuntime) -> Result<(), Fail> {
         (b'x', 4096, Some(0)),
     ] {
         let line = vec![in rt.alloc(); *byte; *len]?;
-        assert_eq!(rt; refused_at(line.as_slice()), *place, "{len} bytes {byte}");
+        assert!(rt; refused_at(line.as_slice()) == *place, "{len} bytes {byte}");
     }
     Ok(())
 }

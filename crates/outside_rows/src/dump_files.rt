@@ -39,17 +39,36 @@ fn write_and_read<E: Files>(
     Ok((reply, reads(alloc, files, FileReply::Done, b"[/A]\n\n")?))
 }
 
+/// Whether no file is there, and then what two writings answer.
+fn read_and_write_twice<E: Files>(
+    alloc: Global,
+    files: &mut E,
+) -> Result<(bool, (FileReply, bool), (FileReply, bool)), NoMemory> {
+    let found = reads(alloc, files, FileReply::Clash, b"")?;
+    let written = write_and_read(alloc, files, b"[/A]\n\n")?;
+    let again = write_and_read(alloc, files, b"x")?;
+    Ok((found, written, again))
+}
+
 #[test]
 fn written_and_read_back(rt: HostRuntime) -> Result<(), Fail> {
     let alloc = rt.alloc();
     let mut files = MemFiles::new(alloc, 2, 1000, Vec::new(alloc))?;
-    let found = reads(alloc, &mut files, FileReply::Clash, b"")?;
-    let written = write_and_read(alloc, &mut files, b"[/A]\n\n")?;
-    let again = write_and_read(alloc, &mut files, b"x")?;
+    let (found, written, again) = read_and_write_twice(alloc, &mut files)?;
     assert!(rt; found, "no file is there");
     assert!(rt; (written, again) == ((FileReply::Done, true), (FileReply::Clash, true)));
     assert!(rt; files.is_closed(&dump_name()));
     Ok(())
+}
+
+/// What the writing of a file and its reading answer.
+fn written_and_read<E: Files + Drop>(
+    alloc: Global,
+    mut files: E,
+) -> Result<(FileReply, FileReply), NoMemory> {
+    let written = write_file(&mut files, &dump_name(), b"text");
+    let read = read_file(alloc, &mut files, &dump_name())?;
+    Ok((written, read.reply()))
 }
 
 #[test]
@@ -63,10 +82,8 @@ fn each_call_fails_once(rt: HostRuntime) -> Result<(), Fail> {
         (FileOp::Read, FileReply::Done, FileReply::Fault),
     ] {
         let fails = vec![in alloc; FileFail { op: *op, call: 0 }]?;
-        let mut files = MemFiles::new(alloc, 2, 1000, fails)?;
-        let reply = write_file(&mut files, &dump_name(), b"text");
-        let got = read_file(alloc, &mut files, &dump_name())?.reply();
-        assert!(rt; (reply, got) == (*written, *read), "{op:?}");
+        let answers = written_and_read(alloc, MemFiles::new(alloc, 2, 1000, fails)?)?;
+        assert!(rt; answers == (*written, *read), "{op:?}");
     }
     Ok(())
 }

@@ -6,7 +6,7 @@ use std::io::{Empty, Error, ErrorKind, Read, Seek, SeekFrom, Write};
 use std::rt::Files;
 
 /// The step that fails.
-#[derive(Clone, Copy, Debug, Drop)]
+#[derive(Clone, Copy, Drop)]
 pub enum FailingStep {
     /// Nothing fails.
     Nothing,

@@ -1,7 +1,7 @@
 //! Calls on any of the objects of the outside.
 ghost use Rattle.std.specs.Prelude.{IsTrue};
 
-use daq_io::{Clock, Failed, Files, NameRefused, Pick, Sink, Source, write_all};
+use daq_io::{Clock, Failed, FileSource, Files, NameRefused, Pick, Sink, Source, write_all};
 use daq_types::FileName;
 
 /// Makes a file of these bytes, reads it back into `into`, and answers how many bytes came.
@@ -20,36 +20,48 @@ pub fn write_and_read<F: Files>(
     Ok(count)
 }
 
-/// What a file's creation, opening and removal answer, in this order.
-pub fn made_opened_and_removed<F: Files>(
-    files: &mut F,
+/// Makes a file of five bytes and reads it back, and answers whether the bytes came.
+pub fn is_written_and_read<F: Files>(files: &mut F, name: &FileName) -> bool {
+    let mut into = [0; 8];
+    let count = write_and_read(files, name, b"MIDAS", &mut into);
+    count == Ok(5) && into == *b"MIDAS\0\0\0"
+}
+
+/// What a file's creation, opening and removal answer, in this order, and the first fault behind them.
+pub fn made_opened_and_removed<F: Files + Drop>(
+    mut files: F,
     name: &FileName,
 ) -> (
     Result<u32, NameRefused>,
     Result<u32, NameRefused>,
     Result<(), Failed>,
+    Option<FileName>,
 ) {
     (
         files.create(name),
         files.open_read(name),
         files.remove(name),
+        files.first_fault(),
     )
 }
 
-/// Makes a file that is there, removes it, opens it and removes it once more. Answers the making, both removals, and the
-/// opening.
-pub fn made_again_and_removed_twice<F: Files>(
-    files: &mut F,
-    name: &FileName,
-) -> (
-    Result<u32, NameRefused>,
-    [Result<(), Failed>; 2],
-    Result<u32, NameRefused>,
-) {
+/// Makes a file that is there, removes it, opens it and removes it once more. Answers whether a clash of names is told, and
+/// no fault.
+pub fn is_there_and_removed<F: Files>(files: &mut F, name: &FileName) -> bool {
     let made = files.create(name);
     let removed = files.remove(name);
     let opened = files.open_read(name);
-    (made, [removed, files.remove(name)], opened)
+    let again = files.remove(name);
+    made == Err(NameRefused::Exists)
+        && (removed, again) == (Ok(()), Ok(()))
+        && opened == Err(NameRefused::Missing)
+        && files.first_fault().is_none()
+}
+
+/// Opens a file that is not there, and removes it. Answers whether it is missing, and the removal does nothing.
+pub fn is_missing<F: Files>(files: &mut F, name: &FileName) -> bool {
+    let opened = files.open_read(name);
+    (opened, files.remove(name)) == (Err(NameRefused::Missing), Ok(()))
 }
 
 /// Opens a file, and answers what one reading and the closing do.
@@ -73,18 +85,34 @@ fn is_appended<F: Files>(files: &mut F, file: u32, bytes: &[u8]) -> bool
     }
 }
 
-/// Makes a file, appends twice to it and closes it, and answers whether it took the bytes each time, and was closed well.
-pub fn append_twice_and_close<F: Files>(
-    files: &mut F,
+/// Makes a file, appends twice to it and closes it, and answers whether it took the bytes each time, and was closed well;
+/// and the first fault behind that.
+pub fn append_twice_and_close<F: Files + Drop>(
+    mut files: F,
     name: &FileName,
     first: &[u8],
     second: &[u8],
-) -> Result<[bool; 3], NameRefused> {
+) -> Result<([bool; 3], Option<FileName>), NameRefused> {
     let number = files.create(name)?;
-    let is_first_taken = is_appended(files, number, first);
-    let is_second_taken = is_appended(files, number, second);
+    let is_first_taken = is_appended(&mut files, number, first);
+    let is_second_taken = is_appended(&mut files, number, second);
     let is_closed_well = files.close(number).is_ok();
-    Ok([is_first_taken, is_second_taken, is_closed_well])
+    let all = [is_first_taken, is_second_taken, is_closed_well];
+    Ok((all, files.first_fault()))
+}
+
+/// Reads a file of five bytes as a source, and answers what two readings do, the bytes of the first, and whether the file
+/// was closed well.
+pub fn read_as_source<F: Files + Drop>(
+    mut files: F,
+    name: &FileName,
+) -> Result<([Result<usize, Failed>; 2], [u8; 8], bool), NameRefused> {
+    let number = files.open_read(name)?;
+    let mut source = FileSource::new(files, number);
+    let mut into = [0; 8];
+    let counts = [source.read(&mut into), source.read(&mut [0; 8])];
+    let number = source.file();
+    Ok((counts, into, source.into_files().close(number).is_ok()))
 }
 
 /// Copies the source to the sink, in pieces of three bytes, and answers how many bytes that were.
@@ -102,11 +130,16 @@ pub fn copy<S: Source, K: Sink>(source: &mut S, sink: &mut K) -> Result<u64, Fai
     Ok(copied)
 }
 
-pub fn next_three<C: Clock>(clock: &mut C) -> [u32; 3] {
+/// Copies all of a source.
+pub fn copy_all<S: Source + Drop, K: Sink>(mut source: S, sink: &mut K) -> Result<u64, Failed> {
+    copy(&mut source, sink)
+}
+
+pub fn next_three<C: Clock + Drop>(mut clock: C) -> [u32; 3] {
     [clock.now(), clock.now(), clock.now()]
 }
 
-pub fn first_three<P: Pick>(pick: &mut P, members: u32) -> [u32; 3] {
+pub fn first_three<P: Pick + Drop>(mut pick: P, members: u32) -> [u32; 3] {
     if members == 0 {
         return [0; 3];
     }

@@ -8,21 +8,40 @@ use mid_format::{Ahead, BlockSource, MidFault, MidReader, begin_record, end_reco
 use std::alloc::{AllocError, Global};
 use std::test::Fail;
 
+/// The begin record of a run: its header, and 173 bytes.
+const BEGIN: [&[u8]; 2] = [
+    &[
+        0, 0x80, 0x4D, 0x49, 1, 0, 0, 0, 0xE8, 3, 0, 0, 0xAD, 0, 0, 0,
+    ],
+    &[b'x'; 173],
+];
+
+/// An event with 24 bytes.
+const EVENT: &[u8] = &[
+    1, 0, 0, 0, 1, 0, 0, 0, 0xE8, 3, 0, 0, 0x18, 0, 0, 0, 0x10, 0, 0, 0, 1, 0, 0, 0, 0x47, 0x45,
+    0x4E, 0x30, 6, 0, 4, 0, 0xAC, 0x6F, 0x57, 0x6C, 0, 0, 0, 0,
+];
+
+/// The end record: its header, and 176 bytes.
+const END: [&[u8]; 2] = [
+    &[
+        1, 0x80, 0x4D, 0x49, 1, 0, 0, 0, 0xF2, 3, 0, 0, 0xB0, 0, 0, 0,
+    ],
+    &[b'x'; 176],
+];
+
+/// A file of these parts.
+fn file_of(alloc: Global, parts: &[&[u8]]) -> Result<Vec<u8>, AllocError> {
+    let mut file = Vec::new(alloc);
+    for part in parts {
+        file.extend_from_slice(part)?;
+    }
+    Ok(file)
+}
+
 /// The file of a run of one event: a record with 173 bytes, an event with 24 bytes, and a record with 176 bytes.
 fn one_event(alloc: Global) -> Result<Vec<u8>, AllocError> {
-    let mut file = [
-        0, 0x80, 0x4D, 0x49, 1, 0, 0, 0, 0xE8, 3, 0, 0, 0xAD, 0, 0, 0,
-    ]
-    .to_vec(alloc)?;
-    file.resize(189, b'x')?;
-    file.extend_from_slice(&[1, 0, 0, 0, 1, 0, 0, 0, 0xE8, 3, 0, 0, 0x18, 0, 0, 0])?;
-    file.extend_from_slice(&[0x10, 0, 0, 0, 1, 0, 0, 0, 0x47, 0x45, 0x4E, 0x30])?;
-    file.extend_from_slice(&[6, 0, 4, 0, 0xAC, 0x6F, 0x57, 0x6C, 0, 0, 0, 0])?;
-    file.extend_from_slice(&[
-        1, 0x80, 0x4D, 0x49, 1, 0, 0, 0, 0xF2, 3, 0, 0, 0xB0, 0, 0, 0,
-    ])?;
-    file.resize(421, b'x')?;
-    Ok(file)
+    file_of(alloc, &[BEGIN[0], BEGIN[1], EVENT, END[0], END[1]])
 }
 
 /// A source of these bytes, one at a time. It tells nothing.
@@ -47,17 +66,17 @@ impl Source for SingleBytes<'_> {
     }
 }
 
-/// The first two answers of a reader.
-fn read_two<S: Source>(
-    reader: &mut MidReader<S>,
-    into: &mut EventBuf,
-) -> [Result<Option<()>, MidFault>; 2]
-    requires { 4194304 ≤ into.old.room }
-    ensures { into.new.room ≡ into.old.room }
+/// The first two answers of a reader of this source, and the number of the run behind them.
+fn read_two<S: Source + Drop>(
+    source: S,
+    mut into: EventBuf,
+) -> ([Result<Option<()>, MidFault>; 2], Option<u32>)
+    requires { 4194304 ≤ into.room }
 {
-    let first = reader.next(into);
-    let second = reader.next(into);
-    [first, second]
+    let mut reader = MidReader::new(source);
+    let first = reader.next(&mut into);
+    let second = reader.next(&mut into);
+    ([first, second], reader.run())
 }
 
 /// What becomes of the first bytes of a file, behind whose end one more byte lies.
@@ -74,9 +93,9 @@ fn cut(len: usize) -> Result<Option<()>, MidFault> {
 
 /// What a reader answers to these bytes.
 fn answers_to(alloc: Global, bytes: &[u8]) -> Result<[Result<Option<()>, MidFault>; 2], Fail> {
-    let mut into = EventBuf::new(alloc, 4_194_304)?;
-    let mut reader = MidReader::new(MemSource::new(bytes.to_vec(alloc)?, Vec::new(alloc)));
-    Ok(read_two(&mut reader, &mut into))
+    let source = MemSource::new(bytes.to_vec(alloc)?, Vec::new(alloc));
+    let (answers, _) = read_two(source, EventBuf::new(alloc, 4_194_304)?);
+    Ok(answers)
 }
 
 /// The file with these four bytes at a place.
@@ -96,13 +115,13 @@ fn every_cut_of_a_file(rt: HostRuntime) -> Result<(), Fail> {
         let (front, _) = file.as_slice().split_at(file.as_slice().len().min(len));
         let answers = answers_to(rt.alloc(), front)?;
         let first = if len < 229 { cut(len) } else { Ok(Some(())) };
-        assert_eq!(rt; answers, [first, cut(len)], "{len} bytes");
+        assert!(rt; answers == [first, cut(len)], "{len} bytes");
     }
     Ok(())
 }
 
 /// Places of the file, other bytes there, and the fault that this is.
-const WRONG_FIELDS: [(usize, [u8; 4], MidFault); 6] = [
+const WRONG_FIELDS: &[(usize, [u8; 4], MidFault)] = &[
     (0, [1, 0x80, 0x4D, 0x49], MidFault::NoBegin { at: 0 }),
     (0, [0, 0x80, 0x4D, 0x48], MidFault::NoBegin { at: 0 }),
     (
@@ -120,10 +139,10 @@ const WRONG_FIELDS: [(usize, [u8; 4], MidFault); 6] = [
 
 #[test]
 fn files_with_one_wrong_field(rt: HostRuntime) -> Result<(), Fail> {
-    for (place, bytes, fault) in &WRONG_FIELDS {
+    for (place, bytes, fault) in WRONG_FIELDS {
         let file = with_bytes(rt.alloc(), *place, *bytes)?;
         let [_, second] = answers_to(rt.alloc(), file.as_slice())?;
-        assert_eq!(rt; second, Err(*fault), "at {place}");
+        assert!(rt; second == Err(*fault), "at {place}");
     }
     Ok(())
 }
@@ -135,18 +154,24 @@ fn records<S: Source>(reader: &MidReader<S>) -> Records {
     (reader.run(), reader.begin(), reader.last())
 }
 
-/// The records before the first event, behind it and at the end of a file of one event, and what the two readings answer.
+/// The records before the first event, behind it and at the end of a file of one event; what the two readings answer; and
+/// the length and the number of the event that is left.
 fn read_through<S: Source>(
     reader: &mut MidReader<S>,
     into: &mut EventBuf,
-) -> ([Records; 3], [Result<Option<()>, MidFault>; 2])
+) -> (
+    [Records; 3],
+    [Result<Option<()>, MidFault>; 2],
+    (usize, u32),
+)
     requires { 4194304 ≤ into.old.room }
 {
     let before = records(reader);
     let first = reader.next(into);
     let between = records(reader);
     let second = reader.next(into);
-    ([before, between, records(reader)], [first, second])
+    let event = (into.bytes().len(), into.header().serial_number);
+    ([before, between, records(reader)], [first, second], event)
 }
 
 #[test]
@@ -156,7 +181,7 @@ fn a_source_in_single_bytes(rt: HostRuntime) -> Result<(), Fail> {
     let mut reader = MidReader::new(SingleBytes {
         rest: file.as_slice(),
     });
-    let (records, answers) = read_through(&mut reader, &mut into);
+    let (records, answers, event) = read_through(&mut reader, &mut into);
     let begin = Some(begin_record(1, 1000, 173));
     let end = Some(end_record(1, 1010, 176));
     assert!(rt;
@@ -168,7 +193,7 @@ fn a_source_in_single_bytes(rt: HostRuntime) -> Result<(), Fail> {
             ]
     );
     assert!(rt; answers == [Ok(Some(())), Ok(None)]);
-    assert!(rt; (into.bytes().len(), into.header().serial_number) == (40, 1));
+    assert!(rt; event == (40, 1));
     assert!(rt; reader.into_source().read(&mut [0; 8]) == Ok(0));
     Ok(())
 }
@@ -176,25 +201,20 @@ fn a_source_in_single_bytes(rt: HostRuntime) -> Result<(), Fail> {
 #[test]
 fn a_source_that_fails_in_an_event(rt: HostRuntime) -> Result<(), Fail> {
     let alloc = rt.alloc();
-    let mut into = EventBuf::new(alloc, 4_194_304)?;
-    let source = MemSource::new(one_event(alloc)?, vec![in alloc; 3]?);
-    let mut reader = MidReader::new(source);
+    let fails = vec![in alloc; 3]?;
+    let source = MemSource::new(one_event(alloc)?, fails);
+    let answers = read_two(source, EventBuf::new(alloc, 4_194_304)?);
     let failed = Err(MidFault::ReadFault);
-    let answers = read_two(&mut reader, &mut into);
-    assert!(rt; (answers, reader.run()) == ([failed, failed], Some(1)));
+    assert!(rt; answers == ([failed, failed], Some(1)));
     Ok(())
 }
 
 /// The file with its event three times.
 fn three_events(alloc: Global) -> Result<Vec<u8>, AllocError> {
-    let one = one_event(alloc)?;
-    let (front, end) = one.as_slice().split_at(one.as_slice().len().min(229));
-    let (_, event) = front.split_at(front.len().min(189));
-    let mut file = front.to_vec(alloc)?;
-    file.extend_from_slice(event)?;
-    file.extend_from_slice(event)?;
-    file.extend_from_slice(end)?;
-    Ok(file)
+    file_of(
+        alloc,
+        &[BEGIN[0], BEGIN[1], EVENT, EVENT, EVENT, END[0], END[1]],
+    )
 }
 
 /// A block of so many bytes, and one at least.
@@ -226,11 +246,11 @@ fn read_on<S: Ahead>(
     }
 }
 
+/// Two answers of a reader, and its place behind them.
+type Answers = ([Result<Option<u32>, MidFault>; 2], u64);
+
 /// The next two answers of a reader, and its place behind them.
-fn read_two_on<S: Ahead>(
-    reader: &mut MidReader<S>,
-    into: &mut EventBuf,
-) -> ([Result<Option<u32>, MidFault>; 2], u64)
+fn read_two_on<S: Ahead>(reader: &mut MidReader<S>, into: &mut EventBuf) -> Answers
     requires { 4194304 ≤ into.old.room }
     ensures { into.new.room ≡ into.old.room }
 {
@@ -238,15 +258,23 @@ fn read_two_on<S: Ahead>(
     (answers, reader.place())
 }
 
+/// The first two answers of a reader of this source, and the next two.
+fn read_four<S: Ahead + Drop>(source: S, mut into: EventBuf) -> (Answers, Answers)
+    requires { 4194304 ≤ into.room }
+{
+    let mut reader = MidReader::new(source);
+    let front = read_two_on(&mut reader, &mut into);
+    (front, read_two_on(&mut reader, &mut into))
+}
+
 #[test]
 fn events_at_hand(rt: HostRuntime) -> Result<(), Fail> {
     let alloc = rt.alloc();
     for len in &[1, 39, 80, 229, 255] {
-        let mut into = EventBuf::new(alloc, 4_194_304)?;
+        let block = block_of(alloc, *len)?;
         let file = MemSource::new(three_events(alloc)?, Vec::new(alloc));
-        let mut reader = MidReader::new(BlockSource::new(file, block_of(alloc, *len)?));
-        let front = read_two_on(&mut reader, &mut into);
-        let end = read_two_on(&mut reader, &mut into);
+        let source = BlockSource::new(file, block);
+        let (front, end) = read_four(source, EventBuf::new(alloc, 4_194_304)?);
         assert!(rt; front == ([Ok(Some(24)), Ok(Some(24))], 269), "{len}");
         assert!(rt; end == ([Ok(Some(24)), Ok(None)], 501), "{len}");
     }
