@@ -116,7 +116,7 @@ fn check_lines<R: Wait + Abort, P: WatchPort>(
         text.clear();
         let row = (place as u64 + 1, line);
         perform(rt, alloc, port, files, row, &mut text)?;
-        assert_eq!(rt; text.as_slice(), shown.as_bytes(), "{line}");
+        assert!(rt; text.as_slice() == shown.as_bytes(), "{line}");
     }
     Ok(())
 }
@@ -150,7 +150,7 @@ struct Row {
     left: Option<File>,
 }
 
-const ROWS: [Row; 6] = [
+const ROWS: &[Row] = &[
     Row {
         given: None,
         lines: &[
@@ -217,19 +217,30 @@ const ROWS: [Row; 6] = [
 ];
 
 /// Lines over files of which the first append fails.
-const FAILING: [(&str, &str); 3] = [
+const FAILING: &[(&str, &str)] = &[
     ("save a.odb", "refused 1: FileFault\n"),
     ("save a.odb", "refused 2: Exists\n"),
     ("load a.odb", "loaded 0 skipped 0\n"),
 ];
 
-/// Files in memory, with this one, if any.
-fn files_with(alloc: Global, given: Option<File>) -> Result<MemFiles, Fail> {
-    let mut files = MemFiles::new(alloc, 4, 100_000, Vec::new(alloc))?;
-    if let Some((name, text)) = given {
-        files.add(FileName::new(name)?, text.as_bytes().to_vec(alloc)?)?;
+/// Files in memory, of which these calls fail.
+fn new_files(alloc: Global, fails: Vec<FileFail>) -> Result<MemFiles, NoMemory> {
+    MemFiles::new(alloc, 4, 100_000, fails)
+}
+
+/// Adds a file of this name and text.
+fn add_file(alloc: Global, files: &mut MemFiles, (name, text): File) -> Result<(), Fail> {
+    let name = FileName::new(name)?;
+    files.add(name, text.as_bytes().to_vec(alloc)?)?;
+    Ok(())
+}
+
+/// Whether there is a file of this name and text.
+fn is_there(files: &MemFiles, (name, text): File) -> bool {
+    match FileName::new(name) {
+        Ok(name) => files.find(&name) == Some(text.as_bytes()),
+        Err(_) => false,
     }
-    Ok(files)
 }
 
 /// What these lines print in a new session over these files.
@@ -246,16 +257,30 @@ fn check_session<R: Wait + Abort>(
     check_shared(rt, alloc, &shared, main, files, rows)
 }
 
+/// Goes through a session over these files.
+fn check_row<R: Wait + Abort>(
+    rt: &R,
+    alloc: Global,
+    files: &mut MemFiles,
+    row: &Row,
+) -> Result<(), Fail> {
+    if let Some(given) = row.given {
+        add_file(alloc, files, given)?;
+    }
+    assert!(rt; row.lines.len() <= 1000);
+    check_session(rt, alloc, files, row.lines)?;
+    if let Some(left) = row.left {
+        assert!(rt; is_there(files, left), "{}", left.0);
+    }
+    Ok(())
+}
+
 #[test]
 fn sessions_of_lines(rt: HostRuntime) -> Result<(), Fail> {
-    for row in &ROWS {
-        let mut files = files_with(rt.alloc(), row.given)?;
-        assert!(rt; row.lines.len() <= 1000);
-        check_session(&rt, rt.alloc(), &mut files, row.lines)?;
-        if let Some((name, text)) = row.left {
-            let found = files.find(&FileName::new(name)?);
-            assert_eq!(rt; found, Some(text.as_bytes()), "{name}");
-        }
+    let alloc = rt.alloc();
+    for row in ROWS {
+        let mut files = new_files(alloc, Vec::new(alloc))?;
+        check_row(&rt, alloc, &mut files, row)?;
     }
     Ok(())
 }
@@ -263,14 +288,9 @@ fn sessions_of_lines(rt: HostRuntime) -> Result<(), Fail> {
 #[test]
 fn file_that_fails(rt: HostRuntime) -> Result<(), Fail> {
     let alloc = rt.alloc();
-    let fails = vec![in alloc;
-        FileFail {
-            op: FileOp::Append,
-            call: 0
-        },
-    ]?;
-    let mut files = MemFiles::new(alloc, 4, 100_000, fails)?;
-    check_session(&rt, alloc, &mut files, &FAILING)
+    let op = FileOp::Append;
+    let mut files = new_files(alloc, vec![in alloc; FileFail { op, call: 0 }]?)?;
+    check_session(&rt, alloc, &mut files, FAILING)
 }
 
 /// Sets an item so often as the main thread, and then reads the watch of its directory twice.
@@ -314,19 +334,37 @@ fn set_and_read_shared<R: Wait, D: Database>(
     set_and_read(rt, alloc, &mut port, files, times)
 }
 
-#[test]
-fn more_notes_than_are_kept(rt: HostRuntime) -> Result<(), Fail> {
-    let alloc = rt.alloc();
-    let mut files = MemFiles::new(alloc, 4, 100_000, Vec::new(alloc))?;
+/// The same in a new session.
+fn notes_of_session<R: Wait>(
+    rt: &R,
+    alloc: Global,
+    files: &mut MemFiles,
+    times: u32,
+) -> Result<TextBuffer, Fail>
+    requires few { times ≤ 1000 }
+{
     let (shared, mut passes) = new_session(alloc)?;
     let main = main_pass(&shared, &mut passes);
-    let text = set_and_read_shared(&rt, alloc, &shared, main, &mut files, 257)?;
+    let text = set_and_read_shared(rt, alloc, &shared, main, files, times)?;
+    Ok(text)
+}
+
+/// What the main thread reads of an item that was set once more than notes are kept.
+fn most_notes(alloc: Global) -> Result<TextBuffer, NoMemory> {
     let mut wanted = TextBuffer::new(alloc);
     wanted.text(b"watch 0\n")?;
     for _ in 0..256 {
         wanted.text(b"/A/x[0]\n")?;
     }
     wanted.text(b"lost 1\nlost 0\n")?;
-    assert_eq!(rt; text.as_slice(), wanted.as_slice());
+    Ok(wanted)
+}
+
+#[test]
+fn more_notes_than_are_kept(rt: HostRuntime) -> Result<(), Fail> {
+    let alloc = rt.alloc();
+    let mut files = new_files(alloc, Vec::new(alloc))?;
+    let text = notes_of_session(&rt, alloc, &mut files, 257)?;
+    assert!(rt; text.as_slice() == most_notes(alloc)?.as_slice());
     Ok(())
 }
