@@ -1,9 +1,15 @@
 //! Bank areas that are written and read.
 use bank_format::{Bank, BankFault, BankRefusal, BankWriter, Banks, Format, MAX_AREA};
-use std::process::Abort;
-use std::test::Fail;
+use daq_types::NoMemory;
+use std::alloc::Global;
 
 const BODY: [u8; 6] = [1, 0, 2, 0, 3, 0];
+
+const BANK: Bank<'static> = Bank {
+    name: *b"ADC0",
+    tid: 4,
+    body: &BODY,
+};
 
 const AREA_16: [u8; 24] = [
     0x10, 0, 0, 0, 0x01, 0, 0, 0, 0x41, 0x44, 0x43, 0x30, 4, 0, 6, 0, 1, 0, 2, 0, 3, 0, 0, 0,
@@ -14,48 +20,52 @@ const AREA_32A: [u8; 32] = [
     2, 0, 3, 0, 0, 0,
 ];
 
-/// The area of one bank in each of two formats.
+/// The area of the bank in each of two formats.
 const AREAS: &[(Format, &[u8])] = &[(Format::Bank16, &AREA_16), (Format::Bank32A, &AREA_32A)];
 
-/// Writes the bank, which makes this area, and takes it out again.
-fn write_and_clear(rt: &impl Abort, writer: &mut BankWriter, area: &[u8]) {
-    assert_eq!(rt; writer.add(*b"ADC0", 4, &BODY), Ok(()));
-    assert_eq!(rt; writer.finish(), area);
+/// Whether the writer makes this area of the bank, and one without banks when it is cleared.
+fn makes_and_clears(writer: &mut BankWriter, area: &[u8]) -> bool {
+    let is_added = writer.add(*b"ADC0", 4, &BODY).is_ok();
+    let is_made = writer.finish() == area;
     writer.clear();
-    assert_eq!(rt; writer.finish().len(), 8);
+    is_added && is_made && writer.finish().len() == 8
+}
+
+/// Whether a new writer of this format does so.
+fn writes(alloc: Global, format: Format, area: &[u8]) -> Result<bool, NoMemory> {
+    let mut writer = BankWriter::new(alloc, format, MAX_AREA)?;
+    Ok(makes_and_clears(&mut writer, area))
 }
 
 #[test]
-fn writes_one_bank(rt: HostRuntime) -> Result<(), Fail> {
+fn writes_one_bank(rt: HostRuntime) {
     for (format, area) in AREAS {
-        let mut writer = BankWriter::new(rt.alloc(), *format, MAX_AREA)?;
-        write_and_clear(&rt, &mut writer, area);
+        let is_written = writes(rt.alloc(), *format, area);
+        assert!(rt; matches!(is_written, Ok(true)), "{format:?}");
     }
-    Ok(())
 }
 
-/// What a writer answers to a bank too many, one of a type that does not fit, and one whose data are too long as well.
-fn refusals(writer: &mut BankWriter, long: &[u8]) -> [Result<(), BankRefusal>; 3] {
-    [
-        writer.add(*b"ADC0", 4, &BODY),
-        writer.add(*b"ADC0", 65_536, &BODY),
-        writer.add(*b"ADC0", 65_536, long),
-    ]
+/// Whether the writer has no room for a bank, and refuses one whose type does not fit before that, and one whose data are
+/// too long before both.
+fn refuses(writer: &mut BankWriter, long: &[u8]) -> bool {
+    let no_room = writer.add(*b"ADC0", 4, &BODY);
+    let bad_tid = writer.add(*b"ADC0", 65_536, &BODY);
+    let too_long = writer.add(*b"ADC0", 65_536, long);
+    no_room == Err(BankRefusal::NoRoom { need: 24 })
+        && bad_tid == Err(BankRefusal::BadTid { tid: 65_536 })
+        && too_long == Err(BankRefusal::TooLong { len: 65_536 })
+}
+
+/// Whether a small writer does so.
+fn small_refuses(alloc: Global) -> Result<bool, NoMemory> {
+    let long = vec![in alloc; 0; 65_536]?;
+    let mut writer = BankWriter::new(alloc, Format::Bank16, 16)?;
+    Ok(refuses(&mut writer, &long))
 }
 
 #[test]
-fn refuses_banks(rt: HostRuntime) -> Result<(), Fail> {
-    let long = vec![in rt.alloc(); 0; 65_536]?;
-    let mut writer = BankWriter::new(rt.alloc(), Format::Bank16, 16)?;
-    assert!(rt;
-        refusals(&mut writer, &long)
-            == [
-                Err(BankRefusal::NoRoom { need: 24 }),
-                Err(BankRefusal::BadTid { tid: 65_536 }),
-                Err(BankRefusal::TooLong { len: 65_536 }),
-            ]
-    );
-    Ok(())
+fn refuses_banks(rt: HostRuntime) {
+    assert!(rt; matches!(small_refuses(rt.alloc()), Ok(true)));
 }
 
 /// Bytes that are no area of banks, and the first fault of each.
@@ -74,39 +84,31 @@ const FAULTS: &[(&[u8], BankFault)] = &[
 #[test]
 fn names_the_first_fault(rt: HostRuntime) {
     for (bytes, fault) in FAULTS {
-        assert_eq!(rt; Banks::read(bytes).err(), Some(*fault));
+        assert!(rt; Banks::read(bytes).err() == Some(*fault), "{fault:?}");
     }
 }
 
-/// The first two banks that are read, and those of the names ADC0 and ADC1.
-fn banks_of<'a>(banks: &mut Banks<'a>) -> [Option<Bank<'a>>; 4] {
-    [
-        banks.next(),
-        banks.next(),
-        banks.find(*b"ADC0"),
-        banks.find(*b"ADC1"),
-    ]
-}
+/// Areas, and the bank that each has, if any.
+const READ: &[(&[u8], Option<Bank<'static>>)] = &[
+    (&AREA_16, Some(BANK)),
+    (&AREA_32A, Some(BANK)),
+    (b"\0\0\0\0\x01\0\0\0", None),
+];
 
-#[test]
-fn reads_banks(rt: HostRuntime) -> Result<(), Fail> {
-    let bank = Bank {
-        name: *b"ADC0",
-        tid: 4,
-        body: &BODY,
+/// Whether the area has this bank alone, which is then found by its name.
+fn has_alone(area: &[u8], bank: Option<Bank<'_>>) -> bool {
+    let Ok(mut banks) = Banks::read(area) else {
+        return false;
     };
-    for (_, area) in AREAS {
-        let mut banks = Banks::read(area).ok().ok_or("the bytes are a bank area")?;
-        assert!(rt; banks_of(&mut banks) == [Some(bank), None, Some(bank), None]);
-    }
-    Ok(())
+    banks.next() == bank
+        && banks.next().is_none()
+        && banks.find(*b"ADC0") == bank
+        && banks.find(*b"ADC1").is_none()
 }
 
 #[test]
-fn reads_an_area_without_banks(rt: HostRuntime) -> Result<(), Fail> {
-    let mut none = Banks::read(b"\0\0\0\0\x01\0\0\0")
-        .ok()
-        .ok_or("no bank is an area too")?;
-    assert_eq!(rt; none.next(), None);
-    Ok(())
+fn reads_banks(rt: HostRuntime) {
+    for (area, bank) in READ {
+        assert!(rt; has_alone(area, *bank), "{area:?}");
+    }
 }

@@ -1,10 +1,9 @@
 //! What errors say to a user.
 use bank_format::{BankFault, BankRefusal};
 use odb_path::PathRefusal;
-use std::alloc::Global;
+use std::alloc::{AllocError, Global};
 use std::fmt::Display;
 use std::process::Abort;
-use std::test::Fail;
 
 const FAULTS_OF_BANKS: &[(BankFault, &str)] = &[
     (
@@ -50,18 +49,22 @@ const REFUSALS_OF_PATHS: &[(PathRefusal, &str)] = &[
     (PathRefusal::NoMemory, "there was no memory for the path"),
 ];
 
+/// Whether the error says this.
+fn says<E: Display>(alloc: Global, error: &E, text: &str) -> Result<bool, AllocError> {
+    let said = format!(in alloc; "{error}")?;
+    Ok(said.as_str() == text)
+}
+
 /// Looks at what each of these errors says.
-fn say<E: Display>(rt: &impl Abort, alloc: Global, errors: &[(E, &str)]) -> Result<(), Fail> {
+fn look_at_all<E: Display>(rt: &impl Abort, alloc: Global, errors: &[(E, &str)]) {
     for (error, text) in errors {
-        let said = format!(in alloc; "{error}")?;
-        assert_eq!(rt; said.as_str(), *text);
+        assert!(rt; matches!(says(alloc, error, text), Ok(true)), "{text}");
     }
-    Ok(())
 }
 
 #[test]
-fn errors_of_banks_and_paths(rt: HostRuntime) -> Result<(), Fail> {
-    say(&rt, rt.alloc(), FAULTS_OF_BANKS)?;
-    say(&rt, rt.alloc(), REFUSALS_OF_BANKS)?;
-    say(&rt, rt.alloc(), REFUSALS_OF_PATHS)
+fn errors_of_banks_and_paths(rt: HostRuntime) {
+    look_at_all(&rt, rt.alloc(), FAULTS_OF_BANKS);
+    look_at_all(&rt, rt.alloc(), REFUSALS_OF_BANKS);
+    look_at_all(&rt, rt.alloc(), REFUSALS_OF_PATHS);
 }

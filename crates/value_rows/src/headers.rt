@@ -1,6 +1,7 @@
 //! Headers, and events in a buffer of one.
+use daq_types::NoMemory;
 use event_header::{EventBuf, Header, Short, TooSmall, read_header, slot_len, write_header};
-use std::test::Fail;
+use std::alloc::Global;
 
 const HEADER: Header = Header {
     event_id: 1,
@@ -16,9 +17,9 @@ const BYTES: [u8; 16] = [1, 0, 0, 0, 1, 0, 0, 0, 0, 0, 0, 0, 8, 0, 0, 0];
 fn writes_and_reads_a_header(rt: HostRuntime) {
     let mut bytes = [0; 16];
     write_header(&HEADER, &mut bytes);
-    assert_eq!(rt; bytes, BYTES);
-    assert_eq!(rt; read_header(&BYTES), Ok(HEADER));
-    assert_eq!(rt; read_header(&BYTES[..15]), Err(Short { have: 15 }));
+    assert!(rt; bytes == BYTES);
+    assert!(rt; read_header(&BYTES) == Ok(HEADER));
+    assert!(rt; read_header(&BYTES[..15]) == Err(Short { have: 15 }));
 }
 
 /// Lengths of data, and those of the slots that their events take.
@@ -27,7 +28,7 @@ const SLOTS: &[(u32, u32)] = &[(0, 24), (8, 32), (72, 96), (232, 256), (233, 264
 #[test]
 fn rounds_slots_up(rt: HostRuntime) {
     for (size, slot) in SLOTS {
-        assert_eq!(rt; slot_len(*size), *slot, "of {size}");
+        assert!(rt; slot_len(*size) == *slot, "of {size}");
     }
 }
 
@@ -38,25 +39,29 @@ const EVENT: &[u8] = &[
 
 const DATA: &[u8] = &[9; 8];
 
-#[test]
-fn holds_an_event(rt: HostRuntime) -> Result<(), Fail> {
-    let mut buf = EventBuf::new(rt.alloc(), 8)?;
-    let filled = buf.fill(&HEADER, DATA);
-    assert!(rt; (filled, buf.header(), buf.body(), buf.bytes()) == (Ok(()), HEADER, DATA, EVENT));
-    Ok(())
+/// Whether the buffer, which has room for the event, holds it.
+fn holds_it(buf: &mut EventBuf) -> bool {
+    let is_filled = buf.fill(&HEADER, DATA).is_ok();
+    is_filled && buf.header() == HEADER && buf.body() == DATA && buf.bytes() == EVENT
 }
 
-#[test]
-fn keeps_its_event_where_one_is_too_long(rt: HostRuntime) -> Result<(), Fail> {
-    let mut buf = EventBuf::new(rt.alloc(), 8)?;
-    let filled = buf.fill(&HEADER, DATA);
+/// Whether the buffer refuses an event that is longer by one byte, and holds its data still.
+fn refuses_longer(buf: &mut EventBuf) -> bool {
     let longer = Header {
         data_size: 9,
         ..HEADER
     };
     let refused = buf.fill(&longer, &[7; 9]);
-    assert!(rt;
-        (filled, refused, buf.body(), buf.room()) == (Ok(()), Err(TooSmall { room: 8 }), DATA, 8)
-    );
-    Ok(())
+    refused == Err(TooSmall { room: 8 }) && buf.body() == DATA && buf.room() == 8
+}
+
+/// Whether a new buffer does both.
+fn holds_and_refuses(alloc: Global) -> Result<bool, NoMemory> {
+    let mut buf = EventBuf::new(alloc, 8)?;
+    Ok(holds_it(&mut buf) && refuses_longer(&mut buf))
+}
+
+#[test]
+fn holds_an_event_and_keeps_it_where_one_is_too_long(rt: HostRuntime) {
+    assert!(rt; matches!(holds_and_refuses(rt.alloc()), Ok(true)));
 }

@@ -8,9 +8,7 @@ use daq_types::{NoMemory, Tid};
 use odb_value::{
     CharByte, Item, ItemRefusal, Items, TextBytes, Value, parse_item, print_item, print_key,
 };
-use std::alloc::Global;
-use std::process::Abort;
-use std::test::Fail;
+use std::alloc::{AllocError, Global};
 
 /// Texts that are items of a type, and how each is printed.
 const ITEMS: &[(Tid, &[u8], &[u8])] = &[
@@ -109,76 +107,96 @@ const REFUSED: &[(Tid, &[u8], ItemRefusal)] = &[
     (Tid::Link, b"1", ItemRefusal::NotKept { tid: Tid::Link }),
 ];
 
-/// The type of the item that the text is when read as this type, and how that item is printed again.
-fn printed(alloc: Global, tid: Tid, text: &[u8]) -> Result<(Tid, TextBuffer), ItemRefusal> {
-    let item = parse_item(alloc, tid, text)?;
+/// Whether the item is printed so.
+fn prints(alloc: Global, item: &Item, wanted: &[u8]) -> Result<bool, NoMemory> {
     let mut out = TextBuffer::new(alloc);
-    print_item(&item, &mut out)?;
-    Ok((item.tid(), out))
+    print_item(item, &mut out)?;
+    Ok(out.as_slice() == wanted)
+}
+
+/// Whether the text, when read as this type, is an item of it, and printed so again.
+fn is_printed(alloc: Global, tid: Tid, text: &[u8], wanted: &[u8]) -> Result<bool, ItemRefusal> {
+    let item = parse_item(alloc, tid, text)?;
+    Ok(item.tid() == tid && prints(alloc, &item, wanted)?)
 }
 
 #[test]
-fn texts_that_are_items(rt: HostRuntime) -> Result<(), Fail> {
+fn texts_that_are_items(rt: HostRuntime) {
     for (tid, text, wanted) in ITEMS {
-        let (found, out) = printed(rt.alloc(), *tid, text).ok().ok_or("an item")?;
-        assert!(rt;
-            (found, out.as_slice()) == (*tid, *wanted),
-            "{tid:?} {text:?}"
-        );
+        let is_right = is_printed(rt.alloc(), *tid, text, wanted);
+        assert!(rt; matches!(is_right, Ok(true)), "{tid:?} {text:?}");
     }
-    Ok(())
+}
+
+/// Whether the text is no item of this type, for this reason.
+fn is_refused(alloc: Global, tid: Tid, text: &[u8], why: ItemRefusal) -> bool {
+    parse_item(alloc, tid, text).err() == Some(why)
 }
 
 #[test]
 fn texts_that_are_no_items(rt: HostRuntime) {
     for (tid, text, refusal) in REFUSED {
-        let found = parse_item(rt.alloc(), *tid, text).err();
-        assert_eq!(rt; found, Some(*refusal), "{tid:?} {text:?}");
+        let is_right = is_refused(rt.alloc(), *tid, text, *refusal);
+        assert!(rt; is_right, "{tid:?} {text:?}");
     }
 }
 
-/// Why a text of 1023 bytes a with these behind them is none.
-fn refused(alloc: Global, end: &[u8]) -> Result<Option<ItemRefusal>, Fail> {
+/// What stands behind 1023 bytes a, and why the text is none, if it is none.
+const LONG: &[(&[u8], Option<ItemRefusal>)] = &[
+    (b"", None),
+    (b"b", Some(ItemRefusal::OutOfRange)),
+    (b"b\0", Some(ItemRefusal::BadText { at: 1024 })),
+];
+
+/// A text of 1023 bytes a with these behind them.
+fn long_text(alloc: Global, end: &[u8]) -> Result<Vec<u8>, AllocError> {
     let mut text = vec![in alloc; b'a'; 1023]?;
     text.extend_from_slice(end)?;
-    Ok(parse_item(alloc, Tid::Text, text.as_slice()).err())
+    Ok(text)
+}
+
+/// Whether that is printed as it is, or is none for this reason.
+fn is_long(alloc: Global, end: &[u8], refusal: Option<ItemRefusal>) -> Result<bool, NoMemory> {
+    let text = long_text(alloc, end)?;
+    Ok(match refusal {
+        None => is_printed(alloc, Tid::Text, &text, &text) == Ok(true),
+        Some(why) => is_refused(alloc, Tid::Text, &text, why),
+    })
 }
 
 #[test]
-fn the_longest_text(rt: HostRuntime) -> Result<(), Fail> {
-    let text = vec![in rt.alloc(); b'a'; 1023]?;
-    let (_, out) = printed(rt.alloc(), Tid::Text, text.as_slice())
-        .ok()
-        .ok_or("an item")?;
-    assert!(rt; out.as_slice() == text.as_slice());
-    Ok(())
+fn the_longest_text_and_longer_ones(rt: HostRuntime) {
+    for (end, refusal) in LONG {
+        let is_right = is_long(rt.alloc(), end, *refusal);
+        assert!(rt; matches!(is_right, Ok(true)), "{end:?}");
+    }
+}
+
+/// Whether the value has this type, this size and so many items.
+fn has(value: &Value, tid: Tid, size: u32, len: usize) -> bool {
+    value.tid() == tid && value.size() == size && value.items().len() == len
+}
+
+/// Whether a new value of two texts has them, and their size.
+fn is_new(alloc: Global) -> Result<bool, NoMemory> {
+    let value = Value::new(alloc, Tid::Text, 2)?;
+    Ok(has(&value, Tid::Text, 32, 2))
 }
 
 #[test]
-fn texts_that_are_too_long(rt: HostRuntime) -> Result<(), Fail> {
-    assert_eq!(rt; refused(rt.alloc(), b"b")?, Some(ItemRefusal::OutOfRange));
-    assert_eq!(rt;
-        refused(rt.alloc(), b"b\0")?,
-        Some(ItemRefusal::BadText { at: 1024 })
-    );
-    Ok(())
-}
-
-#[test]
-fn new_values(rt: HostRuntime) -> Result<(), Fail> {
-    let value = Value::new(rt.alloc(), Tid::Text, 2)?;
-    assert!(rt; (value.tid(), value.size(), value.items().len()) == (Tid::Text, 32, 2));
-    Ok(())
+fn new_values(rt: HostRuntime) {
+    assert!(rt; matches!(is_new(rt.alloc()), Ok(true)));
 }
 
 /// A value of two texts, the second of which has 40 bytes.
-fn long_value(rt: &(impl Abort + AllocGlobal)) -> Result<Value, Fail> {
-    let text = vec![in rt.alloc(); b'x'; 40]?;
-    assert!(rt; TextBytes::bad_place(text.as_slice()).is_none());
-    let mut value = Value::new(rt.alloc(), Tid::Text, 2)?;
+fn long_value(alloc: Global) -> Result<Option<Value>, NoMemory> {
+    let text = vec![in alloc; b'x'; 40]?;
+    if TextBytes::bad_place(text.as_slice()).is_some() {
+        return Ok(None);
+    }
+    let mut value = Value::new(alloc, Tid::Text, 2)?;
     value.put(1, Item::Text(TextBytes::of(text)));
-    assert_eq!(rt; value.size(), 41);
-    Ok(value)
+    Ok(Some(value))
 }
 
 /// A copy of the value with three items, where one is left of its own.
@@ -194,30 +212,40 @@ fn count_items(value: Value) -> usize {
     value.into_items().into_vec().len()
 }
 
-#[test]
-fn values_of_keys(rt: HostRuntime) -> Result<(), Fail> {
-    let mut value = long_value(&rt)?;
-    let copy = copy_of_three(rt.alloc(), &mut value)?;
-    assert!(rt; (copy.size(), value.items().len(), count_items(copy)) == (41, 1, 3));
-    Ok(())
+/// Whether that long value has the size of its text, and so has its copy.
+fn is_copied(alloc: Global) -> Result<bool, NoMemory> {
+    let Some(mut value) = long_value(alloc)? else {
+        return Ok(false);
+    };
+    let is_long = has(&value, Tid::Text, 41, 2);
+    let copy = copy_of_three(alloc, &mut value)?;
+    let is_copy = has(&value, Tid::Text, 41, 1) && has(&copy, Tid::Text, 41, 3);
+    Ok(is_long && is_copy && count_items(copy) == 3)
 }
 
 #[test]
-fn bytes_of_chars(rt: HostRuntime) -> Result<(), Fail> {
+fn values_of_keys(rt: HostRuntime) {
+    assert!(rt; matches!(is_copied(rt.alloc()), Ok(true)));
+}
+
+#[test]
+fn bytes_of_chars(rt: HostRuntime) {
     assert!(rt; CharByte::new(b'\t').is_none());
-    let byte = CharByte::new(b'q').ok_or("a byte")?;
-    assert_eq!(rt; byte.get(), b'q');
-    Ok(())
+    assert!(rt; matches!(CharByte::new(b'q'), Some(byte) if byte.get() == b'q'));
+}
+
+/// Whether a list of two items has both.
+fn has_both(alloc: Global) -> Result<bool, AllocError> {
+    let mut list = Vec::new(alloc);
+    list.push(Item::Char(CharByte::none()))?;
+    list.push(Item::Text(TextBytes::empty(alloc)))?;
+    let items = Items::of(list);
+    Ok(items.len() == 2 && items.as_slice().len() == 2)
 }
 
 #[test]
-fn lists_of_items(rt: HostRuntime) -> Result<(), Fail> {
-    let mut list = Vec::new(rt.alloc());
-    list.push(Item::Char(CharByte::none()))?;
-    list.push(Item::Text(TextBytes::empty(rt.alloc())))?;
-    let items = Items::of(list);
-    assert!(rt; (items.len(), items.as_slice().len()) == (2, 2));
-    Ok(())
+fn lists_of_items(rt: HostRuntime) {
+    assert!(rt; matches!(has_both(rt.alloc()), Ok(true)));
 }
 
 /// Prints a new key of this type, with so many items, behind the text.
@@ -239,11 +267,15 @@ fn print_new(
 /// The text of two new keys.
 const DUMPED: &[u8] = b"Enabled = BOOL : n\nChannels = UINT16[2] :\n[0] 0\n[1] 0\n";
 
+/// Whether two new keys are printed so.
+fn is_dumped(alloc: Global) -> Result<bool, NoMemory> {
+    let mut text = TextBuffer::new(alloc);
+    print_new(alloc, &mut text, b"Enabled", Tid::Bool, 1)?;
+    print_new(alloc, &mut text, b"Channels", Tid::UInt16, 2)?;
+    Ok(text.as_slice() == DUMPED)
+}
+
 #[test]
-fn keys_as_in_a_dump(rt: HostRuntime) -> Result<(), Fail> {
-    let mut text = TextBuffer::new(rt.alloc());
-    print_new(rt.alloc(), &mut text, b"Enabled", Tid::Bool, 1)?;
-    print_new(rt.alloc(), &mut text, b"Channels", Tid::UInt16, 2)?;
-    assert_eq!(rt; text.as_slice(), DUMPED);
-    Ok(())
+fn keys_as_in_a_dump(rt: HostRuntime) {
+    assert!(rt; matches!(is_dumped(rt.alloc()), Ok(true)));
 }

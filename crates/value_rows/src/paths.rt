@@ -1,16 +1,22 @@
 //! Worked rows of paths.
 use daq_types::Name;
 use odb_path::{Path, PathRefusal, is_front, is_same};
-use std::test::Fail;
+use std::alloc::{AllocError, Global};
 
-/// The names of a path's text, joined by slashes, or why it is none.
-fn spelled(rt: &HostRuntime, text: &[u8]) -> Result<Vec<u8>, PathRefusal> {
-    let mut spelled = Vec::new(rt.alloc());
-    for name in Path::read(rt.alloc(), text)?.names() {
+/// The names, each behind a slash.
+fn spelled(alloc: Global, names: &[Name]) -> Result<Vec<u8>, AllocError> {
+    let mut spelled = Vec::new(alloc);
+    for name in names {
         spelled.push(b'/')?;
         spelled.extend_from_slice(name.as_slice())?;
     }
     Ok(spelled)
+}
+
+/// Whether the text is a path of these names.
+fn is_spelled(alloc: Global, text: &[u8], names: &[u8]) -> Result<bool, PathRefusal> {
+    let path = Path::read(alloc, text)?;
+    Ok(spelled(alloc, path.names())?.as_slice() == names)
 }
 
 /// Texts of paths, and the names of each.
@@ -31,12 +37,11 @@ const PATHS: &[(&str, &str)] = &[
 ];
 
 #[test]
-fn paths_of_texts(rt: HostRuntime) -> Result<(), Fail> {
+fn paths_of_texts(rt: HostRuntime) {
     for (text, names) in PATHS {
-        let read = spelled(&rt, text.as_bytes())?;
-        assert_eq!(rt; read.as_slice(), names.as_bytes(), "{text}");
+        let is_right = is_spelled(rt.alloc(), text.as_bytes(), names.as_bytes());
+        assert!(rt; matches!(is_right, Ok(true)), "{text}");
     }
-    Ok(())
 }
 
 /// Texts that are no paths, and why.
@@ -63,49 +68,63 @@ const REFUSED: &[(&str, PathRefusal)] = &[
     ),
 ];
 
+/// Whether the text is no path, for this reason.
+fn is_refused(alloc: Global, text: &[u8], why: PathRefusal) -> bool {
+    Path::read(alloc, text).err() == Some(why)
+}
+
 #[test]
 fn texts_that_are_no_paths(rt: HostRuntime) {
     for (text, refusal) in REFUSED {
-        assert!(rt;
-            matches!(&Path::read(rt.alloc(), text.as_bytes()), Err(found) if found == refusal),
-            "{text}"
-        );
+        let is_right = is_refused(rt.alloc(), text.as_bytes(), *refusal);
+        assert!(rt; is_right, "{text}");
     }
 }
 
 /// Whether a path is a front of the other, and whether it is the same.
-fn compared(path: &Path, other: &Path) -> (bool, bool) {
-    (
+fn compared(path: &Path, other: &Path) -> [bool; 2] {
+    [
         is_front(path.names(), other.names()),
         is_same(path.names(), other.names()),
-    )
+    ]
+}
+
+/// Whether a path of one name is compared without regard to case, and is the same with the second.
+fn becomes_same(path: &mut Path, other: &Path) -> Result<bool, PathRefusal> {
+    let Ok(name) = Name::new(b"fe") else {
+        return Ok(false);
+    };
+    if path.names().len() != 1 {
+        return Ok(false);
+    }
+    let is_front = compared(path, other) == [true, false];
+    path.push(name)?;
+    Ok(is_front && compared(path, other) == [true, true])
+}
+
+/// Whether that holds of such a path.
+fn is_compared(alloc: Global) -> Result<bool, PathRefusal> {
+    let upper = Path::read(alloc, b"/EQUIPMENT/FE")?;
+    let mut lower = Path::read(alloc, b"equipment")?;
+    becomes_same(&mut lower, &upper)
 }
 
 #[test]
-fn paths_are_compared_without_case(rt: HostRuntime) -> Result<(), Fail> {
-    let name = Name::new(b"fe")?;
-    let upper = Path::read(rt.alloc(), b"/EQUIPMENT/FE")?;
-    let mut lower = Path::read(rt.alloc(), b"equipment")?;
-    assert!(rt; compared(&lower, &upper) == (true, false));
-    lower.push(name)?;
-    assert!(rt; compared(&lower, &upper) == (true, true));
-    Ok(())
+fn paths_are_compared_without_case(rt: HostRuntime) {
+    assert!(rt; matches!(is_compared(rt.alloc()), Ok(true)));
+}
+
+/// Whether a path differs from another in a letter, and a copy of it does not.
+fn differs(alloc: Global) -> Result<bool, PathRefusal> {
+    let upper = Path::read(alloc, b"/EQUIPMENT/FE")?;
+    let other = Path::read(alloc, b"/equipment/fg")?;
+    let copy = other.try_clone(alloc)?;
+    Ok(!is_same(other.names(), upper.names()) && is_same(other.names(), copy.names()))
 }
 
 #[test]
-fn paths_that_differ_in_a_letter(rt: HostRuntime) -> Result<(), Fail> {
-    let upper = Path::read(rt.alloc(), b"/EQUIPMENT/FE")?;
-    let other = Path::read(rt.alloc(), b"/equipment/fg")?;
-    assert!(rt; !is_same(other.names(), upper.names()));
-    Ok(())
-}
-
-#[test]
-fn a_copy_is_the_same_path(rt: HostRuntime) -> Result<(), Fail> {
-    let path = Path::read(rt.alloc(), b"/equipment/fg")?;
-    let copy = path.try_clone(rt.alloc())?;
-    assert!(rt; is_same(path.names(), copy.names()));
-    Ok(())
+fn paths_that_differ_in_a_letter_and_a_copy(rt: HostRuntime) {
+    assert!(rt; matches!(differs(rt.alloc()), Ok(true)));
 }
 
 #[test]

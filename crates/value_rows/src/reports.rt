@@ -7,7 +7,6 @@ use daq_types::NoMemory;
 use event_header::Header;
 use event_report::Report;
 use std::alloc::Global;
-use std::test::Fail;
 
 /// The header of an event with this id.
 fn header(event_id: u16) -> Header {
@@ -46,22 +45,23 @@ fn fold_all(report: &mut Report, events: &[(u16, &[u8])])
     }
 }
 
-/// The text of a report whose lines begin with this.
-fn text_of(alloc: Global, report: &Report, start: &[u8]) -> Result<TextBuffer, NoMemory> {
+/// Whether this is the text of the report, whose lines begin so.
+fn is_text(alloc: Global, report: &Report, start: &[u8], lines: &[u8]) -> Result<bool, NoMemory> {
     let mut text = TextBuffer::new(alloc);
     report.print(start, &mut text)?;
-    Ok(text)
+    Ok(text.as_slice() == lines)
 }
 
-/// The text of a report over these events, each an id and its data.
-fn report_text(
-    rt: &(impl AllocGlobal),
+/// Whether this is the text of a report over these events, each an id and its data.
+fn is_report(
+    alloc: Global,
     events: &[(u16, &[u8])],
     start: &[u8],
-) -> Result<TextBuffer, Fail> {
-    let mut report = Report::new(rt.alloc())?;
+    lines: &[u8],
+) -> Result<bool, NoMemory> {
+    let mut report = Report::new(alloc)?;
     fold_all(&mut report, events);
-    Ok(text_of(rt.alloc(), &report, start)?)
+    is_text(alloc, &report, start, lines)
 }
 
 /// Adds banks with name, type and data, where they fit.
@@ -73,13 +73,13 @@ fn add_all(writer: &mut BankWriter, banks: &[([u8; 4], u32, &[u8])]) {
 
 /// A bank area in a format, of banks with name, type and data.
 fn area(
-    rt: &(impl AllocGlobal),
+    alloc: Global,
     format: Format,
     banks: &[([u8; 4], u32, &[u8])],
-) -> Result<Vec<u8>, Fail> {
-    let mut writer = BankWriter::new(rt.alloc(), format, 4096)?;
+) -> Result<Vec<u8>, NoMemory> {
+    let mut writer = BankWriter::new(alloc, format, 4096)?;
     add_all(&mut writer, banks);
-    Ok(writer.finish().to_vec(rt.alloc())?)
+    Ok(writer.finish().to_vec(alloc)?)
 }
 
 /// Events, what each line begins with, and the lines.
@@ -102,12 +102,11 @@ rest ids 0 banks 0 bad 0\n",
 ];
 
 #[test]
-fn two_generated_events(rt: HostRuntime) -> Result<(), Fail> {
-    for (events, start, expected) in REPORTS {
-        let text = report_text(&rt, events, start)?;
-        assert_eq!(rt; text.as_slice(), *expected);
+fn two_generated_events(rt: HostRuntime) {
+    for (events, start, lines) in REPORTS {
+        let is_right = is_report(rt.alloc(), events, start, lines);
+        assert!(rt; matches!(is_right, Ok(true)), "{lines:?}");
     }
-    Ok(())
 }
 
 /// The least and the greatest integer of 64 bits with a sign.
@@ -142,12 +141,15 @@ bank UN32 UINT32 count 1 sum 2147483648 least 2147483648 greatest 2147483648\n\
 bank UN64 UINT64 count 2 sum 36893488147419103230 least 18446744073709551615 greatest 18446744073709551615\n\
 rest ids 0 banks 0 bad 0\n";
 
+/// Whether the integers of each type are reported so.
+fn are_reported(alloc: Global) -> Result<bool, NoMemory> {
+    let body = area(alloc, Format::Bank32, INTEGERS)?;
+    is_report(alloc, &[(7, &body)], b"", INTEGER_LINES)
+}
+
 #[test]
-fn integers_of_each_type(rt: HostRuntime) -> Result<(), Fail> {
-    let body = area(&rt, Format::Bank32, INTEGERS)?;
-    let text = report_text(&rt, &[(7, &body)], b"")?;
-    assert_eq!(rt; text.as_slice(), INTEGER_LINES);
-    Ok(())
+fn integers_of_each_type(rt: HostRuntime) {
+    assert!(rt; matches!(are_reported(rt.alloc()), Ok(true)));
 }
 
 const OUT_OF_ORDER: &[([u8; 4], u32, &[u8])] = &[
@@ -163,12 +165,16 @@ const ORDERED_LINES: &[u8] = b"> events 3\n> id 2 count 2\n> id 300 count 1\n\
 > bank B... UINT16 count 1 sum 1 least 1 greatest 1\n\
 > rest ids 0 banks 0 bad 2\n";
 
+/// Whether the lines of such banks and events are in order.
+fn are_ordered(alloc: Global) -> Result<bool, NoMemory> {
+    let body = area(alloc, Format::Bank16, OUT_OF_ORDER)?;
+    let events: &[(u16, &[u8])] = &[(300, &body), (2, b"no banks"), (2, b"")];
+    is_report(alloc, events, b"> ", ORDERED_LINES)
+}
+
 #[test]
-fn order_of_lines_and_bad_events(rt: HostRuntime) -> Result<(), Fail> {
-    let body = area(&rt, Format::Bank16, OUT_OF_ORDER)?;
-    let text = report_text(&rt, &[(300, &body), (2, b"no banks"), (2, b"")], b"> ")?;
-    assert_eq!(rt; text.as_slice(), ORDERED_LINES);
-    Ok(())
+fn order_of_lines_and_bad_events(rt: HostRuntime) {
+    assert!(rt; matches!(are_ordered(rt.alloc()), Ok(true)));
 }
 
 /// An area with one bank of two bytes, named after the event's id.
@@ -192,26 +198,31 @@ fn fold_257_ids(report: &mut Report)
     report.fold(&header(256), &other);
 }
 
-/// The text of a report over the events of 257 ids.
-fn text_of_257_ids(alloc: Global) -> Result<TextBuffer, NoMemory> {
-    let mut report = Report::new(alloc)?;
-    fold_257_ids(&mut report);
-    text_of(alloc, &report, b"")
-}
-
-/// How many parts the line ends split the text into.
-fn count_parts(text: &[u8]) -> usize {
-    text.split(|byte| *byte == b'\n').count()
-}
-
 /// The last two lines of the text over 257 ids.
 const LAST_LINES: &[u8] =
     b"bank B0PP UINT8 count 2 sum 7 least 3 greatest 4\nrest ids 2 banks 2 bad 0\n";
 
+/// Whether the text ends so, and how many parts its line ends split it into.
+fn end_of(text: &[u8]) -> (bool, usize) {
+    let parts = text.split(|byte| *byte == b'\n').count();
+    (text.ends_with(LAST_LINES), parts)
+}
+
+/// The same for the text of this report.
+fn end_of_report(alloc: Global, report: &Report) -> Result<(bool, usize), NoMemory> {
+    let mut text = TextBuffer::new(alloc);
+    report.print(b"", &mut text)?;
+    Ok(end_of(text.as_slice()))
+}
+
+/// The same for a report over the events of 257 ids.
+fn end_of_257_ids(alloc: Global) -> Result<(bool, usize), NoMemory> {
+    let mut report = Report::new(alloc)?;
+    fold_257_ids(&mut report);
+    end_of_report(alloc, &report)
+}
+
 #[test]
-fn more_ids_and_banks_than_rows(rt: HostRuntime) -> Result<(), Fail> {
-    let text = text_of_257_ids(rt.alloc())?;
-    assert!(rt; text.as_slice().ends_with(LAST_LINES));
-    assert_eq!(rt; count_parts(text.as_slice()), 515);
-    Ok(())
+fn more_ids_and_banks_than_rows(rt: HostRuntime) {
+    assert!(rt; matches!(end_of_257_ids(rt.alloc()), Ok((true, 515))));
 }

@@ -1,7 +1,7 @@
 //! Texts that grow, and numbers in texts.
 use daq_text::{TextBuffer, behind_blanks, ended, is_blank, number, unsigned};
 use daq_types::NoMemory;
-use std::test::Fail;
+use std::alloc::Global;
 
 /// What `write` makes of an empty text.
 const WRITTEN: &[u8] = b"run 18446744073709551615\n-127";
@@ -15,16 +15,25 @@ fn write(text: &mut TextBuffer) -> Result<(), NoMemory> {
     text.number(7)
 }
 
-#[test]
-fn texts(rt: HostRuntime) -> Result<(), Fail> {
-    let mut text = TextBuffer::new(rt.alloc());
-    write(&mut text)?;
-    assert_eq!(rt; text.as_slice(), WRITTEN);
+/// Whether that is written, and cut then, first to the word and then to nothing.
+fn is_cut(text: &mut TextBuffer) -> bool {
+    let is_written = text.as_slice() == WRITTEN;
     text.truncate(3);
-    assert_eq!(rt; text.as_slice(), b"run".as_slice());
+    let is_word = text.as_slice() == b"run".as_slice();
     text.clear();
-    assert!(rt; text.as_slice().is_empty());
-    Ok(())
+    is_written && is_word && text.as_slice().is_empty()
+}
+
+/// Whether that holds of a new text.
+fn is_written_and_cut(alloc: Global) -> Result<bool, NoMemory> {
+    let mut text = TextBuffer::new(alloc);
+    write(&mut text)?;
+    Ok(is_cut(&mut text))
+}
+
+#[test]
+fn texts(rt: HostRuntime) {
+    assert!(rt; matches!(is_written_and_cut(rt.alloc()), Ok(true)));
 }
 
 /// Texts, the most that each may spell, and the number that is all of it, if there is one.
@@ -45,7 +54,7 @@ const WHOLE: &[(&str, u64, Option<u64>)] = &[
 #[test]
 fn numbers(rt: HostRuntime) {
     for (text, most, spelled) in WHOLE {
-        assert_eq!(rt; number(text.as_bytes(), *most), *spelled, "{text}");
+        assert!(rt; number(text.as_bytes(), *most) == *spelled, "{text}");
     }
 }
 
@@ -61,13 +70,13 @@ const READ: &[(&str, u64, Result<Option<u64>, usize>)] = &[
 #[test]
 fn numbers_with_blanks_behind_them(rt: HostRuntime) {
     for (text, most, read) in READ {
-        assert_eq!(rt; unsigned(text.as_bytes(), *most), *read, "{text}");
+        assert!(rt; unsigned(text.as_bytes(), *most) == *read, "{text}");
     }
 }
 
 #[test]
 fn blanks(rt: HostRuntime) {
-    assert_eq!(rt; ended(true, b" \t".as_slice()), Ok(true));
+    assert!(rt; ended(true, b" \t".as_slice()) == Ok(true));
     assert!(rt; is_blank(b'\t'));
-    assert_eq!(rt; behind_blanks(b"\t x ".as_slice()), b"x ".as_slice());
+    assert!(rt; behind_blanks(b"\t x ".as_slice()) == b"x ".as_slice());
 }
