@@ -3,7 +3,6 @@ use daq_text::TextBuffer;
 use daq_types::{Kind, NameRefusal, NoMemory};
 use session_setup::{Declarations, SetupRefusal};
 use std::alloc::Global;
-use std::test::Fail;
 
 /// A line that declares something.
 #[derive(Clone, Copy)]
@@ -195,31 +194,52 @@ fn declare(alloc: Global, rows: &[Row]) -> Result<(Option<usize>, [usize; 4]), N
 }
 
 #[test]
-fn lines_are_refused_in_order(rt: HostRuntime) -> Result<(), Fail> {
+fn lines_are_refused_in_order(rt: HostRuntime) {
     for (rows, expected) in SESSIONS {
-        let (wrong, declared) = declare(rt.alloc(), rows)?;
-        assert!(rt; wrong.is_none(), "row {wrong:?}, {expected:?}");
-        assert!(rt; declared == *expected, "{declared:?}");
+        let (wrong, declared) = declare(rt.alloc(), rows).expect(&rt, "memory");
+        let is_right = wrong.is_none() && declared == *expected;
+        assert!(rt; is_right, "row {wrong:?}, {expected:?}");
     }
-    Ok(())
+}
+
+/// Declares a front-end whose name is F and its id, and tells whether it does.
+fn declares(alloc: Global, session: &mut Declarations, id: u32) -> Result<bool, NoMemory> {
+    let mut name = TextBuffer::new(alloc);
+    name.text(b"F")?;
+    name.number(u64::from(id))?;
+    Ok(session.equip(name.as_slice(), id, 0, b"SYSTEM", 10).is_ok())
+}
+
+/// Whether thirty-two front-ends are declared.
+fn declares_all(alloc: Global, session: &mut Declarations) -> Result<bool, NoMemory> {
+    for id in 1..=32u32 {
+        if !declares(alloc, session, id)? {
+            return Ok(false);
+        }
+    }
+    Ok(true)
+}
+
+/// Whether one more is refused.
+fn refuses_one_more(session: &mut Declarations) -> bool {
+    let refused = session.equip(b"F33", 33, 0, b"SYSTEM", 10);
+    refused == Err(SetupRefusal::TooMany { most: 32 }) && counts(session) == [1, 32, 0, 0]
+}
+
+/// Whether both hold of the session.
+fn is_filled(alloc: Global, session: &mut Declarations) -> Result<bool, NoMemory> {
+    Ok(declares_all(alloc, session)? && refuses_one_more(session))
+}
+
+/// Whether a session has thirty-two front-ends and no more.
+fn has_thirty_two(alloc: Global) -> Result<bool, NoMemory> {
+    let mut session = Declarations::new(alloc)?;
+    is_filled(alloc, &mut session)
 }
 
 #[test]
-fn a_session_has_thirty_two_front_ends(rt: HostRuntime) -> Result<(), Fail> {
-    let mut session = Declarations::new(rt.alloc())?;
-    for id in 1..=32u32 {
-        let mut name = TextBuffer::new(rt.alloc());
-        name.text(b"F")?;
-        name.number(u64::from(id))?;
-        assert_eq!(rt;
-            session.equip(name.as_slice(), id, 0, b"SYSTEM", 10),
-            Ok(())
-        );
-    }
-    let one_more = session.equip(b"F33", 33, 0, b"SYSTEM", 10);
-    assert_eq!(rt; one_more, Err(SetupRefusal::TooMany { most: 32 }));
-    assert_eq!(rt; counts(&session), [1, 32, 0, 0]);
-    Ok(())
+fn a_session_has_thirty_two_front_ends(rt: HostRuntime) {
+    assert!(rt; matches!(has_thirty_two(rt.alloc()), Ok(true)));
 }
 
 /// Whether the first front-end is that of a session which declares none.
@@ -262,15 +282,19 @@ fn gives_one_of_each(session: Declarations) -> bool {
     counts == [1, 1, 1]
 }
 
-#[test]
-fn an_opened_session_has_defaults_and_declares_no_more(rt: HostRuntime) -> Result<(), Fail> {
-    let mut session = Declarations::new(rt.alloc())?;
+/// The first of the lines behind the opening that is not answered as it is told, and whether the rest is as it must be.
+fn open(alloc: Global) -> Result<(Option<usize>, bool), NoMemory> {
+    let mut session = Declarations::new(alloc)?;
     session.open();
     let is_opened = session.is_opened();
     let wrong = first_wrong(&mut session, OPENED);
     let has_defaults = has_defaults(&session);
     let gives_lists = gives_one_of_each(session);
-    assert!(rt; is_opened && wrong.is_none(), "row {wrong:?}");
-    assert!(rt; has_defaults && gives_lists);
-    Ok(())
+    Ok((wrong, is_opened && has_defaults && gives_lists))
+}
+
+#[test]
+fn an_opened_session_has_defaults_and_declares_no_more(rt: HostRuntime) {
+    let (wrong, is_right) = open(rt.alloc()).expect(&rt, "memory");
+    assert!(rt; wrong.is_none() && is_right, "row {wrong:?}");
 }

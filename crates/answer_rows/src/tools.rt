@@ -4,7 +4,6 @@ use daq_mem::{FileFail, FileOp, MemFiles, MemSink};
 use daq_types::{FileName, NoMemory};
 use midas_tools::{InputFault, ToolEnd, analyze_file, check_file, dump_file};
 use std::alloc::{AllocError, Global};
-use std::test::Fail;
 
 /// A file that is made from that of a run of one event, which has 421 bytes.
 #[derive(Clone, Copy)]
@@ -273,68 +272,94 @@ fn run_tool(
     }
 }
 
-/// Whether a tool prints its text, ends by a fault of the files exactly where calls fail, and
-/// leaves the file there.
-fn is_right(alloc: Global, name: FileName, row: &Row) -> Result<bool, NoMemory> {
-    let (tool, made, fails, text) = *row;
-    let files = files_with(alloc, name, made, fails)?;
-    let mut out = MemSink::new(alloc, 1000, Vec::new(alloc))?;
-    let (end, files) = run_tool(alloc, tool, files, &name, &mut out);
+/// Whether a tool over these files prints the row's text, ends by a fault of theirs exactly where
+/// calls fail, and leaves the file there.
+fn is_right_over(
+    alloc: Global,
+    files: MemFiles,
+    name: &FileName,
+    row: &Row,
+    out: &mut MemSink,
+) -> bool {
+    let (tool, _, fails, text) = row;
+    let (end, files) = run_tool(alloc, *tool, files, name, out);
     let is_faulty = end == ToolEnd::FileFault;
-    let is_there = files.find(&name).is_some();
-    Ok(is_there && is_faulty != fails.is_empty() && out.bytes() == text.as_bytes())
+    let is_there = files.find(name).is_some();
+    is_there && is_faulty != fails.is_empty() && out.bytes() == text.as_bytes()
+}
+
+/// Whether that holds of the files of a row.
+fn is_right(alloc: Global, name: FileName, row: &Row) -> Result<bool, NoMemory> {
+    let (_, made, fails, _) = row;
+    let mut out = MemSink::new(alloc, 1000, Vec::new(alloc))?;
+    let files = files_with(alloc, name, *made, fails)?;
+    Ok(is_right_over(alloc, files, &name, row, &mut out))
 }
 
 #[test]
-fn tools_over_made_files(rt: HostRuntime) -> Result<(), Fail> {
-    let name = FileName::new("run00001.mid")?;
+fn tools_over_made_files(rt: HostRuntime) {
+    let name = FileName::new("run00001.mid").expect(&rt, "a name");
     for (place, row) in ROWS.iter().enumerate() {
-        assert!(rt; is_right(rt.alloc(), name, row)?, "row {place}");
+        let is_right = is_right(rt.alloc(), name, row);
+        assert!(rt; matches!(is_right, Ok(true)), "row {place}");
     }
-    Ok(())
 }
 
-/// Whether a tool says this of a name where there are no files.
-fn finds_none(
+/// Whether a tool says this of the name where there are no files.
+fn says(
     alloc: Global,
     tool: Tool,
-    name: FileName,
+    name: &FileName,
     fault: InputFault,
     line: &str,
+    out: &mut MemSink,
 ) -> Result<bool, NoMemory> {
     let files = MemFiles::new(alloc, 1, 1000, Vec::new(alloc))?;
-    let mut out = MemSink::new(alloc, 1000, Vec::new(alloc))?;
-    let (end, _files) = run_tool(alloc, tool, files, &name, &mut out);
+    let (end, _) = run_tool(alloc, tool, files, name, out);
     Ok(end == ToolEnd::Input(fault) && out.bytes() == line.as_bytes())
 }
 
+/// Whether the text is a name of which a tool says so.
+fn finds_none(
+    alloc: Global,
+    tool: Tool,
+    text: &str,
+    fault: InputFault,
+    line: &str,
+) -> Result<bool, NoMemory> {
+    let Ok(name) = FileName::new(text) else {
+        return Ok(false);
+    };
+    let mut out = MemSink::new(alloc, 1000, Vec::new(alloc))?;
+    says(alloc, tool, &name, fault, line, &mut out)
+}
+
 #[test]
-fn names_that_are_no_file(rt: HostRuntime) -> Result<(), Fail> {
+fn names_that_are_no_file(rt: HostRuntime) {
     for (tool, text, fault, line) in NO_FILES {
-        let name = FileName::new(text)?;
-        assert!(rt;
-            finds_none(rt.alloc(), *tool, name, *fault, line)?,
-            "{text}"
-        );
+        let is_right = finds_none(rt.alloc(), *tool, text, *fault, line);
+        assert!(rt; matches!(is_right, Ok(true)), "{text}");
     }
-    Ok(())
 }
 
-/// How the tools end over a good file, one behind the other, where the first call on their sink
-/// fails.
-fn ends_after_a_sink_fault(alloc: Global, name: FileName) -> Result<[ToolEnd; 3], NoMemory> {
-    let files = files_with(alloc, name, Made::Front(421), NONE)?;
+/// Whether of the tools, one behind the other over these files, the first alone ends by a fault of the sink.
+fn ends_first(alloc: Global, files: MemFiles, name: &FileName, out: &mut MemSink) -> bool {
+    let (checked, files) = check_file(alloc, files, name, out);
+    let (dumped, files) = dump_file(alloc, files, name, out);
+    let (analyzed, _files) = analyze_file(alloc, files, name, out);
+    checked == ToolEnd::SinkFault && dumped == ToolEnd::Done && analyzed == ToolEnd::Done
+}
+
+/// Whether they do so over a good file, where the first call on their sink fails.
+fn ends_after_a_sink_fault(alloc: Global, name: FileName) -> Result<bool, NoMemory> {
     let mut out = MemSink::new(alloc, 1000, [0].to_vec(alloc)?)?;
-    let (checked, files) = check_file(alloc, files, &name, &mut out);
-    let (dumped, files) = dump_file(alloc, files, &name, &mut out);
-    let (analyzed, _files) = analyze_file(alloc, files, &name, &mut out);
-    Ok([checked, dumped, analyzed])
+    let files = files_with(alloc, name, Made::Front(421), NONE)?;
+    Ok(ends_first(alloc, files, &name, &mut out))
 }
 
 #[test]
-fn a_call_on_the_sink_that_fails(rt: HostRuntime) -> Result<(), Fail> {
-    let name = FileName::new("run00001.mid")?;
-    let ends = ends_after_a_sink_fault(rt.alloc(), name)?;
-    assert!(rt; matches!(ends, [ToolEnd::SinkFault, ToolEnd::Done, ToolEnd::Done]));
-    Ok(())
+fn a_call_on_the_sink_that_fails(rt: HostRuntime) {
+    let name = FileName::new("run00001.mid").expect(&rt, "a name");
+    let is_right = ends_after_a_sink_fault(rt.alloc(), name);
+    assert!(rt; matches!(is_right, Ok(true)));
 }

@@ -1,8 +1,7 @@
 //! Lists of words, and the forms that they have.
 use command_words::{Form, Tool, ToolCall, form_of};
 use daq_types::{BadFileName, FileName, NoMemory, Words};
-use std::alloc::Global;
-use std::test::Fail;
+use std::alloc::{AllocError, Global};
 
 /// Lists of words that have no form.
 const REFUSED: &[&[&str]] = &[
@@ -121,7 +120,44 @@ fn form_with(named: Named) -> Result<Form, BadFileName> {
     }
 }
 
-/// The form of this word, and a second that has so many of these bytes and then this text.
+/// Whether the words have no form.
+fn has_none(alloc: Global, list: &[&str]) -> Result<bool, NoMemory> {
+    Ok(read(alloc, list)?.is_none())
+}
+
+#[test]
+fn words_of_no_form(rt: HostRuntime) {
+    for words in REFUSED {
+        let is_right = has_none(rt.alloc(), words);
+        assert!(rt; matches!(is_right, Ok(true)), "{words:?}");
+    }
+}
+
+/// Whether the words have this form.
+fn has(alloc: Global, list: &[&str], named: Named) -> Result<bool, NoMemory> {
+    let found = read(alloc, list)?;
+    Ok(form_with(named).is_ok_and(|form| found == Some(form)))
+}
+
+#[test]
+fn words_of_each_form(rt: HostRuntime) {
+    for (words, named) in FORMS {
+        let is_right = has(rt.alloc(), words, *named);
+        assert!(rt; matches!(is_right, Ok(true)), "{words:?}");
+    }
+}
+
+/// So many of these bytes, and then this text.
+fn long_word(alloc: Global, byte: char, count: usize, rest: &str) -> Result<String, AllocError> {
+    let mut text = String::new(alloc);
+    for _ in 0..count {
+        text.push(byte)?;
+    }
+    text.push_str(rest)?;
+    Ok(text)
+}
+
+/// The form of this word, and a second that is so long.
 fn read_long(
     alloc: Global,
     word: &str,
@@ -129,37 +165,19 @@ fn read_long(
     count: usize,
     rest: &str,
 ) -> Result<Option<Form>, NoMemory> {
-    let mut text = String::new(alloc);
-    for _ in 0..count {
-        text.push(byte)?;
-    }
-    text.push_str(rest)?;
+    let text = long_word(alloc, byte, count, rest)?;
     read(alloc, [word, text.as_str()].as_slice())
 }
 
-#[test]
-fn words_of_no_form(rt: HostRuntime) -> Result<(), Fail> {
-    for words in REFUSED {
-        assert!(rt; read(rt.alloc(), words)?.is_none(), "{words:?}");
-    }
-    Ok(())
+/// Whether a name of 255 bytes has a form and one of 256 has none, and zeros before a number change nothing.
+fn are_long(alloc: Global) -> Result<bool, NoMemory> {
+    let longest = read_long(alloc, "check", 'x', 255, "")?;
+    let longer = read_long(alloc, "check", 'x', 256, "")?;
+    let zeros = read_long(alloc, "gen", '0', 5000, "7")?;
+    Ok(longest.is_some() && longer.is_none() && zeros == Some(Form::Generate { number: 7 }))
 }
 
 #[test]
-fn words_of_each_form(rt: HostRuntime) -> Result<(), Fail> {
-    for (words, named) in FORMS {
-        let form = form_with(*named)?;
-        assert!(rt; read(rt.alloc(), words)? == Some(form), "{words:?}");
-    }
-    Ok(())
-}
-
-#[test]
-fn long_words(rt: HostRuntime) -> Result<(), Fail> {
-    let alloc = rt.alloc();
-    assert!(rt; read_long(alloc, "check", 'x', 255, "")?.is_some());
-    assert!(rt; read_long(alloc, "check", 'x', 256, "")?.is_none());
-    let number = 7;
-    assert!(rt; read_long(alloc, "gen", '0', 5000, "7")? == Some(Form::Generate { number }));
-    Ok(())
+fn long_words(rt: HostRuntime) {
+    assert!(rt; matches!(are_long(rt.alloc()), Ok(true)));
 }
