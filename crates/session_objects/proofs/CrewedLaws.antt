@@ -73,8 +73,8 @@ module _ {D : Type 0} (fronts : List FrontDeclared) (analyzers : List AnalyzerDe
   front_at : (number : ℕ) (front : FrontSeen Generator) → slice_get seats number ≡ Some front → (d : FrontDeclared) × IsNewFront objects shared number d front
   front_at number front at =
       let l : number < length seats = slice_get_within seats number front at in
-      let many : length seats ≡ length fronts = bare.many in
-      let d = there_below fronts number (omega arith) in (d.0, bare.each number d.0 front d.1 at)
+      let many : length seats ≡ length fronts = bare.fronts_are.many in
+      let d = there_below fronts number (omega arith) in (d.0, bare.fronts_are.each number d.0 front d.1 at)
 
   analyzer_at : (place : ℕ) (analyzer : AnalyzerSeen) → slice_get seated_analyzers place ≡ Some analyzer →
       (d : AnalyzerDeclared) × IsNewAnalyzer objects (length fronts + 1 + place) d analyzer
@@ -87,7 +87,7 @@ module _ {D : Type 0} (fronts : List FrontDeclared) (analyzers : List AnalyzerDe
   pub members_bare : {F : Type 0} (logger : LoggerSeen F) → length fronts ≤ 32 → length analyzers ≤ 8 → logger.engine ≡ member.seat.engine.now →
       logger.client ≡ member.seat.client → AreMembers seats logger seated_analyzers
   members_bare logger few few_analyzers engine client =
-      let many : length seats ≡ length fronts = bare.many in
+      let many : length seats ≡ length fronts = bare.fronts_are.many in
       let many_analyzers : length seated_analyzers ≡ length analyzers = bare.analyzers_are.many in record {
         few = omega arith;
         numbers = λ number front at. (let f = front_at number front at in ap (λ (z : FrontSeen Generator). z.client) f.1.is);
@@ -124,8 +124,7 @@ module _ {D : Type 0} (fronts : List FrontDeclared) (analyzers : List AnalyzerDe
   crewed files pick logger crew is new =
       let P : CrewSeen Generator _ _ → Type 0 = λ c. AreNewMembers fronts analyzers channels objects shared files pick c in
       subst P (sym is) (record {
-        many = bare.many;
-        each = bare.each;
+        fronts_are = bare.fronts_are;
         logger = new;
         analyzers_are = bare.analyzers_are;
         has_pick = refl;

@@ -138,6 +138,26 @@ module _ {D : Type 0} {gd : _} (fronts : List FrontDeclared) (analyzers : List A
       room_for (told_of_buffer fronts analyzers calls declared.buffer buffer.size) (lock_of buffer.shared) roster (suc client) (senders_down fronts client declared.buffer)
       (subst P (ap (λ (n : ℕ). senders_down fronts n declared.buffer) (add-one client) ∙ senders_with fronts declared.buffer client sends) (k.buffers declared.buffer buffer roster b at))
 
+  pub front_engine_room : (client : ℕ) (passes : SessionPasses D gd) → HasCallsBut (out_to_fronts fronts (client + 1)) fronts analyzers calls objects database passes →
+      length (items_of passes.engine) < room_of passes.engine
+  front_engine_room client passes k =
+      let P : List ℕ → Type 0 = λ ns. KeepsPasses (told_of_engine calls) ns (engine_lock_of objects.engine) passes.engine in
+      room_for (told_of_engine calls) (engine_lock_of objects.engine) passes.engine (suc client) (callers_down client) (subst P (ap callers_down (add-one client)) k.engine)
+
+  pub front_database_room : (client : ℕ) (before after : SessionPasses D gd) → HasCallsBut (out_to_fronts fronts (client + 1)) fronts analyzers calls objects database before →
+      after.database ≡ before.database → length (items_of after.database) < room_of after.database
+  front_database_room client before after k same =
+      let P : List ℕ → Type 0 = λ ns. KeepsPasses (told_of_database calls) ns (odb_lock_of database) before.database in
+      let Q : _ → Type 0 = λ db. length (items_of db) < room_of db in
+      subst Q (sym same) (room_for (told_of_database calls) (odb_lock_of database) before.database (suc client) (callers_down client) (subst P (ap callers_down (add-one client)) k.database))
+
+  -- each buffer has its passes
+  pub buffer_within : (out : OutNumbers) (place : ℕ) (buffer : SessionBuffer) (before after : SessionPasses D gd) → slice_get objects.buffers.items place ≡ Some buffer →
+      HasCallsBut out fronts analyzers calls objects database before → after.buffers ≡ before.buffers → place < length after.buffers.items
+  buffer_within out place buffer before after at k same =
+      let l : place < length objects.buffers.items = slice_get_within objects.buffers.items place buffer at in
+      let many : length after.buffers.items ≡ length objects.buffers.items = ap (λ bs. length bs.items) same ∙ k.many in omega arith
+
   pub port_room : (place : ℕ) (buffer : SessionBuffer) (passes : SessionPasses D gd) (roster : _) → slice_get objects.buffers.items place ≡ Some buffer →
       HasCallsBut (out_to_ports fronts (suc place)) fronts analyzers calls objects database passes → slice_get passes.buffers.items place ≡ Some roster →
       length (items_of roster) < room_of roster

@@ -109,8 +109,10 @@ module _ {D : Type 0} (objects : SessionObjects) (database : SharedOdb D) where
       AreMembersOf fronts analyzers objects database before.fronts before.logger before.analyzers →
       AreMembersOf fronts analyzers objects database after.fronts after.logger after.analyzers
   members_stay fronts analyzers told before after takes makes same m = record {
-    many = same.fronts.count ∙ m.many;
-    each = λ client declared front d f. one client declared front d f;
+    fronts_are = record {
+      many = same.fronts.count ∙ m.fronts_are.many;
+      each = λ client declared front d f. one client declared front d f;
+    };
     logger = logger_stays (length fronts) before.logger after.logger same.logger m.logger;
     analyzers_are = analyzers_stay (length fronts + 1) analyzers before.analyzers after.analyzers same.analyzers m.analyzers_are;
   }
@@ -124,14 +126,16 @@ module _ {D : Type 0} (objects : SessionObjects) (database : SharedOdb D) where
           let at : slice_get before.fronts client ≡ Some was = slice_get-get_or before.fronts client front (omega arith) in
           let P : (Generator → _) → Type 0 = λ t. IsSameFront t told.makes was front in
           let Q : (Generator → _) → Type 0 = λ t. IsSameFront generator_takes t was front in
-          front_stays client declared was front (subst Q makes (subst P takes (same.fronts.each client was front at f))) (m.each client declared was d at)
+          front_stays client declared was front (subst Q makes (subst P takes (same.fronts.each client was front at f))) (m.fronts_are.each client declared was d at)
 
   -- new members are those of the session
   pub new_are_members : {F K : Type 0} (fronts : List FrontDeclared) (analyzers : List AnalyzerDeclared) (channels : List ChannelSpec) (files : F) (pick : K) (crew : CrewSeen Generator F K) →
       AreNewMembers fronts analyzers channels objects database files pick crew → AreMembersOf fronts analyzers objects database crew.fronts crew.logger crew.analyzers
   new_are_members fronts analyzers channels files pick crew n = record {
-    many = n.many;
-    each = λ client declared front d f. new_is client declared front (n.each client declared front d f);
+    fronts_are = record {
+      many = n.fronts_are.many;
+      each = λ client declared front d f. new_is client declared front (n.fronts_are.each client declared front d f);
+    };
     logger = record {
       is = n.logger.is;
       engine = n.logger.engine;

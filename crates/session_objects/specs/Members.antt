@@ -76,6 +76,20 @@ pub record IsFrontOf {D : Type 0} (objects : SessionObjects) (shared : SharedOdb
   pub access : front.database.database ≡ odb_identity shared
   pub access_caller : front.database.caller ≡ caller_of_client client
 
+-- The front-end is the one that was declared with this client number.
+pub record IsFrontAt {D : Type 0} (objects : SessionObjects) (shared : SharedOdb D) (declared : List FrontDeclared) (client : ℕ)
+    (front : FrontSeen Generator) : Type 0 where
+  pub wanted : FrontDeclared
+  pub has_wanted : slice_get declared client ≡ Some wanted
+  pub is : IsFrontOf objects shared client wanted front
+
+-- The front-ends are those that were declared, in their order.
+pub record AreFrontsOf {D : Type 0} (objects : SessionObjects) (shared : SharedOdb D) (declared : List FrontDeclared)
+    (seats : List (FrontSeen Generator)) : Type 0 where
+  pub many : length seats ≡ length declared
+  pub each : (client : ℕ) → (wanted : FrontDeclared) → (front : FrontSeen Generator) → slice_get declared client ≡ Some wanted →
+      slice_get seats client ≡ Some front → IsFrontOf objects shared client wanted front
+
 -- These are ports of one caller, each to the buffer of its number.
 pub record ArePortsTo (buffers : List SessionBuffer) (caller : ℕ) (ports : List Access) : Type 0 where
   pub many : length ports ≡ length buffers
@@ -103,6 +117,12 @@ pub record IsAnalyzerOf (objects : SessionObjects) (client : ℕ) (declared : An
   pub port : analyzer.port.buffer ≡ ring_identity buffer.shared
   pub port_caller : analyzer.port.caller ≡ caller_of_client client
 
+-- The analyzer is the one that was declared at this place, and the first one has this client number.
+pub record IsAnalyzerAt (objects : SessionObjects) (first : ℕ) (declared : List AnalyzerDeclared) (place : ℕ) (analyzer : AnalyzerSeen) : Type 0 where
+  pub wanted : AnalyzerDeclared
+  pub has_wanted : slice_get declared place ≡ Some wanted
+  pub is : IsAnalyzerOf objects (first + place) wanted analyzer
+
 -- The analyzers are those that were declared, in their order, and the first has this client number.
 pub record AreAnalyzersOf (objects : SessionObjects) (first : ℕ) (declared : List AnalyzerDeclared) (seats : List AnalyzerSeen) : Type 0 where
   pub many : length seats ≡ length declared
@@ -113,10 +133,7 @@ pub record AreAnalyzersOf (objects : SessionObjects) (first : ℕ) (declared : L
 -- behind that the analyzers.
 pub record AreMembersOf {D F : Type 0} (fronts : List FrontDeclared) (analyzers : List AnalyzerDeclared) (objects : SessionObjects)
     (shared : SharedOdb D) (seats : List (FrontSeen Generator)) (last : LoggerSeen F) (seated_analyzers : List AnalyzerSeen) : Type 0 where
-  pub many : length seats ≡ length fronts
-  pub each : (client : ℕ) → (declared : FrontDeclared) → (front : FrontSeen Generator) →
-      slice_get fronts client ≡ Some declared → slice_get seats client ≡ Some front →
-      IsFrontOf objects shared client declared front
+  pub fronts_are : AreFrontsOf objects shared fronts seats
   pub logger : IsLoggerOf objects (length fronts) last
   pub analyzers_are : AreAnalyzersOf objects (first_analyzer fronts) analyzers seated_analyzers
 
@@ -154,6 +171,11 @@ session_calls engine database seats logger seated_analyzers = record {
 
 -- As they are at first.
 
+-- So many seats are taken, and this holds of each, by its place.
+pub record AreSeated {X : Type 0} (Holds : ℕ → X → Type 0) (count : ℕ) (seats : List X) : Type 0 where
+  pub many : length seats ≡ count
+  pub each : (place : ℕ) → (seat : X) → slice_get seats place ≡ Some seat → Holds place seat
+
 -- what a port to a shared buffer tells before its caller called
 abbrev pub new_port : SharedBuffer Window → (caller : ℕ) → Access
 new_port shared caller = access_to (ring_identity shared) (ported_by caller (first_buffer shared) [])
@@ -165,6 +187,22 @@ new_access shared caller = shared_access (odb_identity shared) caller []
 -- the ports of a caller that made no call, one to each buffer
 abbrev pub new_ports : List SessionBuffer → (caller : ℕ) → List Access
 new_ports buffers caller = map (λ buffer. new_port buffer.shared caller) buffers
+
+-- The port is new, and goes to the buffer that was declared for the front-end with this client number, which is its caller.
+pub record IsNewFrontPort (buffers : List SessionBuffer) (declared : List FrontDeclared) (client : ℕ) (port : Access) : Type 0 where
+  pub wanted : FrontDeclared
+  pub has_wanted : slice_get declared client ≡ Some wanted
+  pub buffer : SessionBuffer
+  pub has_buffer : slice_get buffers wanted.buffer ≡ Some buffer
+  pub is : port ≡ new_port buffer.shared (caller_of_client client)
+
+-- The port is new, and goes to the buffer that was declared for the analyzer at this place; its caller has this client number.
+pub record IsNewAnalyzerPort (buffers : List SessionBuffer) (declared : List AnalyzerDeclared) (place client : ℕ) (port : Access) : Type 0 where
+  pub wanted : AnalyzerDeclared
+  pub has_wanted : slice_get declared place ≡ Some wanted
+  pub buffer : SessionBuffer
+  pub has_buffer : slice_get buffers wanted.buffer ≡ Some buffer
+  pub is : port ≡ new_port buffer.shared (caller_of_client client)
 
 -- the room for an event that a channel may get from its buffer
 abbrev pub event_room_of : Option SessionBuffer → ℕ
@@ -194,6 +232,20 @@ pub record IsNewFront {D : Type 0} (objects : SessionObjects) (shared : SharedOd
   pub has_buffer : slice_get objects.buffers.items declared.buffer ≡ Some buffer
   pub is : front ≡ new_front objects shared client declared buffer
 
+-- The front-end is the one that was declared with this client number, and made no call.
+pub record IsNewFrontAt {D : Type 0} (objects : SessionObjects) (shared : SharedOdb D) (declared : List FrontDeclared) (client : ℕ)
+    (front : FrontSeen Generator) : Type 0 where
+  pub wanted : FrontDeclared
+  pub has_wanted : slice_get declared client ≡ Some wanted
+  pub is : IsNewFront objects shared client wanted front
+
+-- The front-ends are those that were declared, in their order, and none made a call.
+pub record AreNewFronts {D : Type 0} (objects : SessionObjects) (shared : SharedOdb D) (declared : List FrontDeclared)
+    (seats : List (FrontSeen Generator)) : Type 0 where
+  pub many : length seats ≡ length declared
+  pub each : (client : ℕ) → (wanted : FrontDeclared) → (front : FrontSeen Generator) → slice_get declared client ≡ Some wanted →
+      slice_get seats client ≡ Some front → IsNewFront objects shared client wanted front
+
 -- the analyzer that was declared, with so much room for an event, in no run
 abbrev pub idle_analyzer : (room : ℕ) → AnalyzerDeclared → AnalyzerState
 idle_analyzer room declared = record { wanted = request_of declared; room = room; client = None; run = None }
@@ -213,6 +265,12 @@ pub record IsNewAnalyzer (objects : SessionObjects) (client : ℕ) (declared : A
   pub buffer : SessionBuffer
   pub has_buffer : slice_get objects.buffers.items declared.buffer ≡ Some buffer
   pub is : analyzer ≡ new_analyzer objects client declared buffer
+
+-- The analyzer is the one that was declared at this place, and made no call; the first one has this client number.
+pub record IsNewAnalyzerAt (objects : SessionObjects) (first : ℕ) (declared : List AnalyzerDeclared) (place : ℕ) (analyzer : AnalyzerSeen) : Type 0 where
+  pub wanted : AnalyzerDeclared
+  pub has_wanted : slice_get declared place ≡ Some wanted
+  pub is : IsNewAnalyzer objects (first + place) wanted analyzer
 
 -- The analyzers are those that were declared, in their order, none made a call, and the first has this client number.
 pub record AreNewAnalyzers (objects : SessionObjects) (first : ℕ) (declared : List AnalyzerDeclared) (seats : List AnalyzerSeen) : Type 0 where
@@ -252,10 +310,7 @@ pub record IsMadeLogger (buffers : List SessionBuffer) (declared : List ChannelS
 -- The members are those of a session of these declarations, and none made a call.
 pub record AreNewMembers {D F K : Type 0} (fronts : List FrontDeclared) (analyzers : List AnalyzerDeclared) (channels : List ChannelSpec)
     (objects : SessionObjects) (shared : SharedOdb D) (files : F) (pick : K) (crew : CrewSeen Generator F K) : Type 0 where
-  pub many : length crew.fronts ≡ length fronts
-  pub each : (client : ℕ) → (declared : FrontDeclared) → (front : FrontSeen Generator) →
-      slice_get fronts client ≡ Some declared → slice_get crew.fronts client ≡ Some front →
-      IsNewFront objects shared client declared front
+  pub fronts_are : AreNewFronts objects shared fronts crew.fronts
   pub logger : IsNewLogger objects (length fronts) channels files crew.logger
   pub analyzers_are : AreNewAnalyzers objects (first_analyzer fronts) analyzers crew.analyzers
   pub has_pick : crew.pick ≡ pick
@@ -265,10 +320,7 @@ pub record AreNewMembers {D F K : Type 0} (fronts : List FrontDeclared) (analyze
 pub record AreBareMembers {D : Type 0} (fronts : List FrontDeclared) (analyzers : List AnalyzerDeclared) (channels : List ChannelSpec)
     (objects : SessionObjects) (shared : SharedOdb D) (seats : List (FrontSeen Generator)) (logger : LoggerMember)
     (accesses : List Access) (seated_analyzers : List AnalyzerSeen) : Type 0 where
-  pub many : length seats ≡ length fronts
-  pub each : (client : ℕ) → (declared : FrontDeclared) → (front : FrontSeen Generator) →
-      slice_get fronts client ≡ Some declared → slice_get seats client ≡ Some front →
-      IsNewFront objects shared client declared front
+  pub fronts_are : AreNewFronts objects shared fronts seats
   pub made : IsMadeLogger objects.buffers.items channels logger.logger
   pub engine : logger.seat.engine.now ≡ objects.engine
   pub is : logger.seat.client ≡ length fronts

@@ -56,13 +56,20 @@ pub record HaveCallers {D : Type 0} (fronts : List FrontDeclared) (analyzers : L
   pub read_from : (place : ℕ) → (analyzer : AnalyzerDeclared) → slice_get analyzers place ≡ Some analyzer →
       analyzer.buffer < length objects.buffers.items
 
+-- each front-end has an id that a front-end's events may have
+abbrev pub HaveFrontIds : List FrontDeclared → Type 0
+HaveFrontIds fronts = (client : ℕ) → (front : FrontDeclared) → slice_get fronts client ≡ Some front → IsFrontId front.id
+
+-- each channel has one of so many buffers to read
+abbrev pub HaveBuffers : List ChannelSpec → (buffers : ℕ) → Type 0
+HaveBuffers channels buffers = (place : ℕ) → (channel : ChannelSpec) → slice_get channels place ≡ Some channel → channel.buffer < buffers
+
 -- These members can be had for these objects.
 pub record SuitMembers {D : Type 0} (fronts : List FrontDeclared) (analyzers : List AnalyzerDeclared) (channels : List ChannelSpec)
     (objects : SessionObjects) (shared : SharedOdb D) : Type 0 where
   pub callers : HaveCallers fronts analyzers objects shared
   pub few : length fronts ≤ 32
   pub few_analyzers : length analyzers ≤ 8
-  pub ids : (client : ℕ) → (front : FrontDeclared) → slice_get fronts client ≡ Some front → IsFrontId front.id
+  pub ids : HaveFrontIds fronts
   pub numbers : HaveNumbers channels
-  pub read : (place : ℕ) → (channel : ChannelSpec) → slice_get channels place ≡ Some channel →
-      channel.buffer < length objects.buffers.items
+  pub read : HaveBuffers channels (length objects.buffers.items)

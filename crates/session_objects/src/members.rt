@@ -1,18 +1,15 @@
 // Making the members of a session.
-ghost use Rattle.std.specs.Prelude.{◌≡◌, ◌≤◌, ◌<◌, ◌+◌, ◌-◌, [], ℕ, List, None, Some, length, map, min, slice_get, IfOk, OnOk, IfErr};
+ghost use Rattle.std.specs.Prelude.{◌≡◌, ◌≤◌, ◌<◌, ◌+◌, ◌-◌, [], length, map, min, slice_get, IfOk, OnOk, IfErr};
 ghost use Rattle.daq_types.specs.Callers.{caller_of_client};
-ghost use Rattle.daq_model.specs.Events.{event_limit};
-ghost use Rattle.daq_io.specs.Seen.{Seen};
 ghost use Rattle.turn_lock.specs.Passes.{own_entries};
 ghost use Rattle.buffer_lock.specs.SharedPorts.{access_by};
 ghost use Rattle.odb_lock.specs.SharedAccesses.{access_by_pass};
 ghost use Rattle.analyzers.specs.AnalyzerKept.{AnalyzerStands, AnalyzerTells};
-ghost use Rattle.front_ends.specs.FrontIds.{IsFrontId};
 ghost use Rattle.loggers.specs.NewLoggers.{HaveNumbers};
 ghost use Rattle.loggers.specs.OtherFiles.{AreDeclared};
-ghost use Rattle.session_objects.specs.Objects.{first_analyzer, HaveCallers, SuitMembers};
+ghost use Rattle.session_objects.specs.Objects.{first_analyzer, HaveCallers, HaveFrontIds, HaveBuffers, SuitMembers};
 ghost use Rattle.session_objects.specs.Kept.{out_to_fronts, out_to_ports, out_to_logger, out_to_analyzers, out_to_members, HasFreshBut};
-ghost use Rattle.session_objects.specs.Members.{ring_window, new_port, new_access, generator_of, event_room_of, event_rooms, idle_analyzer, IsNewFront, IsNewAnalyzer, AreNewAnalyzers, IsMadeLogger, AreBareMembers, AreNewMembers, AreMembersOf};
+ghost use Rattle.session_objects.specs.Members.{ring_window, new_port, new_access, generator_of, event_room_of, event_rooms, idle_analyzer, IsNewFrontPort, IsNewAnalyzerPort, IsNewFrontAt, AreNewFronts, IsNewAnalyzerAt, AreNewAnalyzers, IsMadeLogger, AreBareMembers, AreNewMembers, AreMembersOf};
 
 use crate::objects::{SessionBuffer, SessionObjects};
 use crate::passes::{SessionPasses, take_fresh};
@@ -99,8 +96,7 @@ fn event_rooms(
     buffers: &[SessionBuffer],
     channels: &[ChannelSpec],
 ) -> Result<Vec<u32>, NoMemory>
-    requires { (place : ℕ) → (channel : _) → slice_get channels.now place ≡ Some channel →
-        channel.buffer < length buffers.now }
+    requires { HaveBuffers channels.now (length buffers.now) }
     ensures { IfOk result (λ rooms. rooms.items ≡ event_rooms buffers.now channels.now) }
 {
     let mut rooms = Vec::new(alloc);
@@ -117,8 +113,7 @@ fn make_logger(
     channels: ChannelSpecs,
 ) -> Result<Logger, NoMemory>
     requires numbers { HaveNumbers channels }
-    requires read { (place : ℕ) → (channel : _) → slice_get channels place ≡ Some channel →
-        channel.buffer < length buffers.now }
+    requires read { HaveBuffers channels (length buffers.now) }
     ensures { IfOk result (IsMadeLogger buffers.now channels) }
 {
     let rooms = event_rooms(alloc, buffers, channels.as_slice())?;
@@ -165,9 +160,8 @@ impl SessionObjects {
         ensures client { result.seat.client ≡ client }
         ensures engine { result.seat.engine.now ≡ self.now.engine }
         ensures calls { own_entries result.seat.pass ≡ [] }
-        ensures port { (d buffer : _) → slice_get declared.now client ≡ Some d →
-            slice_get self.now.buffers.items d.buffer ≡ Some buffer →
-            access_by ring_window result.port ≡ new_port buffer.shared (caller_of_client client) }
+        ensures port { IsNewFrontPort self.now.buffers.items declared.now client
+            (access_by ring_window result.port) }
         ensures access { access_by_pass result.access
             ≡ new_access database.now (caller_of_client client) }
     {
@@ -192,15 +186,13 @@ impl SessionObjects {
     ) -> Result<SessionFront<'a, D>, NoMemory>
         requires client { client < length declared.now }
         requires few { length declared.now ≤ 32 }
-        requires ids { (client : ℕ) → (d : _) → slice_get declared.now client ≡ Some d →
-            IsFrontId d.id }
+        requires ids { HaveFrontIds declared.now }
         requires callers { HaveCallers declared.now analyzers.now self.now database.now }
         requires out { HasFreshBut (out_to_fronts declared.now client) self.now database.now
             passes.old }
         ensures out { OnOk result (HasFreshBut (out_to_fronts declared.now (client + 1)) self.now
             database.now passes.new) }
-        ensures front { IfOk result (λ front. (d : _) → slice_get declared.now client ≡ Some d →
-            IsNewFront self.now database.now client d front) }
+        ensures front { IfOk result (IsNewFrontAt self.now database.now declared.now client) }
     {
         let FrontPlaces { seat, port, access } = self.place_front(
             database, declared, analyzers, client, passes,
@@ -220,22 +212,19 @@ impl SessionObjects {
         passes: &mut SessionPasses<D>,
     ) -> Result<Vec<SessionFront<'a, D>>, NoMemory>
         requires few { length declared.now ≤ 32 }
-        requires ids { (client : ℕ) → (d : _) → slice_get declared.now client ≡ Some d →
-            IsFrontId d.id }
+        requires ids { HaveFrontIds declared.now }
         requires callers { HaveCallers declared.now analyzers.now self.now database.now }
         requires out { HasFreshBut (out_to_fronts declared.now 0) self.now database.now
             passes.old }
         ensures out { OnOk result (HasFreshBut (out_to_fronts declared.now (length declared.now))
             self.now database.now passes.new) }
-        ensures many { IfOk result (λ fronts. length fronts.items ≡ length declared.now) }
-        ensures each { IfOk result (λ fronts. (client : ℕ) → (d front : _) →
-            slice_get declared.now client ≡ Some d → slice_get fronts.items client ≡ Some front →
-            IsNewFront self.now database.now client d front) }
+        ensures fronts { IfOk result (λ fronts. AreNewFronts self.now database.now declared.now
+            fronts.items) }
     {
-        let mut fronts = Vec::new(alloc);
+        let mut fronts = Vec::with_capacity(alloc, declared.len())?;
         for client in 0..declared.len() as u32 {
             let front = self.seat_front(alloc, database, declared, analyzers, client, passes)?;
-            fronts.push(front)?;
+            fronts.push_reserved(front);
         }
         Ok(fronts)
     }
@@ -311,10 +300,8 @@ impl SessionObjects {
         ensures client { result.seat.client ≡ first_analyzer declared.now + place }
         ensures engine { result.seat.engine.now ≡ self.now.engine }
         ensures calls { own_entries result.seat.pass ≡ [] }
-        ensures port { (d buffer : _) → slice_get analyzers.now place ≡ Some d →
-            slice_get self.now.buffers.items d.buffer ≡ Some buffer →
-            access_by ring_window result.port
-            ≡ new_port buffer.shared (caller_of_client (first_analyzer declared.now + place)) }
+        ensures port { IsNewAnalyzerPort self.now.buffers.items analyzers.now place
+            (first_analyzer declared.now + place) (access_by ring_window result.port) }
     {
         let client = declared.len() as u32 + 1 + place;
         let caller = Caller::of_client(client).number();
@@ -344,9 +331,8 @@ impl SessionObjects {
             (length self.now.buffers.items) place) self.now database.now passes.old }
         ensures out { OnOk result (HasFreshBut (out_to_analyzers declared.now analyzers.now
             (length self.now.buffers.items) (place + 1)) self.now database.now passes.new) }
-        ensures analyzer { IfOk result (λ analyzer. (d : _) →
-            slice_get analyzers.now place ≡ Some d →
-            IsNewAnalyzer self.now (first_analyzer declared.now + place) d analyzer) }
+        ensures analyzer { IfOk result (IsNewAnalyzerAt self.now (first_analyzer declared.now)
+            analyzers.now place) }
     {
         let analyzer = make_analyzer(alloc, &self.buffers, &analyzers[place as usize])?;
         let AnalyzerPlaces { seat, port } = self.place_analyzer(

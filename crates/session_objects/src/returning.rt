@@ -1,5 +1,5 @@
 // Taking the passes of a session's objects back from its members.
-ghost use Rattle.std.specs.Prelude.{◌≡◌, ◌≢◌, ◌<◌, ◌+◌, ◌++◌, ◌∷◌, [], ℕ, None, Some, length, slice_get, map};
+ghost use Rattle.std.specs.Prelude.{◌≡◌, ◌<◌, ◌+◌, Some, length, slice_get, map};
 ghost use Rattle.daq_types.specs.Callers.{caller_of_client};
 ghost use Rattle.turn_lock.specs.Passes.{seen_by, own_entries};
 ghost use Rattle.buffer_lock.specs.SharedPorts.{access_by};
@@ -10,7 +10,7 @@ ghost use Rattle.session_objects.specs.Calls.{SessionCalls};
 ghost use Rattle.session_objects.specs.Objects.{first_analyzer, HaveCallers};
 ghost use Rattle.session_objects.specs.Kept.{out_to_fronts, out_to_ports, out_to_logger, out_to_analyzers, out_to_members, HasFreshBut};
 ghost use Rattle.session_objects.specs.Records.{HasCallsBut, HasCalls};
-ghost use Rattle.session_objects.specs.Members.{ring_window, ArePortsTo, IsFrontOf, IsLoggerOf, IsAnalyzerOf, AreAnalyzersOf, AreMembersOf, front_calls, analyzer_calls, session_calls};
+ghost use Rattle.session_objects.specs.Members.{ring_window, ArePortsTo, IsFrontAt, AreFrontsOf, IsLoggerOf, IsAnalyzerAt, AreAnalyzersOf, AreMembersOf, front_calls, analyzer_calls, session_calls};
 
 use crate::objects::SessionObjects;
 use crate::passes::SessionPasses;
@@ -52,8 +52,7 @@ impl SessionObjects {
         passes: &mut SessionPasses<D>,
     )
         ghost calls: { SessionCalls }
-        requires client { (d : _) × (slice_get declared.now client ≡ Some d)
-            × IsFrontOf self.now database.now client d front }
+        requires client { IsFrontAt self.now database.now declared.now client front }
         requires calls { slice_get calls.fronts client ≡ Some (front_calls front) }
         requires out { HasCallsBut (out_to_fronts declared.now (client + 1)) declared.now
             analyzers.now calls self.now database.now passes.old }
@@ -81,10 +80,7 @@ impl SessionObjects {
         passes: &mut SessionPasses<D>,
     )
         ghost calls: { SessionCalls }
-        requires many { length fronts.items ≡ length declared.now }
-        requires each { (client : ℕ) → (d front : _) → slice_get declared.now client ≡ Some d →
-            slice_get fronts.items client ≡ Some front →
-            IsFrontOf self.now database.now client d front }
+        requires fronts { AreFrontsOf self.now database.now declared.now fronts.items }
         requires calls { calls.fronts ≡ map front_calls fronts.items }
         requires out { HasCallsBut (out_to_fronts declared.now (length declared.now))
             declared.now analyzers.now calls self.now database.now passes.old }
@@ -157,8 +153,8 @@ impl SessionObjects {
         passes: &mut SessionPasses<D>,
     )
         ghost calls: { SessionCalls }
-        requires place { (d : _) × (slice_get analyzers.now place ≡ Some d)
-            × IsAnalyzerOf self.now (first_analyzer declared.now + place) d analyzer }
+        requires place { IsAnalyzerAt self.now (first_analyzer declared.now) analyzers.now place
+            analyzer }
         requires calls { slice_get calls.analyzers place ≡ Some (analyzer_calls analyzer) }
         requires fronts { length calls.fronts ≡ length declared.now }
         requires out { HasCallsBut (out_to_analyzers declared.now analyzers.now

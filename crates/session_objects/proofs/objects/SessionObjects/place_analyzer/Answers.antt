@@ -9,7 +9,7 @@ use Rattle.transition_lock.specs.SharedEngines.{engine_lock_of}
 use Rattle.session_setup.specs.declared.declared.AnalyzerDeclared.{AnalyzerDeclared}
 use Rattle.session_objects.specs.declared.objects.SessionBuffer.{SessionBuffer}
 use Rattle.session_objects.specs.declared.passes.SessionPasses.{SessionPasses}
-use Rattle.session_objects.proofs.ChangeLaws.{there_below, some_same}
+use Rattle.session_objects.proofs.ChangeLaws.{there_below}
 use Rattle.session_objects.proofs.PlaceLaws.{analyzer_has, analyzer_has_engine, analyzer_out}
 use Rattle.session_objects.proofs.ToldLaws.{new_port_is}
 use Rattle.session_objects.proofs.objects.SessionObjects.place_analyzer.Goals as goal
@@ -91,11 +91,12 @@ returns-clause-port g c =
     let r = there_below c.args.passes.now.buffers.items d0.buffer (omega arith) in
     let k = c.requires.out.buffers d0.buffer b0 r.0 at_b r.1 in
     let taken = c.take_of_buffer-pass.ensures.taken.there r.0 r.1 in
-    let has_number : c.number-caller.result ≡ length c.args.declared.now + 1 + c.args.place + 1 = c.number-caller.ensures ∙ c.of_client.ensures in
-    λ d buffer at there.
-    let same_d : d0 ≡ d = some_same d0 d (sym at0 ∙ at) in
-    let same_b : b0 ≡ buffer = some_same b0 buffer (sym at_b ∙ ap (λ (z : AnalyzerDeclared). slice_get c.args.self.now.buffers.items z.buffer) same_d ∙ there) in
-    new_port_is c.new-port.result buffer.shared (length c.args.declared.now + 1 + c.args.place + 1)
-    (c.new-port.ensures.buffer ∙ ap (λ (z : SessionBuffer). z.shared) same_b)
-    (ap (λ p. number_of p) c.new-port.ensures.pass ∙ (taken.2.is ∙ has_number))
-    (ap (λ p. seen_by p) c.new-port.ensures.pass ∙ (taken.2.fresh k.fresh).seen)
+    let has_number : c.number-caller.result ≡ length c.args.declared.now + 1 + c.args.place + 1 = c.number-caller.ensures ∙ c.of_client.ensures in record {
+      wanted = d0;
+      has_wanted = at0;
+      buffer = b0;
+      has_buffer = at_b;
+      is = new_port_is c.new-port.result b0.shared (length c.args.declared.now + 1 + c.args.place + 1) c.new-port.ensures.buffer
+          (ap (λ p. number_of p) c.new-port.ensures.pass ∙ (taken.2.is ∙ has_number))
+          (ap (λ p. seen_by p) c.new-port.ensures.pass ∙ (taken.2.fresh k.fresh).seen);
+    }

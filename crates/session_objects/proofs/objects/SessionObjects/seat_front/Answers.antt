@@ -10,8 +10,8 @@ use Rattle.front_ends.specs.FrontIds.{IsFrontId}
 use Rattle.front_ends.specs.Fronts.{FrontState}
 use Rattle.frontend_kit.specs.declared.generator.Generator.{Generator}
 use Rattle.session_setup.specs.declared.declared.FrontDeclared.{FrontDeclared}
-use Rattle.session_objects.specs.Members.{new_front, IsNewFront, generator_takes, generator_makes}
-use Rattle.session_objects.proofs.ChangeLaws.{there_below, some_same}
+use Rattle.session_objects.specs.Members.{new_front, generator_takes, generator_makes}
+use Rattle.session_objects.proofs.ChangeLaws.{some_same}
 use Rattle.session_objects.proofs.SeatLaws.{seen_same, stands_yet, wide_enough}
 use Rattle.session_objects.proofs.objects.SessionObjects.seat_front.Goals as goal
 
@@ -23,24 +23,18 @@ new-requires g c =
 
 pub new-requires-2-clause-stands : goal.new-requires-2-clause-stands
 new-requires-2-clause-stands g c =
-    let d : FrontDeclared = c.index-declared-client.result in
-    let at : slice_get c.args.declared.now c.args.client ≡ Some d = slice_get_read c.args.declared.now (length c.args.declared.now) c.args.client d refl c.requires.client c.index-declared-client.is in
-    let b = there_below c.args.self.now.buffers.items d.buffer (c.requires.callers.sent_into c.args.client d at) in
     let e = c.in_ok-member.ensures in
     let place = c.place_front-seat.ensures in
     stands_yet c.place_front-seat.result.seat.client c.in_ok-member.member.seat.client c.in_ok-member.member.name c.generator_of.result c.in_ok-member.member.front
     (own_entries c.in_ok-member.member.seat.pass) _ _
     (ap (λ s. s.client) e.seat) e.front (ap (λ s. own_entries s.pass) e.seat ∙ place.calls)
-    (ap (λ (a : Access). a.own) (place.port d b.0 at b.1)) (ap own_watched place.access)
+    (ap (λ (a : Access). a.own) place.port.is) (ap own_watched place.access)
     (let N : List ℕ → Type 0 = λ n. FrontMemberStands c.place_front-seat.result.seat.client n (generator_takes c.generator_of.result) (generator_makes c.generator_of.result) None [] [] [] in
     subst N (sym e.name) e.stands)
 
 pub new-requires-2-clause-caller : goal.new-requires-2-clause-caller
 new-requires-2-clause-caller g c =
-    let d : FrontDeclared = c.index-declared-client.result in
-    let at : slice_get c.args.declared.now c.args.client ≡ Some d = slice_get_read c.args.declared.now (length c.args.declared.now) c.args.client d refl c.requires.client c.index-declared-client.is in
-    let b = there_below c.args.self.now.buffers.items d.buffer (c.requires.callers.sent_into c.args.client d at) in
-    ap (λ (a : Access). a.caller) (c.place_front-seat.ensures.port d b.0 at b.1)
+    ap (λ (a : Access). a.caller) c.place_front-seat.ensures.port.is
     ∙ ap (λ (n : ℕ). n + 1) (sym (ap (λ s. s.client) c.in_ok-member.ensures.seat ∙ c.place_front-seat.ensures.client))
 
 pub new-requires-2-clause-database_caller : goal.new-requires-2-clause-database_caller
@@ -50,31 +44,31 @@ new-requires-2-clause-database_caller g c =
 
 pub new-requires-2-clause-size : goal.new-requires-2-clause-size
 new-requires-2-clause-size g c =
-    let d : FrontDeclared = c.index-declared-client.result in
-    let at : slice_get c.args.declared.now c.args.client ≡ Some d = slice_get_read c.args.declared.now (length c.args.declared.now) c.args.client d refl c.requires.client c.index-declared-client.is in
-    let b = there_below c.args.self.now.buffers.items d.buffer (c.requires.callers.sent_into c.args.client d at) in
-    let is : _ ≡ b.0.size = ap (λ (a : Access). a.size) (c.place_front-seat.ensures.port d b.0 at b.1) ∙ ap (λ (w : Window). w.size) b.0.opens in
-    let P : ℕ → Type 0 = λ n. 104 ≤ n in subst P (sym is) (wide_enough b.0.size b.0.sized)
+    let port = c.place_front-seat.ensures.port in
+    let is : _ ≡ port.buffer.size = ap (λ (a : Access). a.size) port.is ∙ ap (λ (w : Window). w.size) port.buffer.opens in
+    let P : ℕ → Type 0 = λ n. 104 ≤ n in subst P (sym is) (wide_enough port.buffer.size port.buffer.sized)
 
 pub returns-clause-front : goal.returns-clause-front
 returns-clause-front g c =
     let d : FrontDeclared = c.index-declared-client.result in
     let at : slice_get c.args.declared.now c.args.client ≡ Some d = slice_get_read c.args.declared.now (length c.args.declared.now) c.args.client d refl c.requires.client c.index-declared-client.is in
-    let b = there_below c.args.self.now.buffers.items d.buffer (c.requires.callers.sent_into c.args.client d at) in
     let e = c.in_ok-member.ensures in
     let n = c.new-2.ensures in
     let place = c.place_front-seat.ensures in
-    let P : FrontDeclared → Type 0 = λ z. IsNewFront c.args.self.now c.args.database.now c.args.client z c.new-2.result in
-    λ z there. subst P (some_same d z (sym at ∙ there)) (record {
-      buffer = b.0;
-      has_buffer = b.1;
-      is = seen_same c.new-2.result (new_front c.args.self.now c.args.database.now c.args.client d b.0)
-          (n.engine ∙ ap (λ s. s.engine.now) e.seat ∙ place.engine)
-          (n.client ∙ ap (λ s. s.client) e.seat ∙ place.client)
-          (n.name ∙ e.name)
-          (n.equipment ∙ ap (λ (f : FrontState Generator). f.equipment) e.front ∙ c.generator_of.ensures)
-          (n.run ∙ ap (λ (f : FrontState Generator). f.run) e.front)
-          (n.calls ∙ ap (λ s. own_entries s.pass) e.seat ∙ place.calls)
-          (n.port ∙ place.port d b.0 at b.1)
-          (n.database ∙ place.access);
-    })
+    let same : place.port.wanted ≡ d = some_same place.port.wanted d (sym place.port.has_wanted ∙ at) in record {
+      wanted = d;
+      has_wanted = at;
+      is = record {
+        buffer = place.port.buffer;
+        has_buffer = ap (λ (z : FrontDeclared). slice_get c.args.self.now.buffers.items z.buffer) (sym same) ∙ place.port.has_buffer;
+        is = seen_same c.new-2.result (new_front c.args.self.now c.args.database.now c.args.client d place.port.buffer)
+            (n.engine ∙ ap (λ s. s.engine.now) e.seat ∙ place.engine)
+            (n.client ∙ ap (λ s. s.client) e.seat ∙ place.client)
+            (n.name ∙ e.name)
+            (n.equipment ∙ ap (λ (f : FrontState Generator). f.equipment) e.front ∙ c.generator_of.ensures)
+            (n.run ∙ ap (λ (f : FrontState Generator). f.run) e.front)
+            (n.calls ∙ ap (λ s. own_entries s.pass) e.seat ∙ place.calls)
+            (n.port ∙ place.port.is)
+            (n.database ∙ place.access);
+      };
+    }

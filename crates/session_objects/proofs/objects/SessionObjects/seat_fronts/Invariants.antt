@@ -1,14 +1,13 @@
-use Rattle.std.proofs.Common.{◌≡◌, ℕ, length}
-use Rattle.std.specs.Prelude.{slice_get, Some}
-use Rattle.frontend_kit.specs.declared.generator.Generator.{Generator}
-use Rattle.session_setup.specs.declared.declared.FrontDeclared.{FrontDeclared}
-use Rattle.daq_members.specs.FrontSeats.{FrontSeen}
+-- So far the first front-ends have their seats, and there is room for the others.
+use Rattle.std.specs.Prelude.{◌≡◌, ◌≤◌, length, vec_len, vec_capacity}
 use Rattle.session_objects.specs.Kept.{out_to_fronts, HasFreshBut}
-use Rattle.session_objects.specs.Members.{IsNewFront}
+use Rattle.session_objects.specs.Members.{AreSeated, IsNewFrontAt}
 use Rattle.session_objects.proofs.objects.SessionObjects.seat_fronts.Given as goal
 
 abbrev pub invariant-loop-client : goal.invariant-loop-client
-invariant-loop-client g l = (length l.fronts.items ≡ l.client)
-    × HasFreshBut (out_to_fronts l.declared l.client) l.self l.database l.passes
-    × ((client : ℕ) → (front : FrontSeen Generator) → slice_get l.fronts.items client ≡ Some front →
-    (d : FrontDeclared) → slice_get l.declared client ≡ Some d → IsNewFront l.self l.database client d front)
+invariant-loop-client g l = record {
+  seated : AreSeated (IsNewFrontAt l.self l.database l.declared) l.client l.fronts.items;
+  count : vec_len l.fronts ≡ l.client;
+  room : length l.declared ≤ vec_capacity l.fronts;
+  out : HasFreshBut (out_to_fronts l.declared l.client) l.self l.database l.passes;
+}

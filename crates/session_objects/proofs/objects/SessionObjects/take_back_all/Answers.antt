@@ -15,7 +15,7 @@ pub take_back_analyzers-requires : goal.take_back_analyzers-requires
 take_back_analyzers-requires g c =
     let calls = c.requires.1.1.1.0 in
     let members = c.requires.1.1.1.1.1.0 in
-    let same : length g.calls.fronts ≡ length c.args.declared.now = ap (λ (k : SessionCalls). length k.fronts) calls ∙ length-map c.args.parts.fronts.items front_calls ∙ members.many in
+    let same : length g.calls.fronts ≡ length c.args.declared.now = ap (λ (k : SessionCalls). length k.fronts) calls ∙ length-map c.args.parts.fronts.items front_calls ∙ members.fronts_are.many in
     λ κs lives. (
       lives,
       (
@@ -31,7 +31,7 @@ pub take_back_logger-files-requires : goal.take_back_logger-files-requires
 take_back_logger-files-requires g c =
     let calls = c.requires.1.1.1.0 in
     let members = c.requires.1.1.1.1.1.0 in
-    let same : length g.calls.fronts ≡ length c.args.declared.now = ap (λ (k : SessionCalls). length k.fronts) calls ∙ length-map c.args.parts.fronts.items front_calls ∙ members.many in
+    let same : length g.calls.fronts ≡ length c.args.declared.now = ap (λ (k : SessionCalls). length k.fronts) calls ∙ length-map c.args.parts.fronts.items front_calls ∙ members.fronts_are.many in
     λ κs bounds. (
       bounds.0,
       (
@@ -52,7 +52,7 @@ take_back_logger-files-requires g c =
 pub take_back_fronts-requires : goal.take_back_fronts-requires
 take_back_fronts-requires g c =
     let members = c.requires.1.1.1.1.1.0 in
-    λ κs lives. (lives, (members.many, (members.each, (ap (λ (k : SessionCalls). k.fronts) c.requires.1.1.1.0, c.take_back_logger-files.ensures.out))))
+    λ κs lives. (lives, (members.fronts_are, (ap (λ (k : SessionCalls). k.fronts) c.requires.1.1.1.0, c.take_back_logger-files.ensures.out)))
 
 pub put_to_engine-requires : goal.put_to_engine-requires
 put_to_engine-requires g c = room_for (told_of_engine g.calls) (engine_lock_of c.args.self.now.engine) c.take_back_fronts.new.passes.engine 0 [] c.take_back_fronts.ensures.engine

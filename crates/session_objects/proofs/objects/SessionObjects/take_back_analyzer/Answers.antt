@@ -1,4 +1,4 @@
-use Rattle.std.proofs.Common.{◌≡◌, ◌∙◌, ◌+◌, ℕ, length, ap, sym, refl, subst, get_or}
+use Rattle.std.proofs.Common.{◌≡◌, ◌∙◌, ◌+◌, ◌<◌, ℕ, length, ap, sym, refl, subst, get_or}
 use Rattle.std.specs.Prelude.{slice_get, Some}
 use Rattle.std.proofs.lemmas.Option.{slice_get-get_or, slice_get_within}
 use Rattle.turn_lock.specs.Passes.{number_of, IsOf}
@@ -7,20 +7,37 @@ use Rattle.transition_lock.specs.declared.shared.SharedEngine.{SharedEngine}
 use Rattle.transition_lock.specs.SharedEngines.{engine_lock_of}
 use Rattle.session_setup.specs.declared.declared.AnalyzerDeclared.{AnalyzerDeclared}
 use Rattle.session_objects.specs.Members.{IsAnalyzerOf, analyzer_calls}
+use Rattle.session_objects.specs.Kept.{out_to_analyzers}
 use Rattle.session_objects.proofs.ChangeLaws.{some_same}
-use Rattle.session_objects.proofs.ReturnLaws.{analyzer_back, analyzer_room, analyzer_engine_room}
+use Rattle.session_objects.proofs.ReturnLaws.{analyzer_back, analyzer_room, analyzer_engine_room, buffer_within}
 use Rattle.session_objects.proofs.ToldLaws.{port_tells}
 use Rattle.session_objects.proofs.objects.SessionObjects.take_back_analyzer.Goals as goal
+
+pub bounds-analyzers-place : goal.bounds-analyzers-place
+bounds-analyzers-place g c = slice_get_within c.args.analyzers.now c.args.place c.requires.1.0.wanted c.requires.1.0.has_wanted
 
 pub put_to_engine-requires : goal.put_to_engine-requires
 put_to_engine-requires g c =
     analyzer_engine_room c.args.declared.now c.args.analyzers.now g.calls c.args.self.now c.args.database.now (length c.args.self.now.buffers.items) c.args.place c.args.passes.now c.requires.1.1.1.1
 
+pub put_to_buffer-requires-clause-within : goal.put_to_buffer-requires-clause-within
+put_to_buffer-requires-clause-within g c =
+    let d : AnalyzerDeclared = c.requires.1.0.wanted in
+    let at : slice_get c.args.analyzers.now c.args.place ≡ Some d = c.requires.1.0.has_wanted in
+    let is : IsAnalyzerOf c.args.self.now (length c.args.declared.now + 1 + c.args.place) d c.args.analyzer = c.requires.1.0.is in
+    let d0 : AnalyzerDeclared = get_or c.args.analyzers.now c.args.place c.index-analyzers-place.result in
+    let at0 : slice_get c.args.analyzers.now c.args.place ≡ Some d0 = slice_get-get_or c.args.analyzers.now c.args.place c.index-analyzers-place.result (slice_get_within c.args.analyzers.now c.args.place d at) in
+    let P : AnalyzerDeclared → Type 0 = λ z. z.buffer < length c.put_to_engine.new.self.buffers.items in
+    subst P (some_same d d0 (sym at ∙ at0))
+    (buffer_within c.args.declared.now c.args.analyzers.now g.calls c.args.self.now c.args.database.now
+    (out_to_analyzers c.args.declared.now c.args.analyzers.now (length c.args.self.now.buffers.items) (c.args.place + 1)) d.buffer is.buffer
+    c.args.passes.now c.put_to_engine.new.self is.has_buffer c.requires.1.1.1.1 c.put_to_engine.ensures.buffers)
+
 pub put_to_buffer-requires-clause-room : goal.put_to_buffer-requires-clause-room
 put_to_buffer-requires-clause-room g c =
-    let d : AnalyzerDeclared = c.requires.1.0.0 in
-    let at : slice_get c.args.analyzers.now c.args.place ≡ Some d = c.requires.1.0.1 in
-    let is : IsAnalyzerOf c.args.self.now (length c.args.declared.now + 1 + c.args.place) d c.args.analyzer = c.requires.1.0.2 in
+    let d : AnalyzerDeclared = c.requires.1.0.wanted in
+    let at : slice_get c.args.analyzers.now c.args.place ≡ Some d = c.requires.1.0.has_wanted in
+    let is : IsAnalyzerOf c.args.self.now (length c.args.declared.now + 1 + c.args.place) d c.args.analyzer = c.requires.1.0.is in
     let d0 : AnalyzerDeclared = get_or c.args.analyzers.now c.args.place c.index-analyzers-place.result in
     let at0 : slice_get c.args.analyzers.now c.args.place ≡ Some d0 = slice_get-get_or c.args.analyzers.now c.args.place c.index-analyzers-place.result (slice_get_within c.args.analyzers.now c.args.place d at) in
     let same : d ≡ d0 = some_same d d0 (sym at ∙ at0) in
@@ -31,9 +48,9 @@ put_to_buffer-requires-clause-room g c =
 
 pub returns : goal.returns
 returns g c =
-    let d : AnalyzerDeclared = c.requires.1.0.0 in
-    let at : slice_get c.args.analyzers.now c.args.place ≡ Some d = c.requires.1.0.1 in
-    let is : IsAnalyzerOf c.args.self.now (length c.args.declared.now + 1 + c.args.place) d c.args.analyzer = c.requires.1.0.2 in
+    let d : AnalyzerDeclared = c.requires.1.0.wanted in
+    let at : slice_get c.args.analyzers.now c.args.place ≡ Some d = c.requires.1.0.has_wanted in
+    let is : IsAnalyzerOf c.args.self.now (length c.args.declared.now + 1 + c.args.place) d c.args.analyzer = c.requires.1.0.is in
     let d0 : AnalyzerDeclared = get_or c.args.analyzers.now c.args.place c.index-analyzers-place.result in
     let at0 : slice_get c.args.analyzers.now c.args.place ≡ Some d0 = slice_get-get_or c.args.analyzers.now c.args.place c.index-analyzers-place.result (slice_get_within c.args.analyzers.now c.args.place d at) in
     let same : d0 ≡ d = some_same d0 d (sym at0 ∙ at) in

@@ -34,7 +34,7 @@ take_back_analyzer-requires g c =
     λ κs lives. (
       lives,
       (
-        (d.0, d.1, c.requires.1.0.each n d.0 x d.1 at),
+        record { wanted = d.0; has_wanted = d.1; is = c.requires.1.0.each n d.0 x d.1 at },
         (
           ap (λ zs. slice_get zs n) c.requires.1.1.0 ∙ slice_get-map analyzer_calls all n ∙ ap (option_map analyzer_calls) at,
           (c.requires.1.1.1.0, subst P count inv.1),

@@ -1,4 +1,4 @@
-use Rattle.std.proofs.Common.{◌≡◌, ◌∙◌, ◌+◌, ℕ, ap, sym, subst, get_or}
+use Rattle.std.proofs.Common.{◌≡◌, ◌∙◌, ◌+◌, ◌<◌, ℕ, length, ap, sym, subst, get_or}
 use Rattle.std.specs.Prelude.{slice_get, Some}
 use Rattle.std.proofs.lemmas.Option.{slice_get-get_or, slice_get_within}
 use Rattle.turn_lock.specs.Passes.{number_of, seen_by}
@@ -9,16 +9,41 @@ use Rattle.odb_port.specs.DatabasePorts.{DatabaseAccess}
 use Rattle.session_setup.specs.declared.declared.FrontDeclared.{FrontDeclared}
 use Rattle.turn_lock.specs.Passes.{IsOf}
 use Rattle.session_objects.specs.Members.{IsFrontOf, front_calls}
+use Rattle.session_objects.specs.Kept.{out_to_fronts}
 use Rattle.session_objects.proofs.ChangeLaws.{some_same}
-use Rattle.session_objects.proofs.ReturnLaws.{front_back, front_room}
+use Rattle.session_objects.proofs.ReturnLaws.{front_back, front_room, front_engine_room, front_database_room, buffer_within}
 use Rattle.session_objects.proofs.ToldLaws.{port_tells}
 use Rattle.session_objects.proofs.objects.SessionObjects.take_back_front.Goals as goal
 
+pub bounds-declared-client : goal.bounds-declared-client
+bounds-declared-client g c = slice_get_within c.args.declared.now c.args.client c.requires.1.0.wanted c.requires.1.0.has_wanted
+
+pub put_to_engine-requires : goal.put_to_engine-requires
+put_to_engine-requires g c =
+    front_engine_room c.args.declared.now c.args.analyzers.now g.calls c.args.self.now c.args.database.now c.args.client c.args.passes.now c.requires.1.1.1
+
+pub put_to_database-requires : goal.put_to_database-requires
+put_to_database-requires g c =
+    front_database_room c.args.declared.now c.args.analyzers.now g.calls c.args.self.now c.args.database.now c.args.client c.args.passes.now c.put_to_engine.new.self c.requires.1.1.1
+    c.put_to_engine.ensures.database
+
+pub put_to_buffer-requires-clause-within : goal.put_to_buffer-requires-clause-within
+put_to_buffer-requires-clause-within g c =
+    let d : FrontDeclared = c.requires.1.0.wanted in
+    let at : slice_get c.args.declared.now c.args.client ≡ Some d = c.requires.1.0.has_wanted in
+    let is : IsFrontOf c.args.self.now c.args.database.now c.args.client d c.args.front = c.requires.1.0.is in
+    let d0 : FrontDeclared = get_or c.args.declared.now c.args.client c.index-declared-client.result in
+    let at0 : slice_get c.args.declared.now c.args.client ≡ Some d0 = slice_get-get_or c.args.declared.now c.args.client c.index-declared-client.result (slice_get_within c.args.declared.now c.args.client d at) in
+    let P : FrontDeclared → Type 0 = λ z. z.buffer < length c.put_to_database.new.self.buffers.items in
+    subst P (some_same d d0 (sym at ∙ at0))
+    (buffer_within c.args.declared.now c.args.analyzers.now g.calls c.args.self.now c.args.database.now (out_to_fronts c.args.declared.now (c.args.client + 1)) d.buffer is.buffer
+    c.args.passes.now c.put_to_database.new.self is.has_buffer c.requires.1.1.1 (c.put_to_database.ensures.buffers ∙ c.put_to_engine.ensures.buffers))
+
 pub put_to_buffer-requires-clause-room : goal.put_to_buffer-requires-clause-room
 put_to_buffer-requires-clause-room g c =
-    let d : FrontDeclared = c.requires.1.0.0 in
-    let at : slice_get c.args.declared.now c.args.client ≡ Some d = c.requires.1.0.1 in
-    let is : IsFrontOf c.args.self.now c.args.database.now c.args.client d c.args.front = c.requires.1.0.2 in
+    let d : FrontDeclared = c.requires.1.0.wanted in
+    let at : slice_get c.args.declared.now c.args.client ≡ Some d = c.requires.1.0.has_wanted in
+    let is : IsFrontOf c.args.self.now c.args.database.now c.args.client d c.args.front = c.requires.1.0.is in
     let d0 : FrontDeclared = get_or c.args.declared.now c.args.client c.index-declared-client.result in
     let at0 : slice_get c.args.declared.now c.args.client ≡ Some d0 = slice_get-get_or c.args.declared.now c.args.client c.index-declared-client.result (slice_get_within c.args.declared.now c.args.client d at) in
     let same : d ≡ d0 = some_same d d0 (sym at ∙ at0) in
@@ -28,9 +53,9 @@ put_to_buffer-requires-clause-room g c =
 
 pub returns : goal.returns
 returns g c =
-    let d : FrontDeclared = c.requires.1.0.0 in
-    let at : slice_get c.args.declared.now c.args.client ≡ Some d = c.requires.1.0.1 in
-    let is : IsFrontOf c.args.self.now c.args.database.now c.args.client d c.args.front = c.requires.1.0.2 in
+    let d : FrontDeclared = c.requires.1.0.wanted in
+    let at : slice_get c.args.declared.now c.args.client ≡ Some d = c.requires.1.0.has_wanted in
+    let is : IsFrontOf c.args.self.now c.args.database.now c.args.client d c.args.front = c.requires.1.0.is in
     let d0 : FrontDeclared = get_or c.args.declared.now c.args.client c.index-declared-client.result in
     let at0 : slice_get c.args.declared.now c.args.client ≡ Some d0 = slice_get-get_or c.args.declared.now c.args.client c.index-declared-client.result (slice_get_within c.args.declared.now c.args.client d at) in
     let same : d0 ≡ d = some_same d0 d (sym at0 ∙ at) in

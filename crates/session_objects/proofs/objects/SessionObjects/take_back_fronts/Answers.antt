@@ -13,7 +13,7 @@ use Rattle.session_objects.proofs.objects.SessionObjects.take_back_fronts.Goals 
 pub loop-front-init : goal.loop-front-init
 loop-front-init g c =
     let P : ℕ → Type 0 = λ n. HasCallsBut (out_to_fronts c.args.declared.now n) c.args.declared.now c.args.analyzers.now g.calls c.args.self.now c.args.database.now c.args.passes.now in
-    (([], sym (append-nil c.args.fronts.items)), subst P (sym c.requires.1.0) c.requires.1.1.1.1)
+    (([], sym (append-nil c.args.fronts.items)), subst P (sym c.requires.1.0.many) c.requires.1.1.1)
 
 pub take_back_front-requires : goal.take_back_front-requires
 take_back_front-requires g c =
@@ -27,15 +27,15 @@ take_back_front-requires g c =
     let same : n ≡ length new = search rules in
     let at : slice_get all n ≡ Some x = ap (λ m. slice_get all m) same ∙ ap (λ zs. slice_get zs (length new)) (inv.0.1 ∙ ap (λ zs. zs ++ inv.0.0) popped) ∙ get_seam new inv.0.0 x in
     let within : n < length all = slice_get_within all n x at in
-    let many : length all ≡ length c.args.declared.now = c.requires.1.0 in
+    let many : length all ≡ length c.args.declared.now = c.requires.1.0.many in
     let d = there_below c.args.declared.now n (omega arith) in
     let count : length left ≡ n + 1 = ap length popped ∙ length-append new (x ∷ []) ∙ ap (λ m. m + 1) (sym same) in
     let P : ℕ → Type 0 = λ m. HasCallsBut (out_to_fronts c.args.declared.now m) c.args.declared.now c.args.analyzers.now g.calls c.args.self.now c.args.database.now c.loop-front.passes in
     λ κs lives. (
       lives,
       (
-        (d.0, d.1, c.requires.1.1.0 n d.0 x d.1 at),
-        (ap (λ zs. slice_get zs n) c.requires.1.1.1.0 ∙ slice_get-map front_calls all n ∙ ap (option_map front_calls) at, subst P count inv.1),
+        record { wanted = d.0; has_wanted = d.1; is = c.requires.1.0.each n d.0 x d.1 at },
+        (ap (λ zs. slice_get zs n) c.requires.1.1.0 ∙ slice_get-map front_calls all n ∙ ap (option_map front_calls) at, subst P count inv.1),
       ),
     )
 
