@@ -130,7 +130,7 @@ module _ {D F : Type 0} {g : _} (seen : F → Seen) (fronts : List FrontDeclared
       (λ s told. ap (entries_by (suc client)) (told ∙ ap database_seen_by is)))
 
   unseen : (client : ℕ) → length fronts ≤ client → database_seen_by (slice_get (map front_calls ended.seats) client) ≡ []
-  unseen client past = ap database_seen_by (slice_get_past (map front_calls ended.seats) client (omega (arith, many front_calls ended.seats, ended.members.many, past)))
+  unseen client past = ap database_seen_by (slice_get_past (map front_calls ended.seats) client (omega (arith, many front_calls ended.seats, ended.members.fronts_are.many, past)))
 
   no_database : (by : ℕ) → length fronts < by → calls_on_database closed by ≡ []
   no_database zero past = absurd (omega arith)
@@ -221,7 +221,7 @@ module _ {D F : Type 0} {g : _} (seen : F → Seen) (fronts : List FrontDeclared
   -- The front-ends.
 
   seat_at : (client : ℕ) → client < length fronts → (front : FrontSeen Generator) × (slice_get ended.seats client ≡ Some front)
-  seat_at client less = there ended.seats client (omega (arith, ended.members.many, less))
+  seat_at client less = there ended.seats client (omega (arith, ended.members.fronts_are.many, less))
 
   ports_of : (buffer client : ℕ) (d : FrontDeclared) (front : FrontSeen Generator) → slice_get fronts client ≡ Some d → slice_get ended.seats client ≡ Some front
       → port_of_caller fronts analyzers calls buffer (suc client) ≡ (if d.buffer == buffer then Some front.port else None)
@@ -249,7 +249,7 @@ module _ {D F : Type 0} {g : _} (seen : F → Seen) (fronts : List FrontDeclared
       let less : client < length fronts = slice_get_within fronts client d at in
       let seat = seat_at client less in
       let front : FrontSeen Generator = seat.0 in
-      let of : IsFrontOf ended.objects ended.shared client d front = ended.members.each client d front at seat.1 in
+      let of : IsFrontOf ended.objects ended.shared client d front = ended.members.fronts_are.each client d front at seat.1 in
       let seated : IsSeated generator_takes generator_makes front = ended.seated client front seat.1 in
       let by : ℕ = caller_of_client client in
       let engine : front.calls ≡ engine_calls closed by = sym (engine_by client (omega arith) ∙ ap (engine_calls_by (behind client)) (map_at front_calls ended.seats client front seat.1)) in
@@ -282,14 +282,14 @@ module _ {D F : Type 0} {g : _} (seen : F → Seen) (fronts : List FrontDeclared
   -- The logger.
 
   logger_seat : slice_get (map front_calls ended.seats) (length fronts) ≡ None
-  logger_seat = slice_get_past (map front_calls ended.seats) (length fronts) (omega (arith, many front_calls ended.seats, ended.members.many))
+  logger_seat = slice_get_past (map front_calls ended.seats) (length fronts) (omega (arith, many front_calls ended.seats, ended.members.fronts_are.many))
 
   pub logger_engine : engine_calls closed (logger_caller closed) ≡ logger.calls
   logger_engine =
       subst (λ (n : ℕ). engine_calls closed (caller_of_client n) ≡ logger.calls) (sym number)
       (engine_by (length fronts) (omega arith)
       ∙ (ap (engine_calls_by (behind (length fronts))) logger_seat
-      ∙ ap (engine_calls_behind calls) (let first : length fronts - length (map front_calls ended.seats) ≡ 0 = omega (arith, many front_calls ended.seats, ended.members.many) in first)))
+      ∙ ap (engine_calls_behind calls) (let first : length fronts - length (map front_calls ended.seats) ≡ 0 = omega (arith, many front_calls ended.seats, ended.members.fronts_are.many) in first)))
 
   logger_port : (buffer : ℕ) (a : Access) → slice_get logger.ports buffer ≡ Some a → port_of_caller fronts analyzers calls buffer (suc (length fronts)) ≡ Some a
   logger_port buffer a at =
@@ -335,8 +335,8 @@ module _ {D F : Type 0} {g : _} (seen : F → Seen) (fronts : List FrontDeclared
 
   analyzer_at_engine : (place client : ℕ) (seated_analyzer : AnalyzerSeen) → IsAt place client → place < length analyzers → slice_get ended.seated_analyzers place ≡ Some seated_analyzer → seated_analyzer.calls ≡ engine_calls closed (caller_of_client client)
   analyzer_at_engine place client seated_analyzer is less seat =
-      let none : slice_get (map front_calls ended.seats) client ≡ None = slice_get_past (map front_calls ended.seats) client (omega (arith, many front_calls ended.seats, ended.members.many, is)) in
-      let past : client - length (map front_calls ended.seats) ≡ suc place = omega (arith, many front_calls ended.seats, ended.members.many, is) in
+      let none : slice_get (map front_calls ended.seats) client ≡ None = slice_get_past (map front_calls ended.seats) client (omega (arith, many front_calls ended.seats, ended.members.fronts_are.many, is)) in
+      let past : client - length (map front_calls ended.seats) ≡ suc place = omega (arith, many front_calls ended.seats, ended.members.fronts_are.many, is) in
       sym (engine_by client (omega (arith, is, less))
       ∙ (ap (engine_calls_by (behind client)) none
       ∙ (ap (engine_calls_behind calls) past
