@@ -5,5 +5,6 @@ pub mod Keeping
 pub mod KeptDumps
 pub mod Quotas
 pub mod Finishing
+pub mod FirstStarts
 pub mod MainEnds
 pub mod KeptByScripts

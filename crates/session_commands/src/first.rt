@@ -68,11 +68,54 @@ pub fn play_first<'a, R: Wait, D: Database, S: Source, O: Sink, E: Files, C: Clo
         (access_by_pass result.side.access) }
     ensures closed { result.declarations.opened ≡ false }
 {
+    let access = SharedAccess::new(shared, main);
+    play_unopened(
+        rt,
+        alloc,
+        access,
+        declarations,
+        files,
+        clock,
+        desk,
+        src,
+        out,
+    )
+}
+
+/// Plays the lines of a script up to its first start, or to its end, over a database that is called by any port.
+fn play_unopened<R: Wait, D: LastingPort, S: Source, O: Sink, E: Files, C: Clock>(
+    rt: &R,
+    alloc: Global,
+    access: D,
+    declarations: Declarations,
+    files: E,
+    clock: C,
+    desk: &mut Desk,
+    src: &mut S,
+    out: &mut O,
+) -> FirstEnd<D, E, C>
+    requires caller { (D.access access).caller ≡ main_caller }
+    requires nothing { declarations ≡ nothing_declared }
+    requires unread { desk.old.reader ≡ no_line_read }
+    requires none { desk.old.refusals ≡ record { count = 0; first = 0 } }
+    requires zero { desk.old.number ≡ 0 }
+    ensures played { PlaysFirst
+        (side_told D.access E.seen E.faults E.clashes E.first C.tells C.ahead)
+        (D.access access) files clock
+        (S.left src.old) (O.written out.old) result.end
+        (script_at (S.left src.new) (O.written out.new) desk.new.reader desk.new.last
+        desk.new.refusals desk.new.number) result.quota result.declarations result.side }
+    ensures fits { FitsOn result.end desk.new.number desk.new.reader.taken }
+    ensures source { SourceCounts result.end (S.faults src.old) (S.faults src.new) }
+    ensures sink { SinkCounts result.end (O.faults out.old) (O.faults out.new) }
+    ensures same { IsSamePort (D.access access) (D.access result.side.access) }
+    ensures closed { result.declarations.opened ≡ false }
+{
     let mut unopened = Unopened {
         quota: 0,
         declarations,
         database: DatabaseDesk {
-            access: SharedAccess::new(shared, main),
+            access,
             files,
             replies: FileReplies::empty(alloc),
         },

@@ -1,14 +1,9 @@
 //! What the lines of a script say together. Each function does nothing, and its contract is the law.
-ghost use Rattle.std.specs.Prelude.{Option, None};
-ghost use Rattle.script_desk.specs.declared.endings.Ending.{Ending};
-ghost use Rattle.script_desk.specs.declared.endings.Ending.TheVariants.{Halted};
-ghost use Rattle.script_desk.specs.declared.halts.Halt.{Halt};
-ghost use Rattle.script_desk.specs.declared.halts.Halt.TheVariants.{NoMemory as no_memory};
-ghost use Rattle.session_lines.specs.Stages.{SessionStage};
-ghost use Rattle.session_lines.specs.RunLines.{CutsOpening, OpensSession};
-ghost use Rattle.session_commands.specs.Finishing.{FinishesLine, FinishesOpening, ScriptAt, UnopenedFinish};
+ghost use Rattle.session_commands.specs.Finishing.{UnopenedFinish};
+ghost use Rattle.session_commands.specs.FirstStarts.{CutFinish, ReadyFinish};
 ghost use Rattle.session_commands.specs.KeptByScripts.{ScriptsKeep};
 
+use crate::lasting::LastingPort;
 use crate::unopened::Unopened;
 use daq_io::{Clock, Files};
 use odb_commands::laws::calls_spare_runinfo;
@@ -24,15 +19,20 @@ use watch_commands::laws::watch_commands_spare_runinfo;
 /// What the first start does once its session is open it does from where the session was not open. Where there is no memory to
 /// open it, the script ended there. And behind a script that opened no session nothing is done.
 pub fn first_start_opens<'a, D: Database, E: Files, C: Clock>(_shared: &'a SharedOdb<D>)
-    ensures ready { (at behind : ScriptAt) (now ready final : SessionStage) (ending : Ending)
-        (closing : Option Halt) → OpensSession now ready
-        → FinishesLine at behind ready final ending closing
-        → FinishesOpening at behind now final ending closing }
-    ensures cut { (at : ScriptAt) (now new : SessionStage) → CutsOpening now new
-        → FinishesOpening at at now new (Halted no_memory) None }
+    ensures ready { ReadyFinish }
+    ensures cut { CutFinish }
     ensures unopened { UnopenedFinish }
 {
-    lines_end::<Unopened<SharedAccess<'a, D>, E, C>>();
+    start_opens::<SharedAccess<'a, D>, E, C>();
+}
+
+/// The same of a session whose database is called by any port.
+fn start_opens<D: LastingPort, E: Files, C: Clock>()
+    ensures ready { ReadyFinish }
+    ensures cut { CutFinish }
+    ensures unopened { UnopenedFinish }
+{
+    lines_end::<Unopened<D, E, C>>();
 }
 
 /// What a script that was played to its end keeps of its session.

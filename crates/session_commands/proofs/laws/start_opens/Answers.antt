@@ -1,6 +1,6 @@
 use Rattle.std.proofs.Common.{◌+◌}
 use Rattle.session_commands.proofs.OpeningLaws.{closes_nothing, cut_breaks, line_breaks_so, line_so, still_closed}
-use Rattle.session_commands.proofs.laws.first_start_opens.Goals as goal
+use Rattle.session_commands.proofs.laws.start_opens.Goals as goal
 
 pub returns-clause-ready : goal.returns-clause-ready
 returns-clause-ready g c = λ at behind now ready final ending closing opens finishes first source written opening.
