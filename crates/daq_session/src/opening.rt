@@ -150,7 +150,12 @@ fn thread_room<
     Ok(Some(room))
 }
 
-/// Takes room for threads of the members, but where the main thread gives them their turns; and makes the keys of the front-ends.
+/// Lets room for threads go. That is shown here once, over members of any kind.
+pub fn let_go<'a, X: Equipment + Drop, P: EndlessPort + Drop, D: WatchPort + Drop, F: Files + Drop>(
+    _room: Option<ThreadRoom<'a, X, P, D, F>>,
+) {}
+
+/// Makes the keys of the front-ends; and takes room for threads of the members, but where the main thread gives them their turns.
 pub fn open_keys<'a, R: Wait, D: Database, F: Files + Drop>(
     rt: &R,
     alloc: Global,
@@ -166,9 +171,8 @@ pub fn open_keys<'a, R: Wait, D: Database, F: Files + Drop>(
         (access_by_pass access.old) (access_by_pass access.new)) }
     ensures same { IsSamePort (access_by_pass access.old) (access_by_pass access.new) }
 {
-    let room = thread_room(alloc, cooperative)?;
     front_keys(rt, alloc, access, fronts)?;
-    Ok(room)
+    thread_room(alloc, cooperative)
 }
 
 /// The channel once more.

@@ -17,7 +17,7 @@ ghost use Rattle.daq_session.specs.Environments.{outside_told};
 ghost use Rattle.daq_session.specs.LinesEnded.{outside_left};
 ghost use Rattle.daq_session.specs.Played.{PlaysObjects, PlaysOpened, unopened_lines};
 
-use crate::opening::{SessionRoom, open_keys, open_members};
+use crate::opening::{SessionRoom, let_go, open_keys, open_members};
 use crate::places::Places;
 use daq_io::{Clock, Files, Gate, Outside, Pick, Sink, Source};
 use database_files::FileReplies;
@@ -261,9 +261,12 @@ pub fn play_objects<
         Ok((runs, crew)) => {
             play_opened(rt, alloc, places, room, runs, crew, side, passes, script)
         }
-        Err(Unmanned { files, pick }) => OpenedEnd {
-            lines: end_unopened(NO_MEMORY, side, files, pick, script),
-            session: None,
-        },
+        Err(Unmanned { files, pick }) => {
+            let_go(room);
+            OpenedEnd {
+                lines: end_unopened(NO_MEMORY, side, files, pick, script),
+                session: None,
+            }
+        }
     }
 }
