@@ -1,6 +1,7 @@
 mod Types
 mod Reading
 mod Ending
+mod EndCounts
 mod Dumping
 mod Dumped
 mod Complete

@@ -43,6 +43,33 @@ fn sum_events<S: Ahead, T: Summary>(
     }
 }
 
+/// Reads all of a file into a summary of none, and puts on the page what is told of its events together.
+fn tell_events<S: Ahead, T: Summary>(
+    reader: &mut MidReader<S>,
+    room: &mut EventBuf,
+    summary: &mut T,
+    page: &mut TextBuffer,
+) -> ToolEnd
+    requires new { reader.old.progress ≡ nothing_read }
+    requires room { event_limit ≤ room.old.room }
+    requires none { T.has_taken summary.old [] }
+    requires blank { page.old ≡ [] }
+    ensures reads { ReadsTo (Tells T.text) (S.left reader.old.source) page.new result }
+    ensures faults { SourceByEnd result (S.faults reader.old.source) (S.faults reader.new.source) }
+    ensures origin { S.origin reader.new.source ≡ S.origin reader.old.source }
+{
+    match sum_events(reader, room, summary) {
+        Ok(()) => {
+            let run = reader.run().unwrap_or(0);
+            if summary.tell(run, reader.place(), page).is_err() {
+                return ToolEnd::NoMemory;
+            }
+            ToolEnd::Done
+        }
+        Err(fault) => stop_at(fault, page),
+    }
+}
+
 /// Reads all of a file, and puts on the page what is told of its events together.
 fn read_and_tell<S: Ahead, T: Summary>(
     alloc: Global,
@@ -61,16 +88,7 @@ fn read_and_tell<S: Ahead, T: Summary>(
     let Ok(mut summary) = T::empty(alloc) else {
         return ToolEnd::NoMemory;
     };
-    match sum_events(reader, &mut room, &mut summary) {
-        Ok(()) => {
-            let run = reader.run().unwrap_or(0);
-            if summary.tell(run, reader.place(), page).is_err() {
-                return ToolEnd::NoMemory;
-            }
-            ToolEnd::Done
-        }
-        Err(fault) => stop_at(fault, page),
-    }
+    tell_events(reader, &mut room, &mut summary, page)
 }
 
 /// Reads a source in blocks, as `read_and_tell`, and gives it back.
