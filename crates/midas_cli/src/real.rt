@@ -60,12 +60,29 @@ fn real_outside(rt: HostRuntime) -> Result<RealOutside, NoMemory> {
     })
 }
 
+/// Calls the program with these words and these objects. This is the status of its outcome.
+fn call<R: Threads + Wait + Sync>(
+    threads: &R,
+    rt: HostRuntime,
+    words: &Words,
+    outside: RealOutside,
+) -> u8 {
+    let (outcome, _outside) = midas(threads, rt.alloc(), words, outside, &NoGate);
+    outcome.into_summary().status
+}
+
+/// Calls the program with the words of the command line and the real objects.
+fn call_given<R: Threads + Wait + Sync>(threads: &R, rt: HostRuntime) -> Result<u8, NoMemory> {
+    let words = given_words(rt)?;
+    let outside = real_outside(rt)?;
+    Ok(call(threads, rt, &words, outside))
+}
+
 /// The whole program: it gives the words of the command line and the real objects to `midas`, and its status is that of
 /// the outcome, 0 to 5. Where there is no memory for the words or the objects it is 5, and nothing was done.
 pub fn run_program<R: Threads + Wait + Sync>(threads: &R, rt: HostRuntime) -> ExitCode {
-    let (Ok(words), Ok(outside)) = (given_words(rt), real_outside(rt)) else {
-        return ExitCode::from(status(&Cause::NoMemory));
-    };
-    let (outcome, _outside) = midas(threads, rt.alloc(), &words, outside, &NoGate);
-    ExitCode::from(outcome.status)
+    match call_given(threads, rt) {
+        Ok(status) => ExitCode::from(status),
+        Err(NoMemory) => ExitCode::from(status(&Cause::NoMemory)),
+    }
 }
