@@ -8,6 +8,7 @@ mod fault_rows;
 mod manners;
 mod meeting;
 mod outsides;
+mod page;
 mod playing;
 mod rows;
 mod session_rows;
@@ -15,14 +16,14 @@ mod telling;
 
 use crate::database_rows::DATABASE_ROWS;
 use crate::fault_rows::FAULT_ROWS;
-use crate::manners::{FIRST_FIRST, OTHERS};
+use crate::manners::{FIRST_FIRST, Manner, OTHERS};
 use crate::meeting::{MeetingGate, add_meeting};
+use crate::page::Page;
+use crate::playing::tell_row;
 use crate::rows::Row;
 use crate::session_rows::SESSION_ROWS;
-use crate::telling::{Page, tell_row};
 use daq_io::write_all;
 use daq_std::StdSink;
-use daq_types::NoMemory;
 use midas_cli::run_program;
 use std::alloc::Global;
 use std::process::ExitCode;
@@ -34,56 +35,89 @@ const NO_MEMORY: u8 = 5;
 
 const NOT_WRITTEN: u8 = 4;
 
-/// Adds a row, with the first member first in each round, and what comes of it where it is played otherwise, if that differs.
-fn add_row<R: Threads + Wait + Sync>(
+/// Adds what comes of a row where it is played so, if it is told and is another text than this one.
+fn add_other<R: Threads + Wait + Sync>(
     rt: &R,
     alloc: Global,
     page: &mut Page,
     row: &Row,
-) -> Result<(), NoMemory> {
+    manner: Manner,
+    first: &str,
+) {
     let gate = MeetingGate::of(0);
-    let told = tell_row(rt, alloc, row, FIRST_FIRST, &gate)?;
-    page.extend_from_slice(told.as_slice())?;
-    for manner in &OTHERS {
-        let other = tell_row(rt, alloc, row, *manner, &gate)?;
-        if manner.tells(row) && told.as_slice() != other.as_slice() {
-            page.extend_from_slice(manner.title().as_bytes())?;
-            page.extend_from_slice(other.as_slice())?;
-        }
+    let mut other = Page::new(alloc);
+    tell_row(rt, alloc, &mut other, row, manner, &gate);
+    if other.lacks {
+        page.lacks = true;
     }
-    Ok(())
+    if manner.tells(row) && first != other.text.as_str() {
+        page.add(manner.title());
+        page.add(other.text.as_str());
+    }
+}
+
+/// Adds a row, with the first member first in each round, and what comes of it where it is played otherwise, if that differs.
+fn add_row<R: Threads + Wait + Sync>(rt: &R, alloc: Global, page: &mut Page, row: &Row) {
+    let gate = MeetingGate::of(0);
+    let mut told = Page::new(alloc);
+    tell_row(rt, alloc, &mut told, row, FIRST_FIRST, &gate);
+    if told.lacks {
+        page.lacks = true;
+    }
+    page.add(told.text.as_str());
+    for manner in &OTHERS {
+        add_other(rt, alloc, page, row, *manner, told.text.as_str());
+    }
 }
 
 /// Adds the rows of a table.
-fn add_table<R: Threads + Wait + Sync>(
-    rt: &R,
-    alloc: Global,
-    page: &mut Page,
-    rows: &[Row],
-) -> Result<(), NoMemory> {
+fn add_table<R: Threads + Wait + Sync>(rt: &R, alloc: Global, page: &mut Page, rows: &[Row]) {
     for row in rows {
-        add_row(rt, alloc, page, row)?;
+        add_row(rt, alloc, page, row);
     }
-    Ok(())
+}
+
+/// Adds the rows of sessions. Each table is named in a function of its own, which holds its text.
+fn add_sessions<R: Threads + Wait + Sync>(rt: &R, alloc: Global, page: &mut Page) {
+    add_table(rt, alloc, page, &SESSION_ROWS);
+}
+
+/// Adds the rows of sessions with a call that fails.
+fn add_faults<R: Threads + Wait + Sync>(rt: &R, alloc: Global, page: &mut Page) {
+    add_table(rt, alloc, page, &FAULT_ROWS);
+}
+
+/// Adds the rows of the online database.
+fn add_databases<R: Threads + Wait + Sync>(rt: &R, alloc: Global, page: &mut Page) {
+    add_table(rt, alloc, page, &DATABASE_ROWS);
 }
 
 /// All rows.
-fn add_rows<R: Threads + Wait + Sync>(rt: &R, alloc: Global) -> Result<Page, NoMemory> {
-    let mut page = Vec::new(alloc);
-    add_table(rt, alloc, &mut page, &SESSION_ROWS)?;
-    add_table(rt, alloc, &mut page, &FAULT_ROWS)?;
-    add_table(rt, alloc, &mut page, &DATABASE_ROWS)?;
-    add_meeting(rt, alloc, &mut page)?;
-    Ok(page)
+fn all_rows<R: Threads + Wait + Sync>(rt: &R, alloc: Global) -> Page {
+    let mut page = Page::new(alloc);
+    add_sessions(rt, alloc, &mut page);
+    add_faults(rt, alloc, &mut page);
+    add_databases(rt, alloc, &mut page);
+    add_meeting(rt, alloc, &mut page);
+    page
+}
+
+/// Prints what all rows come to. Otherwise this is the status.
+fn print_rows<R: Threads + Wait + Sync>(threads: &R, rt: HostRuntime) -> Result<(), u8> {
+    let page = all_rows(threads, rt.alloc());
+    if page.lacks {
+        return Err(NO_MEMORY);
+    }
+    let mut out = StdSink::new(rt.stdout());
+    match write_all(&mut out, page.text.as_bytes()) {
+        Ok(()) => Ok(()),
+        Err(_) => Err(NOT_WRITTEN),
+    }
 }
 
 fn main(rt: HostRuntime) -> ExitCode {
-    let Ok(page) = add_rows(&rt, rt.alloc()) else {
-        return ExitCode::from(NO_MEMORY);
-    };
-    let mut out = StdSink::new(rt.stdout());
-    match write_all(&mut out, page.as_slice()) {
+    match print_rows(&rt, rt) {
         Ok(()) => run_program(&rt, rt),
-        Err(_) => ExitCode::from(NOT_WRITTEN),
+        Err(status) => ExitCode::from(status),
     }
 }

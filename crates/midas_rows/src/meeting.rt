@@ -1,11 +1,12 @@
 //! A session whose members meet at a gate: each of them is held there until all have come, which they can only where each has
 //! its turns in a thread of its own.
 use crate::manners::Manner;
+use crate::page::Page;
+use crate::playing::tell_row;
 use crate::rows::{PLAIN, Row};
-use crate::telling::{Page, add_line, tell_row};
 use daq_io::{Gate, Point};
-use daq_types::NoMemory;
 use std::alloc::Global;
+use std::fmt::Write;
 use std::sync::Wait;
 use std::sync::atomic::{AtomicU64, Ordering};
 use std::thread::{self, Threads};
@@ -76,17 +77,13 @@ impl Gate for MeetingGate {
 }
 
 /// Adds what that session came to in threads, and whether its members met.
-pub fn add_meeting<R: Threads + Wait + Sync>(
-    rt: &R,
-    alloc: Global,
-    page: &mut Page,
-) -> Result<(), NoMemory> {
+pub fn add_meeting<R: Threads + Wait + Sync>(rt: &R, alloc: Global, page: &mut Page) {
     let gate = MeetingGate::of(MEMBERS);
-    let told = tell_row(rt, alloc, &MEETING, Manner::InThreads, &gate)?;
-    page.extend_from_slice(told.as_slice())?;
+    tell_row(rt, alloc, page, &MEETING, Manner::InThreads, &gate);
     let (came, opened) = (gate.came(), gate.stands());
-    add_line(
-        page,
-        format!(in alloc; "{came} of {MEMBERS} members came, opened: {opened}")?.as_str(),
-    )
+    let added = writeln!(
+        page.text,
+        "{came} of {MEMBERS} members came, opened: {opened}"
+    );
+    page.note(added);
 }
