@@ -166,34 +166,78 @@ fn run_of_one_event<R: Wait, F: Files>(
     Ok(pulled)
 }
 
-/// How long the file of run 1 is, where it is closed; 0 where there is none.
-fn closed_length(files: &MemFiles) -> Result<usize, Fail> {
-    let name = run_name()?;
-    if !files.is_closed(&name) {
-        return Ok(0);
+/// How long the file of this name is, where it is closed; 0 where there is none.
+fn closed_length(files: &MemFiles, name: &FileName) -> usize {
+    if !files.is_closed(name) {
+        return 0;
     }
-    match files.find(&name) {
-        Some(bytes) => Ok(bytes.len()),
-        None => Ok(0),
+    match files.find(name) {
+        Some(bytes) => bytes.len(),
+        None => 0,
     }
 }
 
-#[test]
-fn a_failed_append_breaks_the_channel(rt: HostRuntime) -> Result<(), Fail> {
-    let alloc = rt.alloc();
+/// What came of a run of one event.
+#[derive(Drop)]
+struct Outcome {
+    pulled: Pulled,
+    state: ChannelState,
+    /// How long its file is, where it is closed.
+    length: usize,
+}
+
+/// Runs with one event over a port to a new buffer, and closes the channel.
+fn run_and_close<R: Wait>(
+    rt: &R,
+    alloc: Global,
+    files: &mut MemFiles,
+    channel: &mut Channel,
+    name: &FileName,
+) -> Result<Outcome, NoMemory>
+    requires idle { channel.old.stage ≡ Idle }
+    requires room { 1000 ≤ channel.old.event.room }
+{
+    let mut port = new_port(alloc)?;
+    let pulled = run_of_one_event(rt, files, &mut port, channel)?;
+    let state = channel.close(files, 1010, &None);
+    Ok(Outcome {
+        pulled,
+        state,
+        length: closed_length(files, name),
+    })
+}
+
+/// Files of which the third append fails, that of the event.
+fn failing_files(alloc: Global) -> Result<MemFiles, NoMemory> {
     let third = vec![in alloc;
         FileFail {
             op: FileOp::Append,
             call: 2
         },
     ]?;
-    let mut files = MemFiles::new(alloc, 4, 4096, third)?;
-    let mut port = new_port(alloc)?;
-    let mut channel = new_channel(alloc, Pattern::new("run%05d.mid")?)?;
-    let pulled = run_of_one_event(&rt, &mut files, &mut port, &mut channel)?;
-    assert!(rt; pulled == Pulled::Broke);
-    let state = channel.close(&mut files, 1010, &None);
-    assert!(rt; state == ChannelState::Broken);
-    assert!(rt; closed_length(&files)? == 189);
+    MemFiles::new(alloc, 4, 4096, third)
+}
+
+/// What comes of a run where the append of its event fails. The channel and the files end here, so that the test holds
+/// neither while it looks at what came of the run.
+fn failing_run<R: Wait>(
+    rt: &R,
+    alloc: Global,
+    pattern: Pattern,
+    name: &FileName,
+) -> Result<Outcome, NoMemory> {
+    let mut channel = new_channel(alloc, pattern)?;
+    let mut files = failing_files(alloc)?;
+    run_and_close(rt, alloc, &mut files, &mut channel, name)
+}
+
+#[test]
+fn a_failed_append_breaks_the_channel(rt: HostRuntime) -> Result<(), Fail> {
+    let pattern = Pattern::new("run%05d.mid")?;
+    let name = run_name()?;
+    let outcome = failing_run(&rt, rt.alloc(), pattern, &name)?;
+    assert!(rt; outcome.pulled == Pulled::Broke);
+    assert!(rt; outcome.state == ChannelState::Broken);
+    assert!(rt; outcome.length == 189);
     Ok(())
 }
