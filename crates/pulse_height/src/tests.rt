@@ -61,14 +61,21 @@ fn step<R: Wait, E: Equipment>(
     Ok(front.step(rt, port))
 }
 
-/// Whether a start was refused since the equipment does not take part.
-fn is_not_ready(answer: Option<Answer>) -> bool {
+/// Starts run 1 with this quota. Says whether that was refused since the equipment does not take part.
+fn is_refused<E: Equipment>(front: &mut FrontEnd<E>, quota: u32) -> bool {
+    let answer = front.on_turn(Transition::Start, &order(RunState::Stopped, quota));
     matches!(answer, Some(Answer::No(Why::NotReady)))
 }
 
-/// Whether the stop was answered with this number and the quota.
-fn is_quota(answer: Option<Answer>, wanted: u64) -> bool {
-    match answer {
+/// Stops run 1. Says whether the answer has to wait.
+fn stop_waits<E: Equipment>(front: &mut FrontEnd<E>) -> bool {
+    let answer = front.on_turn(Transition::Stop, &order(RunState::Running, 0));
+    answer.is_none()
+}
+
+/// Finishes run 1. Says how many events were sent, where the front-end answers that they are its quota.
+fn quota_told<E: Equipment>(front: &mut FrontEnd<E>) -> Option<u64> {
+    match front.finish() {
         Some(
             Answer::Yes(
                 Tally::Front {
@@ -76,59 +83,117 @@ fn is_quota(answer: Option<Answer>, wanted: u64) -> bool {
                     ended: FrontEnded::Quota,
                 },
             ),
-        ) => sent == wanted,
-        _ => false,
+        ) => Some(sent),
+        _ => None,
     }
 }
 
-/// Makes steps, with what each must come to.
-fn are_steps<R: Wait, E: Equipment>(
+/// What came of two starts, and of two steps in the run of one event that the second one started.
+#[derive(Drop)]
+struct QuotaRun {
+    /// Whether the start with the larger quota was refused.
+    refused: bool,
+    first: FrontStep,
+    second: FrontStep,
+}
+
+/// Starts run 1 with the larger quota and then with a quota of one event, and makes two steps.
+fn start_twice<R: Wait, E: Equipment>(
     rt: &R,
     front: &mut FrontEnd<E>,
     port: &mut LocalPort<PlainBuffer>,
-    steps: &[FrontStep],
-) -> Result<bool, NoMemory>
+    larger: u32,
+) -> Result<QuotaRun, NoMemory>
     requires { 104 ≤ port.old.window.size }
-    ensures { port.new.window.size ≡ port.old.window.size }
 {
-    let mut right = true;
-    for wanted in steps {
-        right = step(rt, front, port)? == *wanted && right;
-    }
-    Ok(right)
+    begin(rt, port)?;
+    let refused = is_refused(front, larger);
+    let _ = is_refused(front, 1);
+    Ok(QuotaRun {
+        refused,
+        first: step(rt, front, port)?,
+        second: step(rt, front, port)?,
+    })
+}
+
+/// The same with a new front-end and a new buffer. These end here, so that the test holds neither while it looks at what
+/// came of the run: each place where a function may end is proved with all that it holds there.
+fn quota_run<R: Wait, E: Equipment>(
+    rt: &R,
+    alloc: Global,
+    equipment: E,
+    larger: u32,
+) -> Result<QuotaRun, NoMemory>
+    requires { E.fit equipment }
+{
+    let mut front = FrontEnd::new(alloc, equipment)?;
+    let mut port = new_port(alloc)?;
+    start_twice(rt, &mut front, &mut port, larger)
+}
+
+/// What came of a run of two events that was stopped after the first.
+#[derive(Drop)]
+struct StoppedRun {
+    first: FrontStep,
+    /// Whether the answer to the stop had to wait.
+    waits: bool,
+    second: FrontStep,
+    /// How many events the answer tells, as the quota.
+    told: Option<u64>,
+}
+
+/// Starts run 1 with a quota of two events, and stops it after the first.
+fn stop_after_one<R: Wait, E: Equipment>(
+    rt: &R,
+    front: &mut FrontEnd<E>,
+    port: &mut LocalPort<PlainBuffer>,
+) -> Result<StoppedRun, NoMemory>
+    requires { 104 ≤ port.old.window.size }
+{
+    let _ = is_refused(front, 2);
+    begin(rt, port)?;
+    Ok(StoppedRun {
+        first: step(rt, front, port)?,
+        waits: stop_waits(front),
+        second: step(rt, front, port)?,
+        told: quota_told(front),
+    })
+}
+
+/// The same with a new front-end and a new buffer.
+fn stopped_run<R: Wait, E: Equipment>(
+    rt: &R,
+    alloc: Global,
+    equipment: E,
+) -> Result<StoppedRun, NoMemory>
+    requires { E.fit equipment }
+{
+    let mut front = FrontEnd::new(alloc, equipment)?;
+    let mut port = new_port(alloc)?;
+    stop_after_one(rt, &mut front, &mut port)
 }
 
 #[test]
 fn a_front_end_sends_its_quota(rt: HostRuntime) -> Result<(), Fail> {
-    let mut port = new_port(rt.alloc())?;
-    begin(&rt, &mut port)?;
     let generator = Generator {
         id: 1,
         mask: 0,
         limit: 10,
     };
-    let mut front = FrontEnd::new(rt.alloc(), generator)?;
-    let refused = front.on_turn(Transition::Start, &order(RunState::Stopped, 11));
-    assert!(rt; is_not_ready(refused));
-    let _ = front.on_turn(Transition::Start, &order(RunState::Stopped, 1));
-    let steps = [FrontStep::Sent { place: 0 }, FrontStep::NoWork];
-    assert!(rt; are_steps(&rt, &mut front, &mut port, &steps)?);
+    let run = quota_run(&rt, rt.alloc(), generator, 11)?;
+    assert!(rt; run.refused);
+    assert!(rt; run.first == FrontStep::Sent { place: 0 });
+    assert!(rt; run.second == FrontStep::NoWork);
     Ok(())
 }
 
 #[test]
 fn a_stop_waits_for_the_quota(rt: HostRuntime) -> Result<(), Fail> {
-    let mut port = new_port(rt.alloc())?;
     let heights = [16, 272, 1024, 4095, 0, 7, 513, 2048];
-    let mut front = FrontEnd::new(rt.alloc(), PulseHeight { id: 7, heights })?;
-    let _ = front.on_turn(Transition::Start, &order(RunState::Stopped, 2));
-    begin(&rt, &mut port)?;
-    let first = [FrontStep::Sent { place: 0 }];
-    assert!(rt; are_steps(&rt, &mut front, &mut port, &first)?);
-    let waits = front.on_turn(Transition::Stop, &order(RunState::Running, 0));
-    assert!(rt; waits.is_none());
-    let second = [FrontStep::Sent { place: 1 }];
-    assert!(rt; are_steps(&rt, &mut front, &mut port, &second)?);
-    assert!(rt; is_quota(front.finish(), 2));
+    let run = stopped_run(&rt, rt.alloc(), PulseHeight { id: 7, heights })?;
+    assert!(rt; run.first == FrontStep::Sent { place: 0 });
+    assert!(rt; run.waits);
+    assert!(rt; run.second == FrontStep::Sent { place: 1 });
+    assert!(rt; run.told == Some(2));
     Ok(())
 }
