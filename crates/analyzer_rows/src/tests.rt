@@ -13,7 +13,6 @@ use local_port::LocalPort;
 use plain_buffer::PlainBuffer;
 use std::alloc::Global;
 use std::sync::Wait;
-use std::test::Fail;
 use transitions::{Answer, Tally};
 
 /// The port of the rows.
@@ -166,13 +165,13 @@ fn pulls<R: Wait>(
     Ok(analyzer.pull(rt, port) == wanted)
 }
 
-/// The text of the report that the stop is answered; none while it waits.
-fn reported(alloc: Global, analyzer: &mut Analyzer) -> Result<TextBuffer, NoMemory> {
+/// Whether the report that the stop is answered prints this text. While the stop waits there is none, and no text.
+fn reports(alloc: Global, analyzer: &mut Analyzer, expected: &[u8]) -> Result<bool, NoMemory> {
     let mut text = TextBuffer::new(alloc);
     if let Some(Answer::Yes(Tally::Report(report))) = analyzer.finish() {
         report.print(b"", &mut text)?;
     }
-    Ok(text)
+    Ok(text.as_slice() == expected)
 }
 
 /// Starts the run, sends an event of each front-end in it, and stops it; whether the start is accepted and the stop has
@@ -263,30 +262,54 @@ fn counts_none<R: Wait>(
     Ok(pulls(rt, analyzer, port, AnalyzerPull::Dropped { place: 0 })? && empty)
 }
 
-#[test]
-fn an_analyzer_counts_a_run(rt: HostRuntime) -> Result<(), Fail> {
-    let alloc = rt.alloc();
+/// Which run an analyzer counts.
+#[derive(Clone, Copy)]
+enum Run {
+    /// That of two events.
+    Both,
+    /// That without events.
+    Empty,
+}
+
+/// Whether the run goes so, and the report at its end prints this text.
+fn counts<R: Wait>(
+    rt: &R,
+    alloc: Global,
+    analyzer: &mut Analyzer,
+    port: &mut Port,
+    run: Run,
+    expected: &[u8],
+) -> Result<bool, NoMemory>
+    requires room { analyzer.old.room ≡ 1000 }
+    requires size { port.old.window.size ≡ 1024 }
+    requires counted { IsWithinGot analyzer.old.run (access_of port.old).got }
+{
+    let is_right = match run {
+        Run::Both => counts_both(rt, alloc, analyzer, port)?,
+        Run::Empty => counts_none(rt, alloc, analyzer, port)?,
+    };
+    Ok(reports(alloc, analyzer, expected)? && is_right)
+}
+
+/// Whether that holds of a new analyzer over a port to a new buffer.
+fn is_right<R: Wait>(rt: &R, alloc: Global, run: Run, expected: &[u8]) -> Result<bool, NoMemory> {
     let mut port = new_port(alloc)?;
     let mut analyzer = new_analyzer(alloc)?;
-    assert!(rt; counts_both(&rt, alloc, &mut analyzer, &mut port)?);
-    let text = reported(alloc, &mut analyzer)?;
-    let expected = b"events 2\nid 1 count 1\nid 2 count 1\n\
-bank GEN0 UINT32 count 2 sum 4920204933 least 1817669548 greatest 3102535385\n\
-rest ids 0 banks 0 bad 0\n";
-    assert_eq!(rt; text.as_slice(), expected.as_slice());
-    Ok(())
+    counts(rt, alloc, &mut analyzer, &mut port, run, expected)
 }
 
 #[test]
-fn an_event_of_another_start_is_dropped(rt: HostRuntime) -> Result<(), Fail> {
-    let alloc = rt.alloc();
-    let mut port = new_port(alloc)?;
-    let mut analyzer = new_analyzer(alloc)?;
-    assert!(rt; counts_none(&rt, alloc, &mut analyzer, &mut port)?);
-    let text = reported(alloc, &mut analyzer)?;
-    assert_eq!(rt;
-        text.as_slice(),
-        b"events 0\nrest ids 0 banks 0 bad 0\n".as_slice()
-    );
-    Ok(())
+fn an_analyzer_counts_a_run(rt: HostRuntime) {
+    let expected = b"events 2\nid 1 count 1\nid 2 count 1\n\
+bank GEN0 UINT32 count 2 sum 4920204933 least 1817669548 greatest 3102535385\n\
+rest ids 0 banks 0 bad 0\n";
+    let is_right = is_right(&rt, rt.alloc(), Run::Both, expected);
+    assert!(rt; matches!(is_right, Ok(true)));
+}
+
+#[test]
+fn an_event_of_another_start_is_dropped(rt: HostRuntime) {
+    let expected = b"events 0\nrest ids 0 banks 0 bad 0\n";
+    let is_right = is_right(&rt, rt.alloc(), Run::Empty, expected);
+    assert!(rt; matches!(is_right, Ok(true)));
 }
