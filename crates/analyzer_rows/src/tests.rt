@@ -80,14 +80,35 @@ fn send<R: Wait>(rt: &R, port: &mut Port, start: u32, id: u16, body: &[u8]) -> R
     Ok(())
 }
 
-/// A turn of the run, with room to note its calls.
-fn turn<R: Wait>(
+/// What a turn is answered.
+#[derive(Clone, Copy)]
+enum Told {
+    /// Nothing yet.
+    Waits,
+    /// It accepts without more.
+    Plain,
+    /// The start is refused for want of a blank report.
+    NotReady,
+}
+
+/// Whether the answer tells this.
+fn tells(answer: &Option<Answer>, told: Told) -> bool {
+    match told {
+        Told::Waits => answer.is_none(),
+        Told::Plain => matches!(answer, Some(Answer::Yes(Tally::Plain))),
+        Told::NotReady => matches!(answer, Some(Answer::No(Why::NotReady))),
+    }
+}
+
+/// Whether a turn of the run, with room to note its calls, is answered so.
+fn turns<R: Wait>(
     rt: &R,
     analyzer: &mut Analyzer,
     port: &mut Port,
     transition: Transition,
     blank: Option<Report>,
-) -> Result<Option<Answer>, NoMemory>
+    told: Told,
+) -> Result<bool, NoMemory>
     requires blank { IfSome blank (λ report. report ≡ report_of []) }
     requires counted { IsWithinGot analyzer.old.run (access_of port.old).got }
     ensures room { analyzer.new.room ≡ analyzer.old.room }
@@ -95,17 +116,8 @@ fn turn<R: Wait>(
     ensures counted { IsWithinGot analyzer.new.run (access_of port.new).got }
 {
     port.reserve(3, 0)?;
-    Ok(analyzer.on_turn(rt, port, transition, &order(), blank))
-}
-
-/// Whether a turn was answered without more.
-fn is_plain(answer: Option<Answer>) -> bool {
-    matches!(answer, Some(Answer::Yes(Tally::Plain)))
-}
-
-/// Whether a start was refused for want of a blank report.
-fn is_not_ready(answer: Option<Answer>) -> bool {
-    matches!(answer, Some(Answer::No(Why::NotReady)))
+    let answer = analyzer.on_turn(rt, port, transition, &order(), blank);
+    Ok(tells(&answer, told))
 }
 
 /// Whether the start is accepted.
@@ -121,30 +133,14 @@ fn starts<R: Wait>(
     ensures counted { IsWithinGot analyzer.new.run (access_of port.new).got }
 {
     let blank = Report::new(alloc)?;
-    let answer = turn(rt, analyzer, port, Transition::Start, Some(blank))?;
-    Ok(is_plain(answer))
-}
-
-/// Whether a start without a blank report is refused.
-fn refuses<R: Wait>(rt: &R, analyzer: &mut Analyzer, port: &mut Port) -> Result<bool, NoMemory>
-    requires counted { IsWithinGot analyzer.old.run (access_of port.old).got }
-    ensures room { analyzer.new.room ≡ analyzer.old.room }
-    ensures size { port.new.window.size ≡ port.old.window.size }
-    ensures counted { IsWithinGot analyzer.new.run (access_of port.new).got }
-{
-    let answer = turn(rt, analyzer, port, Transition::Start, None)?;
-    Ok(is_not_ready(answer))
-}
-
-/// Whether the stop has to wait for its answer.
-fn waits<R: Wait>(rt: &R, analyzer: &mut Analyzer, port: &mut Port) -> Result<bool, NoMemory>
-    requires counted { IsWithinGot analyzer.old.run (access_of port.old).got }
-    ensures room { analyzer.new.room ≡ analyzer.old.room }
-    ensures size { port.new.window.size ≡ port.old.window.size }
-    ensures counted { IsWithinGot analyzer.new.run (access_of port.new).got }
-{
-    let answer = turn(rt, analyzer, port, Transition::Stop, None)?;
-    Ok(answer.is_none())
+    turns(
+        rt,
+        analyzer,
+        port,
+        Transition::Start,
+        Some(blank),
+        Told::Plain,
+    )
 }
 
 /// Whether a pull, with room to note its calls, is answered so.
@@ -190,7 +186,7 @@ fn runs<R: Wait>(
     let accepted = starts(rt, alloc, analyzer, port)?;
     send(rt, port, 1, 1, FIRST)?;
     send(rt, port, 1, 2, SECOND)?;
-    Ok(waits(rt, analyzer, port)? && accepted)
+    Ok(turns(rt, analyzer, port, Transition::Stop, None, Told::Waits)? && accepted)
 }
 
 /// Whether the two events are got, and nothing behind them.
@@ -198,9 +194,6 @@ fn pulls_both<R: Wait>(rt: &R, analyzer: &mut Analyzer, port: &mut Port) -> Resu
     requires room { analyzer.old.room ≡ 1000 }
     requires size { port.old.window.size ≡ 1024 }
     requires counted { IsWithinGot analyzer.old.run (access_of port.old).got }
-    ensures room { analyzer.new.room ≡ analyzer.old.room }
-    ensures size { port.new.window.size ≡ port.old.window.size }
-    ensures counted { IsWithinGot analyzer.new.run (access_of port.new).got }
 {
     let first = pulls(rt, analyzer, port, AnalyzerPull::Folded { place: 0 })?;
     let second = pulls(rt, analyzer, port, AnalyzerPull::Folded { place: 1 })?;
@@ -218,9 +211,6 @@ fn counts_both<R: Wait>(
     requires room { analyzer.old.room ≡ 1000 }
     requires size { port.old.window.size ≡ 1024 }
     requires counted { IsWithinGot analyzer.old.run (access_of port.old).got }
-    ensures room { analyzer.new.room ≡ analyzer.old.room }
-    ensures size { port.new.window.size ≡ port.old.window.size }
-    ensures counted { IsWithinGot analyzer.new.run (access_of port.new).got }
 {
     let run = runs(rt, alloc, analyzer, port)?;
     Ok(pulls_both(rt, analyzer, port)? && run)
@@ -238,9 +228,9 @@ fn runs_empty<R: Wait>(
     ensures size { port.new.window.size ≡ port.old.window.size }
     ensures counted { IsWithinGot analyzer.new.run (access_of port.new).got }
 {
-    let refused = refuses(rt, analyzer, port)?;
+    let refused = turns(rt, analyzer, port, Transition::Start, None, Told::NotReady)?;
     let accepted = starts(rt, alloc, analyzer, port)?;
-    Ok(waits(rt, analyzer, port)? && refused && accepted)
+    Ok(turns(rt, analyzer, port, Transition::Stop, None, Told::Waits)? && refused && accepted)
 }
 
 /// Whether a run without events goes so, behind whose stop an event of another start is read and dropped.
@@ -253,9 +243,6 @@ fn counts_none<R: Wait>(
     requires room { analyzer.old.room ≡ 1000 }
     requires size { port.old.window.size ≡ 1024 }
     requires counted { IsWithinGot analyzer.old.run (access_of port.old).got }
-    ensures room { analyzer.new.room ≡ analyzer.old.room }
-    ensures size { port.new.window.size ≡ port.old.window.size }
-    ensures counted { IsWithinGot analyzer.new.run (access_of port.new).got }
 {
     let empty = runs_empty(rt, alloc, analyzer, port)?;
     send(rt, port, 2, 1, FIRST)?;
@@ -291,11 +278,25 @@ fn counts<R: Wait>(
     Ok(reports(alloc, analyzer, expected)? && is_right)
 }
 
-/// Whether that holds of a new analyzer over a port to a new buffer.
-fn is_right<R: Wait>(rt: &R, alloc: Global, run: Run, expected: &[u8]) -> Result<bool, NoMemory> {
+/// Whether that holds over a port to a new buffer.
+fn counts_new<R: Wait>(
+    rt: &R,
+    alloc: Global,
+    analyzer: &mut Analyzer,
+    run: Run,
+    expected: &[u8],
+) -> Result<bool, NoMemory>
+    requires room { analyzer.old.room ≡ 1000 }
+    requires none { analyzer.old.run ≡ None }
+{
     let mut port = new_port(alloc)?;
+    counts(rt, alloc, analyzer, &mut port, run, expected)
+}
+
+/// Whether that holds of a new analyzer.
+fn is_right<R: Wait>(rt: &R, alloc: Global, run: Run, expected: &[u8]) -> Result<bool, NoMemory> {
     let mut analyzer = new_analyzer(alloc)?;
-    counts(rt, alloc, &mut analyzer, &mut port, run, expected)
+    counts_new(rt, alloc, &mut analyzer, run, expected)
 }
 
 #[test]
