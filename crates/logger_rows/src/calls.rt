@@ -50,13 +50,16 @@ pub fn turn<R: Wait, F: Files>(
     Ok(logger.on_turn(rt, files, ports, transition, order, Some(dump)))
 }
 
-/// Sends an event of these bytes in the run with this start number.
-fn send_on<R: Wait, P: BufferPort>(rt: &R, port: &mut P, start: u32, body: &[u8])
-    requires small { length body.now ≤ 1000 }
+/// The bytes of the events' data.
+const DATA: &[u8] = &[7; 1000];
+
+/// Sends an event of so many bytes in the run with this start number.
+fn send_on<R: Wait, P: BufferPort>(rt: &R, port: &mut P, start: u32, len: usize)
     requires entries { 1 ≤ (P.access port.old).entries }
-    requires bytes { length body.now ≤ (P.access port.old).bytes }
+    requires bytes { 1000 ≤ (P.access port.old).bytes }
     ensures size { (P.access port.new).size ≡ (P.access port.old).size }
 {
+    let (body, _) = DATA.split_at(len.min(1000));
     let header = Header {
         event_id: 1,
         trigger_mask: 2,
@@ -67,47 +70,36 @@ fn send_on<R: Wait, P: BufferPort>(rt: &R, port: &mut P, start: u32, body: &[u8]
     let _ = port.send_in_run(rt, start, &header, body);
 }
 
-/// Begins the run with this start number.
-fn begin_on<R: Wait, P: BufferPort>(rt: &R, port: &mut P, start: u32)
+/// Sends an event of so many bytes in the run with this start number, or begins that run where there is none.
+fn call_on<R: Wait, P: BufferPort>(rt: &R, port: &mut P, start: u32, event: Option<usize>)
     requires entries { 1 ≤ (P.access port.old).entries }
+    requires bytes { 1000 ≤ (P.access port.old).bytes }
     ensures size { (P.access port.new).size ≡ (P.access port.old).size }
 {
-    let _ = port.begin(rt, start);
+    match event {
+        Some(len) => send_on(rt, port, start, len),
+        None => {
+            let _ = port.begin(rt, start);
+        }
+    }
 }
 
-/// Sends an event of these bytes in the run with this start number into a buffer.
-pub fn send<R: Wait>(
+/// Sends an event of so many bytes in the run with this start number into a buffer, or begins that run there where there
+/// is none.
+pub fn call<R: Wait>(
     rt: &R,
     ports: &mut Ports<Port>,
     buffer: usize,
     start: u32,
-    body: &[u8],
+    event: Option<usize>,
 ) -> Result<(), NoMemory>
-    requires small { length body.now ≤ 1000 }
     ensures sizes { OnOk result (HaveSameSizes ports.old ports.new) }
 {
     reserve_all(ports, 1, 1000)?;
     let Some(port) = ports.get_mut(buffer) else {
         return Ok(());
     };
-    send_on(rt, port, start, body);
-    Ok(())
-}
-
-/// Begins the run with this start number in a buffer.
-pub fn begin<R: Wait>(
-    rt: &R,
-    ports: &mut Ports<Port>,
-    buffer: usize,
-    start: u32,
-) -> Result<(), NoMemory>
-    ensures sizes { OnOk result (HaveSameSizes ports.old ports.new) }
-{
-    reserve_all(ports, 1, 0)?;
-    let Some(port) = ports.get_mut(buffer) else {
-        return Ok(());
-    };
-    begin_on(rt, port, start);
+    call_on(rt, port, start, event);
     Ok(())
 }
 

@@ -1,18 +1,17 @@
 //! A logger of a row, with all that it calls.
 
-ghost use Rattle.std.specs.Prelude.{◌≤◌, ◌<◌, length};
+ghost use Rattle.std.specs.Prelude.{◌≤◌, ◌<◌};
 
 use crate::calls;
 use crate::making::{Port, new_logger, new_ports};
 use daq_mem::MemFiles;
-use daq_types::{FileName, Order, RunState, Transition};
+use daq_types::{FileName, NoMemory, Order, RunState, Transition};
 use loggers::{Logger, Ports};
 use mid_logger::Pulled;
 use std::alloc::Global;
 use std::marker::Model;
 use std::process::Abort;
 use std::sync::Wait;
-use std::test::Fail;
 use transitions::Answer;
 
 /// A logger with its files and its ports, between two calls. Its run is the first, with start number 1.
@@ -40,7 +39,12 @@ impl Model for Fixture {
 impl Fixture {
     /// A new logger of so many channels over these files. Channel n reads buffer n modulo the number of
     /// buffers, of which the first has 1,024 bytes and each other 256.
-    pub fn new(alloc: Global, channels: u32, buffers: u32, files: MemFiles) -> Result<Fixture, Fail>
+    pub fn new(
+        alloc: Global,
+        channels: u32,
+        buffers: u32,
+        files: MemFiles,
+    ) -> Result<Fixture, NoMemory>
         requires few { channels ≤ 16 }
         requires some { 0 < buffers }
     {
@@ -53,8 +57,8 @@ impl Fixture {
         })
     }
 
-    /// Gives the logger a turn at this time.
-    fn turn<R: Abort + Wait>(
+    /// Gives the logger a turn at this time, of a run in this state.
+    pub fn turn<R: Abort + Wait>(
         &mut self,
         rt: &R,
         alloc: Global,
@@ -84,44 +88,16 @@ impl Fixture {
         }
     }
 
-    /// Starts the run.
-    pub fn start<R: Abort + Wait>(&mut self, rt: &R, alloc: Global) -> Option<Answer> {
-        self.turn(rt, alloc, Transition::Start, 1000, RunState::Stopped)
-    }
-
-    /// Pauses the run.
-    pub fn pause<R: Abort + Wait>(&mut self, rt: &R, alloc: Global) -> Option<Answer> {
-        self.turn(rt, alloc, Transition::Pause, 1010, RunState::Running)
-    }
-
-    /// Stops the run, which is in this state.
-    pub fn stop<R: Abort + Wait>(
+    /// Sends an event of so many bytes in the run with this start number into a buffer, or begins that run there where
+    /// there is none.
+    pub fn call<R: Abort + Wait>(
         &mut self,
         rt: &R,
-        alloc: Global,
-        from: RunState,
-    ) -> Option<Answer> {
-        self.turn(rt, alloc, Transition::Stop, 1020, from)
-    }
-
-    /// Takes the start of the run back.
-    pub fn take_back<R: Abort + Wait>(&mut self, rt: &R, alloc: Global) -> Option<Answer> {
-        self.turn(rt, alloc, Transition::StartAbort, 1000, RunState::Stopped)
-    }
-
-    /// Sends an event of these bytes in the run with this start number into a buffer.
-    pub fn send<R: Abort + Wait>(&mut self, rt: &R, buffer: usize, start: u32, body: &[u8])
-        requires small { length body.now ≤ 1000 }
-    {
-        match calls::send(rt, &mut self.ports, buffer, start, body) {
-            Ok(()) => {}
-            Err(_) => panic!(rt; "no memory"),
-        }
-    }
-
-    /// Begins the run with this start number in a buffer.
-    pub fn begin<R: Abort + Wait>(&mut self, rt: &R, buffer: usize, start: u32) {
-        match calls::begin(rt, &mut self.ports, buffer, start) {
+        buffer: usize,
+        start: u32,
+        event: Option<usize>,
+    ) {
+        match calls::call(rt, &mut self.ports, buffer, start, event) {
             Ok(()) => {}
             Err(_) => panic!(rt; "no memory"),
         }

@@ -11,7 +11,6 @@ use loggers::{ChannelSpecs, Logger, Ports};
 use mid_logger::{ChannelSpec, Pattern};
 use plain_buffer::PlainBuffer;
 use std::alloc::Global;
-use std::test::Fail;
 
 /// The port of the rows.
 pub type Port = LocalPort<PlainBuffer>;
@@ -37,16 +36,24 @@ pub fn new_ports(alloc: Global, count: u32) -> Result<Ports<Port>, NoMemory>
     Ok(ports)
 }
 
+/// The pattern of the names of a channel's files; None without memory.
+fn pattern_of(alloc: Global, number: u32) -> Option<Pattern> {
+    let text = format!(in alloc; "ch{number}run%05d.mid").ok()?;
+    Pattern::new(text.as_str()).ok()
+}
+
 /// Channel n reads buffer n modulo the number of buffers, and asks for all events.
-fn spec_of(alloc: Global, number: u32, buffers: u32) -> Result<ChannelSpec, Fail>
+fn spec_of(alloc: Global, number: u32, buffers: u32) -> Result<ChannelSpec, NoMemory>
     requires some { 0 < buffers }
     ensures number { IfOk result (λ spec. spec.number ≡ number) }
     ensures buffer { IfOk result (λ spec. spec.buffer ≡ number % buffers) }
 {
-    let text = format!(in alloc; "ch{number}run%05d.mid")?;
+    let Some(pattern) = pattern_of(alloc, number) else {
+        return Err(NoMemory);
+    };
     Ok(ChannelSpec {
         number,
-        pattern: Pattern::new(text.as_str())?,
+        pattern,
         buffer: number % buffers,
         id: 65535,
         mask: 65535,
@@ -54,7 +61,7 @@ fn spec_of(alloc: Global, number: u32, buffers: u32) -> Result<ChannelSpec, Fail
 }
 
 /// The specs of so many channels.
-fn new_specs(alloc: Global, channels: u32, buffers: u32) -> Result<ChannelSpecs, Fail>
+fn new_specs(alloc: Global, channels: u32, buffers: u32) -> Result<ChannelSpecs, NoMemory>
     requires some { 0 < buffers }
     ensures { IfOk result (AreRowSpecs channels buffers) }
 {
@@ -78,7 +85,7 @@ fn new_rooms(alloc: Global, channels: u32, buffers: u32) -> Result<Vec<u32>, NoM
 }
 
 /// A logger with so many channels.
-pub fn new_logger(alloc: Global, channels: u32, buffers: u32) -> Result<Logger, Fail>
+pub fn new_logger(alloc: Global, channels: u32, buffers: u32) -> Result<Logger, NoMemory>
     requires few { channels ≤ 16 }
     requires some { 0 < buffers }
     ensures { IfOk result (λ logger. (ports : List Ported) → (seen : Seen) →
@@ -86,5 +93,6 @@ pub fn new_logger(alloc: Global, channels: u32, buffers: u32) -> Result<Logger, 
 {
     let specs = new_specs(alloc, channels, buffers)?;
     let rooms = new_rooms(alloc, channels, buffers)?;
-    Ok(Logger::new(alloc, specs, rooms.as_slice())?)
+    let logger = Logger::new(alloc, specs, rooms.as_slice())?;
+    Ok(logger)
 }

@@ -3,12 +3,11 @@
 use crate::answers::{Told, name_of, read_answer};
 use crate::fixture::Fixture;
 use daq_mem::{FileFail, FileOp, MemFiles};
-use daq_types::RunState;
+use daq_types::{NoMemory, RunState, Transition};
 use mid_logger::Pulled;
 use std::alloc::Global;
 use std::process::Abort;
 use std::sync::Wait;
-use std::test::Fail;
 
 /// A call, and what it must come to.
 #[derive(Clone, Copy)]
@@ -37,7 +36,7 @@ enum Step {
 }
 
 use Pulled::{Broke, Dropped, Nothing, Wrote};
-use RunState::{Paused, Running};
+use RunState::{Paused, Running, Stopped};
 use Step::{
     Begin, Closed, Failed, Files, Finish, Pause, Pull, PullAll, Send, Start, Stop, TakeBack,
 };
@@ -127,18 +126,15 @@ const LATE: &[Step] = &[
 /// The third channel's name is taken, and a file of the first two is not removed.
 const LEFT: &[Step] = &[Start(Taken(2)), Files(2), Failed(true)];
 
-/// The bytes of the events' data.
-const DATA: &[u8] = &[7; 1000];
-
-/// How many files of the first channels there are.
-fn count_files(alloc: Global, row: &Fixture, channels: u32) -> Result<usize, Fail> {
-    let mut count = 0;
-    for channel in 0..channels {
-        if row.has_file(&name_of(alloc, channel)?) {
-            count = usize::wrapping_add(count, 1);
-        }
-    }
-    Ok(count)
+/// Whether a turn is answered so.
+fn turns<R: Abort + Wait>(
+    rt: &R,
+    alloc: Global,
+    row: &mut Fixture,
+    (transition, time, from): (Transition, u32, RunState),
+    wanted: Told,
+) -> bool {
+    read_answer(row.turn(rt, alloc, transition, time, from)) == wanted
 }
 
 /// How many events three pulls on each channel write.
@@ -150,10 +146,20 @@ fn pull_each<R: Abort + Wait>(rt: &R, row: &mut Fixture, channels: u32) -> usize
     wrote
 }
 
-/// Sends an event of so many bytes.
-fn send<R: Abort + Wait>(rt: &R, row: &mut Fixture, buffer: usize, start: u32, len: usize) {
-    let (body, _) = DATA.split_at(len.min(1000));
-    row.send(rt, buffer, start, body);
+/// How many files of the first channels there are.
+fn count_files(alloc: Global, row: &Fixture, channels: u32) -> Option<usize> {
+    let mut count = 0;
+    for channel in 0..channels {
+        if row.has_file(&name_of(alloc, channel)?) {
+            count = usize::wrapping_add(count, 1);
+        }
+    }
+    Some(count)
+}
+
+/// How many bytes the closed file of a channel has.
+fn closed_bytes(alloc: Global, row: &Fixture, channel: u32) -> Option<usize> {
+    row.closed_bytes(&name_of(alloc, channel)?)
 }
 
 /// Makes a call on a logger of so many channels, and answers whether it came to what it must.
@@ -163,134 +169,156 @@ fn is_right<R: Abort + Wait>(
     row: &mut Fixture,
     channels: u32,
     step: Step,
-) -> Result<bool, Fail> {
+) -> bool {
     match step {
-        Start(wanted) => Ok(read_answer(row.start(rt, alloc)) == wanted),
-        Pause(wanted) => Ok(read_answer(row.pause(rt, alloc)) == wanted),
-        Stop(from, wanted) => Ok(read_answer(row.stop(rt, alloc, from)) == wanted),
-        TakeBack(wanted) => Ok(read_answer(row.take_back(rt, alloc)) == wanted),
-        Finish(wanted) => Ok(read_answer(row.finish()) == wanted),
+        Start(wanted) => turns(rt, alloc, row, (Transition::Start, 1000, Stopped), wanted),
+        Pause(wanted) => turns(rt, alloc, row, (Transition::Pause, 1010, Running), wanted),
+        Stop(from, wanted) => turns(rt, alloc, row, (Transition::Stop, 1020, from), wanted),
+        TakeBack(wanted) => turns(
+            rt,
+            alloc,
+            row,
+            (Transition::StartAbort, 1000, Stopped),
+            wanted,
+        ),
+        Finish(wanted) => read_answer(row.finish()) == wanted,
         Send(buffer, start, len) => {
-            send(rt, row, buffer, start, len);
-            Ok(true)
+            row.call(rt, buffer, start, Some(len));
+            true
         }
         Begin(buffer, start) => {
-            row.begin(rt, buffer, start);
-            Ok(true)
+            row.call(rt, buffer, start, None);
+            true
         }
-        Pull(channel, wanted) => Ok(row.pull(rt, channel) == wanted),
-        PullAll(wrote) => Ok(pull_each(rt, row, channels) == wrote),
-        Files(count) => Ok(count_files(alloc, row, channels)? == count),
-        Closed(channel, len) => Ok(row.closed_bytes(&name_of(alloc, channel)?) == Some(len)),
-        Failed(failed) => Ok(row.failed() == failed),
+        Pull(channel, wanted) => row.pull(rt, channel) == wanted,
+        PullAll(wrote) => pull_each(rt, row, channels) == wrote,
+        Files(count) => count_files(alloc, row, channels) == Some(count),
+        Closed(channel, len) => closed_bytes(alloc, row, channel) == Some(len),
+        Failed(failed) => row.failed() == failed,
     }
 }
 
-/// Makes the calls on a logger of so many channels.
-fn play_steps<R: Abort + Wait>(
+/// Whether each call on a logger of so many channels comes to what it must.
+fn are_right<R: Abort + Wait>(
     rt: &R,
     alloc: Global,
     row: &mut Fixture,
     channels: u32,
     steps: &[Step],
-) -> Result<(), Fail> {
+) -> bool {
     for step in steps {
-        assert!(rt; is_right(rt, alloc, row, channels, *step)?);
+        if !is_right(rt, alloc, row, channels, *step) {
+            return false;
+        }
     }
-    Ok(())
-}
-
-/// Makes the calls on a logger of so many channels on so many buffers over these files.
-fn play<R: Abort + Wait>(
-    rt: &R,
-    alloc: Global,
-    (channels, buffers): (u32, u32),
-    files: MemFiles,
-    steps: &[Step],
-) -> Result<(), Fail> {
-    let mut row = Fixture::new(alloc, channels.min(16), buffers.max(1), files)?;
-    play_steps(rt, alloc, &mut row, channels, steps)
-}
-
-/// Files of which no call fails.
-fn sound_files(alloc: Global) -> Result<MemFiles, Fail> {
-    Ok(MemFiles::new(alloc, 16, 4096, Vec::new(alloc))?)
-}
-
-/// Files of which this call of this kind fails.
-fn failing_files(alloc: Global, op: FileOp, call: u64) -> Result<MemFiles, Fail> {
-    let fails = vec![in alloc; FileFail { op, call }]?;
-    Ok(MemFiles::new(alloc, 16, 4096, fails)?)
-}
-
-/// The files, in which the name of the third channel is taken.
-fn with_third<F: daq_io::Files + Drop>(alloc: Global, mut files: F) -> Result<F, Fail> {
-    let third = files.create(&name_of(alloc, 2)?)?;
-    let _ = files.close(third);
-    Ok(files)
+    true
 }
 
 /// How many channels and buffers a logger has.
 type Counts = (u32, u32);
 
-const RUNS: &[(Counts, &[Step])] = &[
-    ((16, 8), SIXTEEN),
-    ((2, 2), LARGE),
-    ((1, 1), PAUSED),
-    ((1, 1), BEHIND),
+/// A logger, the call of a kind on its files that fails, if one does, and the calls on the logger.
+type Row = (Counts, Option<(FileOp, u64)>, &'static [Step]);
+
+/// Files of which this call of this kind fails.
+fn new_files(alloc: Global, fail: Option<(FileOp, u64)>) -> Result<MemFiles, NoMemory> {
+    let mut fails = Vec::new(alloc);
+    if let Some((op, call)) = fail {
+        fails.push(FileFail { op, call })?;
+    }
+    MemFiles::new(alloc, 16, 4096, fails)
+}
+
+/// Takes the name of the third channel; whether it is free.
+fn take_third<F: daq_io::Files>(alloc: Global, files: &mut F) -> bool {
+    let Some(name) = name_of(alloc, 2) else {
+        return false;
+    };
+    match files.create(&name) {
+        Ok(third) => files.close(third).is_ok(),
+        Err(_) => false,
+    }
+}
+
+/// The files of a row, of which there is the third channel's where its name is taken.
+fn row_files(alloc: Global, fail: Option<(FileOp, u64)>, is_taken: bool) -> Option<MemFiles> {
+    let mut files = new_files(alloc, fail).ok()?;
+    if is_taken && !take_third(alloc, &mut files) {
+        return None;
+    }
+    Some(files)
+}
+
+/// The logger of the row.
+fn new_logger(alloc: Global, row: &Row, is_taken: bool) -> Option<Fixture> {
+    let ((channels, buffers), fail, _) = *row;
+    let files = row_files(alloc, fail, is_taken)?;
+    Fixture::new(alloc, channels.min(16), buffers.max(1), files).ok()
+}
+
+/// Whether each call of the row comes to what it must.
+fn is_row_right<R: Abort + Wait>(rt: &R, alloc: Global, row: &Row, is_taken: bool) -> bool {
+    let Some(mut logger) = new_logger(alloc, row, is_taken) else {
+        return false;
+    };
+    let ((channels, _), _, steps) = *row;
+    are_right(rt, alloc, &mut logger, channels, steps)
+}
+
+/// Whether that holds of each row.
+fn are_rows_right<R: Abort + Wait>(rt: &R, alloc: Global, rows: &[Row], is_taken: bool) -> bool {
+    for row in rows {
+        if !is_row_right(rt, alloc, row, is_taken) {
+            return false;
+        }
+    }
+    true
+}
+
+const RUNS: &[Row] = &[
+    ((16, 8), None, SIXTEEN),
+    ((2, 2), None, LARGE),
+    ((1, 1), None, PAUSED),
+    ((1, 1), None, BEHIND),
 ];
 
 #[test]
-fn runs_of_several_channels(rt: HostRuntime) -> Result<(), Fail> {
-    let alloc = rt.alloc();
-    for (counts, steps) in RUNS {
-        play(&rt, alloc, *counts, sound_files(alloc)?, steps)?;
-    }
-    Ok(())
+fn runs_of_several_channels(rt: HostRuntime) {
+    assert!(rt; are_rows_right(&rt, rt.alloc(), RUNS, false));
 }
 
+const TAKES: &[Row] = &[((4, 2), None, TAKEN)];
+
 #[test]
-fn the_name_of_a_file_is_taken(rt: HostRuntime) -> Result<(), Fail> {
-    let alloc = rt.alloc();
-    let files = with_third(alloc, sound_files(alloc)?)?;
-    play(&rt, alloc, (4, 2), files, TAKEN)
+fn the_name_of_a_file_is_taken(rt: HostRuntime) {
+    assert!(rt; are_rows_right(&rt, rt.alloc(), TAKES, true));
 }
 
 /// Which call of a kind fails. A begin record is two appends, an event one, an end record two.
-const FAILS: &[(Counts, FileOp, u64, &[Step])] = &[
-    ((2, 1), FileOp::Create, 0, FAULT_AT_0),
-    ((2, 1), FileOp::Append, 0, FAULT_AT_0),
-    ((2, 1), FileOp::Append, 1, FAULT_AT_0),
-    ((2, 1), FileOp::Create, 1, FAULT_AT_1),
-    ((2, 1), FileOp::Append, 2, FAULT_AT_1),
-    ((2, 1), FileOp::Append, 3, FAULT_AT_1),
-    ((1, 1), FileOp::Append, 2, BROKEN),
-    ((1, 1), FileOp::Append, 3, LATE),
-    ((1, 1), FileOp::Append, 4, LATE),
-    ((1, 1), FileOp::Close, 0, LATE),
+const FAILS: &[Row] = &[
+    ((2, 1), Some((FileOp::Create, 0)), FAULT_AT_0),
+    ((2, 1), Some((FileOp::Append, 0)), FAULT_AT_0),
+    ((2, 1), Some((FileOp::Append, 1)), FAULT_AT_0),
+    ((2, 1), Some((FileOp::Create, 1)), FAULT_AT_1),
+    ((2, 1), Some((FileOp::Append, 2)), FAULT_AT_1),
+    ((2, 1), Some((FileOp::Append, 3)), FAULT_AT_1),
+    ((1, 1), Some((FileOp::Append, 2)), BROKEN),
+    ((1, 1), Some((FileOp::Append, 3)), LATE),
+    ((1, 1), Some((FileOp::Append, 4)), LATE),
+    ((1, 1), Some((FileOp::Close, 0)), LATE),
 ];
 
 #[test]
-fn each_call_fails_in_turn(rt: HostRuntime) -> Result<(), Fail> {
-    let alloc = rt.alloc();
-    for (counts, op, call, steps) in FAILS {
-        play(
-            &rt,
-            alloc,
-            *counts,
-            failing_files(alloc, *op, *call)?,
-            steps,
-        )?;
-    }
-    Ok(())
+fn each_call_fails_in_turn(rt: HostRuntime) {
+    assert!(rt; are_rows_right(&rt, rt.alloc(), FAILS, false));
 }
 
+const LEAVES: &[Row] = &[
+    ((3, 1), Some((FileOp::Remove, 0)), LEFT),
+    ((3, 1), Some((FileOp::Remove, 1)), LEFT),
+];
+
 #[test]
-fn a_file_is_left_where_its_removal_fails(rt: HostRuntime) -> Result<(), Fail> {
-    let alloc = rt.alloc();
-    for call in 0..2u64 {
-        let files = failing_files(alloc, FileOp::Remove, call)?;
-        play(&rt, alloc, (3, 1), with_third(alloc, files)?, LEFT)?;
-    }
-    Ok(())
+fn a_file_is_left_where_its_removal_fails(rt: HostRuntime) {
+    assert!(rt; are_rows_right(&rt, rt.alloc(), LEAVES, true));
 }
