@@ -1,9 +1,9 @@
 //! Calls on a shared buffer, by threads and by a port.
-ghost use Rattle.std.specs.Prelude.{◌≡◌, ◌+◌, ◌≤◌, [], ◌∷◌, length, None, IfOk};
+ghost use Rattle.std.specs.Prelude.{◌≡◌, ◌+◌, ◌%◌, ◌<◌, ◌≤◌, [], ◌∷◌, length, None, IfOk};
 ghost use Rattle.daq_types.specs.Callers.{entries_by};
 ghost use Rattle.turn_lock.specs.Passes.{passes_of, number_of, own_entries, held_by, IsOf};
 ghost use Rattle.turn_lock.specs.Closing.{history_of};
-ghost use Rattle.turn_lock.specs.Roster.{items_of, numbers_of, ArePassesOf, AreFresh, IsFresh};
+ghost use Rattle.turn_lock.specs.Roster.{items_of, numbers_of, numbers_below, ArePassesOf, AreFresh, IsFresh};
 ghost use Rattle.buffer_lock.specs.SharedBuffers.{lock_of};
 
 use buffer_core::{BufferPort, EventBuffer, Received, SendRefusal};
@@ -30,6 +30,26 @@ fn header(serial_number: u32) -> Header {
         time_stamp: 0,
         data_size: 8,
     }
+}
+
+/// Shares a buffer that is as it opened.
+fn share(
+    alloc: Global,
+    size: u32,
+    count: u32,
+) -> Result<(SharedBuffer<PlainBuffer>, BufferPasses<PlainBuffer>), NoMemory>
+    requires least { 256 ≤ size }
+    requires most { size ≤ 268435456 }
+    requires whole { size % 8 ≡ 0 }
+    requires some { 0 < count }
+    requires few { count ≤ 256 }
+    ensures count { IfOk result (λ made. passes_of (lock_of made.0) ≡ count) }
+    ensures own { IfOk result (λ made. ArePassesOf (lock_of made.0) made.1) }
+    ensures numbers { IfOk result (λ made. numbers_of made.1 ≡ numbers_below count) }
+    ensures fresh { IfOk result (λ made. AreFresh made.1) }
+{
+    let buffer = PlainBuffer::new(alloc, size)?;
+    SharedBuffer::new(alloc, buffer, count)
 }
 
 /// Takes both passes of a buffer with two out of the list, number 0 first.
@@ -134,8 +154,7 @@ fn share_and_send<R: Threads + Wait + Sync>(
     ensures first { IfOk result (λ closed. length (entries_by 0 (history_of closed)) ≡ times) }
     ensures second { IfOk result (λ closed. length (entries_by 1 (history_of closed)) ≡ times) }
 {
-    let buffer = PlainBuffer::new(alloc, SIZE)?;
-    let (shared, mut passes) = SharedBuffer::new(alloc, buffer, 2)?;
+    let (shared, mut passes) = share(alloc, SIZE, 2)?;
     let (first, second) = two_passes(&shared, &mut passes);
     let (first, second) = send_in_two_threads(&shared, rt, first, second, times);
     Ok(close_two(shared, passes, first, second))
@@ -316,7 +335,10 @@ fn pop_pass(
     ensures taken { IsOf (lock_of _shared.now) result }
     ensures idle { held_by result ≡ None }
 {
-    passes.pop().expect(rt, "a pass")
+    let Some(pass) = passes.pop() else {
+        panic!(rt; "a pass")
+    };
+    pass
 }
 
 /// Attaches client 0, and requests all events: whether each is done.
@@ -336,31 +358,38 @@ fn attach_for_all<R: Wait>(
     [attached, requested]
 }
 
-#[test]
-fn a_reader_gets_all_that_four_threads_send(rt: HostRuntime) {
-    let buffer = PlainBuffer::new(rt.alloc(), 4096).expect(&rt, "memory");
-    let into = EventBuf::new(rt.alloc(), 8).expect(&rt, "memory");
-    let name = Name::new(b"ANA").expect(&rt, "a name");
-    let (shared, mut passes) = SharedBuffer::new(rt.alloc(), buffer, 5).expect(&rt, "memory");
-    let mut reader = pop_pass(&shared, &rt, &mut passes);
-    let attached = attach_for_all(&shared, &rt, &mut reader, name);
-    assert!(rt; attached == [true, true], "a client with a request");
-    let mut reader = send_in_four_and_read(&shared, &rt, &mut passes, reader, into);
-    assert!(rt;
-        shared.accepted(&rt, &mut reader) == 2000,
-        "each event was sent once"
-    );
+/// Four threads send to a reader of all: whether it is a client with a request, and how many events are accepted.
+fn read_from_four<R: Abort + Threads + Wait + Sync>(
+    rt: &R,
+    alloc: Global,
+    name: Name,
+) -> Result<([bool; 2], u64), NoMemory> {
+    let into = EventBuf::new(alloc, 8)?;
+    let (shared, mut passes) = share(alloc, 4096, 5)?;
+    let mut reader = pop_pass(&shared, rt, &mut passes);
+    let attached = attach_for_all(&shared, rt, &mut reader, name);
+    let mut reader = send_in_four_and_read(&shared, rt, &mut passes, reader, into);
+    Ok((attached, shared.accepted(rt, &mut reader)))
 }
 
-/// Makes each call but the marks, by any port, on a buffer that is as it opened: whether each is answered so.
+#[test]
+fn a_reader_gets_all_that_four_threads_send(rt: HostRuntime) {
+    let name = Name::new(b"ANA").expect(&rt, "a name");
+    let (attached, accepted) = read_from_four(&rt, rt.alloc(), name).expect(&rt, "memory");
+    assert!(rt; attached == [true, true], "a client with a request");
+    assert!(rt; accepted == 2000, "each event was sent once");
+}
+
+/// Makes each call by any port, on a buffer that is as it opened, and at last the marks of a run with one event in it:
+/// whether each is answered so.
 fn make_calls<R: Wait, P: BufferPort>(
     rt: &R,
     port: &mut P,
     name: Name,
     into: &mut EventBuf,
-) -> [bool; 8]
-    requires room { 8 ≤ (P.access port.old).entries }
-    requires bytes { 16 ≤ (P.access port.old).bytes }
+) -> [bool; 13]
+    requires room { 13 ≤ (P.access port.old).entries }
+    requires bytes { 24 ≤ (P.access port.old).bytes }
 {
     let got = Received::Got { place: 0, start: 0 };
     [
@@ -372,15 +401,6 @@ fn make_calls<R: Wait, P: BufferPort>(
         port.receive(rt, 0, into) == got,
         port.cancel(rt, 0, 0) == Ok(()),
         port.detach(rt, 0) == Ok(()),
-    ]
-}
-
-/// Makes the marks of a run with one event in it: whether each is answered so.
-fn make_run<R: Wait, P: BufferPort>(rt: &R, port: &mut P) -> [bool; 5]
-    requires room { 5 ≤ (P.access port.old).entries }
-    requires bytes { 8 ≤ (P.access port.old).bytes }
-{
-    [
         port.begin(rt, 1) == Ok(1),
         port.send_in_run(rt, 1, &header(2), &DATA) == Ok(1),
         port.pause(rt, 1) == Ok(2),
@@ -389,23 +409,46 @@ fn make_run<R: Wait, P: BufferPort>(rt: &R, port: &mut P) -> [bool; 5]
     ]
 }
 
+/// Makes each call by a port: whether each is answered so, and the number of the pass that comes back.
+fn call_by_port<R: Wait>(
+    rt: &R,
+    shared: &SharedBuffer<PlainBuffer>,
+    pass: BufferPass<PlainBuffer>,
+    name: Name,
+    into: &mut EventBuf,
+) -> ([bool; 13], u32)
+    requires own { IsOf (lock_of shared.now) pass }
+    requires idle { held_by pass ≡ None }
+{
+    let mut port = SharedPort::new(shared, pass);
+    let calls = make_calls(rt, &mut port, name, into);
+    (calls, port.into_pass().number())
+}
+
+/// Shares a buffer with one pass, by which a port makes each call.
+fn share_by_port<R: Abort + Wait>(
+    rt: &R,
+    alloc: Global,
+    name: Name,
+    into: &mut EventBuf,
+) -> Result<([bool; 13], u32), NoMemory> {
+    let (shared, mut passes) = share(alloc, 256, 1)?;
+    let pass = pop_pass(&shared, rt, &mut passes);
+    Ok(call_by_port(rt, &shared, pass, name, into))
+}
+
 #[test]
 fn a_port_makes_each_call(rt: HostRuntime) {
-    let buffer = PlainBuffer::new(rt.alloc(), 256).expect(&rt, "memory");
-    let mut into = EventBuf::new(rt.alloc(), 8).expect(&rt, "memory");
     let name = Name::new(b"ANA").expect(&rt, "a name");
-    let (shared, mut passes) = SharedBuffer::new(rt.alloc(), buffer, 1).expect(&rt, "memory");
-    let pass = pop_pass(&shared, &rt, &mut passes);
-    let mut port = SharedPort::new(&shared, pass);
-    let calls = make_calls(&rt, &mut port, name, &mut into);
-    let run = make_run(&rt, &mut port);
+    let mut into = EventBuf::new(rt.alloc(), 8).expect(&rt, "memory");
+    let called = share_by_port(&rt, rt.alloc(), name, &mut into);
     assert!(rt;
-        (calls, run) == ([true; 8], [true; 5]),
-        "each call, and each mark of a run"
+        called == Ok(([true; 13], 0)),
+        "each call, each mark of a run, and the pass that comes back"
     );
     assert!(rt;
-        (into.body(), port.into_pass().number()) == (DATA.as_slice(), 0),
-        "the data of the event that was got, and the pass that comes back"
+        into.body() == DATA.as_slice(),
+        "the data of the event that was got"
     );
 }
 
@@ -447,20 +490,29 @@ fn meet_what_was_seen(
     shared.meet(second, note);
 }
 
-#[test]
-fn calls_in_one_try_on_a_free_buffer(rt: HostRuntime) {
-    let buffer = PlainBuffer::new(rt.alloc(), 256).expect(&rt, "memory");
-    let mut into = EventBuf::new(rt.alloc(), 8).expect(&rt, "memory");
-    let name = Name::new(b"ANA").expect(&rt, "a name");
-    let (shared, mut passes) = SharedBuffer::new(rt.alloc(), buffer, 2).expect(&rt, "memory");
+/// Makes the calls in one try on a buffer with a client and a run: whether each is done, and how many events the second
+/// pass then finds accepted.
+fn try_on_free<R: Wait>(
+    rt: &R,
+    alloc: Global,
+    name: Name,
+) -> Result<([bool; 2], bool, [bool; 3], u64), NoMemory> {
+    let mut into = EventBuf::new(alloc, 8)?;
+    let (shared, mut passes) = share(alloc, 256, 2)?;
     let (mut first, mut second) = two_passes(&shared, &mut passes);
-    let attached = attach_for_all(&shared, &rt, &mut first, name);
-    let begun = shared.begin(&rt, &mut first, 1);
+    let attached = attach_for_all(&shared, rt, &mut first, name);
+    let begun = shared.begin(rt, &mut first, 1) == Ok(0);
     let tried = try_each(&shared, &mut first, &mut into);
     meet_what_was_seen(&shared, &mut first, &mut second);
-    let accepted = shared.accepted(&rt, &mut second);
+    Ok((attached, begun, tried, shared.accepted(rt, &mut second)))
+}
+
+#[test]
+fn calls_in_one_try_on_a_free_buffer(rt: HostRuntime) {
+    let name = Name::new(b"ANA").expect(&rt, "a name");
+    let tried = try_on_free(&rt, rt.alloc(), name);
     assert!(rt;
-        (attached, begun, tried, accepted) == ([true; 2], Ok(0), [true; 3], 2),
+        tried == Ok(([true; 2], true, [true; 3], 2)),
         "each is made, and two events are accepted"
     );
 }

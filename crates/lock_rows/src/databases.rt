@@ -1,5 +1,5 @@
 //! Calls on a shared database, by the main thread and by another.
-ghost use Rattle.std.specs.Prelude.{◌≡◌, [], ◌∷◌, None};
+ghost use Rattle.std.specs.Prelude.{◌≡◌, [], ◌∷◌, None, IfOk};
 ghost use Rattle.daq_types.specs.Callers.{main_caller};
 ghost use Rattle.turn_lock.specs.Passes.{passes_of, number_of, held_by, IsOf};
 ghost use Rattle.turn_lock.specs.Roster.{items_of, numbers_of, ArePassesOf, AreFresh, IsFresh};
@@ -15,7 +15,16 @@ use odb_value::Item;
 use std::alloc::Global;
 use std::process::Abort;
 use std::sync::Wait;
-use std::test::Fail;
+
+/// Shares an empty database with two passes.
+fn share(alloc: Global) -> Result<(SharedOdb<PlainTree>, OdbPasses<PlainTree>), NoMemory>
+    ensures count { IfOk result (λ made. passes_of (odb_lock_of made.0) ≡ 2) }
+    ensures own { IfOk result (λ made. ArePassesOf (odb_lock_of made.0) made.1) }
+    ensures numbers { IfOk result (λ made. numbers_of made.1 ≡ 0 ∷ 1 ∷ []) }
+    ensures fresh { IfOk result (λ made. AreFresh made.1) }
+{
+    SharedOdb::new(alloc, PlainTree::new(alloc), 2)
+}
 
 /// Takes both passes of a database with two out of the list, the main thread's first.
 fn two_passes(
@@ -86,20 +95,27 @@ fn make_rows<R: Wait>(
     Ok([made, resized, set, shared.delete(rt, main, path)])
 }
 
-#[test]
-fn the_main_thread_makes_rows(rt: HostRuntime) -> Result<(), Fail> {
-    let alloc = rt.alloc();
-    let path = Path::read(alloc, b"/A/b")?;
-    let (shared, mut passes) = SharedOdb::new(alloc, PlainTree::new(alloc), 2)?;
+/// Shares a database, in which the main thread makes rows: the replies, and whether the key is gone in the end.
+fn make_rows_and_close<R: Abort + Wait>(
+    rt: &R,
+    alloc: Global,
+    path: &Path,
+) -> Result<(Result<[Result<u32, OdbRefusal>; 4], OdbRefusal>, bool), NoMemory> {
+    let (shared, mut passes) = share(alloc)?;
     let (mut main, other) = two_passes(&shared, &mut passes);
-    let replies = make_rows(&shared, &rt, &mut main, alloc, &path);
-    let closed = close_two(&rt, shared, passes, main, other);
-    let is_gone = closed.value.database.find(&path).is_err();
+    let replies = make_rows(&shared, rt, &mut main, alloc, path);
+    let closed = close_two(rt, shared, passes, main, other);
+    Ok((replies, closed.value.database.find(path).is_err()))
+}
+
+#[test]
+fn the_main_thread_makes_rows(rt: HostRuntime) {
+    let path = Path::read(rt.alloc(), b"/A/b").expect(&rt, "a path");
+    let made = make_rows_and_close(&rt, rt.alloc(), &path);
     assert!(rt;
-        (replies, is_gone) == (Ok([Ok(2), Ok(2), Ok(2), Ok(1)]), true),
+        made == Ok((Ok([Ok(2), Ok(2), Ok(2), Ok(1)]), true)),
         "each call, and the key is gone"
     );
-    Ok(())
 }
 
 /// Watches all by the other port, loads a text by the main thread's and sets an item by the other: the watch, whether the
@@ -141,25 +157,40 @@ fn is_set<R: Wait>(
     Ok(dump.as_slice() == b"[/A]\nb = UINT8[2] :\n[0] 7\n[1] 9\n\n".as_slice())
 }
 
-#[test]
-fn ports_lead_to_one_database(rt: HostRuntime) -> Result<(), Fail> {
-    let alloc = rt.alloc();
-    let path = Path::read(alloc, b"/A/b")?;
-    let (shared, mut passes) = SharedOdb::new(alloc, PlainTree::new(alloc), 2)?;
+/// Makes the calls by two ports: whether the item is set and noted, and whether it is saved, the key is found and the other
+/// pass comes back.
+fn call_by_ports<R: Wait>(
+    rt: &R,
+    alloc: Global,
+    main: &mut SharedAccess<'_, PlainTree>,
+    mut other: SharedAccess<'_, PlainTree>,
+    path: Path,
+) -> (bool, bool)
+    requires main { number_of (odb_pass_of main.old) ≡ main_caller }
+{
+    let set = load_and_set(rt, alloc, main, &mut other, &path);
+    let noted = take_notes(rt, alloc, &mut other);
+    let saved = is_set(rt, alloc, main);
+    let found = main.find(rt, path);
+    (
+        (set, noted) == ((Some(0), true, Ok(2)), Ok((Some(0), 3, true))),
+        (saved, found, other.into_pass().number()) == (Ok(true), Ok(2), 1),
+    )
+}
+
+/// Shares a database with two ports, by which the calls are made.
+fn share_by_ports<R: Wait>(rt: &R, alloc: Global, path: Path) -> Result<(bool, bool), NoMemory> {
+    let (shared, mut passes) = share(alloc)?;
     let (main, other) = two_passes(&shared, &mut passes);
     let mut main = SharedAccess::new(&shared, main);
-    let mut other = SharedAccess::new(&shared, other);
-    let set = load_and_set(&rt, alloc, &mut main, &mut other, &path);
-    let noted = take_notes(&rt, alloc, &mut other);
-    let saved = is_set(&rt, alloc, &mut main);
-    let found = main.find(&rt, path);
-    assert!(rt;
-        (set, noted) == ((Some(0), true, Ok(2)), Ok((Some(0), 3, true))),
-        "the item is set and noted"
-    );
-    assert!(rt;
-        (saved, found, other.into_pass().number()) == (Ok(true), Ok(2), 1),
-        "it is saved, and the key is found"
-    );
-    Ok(())
+    let other = SharedAccess::new(&shared, other);
+    Ok(call_by_ports(rt, alloc, &mut main, other, path))
+}
+
+#[test]
+fn ports_lead_to_one_database(rt: HostRuntime) {
+    let path = Path::read(rt.alloc(), b"/A/b").expect(&rt, "a path");
+    let (is_noted, is_saved) = share_by_ports(&rt, rt.alloc(), path).expect(&rt, "memory");
+    assert!(rt; is_noted, "the item is set and noted");
+    assert!(rt; is_saved, "it is saved, and the key is found");
 }

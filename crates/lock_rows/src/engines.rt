@@ -1,5 +1,5 @@
 //! Calls on a shared engine, by the main thread and by another.
-ghost use Rattle.std.specs.Prelude.{◌≡◌, [], ◌∷◌, None};
+ghost use Rattle.std.specs.Prelude.{◌≡◌, [], ◌∷◌, None, IfOk};
 ghost use Rattle.daq_types.specs.Callers.{main_caller};
 ghost use Rattle.turn_lock.specs.Passes.{passes_of, number_of, held_by, IsOf};
 ghost use Rattle.turn_lock.specs.Roster.{items_of, numbers_of, ArePassesOf, AreFresh, IsFresh};
@@ -11,11 +11,21 @@ use run_states::Sequences;
 use std::alloc::Global;
 use std::process::Abort;
 use std::sync::Wait;
-use std::test::Fail;
 use transition_lock::{EngineClosed, EnginePass, EnginePasses, SharedEngine};
 use transitions::{
     Answer, Engine, Polled, Progress, RegisterRefusal, Reports, Sheet, Tallies, Tally,
 };
+
+/// Shares an idle engine with two passes.
+fn share(alloc: Global) -> Result<(SharedEngine, EnginePasses), NoMemory>
+    ensures count { IfOk result (λ made. passes_of (engine_lock_of made.0) ≡ 2) }
+    ensures own { IfOk result (λ made. ArePassesOf (engine_lock_of made.0) made.1) }
+    ensures numbers { IfOk result (λ made. numbers_of made.1 ≡ 0 ∷ 1 ∷ []) }
+    ensures fresh { IfOk result (λ made. AreFresh made.1) }
+{
+    let engine = Engine::new(alloc)?;
+    SharedEngine::new(alloc, engine, 2)
+}
 
 /// Takes both passes of an engine with two out of the list, the main thread's first.
 fn two_passes(_shared: &SharedEngine, passes: &mut EnginePasses) -> (EnginePass, EnginePass)
@@ -117,36 +127,47 @@ fn progress_behind(alloc: Global, closed: EngineClosed) -> Result<Progress, NoMe
     Ok(engine.check(&mut tallies))
 }
 
-#[test]
-fn a_client_takes_its_turn(rt: HostRuntime) -> Result<(), Fail> {
-    let alloc = rt.alloc();
-    let name = Name::new(b"FE").expect(&rt, "a name");
-    let (shared, mut passes) = SharedEngine::new(alloc, Engine::new(alloc)?, 2)?;
+/// A client takes its turn in a start: whether that is begun, whether the client has its turn and its answer is taken, and
+/// how far the start then is.
+fn start_by_turn<R: Abort + Wait>(
+    rt: &R,
+    alloc: Global,
+    name: Name,
+) -> Result<(bool, [bool; 2], Progress), NoMemory> {
+    let (shared, mut passes) = share(alloc)?;
     let (mut main, mut other) = two_passes(&shared, &mut passes);
-    let begun = begin_start(&shared, &rt, &mut main, alloc, name);
-    let taken = take_turn(&shared, &rt, &mut other);
-    let closed = close_two(&rt, shared, passes, main, other);
-    let done = Progress::Done {
-        outcome: StartOutcome::Completed,
-    };
-    assert!(rt;
-        (begun, taken) == ((Ok(0), true), [true, true]),
-        "the start is begun, and the client answers in its turn"
-    );
-    assert!(rt;
-        progress_behind(alloc, closed) == Ok(done),
-        "the start is done"
-    );
-    Ok(())
+    let begun = begin_start(&shared, rt, &mut main, alloc, name) == (Ok(0), true);
+    let taken = take_turn(&shared, rt, &mut other);
+    let closed = close_two(rt, shared, passes, main, other);
+    Ok((begun, taken, progress_behind(alloc, closed)?))
 }
 
 #[test]
-fn the_main_thread_checks_and_closes(rt: HostRuntime) -> Result<(), Fail> {
-    let alloc = rt.alloc();
-    let (shared, mut passes) = SharedEngine::new(alloc, Engine::new(alloc)?, 2)?;
-    let (mut main, _other) = two_passes(&shared, &mut passes);
+fn a_client_takes_its_turn(rt: HostRuntime) {
+    let name = Name::new(b"FE").expect(&rt, "a name");
+    let done = Progress::Done {
+        outcome: StartOutcome::Completed,
+    };
+    let (begun, taken, progress) = start_by_turn(&rt, rt.alloc(), name).expect(&rt, "memory");
+    assert!(rt;
+        begun && taken == [true, true],
+        "the start is begun, and the client answers in its turn"
+    );
+    assert!(rt; progress == done, "the start is done");
+}
+
+/// How far an idle engine is by a check, and whether it is closed then.
+fn check_and_close<R: Wait>(rt: &R, alloc: Global) -> Result<(Progress, bool), NoMemory> {
     let mut tallies = Tallies::new(alloc)?;
-    assert_eq!(rt; shared.check(&rt, &mut main, &mut tallies), Progress::None);
-    assert_eq!(rt; shared.close(&rt, &mut main), Ok(()));
-    Ok(())
+    let (shared, mut passes) = share(alloc)?;
+    let (mut main, _other) = two_passes(&shared, &mut passes);
+    let progress = shared.check(rt, &mut main, &mut tallies);
+    Ok((progress, shared.close(rt, &mut main).is_ok()))
+}
+
+#[test]
+fn the_main_thread_checks_and_closes(rt: HostRuntime) {
+    let (progress, is_closed) = check_and_close(&rt, rt.alloc()).expect(&rt, "memory");
+    assert!(rt; progress == Progress::None, "no transition is in progress");
+    assert!(rt; is_closed, "the engine is closed");
 }

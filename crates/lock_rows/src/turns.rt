@@ -133,6 +133,31 @@ fn increment_in_two_threads<R: Threads + Wait + Sync>(
     )
 }
 
+/// Closes the lock by two passes, which are all there are.
+fn close_two(
+    lock: Turns<Counter>,
+    mut passes: Passes<Counter>,
+    first: Pass<Counter>,
+    second: Pass<Counter>,
+) -> Closed<Counter>
+    requires two { passes_of lock ≡ 2 }
+    requires none { ArePassesOf lock passes × (items_of passes ≡ []) }
+    requires own { IsOf lock first × IsOf lock second }
+    requires idle { (held_by first ≡ None) × (held_by second ≡ None) }
+    requires numbers { (number_of first ≡ 0) × (number_of second ≡ 1) }
+    ensures first { entries_by 0 (history_of result) ≡ own_entries first }
+    ensures second { entries_by 1 (history_of result) ≡ own_entries second }
+    ensures all { length (history_of result)
+        ≡ length (own_entries first) + length (own_entries second) }
+{
+    passes.push(first);
+    passes.push(second);
+    match lock.close(passes) {
+        Ok(closed) => closed,
+        Err(_) => unreachable!(),
+    }
+}
+
 fn count_in_two_threads<R: Threads + Wait + Sync>(
     rt: &R,
     alloc: Global,
@@ -145,12 +170,7 @@ fn count_in_two_threads<R: Threads + Wait + Sync>(
     let (lock, mut passes) = Turns::new(alloc, Counter { count: 0 }, 2)?;
     let (first, second) = two_passes(&lock, &mut passes);
     let (first, second) = increment_in_two_threads(&lock, rt, first, second, times);
-    passes.push(first);
-    passes.push(second);
-    match lock.close(passes) {
-        Ok(closed) => Ok(closed),
-        Err(_) => unreachable!(),
-    }
+    Ok(close_two(lock, passes, first, second))
 }
 
 #[test]
