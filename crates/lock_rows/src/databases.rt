@@ -13,7 +13,6 @@ use odb_port::{DatabasePort, WatchPort};
 use odb_tree::{Database, NewKey, Notes, OdbRefusal, PlainTree};
 use odb_value::Item;
 use std::alloc::Global;
-use std::process::Abort;
 use std::sync::Wait;
 
 /// Shares an empty database with two passes.
@@ -51,7 +50,6 @@ fn two_passes(
 
 /// Ends the sharing between two passes, which are all there are.
 fn close_two(
-    rt: &impl Abort,
     shared: SharedOdb<PlainTree>,
     mut passes: OdbPasses<PlainTree>,
     main: OdbPass<PlainTree>,
@@ -61,13 +59,14 @@ fn close_two(
     requires none { ArePassesOf (odb_lock_of shared) passes × (items_of passes ≡ []) }
     requires own { IsOf (odb_lock_of shared) main × IsOf (odb_lock_of shared) other }
     requires idle { (held_by main ≡ None) × (held_by other ≡ None) }
+    requires numbers { (number_of main ≡ 0) × (number_of other ≡ 1) }
 {
     passes.push(main);
     passes.push(other);
-    let Ok(closed) = shared.close(passes) else {
-        panic!(rt; "both passes are there")
-    };
-    closed
+    match shared.close(passes) {
+        Ok(closed) => closed,
+        Err(_) => unreachable!(),
+    }
 }
 
 /// Makes a key by the main thread, makes it longer, sets all of it and removes it.
@@ -83,6 +82,7 @@ fn make_rows<R: Wait>(
     requires idle { held_by main.old ≡ None }
     ensures own { IsOf (odb_lock_of shared.now) main.new }
     ensures idle { held_by main.new ≡ None }
+    ensures number { number_of main.new ≡ number_of main.old }
 {
     let kind = NewKey::Keys {
         tid: Tid::UInt8,
@@ -96,7 +96,7 @@ fn make_rows<R: Wait>(
 }
 
 /// Shares a database, in which the main thread makes rows: the replies, and whether the key is gone in the end.
-fn make_rows_and_close<R: Abort + Wait>(
+fn make_rows_and_close<R: Wait>(
     rt: &R,
     alloc: Global,
     path: &Path,
@@ -104,7 +104,7 @@ fn make_rows_and_close<R: Abort + Wait>(
     let (shared, mut passes) = share(alloc)?;
     let (mut main, other) = two_passes(&shared, &mut passes);
     let replies = make_rows(&shared, rt, &mut main, alloc, path);
-    let closed = close_two(rt, shared, passes, main, other);
+    let closed = close_two(shared, passes, main, other);
     Ok((replies, closed.value.database.find(path).is_err()))
 }
 

@@ -9,7 +9,6 @@ ghost use Rattle.transition_lock.specs.SharedEngines.{engine_lock_of};
 use daq_types::{Name, NoMemory, StartOutcome, Transition};
 use run_states::Sequences;
 use std::alloc::Global;
-use std::process::Abort;
 use std::sync::Wait;
 use transition_lock::{EngineClosed, EnginePass, EnginePasses, SharedEngine};
 use transitions::{
@@ -74,6 +73,7 @@ fn begin_start<R: Wait>(
     requires idle { held_by main.old ≡ None }
     ensures own { IsOf (engine_lock_of shared.now) main.new }
     ensures idle { held_by main.new ≡ None }
+    ensures number { number_of main.new ≡ number_of main.old }
 {
     let sequences = Sequences {
         start: Some(500),
@@ -87,21 +87,27 @@ fn begin_start<R: Wait>(
     (client, begun.is_ok())
 }
 
+fn is_turn(polled: &Polled) -> bool {
+    matches!(polled, Polled::Turn { .. })
+}
+
 /// Whether the client has its turn, and whether its answer is taken.
 fn take_turn<R: Wait>(shared: &SharedEngine, rt: &R, other: &mut EnginePass) -> [bool; 2]
     requires own { IsOf (engine_lock_of shared.now) other.old }
     requires idle { held_by other.old ≡ None }
     ensures own { IsOf (engine_lock_of shared.now) other.new }
     ensures idle { held_by other.new ≡ None }
+    ensures number { number_of other.new ≡ number_of other.old }
 {
-    let has_turn = matches!(shared.poll(rt, other, 0), Polled::Turn { .. });
-    let answered = shared.answer(rt, other, 0, Answer::Yes(Tally::Plain));
-    [has_turn, answered.is_ok()]
+    let has_turn = is_turn(&shared.poll(rt, other, 0));
+    let is_taken = shared
+        .answer(rt, other, 0, Answer::Yes(Tally::Plain))
+        .is_ok();
+    [has_turn, is_taken]
 }
 
 /// Ends the sharing between two passes, which are all there are.
 fn close_two(
-    rt: &impl Abort,
     shared: SharedEngine,
     mut passes: EnginePasses,
     main: EnginePass,
@@ -111,13 +117,14 @@ fn close_two(
     requires none { ArePassesOf (engine_lock_of shared) passes × (items_of passes ≡ []) }
     requires own { IsOf (engine_lock_of shared) main × IsOf (engine_lock_of shared) other }
     requires idle { (held_by main ≡ None) × (held_by other ≡ None) }
+    requires numbers { (number_of main ≡ 0) × (number_of other ≡ 1) }
 {
     passes.push(main);
     passes.push(other);
-    let Ok(closed) = shared.close_lock(passes) else {
-        panic!(rt; "both passes are there")
-    };
-    closed
+    match shared.close_lock(passes) {
+        Ok(closed) => closed,
+        Err(_) => unreachable!(),
+    }
 }
 
 /// How far the transition is when the engine is shared no more.
@@ -129,7 +136,7 @@ fn progress_behind(alloc: Global, closed: EngineClosed) -> Result<Progress, NoMe
 
 /// A client takes its turn in a start: whether that is begun, whether the client has its turn and its answer is taken, and
 /// how far the start then is.
-fn start_by_turn<R: Abort + Wait>(
+fn start_by_turn<R: Wait>(
     rt: &R,
     alloc: Global,
     name: Name,
@@ -138,7 +145,7 @@ fn start_by_turn<R: Abort + Wait>(
     let (mut main, mut other) = two_passes(&shared, &mut passes);
     let begun = begin_start(&shared, rt, &mut main, alloc, name) == (Ok(0), true);
     let taken = take_turn(&shared, rt, &mut other);
-    let closed = close_two(rt, shared, passes, main, other);
+    let closed = close_two(shared, passes, main, other);
     Ok((begun, taken, progress_behind(alloc, closed)?))
 }
 
