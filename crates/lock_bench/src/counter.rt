@@ -1,7 +1,8 @@
 // A number that wraps, under a lock.
 ghost use Rattle.std.specs.Prelude.{◌≡◌, ℕ, ◌+◌, ◌%◌, ◌^◌, [], ◌∷◌, ◌++◌, None};
-ghost use Rattle.turn_lock.specs.Passes.{number_of, own_entries, held_by, IsOf};
-ghost use Rattle.turn_lock.specs.Roster.{items_of, numbers_of, ArePassesOf, AreFresh};
+ghost use Rattle.turn_lock.specs.Passes.{number_of, own_entries, held_by, passes_of, IsOf};
+ghost use Rattle.turn_lock.specs.Closing.{AreComplete};
+ghost use Rattle.turn_lock.specs.Roster.{items_of, numbers_of, ArePassesOf, AreIdle, AreFresh};
 
 use std::alloc::{AllocError, Global};
 use std::sync::Wait;
@@ -66,6 +67,18 @@ fn increment_times<R: Wait>(
     pass
 }
 
+/// Ends the lock, whose passes all are in the list, and gives its last number.
+fn end(lock: Turns<Counter>, passes: Passes<Counter>) -> u64
+    requires own { ArePassesOf lock passes }
+    requires idle { AreIdle passes }
+    requires complete { AreComplete (numbers_of passes) (passes_of lock) }
+{
+    match lock.close(passes) {
+        Ok(closed) => closed.value.count,
+        Err(_) => unreachable!(),
+    }
+}
+
 /// One pass of a lock with one makes this many calls.
 pub fn count_alone<R: Wait>(rt: &R, alloc: Global, times: u32) -> Result<u64, AllocError> {
     let (lock, mut passes) = Turns::new(alloc, Counter { count: 0 }, 1)?;
@@ -74,10 +87,7 @@ pub fn count_alone<R: Wait>(rt: &R, alloc: Global, times: u32) -> Result<u64, Al
     };
     let pass = increment_times(rt, &lock, pass, times);
     passes.push(pass);
-    match lock.close(passes) {
-        Ok(closed) => Ok(closed.value.count),
-        Err(_) => unreachable!(),
-    }
+    Ok(end(lock, passes))
 }
 
 fn increment_in_two_threads<R: Threads + Wait + Sync>(
@@ -131,8 +141,5 @@ pub fn count_in_two_threads<R: Threads + Wait + Sync>(
     let (first, second) = increment_in_two_threads(rt, &lock, first, second, times);
     passes.push(first);
     passes.push(second);
-    match lock.close(passes) {
-        Ok(closed) => Ok(closed.value.count),
-        Err(_) => unreachable!(),
-    }
+    Ok(end(lock, passes))
 }

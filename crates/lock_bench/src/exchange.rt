@@ -1,10 +1,9 @@
 // Sends and receives through one ring of bytes that threads share: under the counting lock, and under std's Mutex.
-ghost use Rattle.std.specs.Prelude.{◌≤◌, IfOk};
+ghost use Rattle.std.specs.Prelude.{◌≡◌, ◌+◌, ◌<◌, ◌≤◌, length, IfOk};
 ghost use Rattle.ring_bytes.specs.Rings.{most_bytes};
-ghost use Rattle.turn_lock.specs.Roster.{ArePassesOf, AreFresh};
+ghost use Rattle.turn_lock.specs.Roster.{items_of, ArePassesOf, AreFresh};
 ghost use Rattle.buffer_lock.specs.SharedBuffers.{lock_of};
 
-use anyhow::Context;
 use buffer_core::{BufferPort, EventBuffer};
 use buffer_lock::{BufferPasses, SharedBuffer, SharedPort};
 use daq_types::{Kind, Name, NoMemory};
@@ -66,15 +65,6 @@ struct Worker<X: Exchange> {
 }
 
 impl<X: Exchange + Drop> Worker<X> {
-    fn new(alloc: Global, access: X, client: u32) -> Result<Worker<X>, NoMemory> {
-        let into = EventBuf::new(alloc, 8)?;
-        Ok(Worker {
-            access,
-            client,
-            into,
-        })
-    }
-
     fn work<R: Wait>(mut self, rt: &R, times: u32) {
         for _ in 0..times {
             self.access.exchange(rt, self.client, &mut self.into);
@@ -83,7 +73,7 @@ impl<X: Exchange + Drop> Worker<X> {
 }
 
 /// How many threads exchange events at once.
-#[derive(Clone, Copy, Debug)]
+#[derive(Clone, Copy)]
 pub enum Crowd {
     Alone,
     Two,
@@ -150,17 +140,39 @@ fn ring(alloc: Global, size: u32) -> Result<RingBuffer, NoMemory>
     Ok(buffer)
 }
 
-fn next_port<'a>(
-    shared: &'a SharedBuffer<RingBuffer>,
-    passes: &mut BufferPasses<RingBuffer>,
-) -> Option<SharedPort<'a, RingBuffer>>
+/// A port by the last pass of the list.
+fn next_port<'a, B: EventBuffer>(
+    shared: &'a SharedBuffer<B>,
+    passes: &mut BufferPasses<B>,
+) -> SharedPort<'a, B>
     requires own { ArePassesOf (lock_of shared.now) passes.old }
     requires fresh { AreFresh passes.old }
+    requires some { 0 < length (items_of passes.old) }
     ensures own { ArePassesOf (lock_of shared.now) passes.new }
     ensures fresh { AreFresh passes.new }
+    ensures left { length (items_of passes.new) + 1 ≡ length (items_of passes.old) }
 {
-    let pass = passes.pop()?;
-    Some(SharedPort::new(shared, pass))
+    let Some(pass) = passes.pop() else {
+        unreachable!()
+    };
+    SharedPort::new(shared, pass)
+}
+
+/// Ports by the last two passes of the list.
+fn two_ports<'a, B: EventBuffer>(
+    shared: &'a SharedBuffer<B>,
+    passes: &mut BufferPasses<B>,
+) -> (SharedPort<'a, B>, SharedPort<'a, B>)
+    requires own { ArePassesOf (lock_of shared.now) passes.old }
+    requires fresh { AreFresh passes.old }
+    requires two { 2 ≤ length (items_of passes.old) }
+    ensures own { ArePassesOf (lock_of shared.now) passes.new }
+    ensures fresh { AreFresh passes.new }
+    ensures left { length (items_of passes.new) + 2 ≡ length (items_of passes.old) }
+{
+    let first = next_port(shared, passes);
+    let second = next_port(shared, passes);
+    (first, second)
 }
 
 /// The ring shared among four passes.
@@ -170,11 +182,68 @@ fn share(
 ) -> Result<(SharedBuffer<RingBuffer>, BufferPasses<RingBuffer>), AllocError>
     ensures own { IfOk result (λ made. ArePassesOf (lock_of made.0) made.1) }
     ensures fresh { IfOk result (λ made. AreFresh made.1) }
+    ensures four { IfOk result (λ made. length (items_of made.1) ≡ 4) }
 {
     match SharedBuffer::new(alloc, buffer, 4) {
         Ok(made) => Ok(made),
         Err(NoMemory) => Err(AllocError),
     }
+}
+
+/// The rooms that four threads receive into.
+#[derive(Drop)]
+struct Rooms {
+    left: (EventBuf, EventBuf),
+    right: (EventBuf, EventBuf),
+}
+
+fn two_rooms(alloc: Global) -> Result<(EventBuf, EventBuf), NoMemory> {
+    Ok((EventBuf::new(alloc, 8)?, EventBuf::new(alloc, 8)?))
+}
+
+/// A ring, and the rooms of those that exchange events through it.
+fn ring_with_rooms(alloc: Global) -> Result<(RingBuffer, Rooms), NoMemory> {
+    let left = two_rooms(alloc)?;
+    let right = two_rooms(alloc)?;
+    Ok((ring(alloc, SIZE)?, Rooms { left, right }))
+}
+
+/// How long it takes until each thread has made so many exchanges. All memory is there before.
+fn time_crowd<R: Threads + Wait + Sync + Clock, X: Exchange + Drop + Send>(
+    rt: &R,
+    crowd: Crowd,
+    left: (X, X),
+    right: (X, X),
+    rooms: Rooms,
+    times: u32,
+) -> anyhow::Result<Duration> {
+    let left = (
+        Worker {
+            access: left.0,
+            client: 0,
+            into: rooms.left.0,
+        },
+        Worker {
+            access: left.1,
+            client: 1,
+            into: rooms.left.1,
+        },
+    );
+    let right = (
+        Worker {
+            access: right.0,
+            client: 2,
+            into: rooms.right.0,
+        },
+        Worker {
+            access: right.1,
+            client: 3,
+            into: rooms.right.1,
+        },
+    );
+    let start = Instant::now(rt);
+    work_in_crowd(rt, crowd, left, right, times);
+    Ok(start?.elapsed(rt)?)
 }
 
 /// How long it takes until each thread has made so many exchanges under the counting lock.
@@ -184,23 +253,11 @@ pub fn time_shared<R: Threads + Wait + Sync + Clock>(
     crowd: Crowd,
     times: u32,
 ) -> anyhow::Result<Duration> {
-    let buffer = found(ring(alloc, SIZE))?;
+    let (buffer, rooms) = found(ring_with_rooms(alloc))?;
     let (shared, mut passes) = share(alloc, buffer)?;
-    let first = next_port(&shared, &mut passes).context("a pass")?;
-    let second = next_port(&shared, &mut passes).context("a pass")?;
-    let third = next_port(&shared, &mut passes).context("a pass")?;
-    let fourth = next_port(&shared, &mut passes).context("a pass")?;
-    let left = (
-        found(Worker::new(alloc, first, 0))?,
-        found(Worker::new(alloc, second, 1))?,
-    );
-    let right = (
-        found(Worker::new(alloc, third, 2))?,
-        found(Worker::new(alloc, fourth, 3))?,
-    );
-    let start = Instant::now(rt)?;
-    work_in_crowd(rt, crowd, left, right, times);
-    Ok(start.elapsed(rt)?)
+    let left = two_ports(&shared, &mut passes);
+    let right = two_ports(&shared, &mut passes);
+    time_crowd(rt, crowd, left, right, rooms, times)
 }
 
 /// The same under std's Mutex.
@@ -210,17 +267,8 @@ pub fn time_guarded<R: Threads + Wait + Sync + Clock>(
     crowd: Crowd,
     times: u32,
 ) -> anyhow::Result<Duration> {
-    let buffer = Mutex::new(found(ring(alloc, SIZE))?);
+    let (buffer, rooms) = found(ring_with_rooms(alloc))?;
+    let buffer = Mutex::new(buffer);
     let access = Guarded { buffer: &buffer };
-    let left = (
-        found(Worker::new(alloc, access, 0))?,
-        found(Worker::new(alloc, access, 1))?,
-    );
-    let right = (
-        found(Worker::new(alloc, access, 2))?,
-        found(Worker::new(alloc, access, 3))?,
-    );
-    let start = Instant::now(rt)?;
-    work_in_crowd(rt, crowd, left, right, times);
-    Ok(start.elapsed(rt)?)
+    time_crowd(rt, crowd, (access, access), (access, access), rooms, times)
 }

@@ -22,6 +22,20 @@ fn print_time(rt: &impl Print, what: &str, counted: u64, took: Duration) -> io::
     println!(rt; "{what}: {counted} counted, {each} ns each")
 }
 
+fn print_count(
+    rt: &impl Print,
+    timed: bool,
+    what: &str,
+    counted: u64,
+    took: Duration,
+) -> io::Result<()> {
+    if timed {
+        print_time(rt, what, counted, took)
+    } else {
+        println!(rt; "{what}: {counted} counted")
+    }
+}
+
 fn print_exchanges(
     rt: &impl Print,
     what: &str,
@@ -37,41 +51,72 @@ fn print_exchanges(
     )
 }
 
+fn measure_crowd<R: Threads + Wait + Sync + Clock + Print>(
+    rt: &R,
+    alloc: Global,
+    what: &str,
+    crowd: Crowd,
+    times: u32,
+) -> anyhow::Result<()> {
+    let shared = exchange::time_shared(rt, alloc, crowd, times)?;
+    let guarded = exchange::time_guarded(rt, alloc, crowd, times)?;
+    print_exchanges(rt, what, times, shared, guarded)?;
+    Ok(())
+}
+
 fn measure_exchanges<R: Threads + Wait + Sync + Clock + Print>(
     rt: &R,
     alloc: Global,
     times: u32,
 ) -> anyhow::Result<()> {
-    for (what, crowd) in [
-        ("alone", Crowd::Alone),
-        ("two threads", Crowd::Two),
-        ("four threads", Crowd::Four),
-    ] {
-        let shared = exchange::time_shared(rt, alloc, crowd, times)?;
-        let guarded = exchange::time_guarded(rt, alloc, crowd, times)?;
-        print_exchanges(rt, what, times, shared, guarded)?;
+    measure_crowd(rt, alloc, "alone", Crowd::Alone, times)?;
+    measure_crowd(rt, alloc, "two threads", Crowd::Two, times)?;
+    measure_crowd(rt, alloc, "four threads", Crowd::Four, times)
+}
+
+/// What was counted by one pass, and how long it took.
+fn time_alone<R: Wait + Clock>(
+    rt: &R,
+    alloc: Global,
+    calls: u32,
+) -> anyhow::Result<(u64, Duration)> {
+    let start = Instant::now(rt)?;
+    let counted = counter::count_alone(rt, alloc, calls)?;
+    Ok((counted, start.elapsed(rt)?))
+}
+
+/// What was counted in two threads, and how long it took.
+fn time_two_threads<R: Threads + Wait + Sync + Clock>(
+    rt: &R,
+    alloc: Global,
+    calls: u32,
+) -> anyhow::Result<(u64, Duration)> {
+    let start = Instant::now(rt)?;
+    let counted = counter::count_in_two_threads(rt, alloc, calls)?;
+    Ok((counted, start.elapsed(rt)?))
+}
+
+fn measure<R: Threads + Wait + Sync + Clock + Print>(
+    rt: &R,
+    alloc: Global,
+    given: Option<u32>,
+) -> anyhow::Result<()> {
+    let calls = given.unwrap_or(CALLS);
+    let (alone, alone_took) = time_alone(rt, alloc, calls)?;
+    let (both, both_took) = time_two_threads(rt, alloc, calls)?;
+    let timed = given.is_some();
+    print_count(rt, timed, "alone", alone, alone_took)?;
+    print_count(rt, timed, "two threads", both, both_took)?;
+    if timed {
+        measure_exchanges(rt, alloc, calls)
+    } else {
+        Ok(())
     }
-    Ok(())
 }
 
 fn main(rt: HostRuntime) -> anyhow::Result<()> {
     let given = env::args(&rt)?
         .nth(1)
         .and_then(|word| word.parse::<u32>().ok());
-    let calls = given.unwrap_or(CALLS);
-    let start = Instant::now(&rt)?;
-    let alone = counter::count_alone(&rt, rt.alloc(), calls)?;
-    let alone_took = start.elapsed(&rt)?;
-    let start = Instant::now(&rt)?;
-    let both = counter::count_in_two_threads(&rt, rt.alloc(), calls)?;
-    let both_took = start.elapsed(&rt)?;
-    if given.is_some() {
-        print_time(&rt, "alone", alone, alone_took)?;
-        print_time(&rt, "two threads", both, both_took)?;
-        measure_exchanges(&rt, rt.alloc(), calls)?;
-    } else {
-        println!(rt; "alone: {alone} counted")?;
-        println!(rt; "two threads: {both} counted")?;
-    }
-    Ok(())
+    measure(&rt, rt.alloc(), given)
 }
