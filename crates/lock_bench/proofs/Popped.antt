@@ -1,5 +1,5 @@
 -- What follows for lists that passes are put behind or taken from.
-use Rattle.std.proofs.Common.{◌≡◌, ◌∙◌, ℕ, zero, suc, ◌+◌, ◌<◌, List, [], ◌∷◌, ◌++◌, length, refl, sym, subst, ap, arith}
+use Rattle.std.proofs.Common.{◌≡◌, ◌∙◌, ℕ, zero, suc, ◌+◌, List, [], ◌∷◌, ◌++◌, length, refl, sym, subst, ap, arith}
 use Rattle.std.proofs.lemmas.List.{length-append}
 use Rattle.turn_lock.specs.Closing.{AreComplete}
 
@@ -30,6 +30,3 @@ complete_two none first both a b count empty one_in two_in is_zero is_one two =
 module _ {A : Type 0} where
   pub popped_length : (old new : List A) (last : A) → old ≡ new ++ last ∷ [] → length new + 1 ≡ length old
   popped_length old new last is = omega (arith, ap length is, length-append new (last ∷ []))
-
-  pub some_left : (old : List A) → old ≡ [] → 0 < length old → ⊥
-  some_left old is some = omega (arith, ap length is, some)

@@ -17,8 +17,13 @@ mod exchange;
 /// The calls of each pass where no number is given.
 const CALLS: u32 = 1000;
 
+/// The nanoseconds of each of so many calls.
+fn each(took: Duration, calls: u64) -> u128 {
+    took.as_nanos() / u128::from(calls.max(1))
+}
+
 fn print_time(rt: &impl Print, what: &str, counted: u64, took: Duration) -> io::Result<()> {
-    let each = took.as_nanos() / u128::from(counted.max(1));
+    let each = each(took, counted);
     println!(rt; "{what}: {counted} counted, {each} ns each")
 }
 
@@ -36,6 +41,10 @@ fn print_count(
     }
 }
 
+fn percent(part: Duration, whole: Duration) -> u128 {
+    part.as_nanos().saturating_mul(100) / whole.as_nanos().max(1)
+}
+
 fn print_exchanges(
     rt: &impl Print,
     what: &str,
@@ -43,11 +52,12 @@ fn print_exchanges(
     shared: Duration,
     guarded: Duration,
 ) -> io::Result<()> {
-    let each = shared.as_nanos() / u128::from(times.max(1));
-    let plain = guarded.as_nanos() / u128::from(times.max(1));
-    let percent = shared.as_nanos().saturating_mul(100) / guarded.as_nanos().max(1);
+    let calls = u64::from(times);
+    let each_shared = each(shared, calls);
+    let plain = each(guarded, calls);
+    let percent = percent(shared, guarded);
     println!(rt;
-        "send and receive, {what}: shared {each} ns, std's Mutex {plain} ns, {percent} percent"
+        "send and receive, {what}: shared {each_shared} ns, std's Mutex {plain} ns, {percent} percent"
     )
 }
 
