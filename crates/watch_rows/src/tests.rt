@@ -72,13 +72,17 @@ fn new_session(alloc: Global) -> Result<(SharedOdb<PlainTree>, OdbPasses<PlainTr
     Ok(made)
 }
 
-/// Performs a line of the main thread's, and adds what it prints.
+/// A line, and what it prints.
+type Line<'a> = (&'a str, &'a [u8]);
+
+/// Performs a command of the main thread's, and adds what it prints.
 fn perform<R: Wait, P: WatchPort>(
     rt: &R,
     alloc: Global,
     port: &mut P,
     files: &mut MemFiles,
-    row: (u64, &str),
+    number: u64,
+    command: &Command<'_>,
     text: &mut TextBuffer,
 ) -> Result<(), NoMemory>
     requires main { (P.access port.old).caller ≡ main_caller }
@@ -86,17 +90,35 @@ fn perform<R: Wait, P: WatchPort>(
     ensures main { (P.access port.new).caller ≡ main_caller }
     ensures room { (P.access port.old).room ≤ (P.access port.new).room + 259 }
 {
-    let (number, line) = row;
-    let Ok(command) = Command::read(line.as_bytes()) else {
-        return Ok(());
-    };
-    if let Some(answer) = run_watch_command(rt, alloc, port, files, &command)? {
+    if let Some(answer) = run_watch_command(rt, alloc, port, files, command)? {
         return answer.reply.print(number, text);
     }
-    if let Some(reply) = run_command(rt, alloc, port, &command)? {
-        return reply.print(number, text);
+    match run_command(rt, alloc, port, command)? {
+        Some(reply) => reply.print(number, text),
+        None => Ok(()),
     }
-    Ok(())
+}
+
+/// Whether a line of the main thread's prints this. The command and the text end here: each place where a function may
+/// end is proved with all that it holds there.
+fn prints<R: Wait, P: WatchPort>(
+    rt: &R,
+    alloc: Global,
+    port: &mut P,
+    files: &mut MemFiles,
+    number: u64,
+    line: Line<'_>,
+) -> Result<bool, NoMemory>
+    requires main { (P.access port.old).caller ≡ main_caller }
+    requires room { 259 ≤ (P.access port.old).room }
+    ensures main { (P.access port.new).caller ≡ main_caller }
+    ensures room { (P.access port.old).room ≤ (P.access port.new).room + 259 }
+{
+    let mut text = TextBuffer::new(alloc);
+    if let Ok(command) = Command::read(line.0.as_bytes()) {
+        perform(rt, alloc, port, files, number, &command, &mut text)?;
+    }
+    Ok(text.as_slice() == line.1)
 }
 
 /// What these lines of the main thread print, line by line.
@@ -105,18 +127,15 @@ fn check_lines<R: Wait + Abort, P: WatchPort>(
     alloc: Global,
     port: &mut P,
     files: &mut MemFiles,
-    rows: &[(&str, &str)],
+    lines: &[Line<'_>],
 ) -> Result<(), Fail>
     requires main { (P.access port.old).caller ≡ main_caller }
-    requires room { 259 * length rows.now ≤ (P.access port.old).room }
+    requires room { 259 * length lines.now ≤ (P.access port.old).room }
 {
-    let mut text = TextBuffer::new(alloc);
-    for place in 0..rows.len() {
-        let (line, shown) = rows[place];
-        text.clear();
-        let row = (place as u64 + 1, line);
-        perform(rt, alloc, port, files, row, &mut text)?;
-        assert!(rt; text.as_slice() == shown.as_bytes(), "{line}");
+    for place in 0..lines.len() {
+        let line = lines[place];
+        let right = prints(rt, alloc, port, files, place as u64 + 1, line)?;
+        assert!(rt; right, "{}", line.0);
     }
     Ok(())
 }
@@ -128,15 +147,15 @@ fn check_shared<R: Wait + Abort, D: Database>(
     shared: &SharedOdb<D>,
     main: OdbPass<D>,
     files: &mut MemFiles,
-    rows: &[(&str, &str)],
+    lines: &[Line<'_>],
 ) -> Result<(), Fail>
     requires own { IsOf (odb_lock_of shared.now) main }
     requires idle { held_by main ≡ None }
     requires main { number_of main ≡ main_caller }
-    requires few { length rows.now ≤ 1000 }
+    requires few { length lines.now ≤ 1000 }
 {
     let mut port = SharedAccess::new(shared, main);
-    check_lines(rt, alloc, &mut port, files, rows)
+    check_lines(rt, alloc, &mut port, files, lines)
 }
 
 /// A file: its name and its bytes.
@@ -146,7 +165,7 @@ type File = (&'static str, &'static str);
 /// them and is looked at, if one is.
 struct Row {
     given: Option<File>,
-    lines: &'static [(&'static str, &'static str)],
+    lines: &'static [Line<'static>],
     left: Option<File>,
 }
 
@@ -154,28 +173,28 @@ const ROWS: &[Row] = &[
     Row {
         given: None,
         lines: &[
-            ("save a.odb", "saved 114\n"),
-            ("save a.odb", "refused 2: Exists\n"),
-            ("save \"a b\"", "refused 3: BadFileName\n"),
-            ("load b.odb", "refused 4: Missing\n"),
-            ("load \"\"", "refused 5: BadFileName\n"),
-            ("load a.odb", "loaded 4 skipped 0\n"),
+            ("save a.odb", b"saved 114\n"),
+            ("save a.odb", b"refused 2: Exists\n"),
+            ("save \"a b\"", b"refused 3: BadFileName\n"),
+            ("load b.odb", b"refused 4: Missing\n"),
+            ("load \"\"", b"refused 5: BadFileName\n"),
+            ("load a.odb", b"loaded 4 skipped 0\n"),
         ],
         left: Some(("a.odb", NEW)),
     },
     Row {
         given: Some(("old.odb", OLDER)),
         lines: &[
-            ("load old.odb", "loaded 20 skipped 2\n"),
-            ("save new.odb", "saved 677\n"),
+            ("load old.odb", b"loaded 20 skipped 2\n"),
+            ("save new.odb", b"saved 677\n"),
         ],
         left: Some(("new.odb", SAVED)),
     },
     Row {
         given: Some(("new.odb", SAVED)),
         lines: &[
-            ("load new.odb", "loaded 20 skipped 0\n"),
-            ("save again.odb", "saved 677\n"),
+            ("load new.odb", b"loaded 20 skipped 0\n"),
+            ("save again.odb", b"saved 677\n"),
         ],
         left: Some(("again.odb", SAVED)),
     },
@@ -183,44 +202,44 @@ const ROWS: &[Row] = &[
     Row {
         given: Some(("bad.odb", "[/A]\nx = INT : 5\ny = INT : five\n")),
         lines: &[
-            ("load bad.odb", "refused 1: BadLine 3\n"),
-            ("ls /", "Runinfo/\n"),
+            ("load bad.odb", b"refused 1: BadLine 3\n"),
+            ("ls /", b"Runinfo/\n"),
         ],
         left: None,
     },
     Row {
         given: Some(("long.odb", "[/A]\nx = STRING : [1025] a\n")),
-        lines: &[("load long.odb", "refused 1: KeyRefused 2 Limit Size\n")],
+        lines: &[("load long.odb", b"refused 1: KeyRefused 2 Limit Size\n")],
         left: None,
     },
     Row {
         given: None,
         lines: &[
-            ("create UINT32 /A/x 2", ""),
-            ("watch /A", "watch 0\n"),
-            ("set /A/x 1 7", ""),
-            ("notes 0", "/A/x[1]\nlost 0\n"),
-            ("set /A/x 8", ""),
-            ("rm /A", ""),
-            ("notes 0", "gone 7[0]\nlost 0\n"),
-            ("watch /", "watch 1\n"),
-            ("unwatch 0", ""),
-            ("notes 0", "refused 10: NoWatch\n"),
-            ("unwatch 0", "refused 11: NoWatch\n"),
-            ("watch /A", "refused 12: NoKey\n"),
-            ("watch /Runinfo/State/x", "refused 13: NotDir\n"),
-            ("watch /A//B", "refused 14: EmptyName\n"),
-            ("notes 1", "lost 0\n"),
+            ("create UINT32 /A/x 2", b""),
+            ("watch /A", b"watch 0\n"),
+            ("set /A/x 1 7", b""),
+            ("notes 0", b"/A/x[1]\nlost 0\n"),
+            ("set /A/x 8", b""),
+            ("rm /A", b""),
+            ("notes 0", b"gone 7[0]\nlost 0\n"),
+            ("watch /", b"watch 1\n"),
+            ("unwatch 0", b""),
+            ("notes 0", b"refused 10: NoWatch\n"),
+            ("unwatch 0", b"refused 11: NoWatch\n"),
+            ("watch /A", b"refused 12: NoKey\n"),
+            ("watch /Runinfo/State/x", b"refused 13: NotDir\n"),
+            ("watch /A//B", b"refused 14: EmptyName\n"),
+            ("notes 1", b"lost 0\n"),
         ],
         left: None,
     },
 ];
 
 /// Lines over files of which the first append fails.
-const FAILING: &[(&str, &str)] = &[
-    ("save a.odb", "refused 1: FileFault\n"),
-    ("save a.odb", "refused 2: Exists\n"),
-    ("load a.odb", "loaded 0 skipped 0\n"),
+const FAILING: &[Line] = &[
+    ("save a.odb", b"refused 1: FileFault\n"),
+    ("save a.odb", b"refused 2: Exists\n"),
+    ("load a.odb", b"loaded 0 skipped 0\n"),
 ];
 
 /// Files in memory, of which these calls fail.
@@ -248,123 +267,102 @@ fn check_session<R: Wait + Abort>(
     rt: &R,
     alloc: Global,
     files: &mut MemFiles,
-    rows: &[(&str, &str)],
-) -> Result<(), Fail>
-    requires few { length rows.now ≤ 1000 }
-{
+    lines: &[Line<'_>],
+) -> Result<(), Fail> {
+    assert!(rt; lines.len() <= 1000);
     let (shared, mut passes) = new_session(alloc)?;
     let main = main_pass(&shared, &mut passes);
-    check_shared(rt, alloc, &shared, main, files, rows)
+    check_shared(rt, alloc, &shared, main, files, lines)
 }
 
-/// Goes through a session over these files.
-fn check_row<R: Wait + Abort>(
+/// The same over new files, of which these calls fail.
+fn check_alone<R: Wait + Abort>(
     rt: &R,
     alloc: Global,
-    files: &mut MemFiles,
-    row: &Row,
+    fails: Vec<FileFail>,
+    lines: &[Line<'_>],
 ) -> Result<(), Fail> {
-    if let Some(given) = row.given {
-        add_file(alloc, files, given)?;
+    let mut files = new_files(alloc, fails)?;
+    check_session(rt, alloc, &mut files, lines)
+}
+
+/// New files: this one, if one is given.
+fn given_files(alloc: Global, given: Option<File>) -> Result<MemFiles, Fail> {
+    let mut files = new_files(alloc, Vec::new(alloc))?;
+    if let Some(file) = given {
+        add_file(alloc, &mut files, file)?;
     }
-    assert!(rt; row.lines.len() <= 1000);
-    check_session(rt, alloc, files, row.lines)?;
-    if let Some(left) = row.left {
-        assert!(rt; is_there(files, left), "{}", left.0);
+    Ok(files)
+}
+
+/// Goes through a session. Says whether the file that is looked at is there behind it, if one is. The files end here.
+fn leaves_file<R: Wait + Abort>(rt: &R, alloc: Global, row: &Row) -> Result<bool, Fail> {
+    let mut files = given_files(alloc, row.given)?;
+    check_session(rt, alloc, &mut files, row.lines)?;
+    match row.left {
+        Some(left) => Ok(is_there(&files, left)),
+        None => Ok(true),
+    }
+}
+
+/// What each session comes to.
+fn check_rows<R: Wait + Abort>(rt: &R, alloc: Global) -> Result<(), Fail> {
+    for row in ROWS {
+        let right = leaves_file(rt, alloc, row)?;
+        if let Some(left) = row.left {
+            assert!(rt; right, "{}", left.0);
+        }
     }
     Ok(())
 }
 
 #[test]
 fn sessions_of_lines(rt: HostRuntime) -> Result<(), Fail> {
-    let alloc = rt.alloc();
-    for row in ROWS {
-        let mut files = new_files(alloc, Vec::new(alloc))?;
-        check_row(&rt, alloc, &mut files, row)?;
-    }
-    Ok(())
+    check_rows(&rt, rt.alloc())
 }
 
 #[test]
 fn file_that_fails(rt: HostRuntime) -> Result<(), Fail> {
-    let alloc = rt.alloc();
     let op = FileOp::Append;
-    let mut files = new_files(alloc, vec![in alloc; FileFail { op, call: 0 }]?)?;
-    check_session(&rt, alloc, &mut files, FAILING)
+    let fails = vec![in rt.alloc(); FileFail { op, call: 0 }]?;
+    check_alone(&rt, rt.alloc(), fails, FAILING)
 }
 
-/// Sets an item so often as the main thread, and then reads the watch of its directory twice.
-fn set_and_read<R: Wait, P: WatchPort>(
-    rt: &R,
-    alloc: Global,
-    port: &mut P,
-    files: &mut MemFiles,
-    times: u32,
-) -> Result<TextBuffer, NoMemory>
-    requires main { (P.access port.old).caller ≡ main_caller }
-    requires room { 259 * (times + 4) ≤ (P.access port.old).room }
-{
-    let mut text = TextBuffer::new(alloc);
-    perform(rt, alloc, port, files, (1, "create UINT32 /A/x"), &mut text)?;
-    perform(rt, alloc, port, files, (2, "watch /A"), &mut text)?;
-    'sets: for time in 0..times {
-        let row = (3 + time as u64, "set /A/x 1");
-        perform(rt, alloc, port, files, row, &mut text)?;
-    }
-    perform(rt, alloc, port, files, (4, "notes 0"), &mut text)?;
-    perform(rt, alloc, port, files, (5, "notes 0"), &mut text)?;
-    Ok(text)
-}
-
-/// The same by a pass of a shared database.
-fn set_and_read_shared<R: Wait, D: Database>(
-    rt: &R,
-    alloc: Global,
-    shared: &SharedOdb<D>,
-    main: OdbPass<D>,
-    files: &mut MemFiles,
-    times: u32,
-) -> Result<TextBuffer, NoMemory>
-    requires own { IsOf (odb_lock_of shared.now) main }
-    requires idle { held_by main ≡ None }
-    requires main { number_of main ≡ main_caller }
-    requires few { times ≤ 1000 }
-{
-    let mut port = SharedAccess::new(shared, main);
-    set_and_read(rt, alloc, &mut port, files, times)
-}
-
-/// The same in a new session.
-fn notes_of_session<R: Wait>(
-    rt: &R,
-    alloc: Global,
-    files: &mut MemFiles,
-    times: u32,
-) -> Result<TextBuffer, Fail>
-    requires few { times ≤ 1000 }
-{
-    let (shared, mut passes) = new_session(alloc)?;
-    let main = main_pass(&shared, &mut passes);
-    let text = set_and_read_shared(rt, alloc, &shared, main, files, times)?;
-    Ok(text)
-}
-
-/// What the main thread reads of an item that was set once more than notes are kept.
+/// The notes of an item that was set once more than notes are kept.
 fn most_notes(alloc: Global) -> Result<TextBuffer, NoMemory> {
     let mut wanted = TextBuffer::new(alloc);
-    wanted.text(b"watch 0\n")?;
     for _ in 0..256 {
         wanted.text(b"/A/x[0]\n")?;
     }
-    wanted.text(b"lost 1\nlost 0\n")?;
+    wanted.text(b"lost 1\n")?;
     Ok(wanted)
+}
+
+/// Lines that set an item so often, and then read the watch of its directory twice.
+fn sets_and_notes<'a>(
+    alloc: Global,
+    times: u32,
+    notes: &'a [u8],
+) -> Result<Vec<Line<'a>>, NoMemory> {
+    let mut lines: Vec<Line<'a>> = Vec::new(alloc);
+    lines.push(("create UINT32 /A/x", b""))?;
+    lines.push(("watch /A", b"watch 0\n"))?;
+    for _ in 0..times {
+        lines.push(("set /A/x 1", b""))?;
+    }
+    lines.push(("notes 0", notes))?;
+    lines.push(("notes 0", b"lost 0\n"))?;
+    Ok(lines)
+}
+
+/// What the main thread reads of an item that it set once more than notes are kept.
+fn check_most_notes<R: Wait + Abort>(rt: &R, alloc: Global) -> Result<(), Fail> {
+    let notes = most_notes(alloc)?;
+    let lines = sets_and_notes(alloc, 257, notes.as_slice())?;
+    check_alone(rt, alloc, Vec::new(alloc), &lines)
 }
 
 #[test]
 fn more_notes_than_are_kept(rt: HostRuntime) -> Result<(), Fail> {
-    let alloc = rt.alloc();
-    let mut files = new_files(alloc, Vec::new(alloc))?;
-    let text = notes_of_session(&rt, alloc, &mut files, 257)?;
-    assert!(rt; text.as_slice() == most_notes(alloc)?.as_slice());
-    Ok(())
+    check_most_notes(&rt, rt.alloc())
 }
