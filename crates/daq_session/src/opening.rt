@@ -150,12 +150,12 @@ fn thread_room<
     Ok(Some(room))
 }
 
-/// Lets room for threads go. That is shown here once, over members of any kind.
+/// Lets room for threads go. Dropped at the session's own types it would have all their laws proved at each place.
 pub fn let_go<'a, X: Equipment + Drop, P: EndlessPort + Drop, D: WatchPort + Drop, F: Files + Drop>(
     _room: Option<ThreadRoom<'a, X, P, D, F>>,
 ) {}
 
-/// Makes the keys of the front-ends; and takes room for threads of the members, but where the main thread gives them their turns.
+/// Takes room for threads of the members, but where the main thread gives them their turns; and makes the keys of the front-ends.
 pub fn open_keys<'a, R: Wait, D: Database, F: Files + Drop>(
     rt: &R,
     alloc: Global,
@@ -171,8 +171,14 @@ pub fn open_keys<'a, R: Wait, D: Database, F: Files + Drop>(
         (access_by_pass access.old) (access_by_pass access.new)) }
     ensures same { IsSamePort (access_by_pass access.old) (access_by_pass access.new) }
 {
-    front_keys(rt, alloc, access, fronts)?;
-    thread_room(alloc, cooperative)
+    let room = thread_room(alloc, cooperative)?;
+    match front_keys(rt, alloc, access, fronts) {
+        Ok(()) => Ok(room),
+        Err(NoMemory) => {
+            let_go(room);
+            Err(NoMemory)
+        }
+    }
 }
 
 /// The channel once more.
