@@ -208,6 +208,27 @@ fn ring_with_rooms(alloc: Global) -> Result<(RingBuffer, Rooms), NoMemory> {
     Ok((ring(alloc, SIZE)?, Rooms { left, right }))
 }
 
+/// Workers by these accesses and rooms, the first of which is this client.
+fn two_workers<X: Exchange + Drop>(
+    accesses: (X, X),
+    client: u32,
+    rooms: (EventBuf, EventBuf),
+) -> (Worker<X>, Worker<X>)
+    requires { client ≤ 2 }
+{
+    let first = Worker {
+        access: accesses.0,
+        client,
+        into: rooms.0,
+    };
+    let second = Worker {
+        access: accesses.1,
+        client: client + 1,
+        into: rooms.1,
+    };
+    (first, second)
+}
+
 /// How long it takes until each thread has made so many exchanges. All memory is there before.
 fn time_crowd<R: Threads + Wait + Sync + Clock, X: Exchange + Drop + Send>(
     rt: &R,
@@ -217,30 +238,8 @@ fn time_crowd<R: Threads + Wait + Sync + Clock, X: Exchange + Drop + Send>(
     rooms: Rooms,
     times: u32,
 ) -> anyhow::Result<Duration> {
-    let left = (
-        Worker {
-            access: left.0,
-            client: 0,
-            into: rooms.left.0,
-        },
-        Worker {
-            access: left.1,
-            client: 1,
-            into: rooms.left.1,
-        },
-    );
-    let right = (
-        Worker {
-            access: right.0,
-            client: 2,
-            into: rooms.right.0,
-        },
-        Worker {
-            access: right.1,
-            client: 3,
-            into: rooms.right.1,
-        },
-    );
+    let left = two_workers(left, 0, rooms.left);
+    let right = two_workers(right, 2, rooms.right);
     let start = Instant::now(rt);
     work_in_crowd(rt, crowd, left, right, times);
     Ok(start?.elapsed(rt)?)
