@@ -10,12 +10,12 @@ test:
 
 # What the tools, a run and the database cost, beside cat, wc and plain Rust. Builds the program first.
 bench:
-	@(cd crates/midas && rt run -- check none >/dev/null 2>&1) || true
+	@./bench/build
 	@./bench/tools.sh crates/midas/out/midas
 	@./bench/run.sh crates/midas/out/midas
 	@./bench/odb.sh crates/midas/out/midas
 
 # Many short sessions in threads, each of which is checked. Builds the program first.
 stress:
-	@(cd crates/midas && rt run -- check none >/dev/null 2>&1) || true
+	@./bench/build
 	@./bench/threads.sh crates/midas/out/midas
