@@ -50,7 +50,8 @@ given_here laws size before after by (End start reply) legal = tt
 given_here laws size before after by (Level reply) legal = tt
 given_here laws size before after by (Accepted reply) legal = tt
 
-given_from : (laws : BufferLaws) (size by : ℕ) (before after : List (ℕ × BufferEntry)) → IsLegal (opening size) (before ++ after)
+-- what a caller's calls gave was sent in the history
+pub given_from : (laws : BufferLaws) (size by : ℕ) (before after : List (ℕ × BufferEntry)) → IsLegal (opening size) (before ++ after)
     → AllByRecursion (WasSentAt (before ++ after)) (given_in by (replay (opening size) before) after)
 given_from laws size by before [] legal = tt
 given_from laws size by before (x ∷ xs) legal =
