@@ -113,8 +113,7 @@ impl EventBuffer for RingBuffer {
     }
 
     fn detach(&mut self, client: u32) -> Result<(), NoClient> {
-        self.clients.detach(client)?;
-        Ok(())
+        self.clients.detach(client)
     }
 
     fn request(
@@ -124,13 +123,11 @@ impl EventBuffer for RingBuffer {
         mask: u16,
         kind: Kind,
     ) -> Result<u32, RequestRefusal> {
-        let number = self.clients.request(client, id, mask, kind, self.count)?;
-        Ok(number)
+        self.clients.request(client, id, mask, kind, self.count)
     }
 
     fn cancel(&mut self, client: u32, request: u32) -> Result<(), RequestRefusal> {
-        self.clients.cancel(client, request)?;
-        Ok(())
+        self.clients.cancel(client, request)
     }
 
     fn send(&mut self, header: &Header, body: &[u8]) -> Result<u64, SendRefusal> {
