@@ -77,7 +77,7 @@ pub struct Held<M> {
 struct Owed;
 
 /// The turn was another pass's.
-#[derive(Debug, PartialEq, Eq, Clone, Copy)]
+#[derive(Clone, Copy, Debug, PartialEq, Eq)]
 pub struct Taken {
     pub holder: u32,
 }
