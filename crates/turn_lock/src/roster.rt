@@ -1,5 +1,5 @@
 // The passes of a lock, as a list.
-ghost use Rattle.std.specs.Prelude.{◌≡◌, ℕ, ◌+◌, ◌<◌, ◌≤◌, ◌++◌, ◌∷◌, [], length, map, vec_capacity, Contains, Some, None, IsTrue, ◌↔◌, IfSome, IfNone};
+ghost use Rattle.std.specs.Prelude.{◌≡◌, ◌+◌, ◌<◌, ◌≤◌, ◌++◌, ◌∷◌, [], length, map, vec_capacity, Contains, None, IsTrue, ◌↔◌, IfSome, IfNone};
 
 use crate::lock::Pass;
 use crate::object::Machine;
