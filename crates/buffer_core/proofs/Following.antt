@@ -12,7 +12,7 @@ use Rattle.buffer_core.specs.Slots.{slot_at, some_slot}
 use Rattle.buffer_core.specs.Window.{Sent, slot_of_sent, covers, wants, is_all, holds_back, owes}
 use Rattle.buffer_core.specs.Calls.{joined, with_request, going_on, pushed}
 use Rattle.buffer_core.proofs.SlotLaws.{split, some_slot_true}
-use Rattle.buffer_core.proofs.ReadingLaws.{no_request_at}
+use Rattle.buffer_core.proofs.OpeningSlots.{no_request_at}
 use Rattle.buffer_core.specs.Points.{Life, got_end, reached, life_got, life_drained}
 use Rattle.buffer_core.specs.Delivered.{IsIn, slot_of_place, slots_of_places}
 use Rattle.buffer_core.proofs.Places.{get_drop, get_within, get_old, get_below, take_next, take_rises}

@@ -7,6 +7,7 @@ use Rattle.std.proofs.lemmas.List.{drop-drop}
 use Rattle.std.proofs.lemmas.List.Sums.{sum_by-cons, sum_by_push, sum_by-take-drop}
 use Rattle.daq_types.specs.declared.events.Event.{Event}
 use Rattle.daq_model.specs.Events.{slot_size}
+use Rattle.event_header.specs.Held.{blank_event}
 use Rattle.buffer_core.specs.declared.client.Request.{Request as EventRequest}
 use Rattle.buffer_core.specs.declared.client.Client.{Client}
 use Rattle.buffer_core.specs.declared.replies.Received.TheVariants.{Got, Empty, NoClient as NoReader, SmallBuf}
@@ -20,7 +21,7 @@ use Rattle.buffer_core.specs.Histories.{IsLegal, replay}
 use Rattle.buffer_core.proofs.WindowLaws.{found_stands, found_kept}
 use Rattle.buffer_core.proofs.WindowKept.{found_got}
 use Rattle.buffer_core.specs.Ports.{GotEvent, slots_got}
-use Rattle.buffer_core.specs.CallersView.{no_event, given_by, given_in}
+use Rattle.buffer_core.specs.CallersView.{given_by, given_in}
 
 -- Sums of the rest of a list.
 
@@ -161,7 +162,7 @@ got_is w room (Some c) place start e =
 pub given_is : (w : Window) (client room place start : ℕ) (s : Sent) → kept_at w place ≡ Some s
     → given_by w (Receive client room (Got place start)) ≡ record { client = client; place = place; start = start; event = s.event } ∷ []
 given_is w client room place start s kept =
-    ap (λ (o : Option Sent). record { client = client; place = place; start = start; event = unwrap_or (option_map (λ (x : Sent). x.event) o) no_event } ∷ []) kept
+    ap (λ (o : Option Sent). record { client = client; place = place; start = start; event = unwrap_or (option_map (λ (x : Sent). x.event) o) blank_event } ∷ []) kept
 
 pays_got : (w : Window) (client by room place start : ℕ) → Got place start ≡ receive_reply_to w room (slot_at w.clients by) → Pays w client (Receive by room (Got place start))
 pays_got w client by room place start reply =

@@ -18,7 +18,7 @@ pub mod Searching
 pub mod NewNumbers
 pub mod OwnClients
 pub mod HistoryLaws
-pub mod ReadingLaws
+pub mod OpeningSlots
 pub mod WindowLaws
 pub mod WindowKept
 pub mod GotLaws

@@ -22,7 +22,7 @@ use Rattle.buffer_core.specs.Histories.{replay, IsLegal}
 use Rattle.buffer_core.proofs.SlotLaws.{split, slot_change_all}
 use Rattle.buffer_core.proofs.WindowLaws.{to_drop_within}
 use Rattle.buffer_core.proofs.WindowKept.{window_opens, window_stays}
-use Rattle.buffer_core.proofs.ReadingLaws.{no_client_at}
+use Rattle.buffer_core.proofs.OpeningSlots.{no_client_at}
 use Rattle.buffer_core.specs.Points.{Life, news_of, sent, sent_after, life_got, life_drained, life_after, life_at, request_after, request_at, past_after}
 use Rattle.buffer_core.proofs.Places.{get_drop, get_take}
 use Rattle.buffer_core.proofs.Numbered.{at_put, at_clear, at_change, free_within, none_found}

@@ -1,7 +1,7 @@
 -- The laws tell wrong histories from right ones.
-use Rattle.std.specs.Prelude.{◌≡◌, ◌≢◌, ℕ, ◌+◌, ◌^◌, ◌<◌, ◌≤◌, ◌==◌, Bool, true, false, if◌then◌else◌, List, [], ◌∷◌, Option, Some, None, Ok, refl}
+use Rattle.std.specs.Prelude.{◌≡◌, ◌≢◌, ℕ, ◌+◌, ◌^◌, ◌<◌, ◌≤◌, ◌==◌, Bool, true, false, if◌then◌else◌, List, [], ◌∷◌, Option, Some, None, Ok, ◌⊎◌, refl}
 use Rattle.std.specs.Option.{option_map}
-use Rattle.std.proofs.Common.{subst, arith, inl}
+use Rattle.std.proofs.Common.{subst, arith, inl, inr}
 use Rattle.daq_types.specs.declared.events.Event.{Event}
 use Rattle.daq_types.specs.declared.runs.Kind.TheVariants.{All}
 use Rattle.daq_model.specs.Events.{Matches, matches, slot_of_length, slot_size}
@@ -14,7 +14,7 @@ use Rattle.buffer_core.proofs.SlotLaws.{split}
 use Rattle.buffer_core.specs.Points.{Life, life_got, sent}
 use Rattle.buffer_core.specs.Delivered.{IsIn, HasWay, slots_of_places, DeliveryPart, InOrder, Complete, HeldBack, Bounded, MeetsPart, FailsAlone}
 use Rattle.buffer_core.specs.Runs.{KeepsRuns}
-use Rattle.buffer_core.specs.Samples.{sample_event, refused_once, got_twice, left_out, refused_for_nobody, got_too_much, sent_behind, sent_in_pause}
+use Rattle.buffer_core.specs.Samples.{sample_event, refused_once, got_twice, left_out, refused_for_nobody, got_too_much, sent_behind, sent_in_pause, begun_twice, sent_between}
 use Rattle.buffer_core.proofs.Places.{drop_sum}
 
 pub refused_once_is_legal : IsLegal (opening 48) refused_once
@@ -194,3 +194,13 @@ never_sent_behind k =
 
 pub never_sent_in_pause : KeepsRuns sent_in_pause → ⊥
 never_sent_in_pause k = cc (k.unpaused.0)
+
+other_run : (start : ℕ) → start ≡ 2 → (start ≡ 1) ⊎ (start ≡ 0) → ⊥
+other_run start two (inl one) = omega (arith, two, one)
+other_run start two (inr none) = omega (arith, two, none)
+
+pub never_sent_between : KeepsRuns sent_between → ⊥
+never_sent_between k = other_run 2 refl (k.only 1 0 0 (record { event = sample_event; start = 2 }) refl)
+
+pub never_begun_twice : KeepsRuns begun_twice → ⊥
+never_begun_twice k = cc (k.once.0)

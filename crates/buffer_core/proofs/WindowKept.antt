@@ -21,7 +21,7 @@ use Rattle.buffer_core.specs.Window.{Sent, Window, opening, slot_of_sent, accept
 use Rattle.buffer_core.specs.Calls.{IsReply, window_after, joined, with_request, going_on, pushed, send_reply, id_reply, size_reply, spent_reply, room_reply, is_running, is_paused, mark_reply, begin_reply_at, gone_of, after_send, found_in, found_reply, receive_reply_to, with_clients, with_gate}
 use Rattle.buffer_core.proofs.SlotLaws.{split, slot_set_same, slot_set_other, slot_within, slot_change_all}
 use Rattle.buffer_core.proofs.WindowLaws.{to_drop_fits, to_drop_within, slot_cover, IsSendable, found_stands}
-use Rattle.buffer_core.proofs.ReadingLaws.{no_client_at, length-no_clients, length-no_requests, no_request_at}
+use Rattle.buffer_core.proofs.OpeningSlots.{no_client_at, length-no_clients, length-no_requests, no_request_at}
 
 -- Facts of all members of a list of numbered places.
 

@@ -3,6 +3,7 @@
 use Rattle.std.specs.Prelude.{ℕ, suc, ◌==◌, Bool, false, not, if◌then◌else◌, List, [], ◌∷◌, ◌++◌, Ok}
 use Rattle.daq_types.specs.Callers.{entries_by}
 use Rattle.daq_types.specs.declared.events.Event.{Event}
+use Rattle.event_header.specs.Held.{blank_event}
 use Rattle.buffer_core.specs.declared.replies.Received.TheVariants.{Got}
 use Rattle.buffer_core.specs.declared.entry.BufferEntry.{BufferEntry}
 use Rattle.buffer_core.specs.declared.entry.BufferEntry.TheVariants.{Attach, Detach, Receive}
@@ -11,14 +12,10 @@ use Rattle.buffer_core.specs.Calls.{window_after, event_after}
 use Rattle.buffer_core.specs.Histories.{replay}
 use Rattle.buffer_core.specs.Ports.{Access, BufferIdentity, GotEvent}
 
--- what a receiver that has got nothing yet holds
-abbrev pub no_event : Event
-no_event = record { id = 0; mask = 0; serial = 0; time = 0; body = [] }
-
--- the event that a call on this window gives
+-- the event that a call on this window gives, in a room that held none
 abbrev pub given_by : Window → BufferEntry → List GotEvent
 given_by w (Receive client room (Got place start)) =
-    let event : Event = event_after no_event w (Got place start) in
+    let event : Event = event_after blank_event w (Got place start) in
     record { client = client; place = place; start = start; event = event } ∷ []
 given_by w entry = []
 

@@ -2,7 +2,6 @@ pub mod Slots
 pub mod Window
 pub mod Calls
 pub mod Histories
-pub mod ReadingLaws
 pub mod Points
 pub mod Delivered
 pub mod Runs

@@ -10,9 +10,6 @@ use Rattle.buffer_core.specs.declared.entry.BufferEntry.{BufferEntry}
 use Rattle.buffer_core.specs.declared.entry.BufferEntry.TheVariants.{Attach, Detach, Request, Cancel, Send, SendInRun, Receive}
 use Rattle.buffer_core.specs.Window.{Sent, is_all}
 
-abbrev pub Past : Type 0
-Past = List (ℕ × BufferEntry)
-
 -- the point behind these entries, which follow this point
 abbrev pub past_after : List (ℕ × BufferEntry) → (entries : List (ℕ × BufferEntry)) → List (ℕ × BufferEntry)
 past_after past [] = past

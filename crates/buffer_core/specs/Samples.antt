@@ -104,6 +104,14 @@ sent_behind = (1, Begin 1 (Ok 0)) ∷ (1, End 1 (Ok 0)) ∷ (1, SendInRun 1 0 sa
 abbrev pub sent_in_pause : List (ℕ × BufferEntry)
 sent_in_pause = (1, Begin 1 (Ok 0)) ∷ (1, Pause 1 (Ok 0)) ∷ (1, SendInRun 1 0 sample_event (Ok 0)) ∷ []
 
+-- a run begins twice
+abbrev pub begun_twice : List (ℕ × BufferEntry)
+begun_twice = (1, Begin 1 (Ok 0)) ∷ (1, Begin 1 (Ok 0)) ∷ []
+
+-- an event of another run is sent behind the begin of a run that has no end
+abbrev pub sent_between : List (ℕ × BufferEntry)
+sent_between = (1, Begin 1 (Ok 0)) ∷ (1, Begin 2 (Ok 0)) ∷ (1, SendInRun 2 0 sample_event (Ok 0)) ∷ []
+
 -- the access of a caller that made these calls, where these of them gave clients that others
 -- detached
 abbrev pub access_after : List BufferEntry → (taken_back : List ℕ) → Access

@@ -18,7 +18,7 @@ ghost use Rattle.buffer_core.specs.Continued.{sent_in, RepliesCount, GivesSent};
 ghost use Rattle.buffer_core.specs.Readers.{KeepsLife, HasReadBelow, ReadsAll, places_got, places_of, among, wanted};
 ghost use Rattle.buffer_core.specs.Ports.{Access, GotEvent, PortCalled, IsGivenAt, IsNewNumber, knowing};
 ghost use Rattle.buffer_core.specs.Searches.{FoundIsFirst, FirstIsFound, NotFoundIsNone, NoneIsNotFound, OwedIsLeast, LeastIsOwed, NotOwedIsNone, NoneIsNotOwed, DropIsLeast, LeastIsDrop};
-ghost use Rattle.buffer_core.specs.Samples.{refused_once, got_twice, left_out, reached_back, refused_for_nobody, got_too_much, got_too_much_together, got_with_other_start, got_of_cancelled, missed, refused_for_optional, refused_at_second, refused_for_second, dropped, sent_behind, sent_in_pause, access_after, given_once, given_and_detached, given_twice};
+ghost use Rattle.buffer_core.specs.Samples.{refused_once, got_twice, left_out, reached_back, refused_for_nobody, got_too_much, got_too_much_together, got_with_other_start, got_of_cancelled, missed, refused_for_optional, refused_at_second, refused_for_second, dropped, sent_behind, sent_between, sent_in_pause, begun_twice, access_after, given_once, given_and_detached, given_twice};
 
 /// Each client gets only what its requests want, in order and once, and all of what its requests for all events want;
 /// a send is refused as full exactly where such an event is still to be got.
@@ -143,12 +143,15 @@ pub fn drops_least()
     ensures least { LeastIsDrop }
 {}
 
-/// What the laws ask is more than nothing: a history in which a send is refused as full, and others
-/// that the laws of runs rule out.
+/// What the laws ask is more than nothing: a history in which a send is refused as full is legal, and of each part of
+/// the law of runs one is ruled out: an event of a run sent behind its end, one of another run sent between its marks,
+/// one sent in a pause, and a run that begins twice.
 pub fn tells_apart()
     ensures refusal { IsLegal (opening 48) refused_once }
     ensures behind { KeepsRuns sent_behind → ⊥ }
+    ensures between { KeepsRuns sent_between → ⊥ }
     ensures pause { KeepsRuns sent_in_pause → ⊥ }
+    ensures twice { KeepsRuns begun_twice → ⊥ }
 {}
 
 /// Of each part of what a buffer delivers, histories that fail that part alone.

@@ -15,6 +15,6 @@ pub use buffer::EventBuffer;
 pub use client::{CLIENTS, Client, REQUESTS, Request, free_number};
 pub use entry::BufferEntry;
 pub use gate::RunGate;
-pub use limits::{MAX_TOTAL, is_id_reserved};
+pub use limits::slot_for;
 pub use port::BufferPort;
 pub use replies::{MarkRefusal, NoClient, NoSlot, Received, RequestRefusal, SendRefusal};

@@ -1,7 +1,7 @@
 ghost use Rattle.std.specs.Prelude.{◌≡◌, ◌-◌, ◌^◌, ◌≤◌, ℕ, length, map, min, IfOk, IfErr};
 ghost use Rattle.daq_model.specs.Events.{event_limit};
 ghost use Rattle.event_header.specs.Headers.{event_of};
-ghost use Rattle.buffer_core.specs.declared.entry.BufferEntry.TheVariants.{Attach, Detach, Request, Cancel, Send, SendInRun, Receive, Begin, Pause, Resume, End, Level, Accepted};
+ghost use Rattle.buffer_core.specs.declared.entry.BufferEntry.TheVariants.{Attach, Detach, Request, Cancel, Send, SendInRun, Begin, Pause, Resume, End, Level, Accepted};
 ghost use Rattle.buffer_core.specs.Ports.{Calls, Receives, KeepsUnlessGot, GivesSound, IsSmallBuf, IsSendFault, IsRunSendFault, IsNewNumber, knowing, slots_got, name_of, names_given};
 
 use crate::replies::{MarkRefusal, NoClient, NoSlot, Received, RequestRefusal, SendRefusal};

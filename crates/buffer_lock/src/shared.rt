@@ -1,14 +1,14 @@
 // A buffer that threads share.
-ghost use Rattle.std.specs.Prelude.{◌≡◌, ◌<◌, ◌≤◌, ℕ, [], Option, Some, None, length, All, IfOk, IfErr, OnOk, OnErr};
+ghost use Rattle.std.specs.Prelude.{◌≡◌, ◌<◌, ◌≤◌, ℕ, [], Some, None, length, All, IfOk, IfErr, OnOk, OnErr};
 ghost use Rattle.event_header.specs.Headers.{event_of};
 ghost use Rattle.daq_types.specs.Callers.{entries_by};
 ghost use Rattle.buffer_core.specs.declared.entry.BufferEntry.TheVariants.{Attach, Detach, Request, Cancel, Send, SendInRun, Receive, Begin, Pause, Resume, End, Level, Accepted};
 ghost use Rattle.buffer_core.specs.Window.{IsWindow, opening};
 ghost use Rattle.buffer_core.specs.Delivered.{Delivers};
 ghost use Rattle.buffer_core.specs.Runs.{KeepsRuns};
-ghost use Rattle.buffer_core.specs.Calls.{IsReply, window_after, event_after};
+ghost use Rattle.buffer_core.specs.Calls.{event_after};
 ghost use Rattle.buffer_core.specs.Histories.{IsLegal, replay};
-ghost use Rattle.turn_lock.specs.Passes.{first_value, passes_of, number_of, seen_by, held_by, IsOf, IsNoteOf, IsUnchanged, found_by, noted, own_entries};
+ghost use Rattle.turn_lock.specs.Passes.{passes_of, number_of, seen_by, held_by, IsOf, IsNoteOf, IsUnchanged, found_by, noted, own_entries};
 ghost use Rattle.turn_lock.specs.Views.{longer};
 ghost use mathlib.Core.List.{IsPrefix};
 ghost use Rattle.turn_lock.specs.History.{IsPartOf, entries_below};

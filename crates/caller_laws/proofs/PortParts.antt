@@ -3,6 +3,7 @@ use Rattle.std.specs.Prelude.{◌≡◌, ℕ, ◌==◌, if◌then◌else◌, Lis
 use Rattle.std.specs.List.{AllByRecursion}
 use Rattle.std.proofs.Common.{ap, sym, ◌∙◌, subst, append_assoc}
 use Rattle.daq_types.specs.declared.events.Event.{Event}
+use Rattle.event_header.specs.Held.{blank_event}
 use Rattle.buffer_core.specs.declared.replies.Received.TheVariants.{Got, Empty, NoClient as NoReader, SmallBuf}
 use Rattle.buffer_core.specs.declared.entry.BufferEntry.{BufferEntry}
 use Rattle.buffer_core.specs.declared.entry.BufferEntry.TheVariants.{Attach, Detach, Request, Cancel, Send, SendInRun, Receive, Begin, Pause, Resume, End, Level, Accepted}
@@ -13,7 +14,7 @@ use Rattle.buffer_core.specs.Histories.{IsLegal, replay}
 use Rattle.buffer_core.proofs.HistoryLaws.{replay-push}
 use Rattle.buffer_core.specs.Points.{sent, past_of}
 use Rattle.buffer_core.specs.Continued.{sent_in, GivesSent}
-use Rattle.buffer_core.specs.CallersView.{given_by, given_in, no_event}
+use Rattle.buffer_core.specs.CallersView.{given_by, given_in}
 use Rattle.caller_laws.specs.BufferLaws.{BufferLaws}
 use Rattle.caller_laws.specs.OneCaller.{WasSentAt}
 use Rattle.caller_laws.specs.CallerLaws.{PortTells}
@@ -30,7 +31,7 @@ given_here laws size before after by (Receive client room (Got place start)) leg
     ap (λ (ss : List Sent). slice_get ss place) whole ∙ get_front (sent (past_of before)) (sent_in (call ∷ after)) place given.sent given.is in (
       there
           ∙ (ap (λ (n : ℕ). Some (record { event = given.sent.event; start = n })) given.started
-          ∙ ap (λ (e : Event). Some (record { event = e; start = start })) (sym (given.given no_event))),
+          ∙ ap (λ (e : Event). Some (record { event = e; start = start })) (sym (given.given blank_event))),
       tt,
     )
 given_here laws size before after by (Receive client room (Empty gate last)) legal = tt
@@ -49,7 +50,8 @@ given_here laws size before after by (End start reply) legal = tt
 given_here laws size before after by (Level reply) legal = tt
 given_here laws size before after by (Accepted reply) legal = tt
 
-given_from : (laws : BufferLaws) (size by : ℕ) (before after : List (ℕ × BufferEntry)) → IsLegal (opening size) (before ++ after)
+-- what a caller's calls gave was sent in the history
+pub given_from : (laws : BufferLaws) (size by : ℕ) (before after : List (ℕ × BufferEntry)) → IsLegal (opening size) (before ++ after)
     → AllByRecursion (WasSentAt (before ++ after)) (given_in by (replay (opening size) before) after)
 given_from laws size by before [] legal = tt
 given_from laws size by before (x ∷ xs) legal =

@@ -17,6 +17,8 @@ use Rattle.buffer_core.specs.Continued.{sent_in}
 use Rattle.buffer_core.specs.Runs.{segment}
 use Rattle.buffer_core.specs.Readers.{wanted}
 use Rattle.buffer_core.specs.Ports.{GotEvent, name_of, names_given}
+use Rattle.buffer_core.specs.CallersView.{given_in}
+use Rattle.buffer_core.proofs.GotNames.{named_in}
 use Rattle.member_model.specs.SentCalls.{EachCall}
 use Rattle.member_model.specs.OwnCalls.{AreOwnCalls, AreGivenBy}
 use Rattle.caller_laws.specs.BufferLaws.{BufferLaws}
@@ -29,6 +31,7 @@ use Rattle.caller_laws.proofs.OwnPlaces.{named_places, all_front, all_back}
 use Rattle.caller_laws.proofs.GotEvents.{events_of}
 use Rattle.caller_laws.proofs.Reading.{Facts, facts, facts_front, names_given-append, names_sent}
 use Rattle.caller_laws.proofs.Sending.{all_at}
+use Rattle.caller_laws.proofs.PortParts.{given_from}
 use Rattle.caller_laws.proofs.RunsSeen.{has_start, all_seen, get_first, SeenAt, seen_at, seen_events}
 
 -- What calls of a history gave was sent in it, also where the history went on.
@@ -103,11 +106,13 @@ got_since h later before by client id mask number calls got gave sent_so calls_a
     }
 
 pub seen_since : BufferLaws → SeenSince
-seen_since laws size h later by got given legal clients sends gave sent_so client id mask start ended s calls calls_are given_by given_sent =
+seen_since laws size h later by given legal clients sends client id mask start ended s calls calls_are given_by given_sent =
     let f_whole : Facts size (h ++ later) = facts laws size (h ++ later) legal clients in
     let f : Facts size h = facts_front size h later f_whole in
     let own : List BufferEntry = entries_by by h in
-    let g : GotSince h later s.before by calls = got_since h later s.before by client id mask s.number calls got gave sent_so calls_are in
+    let got : List GotEvent = given_in by (opening size) (h ++ later) in
+    let gave : AreGivenBy (entries_by by (h ++ later)) got = record { named_so = sym (named_in by (opening size) (h ++ later)) } in
+    let g : GotSince h later s.before by calls = got_since h later s.before by client id mask s.number calls got gave (given_from laws size by [] (h ++ later) legal) calls_are in
     let sent_by : AllByRecursion (WasSentAt h) g.got_by =
     sent_by_then laws h later g.got_by (subst (AllByRecursion (λ (n : ℕ × ℕ × ℕ). n.1 < count_at (past_of h))) (sym g.names_by) (names_sent size h by own f refl)) g.sent_so in
     let own_clients : HaveOwnClients h = λ c. subst AreOwnCalls (own_after c [] h) (f.own c) in

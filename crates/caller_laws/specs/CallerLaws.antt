@@ -79,9 +79,8 @@ SeenEvents = (size : ℕ) → (history : History) → (caller : ℕ) → (own : 
 
 -- And just these are the events with that number that its calls gave since that request. The history may have gone on since.
 abbrev pub SeenSince : Type 0
-SeenSince = (size : ℕ) → (history later : History) → (caller : ℕ) → (got given : List GotEvent) →
+SeenSince = (size : ℕ) → (history later : History) → (caller : ℕ) → (given : List GotEvent) →
     IsLegal (opening size) (history ++ later) → HaveOwnClients (history ++ later) → HaveRunSends (history ++ later) →
-    AreGivenBy (entries_by caller (history ++ later)) got → AllByRecursion (WasSentAt (history ++ later)) got →
     (client id mask start ended : ℕ) → (sees : SeesRun history caller client id mask start ended) → (calls : List BufferEntry) →
     entries_by caller history ≡ entries_by caller sees.before ++ Request client id mask KindAll (Ok sees.number) ∷ calls →
     AreGivenBy calls given → AllByRecursion (WasSentAt (history ++ later)) given →

@@ -2,7 +2,7 @@
 use Rattle.std.specs.Prelude.{◌≡◌, ℕ, List, [], ◌∷◌, ◌++◌, Some, refl}
 use Rattle.std.specs.List.{AllByRecursion}
 use Rattle.std.proofs.Common.{ap, sym, ◌∙◌, subst}
-use Rattle.daq_types.specs.Callers.{caller_of_client, entries_by}
+use Rattle.daq_types.specs.Callers.{caller_of_client}
 use Rattle.daq_types.specs.declared.runs.Transition.TheVariants.{Start, Stop}
 use Rattle.buffer_core.specs.declared.entry.BufferEntry.{BufferEntry}
 use Rattle.buffer_core.specs.Window.{opening}
@@ -17,7 +17,6 @@ use Rattle.transitions.specs.declared.answers.Tally.{Tally}
 use Rattle.transitions.specs.declared.answers.Tally.TheVariants.{Plain, Report}
 use Rattle.transitions.specs.EnginePoints.{tally_of}
 use Rattle.member_model.specs.Turns.{MemberTurn, IsAcceptedStart, AreEngineTurns}
-use Rattle.member_model.specs.OwnCalls.{AreGivenBy}
 use Rattle.analyzers.specs.CountedRuns.{counted_calls}
 use Rattle.analyzers.specs.AnalyzerKept.{IsReportOfRun, KeepsAnalyzer}
 use Rattle.caller_laws.specs.OneCaller.{WasSentAt, HaveOwnClients, HaveRunSends, events_in}
@@ -98,9 +97,8 @@ counted_whole since fits s keep r a has report told saw =
     let sent_by : AllByRecursion (WasSentAt h) w.got_by = all_first (WasSentAt h) w.got_by w.got_later (subst (AllByRecursion (WasSentAt h)) w.got_is got.0) in
     let sent_given : AllByRecursion (WasSentAt h) given = all_last (WasSentAt h) w.counted.earlier given (subst (AllByRecursion (WasSentAt h)) w.counted.got_is sent_by) in
     let seen : events_of_start told.client r.start given ≡ events_in (wanted a.wanted.id a.wanted.mask (segment (saw.seen ++ saw.later) r.start)) =
-    since (s.size a.buffer) saw.seen saw.later caller a.got given (subst (IsLegal (opening (s.size a.buffer))) saw.whole (keep.buffers_legal a.buffer))
+    since (s.size a.buffer) saw.seen saw.later caller given (subst (IsLegal (opening (s.size a.buffer))) saw.whole (keep.buffers_legal a.buffer))
     (subst HaveOwnClients saw.whole fit.0) (subst HaveRunSends saw.whole fit.1)
-    (subst (λ (x : History). AreGivenBy (entries_by caller x) a.got) saw.whole got.1) (subst (λ (x : History). AllByRecursion (WasSentAt x) a.got) saw.whole got.0)
     told.client a.wanted.id a.wanted.mask r.start saw.ended saw.sees (counted_calls w) saw.since w.counted.gives (subst (λ (x : History). AllByRecursion (WasSentAt x) given) saw.whole sent_given) in
     let whole : events_of_start told.client r.start given ≡ analyzer_events s r a =
     subst (λ (x : History). events_of_start told.client r.start given ≡ events_in (wanted a.wanted.id a.wanted.mask (segment x r.start))) (sym saw.whole) seen in

@@ -16,31 +16,18 @@ use Rattle.plain_buffer.proofs.Kept.{to_drop-kept_of, take-kept_of, owed_in-kept
 pub whole_is : (b : Inside) → IsPlain b → sum_by size_of_row b.rows.items ≤ length b.bytes.items
 whole_is b plain = omega (arith, plain.whole)
 
--- what the tests in front of the room found
+-- the event may be sent: its slot fits, and the sum of all slots stays below 2^62
 pub record IsTested (b : Inside) (h : Header) (body : List ℕ) (slot size : ℕ) : Type 0 where
   pub stated : h.data_size ≡ length body
-  pub small : h.data_size ≤ event_limit
+  pub small : length body ≤ event_limit
   pub free : is_reserved h.event_id ≡ false
-  pub slot_is : slot ≡ slot_of_length h.data_size
+  pub slot_is : slot ≡ slot_size (event_of h body)
   pub size_is : size ≡ b.size
-  pub fits : slot ≤ size
-  pub unspent : b.total + slot ≤ 2 ^ 62
-
-slot_right : (b : Inside) (h : Header) (body : List ℕ) (slot size : ℕ) → IsTested b h body slot size → slot ≡ slot_of_length (length body)
-slot_right b h body slot size tested = tested.slot_is ∙ ap slot_of_length tested.stated
+  pub fits : slot_size (event_of h body) ≤ b.size
+  pub unspent : b.total + slot_size (event_of h body) ≤ 2 ^ 62
 
 sendable : (b : Inside) (h : Header) (body : List ℕ) (slot size : ℕ) → IsTested b h body slot size → IsSendable (plain_window b) h.data_size (event_of h body)
-sendable b h body slot size tested =
-    let right : slot ≡ slot_of_length (length body) = slot_right b h body slot size tested in
-    record {
-      stated_right = tested.stated;
-      small = omega (arith, tested.stated, tested.small);
-      free = tested.free;
-      fits = omega (arith, right, tested.size_is, tested.fits);
-    }
-
-unspent : (b : Inside) (h : Header) (body : List ℕ) (slot size : ℕ) → IsTested b h body slot size → (plain_window b).total + slot_size (event_of h body) ≤ 2 ^ 62
-unspent b h body slot size tested = omega (arith, slot_right b h body slot size tested, tested.unspent)
+sendable b h body slot size tested = record { stated_right = tested.stated; small = tested.small; free = tested.free; fits = tested.fits }
 
 -- so many events have to go for this one
 pub gone_is : (b : Inside) (h : Header) (body : List ℕ) (gone slot size : ℕ) → IsPlain b → IsTested b h body slot size
@@ -48,7 +35,7 @@ pub gone_is : (b : Inside) (h : Header) (body : List ℕ) (gone slot size : ℕ)
 gone_is b h body gone slot size plain tested counted =
     counted
     ∙ (ap (λ (n : ℕ). to_drop slot_of_row n slot b.rows.items) tested.size_is
-    ∙ (ap (λ (n : ℕ). to_drop slot_of_row b.size n b.rows.items) (slot_right b h body slot size tested)
+    ∙ (ap (λ (n : ℕ). to_drop slot_of_row b.size n b.rows.items) tested.slot_is
     ∙ sym (to_drop-kept_of b.size (slot_of_length (length body)) b.rows.items b.bytes.items (whole_is b plain))))
 
 -- what is owed of the events that would go
@@ -68,7 +55,7 @@ room_is b w h body gone slot size front owed view plain tested counted is_front 
     let found : Window = plain_window b in
     let goes : gone ≡ gone_of found (event_of h body) = gone_is b h body gone slot size plain tested counted in
     let here : send_reply found h.data_size (event_of h body) ≡ full_reply owed (accepted_of found) =
-    room_reply_is found h.data_size (event_of h body) (sendable b h body slot size tested) (unspent b h body slot size tested)
+    room_reply_is found h.data_size (event_of h body) (sendable b h body slot size tested) tested.unspent
     ∙ (ap (λ (n : ℕ). full_reply (owed_in b.clients b.first (take n found.kept)) (accepted_of found)) (sym goes)
     ∙ (ap (λ (o : Option (ℕ × ℕ)). full_reply o (accepted_of found)) (owed_is b gone front is_front)
     ∙ ap (λ (o : Option (ℕ × ℕ)). full_reply o (accepted_of found)) is_owed)) in

@@ -7,11 +7,11 @@ ghost use Rattle.buffer_core.specs.Calls.{send_reply, after_send, gone_of};
 use crate::clients::Clients;
 use crate::rows::{Row, count_to_drop, data_len, drop_front, first_owed, first_wanted, slots_len};
 use buffer_core::{
-    EventBuffer, MAX_TOTAL, MarkRefusal, NoClient, NoSlot, Received, Request, RequestRefusal,
-    RunGate, SendRefusal, free_number, is_id_reserved,
+    EventBuffer, MarkRefusal, NoClient, NoSlot, Received, Request, RequestRefusal, RunGate,
+    SendRefusal, free_number, slot_for,
 };
 use daq_types::{Kind, Name, NoMemory};
-use event_header::{EventBuf, Header, MAX_DATA, append_within, slot_len};
+use event_header::{EventBuf, Header, append_within, slot_len};
 use std::alloc::Global;
 use std::marker::Model;
 
@@ -81,27 +81,7 @@ impl PlainBuffer {
         ensures refused { IfErr result (λ refusal. send_reply self.now header.now.data_size
             (event_of header.now body.now) ≡ Err refusal) }
     {
-        if header.data_size as usize != body.len() || header.data_size > MAX_DATA {
-            return Err(SendRefusal::BadSize {
-                stated: header.data_size,
-                given: body.len() as u64,
-            });
-        }
-        if is_id_reserved(header.event_id) {
-            return Err(SendRefusal::ReservedId {
-                id: header.event_id,
-            });
-        }
-        let slot = slot_len(header.data_size);
-        if slot > self.size {
-            return Err(SendRefusal::TooLarge {
-                slot,
-                size: self.size,
-            });
-        }
-        if self.total + u64::from(slot) > MAX_TOTAL {
-            return Err(SendRefusal::Spent { total: self.total });
-        }
+        let slot = slot_for(header, body, self.size, self.total)?;
         let rows = self.rows.as_slice();
         let gone = count_to_drop(rows, self.level, u64::from(slot), u64::from(self.size));
         let (front, _) = rows.split_at(gone);
@@ -266,46 +246,24 @@ impl EventBuffer for PlainBuffer {
     }
 
     fn begin(&mut self, start: u32) -> Result<u64, MarkRefusal> {
-        let accepted = self.accepted();
-        match self.gate {
-            RunGate::Shut => {
-                if start <= self.last {
-                    return Err(MarkRefusal::OldStart { last: self.last });
-                }
-                self.gate = RunGate::Running(start);
-                self.last = start;
-                Ok(accepted)
-            }
-            RunGate::Running(open) => Err(MarkRefusal::GateOpen { start: open }),
-            RunGate::Paused(open) => Err(MarkRefusal::GateOpen { start: open }),
-        }
+        self.gate = self.gate.begun(self.last, start)?;
+        self.last = start;
+        Ok(self.accepted())
     }
 
     fn pause(&mut self, start: u32) -> Result<u64, MarkRefusal> {
-        let accepted = self.accepted();
-        if !self.gate.is_running(start) {
-            return Err(MarkRefusal::WrongGate { gate: self.gate });
-        }
-        self.gate = RunGate::Paused(start);
-        Ok(accepted)
+        self.gate = self.gate.paused(start)?;
+        Ok(self.accepted())
     }
 
     fn resume(&mut self, start: u32) -> Result<u64, MarkRefusal> {
-        let accepted = self.accepted();
-        if !self.gate.is_paused(start) {
-            return Err(MarkRefusal::WrongGate { gate: self.gate });
-        }
-        self.gate = RunGate::Running(start);
-        Ok(accepted)
+        self.gate = self.gate.resumed(start)?;
+        Ok(self.accepted())
     }
 
     fn end(&mut self, start: u32) -> Result<u64, MarkRefusal> {
-        let accepted = self.accepted();
-        if !self.gate.is_open(start) {
-            return Err(MarkRefusal::WrongGate { gate: self.gate });
-        }
-        self.gate = RunGate::Shut;
-        Ok(accepted)
+        self.gate = self.gate.ended(start)?;
+        Ok(self.accepted())
     }
 
     fn level(&self) -> u64 {

@@ -6,7 +6,7 @@ ghost use Rattle.ring_buffer.specs.Reads.{reads_of_send};
 
 use crate::ring_buffer::RingBuffer;
 use buffer_core::{
-    EventBuffer, MarkRefusal, NoClient, NoSlot, Received, RequestRefusal, RunGate, SendRefusal,
+    EventBuffer, MarkRefusal, NoClient, NoSlot, Received, RequestRefusal, SendRefusal,
 };
 use daq_types::{Kind, Name, Steps};
 use event_header::{EventBuf, Header};
@@ -113,8 +113,7 @@ impl EventBuffer for RingBuffer {
     }
 
     fn detach(&mut self, client: u32) -> Result<(), NoClient> {
-        self.clients.detach(client)?;
-        Ok(())
+        self.clients.detach(client)
     }
 
     fn request(
@@ -124,13 +123,11 @@ impl EventBuffer for RingBuffer {
         mask: u16,
         kind: Kind,
     ) -> Result<u32, RequestRefusal> {
-        let number = self.clients.request(client, id, mask, kind, self.count)?;
-        Ok(number)
+        self.clients.request(client, id, mask, kind, self.count)
     }
 
     fn cancel(&mut self, client: u32, request: u32) -> Result<(), RequestRefusal> {
-        self.clients.cancel(client, request)?;
-        Ok(())
+        self.clients.cancel(client, request)
     }
 
     fn send(&mut self, header: &Header, body: &[u8]) -> Result<u64, SendRefusal> {
@@ -151,46 +148,24 @@ impl EventBuffer for RingBuffer {
     }
 
     fn begin(&mut self, start: u32) -> Result<u64, MarkRefusal> {
-        let accepted = self.accepted();
-        match self.gate {
-            RunGate::Shut => {
-                if start <= self.last {
-                    return Err(MarkRefusal::OldStart { last: self.last });
-                }
-                self.gate = RunGate::Running(start);
-                self.last = start;
-                Ok(accepted)
-            }
-            RunGate::Running(open) => Err(MarkRefusal::GateOpen { start: open }),
-            RunGate::Paused(open) => Err(MarkRefusal::GateOpen { start: open }),
-        }
+        self.gate = self.gate.begun(self.last, start)?;
+        self.last = start;
+        Ok(self.accepted())
     }
 
     fn pause(&mut self, start: u32) -> Result<u64, MarkRefusal> {
-        let accepted = self.accepted();
-        if !self.gate.is_running(start) {
-            return Err(MarkRefusal::WrongGate { gate: self.gate });
-        }
-        self.gate = RunGate::Paused(start);
-        Ok(accepted)
+        self.gate = self.gate.paused(start)?;
+        Ok(self.accepted())
     }
 
     fn resume(&mut self, start: u32) -> Result<u64, MarkRefusal> {
-        let accepted = self.accepted();
-        if !self.gate.is_paused(start) {
-            return Err(MarkRefusal::WrongGate { gate: self.gate });
-        }
-        self.gate = RunGate::Running(start);
-        Ok(accepted)
+        self.gate = self.gate.resumed(start)?;
+        Ok(self.accepted())
     }
 
     fn end(&mut self, start: u32) -> Result<u64, MarkRefusal> {
-        let accepted = self.accepted();
-        if !self.gate.is_open(start) {
-            return Err(MarkRefusal::WrongGate { gate: self.gate });
-        }
-        self.gate = RunGate::Shut;
-        Ok(accepted)
+        self.gate = self.gate.ended(start)?;
+        Ok(self.accepted())
     }
 
     fn level(&self) -> u64 {

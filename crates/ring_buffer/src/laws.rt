@@ -30,8 +30,8 @@ pub fn reads_of_life()
         ≤ length (sent_in (before ++ life)) - reader.next + count_got client life }
 {}
 
-/// An event that is dropped is read once, as is the one that stands in the way of a send. An event
-/// that is received is read twice, and one that is passed over once.
+/// An event that is dropped is read at most once, as is the one that stands in the way of a send. An event that is
+/// received is read at most twice, and eight that are passed over at most eight times.
 pub fn reads_few()
     ensures sends { IsLegal (opening 256) (eight_sent 2 2 All ++ dropped_and_refused) }
     ensures drops { reads_by_call (replay (opening 256) (eight_sent 2 2 All)) dropped_and_refused

@@ -24,7 +24,7 @@ struct RingData<'a> {
 }
 
 impl<L: Ledger> DataWriter<Steps<L>> for RingData<'_> {
-    ghost use Rattle.std.specs.Prelude.{◌≡◌, ◌+◌, ℕ};
+    ghost use Rattle.std.specs.Prelude.{◌≡◌, ◌+◌};
     ghost use Rattle.ring_bytes.specs.Rings.{bytes_at};
 
     ghost gives = { λ part. bytes_at part.ring.now part.off part.count };

@@ -8,10 +8,10 @@ ghost use Rattle.ring_buffer.specs.Reads.{reads_of_send};
 use crate::search::find_way;
 use crate::slot::{FRONT, front_bytes_of};
 use crate::walk::{Owed, Position};
-use buffer_core::{MAX_TOTAL, RunGate, SendRefusal, is_id_reserved};
+use buffer_core::{RunGate, SendRefusal, slot_for};
 use client_pointers::Pointers;
 use daq_types::Steps;
-use event_header::{Header, MAX_DATA, slot_len};
+use event_header::{Header, slot_len};
 use ring_bytes::Ring;
 use std::marker::Model;
 use std::sync::ledger::Ledger;
@@ -89,25 +89,7 @@ impl RingBuffer {
         ensures refused_reads { IfErr result (λ refusal. steps.new
             ≤ steps.old + reads_of_send self.now (event_of header.now body.now) (Err refusal)) }
     {
-        if header.data_size as usize != body.len() || header.data_size > MAX_DATA {
-            return Err(SendRefusal::BadSize {
-                stated: header.data_size,
-                given: body.len() as u64,
-            });
-        }
-        if is_id_reserved(header.event_id) {
-            return Err(SendRefusal::ReservedId {
-                id: header.event_id,
-            });
-        }
-        let slot = slot_len(header.data_size);
-        let size = self.ring.size();
-        if slot > size {
-            return Err(SendRefusal::TooLarge { slot, size });
-        }
-        if self.total + u64::from(slot) > MAX_TOTAL {
-            return Err(SendRefusal::Spent { total: self.total });
-        }
+        let slot = slot_for(header, body, self.ring.size(), self.total)?;
         let from = Position {
             off: self.off,
             place: self.first,

@@ -1,7 +1,7 @@
-ghost use Rattle.std.specs.Prelude.{◌≡◌, ◌+◌, ◌≤◌, ◌∷◌, [], length};
-ghost use Rattle.event_header.specs.Headers.{fields_of, event_of};
+ghost use Rattle.std.specs.Prelude.{◌≡◌, ◌+◌, ◌≤◌, length};
+ghost use Rattle.event_header.specs.Headers.{fields_of};
 ghost use Rattle.buffer_core.specs.Window.{Sent};
-ghost use Rattle.ring_buffer.specs.RingHolds.{front_bytes, front_of, HoldsEvent};
+ghost use Rattle.ring_buffer.specs.RingHolds.{front_of, HoldsEvent};
 ghost use Rattle.ring_buffer.specs.Stored.{FitsSlot, IsHeader};
 
 use daq_types::Steps;

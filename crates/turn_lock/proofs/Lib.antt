@@ -1,3 +1,4 @@
+pub mod Missing
 pub mod Keeps
 pub mod Dealing
 pub mod Endings

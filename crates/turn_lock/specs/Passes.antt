@@ -1,6 +1,5 @@
 -- What contracts see of a lock, of its passes and of notes.
-use Rattle.std.specs.Prelude.{◌≡◌, ℕ, List, ◌∷◌, Option, Some, None}
-use mathlib.Core.List.{IsPrefix}
+use Rattle.std.specs.Prelude.{◌≡◌, ℕ, List, ◌∷◌, Option, Some}
 use Rattle.turn_lock.specs.declared.lock.Turns.{Turns}
 use Rattle.turn_lock.specs.declared.lock.Pass.{Pass}
 use Rattle.turn_lock.specs.declared.lock.Note.{Note}
@@ -67,14 +66,6 @@ module _ {M D E : Type 0} {g : _} where
     pub seen : seen_by after ≡ seen_by before
     pub found : found_by after ≡ found_by before
     pub held : held_by after ≡ held_by before
-
-  -- the pass after tries that all missed: it holds nothing, and has found more numbers
-  pub record Misses (lock : Turns M D E) (before after : Pass M D E g) : Type 0 where
-    pub own : IsOf lock after
-    pub number : number_of after ≡ number_of before
-    pub seen : seen_by after ≡ seen_by before
-    pub idle : held_by after ≡ None
-    pub found : IsPrefix (found_by before) (found_by after)
 
   -- the note is of one of this lock's passes
   abbrev pub IsNoteOf : Turns M D E → Note M D E g → Type 0

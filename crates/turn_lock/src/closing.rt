@@ -16,7 +16,7 @@ pub struct Closed<M: Machine> {
 }
 
 /// The least number whose pass was not there as a lock was to end.
-#[derive(Debug, PartialEq, Eq, Clone, Copy)]
+#[derive(Clone, Copy, Debug, PartialEq, Eq)]
 pub struct MissingPass {
     pub number: u32,
 }

@@ -1,5 +1,5 @@
 // The lock, its passes, and what they do.
-ghost use Rattle.std.specs.Prelude.{◌≡◌, ℕ, ◌+◌, ◌<◌, ◌≤◌, ◌≢◌, ◌⊎◌, ◌++◌, ◌∷◌, [], Option, Some, None, IfOk, IfErr, OnOk, OnErr, IfSome, IfNone};
+ghost use Rattle.std.specs.Prelude.{◌≡◌, ◌+◌, ◌<◌, ◌≤◌, ◌⊎◌, ◌++◌, ◌∷◌, [], Some, None, IfOk, IfErr, OnOk, IfSome, IfNone};
 ghost use Rattle.turn_lock.specs.Views.{carried};
 
 use crate::object::{Call, Machine};
@@ -77,7 +77,7 @@ pub struct Held<M> {
 struct Owed;
 
 /// The turn was another pass's.
-#[derive(Debug, PartialEq, Eq, Clone, Copy)]
+#[derive(Clone, Copy, Debug, PartialEq, Eq)]
 pub struct Taken {
     pub holder: u32,
 }
@@ -97,7 +97,7 @@ impl<M: Machine> Turns<M> {
     ghost use mathlib.Core.List.{IsPrefix};
     ghost use Rattle.turn_lock.specs.History.{Leads, EndsInStep, Appends};
     ghost use Rattle.turn_lock.specs.Views.{longer, pair_of};
-    ghost use Rattle.turn_lock.specs.Passes.{first_value, passes_of, number_of, seen_by, own_entries, found_by, held_by, noted, IsOf, IsNoteOf, IsUnchanged};
+    ghost use Rattle.turn_lock.specs.Passes.{first_value, number_of, seen_by, own_entries, found_by, held_by, noted, IsOf, IsNoteOf, IsUnchanged};
     ghost use Rattle.turn_lock.specs.Entered.{Enters, FindsTaken};
 
     /// Takes the turn if it is free, in one try.

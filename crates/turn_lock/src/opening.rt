@@ -1,5 +1,5 @@
 // Making a lock with its passes.
-ghost use Rattle.std.specs.Prelude.{◌≡◌, ℕ, ◌+◌, ◌<◌, ◌≤◌, ◌∷◌, [], length, map, vec_capacity, All, IfOk};
+ghost use Rattle.std.specs.Prelude.{◌≡◌, ◌+◌, ◌<◌, ◌≤◌, ◌∷◌, [], length, map, vec_capacity, All, IfOk};
 ghost use Rattle.turn_lock.specs.Views.{dealt_view};
 
 use crate::lock::{FREE, Pass, Turns};

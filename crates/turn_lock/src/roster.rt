@@ -1,5 +1,5 @@
 // The passes of a lock, as a list.
-ghost use Rattle.std.specs.Prelude.{◌≡◌, ℕ, ◌+◌, ◌<◌, ◌≤◌, ◌++◌, ◌∷◌, [], length, map, vec_capacity, Contains, Some, None, IsTrue, ◌↔◌, IfSome, IfNone};
+ghost use Rattle.std.specs.Prelude.{◌≡◌, ◌+◌, ◌<◌, ◌≤◌, ◌++◌, ◌∷◌, [], length, map, vec_capacity, Contains, None, IsTrue, ◌↔◌, IfSome, IfNone};
 
 use crate::lock::Pass;
 use crate::object::Machine;
@@ -102,6 +102,7 @@ impl<M: Machine> Passes<M> {
         ensures own { (lock : _) → ArePassesOf lock self.old → IsOf lock pass
             → ArePassesOf lock self.new }
         ensures idle { AreIdle self.old → held_by pass ≡ None → AreIdle self.new }
+        ensures fresh { AreFresh self.old → IsFresh pass → AreFresh self.new }
         ensures room { room_of self.new ≡ room_of self.old }
         ensures first { made_with self.new ≡ made_with self.old }
     {

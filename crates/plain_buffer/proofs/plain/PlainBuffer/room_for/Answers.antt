@@ -1,4 +1,4 @@
-use Rattle.std.proofs.Common.{◌≡◌, take, Some, None, subst, ap, sym, ◌∙◌, arith}
+use Rattle.std.proofs.Common.{◌≡◌, take, Some, None, subst, ap, sym, ◌∙◌}
 use Rattle.event_header.specs.Headers.{event_of}
 use Rattle.buffer_core.specs.Window.{Window}
 use Rattle.buffer_core.specs.Calls.{to_drop, gone_of}
@@ -8,22 +8,22 @@ use Rattle.plain_buffer.proofs.plain.PlainBuffer.room_for.Goals as goal
 
 pub returns-in-Some-clause-refused : goal.returns-in-Some-clause-refused
 returns-in-Some-clause-refused c =
-    let tested : IsTested c.self.inside c.args.header.now c.args.body.now c.from-2.result c.from-3.result =
-    record { stated = omega arith; small = omega arith; free = sym c.is_id_reserved.ensures ∙ c.if-is_id_reserved.false; slot_is = c.from-2.ensures ∙ c.slot_len-slot.ensures; size_is = c.from-3.ensures; fits = omega (arith, c.from-2.ensures, c.from-3.ensures); unspent = omega (arith, c.from.ensures, c.from-2.ensures) } in
-    room_is c.self.inside c.args.self.now c.args.header.now c.args.body.now c.count_to_drop-gone.result c.from-2.result c.from-3.result c.split_at.result.0.now (Some (c.in-Some.client, c.in-Some.place)) c.self.view_is c.self.invariant tested
-    (c.count_to_drop-gone.ensures.value ∙ ap (to_drop slot_of_row c.from-3.result c.from-2.result) c.as_slice-rows.ensures.value) (c.split_at.ensures.front ∙ ap (take c.count_to_drop-gone.result) c.as_slice-rows.ensures.value) (sym c.first_owed.ensures ∙ c.in-Some.is)
+    let tested : IsTested c.self.inside c.args.header.now c.args.body.now c.from.result c.from-2.result =
+    record { stated = c.in_ok-slot.ensures.stated; small = c.in_ok-slot.ensures.small; free = c.in_ok-slot.ensures.free; slot_is = c.from.ensures ∙ c.in_ok-slot.ensures.slot; size_is = c.from-2.ensures; fits = c.in_ok-slot.ensures.fits; unspent = c.in_ok-slot.ensures.spent } in
+    room_is c.self.inside c.args.self.now c.args.header.now c.args.body.now c.count_to_drop-gone.result c.from.result c.from-2.result c.split_at.result.0.now (Some (c.in-Some.client, c.in-Some.place)) c.self.view_is c.self.invariant tested
+    (c.count_to_drop-gone.ensures.value ∙ ap (to_drop slot_of_row c.from-2.result c.from.result) c.as_slice-rows.ensures.value) (c.split_at.ensures.front ∙ ap (take c.count_to_drop-gone.result) c.as_slice-rows.ensures.value) (sym c.first_owed.ensures ∙ c.in-Some.is)
 
 pub returns-in-None-clause-taken : goal.returns-in-None-clause-taken
 returns-in-None-clause-taken c =
-    let tested : IsTested c.self.inside c.args.header.now c.args.body.now c.from-2.result c.from-3.result =
-    record { stated = omega arith; small = omega arith; free = sym c.is_id_reserved.ensures ∙ c.if-is_id_reserved.false; slot_is = c.from-2.ensures ∙ c.slot_len-slot.ensures; size_is = c.from-3.ensures; fits = omega (arith, c.from-2.ensures, c.from-3.ensures); unspent = omega (arith, c.from.ensures, c.from-2.ensures) } in
-    room_is c.self.inside c.args.self.now c.args.header.now c.args.body.now c.count_to_drop-gone.result c.from-2.result c.from-3.result c.split_at.result.0.now None c.self.view_is c.self.invariant tested
-    (c.count_to_drop-gone.ensures.value ∙ ap (to_drop slot_of_row c.from-3.result c.from-2.result) c.as_slice-rows.ensures.value) (c.split_at.ensures.front ∙ ap (take c.count_to_drop-gone.result) c.as_slice-rows.ensures.value) (sym c.first_owed.ensures ∙ c.in-None.is)
+    let tested : IsTested c.self.inside c.args.header.now c.args.body.now c.from.result c.from-2.result =
+    record { stated = c.in_ok-slot.ensures.stated; small = c.in_ok-slot.ensures.small; free = c.in_ok-slot.ensures.free; slot_is = c.from.ensures ∙ c.in_ok-slot.ensures.slot; size_is = c.from-2.ensures; fits = c.in_ok-slot.ensures.fits; unspent = c.in_ok-slot.ensures.spent } in
+    room_is c.self.inside c.args.self.now c.args.header.now c.args.body.now c.count_to_drop-gone.result c.from.result c.from-2.result c.split_at.result.0.now None c.self.view_is c.self.invariant tested
+    (c.count_to_drop-gone.ensures.value ∙ ap (to_drop slot_of_row c.from-2.result c.from.result) c.as_slice-rows.ensures.value) (c.split_at.ensures.front ∙ ap (take c.count_to_drop-gone.result) c.as_slice-rows.ensures.value) (sym c.first_owed.ensures ∙ c.in-None.is)
 
 pub returns-in-None-clause-gone : goal.returns-in-None-clause-gone
 returns-in-None-clause-gone c =
-    let tested : IsTested c.self.inside c.args.header.now c.args.body.now c.from-2.result c.from-3.result =
-    record { stated = omega arith; small = omega arith; free = sym c.is_id_reserved.ensures ∙ c.if-is_id_reserved.false; slot_is = c.from-2.ensures ∙ c.slot_len-slot.ensures; size_is = c.from-3.ensures; fits = omega (arith, c.from-2.ensures, c.from-3.ensures); unspent = omega (arith, c.from.ensures, c.from-2.ensures) } in
+    let tested : IsTested c.self.inside c.args.header.now c.args.body.now c.from.result c.from-2.result =
+    record { stated = c.in_ok-slot.ensures.stated; small = c.in_ok-slot.ensures.small; free = c.in_ok-slot.ensures.free; slot_is = c.from.ensures ∙ c.in_ok-slot.ensures.slot; size_is = c.from-2.ensures; fits = c.in_ok-slot.ensures.fits; unspent = c.in_ok-slot.ensures.spent } in
     subst (λ (w : Window). c.count_to_drop-gone.result ≡ gone_of w (event_of c.args.header.now c.args.body.now)) c.self.view_is
-    (gone_is c.self.inside c.args.header.now c.args.body.now c.count_to_drop-gone.result c.from-2.result c.from-3.result c.self.invariant tested
-    (c.count_to_drop-gone.ensures.value ∙ ap (to_drop slot_of_row c.from-3.result c.from-2.result) c.as_slice-rows.ensures.value))
+    (gone_is c.self.inside c.args.header.now c.args.body.now c.count_to_drop-gone.result c.from.result c.from-2.result c.self.invariant tested
+    (c.count_to_drop-gone.ensures.value ∙ ap (to_drop slot_of_row c.from-2.result c.from.result) c.as_slice-rows.ensures.value))

@@ -1,8 +1,8 @@
-use Rattle.ring_buffer.proofs.Clients.{cancelled_ring, cancelled_after}
+use Rattle.ring_buffer.proofs.Clients.{cancel_ring, cancel_after}
 use Rattle.ring_buffer.proofs.calls.RingBufferEventBuffer.cancel.Goals as goal
 
-pub invariant_of-self-2 : goal.invariant_of-self-2
-invariant_of-self-2 c = cancelled_ring c.self.inside c.cancel.new.self c.args.client c.args.request c.self.invariant c.in_ok-cancel.ensures.ok c.in_ok-cancel.ensures.reply
+pub invariant_of-self : goal.invariant_of-self
+invariant_of-self c = cancel_ring c.self.inside c.cancel.new.self c.args.client c.args.request c.cancel.result c.self.invariant c.cancel.ensures.reply c.cancel.ensures.ok c.cancel.ensures.err
 
 pub returns-clause-after : goal.returns-clause-after
-returns-clause-after c = cancelled_after c.self.inside c.args.self.now c.cancel.new.self c.args.client c.args.request c.self.view_is c.in_ok-cancel.ensures.ok
+returns-clause-after c = cancel_after c.self.inside c.args.self.now c.cancel.new.self c.args.client c.args.request c.cancel.result c.self.view_is c.cancel.ensures.ok c.cancel.ensures.err

@@ -1,8 +1,8 @@
-use Rattle.ring_buffer.proofs.Clients.{detached_ring, detached_after}
+use Rattle.ring_buffer.proofs.Clients.{detach_ring, detach_after}
 use Rattle.ring_buffer.proofs.calls.RingBufferEventBuffer.detach.Goals as goal
 
-pub invariant_of-self-2 : goal.invariant_of-self-2
-invariant_of-self-2 c = detached_ring c.self.inside c.detach.new.self c.args.client c.self.invariant c.in_ok-detach.ensures.ok c.in_ok-detach.ensures.reply
+pub invariant_of-self : goal.invariant_of-self
+invariant_of-self c = detach_ring c.self.inside c.detach.new.self c.args.client c.detach.result c.self.invariant c.detach.ensures.reply c.detach.ensures.ok c.detach.ensures.err
 
 pub returns-clause-after : goal.returns-clause-after
-returns-clause-after c = detached_after c.self.inside c.args.self.now c.detach.new.self c.args.client c.self.view_is c.in_ok-detach.ensures.ok
+returns-clause-after c = detach_after c.self.inside c.args.self.now c.detach.new.self c.args.client c.detach.result c.self.view_is c.detach.ensures.ok c.detach.ensures.err

@@ -1,4 +1,4 @@
-use Rattle.turn_lock.specs.Passes.{Misses}
+use Rattle.turn_lock.proofs.Missing.{Misses}
 use Rattle.turn_lock.proofs.lock.Turns.take_when_free.Given as goal
 
 abbrev pub invariant-loop : goal.invariant-loop
