@@ -12,7 +12,7 @@ ghost use Rattle.analyzer_seats.specs.AnalyzerTaken.{has_got, analyzer_at, Takes
 use analyzers::{Analyzer, AnalyzerPull};
 use buffer_core::BufferPort;
 use daq_io::{Gate, Point};
-use daq_members::{Seat, Turned};
+use daq_members::{Seat, Turned, turned_by};
 use std::sync::Wait;
 use transitions::Polled;
 
@@ -31,13 +31,6 @@ fn has_got(pulled: AnalyzerPull) -> bool
         AnalyzerPull::Folded { .. } | AnalyzerPull::Dropped { .. } => true,
         AnalyzerPull::Nothing => false,
     }
-}
-
-/// What a turn came to in which something was done, or nothing.
-fn turned_by(worked: bool) -> Turned
-    ensures { result ≡ turned_by worked }
-{
-    if worked { Turned::Worked } else { Turned::Idle }
 }
 
 /// What a turn came to in which a stop was answered or not, and the pull gave this.

@@ -13,7 +13,7 @@ mod seat;
 mod turned;
 
 pub use endless::EndlessPort;
-pub use front_member::FrontMember;
+pub use front_member::{FrontMember, turned_by};
 pub use front_seat::{FrontParts, FrontSeat};
 pub use logger_member::LoggerMember;
 pub use logger_seat::{LoggerParts, LoggerSeat};

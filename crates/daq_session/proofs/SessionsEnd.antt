@@ -69,7 +69,7 @@ record LawsHold (c : ClosedSession) (first now : RunFiles) (own : MainOwn) (runs
   holds : SessionHolds c
   over : AreStartsOver (engine_calls c main_caller)
   counts : CountsHold c first now
-  one : OneAnswer c runs first now
+  one : OneAnswer runs first now
   rises : RisesTold runs first now
   left : IsTrue first.seen.tells → NoneRose first now → (name : List ℕ) → IsInNoRecord runs name → now.seen.at name ≡ first.seen.at name
   so : (number : ℕ) → (run : RunRecord) → slice_get runs number ≡ Some run → run.outcome ≡ Completed → RecordSo c holds.moments own run

@@ -219,7 +219,7 @@ pub record RecordTells {D F K : Type 0} {g : _} (told : CrewTold Generator F K) 
   pub holds : SessionHolds (session_told told declared slots first_files files r)
   pub over : AreStartsOver (engine_calls (session_told told declared slots first_files files r) main_caller)
   pub counts : CountsHold (session_told told declared slots first_files files r) (told.read first_files) (told.read files)
-  pub one_answer : OneAnswer (session_told told declared slots first_files files r) r.runs (told.read first_files) (told.read files)
+  pub one_answer : OneAnswer r.runs (told.read first_files) (told.read files)
   pub rises : RisesTold r.runs (told.read first_files) (told.read files)
   pub left : IsTrue (told.read first_files).seen.tells → NoneRose (told.read first_files) (told.read files) →
       (name : List ℕ) → IsInNoRecord r.runs name →

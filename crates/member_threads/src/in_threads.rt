@@ -27,7 +27,8 @@ pub type ThreadRoom<'a, E, P, D, F> = Room<
 >;
 
 /// Plays the main thread's part while each member has its turns in a thread of its own, or here, where no thread could be had
-/// for it, until its turn comes to `Ended`. Takes no memory but what threads take.
+/// for it, until its turn comes to `Ended`. The pick stays as it is, since there are no rounds of all members. Takes no memory but
+/// what threads take.
 pub fn play_in_threads<
     'a,
     R: Threads + Wait + Sync,
@@ -58,6 +59,7 @@ pub fn play_in_threads<
     ensures ended { EachEnded (FrontTurns E.takes E.makes)
         (LoggerTurns (files_by F.seen F.faults F.clashes F.first)) AnalyzerTurns
         (members_seen result.1.fronts.items result.1.logger result.1.analyzers) }
+    ensures pick { result.1.pick ≡ crew.entry.pick }
 {
     members_stay(&crew);
     let CrewParts {

@@ -1,6 +1,7 @@
 // A session whose members have their turns in rounds of the main thread.
-ghost use Rattle.std.specs.Prelude.{◌≡◌};
-ghost use Rattle.session_crew.specs.Crews.{AreMembers, IsSameCrew, KeepContracts, NotesRunFaults, crew_seen, crew_told};
+ghost use Rattle.std.specs.Prelude.{◌≡◌, ℕ};
+ghost use Rattle.session_engine.specs.MadeTransitions.{HadRounds};
+ghost use Rattle.session_crew.specs.Crews.{CrewSeen, AreMembers, IsSameCrew, KeepContracts, NotesRunFaults, TakesRound, crew_seen, crew_told};
 ghost use Rattle.loggers.specs.Moments.{files_by};
 ghost use Rattle.member_threads.specs.MemberTurns.{FrontTurns, LoggerTurns, AnalyzerTurns};
 ghost use Rattle.member_threads.specs.Scattered.{EachEnded, members_seen};
@@ -17,8 +18,8 @@ use session_crew::laws::{members_stay, rounds_keep};
 use session_crew::{Crew, CrewParts};
 use std::sync::Wait;
 
-/// Plays the main thread's part, in whose rounds the members have their turns. Behind it each has turns until one comes to
-/// `Ended`.
+/// Plays the main thread's part, in whose rounds the members have their turns; the pick is read in these rounds alone. Behind it
+/// each has turns until one comes to `Ended`.
 pub fn play_in_turns<
     'a,
     R: Wait,
@@ -48,6 +49,9 @@ pub fn play_in_turns<
     ensures ended { EachEnded (FrontTurns E.takes E.makes)
         (LoggerTurns (files_by F.seen F.faults F.clashes F.first)) AnalyzerTurns
         (members_seen result.1.fronts.items result.1.logger result.1.analyzers) }
+    ensures rounds { (count : ℕ) × (behind : CrewSeen E F K) × HadRounds (TakesRound
+        (crew_told E.takes E.makes F.seen F.faults F.clashes F.first K.tells K.ahead))
+        count crew.entry behind × (result.1.pick ≡ behind.pick) }
 {
     members_stay(&crew);
     let (played, crew) = main.play(rt, crew);

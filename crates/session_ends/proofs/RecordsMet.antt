@@ -152,7 +152,7 @@ module _ {D F : Type 0} {g : _} (seen : F → Seen) (fronts : List FrontDeclared
       }
 
   pub one_met : GotAll → OneAnswerEach → ChannelsAgree → (read : F → RunFiles) → HasLoggerReasons read logger → KeepsLoggerNames read logger → (channels : List ChannelSpec) → AreDeclared channels logger.slots → (own : MainOwn) → (more : List EngineEntry) → ended.own ≡ own.engine ++ more
-      → RecordsFit (clients_declared fronts channels analyzers) own r.runs → OneAnswer closed r.runs (read logger.first) (read logger.files)
+      → RecordsFit (clients_declared fronts channels analyzers) own r.runs → OneAnswer r.runs (read logger.first) (read logger.files)
   one_met all each agree read reasons names channels declared own more calls fits =
       each closed (ends_met seen fronts analyzers logger r ended all) (read logger.first) (read logger.files) (reasons_met all read reasons) (kept_met all read names) own more
       (engine_by_main seen fronts analyzers logger r ended ∙ calls) r.runs

@@ -94,8 +94,7 @@ OneAnswerSo {D} {F} seen read r = (fronts : List FrontDeclared) → (analyzers :
     (channels : List ChannelSpec) → AreDeclared channels logger.slots →
     (own : MainOwn) → (more : List EngineEntry) → ended.own ≡ own.engine ++ more →
     RecordsFit (clients_declared fronts channels analyzers) own r.runs →
-    OneAnswer (closed_session (first_database ended.shared) fronts analyzers logger.slots (seen logger.first) (seen logger.files) r)
-    r.runs (read logger.first) (read logger.files)
+    OneAnswer r.runs (read logger.first) (read logger.files)
 
 -- And none is counted without an answer: where there is one record for each start that the main thread began, each rise of a
 -- count is told.

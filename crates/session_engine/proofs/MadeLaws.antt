@@ -83,9 +83,6 @@ gives_none own tallies at = at.reply.1 ∙ (ap (λ (p : Progress). tallies_in p 
 pub known_going : (own : List EngineEntry) (tallies : List ClientTally) → known_from (own ++ Check Going tallies ∷ []) ≡ known_from own
 known_going own tallies = known_more own (Check Going tallies)
 
-pub known_refused : (own : List EngineEntry) (t : Transition) (sheet : Sheet) (refusal : BeginRefusal) → known_from (own ++ Begin t sheet (Err refusal) ∷ []) ≡ known_from own
-known_refused own t sheet refusal = known_more own (Begin t sheet (Err refusal))
-
 -- Members are registered.
 
 -- the engine is open and idle as before, and so many clients more are known

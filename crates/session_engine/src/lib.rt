@@ -7,7 +7,7 @@ mod opening;
 mod rounds;
 mod seat;
 
-pub use making::{Made, make_transition};
-pub use opening::{MemberName, close, register_all};
+pub use making::Made;
+pub use opening::MemberName;
 pub use rounds::Rounds;
 pub use seat::MainSeat;

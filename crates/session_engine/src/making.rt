@@ -1,10 +1,9 @@
 // A transition by the main thread.
-ghost use Rattle.std.specs.Prelude.{◌≡◌, ◌≢◌, ◌++◌, ◌∷◌, [], None, Some, Ok, Err, IfOk, IfErr};
+ghost use Rattle.std.specs.Prelude.{◌≡◌, ◌≢◌, [], None, Some, Ok, IsOk};
 ghost use Rattle.daq_types.specs.Callers.{main_caller};
 ghost use Rattle.daq_types.specs.declared.runs.StartOutcome.TheVariants.{Completed};
 ghost use Rattle.daq_types.specs.declared.runs.Transition.TheVariants.{Start};
 ghost use Rattle.turn_lock.specs.Passes.{number_of, held_by, own_entries, seen_by, IsOf};
-ghost use Rattle.transitions.specs.declared.entry.EngineEntry.TheVariants.{Begin};
 ghost use Rattle.transitions.specs.Engines.{engine_opening};
 ghost use Rattle.transitions.specs.EngineHistories.{IsLegalEngine, IsSheet};
 ghost use Rattle.transition_lock.specs.SharedEngines.{engine_lock_of, first_engine};
@@ -16,7 +15,7 @@ use daq_types::{StartOutcome, Transition};
 use engine_laws::laws::{main_has_transition, tallies_answered};
 use std::sync::Wait;
 use transition_lock::{EnginePass, SharedEngine};
-use transitions::{BeginRefusal, Progress, Sheet, Tallies};
+use transitions::{Progress, Sheet, Tallies};
 
 /// A transition that was made.
 #[derive(Clone, Copy, Debug, PartialEq, Eq)]
@@ -60,10 +59,9 @@ fn wait_for_end<R: Wait, M: Rounds>(
     unreachable!()
 }
 
-/// Makes a transition: begins it, and gives the members rounds for as long as it is in progress. The tallies that the clients
-/// answered come into the empty list. Where the engine refuses to begin it, which the main thread's own calls tell before, the
-/// sheet comes back, and nothing else has happened.
-pub fn make_transition<R: Wait, M: Rounds>(
+/// Makes a transition that would begin: begins it, and gives the members rounds for as long as it is in progress. The tallies that
+/// the clients answered come into the empty list.
+pub(crate) fn make_transition<R: Wait, M: Rounds>(
     rt: &R,
     engine: &SharedEngine,
     main: &mut EnginePass,
@@ -71,40 +69,31 @@ pub fn make_transition<R: Wait, M: Rounds>(
     sheet: Sheet,
     tallies: &mut Tallies,
     members: &mut M,
-) -> Result<Made, (BeginRefusal, Sheet)>
+) -> Made
     requires main { number_of main.old ≡ main_caller }
     requires own { IsOf (engine_lock_of engine.now) main.old }
     requires idle { held_by main.old ≡ None }
     requires opening { first_engine engine.now ≡ engine_opening }
+    requires begins { IsOk (begin_known (known_from (own_entries main.old)) transition) }
     requires sheet { IsSheet sheet }
     requires empty { tallies.old ≡ [] }
-
-    // Where it is begun, and what is made then.
-    ensures begun { IfOk result (λ made. begin_known (known_from (own_entries main.old)) transition
-        ≡ Ok made.start) }
-    ensures made { IfOk result (λ made. DrivesTransition M.round transition sheet made.start
-        made.outcome tallies.new (own_entries main.old) (own_entries main.new) members.old
-        members.new) }
-    ensures known { IfOk result (λ made. known_from (own_entries main.new)
-        ≡ known_behind transition made.outcome (known_from (own_entries main.old))) }
-    ensures completed { IfOk result (λ made. transition ≢ Start → made.outcome ≡ Completed) }
-
-    // Where it is refused, and what stays.
-    ensures refused { IfErr result (λ refused. begin_known (known_from (own_entries main.old))
-        transition ≡ Err refused.0) }
-    ensures tried { IfErr result (λ refused. own_entries main.new
-        ≡ own_entries main.old ++ Begin transition sheet (Err refused.0) ∷ []) }
-    ensures back { IfErr result (λ refused. refused.1 ≡ sheet) }
-    ensures same { IfErr result (λ _. (known_from (own_entries main.new)
-        ≡ known_from (own_entries main.old)) × (tallies.new ≡ []) × (members.new ≡ members.old)) }
-
+    ensures begun { begin_known (known_from (own_entries main.old)) transition ≡ Ok result.start }
+    ensures made { DrivesTransition M.round transition sheet result.start result.outcome
+        tallies.new (own_entries main.old) (own_entries main.new) members.old members.new }
+    ensures known { known_from (own_entries main.new)
+        ≡ known_behind transition result.outcome (known_from (own_entries main.old)) }
+    ensures completed { transition ≢ Start → result.outcome ≡ Completed }
     ensures main { number_of main.new ≡ main_caller }
     ensures own { IsOf (engine_lock_of engine.now) main.new }
     ensures idle { held_by main.new ≡ None }
 {
     main_has_transition();
     tallies_answered();
-    let start = engine.begin(rt, main, transition, sheet)?;
-    let outcome = wait_for_end(rt, engine, main, tallies, members);
-    Ok(Made { start, outcome })
+    match engine.begin(rt, main, transition, sheet) {
+        Ok(start) => {
+            let outcome = wait_for_end(rt, engine, main, tallies, members);
+            Made { start, outcome }
+        }
+        Err(_) => unreachable!(),
+    }
 }

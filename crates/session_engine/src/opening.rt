@@ -58,7 +58,7 @@ fn register_one<R: Wait>(rt: &R, engine: &SharedEngine, main: &mut EnginePass, m
 
 /// Registers the members in order, with their sequence numbers. Each gets the client number behind the one before it; the
 /// logger gets the database's text, and an analyzer a report to count in.
-pub fn register_all<R: Wait>(
+pub(crate) fn register_all<R: Wait>(
     rt: &R,
     engine: &SharedEngine,
     main: &mut EnginePass,
@@ -84,7 +84,7 @@ pub fn register_all<R: Wait>(
 }
 
 /// Closes the engine, where no transition is going on. Its clients find it closed from then on.
-pub fn close<R: Wait>(rt: &R, engine: &SharedEngine, main: &mut EnginePass)
+pub(crate) fn close<R: Wait>(rt: &R, engine: &SharedEngine, main: &mut EnginePass)
     requires main { number_of main.old ≡ main_caller }
     requires own { IsOf (engine_lock_of engine.now) main.old }
     requires idle { held_by main.old ≡ None }

@@ -112,7 +112,8 @@ impl<'a> MainSeat<'a> {
         }
     }
 
-    /// Registers the members in order, as `register_all`.
+    /// Registers the members in order, with their sequence numbers. Each gets the client number behind the one before it; the
+    /// logger gets the database's text, and an analyzer a report to count in.
     pub fn register_all<R: Wait>(&mut self, rt: &R, members: &[MemberName])
         requires room { length (known_from self.old.own).clients + length members.now
             ≤ most_clients }
@@ -125,8 +126,8 @@ impl<'a> MainSeat<'a> {
         register_all(rt, self.engine, &mut self.pass, members);
     }
 
-    /// Makes a transition that would begin, as `make_transition`. The tallies that the clients answered come into the empty
-    /// list.
+    /// Makes a transition that would begin: begins it, and gives the members rounds for as long as it is in progress. The tallies
+    /// that the clients answered come into the empty list.
     pub fn make<R: Wait, M: Rounds>(
         &mut self,
         rt: &R,
@@ -147,7 +148,7 @@ impl<'a> MainSeat<'a> {
         ensures completed { transition ≢ Start → result.outcome ≡ Completed }
         ensures engine { self.new.engine ≡ self.old.engine }
     {
-        match make_transition(
+        let made = make_transition(
             rt,
             self.engine,
             &mut self.pass,
@@ -155,17 +156,13 @@ impl<'a> MainSeat<'a> {
             sheet,
             tallies,
             members,
-        ) {
-            Ok(made) => {
-                self.state = state_after(self.state, transition, made.outcome);
-                self.starts = made.start;
-                made
-            }
-            Err(_) => unreachable!(),
-        }
+        );
+        self.state = state_after(self.state, transition, made.outcome);
+        self.starts = made.start;
+        made
     }
 
-    /// Closes the engine, as `close`, and gives the pass back. The clients find the engine closed from then on.
+    /// Closes the engine, and gives the pass back. The clients find the engine closed from then on.
     pub fn close<R: Wait>(self, rt: &R) -> EnginePass
         ensures closed { own_entries result ≡ self.entry.own ++ Close (Ok tt) ∷ [] }
         ensures main { number_of result ≡ main_caller }

@@ -19,7 +19,6 @@ pub mod ListedTold
 pub mod ReportsMade
 pub mod RecordsMade
 pub mod ChannelsSame
-pub mod InTurn
 pub mod OneEach
 pub mod StartsRefused
 pub mod RisesTold

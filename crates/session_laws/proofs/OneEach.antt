@@ -30,11 +30,13 @@ use Rattle.transitions.specs.Engines.{engine_opening}
 use Rattle.transitions.specs.EngineHistories.{EngineHistory, IsLegalEngine}
 use Rattle.transitions.specs.EnginePoints.{engine_past, state_at}
 use Rattle.member_model.specs.Turns.{MemberTurn, HasTurn}
+use Rattle.member_model.specs.TurnCalls.{member_turns}
 use Rattle.mid_logger.specs.declared.channel.Channel.{Channel}
 use Rattle.loggers.specs.Moments.{RunFiles}
 use Rattle.loggers.specs.ToldCounts.{faults_of_state, faults_of_refusal, faults_of_answer, clashes_of_answer, counted_of, faults_told, clashes_told, broken_off}
 use Rattle.loggers.proofs.ManyRose.{has_counts}
-use Rattle.engine_laws.specs.BegunTurns.{HasTransition, IsTallyOfTurn}
+use Rattle.engine_laws.specs.BegunTurns.{HasTransition, IsRefusedTurn, IsTallyOfTurn}
+use Rattle.engine_laws.specs.EngineLaws.{MainHasTransition, RefusalsAreAnswers, TalliesAreAnswers}
 use Rattle.engine_laws.proofs.MainCalls.{OwnAt, own_at}
 use Rattle.run_records.specs.declared.records.FileRecord.{FileRecord}
 use Rattle.run_records.specs.declared.records.RunRecord.{RunRecord}
@@ -49,11 +51,10 @@ use Rattle.composition.proofs.SessionTurns.{StartsRise, speaks}
 use Rattle.session_laws.specs.ClosedSessions.{ClosedSession, logger_client, logger_caller, engine_calls}
 use Rattle.session_laws.specs.EndLaws.{StartsDiffer}
 use Rattle.session_laws.specs.MembersAtEnd.{MembersAtEnd}
-use Rattle.session_laws.specs.CountedFaults.{LoggerReasons, LoggerNames, IsRefusedSo}
+use Rattle.session_laws.specs.CountedFaults.{LoggerReasons, LoggerNames, IsRefusedSo, CountsTell}
 use Rattle.session_laws.specs.RecordedRuns.{run_channels, clients_in}
 use Rattle.session_laws.specs.OneAnswer.{faults_of_outcome, clashes_of_outcome, faults_recorded, clashes_recorded, OneAnswerEach}
 use Rattle.session_laws.proofs.EachCaller.{all_each}
-use Rattle.session_laws.proofs.InTurn.{OneLaws, turns, refused_turn, refused_in, completed_in}
 use Rattle.session_laws.proofs.KeptTogether.{names_own}
 use Rattle.session_laws.proofs.LoggerEnd.{none_taken_back}
 use Rattle.session_laws.proofs.RecordsMade.{made_then, made_behind, ToldStates, states_so}
@@ -333,13 +334,29 @@ refused_alone c first now sheet start client why other so = elim so as (λ w. cl
   ]
 ]
 
+-- the laws of engines, and that of the counts of closed sessions
+pub record OneLaws : Type 0 where
+  pub main : MainHasTransition
+  pub refusals : RefusalsAreAnswers
+  pub tallies : TalliesAreAnswers
+  pub rise : StartsRise
+  pub counts : CountsTell
+
+-- the logger's turns
+abbrev turns : ClosedSession → List MemberTurn
+turns c = member_turns (logger_client c) (engine_calls c (logger_caller c))
+
 module _ (laws : OneLaws) (c : ClosedSession) (ends : MembersAtEnd c) (first now : RunFiles) (reasons : LoggerReasons c ends first now) (names : LoggerNames c ends first now) where
   abbrev ts : List MemberTurn
-  ts = turns laws c ends
+  ts = turns c
+
+  refused_turn : (sheet : Sheet) (start : ℕ) (why : Why) (tallies : List ClientTally) → (has : HasTransition c.engine Start sheet start (Refused (logger_client c) why) tallies) → IsRefusedTurn ts (state_at (engine_past has.earlier)) sheet start why
+  refused_turn sheet start why tallies has =
+      laws.refusals (logger_caller c) (logger_client c) c.engine ends.engine (speaks (logger_client c) c.engine (names_own c ends)) sheet start why tallies has
 
   logger_refused : (why : Why) (sheet : Sheet) (start : ℕ) (tallies : List ClientTally) → TransitionIn (engine_calls c main_caller) Start sheet start (Refused (logger_client c) why) tallies → RefusalTold ts start why
   logger_refused why sheet start tallies made =
-      let r = refused_turn laws c ends sheet start why tallies (has_made laws.main c.engine Start sheet start (Refused (logger_client c) why) tallies ends.engine made) in
+      let r = refused_turn sheet start why tallies (has_made laws.main c.engine Start sheet start (Refused (logger_client c) why) tallies ends.engine made) in
       let of : r.turn.order.start ≡ start = ap (λ (o : Order). o.start) r.of_begin.order in
       let faults : fault_count r.turn ≡ faults_of_refusal why = ap (counted_of faults_of_answer) r.answered in
       let clashes : clash_count r.turn ≡ clashes_of_answer (No why) = ap (counted_of clashes_of_answer) r.answered in
@@ -384,7 +401,7 @@ module _ (laws : OneLaws) (c : ClosedSession) (ends : MembersAtEnd c) (first now
         let says : ToldStates n tallies states = states_so n tallies states is in
         let has : HasTransition c.engine Stop sheet r.start Completed tallies = has_made laws.main c.engine Stop sheet r.start Completed tallies ends.engine made in
         let t : IsTallyOfTurn c.engine n ts (state_at (engine_past has.earlier)) Stop sheet r.start Completed (Channels states) =
-        laws.facts.tallies (logger_caller c) n c.engine ends.engine (speaks n c.engine (names_own c ends)) Stop sheet r.start Completed tallies has says.index (Channels states) says.at in
+        laws.tallies (logger_caller c) n c.engine ends.engine (speaks n c.engine (names_own c ends)) Stop sheet r.start Completed tallies has says.index (Channels states) says.at in
         let answered : t.turn.answer ≡ Some (Yes (Channels states)) = t.answered ∙ ap (λ (a : Answer). Some a) (yes_channels t.answer states t.tally_is) in
         let count : fault_count t.turn ≡ sum_by faults_of_state states = ap (counted_of faults_of_answer) answered in
         let of : t.turn.order.start ≡ r.start = ap (λ (o : Order). o.start) t.of_begin.order in
@@ -416,8 +433,8 @@ module _ (laws : OneLaws) (c : ClosedSession) (ends : MembersAtEnd c) (first now
 
 pub one_each : OneLaws → OneAnswerEach
 one_each laws c ends first now reasons names own more calls runs fits =
-    let its : List MemberTurn = turns laws c ends in
-    let apart : Apart (map start_of runs) = subst (λ (l : List ℕ). Apart l) (sym fits.each_start) (starts_apart laws.facts.rise c ends own.engine more calls) in
+    let its : List MemberTurn = turns c in
+    let apart : Apart (map start_of runs) = subst (λ (l : List ℕ). Apart l) (sym fits.each_start) (starts_apart laws.rise c ends own.engine more calls) in
     let told : AllByRecursion (ToldByTurns its) runs = told_by_runs laws c ends first now reasons names own more calls runs fits.runs in
     let faults : sum_by faults_recorded runs ≤ faults_told its =
     runs_within faults_recorded fault_count its runs apart (all_each (ToldByTurns its) (λ (r : RunRecord). faults_recorded r ≤ told_for fault_count its r.start) runs (λ r t. t.faults) told) in
@@ -426,6 +443,4 @@ one_each laws c ends first now reasons names own more calls runs fits =
     record {
       faults = RoseBy-fewer (sum_by faults_recorded runs) (faults_told its + broken_off c.slots) first.faults now.faults (omega (arith, faults)) reasons.faults;
       clashes = RoseBy-fewer (sum_by clashes_recorded runs) (clashes_told its) first.clashes now.clashes clashes reasons.clashes;
-      refused = refused_in laws c ends first now reasons;
-      completed = completed_in laws c ends first now reasons;
     }

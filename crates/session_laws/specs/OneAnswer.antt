@@ -1,27 +1,17 @@
 -- One fault gives one answer: what the records of a closed session's starts tell of faults and of clashes of names was each
--- counted for itself. And none is counted without an answer: a count rose only where one of the records tells why. What was
--- counted in the logger's own turn of a start is said by two moments of the counts that fit.
+-- counted for itself. And none is counted without an answer: a count rose only where one of the records tells why.
 use Rattle.std.specs.Prelude.{◌≡◌, ◌+◌, ℕ, sum_by, List, [], ◌++◌, slice_get, Some}
 use Rattle.daq_types.specs.Callers.{main_caller}
 use Rattle.daq_types.specs.declared.runs.StartOutcome.{StartOutcome}
 use Rattle.daq_types.specs.declared.runs.StartOutcome.TheVariants.{Completed, Refused}
-use Rattle.daq_types.specs.declared.runs.Transition.TheVariants.{Start}
-use Rattle.daq_types.specs.declared.runs.Why.{Why}
 use Rattle.daq_types.specs.declared.runs.Why.TheVariants.{Exists}
 use Rattle.daq_io.specs.Counts.{RoseBy}
-use Rattle.transitions.specs.declared.sheet.Sheet.{Sheet}
-use Rattle.transitions.specs.declared.answers.Answer.{Answer}
-use Rattle.transitions.specs.declared.answers.Answer.TheVariants.{Yes, No}
-use Rattle.transitions.specs.declared.answers.ClientTally.{ClientTally}
-use Rattle.transitions.specs.declared.answers.Tally.TheVariants.{Plain}
 use Rattle.transitions.specs.declared.entry.EngineEntry.{EngineEntry}
 use Rattle.loggers.specs.Moments.{RunFiles}
-use Rattle.loggers.specs.Reasons.{NoneFell, IsStartSo}
 use Rattle.loggers.specs.ToldCounts.{faults_of_state, faults_of_refusal}
 use Rattle.run_records.specs.declared.records.RunRecord.{RunRecord}
-use Rattle.session_engine.specs.MadeTransitions.{TransitionIn}
 use Rattle.session_runs.specs.RunsFit.{MainOwn, RecordsFit, starts_begun}
-use Rattle.session_laws.specs.ClosedSessions.{ClosedSession, logger_client, engine_calls}
+use Rattle.session_laws.specs.ClosedSessions.{ClosedSession, engine_calls}
 use Rattle.session_laws.specs.MembersAtEnd.{MembersAtEnd}
 use Rattle.session_laws.specs.CountedFaults.{LoggerReasons, LoggerNames}
 use Rattle.session_laws.specs.RecordedRuns.{clients_in}
@@ -44,34 +34,18 @@ faults_recorded r = faults_of_outcome r.outcome + sum_by (λ file. faults_of_sta
 abbrev pub clashes_recorded : RunRecord → ℕ
 clashes_recorded r = clashes_of_outcome r.outcome
 
--- The logger may have answered a start so in its turn: there are two moments of the run files, from the first to the last, between
--- which the turn may have stood.
-pub record InItsTurn (first now : RunFiles) (answer : Answer) : Type 0 where
-  pub before : RunFiles
-  pub behind : RunFiles
-  pub early : NoneFell first before
-  pub within : NoneFell before behind
-  pub late : NoneFell behind now
-  pub so : IsStartSo answer before behind
-
 -- Where the run files were so at first, and are so now: the count of faults rose by at least as many as these records tell, and
--- so did that of clashes. A start that the logger refused for a fault or for a name may have had it in the logger's own turn; and
--- one that came about may have been taken while neither was counted.
-pub record OneAnswer (c : ClosedSession) (runs : List RunRecord) (first now : RunFiles) : Type 0 where
+-- so did that of clashes.
+pub record OneAnswer (runs : List RunRecord) (first now : RunFiles) : Type 0 where
   pub faults : RoseBy (sum_by faults_recorded runs) first.faults now.faults
   pub clashes : RoseBy (sum_by clashes_recorded runs) first.clashes now.clashes
-  pub refused : (sheet : Sheet) → (start : ℕ) → (why : Why) → (tallies : List ClientTally) →
-      TransitionIn (engine_calls c main_caller) Start sheet start (Refused (logger_client c) why) tallies →
-      InItsTurn first now (No why)
-  pub completed : (sheet : Sheet) → (start : ℕ) → (tallies : List ClientTally) →
-      TransitionIn (engine_calls c main_caller) Start sheet start Completed tallies → InItsTurn first now (Yes Plain)
 
 -- So it is with a closed session, where the records fit the main thread's own calls up to some point.
 abbrev pub OneAnswerEach : Type 0
 OneAnswerEach = (c : ClosedSession) → (ends : MembersAtEnd c) → (first now : RunFiles) → LoggerReasons c ends first now →
     LoggerNames c ends first now → (own : MainOwn) → (more : List EngineEntry) →
     engine_calls c main_caller ≡ own.engine ++ more → (runs : List RunRecord) → RecordsFit (clients_in c) own runs →
-    OneAnswer c runs first now
+    OneAnswer runs first now
 
 -- None of these starts was refused.
 abbrev pub NoneRefused : List RunRecord → Type 0

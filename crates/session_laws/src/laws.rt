@@ -124,19 +124,13 @@ pub fn records_refused()
 {}
 
 /// One fault gives one answer: the count of faults of the run files rose by at least as many as the starts that were refused for
-/// one and the files that broke off, and that of clashes by at least as many as the starts that were refused for a name. There are
-/// moments of the counts for the logger's own turn of each start: for one that it refused for a fault or for a name, where such a
-/// one was counted, and for one that came about, where neither was.
+/// one and the files that broke off, and that of clashes by at least as many as the starts that were refused for a name.
 pub fn one_answer()
     ensures { OneAnswerEach }
 {
     turns::main_has_transition();
-    turns::gives_turns();
-    turns::turns_begun();
     turns::tallies_answered();
-    turns::called_told();
     engine::start_numbers_rise();
-    members_keep();
     counts_tell();
 }
 

@@ -1,10 +1,8 @@
 -- Laws of the turns that one client is given.
-use Rattle.std.proofs.Common.{◌≡◌, ℕ, suc, ◌<◌, ◌≤◌, Bool, true, false, eqb, List, [], ◌∷◌, ◌++◌, map, Option, Some, None, refl, ap, sym, subst, ◌∙◌, arith, append_assoc}
+use Rattle.std.proofs.Common.{◌≡◌, ℕ, suc, ◌<◌, ◌≤◌, Bool, true, false, eqb, List, [], ◌∷◌, ◌++◌, Option, Some, None, refl, ap, sym, subst, ◌∙◌, arith, append_assoc}
 use Rattle.std.specs.Prelude.{◌&&◌, not, if◌then◌else◌, slice_get, Ok, Err}
 use Rattle.std.specs.Option.{option_map}
-use Rattle.std.specs.List.{filter}
-use Rattle.std.proofs.lemmas.Bool.{eqb-true, eq-eqb, both_ways}
-use Rattle.daq_types.specs.Callers.{entries_by}
+use Rattle.std.proofs.lemmas.Bool.{eqb-true}
 use Rattle.daq_types.specs.declared.runs.Transition.{Transition}
 use Rattle.daq_types.specs.declared.runs.Transition.TheVariants.{Start}
 use Rattle.daq_types.specs.declared.runs.Order.{Order}
@@ -23,7 +21,7 @@ use Rattle.transitions.specs.Engines.{Underway, EngineState, engine_opening}
 use Rattle.transitions.specs.EngineCalls.{turn_of, is_start, is_next, gets_dump, gets_blank, polled_by, told, refused_by, answered_by, after_poll_by, after_answer_in, IsEngineReply, engine_after}
 use Rattle.transitions.specs.EngineHistories.{IsLegalEngine}
 use Rattle.transitions.specs.EnginePoints.{EngineNews, Silence, Joined, Begun, GaveTurn, Answered, Ended, engine_news, engine_past_after, engine_past, starts_after, starts_at}
-use Rattle.transitions.specs.GivenTurns.{OpenTurn, GivenTurn, open_after, open_at, turns_after, turns_at, calls_of, is_of_client, SpeaksFor, IsRepeated}
+use Rattle.transitions.specs.GivenTurns.{OpenTurn, open_at, calls_of, IsRepeated}
 use Rattle.transitions.proofs.Apart.{split}
 use Rattle.transitions.proofs.Tracked.{Tracks}
 use Rattle.transitions.proofs.Followed.{begins, gives_turn, owes, finishes, history_in_order, tracks_step, opens}
@@ -60,57 +58,6 @@ starts_rise before between after caller other sheet more n m legal =
     let grow : starts_at (first ∷ engine_past before) ≤ starts_at (engine_past_after (first ∷ engine_past before) between) = starts_grow (first ∷ engine_past before) between in
     let raised : starts_at (first ∷ engine_past before) ≡ suc (starts_at (engine_past before)) = refl in
     omega (arith, one, two, same, grow, raised)
-
--- A client's own calls.
-
-of_other : (client : ℕ) (e : EngineEntry) (o : Option OpenTurn) → is_of_client client e ≡ false → open_after client e o ≡ o
-of_other client (Register name sequences dump report reply) o h = refl
-of_other client (Begin t sheet reply) o h = refl
-of_other client (Poll c (Turn turn order dump blank)) o h = rw h refl
-of_other client (Poll c (Idle state)) o h = refl
-of_other client (Poll c PollClosed) o h = refl
-of_other client (Poll c NoClient) o h = refl
-of_other client (Answer c answer (Ok done)) o h = rw h refl
-of_other client (Answer c answer (Err r)) o h = refl
-of_other client (Check reply tallies) o h = refl
-of_other client (Close reply) o h = refl
-
-turns_other : (client : ℕ) (e : EngineEntry) (o : Option OpenTurn) (ts : List GivenTurn) → is_of_client client e ≡ false → turns_after client e o ts ≡ ts
-turns_other client (Register name sequences dump report reply) o ts h = refl
-turns_other client (Begin t sheet reply) o ts h = refl
-turns_other client (Poll c (Turn turn order dump blank)) o ts h = rw h refl
-turns_other client (Poll c (Idle state)) o ts h = refl
-turns_other client (Poll c PollClosed) o ts h = refl
-turns_other client (Poll c NoClient) o ts h = refl
-turns_other client (Answer c answer reply) o ts h = refl
-turns_other client (Check reply tallies) o ts h = refl
-turns_other client (Close reply) o ts h = refl
-
-pub own_open : (by client : ℕ) (past : List (ℕ × EngineEntry)) → SpeaksFor by client past → open_at client (calls_of past) ≡ open_at client (entries_by by past)
-own_open by client [] alone = refl
-own_open by client (e ∷ past) alone =
-    split (eqb e.0 by) (λ b. eqb e.0 by ≡ b → open_after client e.1 (open_at client (calls_of past)) ≡ open_at client (map (λ x. x.1) (if b then e ∷ filter (λ x. eqb x.0 by) past else filter (λ x. eqb x.0 by) past)))
-    (λ h g. ap (open_after client e.1) (own_open by client past alone.1))
-    (λ h g. of_other client e.1 (open_at client (calls_of past)) (not_own (is_of_client client e.1) (λ own. both_ways (eqb e.0 by) g (eq-eqb e.0 by (alone.0 own)))) ∙ own_open by client past alone.1)
-    refl
-  where
-    not_own : (b : Bool) → (b ≡ true → ⊥) → b ≡ false
-    not_own false never = refl
-    not_own true never = absurd (never refl)
-
-pub own_turns : (by client : ℕ) (past : List (ℕ × EngineEntry)) → SpeaksFor by client past → turns_at client (calls_of past) ≡ turns_at client (entries_by by past)
-own_turns by client [] alone = refl
-own_turns by client (e ∷ past) alone =
-    split (eqb e.0 by) (λ b. eqb e.0 by ≡ b → turns_after client e.1 (open_at client (calls_of past)) (turns_at client (calls_of past)) ≡ turns_at client (map (λ x. x.1) (if b then e ∷ filter (λ x. eqb x.0 by) past else filter (λ x. eqb x.0 by) past)))
-    (λ h g. ap (λ (o : Option OpenTurn). turns_after client e.1 o (turns_at client (calls_of past))) (own_open by client past alone.1)
-    ∙ ap (turns_after client e.1 (open_at client (entries_by by past))) (own_turns by client past alone.1))
-    (λ h g. turns_other client e.1 (open_at client (calls_of past)) (turns_at client (calls_of past)) (not_own (is_of_client client e.1) (λ own. both_ways (eqb e.0 by) g (eq-eqb e.0 by (alone.0 own))))
-    ∙ own_turns by client past alone.1)
-    refl
-  where
-    not_own : (b : Bool) → (b ≡ true → ⊥) → b ≡ false
-    not_own false never = refl
-    not_own true never = absurd (never refl)
 
 -- The open turn.
 

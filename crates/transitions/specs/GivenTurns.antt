@@ -1,5 +1,5 @@
--- The turns that one client is given, read off the client's own calls; and where they come from.
-use Rattle.std.specs.Prelude.{◌≡◌, ℕ, ◌==◌, Bool, true, false, ◌&&◌, if◌then◌else◌, List, [], ◌∷◌, ◌++◌, map, Option, Some, None, is_none, Ok, ⊤}
+-- The turn that one client has open, read off the client's calls; and where its turns come from.
+use Rattle.std.specs.Prelude.{◌≡◌, ℕ, ◌==◌, Bool, true, false, if◌then◌else◌, List, [], ◌∷◌, map, Option, Some, None, Ok, ⊤}
 use Rattle.daq_types.specs.declared.runs.Transition.{Transition}
 use Rattle.daq_types.specs.declared.runs.Order.{Order}
 use Rattle.event_report.specs.Reports.{Totals}
@@ -15,13 +15,6 @@ pub record OpenTurn : Type 0 where
   pub turn : Transition
   pub order : Order
 
--- a turn, as the first reply gave it
-pub record GivenTurn : Type 0 where
-  pub turn : Transition
-  pub order : Order
-  pub dump : Option (List ℕ)
-  pub blank : Option Totals
-
 abbrev pub open_after : (client : ℕ) → EngineEntry → Option OpenTurn → Option OpenTurn
 open_after client (Poll c (Turn turn order dump blank)) before = if c == client then Some (record { turn = turn; order = order }) else before
 open_after client (Answer c answer (Ok done)) before = if c == client then None else before
@@ -31,16 +24,6 @@ open_after client entry before = before
 abbrev pub open_at : (client : ℕ) → List EngineEntry → Option OpenTurn
 open_at client [] = None
 open_at client (e ∷ es) = open_after client e (open_at client es)
-
-abbrev pub turns_after : (client : ℕ) → EngineEntry → Option OpenTurn → List GivenTurn → List GivenTurn
-turns_after client (Poll c (Turn turn order dump blank)) open_turn before =
-    if (c == client) && is_none open_turn then before ++ record { turn = turn; order = order; dump = dump; blank = blank } ∷ [] else before
-turns_after client entry open_turn before = before
-
--- the turns that the client was given, in order: those whose reply came while it had none open
-abbrev pub turns_at : (client : ℕ) → List EngineEntry → List GivenTurn
-turns_at client [] = []
-turns_at client (e ∷ es) = turns_after client e (open_at client es) (turns_at client es)
 
 abbrev pub calls_of : List (ℕ × EngineEntry) → List EngineEntry
 calls_of entries = map (λ e. e.1) entries

@@ -2,7 +2,6 @@
 //! calls whose replies are those of an engine that opened stopped and without clients.
 
 ghost use Rattle.std.specs.Prelude.{◌≡◌, ◌<◌, ◌++◌, ◌∷◌, ℕ, List, [], Ok, Err, Option, Some, None, ⊤};
-ghost use Rattle.daq_types.specs.Callers.{entries_by};
 ghost use Rattle.daq_types.specs.declared.runs.Transition.{Transition};
 ghost use Rattle.daq_types.specs.declared.runs.Order.{Order};
 ghost use Rattle.event_report.specs.Reports.{Totals};
@@ -12,7 +11,7 @@ ghost use Rattle.transitions.specs.declared.replies.Polled.TheVariants.{Turn};
 ghost use Rattle.transitions.specs.Called.{called_list};
 ghost use Rattle.transitions.specs.CalledOrder.{IsCalledList};
 ghost use Rattle.transitions.specs.EnginePoints.{engine_past};
-ghost use Rattle.transitions.specs.GivenTurns.{OpenTurn, open_at, turns_at, calls_of, SpeaksFor, IsRepeated, IsFromBegin, ClosesTurn};
+ghost use Rattle.transitions.specs.GivenTurns.{OpenTurn, open_at, calls_of, IsRepeated, IsFromBegin, ClosesTurn};
 ghost use Rattle.daq_types.specs.declared.runs.RunState.TheVariants.{Stopped, Running};
 ghost use Rattle.daq_types.specs.declared.runs.Transition.TheVariants.{Start, Pause, StartAbort};
 ghost use Rattle.transitions.specs.declared.replies.BeginRefusal.TheVariants.{WrongState};
@@ -51,14 +50,6 @@ pub fn start_numbers_rise()
         (before ++ (caller, Begin Start sheet (Ok n)) ∷
         (between ++ (other, Begin Start more (Ok m)) ∷ after)) →
         n < m }
-{}
-
-/// A client's turns, and whether it has one open, can be read off the calls of the caller that alone speaks for it.
-pub fn own_turns()
-    ensures turns { (by client : ℕ) → (past : EngineHistory) → SpeaksFor by client past →
-        turns_at client (calls_of past) ≡ turns_at client (entries_by by past) }
-    ensures open_turn { (by client : ℕ) → (past : EngineHistory) → SpeaksFor by client past →
-        open_at client (calls_of past) ≡ open_at client (entries_by by past) }
 {}
 
 /// Where a client has a turn open, a poll gives the same turn again, without dump and blank report: no turn of another

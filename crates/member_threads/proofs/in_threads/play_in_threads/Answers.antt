@@ -61,5 +61,10 @@ returns-clause-ended g c =
     let is : end ≡ after = c.into_parts.ensures.parts ∙ c.new-crew.ensures in
     ended_seen told end after back.analyzers.items is c.of-analyzers.ensures c.play_scattered-played.ensures.back.ended
 
+pub returns-clause-pick : goal.returns-clause-pick
+returns-clause-pick g c =
+    ap (λ (crew : CrewSeen _ _ _). crew.pick) (c.into_parts.ensures.parts ∙ c.new-crew.ensures)
+    ∙ ap (λ (crew : CrewSeen _ _ _). crew.pick) c.into_parts-fronts.ensures.parts
+
 pub play_scattered-played-requires-send-B : goal.play_scattered-played-requires-send-B
 play_scattered-played-requires-send-B g c = λ κs lives. search (sendable, logger_send)

@@ -1,5 +1,5 @@
 use Rattle.std.specs.Prelude.{◌≡◌}
-use Rattle.std.proofs.Common.{sym, subst, ◌∙◌}
+use Rattle.std.proofs.Common.{ap, sym, subst, ◌∙◌}
 use Rattle.session_crew.specs.Crews.{CrewSeen, IsSameCrew, NotesRunFaults, crew_seen, crew_told}
 use Rattle.member_threads.specs.MemberTurns.{LoggerTurns}
 use Rattle.member_threads.proofs.EndLaws.{just_ended}
@@ -59,3 +59,9 @@ returns-clause-ended g c =
     let is : end ≡ after = c.into_parts.ensures.parts ∙ c.new-crew.ensures in
     let ended : EndedOwn told after = record { fronts = c.end_all.ensures.ended; loggers = just_ended (LoggerTurns told.read) c.finish-logger.result c.finish-logger.ensures.ended; analyzers = c.end_entries.ensures.ended } in
     subst (λ (crew : CrewSeen _ _ _). EndedOwn told crew) (sym is) ended
+
+pub returns-clause-rounds : goal.returns-clause-rounds
+returns-clause-rounds g c =
+    let rounds = c.play-played.ensures.rounds in
+    let kept = ap (λ (crew : CrewSeen _ _ _). crew.pick) (c.into_parts.ensures.parts ∙ c.new-crew.ensures) in
+    (rounds.0, c.play-played.result.1, rounds.1, kept ∙ ap (λ (crew : CrewSeen _ _ _). crew.pick) c.into_parts-fronts.ensures.parts)
