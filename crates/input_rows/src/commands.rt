@@ -1,20 +1,46 @@
 //! Worked lines of the script with their commands, and the places at which lines are refused.
 use daq_types::Kind;
 use odb_script::{Command, LineRefusal, LineText};
+use std::alloc::{AllocError, Global};
 use std::process::Abort;
 use std::test::Fail;
 
-/// A command with all its parts: its form, and what it says of one, as of a type or a kind; its texts; and its numbers.
-type Parts<'a> = ((&'static str, &'static str), [&'a [u8]; 2], [u32; 3]);
+/// A command with all its parts.
+#[derive(Clone, Copy, PartialEq)]
+struct Parts<'a> {
+    form: &'static str,
+    /// What it says of one, as of a type or a kind.
+    said: &'static str,
+    texts: [&'a [u8]; 2],
+    numbers: [u32; 3],
+}
+
+/// A command with its form alone.
+fn of_form(form: &'static str) -> Parts<'static> {
+    Parts {
+        form,
+        said: "",
+        texts: [b"".as_slice(); 2],
+        numbers: [0; 3],
+    }
+}
 
 /// A command with one number.
 fn of_number(form: &'static str, number: u32) -> Parts<'static> {
-    ((form, ""), [b"".as_slice(); 2], [number, 0, 0])
+    Parts {
+        numbers: [number, 0, 0],
+        ..of_form(form)
+    }
 }
 
 /// A command with one text and a number.
-fn of_text<'a>(said: (&'static str, &'static str), text: LineText<'a>, number: u32) -> Parts<'a> {
-    (said, [text.as_slice(), b"".as_slice()], [number, 0, 0])
+fn of_text<'a>(form: &'static str, text: LineText<'a>, number: u32) -> Parts<'a> {
+    Parts {
+        form,
+        said: "",
+        texts: [text.as_slice(), b"".as_slice()],
+        numbers: [number, 0, 0],
+    }
 }
 
 /// The word for a kind of request.
@@ -28,60 +54,70 @@ fn kind_word(kind: Kind) -> &'static str {
 /// The parts of a command that declares a buffer or a member; any other has the form `no other`.
 fn parts_of_declared(command: Command<'_>) -> Parts<'_> {
     match command {
-        Command::Buffer { name, size } => of_text(("buffer", ""), name, size),
+        Command::Buffer { name, size } => of_text("buffer", name, size),
         Command::Equip {
             name,
             id,
             mask,
             buffer,
             limit,
-        } => (
-            ("equip", ""),
-            [name.as_slice(), buffer.as_slice()],
-            [id, mask as u32, limit],
-        ),
+        } => Parts {
+            form: "equip",
+            said: "",
+            texts: [name.as_slice(), buffer.as_slice()],
+            numbers: [id, mask as u32, limit],
+        },
         Command::Channel {
             number,
             pattern,
             buffer,
             id,
             mask,
-        } => (
-            ("channel", ""),
-            [pattern.as_slice(), buffer.as_slice()],
-            [number, id as u32, mask as u32],
-        ),
+        } => Parts {
+            form: "channel",
+            said: "",
+            texts: [pattern.as_slice(), buffer.as_slice()],
+            numbers: [number, id as u32, mask as u32],
+        },
         Command::Analyzer {
             name,
             buffer,
             id,
             mask,
             kind,
-        } => (
-            ("analyzer", kind_word(kind)),
-            [name.as_slice(), buffer.as_slice()],
-            [id as u32, mask as u32, 0],
-        ),
-        _ => of_number("no other", 0),
+        } => Parts {
+            form: "analyzer",
+            said: kind_word(kind),
+            texts: [name.as_slice(), buffer.as_slice()],
+            numbers: [id as u32, mask as u32, 0],
+        },
+        _ => of_form("no other"),
     }
 }
 
 /// The parts of a command on the keys of the database, or of one that declares.
 fn parts_of_key(command: Command<'_>) -> Parts<'_> {
     match command {
-        Command::Create { tid, path, len } => of_text(("create", tid.name()), path, len),
-        Command::CreateDir { path } => of_text(("directory", ""), path, 0),
-        Command::Set { path, index, value } => (
-            ("set", ""),
-            [path.as_slice(), value.as_slice()],
-            [index, 0, 0],
-        ),
-        Command::Get { path, index } => match index {
-            None => of_text(("get", ""), path, 0),
-            Some(index) => of_text(("get", "one"), path, index),
+        Command::Create { tid, path, len } => Parts {
+            said: tid.name(),
+            ..of_text("create", path, len)
         },
-        Command::List { path } => of_text(("list", ""), path, 0),
-        Command::Remove { path } => of_text(("remove", ""), path, 0),
+        Command::CreateDir { path } => of_text("directory", path, 0),
+        Command::Set { path, index, value } => Parts {
+            form: "set",
+            said: "",
+            texts: [path.as_slice(), value.as_slice()],
+            numbers: [index, 0, 0],
+        },
+        Command::Get { path, index } => match index {
+            None => of_text("get", path, 0),
+            Some(index) => Parts {
+                said: "one",
+                ..of_text("get", path, index)
+            },
+        },
+        Command::List { path } => of_text("list", path, 0),
+        Command::Remove { path } => of_text("remove", path, 0),
         other => parts_of_declared(other),
     }
 }
@@ -89,16 +125,16 @@ fn parts_of_key(command: Command<'_>) -> Parts<'_> {
 /// The parts of a command.
 fn parts_of(command: Command<'_>) -> Parts<'_> {
     match command {
-        Command::Nothing => of_number("nothing", 0),
-        Command::Start => of_number("start", 0),
-        Command::Stop => of_number("stop", 0),
-        Command::Pause => of_number("pause", 0),
-        Command::Resume => of_number("resume", 0),
-        Command::Exit => of_number("exit", 0),
+        Command::Nothing => of_form("nothing"),
+        Command::Start => of_form("start"),
+        Command::Stop => of_form("stop"),
+        Command::Pause => of_form("pause"),
+        Command::Resume => of_form("resume"),
+        Command::Exit => of_form("exit"),
         Command::Events { count } => of_number("events", count),
-        Command::Load { file } => of_text(("load", ""), file, 0),
-        Command::Save { file } => of_text(("save", ""), file, 0),
-        Command::Watch { path } => of_text(("watch", ""), path, 0),
+        Command::Load { file } => of_text("load", file, 0),
+        Command::Save { file } => of_text("save", file, 0),
+        Command::Watch { path } => of_text("watch", path, 0),
         Command::Notes { watch } => of_number("notes", watch),
         Command::Unwatch { watch } => of_number("unwatch", watch),
         other => parts_of_key(other),
@@ -106,138 +142,295 @@ fn parts_of(command: Command<'_>) -> Parts<'_> {
 }
 
 /// A line, and the parts of its command.
-type Row = (
-    &'static str,
-    (&'static str, &'static str),
-    [&'static str; 2],
-    [u32; 3],
-);
+struct Row {
+    line: &'static str,
+    form: &'static str,
+    said: &'static str,
+    texts: [&'static str; 2],
+    numbers: [u32; 3],
+}
+
+/// An empty line, which is no command.
+const PLAIN: Row = Row {
+    line: "",
+    form: "nothing",
+    said: "",
+    texts: ["", ""],
+    numbers: [0, 0, 0],
+};
 
 const COMMANDS: &[Row] = &[
-    ("", ("nothing", ""), ["", ""], [0, 0, 0]),
-    (" \t ", ("nothing", ""), ["", ""], [0, 0, 0]),
-    ("# any \" text", ("nothing", ""), ["", ""], [0, 0, 0]),
-    ("events 3", ("events", ""), ["", ""], [3, 0, 0]),
-    ("\tevents \t 007 ", ("events", ""), ["", ""], [7, 0, 0]),
-    (
-        "events 4294967295",
-        ("events", ""),
-        ["", ""],
-        [4294967295, 0, 0],
-    ),
-    (
-        "events 0x000aBcDeF",
-        ("events", ""),
-        ["", ""],
-        [11259375, 0, 0],
-    ),
-    (
-        "events 0xFFFFFFFF",
-        ("events", ""),
-        ["", ""],
-        [4294967295, 0, 0],
-    ),
-    ("events \"5\"", ("events", ""), ["", ""], [5, 0, 0]),
-    ("start", ("start", ""), ["", ""], [0, 0, 0]),
-    ("\"start\"", ("start", ""), ["", ""], [0, 0, 0]),
-    (" stop ", ("stop", ""), ["", ""], [0, 0, 0]),
-    ("exit", ("exit", ""), ["", ""], [0, 0, 0]),
-    (" \"exit\"\t", ("exit", ""), ["", ""], [0, 0, 0]),
-    ("pause", ("pause", ""), ["", ""], [0, 0, 0]),
-    ("resume\t", ("resume", ""), ["", ""], [0, 0, 0]),
-    ("load a.odb", ("load", ""), ["a.odb", ""], [0, 0, 0]),
-    ("save \"\"", ("save", ""), ["", ""], [0, 0, 0]),
-    ("watch /A", ("watch", ""), ["/A", ""], [0, 0, 0]),
-    ("notes 0", ("notes", ""), ["", ""], [0, 0, 0]),
-    ("unwatch 63", ("unwatch", ""), ["", ""], [63, 0, 0]),
-    (
-        "create UINT8 /A/b 2",
-        ("create", "UINT8"),
-        ["/A/b", ""],
-        [2, 0, 0],
-    ),
-    ("create WORD A", ("create", "UINT16"), ["A", ""], [1, 0, 0]),
-    (
-        "create STRING \"/A/b c\" 0",
-        ("create", "STRING"),
-        ["/A/b c", ""],
-        [0, 0, 0],
-    ),
-    ("create LINK /A", ("create", "LINK"), ["/A", ""], [1, 0, 0]),
-    ("create DIR /A", ("directory", ""), ["/A", ""], [0, 0, 0]),
-    (
-        "create \"DIR\" \"\"",
-        ("directory", ""),
-        ["", ""],
-        [0, 0, 0],
-    ),
-    ("set /A/b 1 0xff", ("set", ""), ["/A/b", "0xff"], [1, 0, 0]),
-    ("set /A 0x10", ("set", ""), ["/A", "0x10"], [0, 0, 0]),
-    ("set /A \"\"", ("set", ""), ["/A", ""], [0, 0, 0]),
-    (
-        "set /A \"2\" \" x \"",
-        ("set", ""),
-        ["/A", " x "],
-        [2, 0, 0],
-    ),
-    ("set /A x", ("set", ""), ["/A", "x"], [0, 0, 0]),
-    ("get /A/b", ("get", ""), ["/A/b", ""], [0, 0, 0]),
-    (
-        "get \"/A b\" 4294967295",
-        ("get", "one"),
-        ["/A b", ""],
-        [4294967295, 0, 0],
-    ),
-    ("ls /", ("list", ""), ["/", ""], [0, 0, 0]),
-    (
-        "rm /Runinfo/State",
-        ("remove", ""),
-        ["/Runinfo/State", ""],
-        [0, 0, 0],
-    ),
-    ("buffer B 1024", ("buffer", ""), ["B", ""], [1024, 0, 0]),
-    (
-        "buffer \"\" 0xffffffff",
-        ("buffer", ""),
-        ["", ""],
-        [4294967295, 0, 0],
-    ),
-    (
-        "equip FE 1 0 SYSTEM",
-        ("equip", ""),
-        ["FE", "SYSTEM"],
-        [1, 0, 4294967295],
-    ),
-    (
-        "equip F 4294967295 0xffff \"a b\" 7",
-        ("equip", ""),
-        ["F", "a b"],
-        [4294967295, 65535, 7],
-    ),
-    (
-        "channel 0 run%05d.mid SYSTEM 65535 65535",
-        ("channel", ""),
-        ["run%05d.mid", "SYSTEM"],
-        [0, 65535, 65535],
-    ),
-    (
-        "channel 16 \"\" b 0 1",
-        ("channel", ""),
-        ["", "b"],
-        [16, 0, 1],
-    ),
-    (
-        "analyzer ANA SYSTEM 65535 0 all",
-        ("analyzer", "all"),
-        ["ANA", "SYSTEM"],
-        [65535, 0, 0],
-    ),
-    (
-        "analyzer A \"b c\" 1 0xffff some",
-        ("analyzer", "some"),
-        ["A", "b c"],
-        [1, 65535, 0],
-    ),
+    Row {
+        line: "",
+        form: "nothing",
+        ..PLAIN
+    },
+    Row {
+        line: " \t ",
+        form: "nothing",
+        ..PLAIN
+    },
+    Row {
+        line: "# any \" text",
+        form: "nothing",
+        ..PLAIN
+    },
+    Row {
+        line: "events 3",
+        form: "events",
+        numbers: [3, 0, 0],
+        ..PLAIN
+    },
+    Row {
+        line: "\tevents \t 007 ",
+        form: "events",
+        numbers: [7, 0, 0],
+        ..PLAIN
+    },
+    Row {
+        line: "events 4294967295",
+        form: "events",
+        numbers: [4294967295, 0, 0],
+        ..PLAIN
+    },
+    Row {
+        line: "events 0x000aBcDeF",
+        form: "events",
+        numbers: [11259375, 0, 0],
+        ..PLAIN
+    },
+    Row {
+        line: "events 0xFFFFFFFF",
+        form: "events",
+        numbers: [4294967295, 0, 0],
+        ..PLAIN
+    },
+    Row {
+        line: "events \"5\"",
+        form: "events",
+        numbers: [5, 0, 0],
+        ..PLAIN
+    },
+    Row {
+        line: "start",
+        form: "start",
+        ..PLAIN
+    },
+    Row {
+        line: "\"start\"",
+        form: "start",
+        ..PLAIN
+    },
+    Row {
+        line: " stop ",
+        form: "stop",
+        ..PLAIN
+    },
+    Row {
+        line: "exit",
+        form: "exit",
+        ..PLAIN
+    },
+    Row {
+        line: " \"exit\"\t",
+        form: "exit",
+        ..PLAIN
+    },
+    Row {
+        line: "pause",
+        form: "pause",
+        ..PLAIN
+    },
+    Row {
+        line: "resume\t",
+        form: "resume",
+        ..PLAIN
+    },
+    Row {
+        line: "load a.odb",
+        form: "load",
+        texts: ["a.odb", ""],
+        ..PLAIN
+    },
+    Row {
+        line: "save \"\"",
+        form: "save",
+        ..PLAIN
+    },
+    Row {
+        line: "watch /A",
+        form: "watch",
+        texts: ["/A", ""],
+        ..PLAIN
+    },
+    Row {
+        line: "notes 0",
+        form: "notes",
+        ..PLAIN
+    },
+    Row {
+        line: "unwatch 63",
+        form: "unwatch",
+        numbers: [63, 0, 0],
+        ..PLAIN
+    },
+    Row {
+        line: "create UINT8 /A/b 2",
+        form: "create",
+        said: "UINT8",
+        texts: ["/A/b", ""],
+        numbers: [2, 0, 0],
+        ..PLAIN
+    },
+    Row {
+        line: "create WORD A",
+        form: "create",
+        said: "UINT16",
+        texts: ["A", ""],
+        numbers: [1, 0, 0],
+        ..PLAIN
+    },
+    Row {
+        line: "create STRING \"/A/b c\" 0",
+        form: "create",
+        said: "STRING",
+        texts: ["/A/b c", ""],
+        ..PLAIN
+    },
+    Row {
+        line: "create LINK /A",
+        form: "create",
+        said: "LINK",
+        texts: ["/A", ""],
+        numbers: [1, 0, 0],
+        ..PLAIN
+    },
+    Row {
+        line: "create DIR /A",
+        form: "directory",
+        texts: ["/A", ""],
+        ..PLAIN
+    },
+    Row {
+        line: "create \"DIR\" \"\"",
+        form: "directory",
+        ..PLAIN
+    },
+    Row {
+        line: "set /A/b 1 0xff",
+        form: "set",
+        texts: ["/A/b", "0xff"],
+        numbers: [1, 0, 0],
+        ..PLAIN
+    },
+    Row {
+        line: "set /A 0x10",
+        form: "set",
+        texts: ["/A", "0x10"],
+        ..PLAIN
+    },
+    Row {
+        line: "set /A \"\"",
+        form: "set",
+        texts: ["/A", ""],
+        ..PLAIN
+    },
+    Row {
+        line: "set /A \"2\" \" x \"",
+        form: "set",
+        texts: ["/A", " x "],
+        numbers: [2, 0, 0],
+        ..PLAIN
+    },
+    Row {
+        line: "set /A x",
+        form: "set",
+        texts: ["/A", "x"],
+        ..PLAIN
+    },
+    Row {
+        line: "get /A/b",
+        form: "get",
+        texts: ["/A/b", ""],
+        ..PLAIN
+    },
+    Row {
+        line: "get \"/A b\" 4294967295",
+        form: "get",
+        said: "one",
+        texts: ["/A b", ""],
+        numbers: [4294967295, 0, 0],
+        ..PLAIN
+    },
+    Row {
+        line: "ls /",
+        form: "list",
+        texts: ["/", ""],
+        ..PLAIN
+    },
+    Row {
+        line: "rm /Runinfo/State",
+        form: "remove",
+        texts: ["/Runinfo/State", ""],
+        ..PLAIN
+    },
+    Row {
+        line: "buffer B 1024",
+        form: "buffer",
+        texts: ["B", ""],
+        numbers: [1024, 0, 0],
+        ..PLAIN
+    },
+    Row {
+        line: "buffer \"\" 0xffffffff",
+        form: "buffer",
+        numbers: [4294967295, 0, 0],
+        ..PLAIN
+    },
+    Row {
+        line: "equip FE 1 0 SYSTEM",
+        form: "equip",
+        texts: ["FE", "SYSTEM"],
+        numbers: [1, 0, 4294967295],
+        ..PLAIN
+    },
+    Row {
+        line: "equip F 4294967295 0xffff \"a b\" 7",
+        form: "equip",
+        texts: ["F", "a b"],
+        numbers: [4294967295, 65535, 7],
+        ..PLAIN
+    },
+    Row {
+        line: "channel 0 run%05d.mid SYSTEM 65535 65535",
+        form: "channel",
+        texts: ["run%05d.mid", "SYSTEM"],
+        numbers: [0, 65535, 65535],
+        ..PLAIN
+    },
+    Row {
+        line: "channel 16 \"\" b 0 1",
+        form: "channel",
+        texts: ["", "b"],
+        numbers: [16, 0, 1],
+        ..PLAIN
+    },
+    Row {
+        line: "analyzer ANA SYSTEM 65535 0 all",
+        form: "analyzer",
+        said: "all",
+        texts: ["ANA", "SYSTEM"],
+        numbers: [65535, 0, 0],
+        ..PLAIN
+    },
+    Row {
+        line: "analyzer A \"b c\" 1 0xffff some",
+        form: "analyzer",
+        said: "some",
+        texts: ["A", "b c"],
+        numbers: [1, 65535, 0],
+        ..PLAIN
+    },
 ];
 
 /// The place at which a line is refused.
@@ -249,18 +442,24 @@ fn refused_at(line: &[u8]) -> Option<u32> {
 }
 
 /// Whether the line is a command with these parts, and the end of the script if it is `exit`.
-fn is_command((line, said, [first, second], numbers): &Row) -> bool {
-    let Ok(command) = Command::read(line.as_bytes()) else {
+fn is_command(row: &Row) -> bool {
+    let Ok(command) = Command::read(row.line.as_bytes()) else {
         return false;
     };
-    let parts = (*said, [first.as_bytes(), second.as_bytes()], *numbers);
-    command.is_exit() == (said.0 == "exit") && parts_of(command) == parts
+    let [first, second] = row.texts;
+    let parts = Parts {
+        form: row.form,
+        said: row.said,
+        texts: [first.as_bytes(), second.as_bytes()],
+        numbers: row.numbers,
+    };
+    command.is_exit() == (row.form == "exit") && parts_of(command) == parts
 }
 
 #[test]
 fn lines_that_are_commands(rt: HostRuntime) {
     for row in COMMANDS {
-        assert!(rt; is_command(row), "{}", row.0);
+        assert!(rt; is_command(row), "{}", row.line);
     }
 }
 
@@ -368,6 +567,12 @@ fn places_at_which_lines_are_refused(rt: HostRuntime) {
     look_at_places(&rt, NO_FORM_OF_A_SESSION);
 }
 
+/// The place at which a line of so many of these bytes is refused.
+fn refused_line_of(alloc: Global, byte: u8, len: usize) -> Result<Option<u32>, AllocError> {
+    let line = vec![in alloc; byte; len]?;
+    Ok(refused_at(line.as_slice()))
+}
+
 #[test]
 fn lines_at_the_limit(rt: HostRuntime) -> Result<(), Fail> {
     for (byte, len, place) in &[
@@ -376,8 +581,8 @@ fn lines_at_the_limit(rt: HostRuntime) -> Result<(), Fail> {
         (b'#', 4097, Some(4096)),
         (b'x', 4096, Some(0)),
     ] {
-        let line = vec![in rt.alloc(); *byte; *len]?;
-        assert!(rt; refused_at(line.as_slice()) == *place, "{len} bytes {byte}");
+        let refused = refused_line_of(rt.alloc(), *byte, *len)?;
+        assert!(rt; refused == *place, "{len} bytes {byte}");
     }
     Ok(())
 }
