@@ -9,7 +9,7 @@ use std::test::Fail;
 #[derive(Clone, Copy, PartialEq)]
 struct Parts<'a> {
     form: &'static str,
-    /// What it says of one, as of a type or a kind.
+    /// The word for its type or its kind, if it has one.
     said: &'static str,
     texts: [&'a [u8]; 2],
     numbers: [u32; 3],
@@ -150,10 +150,10 @@ struct Row {
     numbers: [u32; 3],
 }
 
-/// An empty line, which is no command.
+/// A row with no words and no numbers.
 const PLAIN: Row = Row {
     line: "",
-    form: "nothing",
+    form: "",
     said: "",
     texts: ["", ""],
     numbers: [0, 0, 0],

@@ -109,7 +109,7 @@ fn with_bytes(alloc: Global, place: usize, bytes: [u8; 4]) -> Result<Vec<u8>, Al
     Ok(file)
 }
 
-/// What it answers to the first bytes of a file, behind whose end one more byte lies.
+/// What a reader answers to the first bytes of a file, behind whose end one more byte lies.
 fn answers_to_front(alloc: Global, len: usize) -> Result<[Result<Option<()>, MidFault>; 2], Fail> {
     let mut file = one_event(alloc)?;
     file.push(0)?;
