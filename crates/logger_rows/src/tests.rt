@@ -126,6 +126,9 @@ const LATE: &[Step] = &[
 /// The third channel's name is taken, and a file of the first two is not removed.
 const LEFT: &[Step] = &[Start(Taken(2)), Files(2), Failed(true)];
 
+/// The third channel's name is taken, and the close of a file of the first two fails: both are removed all the same.
+const REMOVED: &[Step] = &[Start(Taken(2)), Files(1), Closed(2, 0), Failed(true)];
+
 /// Whether a turn is answered so.
 fn turns<R: Abort + Wait>(
     rt: &R,
@@ -321,4 +324,15 @@ const LEAVES: &[Row] = &[
 #[test]
 fn a_file_is_left_where_its_removal_fails(rt: HostRuntime) {
     assert!(rt; are_rows_right(&rt, rt.alloc(), LEAVES, true));
+}
+
+/// The first close is that of the file whose name is taken, before the start.
+const CLOSES: &[Row] = &[
+    ((3, 1), Some((FileOp::Close, 1)), REMOVED),
+    ((3, 1), Some((FileOp::Close, 2)), REMOVED),
+];
+
+#[test]
+fn a_file_is_removed_where_its_close_fails(rt: HostRuntime) {
+    assert!(rt; are_rows_right(&rt, rt.alloc(), CLOSES, true));
 }

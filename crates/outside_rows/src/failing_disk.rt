@@ -24,6 +24,7 @@ pub struct FailingDisk {
     pub step: FailingStep,
 }
 
+/// A file of such a system.
 #[derive(Drop)]
 pub struct FailingFile {
     step: FailingStep,

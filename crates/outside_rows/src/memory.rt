@@ -13,15 +13,25 @@ fn pass<G: Gate + Sync>(gate: &G) {
     gate.at(0, Point::BeforeSend);
 }
 
-#[test]
-fn source_and_sink_in_memory(rt: HostRuntime) -> Result<(), Fail> {
-    let alloc = rt.alloc();
+/// What copying a text answers to a sink that has room for no more, and writing a line end behind it; and whether the sink
+/// has that text then.
+fn copy_and_write(
+    alloc: Global,
+    text: &[u8],
+) -> Result<(Result<u64, Failed>, Result<usize, Failed>, bool), NoMemory> {
+    let source = MemSource::new(text.to_vec(alloc)?, Vec::new(alloc));
     let mut sink = MemSink::new(alloc, 8, Vec::new(alloc))?;
-    let source = MemSource::new(b"events 3".to_vec(alloc)?, Vec::new(alloc));
     let copied = copy_all(source, &mut sink);
     let behind = sink.write(b"\n");
-    assert!(rt; (copied, behind) == (Ok(8), Err(Failed)), "no room is left");
-    assert!(rt; sink.bytes() == b"events 3".as_slice());
+    Ok((copied, behind, sink.bytes() == text))
+}
+
+#[test]
+fn source_and_sink_in_memory(rt: HostRuntime) -> Result<(), Fail> {
+    let (copied, behind, has_text) = copy_and_write(rt.alloc(), b"events 3")?;
+    assert!(rt; copied == Ok(8));
+    assert!(rt; behind == Err(Failed), "no room is left");
+    assert!(rt; has_text);
     Ok(())
 }
 
@@ -112,19 +122,38 @@ fn overfill<F: Files>(
     Ok((appended, files.create(second)))
 }
 
+/// What came of files that have room for one file of four bytes.
+#[derive(Drop)]
+struct Overfilled {
+    answers: Result<(Result<(), Failed>, Result<u32, NameRefused>), NameRefused>,
+    /// Whether the first file has its first three bytes alone.
+    has_first_bytes: bool,
+    first_fault: Option<FileName>,
+}
+
+/// Puts more into new files than they have room for.
+fn overfill_new(
+    alloc: Global,
+    first: &FileName,
+    second: &FileName,
+) -> Result<Overfilled, NoMemory> {
+    let mut files = MemFiles::new(alloc, 1, 4, Vec::new(alloc))?;
+    let answers = overfill(&mut files, first, second);
+    Ok(Overfilled {
+        answers,
+        has_first_bytes: files.find(first) == Some(b"abc".as_slice()),
+        first_fault: files.first_fault(),
+    })
+}
+
 #[test]
 fn what_does_not_fit_is_a_fault(rt: HostRuntime) -> Result<(), Fail> {
-    let alloc = rt.alloc();
     let first = FileName::new("run00001.mid")?;
     let second = FileName::new("run00002.mid")?;
-    let mut files = MemFiles::new(alloc, 1, 4, Vec::new(alloc))?;
-    let answers = overfill(&mut files, &first, &second);
-    assert!(rt; answers == Ok((Err(Failed), Err(NameRefused::Failed))));
-    assert!(rt;
-        files.find(&first) == Some(b"abc".as_slice()),
-        "nothing of the new bytes"
-    );
-    assert!(rt; files.first_fault() == Some(first));
+    let came = overfill_new(rt.alloc(), &first, &second)?;
+    assert!(rt; came.answers == Ok((Err(Failed), Err(NameRefused::Failed))));
+    assert!(rt; came.has_first_bytes, "nothing of the new bytes");
+    assert!(rt; came.first_fault == Some(first));
     Ok(())
 }
 

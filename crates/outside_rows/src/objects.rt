@@ -135,10 +135,12 @@ pub fn copy_all<S: Source + Drop, K: Sink>(mut source: S, sink: &mut K) -> Resul
     copy(&mut source, sink)
 }
 
+/// What three readings of a clock answer.
 pub fn next_three<C: Clock + Drop>(mut clock: C) -> [u32; 3] {
     [clock.now(), clock.now(), clock.now()]
 }
 
+/// The members, of so many, that three choices take for the first turn of a round; 0 each time where there is none.
 pub fn first_three<P: Pick + Drop>(mut pick: P, members: u32) -> [u32; 3] {
     if members == 0 {
         return [0; 3];

@@ -40,24 +40,30 @@ fn write_and_read<E: Files>(
 }
 
 /// Whether no file is there, and then what two writings answer.
-fn read_and_write_twice<E: Files>(
-    alloc: Global,
-    files: &mut E,
-) -> Result<(bool, (FileReply, bool), (FileReply, bool)), NoMemory> {
+type WrittenTwice = (bool, (FileReply, bool), (FileReply, bool));
+
+/// Looks for the file, and writes it twice.
+fn read_and_write_twice<E: Files>(alloc: Global, files: &mut E) -> Result<WrittenTwice, NoMemory> {
     let found = reads(alloc, files, FileReply::Clash, b"")?;
     let written = write_and_read(alloc, files, b"[/A]\n\n")?;
     let again = write_and_read(alloc, files, b"x")?;
     Ok((found, written, again))
 }
 
+/// The same in new files, and whether the file is closed behind that.
+fn write_twice_and_close(alloc: Global) -> Result<(WrittenTwice, bool), NoMemory> {
+    let mut files = MemFiles::new(alloc, 2, 1000, Vec::new(alloc))?;
+    let answers = read_and_write_twice(alloc, &mut files)?;
+    Ok((answers, files.is_closed(&dump_name())))
+}
+
 #[test]
 fn written_and_read_back(rt: HostRuntime) -> Result<(), Fail> {
-    let alloc = rt.alloc();
-    let mut files = MemFiles::new(alloc, 2, 1000, Vec::new(alloc))?;
-    let (found, written, again) = read_and_write_twice(alloc, &mut files)?;
+    let ((found, written, again), is_closed) = write_twice_and_close(rt.alloc())?;
     assert!(rt; found, "no file is there");
-    assert!(rt; (written, again) == ((FileReply::Done, true), (FileReply::Clash, true)));
-    assert!(rt; files.is_closed(&dump_name()));
+    assert!(rt; written == (FileReply::Done, true));
+    assert!(rt; again == (FileReply::Clash, true));
+    assert!(rt; is_closed);
     Ok(())
 }
 

@@ -1,9 +1,11 @@
 //! Run files, read from a source.
 ghost use Rattle.std.specs.Prelude.{◌≡◌, ◌≤◌, ◌<◌, None, IfOk, vec_len};
+ghost use Rattle.daq_model.specs.Events.{event_limit};
 
 use daq_io::{Failed, Source, copy_front};
 use daq_mem::MemSource;
-use event_header::{EventBuf, Header};
+use daq_types::NoMemory;
+use event_header::{EventBuf, Header, MAX_DATA};
 use mid_format::{Ahead, BlockSource, MidFault, MidReader, begin_record, end_record};
 use std::alloc::{AllocError, Global};
 use std::test::Fail;
@@ -71,7 +73,7 @@ fn read_two<S: Source + Drop>(
     source: S,
     mut into: EventBuf,
 ) -> ([Result<Option<()>, MidFault>; 2], Option<u32>)
-    requires { 4194304 ≤ into.room }
+    requires { event_limit ≤ into.room }
 {
     let mut reader = MidReader::new(source);
     let first = reader.next(&mut into);
@@ -94,7 +96,7 @@ fn cut(len: usize) -> Result<Option<()>, MidFault> {
 /// What a reader answers to these bytes.
 fn answers_to(alloc: Global, bytes: &[u8]) -> Result<[Result<Option<()>, MidFault>; 2], Fail> {
     let source = MemSource::new(bytes.to_vec(alloc)?, Vec::new(alloc));
-    let (answers, _) = read_two(source, EventBuf::new(alloc, 4_194_304)?);
+    let (answers, _) = read_two(source, EventBuf::new(alloc, MAX_DATA)?);
     Ok(answers)
 }
 
@@ -107,13 +109,18 @@ fn with_bytes(alloc: Global, place: usize, bytes: [u8; 4]) -> Result<Vec<u8>, Al
     Ok(file)
 }
 
+/// What a reader answers to the first bytes of a file, behind whose end one more byte lies.
+fn answers_to_front(alloc: Global, len: usize) -> Result<[Result<Option<()>, MidFault>; 2], Fail> {
+    let mut file = one_event(alloc)?;
+    file.push(0)?;
+    let (front, _) = file.as_slice().split_at(file.as_slice().len().min(len));
+    answers_to(alloc, front)
+}
+
 #[test]
 fn every_cut_of_a_file(rt: HostRuntime) -> Result<(), Fail> {
-    let mut file = one_event(rt.alloc())?;
-    file.push(0)?;
     for len in 0..423 {
-        let (front, _) = file.as_slice().split_at(file.as_slice().len().min(len));
-        let answers = answers_to(rt.alloc(), front)?;
+        let answers = answers_to_front(rt.alloc(), len)?;
         let first = if len < 229 { cut(len) } else { Ok(Some(())) };
         assert!(rt; answers == [first, cut(len)], "{len} bytes");
     }
@@ -137,11 +144,20 @@ const WRONG_FIELDS: &[(usize, [u8; 4], MidFault)] = &[
     (233, [2, 0, 0, 0], MidFault::BadRecord { at: 229 }),
 ];
 
+/// What a reader answers where these four bytes stand at a place of the file.
+fn answers_to_bytes(
+    alloc: Global,
+    place: usize,
+    bytes: [u8; 4],
+) -> Result<[Result<Option<()>, MidFault>; 2], Fail> {
+    let file = with_bytes(alloc, place, bytes)?;
+    answers_to(alloc, file.as_slice())
+}
+
 #[test]
 fn files_with_one_wrong_field(rt: HostRuntime) -> Result<(), Fail> {
     for (place, bytes, fault) in WRONG_FIELDS {
-        let file = with_bytes(rt.alloc(), *place, *bytes)?;
-        let [_, second] = answers_to(rt.alloc(), file.as_slice())?;
+        let [_, second] = answers_to_bytes(rt.alloc(), *place, *bytes)?;
         assert!(rt; second == Err(*fault), "at {place}");
     }
     Ok(())
@@ -156,15 +172,15 @@ fn records<S: Source>(reader: &MidReader<S>) -> Records {
 
 /// The records before the first event, behind it and at the end of a file of one event; what the two readings answer; and
 /// the length and the number of the event that is left.
-fn read_through<S: Source>(
-    reader: &mut MidReader<S>,
-    into: &mut EventBuf,
-) -> (
+type ReadThrough = (
     [Records; 3],
     [Result<Option<()>, MidFault>; 2],
     (usize, u32),
-)
-    requires { 4194304 ≤ into.old.room }
+);
+
+/// Reads a file of one event.
+fn read_through<S: Source>(reader: &mut MidReader<S>, into: &mut EventBuf) -> ReadThrough
+    requires { event_limit ≤ into.old.room }
 {
     let before = records(reader);
     let first = reader.next(into);
@@ -174,14 +190,20 @@ fn read_through<S: Source>(
     ([before, between, records(reader)], [first, second], event)
 }
 
-#[test]
-fn a_source_in_single_bytes(rt: HostRuntime) -> Result<(), Fail> {
-    let file = one_event(rt.alloc())?;
-    let mut into = EventBuf::new(rt.alloc(), 4_194_304)?;
+/// Reads the file by its bytes, one at a time, and tells whether none is left behind that.
+fn read_single_bytes(alloc: Global) -> Result<(ReadThrough, bool), NoMemory> {
+    let file = one_event(alloc)?;
+    let mut into = EventBuf::new(alloc, MAX_DATA)?;
     let mut reader = MidReader::new(SingleBytes {
         rest: file.as_slice(),
     });
-    let (records, answers, event) = read_through(&mut reader, &mut into);
+    let told = read_through(&mut reader, &mut into);
+    Ok((told, reader.into_source().read(&mut [0; 8]) == Ok(0)))
+}
+
+#[test]
+fn a_source_in_single_bytes(rt: HostRuntime) -> Result<(), Fail> {
+    let ((records, answers, event), is_at_end) = read_single_bytes(rt.alloc())?;
     let begin = Some(begin_record(1, 1000, 173));
     let end = Some(end_record(1, 1010, 176));
     assert!(rt;
@@ -194,7 +216,7 @@ fn a_source_in_single_bytes(rt: HostRuntime) -> Result<(), Fail> {
     );
     assert!(rt; answers == [Ok(Some(())), Ok(None)]);
     assert!(rt; event == (40, 1));
-    assert!(rt; reader.into_source().read(&mut [0; 8]) == Ok(0));
+    assert!(rt; is_at_end);
     Ok(())
 }
 
@@ -203,7 +225,7 @@ fn a_source_that_fails_in_an_event(rt: HostRuntime) -> Result<(), Fail> {
     let alloc = rt.alloc();
     let fails = vec![in alloc; 3]?;
     let source = MemSource::new(one_event(alloc)?, fails);
-    let answers = read_two(source, EventBuf::new(alloc, 4_194_304)?);
+    let answers = read_two(source, EventBuf::new(alloc, MAX_DATA)?);
     let failed = Err(MidFault::ReadFault);
     assert!(rt; answers == ([failed, failed], Some(1)));
     Ok(())
@@ -231,7 +253,7 @@ fn read_on<S: Ahead>(
     reader: &mut MidReader<S>,
     into: &mut EventBuf,
 ) -> Result<Option<u32>, MidFault>
-    requires { 4194304 ≤ into.old.room }
+    requires { event_limit ≤ into.old.room }
     ensures { into.new.room ≡ into.old.room }
 {
     if let Some((header, data)) = reader.whole_event() {
@@ -251,7 +273,7 @@ type Answers = ([Result<Option<u32>, MidFault>; 2], u64);
 
 /// The next two answers of a reader, and its place behind them.
 fn read_two_on<S: Ahead>(reader: &mut MidReader<S>, into: &mut EventBuf) -> Answers
-    requires { 4194304 ≤ into.old.room }
+    requires { event_limit ≤ into.old.room }
     ensures { into.new.room ≡ into.old.room }
 {
     let answers = [read_on(reader, into), read_on(reader, into)];
@@ -260,21 +282,25 @@ fn read_two_on<S: Ahead>(reader: &mut MidReader<S>, into: &mut EventBuf) -> Answ
 
 /// The first two answers of a reader of this source, and the next two.
 fn read_four<S: Ahead + Drop>(source: S, mut into: EventBuf) -> (Answers, Answers)
-    requires { 4194304 ≤ into.room }
+    requires { event_limit ≤ into.room }
 {
     let mut reader = MidReader::new(source);
     let front = read_two_on(&mut reader, &mut into);
     (front, read_two_on(&mut reader, &mut into))
 }
 
+/// The answers of a reader of the file in blocks of so many bytes.
+fn read_four_in_blocks(alloc: Global, len: u8) -> Result<(Answers, Answers), NoMemory> {
+    let block = block_of(alloc, len)?;
+    let file = MemSource::new(three_events(alloc)?, Vec::new(alloc));
+    let into = EventBuf::new(alloc, MAX_DATA)?;
+    Ok(read_four(BlockSource::new(file, block), into))
+}
+
 #[test]
 fn events_at_hand(rt: HostRuntime) -> Result<(), Fail> {
-    let alloc = rt.alloc();
     for len in &[1, 39, 80, 229, 255] {
-        let block = block_of(alloc, *len)?;
-        let file = MemSource::new(three_events(alloc)?, Vec::new(alloc));
-        let source = BlockSource::new(file, block);
-        let (front, end) = read_four(source, EventBuf::new(alloc, 4_194_304)?);
+        let (front, end) = read_four_in_blocks(rt.alloc(), *len)?;
         assert!(rt; front == ([Ok(Some(24)), Ok(Some(24))], 269), "{len}");
         assert!(rt; end == ([Ok(Some(24)), Ok(None)], 501), "{len}");
     }
