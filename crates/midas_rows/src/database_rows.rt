@@ -1,29 +1,6 @@
 //! The online database, its dumps and its watches.
 use crate::rows::{PLAIN, Row};
-
-/// A dump with older names of types.
-const OLDER: &str = "[/Runinfo]\nState = INT : 1\nOnline Mode = INT : 1\nRun number = INT : 41\n\
-    Transition in progress = INT : 0\nStart time = STRING : [32] Mon Mar  4 10:11:12 2024\n\
-    Start time binary = DWORD : 1709547072\nStop time = STRING : [32] \n\
-    Stop time binary = DWORD : 0\n\n[/Equipment/Trigger/Common]\nEvent ID = WORD : 1\n\
-    Trigger mask = WORD : 0\nBuffer = STRING : [32] SYSTEM\nType = INT : 2\n\
-    Source = INT : 16777215\nFormat = STRING : [8] MIDAS\nEnabled = BOOL : y\n\
-    Read on = INT : 257\nPeriod = INT : 500\nEvent limit = DOUBLE : 0\nHidden = BOOL : n\n\n\
-    [/Equipment/Trigger/Settings]\nGains = FLOAT[2] :\n[0] 1.5\n[1] 2.25\n\
-    Names = STRING[2] :\n[32] ADC left\n[32] ADC right\nDelay = DWORD[3] :\n[0] 10\n[1] 20\n\
-    [2] 30\n";
-
-/// What is saved after it was loaded.
-const SAVED: &str = "[/Runinfo]\nState = INT32 : 1\nRun number = INT32 : 41\n\
-    Start time binary = UINT32 : 1709547072\nStop time binary = UINT32 : 0\n\
-    Online Mode = INT32 : 1\nTransition in progress = INT32 : 0\n\
-    Start time = STRING : [32] Mon Mar  4 10:11:12 2024\nStop time = STRING : [32] \n\n\
-    [/Equipment]\n\n[/Equipment/Trigger]\n\n[/Equipment/Trigger/Common]\n\
-    Event ID = UINT16 : 1\nTrigger mask = UINT16 : 0\nBuffer = STRING : [32] SYSTEM\n\
-    Type = INT32 : 2\nSource = INT32 : 16777215\nFormat = STRING : [8] MIDAS\n\
-    Enabled = BOOL : y\nRead on = INT32 : 257\nPeriod = INT32 : 500\nHidden = BOOL : n\n\n\
-    [/Equipment/Trigger/Settings]\nNames = STRING[2] :\n[32] ADC left\n[32] ADC right\n\
-    Delay = UINT32[3] :\n[0] 10\n[1] 20\n[2] 30\n\n";
+use worked_dumps::{OLDER, SAVED};
 
 /// Settings that were saved.
 const SETTINGS: &str =

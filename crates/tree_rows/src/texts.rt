@@ -5,31 +5,12 @@ use odb_ascii::{LoadRefusal, Loaded};
 use odb_tree::{OdbRefusal, PlainTree, What};
 use std::alloc::Global;
 use std::test::Fail;
+use worked_dumps::{OLDER, SAVED};
 
 /// The keys of a new session.
 pub const SESSION: &str =
     "[/Runinfo]\nState = INT32 : 1\nRun number = INT32 : 0\nStart time binary = UINT32 : 0\n\
     Stop time binary = UINT32 : 0\n";
-
-/// A dump with older type names.
-const OLDER: &str = "[/Runinfo]\nState = INT : 1\nOnline Mode = INT : 1\nRun number = INT : 41\n\
-    Transition in progress = INT : 0\nStart time = STRING : [32] Mon Mar  4 10:11:12 2024\n\
-    Start time binary = DWORD : 1709547072\nStop time = STRING : [32] \nStop time binary = DWORD : 0\n\n\
-    [/Equipment/Trigger/Common]\nEvent ID = WORD : 1\nTrigger mask = WORD : 0\n\
-    Buffer = STRING : [32] SYSTEM\nType = INT : 2\nSource = INT : 16777215\nFormat = STRING : [8] MIDAS\n\
-    Enabled = BOOL : y\nRead on = INT : 257\nPeriod = INT : 500\nEvent limit = DOUBLE : 0\nHidden = BOOL : n\n\n\
-    [/Equipment/Trigger/Settings]\nGains = FLOAT[2] :\n[0] 1.5\n[1] 2.25\nNames = STRING[2] :\n\
-    [32] ADC left\n[32] ADC right\nDelay = DWORD[3] :\n[0] 10\n[1] 20\n[2] 30\n";
-
-/// What is saved where it was loaded into the database of a new session.
-const SAVED: &str = "[/Runinfo]\nState = INT32 : 1\nRun number = INT32 : 41\n\
-    Start time binary = UINT32 : 1709547072\nStop time binary = UINT32 : 0\nOnline Mode = INT32 : 1\n\
-    Transition in progress = INT32 : 0\nStart time = STRING : [32] Mon Mar  4 10:11:12 2024\n\
-    Stop time = STRING : [32] \n\n[/Equipment]\n\n[/Equipment/Trigger]\n\n[/Equipment/Trigger/Common]\n\
-    Event ID = UINT16 : 1\nTrigger mask = UINT16 : 0\nBuffer = STRING : [32] SYSTEM\nType = INT32 : 2\n\
-    Source = INT32 : 16777215\nFormat = STRING : [8] MIDAS\nEnabled = BOOL : y\nRead on = INT32 : 257\n\
-    Period = INT32 : 500\nHidden = BOOL : n\n\n[/Equipment/Trigger/Settings]\nNames = STRING[2] :\n\
-    [32] ADC left\n[32] ADC right\nDelay = UINT32[3] :\n[0] 10\n[1] 20\n[2] 30\n\n";
 
 /// The dump of a new session: 114 bytes.
 const NEW: &str =

@@ -1,15 +1,9 @@
-//! Worked values of names, texts, items, events, banks, requests, reports, paths and errors, tried on the calls that read,
-//! write or print them.
+//! Worked values of names, lists, texts, items of the database and paths, and what the errors of paths say, tried on the calls
+//! that read, write or print them.
 #![tactic(auto)]
 
 #[cfg(test)]
-mod banks;
-#[cfg(test)]
 mod errors;
-#[cfg(test)]
-mod generated;
-#[cfg(test)]
-mod headers;
 #[cfg(test)]
 mod items;
 #[cfg(test)]
@@ -18,9 +12,5 @@ mod lists;
 mod names;
 #[cfg(test)]
 mod paths;
-#[cfg(test)]
-mod reports;
-#[cfg(test)]
-mod requests;
 #[cfg(test)]
 mod texts;

@@ -103,9 +103,22 @@ fn names_of_files(rt: HostRuntime) {
 /// Numbers of types, their names, and the sizes of their items.
 const TYPES: &[(u32, &str, u32)] = &[
     (1, "UINT8", 1),
+    (2, "INT8", 1),
+    (3, "CHAR", 1),
+    (4, "UINT16", 2),
+    (5, "INT16", 2),
     (6, "UINT32", 4),
+    (7, "INT32", 4),
+    (8, "BOOL", 4),
+    (9, "FLOAT", 4),
     (10, "DOUBLE", 8),
+    (11, "BITFIELD", 4),
     (12, "STRING", 0),
+    (13, "ARRAY", 0),
+    (14, "STRUCT", 0),
+    (15, "KEY", 0),
+    (16, "LINK", 0),
+    (17, "INT64", 8),
     (18, "UINT64", 8),
 ];
 
@@ -127,10 +140,25 @@ fn types_by_number(rt: HostRuntime) {
     }
 }
 
+/// Older names of types.
+const OLDER: &[(&[u8], Tid)] = &[
+    (b"BYTE", Tid::UInt8),
+    (b"SBYTE", Tid::Int8),
+    (b"WORD", Tid::UInt16),
+    (b"SHORT", Tid::Int16),
+    (b"DWORD", Tid::UInt32),
+    (b"INT", Tid::Int32),
+];
+
+#[test]
+fn types_by_older_name(rt: HostRuntime) {
+    for (name, tid) in OLDER {
+        assert!(rt; Tid::from_name(name) == Some(*tid), "{tid:?}");
+    }
+}
+
 #[test]
 fn numbers_and_names_of_no_type(rt: HostRuntime) {
     assert!(rt; Tid::from_code(0).is_none() && Tid::from_code(19).is_none());
-    assert!(rt;
-        Tid::from_name(b"DWORD") == Some(Tid::UInt32) && Tid::from_name(b"dword").is_none()
-    );
+    assert!(rt; Tid::from_name(b"dword").is_none());
 }
