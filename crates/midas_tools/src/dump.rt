@@ -11,7 +11,7 @@ ghost use Rattle.midas_tools.specs.Printing.{PassesText, PrintsSoFar};
 
 use crate::areas::print_event;
 use crate::blocks::new_block;
-use crate::closing::{close_dump, refuse};
+use crate::closing::{close_file, refuse};
 use crate::ends::{InputFault, ToolEnd};
 use crate::halts::Halt;
 use crate::lines::{bad_line, record_line};
@@ -260,8 +260,8 @@ pub fn dump_file<F: Files, K: Sink>(
     ensures complete { Completes (F.seen files) name.now (K.faults out.old) (K.faults out.new)
         (F.faults files) (F.faults result.1) result.0 }
     ensures clashes { ClashCounts result.0 (F.clashes files) (F.clashes result.1) }
-    // Where memory is wanting the name was not looked for.
-    ensures unclashed { result.0 ≡ ToolEnd.NoMemory → F.clashes result.1 ≡ F.clashes files }
+    // Where memory is wanting the files were not called.
+    ensures uncalled { result.0 ≡ ToolEnd.NoMemory → result.1 ≡ files }
     ensures same { Same (F.seen files) (F.seen result.1) }
 {
     if name.compressed() {
@@ -273,7 +273,7 @@ pub fn dump_file<F: Files, K: Sink>(
     match open(files, name) {
         Ok(source) => {
             let (end, source) = dump_source(source, room, out);
-            close_dump(end, source)
+            close_file(end, source)
         }
         Err((refused, files)) => (refuse(refused, out), files),
     }
