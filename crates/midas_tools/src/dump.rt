@@ -1,4 +1,4 @@
-ghost use Rattle.std.specs.Prelude.{◌≡◌, ◌≤◌, ◌<◌, ◌++◌, ℕ, List, [], Option, IfOk, OnOk, OnErr, vec_len};
+ghost use Rattle.std.specs.Prelude.{◌≡◌, ◌≤◌, ◌<◌, ℕ, List, [], Option, IfOk, OnOk, OnErr, vec_len};
 ghost use Rattle.std.specs.Io.KnownBytes.{Appends};
 ghost use Rattle.daq_io.specs.Counts.{CountsFault};
 ghost use Rattle.daq_io.specs.Seen.{Same};
@@ -7,7 +7,7 @@ ghost use Rattle.daq_model.specs.Events.{event_limit};
 ghost use Rattle.mid_format.specs.HasRead.{nothing_read};
 ghost use Rattle.midas_tools.specs.Dumps.{DumpsTo, EndsText, HandEnds, HandHalts, ListsTo, Printing, PrintsOn, ReadCounts, SinkHalts, SourceHalts, WritesOn, end_lines, end_of, ended_text, fault_lines, new_begin};
 ghost use Rattle.midas_tools.specs.Findings.{ClashCounts, Completes, FilesByEnd, SinkByEnd};
-ghost use Rattle.midas_tools.specs.Printing.{PassesText, PrintsSoFar};
+ghost use Rattle.midas_tools.specs.Printing.{PassesText};
 
 use crate::areas::print_event;
 use crate::blocks::new_block;
