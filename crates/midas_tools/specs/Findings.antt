@@ -105,6 +105,38 @@ ClashCounts FileFault old new = ⊤
 ClashCounts SinkFault old new = ⊤
 ClashCounts NoMemory old new = ⊤
 
+-- The counts of faults, of clashes and of bytes that were read, before a call and behind it.
+pub record CallCounts : Type 0 where
+  pub sink_old : ℕ
+  pub sink_new : ℕ
+  pub files_old : ℕ
+  pub files_new : ℕ
+  pub clashes_old : ℕ
+  pub clashes_new : ℕ
+  pub read_old : ℕ
+  pub read_new : ℕ
+
+-- the same, of what a sink and files count
+abbrev pub call_counts : {K F : Type 0} → (sink_faults : K → ℕ) → (faults clashes bytes_read : F → ℕ) → (out_old out_new : K) → (files_old files_new : F) → CallCounts
+call_counts sink_faults faults clashes bytes_read out_old out_new files_old files_new = record {
+  sink_old = sink_faults out_old;
+  sink_new = sink_faults out_new;
+  files_old = faults files_old;
+  files_new = faults files_new;
+  clashes_old = clashes files_old;
+  clashes_new = clashes files_new;
+  read_old = bytes_read files_old;
+  read_new = bytes_read files_new;
+}
+
+-- The end of a tool comes by its cause: a fault exactly where its count rose and no earlier cause holds, a missing file with
+-- a clash, and of a run file `Done`, unless a call failed or there was no memory.
+pub record EndsBy (end : ToolEnd) (seen : Seen) (name : List ℕ) (counts : CallCounts) : Type 0 where
+  pub sink : SinkByEnd end counts.sink_old counts.sink_new
+  pub files : FilesByEnd end counts.files_old counts.files_new
+  pub completes : Completes seen name counts.sink_old counts.sink_new counts.files_old counts.files_new end
+  pub clashes : ClashCounts end counts.clashes_old counts.clashes_new
+
 -- What was read of the source, by the end that it leads to.
 abbrev pub ReadsTo : (Says : List ℕ → Option MidFault → List ℕ → Type 0) (source : Option (List ℕ)) (text : List ℕ) → ToolEnd → Type 0
 ReadsTo Says source text Done = IfSome source (λ bytes. Says bytes None text)

@@ -6,7 +6,7 @@ ghost use Rattle.daq_io.specs.Streams.{AppendsPart};
 ghost use Rattle.daq_model.specs.Events.{event_limit};
 ghost use Rattle.mid_format.specs.HasRead.{nothing_read};
 ghost use Rattle.midas_tools.specs.Dumps.{DumpsTo, EndsText, HandEnds, HandHalts, ListsTo, Printing, PrintsOn, ReadCounts, SinkHalts, SourceHalts, WritesOn, end_lines, end_of, ended_text, fault_lines, new_begin};
-ghost use Rattle.midas_tools.specs.Findings.{ClashCounts, Completes, FilesByEnd, SinkByEnd};
+ghost use Rattle.midas_tools.specs.Findings.{EndsBy, SinkByEnd, call_counts};
 ghost use Rattle.midas_tools.specs.Printing.{PassesText};
 
 use crate::areas::print_event;
@@ -253,13 +253,10 @@ pub fn dump_file<F: Files, K: Sink>(
     // What was found, and what was written of it.
     ensures writes { WritesOn (F.seen files) name.now (F.bytes_read files)
         (F.bytes_read result.1) (K.written out.old) (K.written out.new) result.0 }
-    // A fault is the end exactly where its count rose and no earlier cause holds.
-    ensures sink { SinkByEnd result.0 (K.faults out.old) (K.faults out.new) }
-    ensures faults { FilesByEnd result.0 (F.faults files) (F.faults result.1) }
-    // A run file leads to the end `Done`, unless a call failed or there was no memory.
-    ensures complete { Completes (F.seen files) name.now (K.faults out.old) (K.faults out.new)
-        (F.faults files) (F.faults result.1) result.0 }
-    ensures clashes { ClashCounts result.0 (F.clashes files) (F.clashes result.1) }
+    // A fault is the end exactly where its count rose and no earlier cause holds, and a run file leads to the end `Done`,
+    // unless a call failed or there was no memory.
+    ensures ends { EndsBy result.0 (F.seen files) name.now (call_counts K.faults F.faults F.clashes
+        F.bytes_read out.old out.new files result.1) }
     // Where memory is wanting the files were not called.
     ensures uncalled { result.0 ≡ ToolEnd.NoMemory → result.1 ≡ files }
     ensures same { Same (F.seen files) (F.seen result.1) }
