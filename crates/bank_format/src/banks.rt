@@ -1,4 +1,4 @@
-ghost use Rattle.std.specs.Prelude.{◌≡◌, ◌∷◌, List, [], IfOk, IfErr, IsOkAnd, MatchOption, Some, None, length};
+ghost use Rattle.std.specs.Prelude.{◌≡◌, ◌∷◌, List, [], IfOk, IfErr, IsOkAnd, MatchOption, Some, None};
 ghost use Rattle.bank_format.specs.BankAreas.{BankValue, bank_value, IsBankArea};
 ghost use Rattle.bank_format.specs.Places.{HasBank, front_bank, behind_bank, unread, first_named};
 ghost use Rattle.bank_format.specs.Faults.{HoldsBanks, IsFirstFault};
@@ -35,7 +35,6 @@ impl<'a> Model for Banks<'a> {
     ghost Value = { BankReading };
 
     ghost use Rattle.std.specs.Prelude.{[]};
-    ghost use Rattle.bank_format.specs.BankAreas.{BanksBefore};
     ghost use Rattle.bank_format.specs.Whole.{IsWhole};
 
     ghost view = { λ b. record {

@@ -1,4 +1,4 @@
-ghost use Rattle.std.specs.Prelude.{◌≡◌, ◌≤◌, ◌++◌, length, IfOk, IfErr, OnOk, OnErr, Some, None};
+ghost use Rattle.std.specs.Prelude.{◌≡◌, ◌≤◌, IfOk, IfErr, OnOk, OnErr, Some, None};
 ghost use Rattle.bank_format.specs.BankAreas.{IsBankArea, bank_value, plain_banks};
 ghost use Rattle.bank_format.specs.Writing.{nothing_written, with_bank, refusal_of};
 

@@ -1,10 +1,10 @@
--- Laws of what is told: how the steps of one file make one step, and that closed files stay.
+-- Laws of what is told: how the steps of one file make one step.
 use Rattle.std.specs.Prelude.{◌≡◌, ◌≢◌, ℕ, true, false, ◌||◌, ◌⊎◌, IsTrue, List, [], ◌++◌, Some, nat_eq, refl}
 use Rattle.std.proofs.Common.{sym, ◌∙◌, ap, subst, inl, inr, append_assoc}
 use Rattle.std.proofs.lemmas.List.{append-nil}
 use Rattle.std.proofs.lemmas.Bool.Decides.{eqb_tells}
 use Rattle.std.specs.Cmp.Lexicographic.{pointwise, same_text, other_text}
-use Rattle.daq_io.specs.Seen.{is_closed, stored_open, stored_closed, Seen, InUse, IsFree, KeepsNumber, KeepsNumbers, KeepsOthers, Touches, KeepsFiles, Same, Creates, Extends, Closes, Stores, Removes, Opens, Reads, Ends, KeepsClosed, IsWritten, IsStored}
+use Rattle.daq_io.specs.Seen.{stored_open, stored_closed, Seen, InUse, IsFree, KeepsNumber, KeepsNumbers, KeepsOthers, Touches, KeepsFiles, Same, Creates, Extends, Closes, Stores, Removes, Opens, Reads, Ends, IsWritten, IsStored}
 
 -- Frames
 
@@ -201,35 +201,6 @@ Opens-Ends {a} {b} {c} {name} {n} p q = record {
   files = KeepsFiles-trans p.files q.files;
   numbers = KeepsNumbers-from n (KeepsOthers-trans p.others q.others) (KeepsNumber-free p.was_free q.free);
 }
-
--- Closed files stay
-
-pub KeepsClosed-refl : (s : Seen) → KeepsClosed s s
-KeepsClosed-refl s = record { closed = λ name bytes here. here }
-
-pub KeepsClosed-trans : {a b c : Seen} → KeepsClosed a b → KeepsClosed b c → KeepsClosed a c
-KeepsClosed-trans p q = record { closed = λ name bytes here. q.closed name bytes (p.closed name bytes here) }
-
-pub KeepsFiles-KeepsClosed : {a b : Seen} → KeepsFiles a b → KeepsClosed a b
-KeepsFiles-KeepsClosed p = record { closed = λ name bytes here. p.at name ∙ here }
-
--- a call on a name of no closed file keeps each closed file
-pub Touches-KeepsClosed : {a b : Seen} {name : List ℕ} → Touches a b name → ((bytes : List ℕ) → a.at name ≢ Some (stored_closed bytes)) → KeepsClosed a b
-Touches-KeepsClosed {a} {b} {name} p is_open = record {
-  closed = λ other bytes here. p.others other (λ same. is_open bytes (subst (λ m. a.at m ≡ Some (stored_closed bytes)) same here)) ∙ here;
-}
-
-pub Creates-KeepsClosed : {a b : Seen} {name : List ℕ} {n : ℕ} {xs : List ℕ} → IsTrue a.tells → Creates a b name n xs → KeepsClosed a b
-Creates-KeepsClosed told p = Touches-KeepsClosed p.touches (λ bytes here. let e : false ≡ true = ap is_closed (sym (p.fresh told) ∙ here) in cc)
-
-pub Stores-KeepsClosed : {a b : Seen} {name xs : List ℕ} → IsTrue a.tells → Stores a b name xs → KeepsClosed a b
-Stores-KeepsClosed told p = Touches-KeepsClosed p.touches (λ bytes here. let e : false ≡ true = ap is_closed (sym (p.fresh told) ∙ here) in cc)
-
-pub Extends-KeepsClosed : {a b : Seen} {n : ℕ} {xs : List ℕ} (so_far : List ℕ) → Extends a b n xs → a.at (a.name_of n) ≡ Some (stored_open so_far) → KeepsClosed a b
-Extends-KeepsClosed so_far p now = Touches-KeepsClosed p.touches (λ bytes here. let e : false ≡ true = ap is_closed (sym now ∙ here) in cc)
-
-pub Closes-KeepsClosed : {a b : Seen} {n : ℕ} {xs : List ℕ} (so_far : List ℕ) → Closes a b n xs → a.at (a.name_of n) ≡ Some (stored_open so_far) → KeepsClosed a b
-Closes-KeepsClosed so_far p now = Touches-KeepsClosed p.touches (λ bytes here. let e : false ≡ true = ap is_closed (sym now ∙ here) in cc)
 
 -- One file among others
 

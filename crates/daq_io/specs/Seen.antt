@@ -144,10 +144,6 @@ pub record Ends (old new : Seen) (number : ℕ) : Type 0 where
   pub others : KeepsOthers old new number
   pub free : IsFree new number
 
--- Each closed file stays as it is.
-pub record KeepsClosed (old new : Seen) : Type 0 where
-  pub closed : (name bytes : List ℕ) → old.at name ≡ Some (stored_closed bytes) → new.at name ≡ Some (stored_closed bytes)
-
 -- The file of this name is being written under this number, and has these bytes where they are told.
 pub record IsWritten (seen : Seen) (number : ℕ) (name : List ℕ) (bytes : List ℕ) : Type 0 where
   pub writes : IsTrue (seen.writes number)

@@ -1,4 +1,4 @@
-ghost use Rattle.std.specs.Prelude.{◌≡◌, ◌<◌, ◌↔◌, ℕ, List, [], Option, Result, IsTrue, IsSome, IsNone, IfOk, IfErr, OnOk, OnErr, IsOk, IsErrOf, length, take};
+ghost use Rattle.std.specs.Prelude.{◌≡◌, ◌<◌, ◌↔◌, ℕ, List, [], Option, Result, IsTrue, IsSome, IsNone, IfOk, OnOk, OnErr, IsOk, IsErrOf, length, take};
 ghost use Rattle.std.specs.Io.{ReadsAtMost};
 ghost use Rattle.daq_io.specs.Counts.{CountsFault, CountsNamed, CountsClash, NamesFirst, NamesFirstOf, RoseJustBy};
 ghost use Rattle.daq_io.specs.Seen.{Seen, Same, Creates, Extends, ExtendsPart, Closes, Removes, Opens, Reads, Ends, InUse};

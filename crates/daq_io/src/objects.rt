@@ -7,7 +7,7 @@ pub struct Outside<S, K, F, E, C, P> {
     pub out: K,
     /// The run files.
     pub run_files: F,
-    /// The files of the database: its dumps, and the message log.
+    /// The files of the database: its dumps.
     pub odb_files: E,
     /// The clock of run starts and stops.
     pub clock: C,

@@ -1,5 +1,5 @@
 ghost use Rattle.std.specs.Prelude.{◌≡◌, ◌+◌, ◌<◌, ◌^◌};
-ghost use Rattle.daq_types.specs.Callers.{caller_of_client, main_caller};
+ghost use Rattle.daq_types.specs.Callers.{caller_of_client};
 
 use std::marker::Model;
 

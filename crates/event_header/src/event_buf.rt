@@ -102,7 +102,7 @@ impl EventBuf {
 
     /// Takes the event with this header, in place of the one that it holds, and reads its data from a source, which
     /// may give them in any pieces. Answers how many bytes of data there were: fewer than the header states only where
-    /// the source has no more.
+    /// the source has no more. Where the source fails, the room holds some event, of no meaning.
     pub fn fill_from<S: Source>(&mut self, header: &Header, source: &mut S) -> Result<usize, Failed>
         requires { header.now.data_size ≤ self.old.room }
         ensures gathers { IfOk result (GathersBody (S.left source.old) (S.left source.new)

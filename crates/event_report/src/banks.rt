@@ -1,7 +1,6 @@
 ghost use Rattle.std.specs.Prelude.{◌≡◌, ◌+◌, ◌-◌, ◌≤◌, ◌<◌, ◌^◌, ◌∷◌, ℕ, [], All, IfOk, MatchResult, length};
 ghost use Rattle.std.specs.List.{filter_map};
 ghost use Rattle.bank_format.specs.BankAreas.{bank_value};
-ghost use Rattle.event_report.specs.Listing.{row_limit};
 ghost use Rattle.event_report.specs.EventBanks.{integer_bank};
 ghost use Rattle.event_report.specs.Tallies.{bank_tally};
 ghost use Rattle.event_report.specs.Steps.{takes, row_number, bank_rows_after, banks_after};

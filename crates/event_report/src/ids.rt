@@ -1,5 +1,4 @@
 ghost use Rattle.std.specs.Prelude.{◌≡◌, ◌+◌, ◌≤◌, ◌<◌, ◌^◌, ℕ, [], All, IfOk, MatchResult};
-ghost use Rattle.event_report.specs.Listing.{row_limit};
 ghost use Rattle.event_report.specs.Tallies.{id_tally};
 ghost use Rattle.event_report.specs.Steps.{takes, id_of, id_rows_after, id_tally_after};
 ghost use Rattle.event_report.specs.Held.{IsRising, IsTable, IdsWithin};

@@ -1,6 +1,6 @@
 //! Laws of the report's definitions: each function does nothing, and its contract is the law.
 
-ghost use Rattle.std.specs.Prelude.{◌≡◌, ◌∷◌, [], Some, None, List, ℕ, length};
+ghost use Rattle.std.specs.Prelude.{◌≡◌, Some, None, List, ℕ, length};
 ghost use Rattle.daq_types.specs.declared.events.Event.{Event};
 ghost use Rattle.bank_format.specs.BankAreas.{BankValue};
 ghost use Rattle.bank_format.specs.Faults.{HoldsBanks};

@@ -13,3 +13,4 @@ mod texts;
 pub use integers::IntegerType;
 pub use report::Report;
 pub use rows::{BankRow, Figures, IdRow};
+pub use texts::visible_name;

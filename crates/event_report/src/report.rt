@@ -14,7 +14,7 @@ use event_header::{HEADER_BYTES, Header};
 use std::alloc::Global;
 use std::marker::Model;
 
-/// What is counted of events that come one at a time. Only `new` and `print` take memory.
+/// What is counted of events that come one at a time. Only `new`, `copied` and `print` take memory.
 #[derive(Drop)]
 pub struct Report {
     bytes: u64,

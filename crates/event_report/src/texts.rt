@@ -19,13 +19,12 @@ fn visible(byte: u8) -> u8
     }
 }
 
-/// Appends a name of a bank.
-fn append_name(name: [u8; 4], text: &mut TextBuffer) -> Result<(), NoMemory>
-    ensures added { OnOk result (text.new ≡ text.old ++ map texts.visible name) }
-    ensures kept { OnErr result (text.new ≡ text.old) }
+/// A bank's name as it is printed.
+pub fn visible_name(name: [u8; 4]) -> [u8; 4]
+    ensures { result ≡ map texts.visible name }
 {
     let [a, b, c, d] = name;
-    text.text(&[visible(a), visible(b), visible(c), visible(d)])
+    [visible(a), visible(b), visible(c), visible(d)]
 }
 
 /// Appends words and a number.
@@ -63,7 +62,7 @@ fn append_kind(row: &BankRow, text: &mut TextBuffer) -> Result<(), NoMemory>
     ensures begins { OnErr result (HasInFront text.old text.new) }
 {
     text.text(b"bank ")?;
-    append_name(row.name, text)?;
+    text.text(&visible_name(row.name))?;
     text.text(b" ")?;
     text.text(row.kind.tid().name().as_bytes())
 }

@@ -4,7 +4,7 @@ ghost use Rattle.mid_format.specs.Faults.{size_fault, header_fault, nothing_left
 use crate::records::{BEGIN_ID, END_ID, MAX_DUMP, RECORD_MASK};
 use event_header::{HEADER_BYTES, Header, MAX_DATA};
 
-/// The last place that a byte of a run file may have, 2^62.
+/// The most bytes that a run file has, 2^62.
 const MAX_PLACE: u64 = 1 << 62;
 
 /// Why bytes are no run file. Of several faults, the first in the file; at one header, the first of this order: nothing

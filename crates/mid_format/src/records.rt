@@ -8,7 +8,7 @@ pub const BEGIN_ID: u16 = 0x8000;
 /// The id of the record that ends it.
 pub const END_ID: u16 = 0x8001;
 
-/// The trigger mask of both records, "IM".
+/// The trigger mask of both records, "MI" in the bytes of a file.
 pub const RECORD_MASK: u16 = 0x494D;
 
 /// The most bytes of data that one of the two records has.

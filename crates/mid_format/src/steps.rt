@@ -1,6 +1,5 @@
-ghost use Rattle.std.specs.Prelude.{◌≡◌, ◌≤◌, ◌<◌, ◌^◌, ◌+◌, ◌↔◌, ℕ, List, [], Some, None, IfOk, IfErr, OnOk, OnErr, IsSome, IsNone};
+ghost use Rattle.std.specs.Prelude.{◌≡◌, ◌≤◌, ◌<◌, ◌^◌, ◌+◌, ◌↔◌, [], Some, None, IfOk, IfErr, OnOk, IsSome, IsNone};
 ghost use Rattle.daq_model.specs.Events.{event_limit};
-ghost use Rattle.daq_types.specs.declared.events.Event.{Event};
 ghost use Rattle.mid_format.specs.Faults.{OfSource};
 ghost use Rattle.mid_format.specs.Parts.{CountsReads, FailsInside};
 ghost use Rattle.mid_format.specs.Steps.{BeginsReading, BeginStops, FinishesReading, FinishStops, IsGoing, StepReads, Stops};

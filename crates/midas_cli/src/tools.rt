@@ -1,8 +1,8 @@
 ghost use Rattle.std.specs.Prelude.{◌≡◌, ◌≢◌, [], None};
 ghost use Rattle.daq_io.specs.Seen.{Same};
 ghost use Rattle.midas_cli.specs.Outcomes.{status_of};
-ghost use Rattle.midas_cli.specs.Tools.{IsCauseOf, ToolRan, ToolWrites, call_counts};
-ghost use Rattle.midas_tools.specs.Findings.{ClashCounts, Completes, FilesByEnd, SinkByEnd};
+ghost use Rattle.midas_cli.specs.Tools.{IsCauseOf, ToolRan, ToolWrites};
+ghost use Rattle.midas_tools.specs.Findings.{EndsBy, call_counts};
 
 use crate::causes::Cause;
 use crate::outcome::Outcome;
@@ -37,13 +37,11 @@ fn call_tool<F: Files, K: Sink>(
     name: &FileName,
     out: &mut K,
 ) -> (ToolEnd, F)
-    ensures writes { ToolWrites tool (F.seen files) name.now (F.bytes_read files)
-        (F.bytes_read result.1) (K.written out.old) (K.written out.new) result.0 }
-    ensures sink { SinkByEnd result.0 (K.faults out.old) (K.faults out.new) }
-    ensures faults { FilesByEnd result.0 (F.faults files) (F.faults result.1) }
-    ensures complete { Completes (F.seen files) name.now (K.faults out.old) (K.faults out.new)
-        (F.faults files) (F.faults result.1) result.0 }
-    ensures clashes { ClashCounts result.0 (F.clashes files) (F.clashes result.1) }
+    ensures writes { ToolWrites tool (F.seen files) name.now (call_counts K.faults F.faults
+        F.clashes F.bytes_read out.old out.new files result.1) (K.written out.old)
+        (K.written out.new) result.0 }
+    ensures ends { EndsBy result.0 (F.seen files) name.now (call_counts K.faults F.faults F.clashes
+        F.bytes_read out.old out.new files result.1) }
     ensures same { Same (F.seen files) (F.seen result.1) }
 {
     match tool {
@@ -62,7 +60,8 @@ pub fn run_tool<S, K: Sink, F: Files, E, C, P>(
     ensures status { result.0.status ≡ status_of result.0.cause }
     ensures ran { ToolRan call.tool (F.seen outside.run_files) call.name (K.written outside.out)
         (K.written result.1.out)
-        (call_counts K.faults F.faults F.clashes F.bytes_read outside result.1)
+        (call_counts K.faults F.faults F.clashes F.bytes_read outside.out result.1.out
+        outside.run_files result.1.run_files)
         (F.first result.1.run_files) result.0.cause }
     ensures same { Same (F.seen outside.run_files) (F.seen result.1.run_files) }
     ensures session { result.0.session ≡ None }

@@ -10,8 +10,9 @@ ghost use Rattle.daq_session.specs.Sessions.{RunsScript};
 ghost use Rattle.daq_session.specs.declared.ends.ScriptEnd.{ScriptEnd};
 ghost use Rattle.midas_cli.specs.Generating.{Generates};
 ghost use Rattle.midas_cli.specs.Outcomes.{script_cause, status_of};
-ghost use Rattle.midas_cli.specs.Tools.{ToolRan, call_counts};
+ghost use Rattle.midas_cli.specs.Tools.{ToolRan};
 ghost use Rattle.midas_cli.specs.Usages.{usage_line};
+ghost use Rattle.midas_tools.specs.Findings.{call_counts};
 
 use crate::causes::Cause;
 use crate::generating::generate;
@@ -57,7 +58,8 @@ pub fn midas<
     ensures tool { (tool : Tool) → (name : List ℕ) → IsOnFile tool name words.now
         → ToolRan tool (F.seen outside.run_files) name (K.written outside.out)
         (K.written result.1.out)
-        (call_counts K.faults F.faults F.clashes F.bytes_read outside result.1)
+        (call_counts K.faults F.faults F.clashes F.bytes_read outside.out result.1.out
+        outside.run_files result.1.run_files)
         (F.first result.1.run_files) result.0.cause
         ⊎ ((result.0.cause ≡ Cause.NoMemory) × (result.1 ≡ outside)) }
     // The words `gen N`: the script of N is written.

@@ -1,4 +1,4 @@
--- A run file leads to the end `Done`.
+-- A run file leads to the end `Done`, and what else is said of an end.
 use Rattle.std.proofs.Common.{◌≡◌, ◌∙◌, ℕ, ◌^◌, ◌≤◌, List, ◌++◌, length, Option, Some, None, true, false, inl, inr, refl, ap, sym, subst}
 use Rattle.std.specs.Prelude.{IsNone}
 use Rattle.daq_types.specs.declared.events.Event.{Event}
@@ -10,7 +10,7 @@ use Rattle.mid_format.proofs.ReadLaws.{whole_no_fault}
 use Rattle.mid_format.specs.declared.faults.MidFault.{MidFault}
 use Rattle.midas_tools.specs.Summaries.{Tells}
 use Rattle.midas_tools.specs.Dumps.{IsDump, WritesOn}
-use Rattle.midas_tools.specs.Findings.{IsThere, IsRun, HasRun, Completes, Finds, Writes, SinkByEnd, FilesByEnd}
+use Rattle.midas_tools.specs.Findings.{IsThere, IsRun, HasRun, CallCounts, Completes, EndsBy, Finds, Writes, ClashCounts, FilesByEnd, SinkByEnd}
 use Rattle.midas_tools.specs.declared.ends.InputFault.{InputFault}
 use Rattle.midas_tools.specs.declared.ends.InputFault.TheVariants.{Mid, Compressed, Missing, ScriptTooLong}
 use Rattle.midas_tools.specs.declared.ends.ToolEnd.{ToolEnd}
@@ -38,13 +38,22 @@ module _ (Text : ℕ → List Event → ℕ → List ℕ) where
   tells_faults : (bytes : List ℕ) (f : MidFault) (text : List ℕ) → Tells Text bytes (Some f) text → IsMidFault bytes f
   tells_faults bytes f text c = c.0
 
-  pub tells_completes : (seen : Seen) (name : List ℕ) (told_old told_new : Option (List ℕ)) (sink_old sink_new files_old files_new : ℕ) (end : ToolEnd) → Writes (Tells Text) seen name told_old told_new end
+  tells_completes : (seen : Seen) (name : List ℕ) (told_old told_new : Option (List ℕ)) (sink_old sink_new files_old files_new : ℕ) (end : ToolEnd) → Writes (Tells Text) seen name told_old told_new end
       → SinkByEnd end sink_old sink_new → FilesByEnd end files_old files_new → Completes seen name sink_old sink_new files_old files_new end
   tells_completes seen name told_old told_new sink_old sink_new files_old files_new Done w s f = λ h calm_sink calm_files. inl refl
   tells_completes seen name told_old told_new sink_old sink_new files_old files_new (Input fault) w s f = λ h calm_sink calm_files. absurd (no_input (Tells Text) tells_faults seen name w.text fault h w.finds)
   tells_completes seen name told_old told_new sink_old sink_new files_old files_new FileFault w s f = λ h calm_sink calm_files. absurd (calm_files f)
   tells_completes seen name told_old told_new sink_old sink_new files_old files_new SinkFault w s f = λ h calm_sink calm_files. absurd (calm_sink s)
   tells_completes seen name told_old told_new sink_old sink_new files_old files_new NoMemory w s f = λ h calm_sink calm_files. inr refl
+
+  pub tells_ends : (seen : Seen) (name : List ℕ) (told_old told_new : Option (List ℕ)) (counts : CallCounts) (end : ToolEnd) → Writes (Tells Text) seen name told_old told_new end → SinkByEnd end counts.sink_old counts.sink_new
+      → FilesByEnd end counts.files_old counts.files_new → ClashCounts end counts.clashes_old counts.clashes_new → EndsBy end seen name counts
+  tells_ends seen name told_old told_new counts end w s f c = record {
+    sink = s;
+    files = f;
+    completes = tells_completes seen name told_old told_new counts.sink_old counts.sink_new counts.files_old counts.files_new end w s f;
+    clashes = c;
+  }
 
 stands_fault : (bytes front rest : List ℕ) (last begin : Option Header) (events : List Event) (f : MidFault) → bytes ≡ front ++ rest → IsReadSoFar front begin last events → length front ≤ 2 ^ 62 → IsFaultAt last begin (length front) rest f → IsMidFault bytes f
 stands_fault bytes front rest None None events f is d counted s =
@@ -58,10 +67,19 @@ stands_fault bytes front rest (Some end) (Some b) events f is d counted s =
 dump_faults : (bytes : List ℕ) (f : MidFault) (text : List ℕ) → IsDump bytes (Some f) text → IsMidFault bytes f
 dump_faults bytes f text d = stands_fault bytes d.lists.front d.rest d.last d.begin d.lists.events f d.lists.bytes_are d.lists.is_done d.counted d.ends
 
-pub dump_completes : (seen : Seen) (name : List ℕ) (read_old read_new : ℕ) (told_old told_new : Option (List ℕ)) (sink_old sink_new files_old files_new : ℕ) (end : ToolEnd) → WritesOn seen name read_old read_new told_old told_new end
+dump_completes : (seen : Seen) (name : List ℕ) (read_old read_new : ℕ) (told_old told_new : Option (List ℕ)) (sink_old sink_new files_old files_new : ℕ) (end : ToolEnd) → WritesOn seen name read_old read_new told_old told_new end
     → SinkByEnd end sink_old sink_new → FilesByEnd end files_old files_new → Completes seen name sink_old sink_new files_old files_new end
 dump_completes seen name read_old read_new told_old told_new sink_old sink_new files_old files_new Done w s f = λ h calm_sink calm_files. inl refl
 dump_completes seen name read_old read_new told_old told_new sink_old sink_new files_old files_new (Input fault) w s f = λ h calm_sink calm_files. absurd (no_input IsDump dump_faults seen name w.text fault h w.finds)
 dump_completes seen name read_old read_new told_old told_new sink_old sink_new files_old files_new FileFault w s f = λ h calm_sink calm_files. absurd (calm_files f)
 dump_completes seen name read_old read_new told_old told_new sink_old sink_new files_old files_new SinkFault w s f = λ h calm_sink calm_files. absurd (calm_sink s)
 dump_completes seen name read_old read_new told_old told_new sink_old sink_new files_old files_new NoMemory w s f = λ h calm_sink calm_files. inr refl
+
+pub dump_ends : (seen : Seen) (name : List ℕ) (told_old told_new : Option (List ℕ)) (counts : CallCounts) (end : ToolEnd) → WritesOn seen name counts.read_old counts.read_new told_old told_new end → SinkByEnd end counts.sink_old counts.sink_new
+    → FilesByEnd end counts.files_old counts.files_new → ClashCounts end counts.clashes_old counts.clashes_new → EndsBy end seen name counts
+dump_ends seen name told_old told_new counts end w s f c = record {
+  sink = s;
+  files = f;
+  completes = dump_completes seen name counts.read_old counts.read_new told_old told_new counts.sink_old counts.sink_new counts.files_old counts.files_new end w s f;
+  clashes = c;
+}

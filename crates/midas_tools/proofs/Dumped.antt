@@ -165,8 +165,8 @@ module _ (seen : Seen) (name : List ℕ) (read_old read_new : ℕ) (told_old tol
     dump_closed after files_old files_new (Input Missing) result d front c = absurd d
     dump_closed after files_old files_new (Input ScriptTooLong) result d front c = absurd d
     dump_closed after files_old files_new FileFault result d front c = subst (λ (e : ToolEnd). Writes e) (sym c.0) (o.plain, inl (read_written after d front))
-    dump_closed after files_old files_new SinkFault result (inl d) front c = subst (λ (e : ToolEnd). Writes e) (sym c) (inr (o.plain, some_written d))
-    dump_closed after files_old files_new SinkFault result (inr d) front c = subst (λ (e : ToolEnd). Writes e) (sym c) (inl (part_written d))
+    dump_closed after files_old files_new SinkFault result (inl d) front c = subst (λ (e : ToolEnd). Writes e) (sym c.0) (inr (o.plain, some_written d))
+    dump_closed after files_old files_new SinkFault result (inr d) front c = subst (λ (e : ToolEnd). Writes e) (sym c.0) (inl (part_written d))
     dump_closed after files_old files_new NoMemory result d front c = absurd d
 
     -- the source that was read is the one that was opened
@@ -188,7 +188,7 @@ pub closed_has_memory : (source now told_old told_new : Option (List ℕ)) (file
 closed_has_memory source now told_old told_new files_old files_new Done result d c = done_or_failed files_old files_new Done result (λ e. absurd cc) c
 closed_has_memory source now told_old told_new files_old files_new (Input fault) result d c = done_or_failed files_old files_new (Input fault) result (λ e. absurd cc) c
 closed_has_memory source now told_old told_new files_old files_new FileFault result d c = λ e. let clash : FileFault ≡ NoMemory = sym c.0 ∙ e in absurd cc
-closed_has_memory source now told_old told_new files_old files_new SinkFault result d c = λ e. let clash : SinkFault ≡ NoMemory = sym c ∙ e in absurd cc
+closed_has_memory source now told_old told_new files_old files_new SinkFault result d c = λ e. let clash : SinkFault ≡ NoMemory = sym c.0 ∙ e in absurd cc
 closed_has_memory source now told_old told_new files_old files_new NoMemory result d c = absurd d
 
 printed_has_memory : (text : List ℕ) (told_old told_new : Option (List ℕ)) (sink_old sink_new : ℕ) (end result : ToolEnd) → end ≢ NoMemory → Printed text told_old told_new sink_old sink_new end result → result ≢ NoMemory

@@ -44,8 +44,7 @@ module _ (sink_old sink_new : ℕ) where
     finished_sink Says source (Input fault) result r f = finished_after (Input fault) result (λ calm. calm) f
     finished_sink Says source FileFault result r f = by_sink FileFault result f.0.0 f.0.2
     finished_sink Says source SinkFault result r f = absurd r
-    finished_sink Says source NoMemory result r (inl short) = by_sink NoMemory result short.0.0 short.0.2
-    finished_sink Says source NoMemory result r (inr failed) = by_sink FileFault result failed.0.0 failed.0.2
+    finished_sink Says source NoMemory result r f = by_sink NoMemory result f.0.0 f.0.2
 
   module _ (files_old files_new : ℕ) where
     closed_after : (end result : ToolEnd) → sink_new ≡ sink_old → SinkByEnd end sink_old sink_new → ClosesWell files_old files_new end result → SinkByEnd result sink_old sink_new
@@ -56,8 +55,8 @@ module _ (sink_old sink_new : ℕ) where
     closed_sink Done result counts c = closed_after Done result counts counts c
     closed_sink (Input fault) result counts c = closed_after (Input fault) result counts counts c
     closed_sink FileFault result counts c = by_sink FileFault result c.0 counts
-    closed_sink SinkFault result counts c = by_sink SinkFault result c counts
-    closed_sink NoMemory result counts c = closed_after NoMemory result counts counts c
+    closed_sink SinkFault result counts c = by_sink SinkFault result c.0 counts
+    closed_sink NoMemory result counts c = by_sink NoMemory result c.0 counts
 
 -- The files' count, from before the file was opened
 
@@ -86,8 +85,7 @@ module _ (first new : ℕ) where
       finished_files (Input fault) result s f = finished_counts (Input fault) result s (λ same. same) f
       finished_files FileFault result s f = by_files FileFault result f.0.0 (rose_later first old new s f.1)
       finished_files SinkFault result s f = by_files SinkFault result f.0.0 tt
-      finished_files NoMemory result s (inl short) = by_files NoMemory result short.0.0 (short.1 ∙ s)
-      finished_files NoMemory result s (inr failed) = by_files FileFault result failed.0.0 (rose_from first old new s failed.1)
+      finished_files NoMemory result s f = by_files NoMemory result f.0.0 (subst (λ (n : ℕ). n ≤ new) s f.1)
 
     closed_counts : (end result : ToolEnd) → old ≡ first → (new ≡ first → FilesByEnd end first new) → ClosesWell old new end result → FilesByEnd result first new
     closed_counts end result same counts (inl well) = by_files end result well.0 (counts (well.1 ∙ same))
@@ -97,7 +95,7 @@ module _ (first new : ℕ) where
     closed_files Done result s c = closed_counts Done result s (λ same. same) c
     closed_files (Input fault) result s c = closed_counts (Input fault) result s (λ same. same) c
     closed_files FileFault result s c = by_files FileFault result c.0 (rose_later first old new s c.1)
-    closed_files SinkFault result s c = by_files SinkFault result c tt
+    closed_files SinkFault result s c = by_files SinkFault result c.0 tt
     closed_files NoMemory result s c = absurd s
 
 -- The count of clashes
@@ -132,8 +130,7 @@ module _ (clashes_old clashes_new : ℕ) where
       finished_clashes Says source (Input ScriptTooLong) result r f = absurd r
       finished_clashes Says source FileFault result r f = by_clashes FileFault result f.0.0 tt
       finished_clashes Says source SinkFault result r f = absurd r
-      finished_clashes Says source NoMemory result r (inl short) = by_clashes NoMemory result short.0.0 tt
-      finished_clashes Says source NoMemory result r (inr failed) = by_clashes FileFault result failed.0.0 tt
+      finished_clashes Says source NoMemory result r f = by_clashes NoMemory result f.0.0 tt
 
     closed_so : (end result : ToolEnd) → ClashCounts end clashes_old clashes_new → ClosesWell files_old files_new end result → ClashCounts result clashes_old clashes_new
     closed_so end result counts (inl well) = by_clashes end result well.0 counts
@@ -146,5 +143,5 @@ module _ (clashes_old clashes_new : ℕ) where
     closed_clashes source now told_old told_new (Input Missing) result d c = absurd d
     closed_clashes source now told_old told_new (Input ScriptTooLong) result d c = absurd d
     closed_clashes source now told_old told_new FileFault result d c = by_clashes FileFault result c.0 tt
-    closed_clashes source now told_old told_new SinkFault result d c = by_clashes SinkFault result c tt
+    closed_clashes source now told_old told_new SinkFault result d c = by_clashes SinkFault result c.0 tt
     closed_clashes source now told_old told_new NoMemory result d c = absurd d

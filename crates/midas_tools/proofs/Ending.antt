@@ -60,5 +60,4 @@ module _ (Says : List ℕ → Option MidFault → List ℕ → Type 0) (seen : S
     writes_read (Input ScriptTooLong) result r f = absurd r
     writes_read FileFault result r f = subst (λ (e : ToolEnd). Writes Says seen name told_old told_new e) (sym f.0.0) (o.plain, f.0.1)
     writes_read SinkFault result r f = absurd r
-    writes_read NoMemory result r (inl short) = subst (λ (e : ToolEnd). Writes Says seen name told_old told_new e) (sym short.0.0) (o.plain, short.0.1, o.opens.there)
-    writes_read NoMemory result r (inr failed) = subst (λ (e : ToolEnd). Writes Says seen name told_old told_new e) (sym failed.0.0) (o.plain, failed.0.1)
+    writes_read NoMemory result r f = subst (λ (e : ToolEnd). Writes Says seen name told_old told_new e) (sym f.0.0) (o.plain, f.0.1, o.opens.there)

@@ -85,14 +85,14 @@ SinkByEnd FileFault old new = new ≡ old
 SinkByEnd SinkFault old new = Rose old new
 SinkByEnd NoMemory old new = new ≡ old
 
--- the files' count: it rose exactly where a call on them failed and the sink did not; so a fault of theirs comes before
--- want of memory, also where it comes later
+-- the files' count: it rose exactly where a call on them failed, unless the sink failed or memory was wanting, which are
+-- earlier causes: a close that fails behind one of these does not turn it
 abbrev pub FilesByEnd : ToolEnd → (old new : ℕ) → Type 0
 FilesByEnd Done old new = new ≡ old
 FilesByEnd (Input fault) old new = new ≡ old
 FilesByEnd FileFault old new = Rose old new
 FilesByEnd SinkFault old new = ⊤
-FilesByEnd NoMemory old new = new ≡ old
+FilesByEnd NoMemory old new = old ≤ new
 
 -- a missing name is counted as a clash
 abbrev pub ClashCounts : ToolEnd → (old new : ℕ) → Type 0
@@ -104,6 +104,38 @@ ClashCounts (Input ScriptTooLong) old new = ⊥
 ClashCounts FileFault old new = ⊤
 ClashCounts SinkFault old new = ⊤
 ClashCounts NoMemory old new = ⊤
+
+-- The counts of faults, of clashes and of bytes that were read, before a call and behind it.
+pub record CallCounts : Type 0 where
+  pub sink_old : ℕ
+  pub sink_new : ℕ
+  pub files_old : ℕ
+  pub files_new : ℕ
+  pub clashes_old : ℕ
+  pub clashes_new : ℕ
+  pub read_old : ℕ
+  pub read_new : ℕ
+
+-- the same, of what a sink and files count
+abbrev pub call_counts : {K F : Type 0} → (sink_faults : K → ℕ) → (faults clashes bytes_read : F → ℕ) → (out_old out_new : K) → (files_old files_new : F) → CallCounts
+call_counts sink_faults faults clashes bytes_read out_old out_new files_old files_new = record {
+  sink_old = sink_faults out_old;
+  sink_new = sink_faults out_new;
+  files_old = faults files_old;
+  files_new = faults files_new;
+  clashes_old = clashes files_old;
+  clashes_new = clashes files_new;
+  read_old = bytes_read files_old;
+  read_new = bytes_read files_new;
+}
+
+-- The end of a tool comes by its cause: a fault exactly where its count rose and no earlier cause holds, a missing file with
+-- a clash, and of a run file `Done`, unless a call failed or there was no memory.
+pub record EndsBy (end : ToolEnd) (seen : Seen) (name : List ℕ) (counts : CallCounts) : Type 0 where
+  pub sink : SinkByEnd end counts.sink_old counts.sink_new
+  pub files : FilesByEnd end counts.files_old counts.files_new
+  pub completes : Completes seen name counts.sink_old counts.sink_new counts.files_old counts.files_new end
+  pub clashes : ClashCounts end counts.clashes_old counts.clashes_new
 
 -- What was read of the source, by the end that it leads to.
 abbrev pub ReadsTo : (Says : List ℕ → Option MidFault → List ℕ → Type 0) (source : Option (List ℕ)) (text : List ℕ) → ToolEnd → Type 0
@@ -157,18 +189,13 @@ abbrev pub PrintsClosed : (text : List ℕ) (told_old told_new : Option (List �
 PrintsClosed text told_old told_new sink_old sink_new files_old files_new end result =
     (Printed text told_old told_new sink_old sink_new end result × (files_new ≡ files_old)) ⊎ (Unprinted told_old told_new sink_old sink_new FileFault result × Rose files_old files_new)
 
--- A file of which no text was found for want of memory is closed, and nothing is printed.
-abbrev pub ClosesShort : (told_old told_new : Option (List ℕ)) (sink_old sink_new files_old files_new : ℕ) (result : ToolEnd) → Type 0
-ClosesShort told_old told_new sink_old sink_new files_old files_new result =
-    (Unprinted told_old told_new sink_old sink_new NoMemory result × (files_new ≡ files_old))
-    ⊎ (Unprinted told_old told_new sink_old sink_new FileFault result × Rose files_old files_new)
-
+-- A file that was read to this end is closed. Where it has no text, for a fault or for want of memory, that stays the end.
 abbrev pub FinishesFile : (text : List ℕ) (told_old told_new : Option (List ℕ)) (sink_old sink_new files_old files_new : ℕ) (end result : ToolEnd) → Type 0
 FinishesFile text told_old told_new sink_old sink_new files_old files_new Done result = PrintsClosed text told_old told_new sink_old sink_new files_old files_new Done result
 FinishesFile text told_old told_new sink_old sink_new files_old files_new (Input fault) result = PrintsClosed text told_old told_new sink_old sink_new files_old files_new (Input fault) result
 FinishesFile text told_old told_new sink_old sink_new files_old files_new FileFault result = Unprinted told_old told_new sink_old sink_new FileFault result × (files_old ≤ files_new)
 FinishesFile text told_old told_new sink_old sink_new files_old files_new SinkFault result = Unprinted told_old told_new sink_old sink_new SinkFault result × (files_old ≤ files_new)
-FinishesFile text told_old told_new sink_old sink_new files_old files_new NoMemory result = ClosesShort told_old told_new sink_old sink_new files_old files_new result
+FinishesFile text told_old told_new sink_old sink_new files_old files_new NoMemory result = Unprinted told_old told_new sink_old sink_new NoMemory result × (files_old ≤ files_new)
 
 -- How the reading of a file ends at this fault of it: its line is put on the page, unless the source failed or there is
 -- no memory.
@@ -182,8 +209,7 @@ FaultEnds fault page_old page_new FileFault = (fault ≡ ReadFault) × (page_new
 FaultEnds fault page_old page_new SinkFault = ⊥
 FaultEnds fault page_old page_new NoMemory = fault ≢ ReadFault
 
--- A file that was read to this end is closed: the end stays, unless the close failed behind an end without a fault of
--- the files or of the sink.
+-- A file that was read to this end is closed: the end stays, unless nothing failed before the close and the close did.
 abbrev pub ClosesWell : (files_old files_new : ℕ) (end result : ToolEnd) → Type 0
 ClosesWell files_old files_new end result = ((result ≡ end) × (files_new ≡ files_old)) ⊎ ((result ≡ FileFault) × Rose files_old files_new)
 
@@ -191,5 +217,5 @@ abbrev pub ClosedAs : (end : ToolEnd) (files_old files_new : ℕ) (result : Tool
 ClosedAs Done files_old files_new result = ClosesWell files_old files_new Done result
 ClosedAs (Input fault) files_old files_new result = ClosesWell files_old files_new (Input fault) result
 ClosedAs FileFault files_old files_new result = (result ≡ FileFault) × (files_old ≤ files_new)
-ClosedAs SinkFault files_old files_new result = result ≡ SinkFault
-ClosedAs NoMemory files_old files_new result = ClosesWell files_old files_new NoMemory result
+ClosedAs SinkFault files_old files_new result = (result ≡ SinkFault) × (files_old ≤ files_new)
+ClosedAs NoMemory files_old files_new result = (result ≡ NoMemory) × (files_old ≤ files_new)

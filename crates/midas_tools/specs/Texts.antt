@@ -1,7 +1,6 @@
 -- The lines that the tools print. A number is decimal, without zeros in front; each line ends with the byte 10.
-use Rattle.std.specs.Prelude.{ℕ, ◌==◌, List, [], ◌∷◌, ◌++◌, length, map, find, Option, Some, None, codes, if◌then◌else◌}
+use Rattle.std.specs.Prelude.{ℕ, ◌==◌, List, [], ◌∷◌, ◌++◌, length, map, find, Option, Some, None, codes}
 use Rattle.std.specs.Fmt.{decimal}
-use Rattle.daq_types.specs.Names.{is_file_byte}
 use Rattle.daq_types.specs.Tids.{tid_code, tid_name}
 use Rattle.daq_types.specs.declared.types.Tid.{Tid}
 use Rattle.daq_types.specs.declared.types.Tid.TheVariants.{UInt8, Int8, Char, UInt16, Int16, UInt32, Int32, Bool as bool_type, Float, Double, BitField, Text, Array, Struct, Key, Link, Int64, UInt64}
@@ -10,6 +9,7 @@ use Rattle.event_header.specs.declared.head.Header.{Header}
 use Rattle.bank_format.specs.BankAreas.{BankValue}
 use Rattle.bank_format.specs.declared.faults.BankFault.{BankFault}
 use Rattle.bank_format.specs.declared.faults.BankFault.TheVariants.{Short, BadFlags, BadSize}
+use Rattle.event_report.specs.Texts.{visible}
 use Rattle.mid_format.specs.declared.faults.MidFault.{MidFault}
 use Rattle.mid_format.specs.declared.faults.MidFault.TheVariants.{Truncated, NoBegin, NoEnd, AfterEnd, TooBig, ReadFault, BadRecord, TooLong}
 use Rattle.midas_tools.specs.declared.ends.InputFault.{InputFault}
@@ -57,10 +57,6 @@ record_line word h = word ++ (number_text h.serial_number ++ (number_text h.time
 abbrev pub event_line : Event → List ℕ
 event_line e = codes "event" ++ (number_text e.id ++ (number_text e.mask ++ (number_text e.serial ++ (number_text e.time ++ (number_text (length e.body) ++ 10 ∷ [])))))
 
--- a byte of a bank's name as it is printed: a point where it is no visible character
-unfoldable pub shown : ℕ → ℕ
-shown byte = if is_file_byte byte then byte else 46
-
 -- all types
 abbrev pub all_types : List Tid
 all_types =
@@ -80,7 +76,7 @@ type_text code = name_or (type_of code) code
 
 -- a bank: name, type, and the bytes of its data
 abbrev pub bank_line : BankValue → List ℕ
-bank_line b = codes "  bank " ++ (map shown b.name ++ (32 ∷ (type_text b.tid ++ (number_text (length b.body) ++ 10 ∷ []))))
+bank_line b = codes "  bank " ++ (map visible b.name ++ (32 ∷ (type_text b.tid ++ (number_text (length b.body) ++ 10 ∷ []))))
 
 -- why data are no bank area
 abbrev pub area_fault_text : BankFault → List ℕ

@@ -2,7 +2,7 @@ ghost use Rattle.std.specs.Prelude.{◌≡◌};
 ghost use Rattle.daq_io.specs.Seen.{Same};
 ghost use Rattle.event_report.specs.Reports.{report_of};
 ghost use Rattle.midas_tools.specs.Analyses.{Analyzes, analysis_text};
-ghost use Rattle.midas_tools.specs.Findings.{ClashCounts, Completes, FilesByEnd, SinkByEnd, Writes};
+ghost use Rattle.midas_tools.specs.Findings.{EndsBy, Writes, call_counts};
 
 use crate::ends::ToolEnd;
 use crate::lines::add_run;
@@ -55,13 +55,10 @@ pub fn analyze_file<F: Files, K: Sink>(
     // What was found, and what was written of it.
     ensures writes { Writes Analyzes (F.seen files) name.now (K.written out.old)
         (K.written out.new) result.0 }
-    // A fault is the end exactly where its count rose and no earlier cause holds.
-    ensures sink { SinkByEnd result.0 (K.faults out.old) (K.faults out.new) }
-    ensures faults { FilesByEnd result.0 (F.faults files) (F.faults result.1) }
-    // A run file leads to the end `Done`, unless a call failed or there was no memory.
-    ensures complete { Completes (F.seen files) name.now (K.faults out.old) (K.faults out.new)
-        (F.faults files) (F.faults result.1) result.0 }
-    ensures clashes { ClashCounts result.0 (F.clashes files) (F.clashes result.1) }
+    // A fault is the end exactly where its count rose and no earlier cause holds, and a run file leads to the end `Done`,
+    // unless a call failed or there was no memory.
+    ensures ends { EndsBy result.0 (F.seen files) name.now (call_counts K.faults F.faults F.clashes
+        F.bytes_read out.old out.new files result.1) }
     ensures same { Same (F.seen files) (F.seen result.1) }
 {
     tell_file::<_, _, Analysis>(alloc, files, name, out)

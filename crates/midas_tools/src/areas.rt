@@ -1,4 +1,3 @@
-ghost use Rattle.std.specs.Prelude.{◌≡◌};
 ghost use Rattle.daq_io.specs.Counts.{CountsFault};
 ghost use Rattle.event_header.specs.Headers.{event_of};
 ghost use Rattle.midas_tools.specs.Areas.{AreEventLines, PassesLines, bank_lines};

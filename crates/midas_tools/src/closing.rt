@@ -54,6 +54,20 @@ pub fn stop_at(fault: MidFault, page: &mut TextBuffer) -> ToolEnd
     }
 }
 
+/// Closes the file, whose reading came to this end. A close that fails is the end only where nothing else failed.
+pub fn close_file<F: Files>(end: ToolEnd, source: FileSource<F>) -> (ToolEnd, F)
+    ensures closed { ClosedAs end (F.faults source.files) (F.faults result.1) result.0 }
+    ensures front { IsTrue (F.seen source.first).tells → ReadsFirst (F.seen source.first)
+        (F.seen source.files) source.number (F.bytes_read source.first) (F.bytes_read result.1) }
+    ensures ended { Ends (F.seen source.first) (F.seen result.1) source.number }
+{
+    let (closed, files) = close(source);
+    match (end, closed) {
+        (ToolEnd::Done | ToolEnd::Input(_), Err(_)) => (ToolEnd::FileFault, files),
+        _ => (end, files),
+    }
+}
+
 /// Closes the file, whose reading came to this end, and then writes the text on the page, unless there was a fault.
 pub fn finish<F: Files, K: Sink>(
     end: ToolEnd,
@@ -66,28 +80,9 @@ pub fn finish<F: Files, K: Sink>(
         result.0 }
     ensures ended { Ends (F.seen source.first) (F.seen result.1) source.number }
 {
-    let (closed, files) = close(source);
-    match (end, closed) {
-        (ToolEnd::Done | ToolEnd::Input(_), Ok(())) => (print(end, page.as_slice(), out), files),
-        (ToolEnd::Done | ToolEnd::Input(_) | ToolEnd::NoMemory, Err(_)) => {
-            (ToolEnd::FileFault, files)
-        }
-        _ => (end, files),
-    }
-}
-
-/// Closes the file, of which all was printed that there was to print.
-pub fn close_dump<F: Files>(end: ToolEnd, source: FileSource<F>) -> (ToolEnd, F)
-    ensures closed { ClosedAs end (F.faults source.files) (F.faults result.1) result.0 }
-    ensures front { IsTrue (F.seen source.first).tells → ReadsFirst (F.seen source.first)
-        (F.seen source.files) source.number (F.bytes_read source.first) (F.bytes_read result.1) }
-    ensures ended { Ends (F.seen source.first) (F.seen result.1) source.number }
-{
-    let (closed, files) = close(source);
-    match (end, closed) {
-        (ToolEnd::Done | ToolEnd::Input(_) | ToolEnd::NoMemory, Err(_)) => {
-            (ToolEnd::FileFault, files)
-        }
+    let (end, files) = close_file(end, source);
+    match end {
+        ToolEnd::Done | ToolEnd::Input(_) => (print(end, page.as_slice(), out), files),
         _ => (end, files),
     }
 }

@@ -1,4 +1,4 @@
-ghost use Rattle.std.specs.Prelude.{◌≡◌, ◌≤◌, ◌<◌, ◌++◌, ℕ, List, [], Option, IfOk, OnOk, OnErr, vec_len};
+ghost use Rattle.std.specs.Prelude.{◌≡◌, ◌≤◌, ◌<◌, ℕ, List, [], Option, IfOk, OnOk, OnErr, vec_len};
 ghost use Rattle.std.specs.Io.KnownBytes.{Appends};
 ghost use Rattle.daq_io.specs.Counts.{CountsFault};
 ghost use Rattle.daq_io.specs.Seen.{Same};
@@ -6,12 +6,12 @@ ghost use Rattle.daq_io.specs.Streams.{AppendsPart};
 ghost use Rattle.daq_model.specs.Events.{event_limit};
 ghost use Rattle.mid_format.specs.HasRead.{nothing_read};
 ghost use Rattle.midas_tools.specs.Dumps.{DumpsTo, EndsText, HandEnds, HandHalts, ListsTo, Printing, PrintsOn, ReadCounts, SinkHalts, SourceHalts, WritesOn, end_lines, end_of, ended_text, fault_lines, new_begin};
-ghost use Rattle.midas_tools.specs.Findings.{ClashCounts, Completes, FilesByEnd, SinkByEnd};
-ghost use Rattle.midas_tools.specs.Printing.{PassesText, PrintsSoFar};
+ghost use Rattle.midas_tools.specs.Findings.{EndsBy, SinkByEnd, call_counts};
+ghost use Rattle.midas_tools.specs.Printing.{PassesText};
 
 use crate::areas::print_event;
 use crate::blocks::new_block;
-use crate::closing::{close_dump, refuse};
+use crate::closing::{close_file, refuse};
 use crate::ends::{InputFault, ToolEnd};
 use crate::halts::Halt;
 use crate::lines::{bad_line, record_line};
@@ -253,15 +253,12 @@ pub fn dump_file<F: Files, K: Sink>(
     // What was found, and what was written of it.
     ensures writes { WritesOn (F.seen files) name.now (F.bytes_read files)
         (F.bytes_read result.1) (K.written out.old) (K.written out.new) result.0 }
-    // A fault is the end exactly where its count rose and no earlier cause holds.
-    ensures sink { SinkByEnd result.0 (K.faults out.old) (K.faults out.new) }
-    ensures faults { FilesByEnd result.0 (F.faults files) (F.faults result.1) }
-    // A run file leads to the end `Done`, unless a call failed or there was no memory.
-    ensures complete { Completes (F.seen files) name.now (K.faults out.old) (K.faults out.new)
-        (F.faults files) (F.faults result.1) result.0 }
-    ensures clashes { ClashCounts result.0 (F.clashes files) (F.clashes result.1) }
-    // Where memory is wanting the name was not looked for.
-    ensures unclashed { result.0 ≡ ToolEnd.NoMemory → F.clashes result.1 ≡ F.clashes files }
+    // A fault is the end exactly where its count rose and no earlier cause holds, and a run file leads to the end `Done`,
+    // unless a call failed or there was no memory.
+    ensures ends { EndsBy result.0 (F.seen files) name.now (call_counts K.faults F.faults F.clashes
+        F.bytes_read out.old out.new files result.1) }
+    // Where memory is wanting the files were not called.
+    ensures uncalled { result.0 ≡ ToolEnd.NoMemory → result.1 ≡ files }
     ensures same { Same (F.seen files) (F.seen result.1) }
 {
     if name.compressed() {
@@ -273,7 +270,7 @@ pub fn dump_file<F: Files, K: Sink>(
     match open(files, name) {
         Ok(source) => {
             let (end, source) = dump_source(source, room, out);
-            close_dump(end, source)
+            close_file(end, source)
         }
         Err((refused, files)) => (refuse(refused, out), files),
     }

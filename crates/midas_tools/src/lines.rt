@@ -1,9 +1,9 @@
-ghost use Rattle.std.specs.Prelude.{◌≡◌, ◌≤◌, ◌+◌, ◌++◌, length, OnOk, map};
+ghost use Rattle.std.specs.Prelude.{◌≡◌, ◌≤◌, ◌+◌, ◌++◌, length, OnOk};
 ghost use Rattle.bank_format.specs.BankAreas.{bank_value};
 ghost use Rattle.daq_io.specs.Counts.{CountsFault};
 ghost use Rattle.event_header.specs.Headers.{event_of};
 ghost use Rattle.midas_tools.specs.Printing.{PassesText};
-ghost use Rattle.midas_tools.specs.Texts.{area_fault_text, bad_line, bank_line, event_line, fault_text, no_banks_line, number_text, ok_line, record_line, run_number_line, shown};
+ghost use Rattle.midas_tools.specs.Texts.{area_fault_text, bad_line, bank_line, event_line, fault_text, no_banks_line, number_text, ok_line, record_line, run_number_line};
 
 use crate::ends::InputFault;
 use crate::line::Line;
@@ -13,6 +13,7 @@ use daq_io::{Failed, Sink};
 use daq_text::TextBuffer;
 use daq_types::NoMemory;
 use event_header::Header;
+use event_report::visible_name;
 use mid_format::MidFault;
 
 /// Adds a name and the number behind it.
@@ -106,26 +107,6 @@ pub fn print_event_line<K: Sink>(
     page.print(&line, out)
 }
 
-/// A byte of a bank's name as it is printed.
-#[tactic(auto, unfolding(crate::specs::Texts::shown))]
-fn shown(byte: u8) -> u8
-    ensures { result ≡ shown byte }
-{
-    if 33 <= byte && byte <= 126 {
-        byte
-    } else {
-        b'.'
-    }
-}
-
-/// A bank's name as it is printed.
-fn shown_name(name: [u8; 4]) -> [u8; 4]
-    ensures { result ≡ map shown name }
-{
-    let [a, b, c, d] = name;
-    [shown(a), shown(b), shown(c), shown(d)]
-}
-
 /// Prints the line of a bank.
 pub fn print_bank_line<K: Sink>(page: &mut Page, bank: &Bank, out: &mut K) -> Result<(), Failed>
     ensures passes { PassesText (K.written out.old) (K.written out.new) page.old page.new
@@ -135,7 +116,7 @@ pub fn print_bank_line<K: Sink>(page: &mut Page, bank: &Bank, out: &mut K) -> Re
     let mut line = Line::new();
     line.blank_number(bank.body.len() as u64);
     line.blank_type(bank.tid);
-    line.put(&shown_name(bank.name));
+    line.put(&visible_name(bank.name));
     line.put(b"  bank ");
     page.print(&line, out)
 }

@@ -4,7 +4,7 @@ ghost use Rattle.daq_model.specs.Events.{event_limit};
 ghost use Rattle.mid_format.specs.HasRead.{nothing_read};
 ghost use Rattle.mid_format.specs.Parts.{CountsReads};
 ghost use Rattle.midas_tools.specs.Summaries.{Meets, SumsAll, Tells};
-ghost use Rattle.midas_tools.specs.Findings.{ClashCounts, Completes, FilesByEnd, ReadsTo, SinkByEnd, SourceByEnd, Writes};
+ghost use Rattle.midas_tools.specs.Findings.{EndsBy, ReadsTo, SourceByEnd, Writes, call_counts};
 
 use crate::blocks::new_block;
 use crate::closing::{finish, refuse, stop_at};
@@ -122,11 +122,8 @@ pub fn tell_file<F: Files, K: Sink, T: Summary>(
 ) -> (ToolEnd, F)
     ensures writes { Writes (Tells T.text) (F.seen files) name.now (K.written out.old)
         (K.written out.new) result.0 }
-    ensures sink { SinkByEnd result.0 (K.faults out.old) (K.faults out.new) }
-    ensures faults { FilesByEnd result.0 (F.faults files) (F.faults result.1) }
-    ensures complete { Completes (F.seen files) name.now (K.faults out.old) (K.faults out.new)
-        (F.faults files) (F.faults result.1) result.0 }
-    ensures clashes { ClashCounts result.0 (F.clashes files) (F.clashes result.1) }
+    ensures ends { EndsBy result.0 (F.seen files) name.now (call_counts K.faults F.faults F.clashes
+        F.bytes_read out.old out.new files result.1) }
     ensures same { Same (F.seen files) (F.seen result.1) }
 {
     match open(files, name) {

@@ -1,5 +1,5 @@
-ghost use Rattle.std.specs.Prelude.{◌≡◌, ◌≢◌, ◌≤◌, ◌<◌, ◌++◌, IsOk, OnOk, OnErr, IfOk, List, ℕ, [], length, take, vec_capacity, true, false};
-ghost use Rattle.std.specs.Io.KnownBytes.{Consumes, IsAtEnd, Keeps};
+ghost use Rattle.std.specs.Prelude.{◌≡◌, ◌≤◌, ◌<◌, ◌++◌, OnErr, IfOk, [], length, take, vec_capacity, true, false};
+ghost use Rattle.std.specs.Io.KnownBytes.{Keeps};
 ghost use Rattle.std.specs.Str.Lines.{strip_carriage_return};
 ghost use Rattle.odb_script.specs.Lines.{Reading, no_line_read, script_limit};
 ghost use Rattle.daq_io.specs.Counts.{CountsFault};
@@ -50,7 +50,7 @@ pub enum NextLine {
 }
 
 impl Model for LineReader {
-    ghost use Rattle.std.specs.Prelude.{take, drop};
+    ghost use Rattle.std.specs.Prelude.{take};
     ghost use Rattle.odb_script.specs.Lines.{Reading};
 
     ghost Value = { Reading };

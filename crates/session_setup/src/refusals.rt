@@ -1,5 +1,5 @@
 ghost use Rattle.std.specs.Prelude.{◌≡◌};
-ghost use Rattle.session_setup.specs.Refusals.{first_refusal, ok_unless, refused_if};
+ghost use Rattle.session_setup.specs.Refusals.{first_refusal, refused_if};
 
 use daq_types::NameRefusal;
 
