@@ -1,4 +1,4 @@
-ghost use Rattle.std.specs.Prelude.{◌≡◌, ◌≤◌, ◌<◌, ◌+◌, ◌++◌, ◌∷◌, [], length, slice_get, IfOk, OnOk, OnErr};
+ghost use Rattle.std.specs.Prelude.{◌≡◌, ◌≤◌, ◌<◌, ◌+◌, ◌++◌, ◌∷◌, [], length, slice_get, IfOk, IfNone, OnOk, OnErr};
 ghost use Rattle.std.specs.Option.{option_copied, option_to_list};
 
 use crate::replies::FileReply;
@@ -28,7 +28,8 @@ impl Model for FileReplies {
 impl FileReplies {
     /// No entries and no room. Takes no memory.
     pub fn empty(alloc: Global) -> FileReplies
-        ensures { result.replies ≡ [] }
+        ensures empty { result.replies ≡ [] }
+        ensures room { result.room ≡ 0 }
     {
         FileReplies {
             entries: Vec::new(alloc),
@@ -65,7 +66,8 @@ impl FileReplies {
 
     /// The last entry, which is then gone.
     pub fn pop(&mut self) -> Option<(u64, FileReply)>
-        ensures { self.old.replies ≡ self.new.replies ++ option_to_list result }
+        ensures last { self.old.replies ≡ self.new.replies ++ option_to_list result }
+        ensures none { IfNone result (self.old.replies ≡ []) }
     {
         self.entries.pop()
     }
