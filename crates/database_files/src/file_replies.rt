@@ -1,4 +1,6 @@
-ghost use Rattle.std.specs.Prelude.{◌≡◌, ◌≤◌, ◌<◌, ◌+◌, ◌++◌, ◌∷◌, [], length, slice_get, IfOk, IfNone, OnOk, OnErr};
+ghost use Rattle.std.specs.Prelude.{◌≡◌, ◌≤◌, ◌<◌, ◌+◌, ◌++◌, ◌∷◌, [], length, slice_get, IsSome, ◌↔◌, IfOk, IfNone, OnOk, OnErr};
+ghost use Rattle.std.specs.List.{IsItemAtMut};
+ghost use Rattle.std.specs.Borrow.{sem};
 ghost use Rattle.std.specs.Option.{option_copied, option_to_list};
 
 use crate::replies::FileReply;
@@ -26,6 +28,8 @@ impl Model for FileReplies {
 }
 
 impl FileReplies {
+    ghost use Rattle.database_files.specs.LentReplies.{lends_reply};
+
     /// No entries and no room. Takes no memory.
     pub fn empty(alloc: Global) -> FileReplies
         ensures empty { result.replies ≡ [] }
@@ -84,6 +88,15 @@ impl FileReplies {
         ensures { option_copied result ≡ slice_get self.now.replies place }
     {
         self.entries.get(place)
+    }
+
+    /// The entry at this place, to be changed.
+    pub fn get_mut(&mut self, place: usize) -> Option<&mut (u64, FileReply)>
+        ensures* writes_back { sem 𝓛 (lends_reply self.entry place result) }
+        ensures variant { IsSome result ↔ (place < length self.old.replies) }
+        ensures entry { IsItemAtMut self.old.replies place result }
+    {
+        self.entries.get_mut(place)
     }
 
     /// The entries.
