@@ -38,6 +38,14 @@ impl TextBuffer {
         self.bytes.as_slice()
     }
 
+    /// The bytes of the text, for themselves. Takes no memory.
+    pub fn into_vec(self) -> Vec<u8>
+        ensures { result.items ≡ self }
+    {
+        let TextBuffer { bytes } = self;
+        bytes
+    }
+
     /// Begins anew.
     pub fn clear(&mut self)
         ensures { self.new ≡ [] }

@@ -1,3 +1,4 @@
 pub mod FileReplies
 pub mod WholeFiles
 pub mod NotedReplies
+pub mod LentReplies

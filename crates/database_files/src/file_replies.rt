@@ -1,4 +1,6 @@
-ghost use Rattle.std.specs.Prelude.{◌≡◌, ◌≤◌, ◌<◌, ◌+◌, ◌++◌, ◌∷◌, [], length, slice_get, IfOk, OnOk, OnErr};
+ghost use Rattle.std.specs.Prelude.{◌≡◌, ◌≤◌, ◌<◌, ◌+◌, ◌++◌, ◌∷◌, [], length, slice_get, IsSome, ◌↔◌, IfOk, IfNone, OnOk, OnErr};
+ghost use Rattle.std.specs.List.{IsItemAtMut};
+ghost use Rattle.std.specs.Borrow.{sem};
 ghost use Rattle.std.specs.Option.{option_copied, option_to_list};
 
 use crate::replies::FileReply;
@@ -26,9 +28,12 @@ impl Model for FileReplies {
 }
 
 impl FileReplies {
+    ghost use Rattle.database_files.specs.LentReplies.{lends_reply};
+
     /// No entries and no room. Takes no memory.
     pub fn empty(alloc: Global) -> FileReplies
-        ensures { result.replies ≡ [] }
+        ensures empty { result.replies ≡ [] }
+        ensures room { result.room ≡ 0 }
     {
         FileReplies {
             entries: Vec::new(alloc),
@@ -65,7 +70,8 @@ impl FileReplies {
 
     /// The last entry, which is then gone.
     pub fn pop(&mut self) -> Option<(u64, FileReply)>
-        ensures { self.old.replies ≡ self.new.replies ++ option_to_list result }
+        ensures last { self.old.replies ≡ self.new.replies ++ option_to_list result }
+        ensures none { IfNone result (self.old.replies ≡ []) }
     {
         self.entries.pop()
     }
@@ -82,6 +88,15 @@ impl FileReplies {
         ensures { option_copied result ≡ slice_get self.now.replies place }
     {
         self.entries.get(place)
+    }
+
+    /// The entry at this place, to be changed.
+    pub fn get_mut(&mut self, place: usize) -> Option<&mut (u64, FileReply)>
+        ensures* writes_back { sem 𝓛 (lends_reply self.entry place result) }
+        ensures variant { IsSome result ↔ (place < length self.old.replies) }
+        ensures entry { IsItemAtMut self.old.replies place result }
+    {
+        self.entries.get_mut(place)
     }
 
     /// The entries.

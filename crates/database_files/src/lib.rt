@@ -8,6 +8,6 @@ mod replies;
 mod writing;
 
 pub use file_replies::FileReplies;
-pub use reading::{FILE_BYTES, read_file};
+pub use reading::read_file;
 pub use replies::{FileRead, FileReply};
 pub use writing::write_file;

@@ -10,7 +10,7 @@ use daq_types::{Bytes, FileName, NoMemory};
 use std::alloc::Global;
 
 /// The most bytes of a file that is read.
-pub const FILE_BYTES: usize = 268_435_456;
+const FILE_BYTES: usize = 268_435_456;
 
 /// How many bytes are read at a time.
 const BLOCK_BYTES: usize = 65_536;

@@ -194,3 +194,42 @@ fn ports_lead_to_one_database(rt: HostRuntime) {
     assert!(rt; is_noted, "the item is set and noted");
     assert!(rt; is_saved, "it is saved, and the key is found");
 }
+
+/// The second pass has then seen what the first has.
+fn meet_what_was_seen(
+    shared: &SharedOdb<PlainTree>,
+    first: &mut OdbPass<PlainTree>,
+    second: &mut OdbPass<PlainTree>,
+)
+    requires first { IsOf (odb_lock_of shared.now) first.old }
+    requires second { IsOf (odb_lock_of shared.now) second.old }
+    requires idle { held_by second.old ≡ None }
+    ensures second { IsOf (odb_lock_of shared.now) second.new }
+    ensures idle { held_by second.new ≡ None }
+{
+    let note = shared.note(first);
+    shared.meet(second, note);
+}
+
+/// A directory that the main thread makes, and what the other finds behind a meeting with what the main thread has seen.
+fn make_meet_and_find<R: Wait>(
+    rt: &R,
+    alloc: Global,
+    path: &Path,
+) -> Result<[Result<u32, OdbRefusal>; 2], NoMemory> {
+    let (shared, mut passes) = share(alloc)?;
+    let (mut main, mut other) = two_passes(&shared, &mut passes);
+    let made = shared.create(rt, &mut main, alloc, path, NewKey::Dir);
+    meet_what_was_seen(&shared, &mut main, &mut other);
+    Ok([made, shared.find(rt, &mut other, path)])
+}
+
+#[test]
+fn a_pass_meets_what_another_has_seen(rt: HostRuntime) {
+    let path = Path::read(rt.alloc(), b"/A/b").expect(&rt, "a path");
+    let found = make_meet_and_find(&rt, rt.alloc(), &path);
+    assert!(rt;
+        found == Ok([Ok(2); 2]),
+        "the directory that was made is found"
+    );
+}

@@ -178,3 +178,39 @@ fn the_main_thread_checks_and_closes(rt: HostRuntime) {
     assert!(rt; progress == Progress::None, "no transition is in progress");
     assert!(rt; is_closed, "the engine is closed");
 }
+
+/// The second pass has then seen what the first has.
+fn meet_what_was_seen(shared: &SharedEngine, first: &mut EnginePass, second: &mut EnginePass)
+    requires first { IsOf (engine_lock_of shared.now) first.old }
+    requires second { IsOf (engine_lock_of shared.now) second.old }
+    requires idle { held_by second.old ≡ None }
+    ensures second { IsOf (engine_lock_of shared.now) second.new }
+    ensures idle { held_by second.new ≡ None }
+{
+    let note = shared.note(first);
+    shared.meet(second, note);
+}
+
+/// Begins a start, whose client then meets what the main thread has seen: whether the start is begun, and whether the client
+/// has its turn and its answer is taken.
+fn begin_meet_and_answer<R: Wait>(
+    rt: &R,
+    alloc: Global,
+    name: Name,
+) -> Result<(bool, [bool; 2]), NoMemory> {
+    let (shared, mut passes) = share(alloc)?;
+    let (mut main, mut other) = two_passes(&shared, &mut passes);
+    let begun = begin_start(&shared, rt, &mut main, alloc, name) == (Ok(0), true);
+    meet_what_was_seen(&shared, &mut main, &mut other);
+    Ok((begun, take_turn(&shared, rt, &mut other)))
+}
+
+#[test]
+fn a_pass_meets_what_another_has_seen(rt: HostRuntime) {
+    let name = Name::new(b"FE").expect(&rt, "a name");
+    let taken = begin_meet_and_answer(&rt, rt.alloc(), name);
+    assert!(rt;
+        taken == Ok((true, [true; 2])),
+        "the start that was begun is answered by its client"
+    );
+}

@@ -16,7 +16,7 @@ use crate::skips::skip_items;
 use daq_types::{Name, NoMemory, Tid};
 use odb_lines::{array, is_string, item_alone, key_line, read_dir_line, single};
 use odb_path::{MAX_DEPTH, Path};
-use odb_tree::{OdbRefusal, What};
+use odb_tree::{OdbRefusal, What, is_kept};
 use odb_value::{Item, Items, Value};
 use std::alloc::Global;
 
@@ -39,16 +39,6 @@ struct KeyHead<'a> {
     /// What stands behind the type.
     rest: &'a [u8],
     behind: &'a [u8],
-}
-
-/// Whether the database keeps values of this type.
-fn is_kept(tid: Tid) -> bool
-    ensures { result ≡ is_kept tid }
-{
-    !matches!(
-        tid,
-        Tid::Float | Tid::Double | Tid::BitField | Tid::Array | Tid::Struct | Tid::Key | Tid::Link
-    )
 }
 
 /// Whether keys of this type are skipped.
@@ -220,7 +210,7 @@ fn kept_key<'a>(alloc: Global, dir: &Path, head: &KeyHead<'a>) -> Result<Block<'
     }
 }
 
-/// Reads an array that is skipped.
+/// Reads an array that is skipped. The directory stands for the contract alone.
 fn skipped_array<'a>(_dir: &Path, head: &KeyHead<'a>, count: u32) -> Result<Block<'a>, BlockFault>
     requires key { IsKeyIn _dir.now head.now.line.now head.now.name head.now.tid head.now.rest.now }
     requires skipped { is_skipped head.now.tid ≡ true }

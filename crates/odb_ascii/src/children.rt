@@ -27,7 +27,7 @@ pub fn children_of<D: Database>(
     }
 }
 
-/// The path of what stands in a directory.
+/// The path of what stands in a directory. The database stands for the contract alone.
 pub fn path_of_child<D: Database>(
     alloc: Global,
     _database: &D,

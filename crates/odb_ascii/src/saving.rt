@@ -32,5 +32,5 @@ pub fn save<D: Database>(alloc: Global, database: &D) -> Result<Bytes, NoMemory>
 {
     let mut text = TextBuffer::new(alloc);
     add_database(alloc, database, &mut text)?;
-    Ok(Bytes::of(text.as_slice().to_vec(alloc)?))
+    Ok(Bytes::of(text.into_vec()))
 }

@@ -1,4 +1,4 @@
--- No command replaces a whole value or removes anything of `/Runinfo`.
+-- With the replies that the rows give, no command removes anything of `/Runinfo`.
 use Rattle.std.specs.Prelude.{◌≡◌, ℕ, Bool, true, false, if◌then◌else◌, List, [], ◌∷◌, Option, Some, None, Result, Ok, Err, codes, refl}
 use Rattle.odb_path.specs.declared.refusals.PathRefusal.{PathRefusal}
 use Rattle.odb_path.specs.Paths.{same_name}

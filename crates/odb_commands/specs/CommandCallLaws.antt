@@ -13,7 +13,7 @@ abbrev pub PerformsIf : Command → Option CommandAnswer → Type 0
 PerformsIf c None = Unit {0}
 PerformsIf c (Some answer) = Performs c answer.calls answer.reply
 
--- No command replaces a whole value or removes anything of `/Runinfo`.
+-- No command removes anything of `/Runinfo`, whatever its calls are answered.
 
 abbrev pub Spares : List DatabaseEntry → Type 0
 Spares calls = AllSpareRuninfo (calls_by main_caller calls)

@@ -1,4 +1,4 @@
--- No command replaces a whole value or removes anything of `/Runinfo`.
+-- With the replies that the rows give, no command removes anything of `/Runinfo`.
 use Rattle.std.specs.Prelude.{Option, Some, None}
 use Rattle.daq_types.specs.Callers.{main_caller}
 use Rattle.odb_port.specs.DatabasePorts.{calls_by}

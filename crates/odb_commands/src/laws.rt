@@ -12,7 +12,7 @@ ghost use Rattle.odb_commands.specs.CommandCalls.{Performs, IsAnswerOf, OthersLe
 ghost use Rattle.odb_commands.specs.CommandCallLaws.{PerformsIf, Spares};
 ghost use Rattle.odb_commands.specs.CommandLaws.{SparesIf};
 
-/// No command replaces a whole value, or removes anything of `/Runinfo`.
+/// With the replies that the rows give, no command removes anything of `/Runinfo`.
 pub fn runinfo_stays()
     ensures { (s : Rows) (command : Command) → SparesIf (answer_of s command) }
 {}

@@ -11,3 +11,4 @@ mod texts;
 pub use commands::{COMMAND_CALLS, create, get, list, remove, run_command, set};
 pub use reading::{read_path, settled};
 pub use replies::{CommandRefusal, CommandReply};
+pub use texts::begin_refusal;

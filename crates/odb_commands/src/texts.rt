@@ -1,4 +1,5 @@
-ghost use Rattle.std.specs.Prelude.{◌≡◌, ◌++◌, ◌∷◌, [], OnOk};
+ghost use Rattle.std.specs.Prelude.{◌≡◌, ◌++◌, ◌∷◌, [], OnOk, codes};
+ghost use Rattle.std.specs.Fmt.{decimal};
 ghost use Rattle.odb_value.specs.ItemTexts.{item_text};
 ghost use Rattle.daq_types.specs.Tids.{tid_name};
 ghost use Rattle.odb_tree.specs.Calls.{last_name};
@@ -139,13 +140,21 @@ impl CommandRefusal {
     }
 }
 
+/// Adds what stands in front of the refusal of the script's line of this number.
+pub fn begin_refusal(text: &mut TextBuffer, line: u64) -> Result<(), NoMemory>
+    ensures { OnOk result (text.new ≡ text.old ++ (codes "refused "
+        ++ (decimal line ++ codes ": "))) }
+{
+    text.text(b"refused ")?;
+    text.number(line)?;
+    text.text(b": ")
+}
+
 /// Adds the line of a refusal, with the number of the script's line.
 fn add_refused(text: &mut TextBuffer, line: u64, why: &CommandRefusal) -> Result<(), NoMemory>
     ensures { OnOk result (text.new ≡ text.old ++ refused_line line (refusal_text why.now)) }
 {
-    text.text(b"refused ")?;
-    text.number(line)?;
-    text.text(b": ")?;
+    begin_refusal(text, line)?;
     why.print(text)?;
     text.text(b"\n")
 }

@@ -14,4 +14,4 @@ pub use items::{ReadItem, is_string, item_alone, item_line};
 pub use keys::{array, key_line, single};
 pub use lines::split_line;
 pub use passed::is_passed;
-pub use words::{are_blanks, bracketed, in_brackets};
+pub use words::bracketed;

@@ -7,7 +7,7 @@ ghost use Rattle.odb_lines.specs.LineForms.{AreBlanks, HasNo, IsBracketed, behin
 use daq_text::{behind_blanks, digits};
 
 /// Whether there are blanks alone.
-pub fn are_blanks(bytes: &[u8]) -> bool
+pub(crate) fn are_blanks(bytes: &[u8]) -> bool
     ensures { IsTrue result ↔ AreBlanks bytes.now }
 {
     behind_blanks(bytes).is_empty()
@@ -53,7 +53,7 @@ pub fn split_once(text: &[u8], at: u8) -> Option<(&[u8], &[u8])>
 
 /// What stands in the brackets with which a line begins, and what stands behind them; None exactly where the line does
 /// not begin so.
-pub fn in_brackets(line: &[u8]) -> Option<(&[u8], &[u8])>
+pub(crate) fn in_brackets(line: &[u8]) -> Option<(&[u8], &[u8])>
     ensures some { IfSome result (λ parts. line.now ≡ 91 ∷ (parts.0.now ++ 93 ∷ parts.1.now)) }
     ensures first { IfSome result (λ parts. HasNo 93 parts.0.now) }
     ensures none { IfNone result ((inside : List ℕ) (rest : List ℕ) → HasNo 93 inside

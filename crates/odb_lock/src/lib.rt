@@ -1,4 +1,7 @@
 //! One online database for many threads: a watched database under the counting lock, and ports to it.
+//!
+//! A `let _ =` of a field or of `names`, `tid` or `as_slice` tells the prover what the type keeps of that value, and does
+//! nothing.
 #![tactic(auto)]
 
 mod access;
@@ -8,4 +11,4 @@ mod shared;
 
 pub use access::SharedAccess;
 pub use locked::{LockedDatabase, WatchedSeen};
-pub use shared::{OdbClosed, OdbPass, OdbPasses, SharedOdb};
+pub use shared::{OdbClosed, OdbNote, OdbPass, OdbPasses, SharedOdb};

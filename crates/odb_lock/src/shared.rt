@@ -11,7 +11,8 @@ ghost use Rattle.odb_tree.specs.Noting.{notes_limit};
 ghost use Rattle.odb_ascii.specs.Dumps.{dump_limit};
 ghost use Rattle.odb_watch.specs.declared.entry.WatchEntry.TheVariants.{Call as call_of, Watch as begin_of, Notes as notes_of, Unwatch as end_of, Save as save_of, Load as load_of};
 ghost use Rattle.odb_watch.specs.Steps.{StepsDatabase, LeadsDatabase, IsLegalDatabase, unwatched, moved_out};
-ghost use Rattle.turn_lock.specs.Passes.{passes_of, number_of, seen_by, held_by, found_by, IsOf};
+ghost use Rattle.turn_lock.specs.Passes.{passes_of, number_of, seen_by, held_by, found_by, IsOf, IsNoteOf, IsUnchanged, noted, own_entries};
+ghost use Rattle.turn_lock.specs.Views.{longer};
 ghost use Rattle.turn_lock.specs.History.{IsPartOf, entries_below};
 ghost use Rattle.turn_lock.specs.Closing.{AreComplete, IsLeastMissing, opened_with, history_of};
 ghost use Rattle.turn_lock.specs.Roster.{items_of, numbers_of, numbers_below, ArePassesOf, AreIdle, AreFresh};
@@ -27,13 +28,16 @@ use odb_value::{Item, Value};
 use odb_watch::{NoWatch, WatchRefusal, Watches};
 use std::alloc::Global;
 use std::sync::Wait;
-use turn_lock::{Closed, Held, MissingPass, Pass, Passes, Turns};
+use turn_lock::{Closed, Held, MissingPass, Note, Pass, Passes, Turns};
 
 /// One caller's place at a shared database, with its number. Number 0 is the main thread's.
 pub type OdbPass<D> = Pass<LockedDatabase<D>>;
 
 /// Passes of one shared database.
 pub type OdbPasses<D> = Passes<LockedDatabase<D>>;
+
+/// What a pass of a shared database had seen when the note was made.
+pub type OdbNote<D> = Note<LockedDatabase<D>>;
 
 /// A shared database that has ended: the database, and for contracts the whole history of its calls.
 pub type OdbClosed<D> = Closed<LockedDatabase<D>>;
@@ -417,6 +421,33 @@ impl<D: Database> SharedOdb<D> {
         let reply = load(alloc, &mut held.value.database, text);
         self.enter(pass, held, &CallMade::Load { text, reply });
         reply
+    }
+
+    /// Copies what the pass has seen, so that another pass can meet it.
+    pub fn note(&self, pass: &mut OdbPass<D>) -> OdbNote<D>
+        requires { IsOf (odb_lock_of self.now) pass.old }
+        ensures own { IsOf (odb_lock_of self.now) pass.new }
+        ensures unchanged { IsUnchanged pass.old pass.new }
+        ensures note { IsNoteOf (odb_lock_of self.now) result }
+        ensures noted { noted result ≡ seen_by pass.old }
+    {
+        self.turns.note(pass)
+    }
+
+    /// The pass has then seen what the note has seen too: the longer of the two lists, which begins with both.
+    pub fn meet(&self, pass: &mut OdbPass<D>, note: OdbNote<D>)
+        requires own { IsOf (odb_lock_of self.now) pass.old }
+        requires note { IsNoteOf (odb_lock_of self.now) note }
+        ensures own { IsOf (odb_lock_of self.now) pass.new }
+        ensures number { number_of pass.new ≡ number_of pass.old }
+        ensures found { found_by pass.new ≡ found_by pass.old }
+        ensures held { held_by pass.new ≡ held_by pass.old }
+        ensures seen { IsPrefix (seen_by pass.old) (seen_by pass.new) }
+        ensures noted { IsPrefix (noted note) (seen_by pass.new) }
+        ensures longer { seen_by pass.new ≡ longer (seen_by pass.old) (noted note) }
+        ensures mine { own_entries pass.new ≡ own_entries pass.old }
+    {
+        self.turns.meet(pass, note);
     }
 
     /// Ends the sharing, for which all passes are given back. Where one is missing, all comes back.

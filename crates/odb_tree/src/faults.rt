@@ -23,8 +23,8 @@ pub fn exists_fault(rows: &[Row], names: &[Name]) -> Option<OdbRefusal>
     None
 }
 
-/// Whether the database keeps values of this type.
-fn is_kept(tid: Tid) -> bool
+/// Whether the database keeps values of this type: none of floats, bit fields, arrays, structures, keys and links.
+pub fn is_kept(tid: Tid) -> bool
     ensures { result ≡ is_kept tid }
 {
     !matches!(

@@ -21,7 +21,9 @@ pub use changes::{copy_row, put_row, replace_row, resize_row};
 pub use children::{Child, Children};
 pub use database::Database;
 pub use entry::DatabaseEntry;
-pub use faults::{bytes_of_new, index_fault, items_fault, kept_fault, new_value, type_fault};
+pub use faults::{
+    bytes_of_new, index_fault, is_kept, items_fault, kept_fault, new_value, type_fault,
+};
 pub use limits::{bytes_of, bytes_with, len_fault, limit_fault, raised_size, text_fault};
 pub use lookups::{Key, parent};
 pub use notes::{Note, Notes, Watch};

@@ -8,6 +8,7 @@ ghost use Rattle.session_replies.specs.Console.{file_line, file_lines, name_text
 use crate::replies::Reply;
 use daq_text::TextBuffer;
 use daq_types::{ChannelState, Name, NameRefusal, NoMemory, RunState, Why};
+use odb_commands::begin_refusal;
 use odb_value::{Item, print_item};
 use run_records::{FileRecord, ReportLine, SentLine};
 use session_setup::SetupRefusal;
@@ -96,16 +97,6 @@ fn add_refuser(text: &mut TextBuffer, client: &Name, why: Why) -> Result<(), NoM
     text.text(client.as_slice())?;
     text.text(b" ")?;
     add_why(text, why)
-}
-
-/// Adds what stands in front of the refusal of the line of this number.
-fn begin_refusal(text: &mut TextBuffer, line: u64) -> Result<(), NoMemory>
-    ensures { OnOk result (text.new ≡ text.old ++ (codes "refused "
-        ++ (decimal line ++ codes ": "))) }
-{
-    text.text(b"refused ")?;
-    text.number(line)?;
-    text.text(b": ")
 }
 
 /// Adds the line of a refusal with no field.

@@ -4,7 +4,9 @@ ghost use Rattle.daq_types.specs.Callers.{entries_by, main_caller};
 ghost use Rattle.transitions.specs.declared.entry.EngineEntry.TheVariants.{Register, Begin, Poll, Answer as AnswerCall, Check, Close};
 ghost use Rattle.transitions.specs.EngineCalls.{without_return};
 ghost use Rattle.transitions.specs.EngineHistories.{IsSheet, IsFairTurn, IsLegalEngine, engine_replay};
-ghost use Rattle.turn_lock.specs.Passes.{passes_of, number_of, seen_by, held_by, IsOf};
+ghost use mathlib.Core.List.{IsPrefix};
+ghost use Rattle.turn_lock.specs.Passes.{passes_of, number_of, seen_by, held_by, found_by, IsOf, IsNoteOf, IsUnchanged, noted, own_entries};
+ghost use Rattle.turn_lock.specs.Views.{longer};
 ghost use Rattle.turn_lock.specs.History.{IsPartOf, entries_below};
 ghost use Rattle.turn_lock.specs.Closing.{AreComplete, IsLeastMissing, opened_with, history_of};
 ghost use Rattle.turn_lock.specs.Roster.{items_of, numbers_of, numbers_below, ArePassesOf, AreIdle, AreFresh};
@@ -21,13 +23,16 @@ use transitions::{
     Answer, BeginRefusal, Engine, InProgress, NotYourTurn, Polled, Progress, RegisterRefusal,
     Sheet, Tallies,
 };
-use turn_lock::{Closed, Held, MissingPass, Pass, Passes, Turns};
+use turn_lock::{Closed, Held, MissingPass, Note, Pass, Passes, Turns};
 
 /// One caller's place at a shared engine, with its number. Number 0 is the main thread's.
 pub type EnginePass = Pass<LockedEngine>;
 
 /// Passes of one shared engine.
 pub type EnginePasses = Passes<LockedEngine>;
+
+/// What a pass of a shared engine had seen when the note was made.
+pub type EngineNote = Note<LockedEngine>;
 
 /// A shared engine that has ended: the engine, and for contracts the whole history of its calls.
 pub type EngineClosed = Closed<LockedEngine>;
@@ -234,6 +239,33 @@ impl SharedEngine {
         let reply = held.value.engine.close();
         self.enter(pass, held, &CallMade::Close { reply });
         reply
+    }
+
+    /// Copies what the pass has seen, so that another pass can meet it.
+    pub fn note(&self, pass: &mut EnginePass) -> EngineNote
+        requires { IsOf (engine_lock_of self.now) pass.old }
+        ensures own { IsOf (engine_lock_of self.now) pass.new }
+        ensures unchanged { IsUnchanged pass.old pass.new }
+        ensures note { IsNoteOf (engine_lock_of self.now) result }
+        ensures noted { noted result ≡ seen_by pass.old }
+    {
+        self.turns.note(pass)
+    }
+
+    /// The pass has then seen what the note has seen too: the longer of the two lists, which begins with both.
+    pub fn meet(&self, pass: &mut EnginePass, note: EngineNote)
+        requires own { IsOf (engine_lock_of self.now) pass.old }
+        requires note { IsNoteOf (engine_lock_of self.now) note }
+        ensures own { IsOf (engine_lock_of self.now) pass.new }
+        ensures number { number_of pass.new ≡ number_of pass.old }
+        ensures found { found_by pass.new ≡ found_by pass.old }
+        ensures held { held_by pass.new ≡ held_by pass.old }
+        ensures seen { IsPrefix (seen_by pass.old) (seen_by pass.new) }
+        ensures noted { IsPrefix (noted note) (seen_by pass.new) }
+        ensures longer { seen_by pass.new ≡ longer (seen_by pass.old) (noted note) }
+        ensures mine { own_entries pass.new ≡ own_entries pass.old }
+    {
+        self.turns.meet(pass, note);
     }
 
     /// Ends the sharing, for which all passes are given back. Where one is missing, all comes back.

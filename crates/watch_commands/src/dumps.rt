@@ -98,11 +98,12 @@ fn load_read<R: Wait, P: WatchPort>(
     ensures same { IsSamePort (P.access port.old) (P.access port.new) }
     ensures room { (P.access port.old).room ≤ (P.access port.new).room }
 {
+    let came = read.reply();
     match read {
         FileRead::Whole { text } => load_whole(rt, alloc, port, text.as_slice()),
-        FileRead::Missing => Ok(refused_with(FileReply::Clash, WatchCommandRefusal::Missing)),
-        FileRead::Fault => Ok(refused_with(FileReply::Fault, WatchCommandRefusal::FileFault)),
-        FileRead::TooLong => Ok(refused_with(FileReply::TooLong, WatchCommandRefusal::TooLong)),
+        FileRead::Missing => Ok(refused_with(came, WatchCommandRefusal::Missing)),
+        FileRead::Fault => Ok(refused_with(came, WatchCommandRefusal::FileFault)),
+        FileRead::TooLong => Ok(refused_with(came, WatchCommandRefusal::TooLong)),
     }
 }
 

@@ -11,5 +11,5 @@ mod watches;
 
 pub use commands::{WATCH_CALLS, run_watch_command};
 pub use dumps::{load, save};
-pub use replies::{FileReplies, ToldNote, ToldNotes, WatchAnswer, WatchCommandRefusal, WatchReply};
+pub use replies::{ToldNote, ToldNotes, WatchAnswer, WatchCommandRefusal, WatchReply};
 pub use watches::{notes, unwatch, watch};

@@ -1,7 +1,7 @@
 ghost use Rattle.std.specs.Prelude.{◌≡◌};
 ghost use Rattle.watch_commands.specs.WatchTexts.{is_watch_refusal};
 
-use daq_types::{BoundedList, Journal};
+use daq_types::BoundedList;
 use database_files::FileReply;
 use odb_ascii::{LoadRefusal, Loaded};
 use odb_path::{Path, PathRefusal};
@@ -59,10 +59,6 @@ pub enum WatchReply {
     /// Nothing was done; but where a dump could not be written whole, a first part of it may stand in the file.
     Refused { why: WatchCommandRefusal },
 }
-
-/// What came of the commands that called the files of the database: the number of each one's line, and what came of those
-/// calls, in order.
-pub type FileReplies = Journal<(u64, FileReply)>;
 
 /// What came of a command: its reply, and where it called the files of the database, what came of those calls.
 #[derive(Drop)]

@@ -7,7 +7,7 @@ use crate::replies::{ToldNote, WatchCommandRefusal, WatchReply};
 use daq_text::TextBuffer;
 use daq_types::NoMemory;
 use odb_ascii::{LoadRefusal, Loaded, print_path};
-use odb_commands::CommandRefusal;
+use odb_commands::{CommandRefusal, begin_refusal};
 use odb_path::Path;
 use odb_tree::OdbRefusal;
 use odb_watch::WatchRefusal;
@@ -139,9 +139,7 @@ impl WatchCommandRefusal {
 fn add_refused(text: &mut TextBuffer, line: u64, why: &WatchCommandRefusal) -> Result<(), NoMemory>
     ensures { OnOk result (text.new ≡ text.old ++ refused_line line (watch_refusal_text why.now)) }
 {
-    text.text(b"refused ")?;
-    text.number(line)?;
-    text.text(b": ")?;
+    begin_refusal(text, line)?;
     why.print(text)?;
     text.text(b"\n")
 }
