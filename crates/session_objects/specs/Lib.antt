@@ -1,5 +1,6 @@
 pub mod Rosters
 pub mod Objects
+pub mod Seating
 pub mod Kept
 pub mod Calls
 pub mod Records

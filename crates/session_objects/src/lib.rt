@@ -11,6 +11,7 @@ mod opening;
 mod passes;
 mod record;
 mod returning;
+mod seating;
 mod seats;
 
 pub use members::Unmanned;

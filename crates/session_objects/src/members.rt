@@ -1,5 +1,5 @@
 // Making the members of a session.
-ghost use Rattle.std.specs.Prelude.{◌≡◌, ◌≤◌, ◌<◌, ◌+◌, ◌-◌, [], length, map, min, slice_get, IfOk, OnOk, IfErr};
+ghost use Rattle.std.specs.Prelude.{◌≡◌, ◌<◌, ◌+◌, ◌-◌, [], length, map, min, slice_get, IfOk, OnOk, IfErr};
 ghost use Rattle.daq_types.specs.Callers.{caller_of_client};
 ghost use Rattle.turn_lock.specs.Passes.{own_entries};
 ghost use Rattle.buffer_lock.specs.SharedPorts.{access_by};
@@ -7,12 +7,14 @@ ghost use Rattle.odb_lock.specs.SharedAccesses.{access_by_pass};
 ghost use Rattle.analyzers.specs.AnalyzerKept.{AnalyzerStands, AnalyzerTells};
 ghost use Rattle.loggers.specs.NewLoggers.{HaveNumbers};
 ghost use Rattle.loggers.specs.OtherFiles.{AreDeclared};
-ghost use Rattle.session_objects.specs.Objects.{first_analyzer, HaveCallers, HaveFrontIds, HaveBuffers, SuitMembers};
+ghost use Rattle.session_objects.specs.Objects.{first_analyzer, HaveFrontIds, HaveBuffers, SuitMembers};
+ghost use Rattle.session_objects.specs.Seating.{CanBeSeated};
 ghost use Rattle.session_objects.specs.Kept.{out_to_fronts, out_to_ports, out_to_logger, out_to_analyzers, out_to_members, HasFreshBut};
 ghost use Rattle.session_objects.specs.Members.{ring_window, new_port, new_access, generator_of, event_room_of, event_rooms, idle_analyzer, IsNewFrontPort, IsNewAnalyzerPort, IsNewFrontAt, AreNewFronts, IsNewAnalyzerAt, AreNewAnalyzers, IsMadeLogger, AreBareMembers, AreNewMembers, AreMembersOf};
 
 use crate::objects::{SessionBuffer, SessionObjects};
 use crate::passes::{SessionPasses, take_fresh};
+use crate::seating::Seating;
 use crate::seats::{SessionAnalyzer, SessionAnalyzers, SessionCrew, SessionFront};
 use analyzer_seats::{AnalyzerMember, AnalyzerSeat, AnalyzerSeats};
 use analyzers::Analyzer;
@@ -140,259 +142,235 @@ fn make_analyzer(
     Ok(analyzer)
 }
 
-impl SessionObjects {
+impl<'a, 's, D: Database> Seating<'a, 's, D> {
     /// The places of the front-end with this client number, with its passes of its objects.
-    fn place_front<'a, D: Database>(
-        &'a self,
-        database: &'a SharedOdb<D>,
-        declared: &[FrontDeclared],
-        analyzers: &[AnalyzerDeclared],
-        client: u32,
-        passes: &mut SessionPasses<D>,
-    ) -> FrontPlaces<'a, D>
-        requires client { client < length declared.now }
-        requires few { length declared.now ≤ 32 }
-        requires callers { HaveCallers declared.now analyzers.now self.now database.now }
-        requires out { HasFreshBut (out_to_fronts declared.now client) self.now database.now
-            passes.old }
-        ensures out { HasFreshBut (out_to_fronts declared.now (client + 1)) self.now database.now
-            passes.new }
+    fn place_front(&self, client: u32, passes: &mut SessionPasses<D>) -> FrontPlaces<'a, D>
+        requires client { client < length self.now.fronts.now }
+        requires seats { CanBeSeated self.now.fronts.now self.now.analyzers.now self.now.objects.now
+            self.now.database.now }
+        requires out { HasFreshBut (out_to_fronts self.now.fronts.now client) self.now.objects.now
+            self.now.database.now passes.old }
+        ensures out { HasFreshBut (out_to_fronts self.now.fronts.now (client + 1))
+            self.now.objects.now self.now.database.now passes.new }
         ensures client { result.seat.client ≡ client }
-        ensures engine { result.seat.engine.now ≡ self.now.engine }
+        ensures engine { result.seat.engine.now ≡ self.now.objects.now.engine }
         ensures calls { own_entries result.seat.pass ≡ [] }
-        ensures port { IsNewFrontPort self.now.buffers.items declared.now client
+        ensures port { IsNewFrontPort self.now.objects.now.buffers.items self.now.fronts.now client
             (access_by ring_window result.port) }
         ensures access { access_by_pass result.access
-            ≡ new_access database.now (caller_of_client client) }
+            ≡ new_access self.now.database.now (caller_of_client client) }
     {
         let caller = Caller::of_client(client).number();
-        let number = declared[client as usize].buffer as usize;
+        let number = self.fronts[client as usize].buffer as usize;
         let pass = passes.take_of_buffer(number, caller);
-        let port = SharedPort::new(&self.buffers[number].shared, pass);
-        let access = SharedAccess::new(database, take_fresh(&mut passes.database, caller));
-        let seat = Seat::new(&self.engine, take_fresh(&mut passes.engine, caller), client);
+        let port = SharedPort::new(&self.objects.buffers[number].shared, pass);
+        let access = SharedAccess::new(self.database, take_fresh(&mut passes.database, caller));
+        let seat = Seat::new(
+            &self.objects.engine,
+            take_fresh(&mut passes.engine, caller),
+            client,
+        );
         FrontPlaces { seat, port, access }
     }
 
     /// The front-end with this client number.
-    fn seat_front<'a, D: Database>(
-        &'a self,
+    fn seat_front(
+        &self,
         alloc: Global,
-        database: &'a SharedOdb<D>,
-        declared: &[FrontDeclared],
-        analyzers: &[AnalyzerDeclared],
         client: u32,
         passes: &mut SessionPasses<D>,
     ) -> Result<SessionFront<'a, D>, NoMemory>
-        requires client { client < length declared.now }
-        requires few { length declared.now ≤ 32 }
-        requires ids { HaveFrontIds declared.now }
-        requires callers { HaveCallers declared.now analyzers.now self.now database.now }
-        requires out { HasFreshBut (out_to_fronts declared.now client) self.now database.now
-            passes.old }
-        ensures out { OnOk result (HasFreshBut (out_to_fronts declared.now (client + 1)) self.now
-            database.now passes.new) }
-        ensures front { IfOk result (IsNewFrontAt self.now database.now declared.now client) }
+        requires client { client < length self.now.fronts.now }
+        requires ids { HaveFrontIds self.now.fronts.now }
+        requires seats { CanBeSeated self.now.fronts.now self.now.analyzers.now self.now.objects.now
+            self.now.database.now }
+        requires out { HasFreshBut (out_to_fronts self.now.fronts.now client) self.now.objects.now
+            self.now.database.now passes.old }
+        ensures out { OnOk result (HasFreshBut (out_to_fronts self.now.fronts.now (client + 1))
+            self.now.objects.now self.now.database.now passes.new) }
+        ensures front { IfOk result (IsNewFrontAt self.now.objects.now self.now.database.now
+            self.now.fronts.now client) }
     {
-        let FrontPlaces { seat, port, access } = self.place_front(
-            database, declared, analyzers, client, passes,
-        );
-        let front = &declared[client as usize];
+        let FrontPlaces { seat, port, access } = self.place_front(client, passes);
+        let front = &self.fronts[client as usize];
         let member = FrontMember::new(alloc, seat, front.name, generator_of(front))?;
         Ok(FrontSeat::new(member, port, access))
     }
 
     /// All front-ends.
-    fn seat_fronts<'a, D: Database>(
-        &'a self,
+    fn seat_fronts(
+        &self,
         alloc: Global,
-        database: &'a SharedOdb<D>,
-        declared: &[FrontDeclared],
-        analyzers: &[AnalyzerDeclared],
         passes: &mut SessionPasses<D>,
     ) -> Result<Vec<SessionFront<'a, D>>, NoMemory>
-        requires few { length declared.now ≤ 32 }
-        requires ids { HaveFrontIds declared.now }
-        requires callers { HaveCallers declared.now analyzers.now self.now database.now }
-        requires out { HasFreshBut (out_to_fronts declared.now 0) self.now database.now
-            passes.old }
-        ensures out { OnOk result (HasFreshBut (out_to_fronts declared.now (length declared.now))
-            self.now database.now passes.new) }
-        ensures fronts { IfOk result (λ fronts. AreNewFronts self.now database.now declared.now
-            fronts.items) }
+        requires ids { HaveFrontIds self.now.fronts.now }
+        requires seats { CanBeSeated self.now.fronts.now self.now.analyzers.now self.now.objects.now
+            self.now.database.now }
+        requires out { HasFreshBut (out_to_fronts self.now.fronts.now 0) self.now.objects.now
+            self.now.database.now passes.old }
+        ensures out { OnOk result (HasFreshBut (out_to_fronts self.now.fronts.now
+            (length self.now.fronts.now)) self.now.objects.now self.now.database.now passes.new) }
+        ensures fronts { IfOk result (λ fronts. AreNewFronts self.now.objects.now
+            self.now.database.now self.now.fronts.now fronts.items) }
     {
-        let mut fronts = Vec::with_capacity(alloc, declared.len())?;
-        for client in 0..declared.len() as u32 {
-            let front = self.seat_front(alloc, database, declared, analyzers, client, passes)?;
+        let mut fronts = Vec::with_capacity(alloc, self.fronts.len())?;
+        for client in 0..self.fronts.len() as u32 {
+            let front = self.seat_front(alloc, client, passes)?;
             fronts.push_reserved(front);
         }
         Ok(fronts)
     }
 
     /// The logger's ports, one to each buffer.
-    fn open_ports<'a, D: Database>(
-        &'a self,
+    fn open_ports(
+        &self,
         alloc: Global,
-        database: &SharedOdb<D>,
-        declared: &[FrontDeclared],
-        analyzers: &[AnalyzerDeclared],
         passes: &mut SessionPasses<D>,
     ) -> Result<Ports<SharedPort<'a, RingBuffer>>, NoMemory>
-        requires few { length declared.now ≤ 32 }
-        requires callers { HaveCallers declared.now analyzers.now self.now database.now }
-        requires out { HasFreshBut (out_to_ports declared.now 0) self.now database.now passes.old }
-        ensures out { OnOk result (HasFreshBut (out_to_ports declared.now
-            (length self.now.buffers.items)) self.now database.now passes.new) }
+        requires seats { CanBeSeated self.now.fronts.now self.now.analyzers.now self.now.objects.now
+            self.now.database.now }
+        requires out { HasFreshBut (out_to_ports self.now.fronts.now 0) self.now.objects.now
+            self.now.database.now passes.old }
+        ensures out { OnOk result (HasFreshBut (out_to_ports self.now.fronts.now
+            (length self.now.objects.now.buffers.items)) self.now.objects.now self.now.database.now
+            passes.new) }
         ensures ports { IfOk result (λ ports. map (access_by ring_window) ports
-            ≡ map (λ buffer. new_port buffer.shared (caller_of_client (length declared.now)))
-            self.now.buffers.items) }
+            ≡ map (λ buffer. new_port buffer.shared (caller_of_client (length self.now.fronts.now)))
+            self.now.objects.now.buffers.items) }
     {
-        let caller = Caller::of_client(declared.len() as u32).number();
+        let caller = Caller::of_client(self.fronts.len() as u32).number();
         let mut ports = BoundedList::new(alloc)?;
-        for number in 0..self.buffers.len() {
+        for number in 0..self.objects.buffers.len() {
             let pass = passes.take_of_buffer(number, caller);
-            ports.push(SharedPort::new(&self.buffers[number].shared, pass));
+            ports.push(SharedPort::new(&self.objects.buffers[number].shared, pass));
         }
         Ok(ports)
     }
 
     /// The logger's place at the engine, with its pass of that.
-    fn place_logger<'a, D: Database>(
-        &'a self,
-        database: &SharedOdb<D>,
-        declared: &[FrontDeclared],
-        analyzers: &[AnalyzerDeclared],
-        passes: &mut SessionPasses<D>,
-    ) -> Seat<'a>
-        requires few { length declared.now ≤ 32 }
-        requires callers { HaveCallers declared.now analyzers.now self.now database.now }
-        requires out { HasFreshBut (out_to_ports declared.now (length self.now.buffers.items))
-            self.now database.now passes.old }
-        ensures out { HasFreshBut (out_to_logger declared.now (length self.now.buffers.items))
-            self.now database.now passes.new }
-        ensures client { result.client ≡ length declared.now }
-        ensures engine { result.engine.now ≡ self.now.engine }
+    fn place_logger(&self, passes: &mut SessionPasses<D>) -> Seat<'a>
+        requires seats { CanBeSeated self.now.fronts.now self.now.analyzers.now self.now.objects.now
+            self.now.database.now }
+        requires out { HasFreshBut (out_to_ports self.now.fronts.now
+            (length self.now.objects.now.buffers.items)) self.now.objects.now self.now.database.now
+            passes.old }
+        ensures out { HasFreshBut (out_to_logger self.now.fronts.now
+            (length self.now.objects.now.buffers.items)) self.now.objects.now self.now.database.now
+            passes.new }
+        ensures client { result.client ≡ length self.now.fronts.now }
+        ensures engine { result.engine.now ≡ self.now.objects.now.engine }
         ensures calls { own_entries result.pass ≡ [] }
     {
-        let client = declared.len() as u32;
+        let client = self.fronts.len() as u32;
         let caller = Caller::of_client(client).number();
         let pass = take_fresh(&mut passes.engine, caller);
-        Seat::new(&self.engine, pass, client)
+        Seat::new(&self.objects.engine, pass, client)
     }
 
     /// The places of the analyzer at this place of the list, with its passes of its objects.
-    fn place_analyzer<'a, D: Database>(
-        &'a self,
-        database: &SharedOdb<D>,
-        declared: &[FrontDeclared],
-        analyzers: &[AnalyzerDeclared],
-        place: u32,
-        passes: &mut SessionPasses<D>,
-    ) -> AnalyzerPlaces<'a>
-        requires place { place < length analyzers.now }
-        requires few { length declared.now ≤ 32 }
-        requires few_analyzers { length analyzers.now ≤ 8 }
-        requires callers { HaveCallers declared.now analyzers.now self.now database.now }
-        requires out { HasFreshBut (out_to_analyzers declared.now analyzers.now
-            (length self.now.buffers.items) place) self.now database.now passes.old }
-        ensures out { HasFreshBut (out_to_analyzers declared.now analyzers.now
-            (length self.now.buffers.items) (place + 1)) self.now database.now passes.new }
-        ensures client { result.seat.client ≡ first_analyzer declared.now + place }
-        ensures engine { result.seat.engine.now ≡ self.now.engine }
+    fn place_analyzer(&self, place: u32, passes: &mut SessionPasses<D>) -> AnalyzerPlaces<'a>
+        requires place { place < length self.now.analyzers.now }
+        requires seats { CanBeSeated self.now.fronts.now self.now.analyzers.now self.now.objects.now
+            self.now.database.now }
+        requires out { HasFreshBut (out_to_analyzers self.now.fronts.now self.now.analyzers.now
+            (length self.now.objects.now.buffers.items) place) self.now.objects.now
+            self.now.database.now passes.old }
+        ensures out { HasFreshBut (out_to_analyzers self.now.fronts.now self.now.analyzers.now
+            (length self.now.objects.now.buffers.items) (place + 1)) self.now.objects.now
+            self.now.database.now passes.new }
+        ensures client { result.seat.client ≡ first_analyzer self.now.fronts.now + place }
+        ensures engine { result.seat.engine.now ≡ self.now.objects.now.engine }
         ensures calls { own_entries result.seat.pass ≡ [] }
-        ensures port { IsNewAnalyzerPort self.now.buffers.items analyzers.now place
-            (first_analyzer declared.now + place) (access_by ring_window result.port) }
+        ensures port { IsNewAnalyzerPort self.now.objects.now.buffers.items self.now.analyzers.now
+            place (first_analyzer self.now.fronts.now + place) (access_by ring_window result.port) }
     {
-        let client = declared.len() as u32 + 1 + place;
+        let client = self.fronts.len() as u32 + 1 + place;
         let caller = Caller::of_client(client).number();
-        let number = analyzers[place as usize].buffer as usize;
+        let number = self.analyzers[place as usize].buffer as usize;
         let pass = passes.take_of_buffer(number, caller);
-        let port = SharedPort::new(&self.buffers[number].shared, pass);
+        let port = SharedPort::new(&self.objects.buffers[number].shared, pass);
         let pass = take_fresh(&mut passes.engine, caller);
-        let seat = Seat::new(&self.engine, pass, client);
+        let seat = Seat::new(&self.objects.engine, pass, client);
         AnalyzerPlaces { seat, port }
     }
 
     /// The analyzer at this place of the list.
-    fn seat_analyzer<'a, D: Database>(
-        &'a self,
+    fn seat_analyzer(
+        &self,
         alloc: Global,
-        database: &SharedOdb<D>,
-        declared: &[FrontDeclared],
-        analyzers: &[AnalyzerDeclared],
         place: u32,
         passes: &mut SessionPasses<D>,
     ) -> Result<SessionAnalyzer<'a>, NoMemory>
-        requires place { place < length analyzers.now }
-        requires few { length declared.now ≤ 32 }
-        requires few_analyzers { length analyzers.now ≤ 8 }
-        requires callers { HaveCallers declared.now analyzers.now self.now database.now }
-        requires out { HasFreshBut (out_to_analyzers declared.now analyzers.now
-            (length self.now.buffers.items) place) self.now database.now passes.old }
-        ensures out { OnOk result (HasFreshBut (out_to_analyzers declared.now analyzers.now
-            (length self.now.buffers.items) (place + 1)) self.now database.now passes.new) }
-        ensures analyzer { IfOk result (IsNewAnalyzerAt self.now (first_analyzer declared.now)
-            analyzers.now place) }
+        requires place { place < length self.now.analyzers.now }
+        requires seats { CanBeSeated self.now.fronts.now self.now.analyzers.now self.now.objects.now
+            self.now.database.now }
+        requires out { HasFreshBut (out_to_analyzers self.now.fronts.now self.now.analyzers.now
+            (length self.now.objects.now.buffers.items) place) self.now.objects.now
+            self.now.database.now passes.old }
+        ensures out { OnOk result (HasFreshBut (out_to_analyzers self.now.fronts.now
+            self.now.analyzers.now (length self.now.objects.now.buffers.items) (place + 1))
+            self.now.objects.now self.now.database.now passes.new) }
+        ensures analyzer { IfOk result (IsNewAnalyzerAt self.now.objects.now
+            (first_analyzer self.now.fronts.now) self.now.analyzers.now place) }
     {
-        let analyzer = make_analyzer(alloc, &self.buffers, &analyzers[place as usize])?;
-        let AnalyzerPlaces { seat, port } = self.place_analyzer(
-            database, declared, analyzers, place, passes,
-        );
+        let analyzer = make_analyzer(
+            alloc,
+            &self.objects.buffers,
+            &self.analyzers[place as usize],
+        )?;
+        let AnalyzerPlaces { seat, port } = self.place_analyzer(place, passes);
         let member = AnalyzerMember::new(seat, analyzer);
         Ok(AnalyzerSeat::new(member, port))
     }
 
     /// All analyzers.
-    fn seat_analyzers<'a, D: Database>(
-        &'a self,
+    fn seat_analyzers(
+        &self,
         alloc: Global,
-        database: &SharedOdb<D>,
-        declared: &[FrontDeclared],
-        analyzers: &[AnalyzerDeclared],
         passes: &mut SessionPasses<D>,
     ) -> Result<SessionAnalyzers<'a>, NoMemory>
-        requires few { length declared.now ≤ 32 }
-        requires few_analyzers { length analyzers.now ≤ 8 }
-        requires callers { HaveCallers declared.now analyzers.now self.now database.now }
-        requires out { HasFreshBut (out_to_analyzers declared.now analyzers.now
-            (length self.now.buffers.items) 0) self.now database.now passes.old }
-        ensures out { OnOk result (HasFreshBut (out_to_members declared.now analyzers.now
-            (length self.now.buffers.items)) self.now database.now passes.new) }
-        ensures analyzers { IfOk result (λ seats. AreNewAnalyzers self.now
-            (first_analyzer declared.now) analyzers.now seats) }
+        requires seats { CanBeSeated self.now.fronts.now self.now.analyzers.now self.now.objects.now
+            self.now.database.now }
+        requires out { HasFreshBut (out_to_analyzers self.now.fronts.now self.now.analyzers.now
+            (length self.now.objects.now.buffers.items) 0) self.now.objects.now
+            self.now.database.now passes.old }
+        ensures out { OnOk result (HasFreshBut (out_to_members self.now.fronts.now
+            self.now.analyzers.now (length self.now.objects.now.buffers.items)) self.now.objects.now
+            self.now.database.now passes.new) }
+        ensures analyzers { IfOk result (λ seats. AreNewAnalyzers self.now.objects.now
+            (first_analyzer self.now.fronts.now) self.now.analyzers.now seats) }
     {
         let mut seats = BoundedList::new(alloc)?;
-        for place in 0..analyzers.len() as u32 {
-            let analyzer = self.seat_analyzer(alloc, database, declared, analyzers, place, passes)?;
+        for place in 0..self.analyzers.len() as u32 {
+            let analyzer = self.seat_analyzer(alloc, place, passes)?;
             seats.push(analyzer);
         }
         Ok(seats)
     }
 
     /// The members, but for the run files and the pick. All memory that they need is taken here.
-    fn bare_members<'a, D: Database>(
-        &'a self,
+    fn bare_members(
+        &self,
         alloc: Global,
-        database: &'a SharedOdb<D>,
-        declared: &[FrontDeclared],
-        analyzers: &[AnalyzerDeclared],
         channels: ChannelSpecs,
         passes: &mut SessionPasses<D>,
     ) -> Result<BareMembers<'a, SharedPort<'a, RingBuffer>, SharedAccess<'a, D>>, NoMemory>
-        requires suit { SuitMembers declared.now analyzers.now channels self.now database.now }
-        requires out { HasFreshBut (out_to_fronts declared.now 0) self.now database.now
-            passes.old }
-        ensures out { OnOk result (HasFreshBut (out_to_members declared.now analyzers.now
-            (length self.now.buffers.items)) self.now database.now passes.new) }
-        ensures members { IfOk result (λ bare. AreBareMembers declared.now analyzers.now channels
-            self.now database.now bare.fronts.items bare.logger
-            (map (access_by ring_window) bare.ports) bare.analyzers) }
+        requires suit { SuitMembers self.now.fronts.now self.now.analyzers.now channels
+            self.now.objects.now self.now.database.now }
+        requires out { HasFreshBut (out_to_fronts self.now.fronts.now 0) self.now.objects.now
+            self.now.database.now passes.old }
+        ensures out { OnOk result (HasFreshBut (out_to_members self.now.fronts.now
+            self.now.analyzers.now (length self.now.objects.now.buffers.items)) self.now.objects.now
+            self.now.database.now passes.new) }
+        ensures members { IfOk result (λ bare. AreBareMembers self.now.fronts.now
+            self.now.analyzers.now channels self.now.objects.now self.now.database.now
+            bare.fronts.items bare.logger (map (access_by ring_window) bare.ports) bare.analyzers) }
     {
-        let logger = make_logger(alloc, &self.buffers, channels)?;
-        let fronts = self.seat_fronts(alloc, database, declared, analyzers, passes)?;
-        let ports = self.open_ports(alloc, database, declared, analyzers, passes)?;
-        let seat = self.place_logger(database, declared, analyzers, passes);
-        let analyzers = self.seat_analyzers(alloc, database, declared, analyzers, passes)?;
+        let logger = make_logger(alloc, &self.objects.buffers, channels)?;
+        let fronts = self.seat_fronts(alloc, passes)?;
+        let ports = self.open_ports(alloc, passes)?;
+        let seat = self.place_logger(passes);
+        let analyzers = self.seat_analyzers(alloc, passes)?;
         Ok(BareMembers {
             fronts,
             logger: LoggerMember::new(seat, logger),
@@ -400,10 +378,12 @@ impl SessionObjects {
             analyzers,
         })
     }
+}
 
+impl SessionObjects {
     /// The members of a session of these declarations, none of which made a call: its front-ends, in their order, the logger
-    /// with these channels, and its analyzers, in their order. Their passes are taken out of those that are kept. The run files and the pick come back
-    /// where memory is wanting for the members.
+    /// with these channels, and its analyzers, in their order. Their passes are taken out of those that are kept. The run
+    /// files and the pick come back where memory is wanting for the members.
     pub fn crew<'a, D: Database, F: Files, K: Pick, G: Gate>(
         &'a self,
         alloc: Global,
@@ -429,7 +409,13 @@ impl SessionObjects {
         ensures files { IfErr result (λ unmanned. unmanned.files ≡ files) }
         ensures pick { IfErr result (λ unmanned. unmanned.pick ≡ pick) }
     {
-        match self.bare_members(alloc, database, declared, analyzers, channels, passes) {
+        let seating = Seating {
+            objects: self,
+            database,
+            fronts: declared,
+            analyzers,
+        };
+        match seating.bare_members(alloc, channels, passes) {
             Ok(bare) => {
                 let logger = LoggerSeat::new(bare.logger, bare.ports, files);
                 Ok(Crew::new(bare.fronts, logger, bare.analyzers, pick, gate))

@@ -14,6 +14,7 @@ ghost use Rattle.session_objects.specs.Members.{ring_window, ArePortsTo, IsFront
 
 use crate::objects::SessionObjects;
 use crate::passes::SessionPasses;
+use crate::seating::Seating;
 use crate::seats::{SessionAnalyzer, SessionAnalyzers, SessionFront, SessionLogger, SessionParts};
 use analyzer_seats::AnalyzerParts;
 use buffer_lock::SharedPort;
@@ -40,24 +41,23 @@ where
     pub pick: K,
 }
 
-impl SessionObjects {
+impl<'a, 's, D: Database> Seating<'a, 's, D> {
     /// Takes the passes of the front-end with this client number back, which is the last one that has them.
-    fn take_back_front<'a, D: Database>(
+    fn take_back_front(
         &self,
-        database: &SharedOdb<D>,
-        declared: &[FrontDeclared],
-        analyzers: &[AnalyzerDeclared],
         client: usize,
         front: SessionFront<'a, D>,
         passes: &mut SessionPasses<D>,
     )
         ghost calls: { SessionCalls }
-        requires client { IsFrontAt self.now database.now declared.now client front }
+        requires client { IsFrontAt self.now.objects.now self.now.database.now self.now.fronts.now
+            client front }
         requires calls { slice_get calls.fronts client ≡ Some (front_calls front) }
-        requires out { HasCallsBut (out_to_fronts declared.now (client + 1)) declared.now
-            analyzers.now calls self.now database.now passes.old }
-        ensures { HasCallsBut (out_to_fronts declared.now client) declared.now
-            analyzers.now calls self.now database.now passes.new }
+        requires out { HasCallsBut (out_to_fronts self.now.fronts.now (client + 1))
+            self.now.fronts.now self.now.analyzers.now calls self.now.objects.now
+            self.now.database.now passes.old }
+        ensures { HasCallsBut (out_to_fronts self.now.fronts.now client) self.now.fronts.now
+            self.now.analyzers.now calls self.now.objects.now self.now.database.now passes.new }
     {
         let FrontParts {
             pass,
@@ -67,75 +67,68 @@ impl SessionObjects {
         } = front.into_parts();
         passes.put_to_engine(pass);
         passes.put_to_database(access.into_pass());
-        passes.put_to_buffer(declared[client].buffer as usize, port.into_pass());
+        passes.put_to_buffer(self.fronts[client].buffer as usize, port.into_pass());
     }
 
     /// Takes the passes of all front-ends back.
-    fn take_back_fronts<'a, D: Database>(
-        &self,
-        database: &SharedOdb<D>,
-        declared: &[FrontDeclared],
-        analyzers: &[AnalyzerDeclared],
-        mut fronts: Vec<SessionFront<'a, D>>,
-        passes: &mut SessionPasses<D>,
-    )
+    fn take_back_fronts(&self, mut fronts: Vec<SessionFront<'a, D>>, passes: &mut SessionPasses<D>)
         ghost calls: { SessionCalls }
-        requires fronts { AreFrontsOf self.now database.now declared.now fronts.items }
+        requires fronts { AreFrontsOf self.now.objects.now self.now.database.now self.now.fronts.now
+            fronts.items }
         requires calls { calls.fronts ≡ map front_calls fronts.items }
-        requires out { HasCallsBut (out_to_fronts declared.now (length declared.now))
-            declared.now analyzers.now calls self.now database.now passes.old }
-        ensures { HasCallsBut (out_to_fronts declared.now 0) declared.now
-            analyzers.now calls self.now database.now passes.new }
+        requires out { HasCallsBut (out_to_fronts self.now.fronts.now (length self.now.fronts.now))
+            self.now.fronts.now self.now.analyzers.now calls self.now.objects.now
+            self.now.database.now passes.old }
+        ensures { HasCallsBut (out_to_fronts self.now.fronts.now 0) self.now.fronts.now
+            self.now.analyzers.now calls self.now.objects.now self.now.database.now passes.new }
     {
         while let Some(front) = fronts.pop() {
-            self.take_back_front(database, declared, analyzers, fronts.len(), front, passes);
+            self.take_back_front(fronts.len(), front, passes);
         }
     }
 
     /// Takes the passes of the logger back.
-    fn take_back_logger<'a, D: Database, F: Files>(
+    fn take_back_logger<F: Files>(
         &self,
-        database: &SharedOdb<D>,
-        declared: &[FrontDeclared],
-        analyzers: &[AnalyzerDeclared],
         logger: SessionLogger<'a, F>,
         passes: &mut SessionPasses<D>,
     ) -> F
         ghost calls: { SessionCalls }
-        requires logger { IsLoggerOf self.now (length declared.now) logger }
-        requires fronts { length calls.fronts ≡ length declared.now }
+        requires logger { IsLoggerOf self.now.objects.now (length self.now.fronts.now) logger }
+        requires fronts { length calls.fronts ≡ length self.now.fronts.now }
         requires engine { calls.logger_engine ≡ logger.calls }
         requires ports { calls.logger_ports ≡ logger.ports }
-        requires out { HasCallsBut (out_to_logger declared.now (length self.now.buffers.items))
-            declared.now analyzers.now calls self.now database.now passes.old }
+        requires out { HasCallsBut (out_to_logger self.now.fronts.now
+            (length self.now.objects.now.buffers.items)) self.now.fronts.now self.now.analyzers.now
+            calls self.now.objects.now self.now.database.now passes.old }
         ensures files { result ≡ logger.entry.files }
-        ensures out { HasCallsBut (out_to_fronts declared.now (length declared.now)) declared.now
-            analyzers.now calls self.now database.now passes.new }
+        ensures out { HasCallsBut (out_to_fronts self.now.fronts.now (length self.now.fronts.now))
+            self.now.fronts.now self.now.analyzers.now calls self.now.objects.now
+            self.now.database.now passes.new }
     {
         let LoggerParts { pass, ports, files } = logger.into_parts();
         passes.put_to_engine(pass);
-        self.take_back_ports(database, declared, analyzers, ports, passes);
+        self.take_back_ports(ports, passes);
         files
     }
 
     /// Takes the passes of the logger's ports back, each to those of its buffer.
-    fn take_back_ports<'a, D: Database>(
+    fn take_back_ports(
         &self,
-        database: &SharedOdb<D>,
-        declared: &[FrontDeclared],
-        analyzers: &[AnalyzerDeclared],
         mut ports: Ports<SharedPort<'a, RingBuffer>>,
         passes: &mut SessionPasses<D>,
     )
         ghost calls: { SessionCalls }
-        requires many { length ports ≡ length self.now.buffers.items }
-        requires ports { ArePortsTo self.now.buffers.items (caller_of_client (length declared.now))
-            (map (access_by ring_window) ports) }
+        requires many { length ports ≡ length self.now.objects.now.buffers.items }
+        requires ports { ArePortsTo self.now.objects.now.buffers.items
+            (caller_of_client (length self.now.fronts.now)) (map (access_by ring_window) ports) }
         requires calls { calls.logger_ports ≡ map (access_by ring_window) ports }
-        requires out { HasCallsBut (out_to_ports declared.now (length self.now.buffers.items))
-            declared.now analyzers.now calls self.now database.now passes.old }
-        ensures { HasCallsBut (out_to_fronts declared.now (length declared.now)) declared.now
-            analyzers.now calls self.now database.now passes.new }
+        requires out { HasCallsBut (out_to_ports self.now.fronts.now
+            (length self.now.objects.now.buffers.items)) self.now.fronts.now self.now.analyzers.now
+            calls self.now.objects.now self.now.database.now passes.old }
+        ensures { HasCallsBut (out_to_fronts self.now.fronts.now (length self.now.fronts.now))
+            self.now.fronts.now self.now.analyzers.now calls self.now.objects.now
+            self.now.database.now passes.new }
     {
         while let Some(port) = ports.pop() {
             passes.put_to_buffer(ports.len(), port.into_pass());
@@ -143,63 +136,51 @@ impl SessionObjects {
     }
 
     /// Takes the passes of the analyzer at this place of the list back, which is the last one that has them.
-    fn take_back_analyzer<'a, D: Database>(
+    fn take_back_analyzer(
         &self,
-        database: &SharedOdb<D>,
-        declared: &[FrontDeclared],
-        analyzers: &[AnalyzerDeclared],
         place: usize,
         analyzer: SessionAnalyzer<'a>,
         passes: &mut SessionPasses<D>,
     )
         ghost calls: { SessionCalls }
-        requires place { IsAnalyzerAt self.now (first_analyzer declared.now) analyzers.now place
-            analyzer }
+        requires place { IsAnalyzerAt self.now.objects.now (first_analyzer self.now.fronts.now)
+            self.now.analyzers.now place analyzer }
         requires calls { slice_get calls.analyzers place ≡ Some (analyzer_calls analyzer) }
-        requires fronts { length calls.fronts ≡ length declared.now }
-        requires out { HasCallsBut (out_to_analyzers declared.now analyzers.now
-            (length self.now.buffers.items) (place + 1)) declared.now analyzers.now calls
-            self.now database.now passes.old }
-        ensures { HasCallsBut (out_to_analyzers declared.now analyzers.now
-            (length self.now.buffers.items) place) declared.now analyzers.now calls
-            self.now database.now passes.new }
+        requires fronts { length calls.fronts ≡ length self.now.fronts.now }
+        requires out { HasCallsBut (out_to_analyzers self.now.fronts.now self.now.analyzers.now
+            (length self.now.objects.now.buffers.items) (place + 1)) self.now.fronts.now
+            self.now.analyzers.now calls self.now.objects.now self.now.database.now passes.old }
+        ensures { HasCallsBut (out_to_analyzers self.now.fronts.now self.now.analyzers.now
+            (length self.now.objects.now.buffers.items) place) self.now.fronts.now
+            self.now.analyzers.now calls self.now.objects.now self.now.database.now passes.new }
     {
         let AnalyzerParts { pass, port } = analyzer.into_parts();
         passes.put_to_engine(pass);
-        passes.put_to_buffer(analyzers[place].buffer as usize, port.into_pass());
+        passes.put_to_buffer(self.analyzers[place].buffer as usize, port.into_pass());
     }
 
     /// Takes the passes of all analyzers back.
-    fn take_back_analyzers<'a, D: Database>(
-        &self,
-        database: &SharedOdb<D>,
-        declared: &[FrontDeclared],
-        analyzers: &[AnalyzerDeclared],
-        mut seats: SessionAnalyzers<'a>,
-        passes: &mut SessionPasses<D>,
-    )
+    fn take_back_analyzers(&self, mut seats: SessionAnalyzers<'a>, passes: &mut SessionPasses<D>)
         ghost calls: { SessionCalls }
-        requires analyzers { AreAnalyzersOf self.now (first_analyzer declared.now) analyzers.now
-            seats }
+        requires analyzers { AreAnalyzersOf self.now.objects.now
+            (first_analyzer self.now.fronts.now) self.now.analyzers.now seats }
         requires calls { calls.analyzers ≡ map analyzer_calls seats }
-        requires fronts { length calls.fronts ≡ length declared.now }
-        requires out { HasCallsBut (out_to_members declared.now analyzers.now
-            (length self.now.buffers.items)) declared.now analyzers.now calls self.now
-            database.now passes.old }
-        ensures { HasCallsBut (out_to_logger declared.now (length self.now.buffers.items))
-            declared.now analyzers.now calls self.now database.now passes.new }
+        requires fronts { length calls.fronts ≡ length self.now.fronts.now }
+        requires out { HasCallsBut (out_to_members self.now.fronts.now self.now.analyzers.now
+            (length self.now.objects.now.buffers.items)) self.now.fronts.now self.now.analyzers.now
+            calls self.now.objects.now self.now.database.now passes.old }
+        ensures { HasCallsBut (out_to_logger self.now.fronts.now
+            (length self.now.objects.now.buffers.items)) self.now.fronts.now self.now.analyzers.now
+            calls self.now.objects.now self.now.database.now passes.new }
     {
         while let Some(analyzer) = seats.pop() {
-            self.take_back_analyzer(database, declared, analyzers, seats.len(), analyzer, passes);
+            self.take_back_analyzer(seats.len(), analyzer, passes);
         }
     }
 
     /// Takes all passes back, by which these calls were made.
-    fn take_back_all<'a, D: Database, F: Files, K: Pick>(
+    fn take_back_all<F: Files, K: Pick>(
         &self,
-        database: &SharedOdb<D>,
-        declared: &[FrontDeclared],
-        analyzers: &[AnalyzerDeclared],
         mut passes: SessionPasses<D>,
         parts: SessionParts<'a, D, F, K>,
         main_engine: EnginePass,
@@ -208,15 +189,18 @@ impl SessionObjects {
         ghost calls: { SessionCalls }
         requires calls { calls ≡ session_calls (own_entries main_engine) (seen_by main_database)
             parts.fronts.items parts.logger parts.analyzers }
-        requires callers { HaveCallers declared.now analyzers.now self.now database.now }
-        requires members { AreMembersOf declared.now analyzers.now self.now database.now
-            parts.fronts.items parts.logger parts.analyzers }
-        requires out { HasFreshBut (out_to_members declared.now analyzers.now
-            (length self.now.buffers.items)) self.now database.now passes }
-        requires engine { IsMainPass (engine_lock_of self.now.engine) main_engine }
-        requires database { IsMainPass (odb_lock_of database.now) main_database }
-        ensures calls { HasCalls declared.now analyzers.now calls self.now database.now
-            result.passes }
+        requires callers { HaveCallers self.now.fronts.now self.now.analyzers.now
+            self.now.objects.now self.now.database.now }
+        requires members { AreMembersOf self.now.fronts.now self.now.analyzers.now
+            self.now.objects.now self.now.database.now parts.fronts.items parts.logger
+            parts.analyzers }
+        requires out { HasFreshBut (out_to_members self.now.fronts.now self.now.analyzers.now
+            (length self.now.objects.now.buffers.items)) self.now.objects.now self.now.database.now
+            passes }
+        requires engine { IsMainPass (engine_lock_of self.now.objects.now.engine) main_engine }
+        requires database { IsMainPass (odb_lock_of self.now.database.now) main_database }
+        ensures calls { HasCalls self.now.fronts.now self.now.analyzers.now calls
+            self.now.objects.now self.now.database.now result.passes }
         ensures files { result.files ≡ parts.entry.logger.files }
         ensures pick { result.pick ≡ parts.entry.pick }
     {
@@ -226,9 +210,9 @@ impl SessionObjects {
             analyzers: seats,
             pick,
         } = parts;
-        self.take_back_analyzers(database, declared, analyzers, seats, &mut passes);
-        let files = self.take_back_logger(database, declared, analyzers, logger, &mut passes);
-        self.take_back_fronts(database, declared, analyzers, fronts, &mut passes);
+        self.take_back_analyzers(seats, &mut passes);
+        let files = self.take_back_logger(logger, &mut passes);
+        self.take_back_fronts(fronts, &mut passes);
         passes.put_to_engine(main_engine);
         passes.put_to_database(main_database);
         Returned {
@@ -237,7 +221,9 @@ impl SessionObjects {
             pick,
         }
     }
+}
 
+impl SessionObjects {
     /// Takes all passes of the session's objects back: from the members, which are behind their last turns, and the main
     /// thread's own. Takes no memory.
     pub fn take_back<'a, D: Database, F: Files, K: Pick>(
@@ -263,14 +249,12 @@ impl SessionObjects {
         ensures files { result.files ≡ parts.entry.logger.files }
         ensures pick { result.pick ≡ parts.entry.pick }
     {
-        self.take_back_all(
+        let seating = Seating {
+            objects: self,
             database,
-            declared,
+            fronts: declared,
             analyzers,
-            passes,
-            parts,
-            main_engine,
-            main_database,
-        )
+        };
+        seating.take_back_all(passes, parts, main_engine, main_database)
     }
 }

@@ -38,3 +38,6 @@ loop-wanted-preserved c =
           (ap (λ (bs : List SessionBuffer). slice_get bs number) (sym items) ∙ at) roster
           (ap (λ rs. slice_get rs number) (sym rosters) ∙ there)),
     )
+
+pub bounds-declared-wanted-index : goal.bounds-declared-wanted-index
+bounds-declared-wanted-index c = c.loop-wanted-test.true
