@@ -1,6 +1,6 @@
 -- The end of a session that was open, or that was to open.
 use Rattle.std.proofs.Common.{◌≡◌, ℕ, List, length, refl, sym, ap, subst, inl, arith}
-use Rattle.std.specs.Prelude.{Some}
+use Rattle.std.specs.Prelude.{Some, None, false}
 use Rattle.std.proofs.lemmas.List.{take_all}
 use Rattle.transitions.specs.Engines.{engine_opening}
 use Rattle.transitions.specs.declared.entry.EngineEntry.{EngineEntry}
@@ -8,12 +8,12 @@ use Rattle.transition_lock.specs.declared.shared.SharedEngine.{SharedEngine}
 use Rattle.transition_lock.specs.SharedEngines.{first_engine}
 use Rattle.odb_watch.specs.declared.entry.WatchEntry.{WatchEntry}
 use Rattle.odb_port.specs.DatabasePorts.{DatabaseAccess}
-use Rattle.odb_lock.specs.declared.access.SharedAccess.{SharedAccess}
 use Rattle.odb_lock.specs.declared.shared.SharedOdb.{SharedOdb}
 use Rattle.frontend_kit.specs.declared.generator.Generator.{Generator}
 use Rattle.daq_members.specs.FrontSeats.{FrontSeen}
 use Rattle.daq_members.specs.LoggerSeats.{LoggerSeen}
 use Rattle.analyzer_seats.specs.SeatedAnalyzers.{AnalyzerSeen}
+use Rattle.database_files.specs.NotedReplies.{NotedReplies}
 use Rattle.database_desk.specs.DatabaseStages.{DatabaseStage}
 use Rattle.session_setup.specs.Setup.{Declared, declared_by}
 use Rattle.session_setup.specs.SetupLines.{opened_with_defaults}
@@ -26,15 +26,13 @@ use Rattle.session_objects.specs.Members.{session_calls}
 use Rattle.session_objects.specs.Records.{HasCalls}
 use Rattle.session_runs.specs.KeptRuns.{RunsSeen}
 use Rattle.session_runs.specs.RunAnswers.{ClockTold}
-use Rattle.session_lines.specs.Stages.{front_names, open_stage, opened_runs, unopened_stage}
+use Rattle.session_lines.specs.Stages.{SessionStage, front_names, open_stage, opened_runs, unopened_stage}
 use Rattle.session_lines.specs.RunLines.{CutsKeys, CutsOpening, KeysMade, MakesKeys, OpensSession}
 use Rattle.script_desk.specs.declared.endings.Ending.TheVariants.{Halted}
 use Rattle.script_desk.specs.declared.halts.Halt.TheVariants.{NoMemory as no_memory}
 use Rattle.session_commands.specs.declared.script.Script.{Script}
-use Rattle.session_commands.specs.declared.side.MainSide.{MainSide}
-use Rattle.session_commands.specs.Finishing.{stage_unopened}
 use Rattle.daq_session.specs.Environments.{OutsideTold}
-use Rattle.daq_session.specs.Played.{TellsEnd, side_of, unopened_lines}
+use Rattle.daq_session.specs.Played.{TellsEnd}
 use Rattle.daq_session.proofs.MembersLaws.{names_of}
 
 -- keys that were all made are cut behind the last
@@ -75,14 +73,15 @@ module _ (quota : ℕ) (declared : Declared) (lists : DeclaredLists) (database :
   }
 
 -- A session was to open, and there was no memory for it: nothing was read, written or done to the run files.
-pub cut_tells : {D S O F E C K : Type 0} {g : _} (told : OutsideTold S O F E C K) (script : Script S O) (run_files : F) (pick : K) (quota : ℕ) (declared : Declared) (side : MainSide (SharedAccess D g) E C)
-    → TellsEnd told script run_files (unopened_lines (Halted no_memory) side run_files pick script) (stage_unopened (side_of told) quota declared side)
-cut_tells told script run_files pick quota declared side = record {
+pub cut_tells : {S O F E C K : Type 0} (told : OutsideTold S O F E C K) (script : Script S O) (run_files : F) (pick : K) (replies : NotedReplies) (odb_files : E) (clock : C) (final : SessionStage)
+    → final.database.files ≡ told.dumps odb_files → final.database.replies ≡ replies.replies → final.clock ≡ told.clock clock
+    → TellsEnd told script run_files (record { ending = Halted no_memory; closing = None; failed = false; replies = replies; odb_files = odb_files; clock = clock; run_files = run_files; pick = pick; script = script }) final
+cut_tells told script run_files pick replies odb_files clock final files_are replies_are clock_is = record {
   counts = record { may = tt; source_counts = refl; lines = told.sink_faults script.out; sink_counts = refl; behind = refl };
   failed = omega arith;
-  files_are = refl;
-  replies_are = refl;
-  clock_is = refl;
+  files_are = files_are;
+  replies_are = replies_are;
+  clock_is = clock_is;
 }
 
 -- The passes that are back tell the calls of these callers.

@@ -25,6 +25,7 @@ use Rattle.script_desk.specs.declared.endings.Ending.{Ending}
 use Rattle.script_desk.specs.declared.endings.Ending.TheVariants.{Halted}
 use Rattle.script_desk.specs.declared.halts.Halt.TheVariants.{NoMemory as no_memory}
 use Rattle.daq_session.specs.declared.left.EndedObjects.{EndedObjects}
+use Rattle.daq_session.specs.NewDatabases.{database_passes}
 use Rattle.daq_session.specs.Played.{IsEndedSession, ObjectsEnd}
 
 -- The declarations.
@@ -57,7 +58,7 @@ pub lists_sound : (declared opened : Declared) (lists : DeclaredLists) → opene
 lists_sound declared opened lists is are sound = subst AreSound (is ∙ lists_so declared opened lists is are) sound
 
 -- the database has a pass for each front-end
-pub few_fronts : {D : Type 0} (shared : SharedOdb D) (lists : DeclaredLists) → passes_of (odb_lock_of shared) ≡ 33 → AreSound (declared_by lists) → length lists.fronts < passes_of (odb_lock_of shared)
+pub few_fronts : {D : Type 0} (shared : SharedOdb D) (lists : DeclaredLists) → passes_of (odb_lock_of shared) ≡ database_passes → AreSound (declared_by lists) → length lists.fronts < passes_of (odb_lock_of shared)
 few_fronts shared lists many sound = omega (arith, many, sound.few_fronts)
 
 -- A session was to open, and there was no memory for its objects.

@@ -57,13 +57,13 @@ abbrev pub side_of : {D S O F E C K : Type 0} {g : _} → OutsideTold S O F E C 
 side_of told = record { access = access_by_pass; files = told.dumps; clock = told.clock }
 
 -- what is left of a script that opened no session
-abbrev pub unopened_lines : {P S O E C F K : Type 0} → Ending → MainSide P E C → F → K → Script S O → LinesEnd S O E C F K
+abbrev pub unopened_lines : {P S O E C F K : Type 0} {d : _} {e : _} → Ending → MainSide P E C d e → F → K → Script S O → LinesEnd S O E C F K
 unopened_lines ending side run_files pick script = record {
   ending = ending;
   closing = None;
   failed = false;
-  replies = side.replies;
-  odb_files = side.files;
+  replies = side.database.replies;
+  odb_files = side.database.files;
   clock = side.clock;
   run_files = run_files;
   pick = pick;
@@ -113,8 +113,8 @@ ObjectsEnd told lists objects shared first_files final ending run_files (Some (p
     × OpenedEnds told lists objects shared first_files final.database.access last passes records run_files)
 
 -- An open session was played from the line that opened it to the end of its script, over its objects.
-pub record PlaysOpened {D S O F E C K : Type 0} {g : _} (told : OutsideTold S O F E C K) (lists : DeclaredLists)
-    (objects : SessionObjects) (shared : SharedOdb D) (first_files : F) (runs : RunsSeen) (side : MainSide (SharedAccess D g) E C)
+pub record PlaysOpened {D S O F E C K : Type 0} {g : _} {d : _} {e : _} (told : OutsideTold S O F E C K) (lists : DeclaredLists)
+    (objects : SessionObjects) (shared : SharedOdb D) (first_files : F) (runs : RunsSeen) (side : MainSide (SharedAccess D g) E C d e)
     (before : Script S O) (end : OpenedEnd D S O E C F K g) : Type 0 where
   pub final : SessionStage
   pub tells : TellsEnd told before first_files end.lines final
@@ -123,9 +123,9 @@ pub record PlaysOpened {D S O F E C K : Type 0} {g : _} (told : OutsideTold S O 
       end.lines.ending end.lines.closing
 
 -- A session of these declarations was opened over its objects, and played to the end of its script, from its first start on.
-pub record PlaysObjects {D S O F E C K : Type 0} {g : _} (told : OutsideTold S O F E C K) (lists : DeclaredLists)
+pub record PlaysObjects {D S O F E C K : Type 0} {g : _} {d : _} {e : _} (told : OutsideTold S O F E C K) (lists : DeclaredLists)
     (objects : SessionObjects) (shared : SharedOdb D) (first_files : F) (quota : ℕ) (declared : Declared)
-    (side : MainSide (SharedAccess D g) E C) (before : Script S O) (end : OpenedEnd D S O E C F K g) : Type 0 where
+    (side : MainSide (SharedAccess D g) E C d e) (before : Script S O) (end : OpenedEnd D S O E C F K g) : Type 0 where
   pub final : SessionStage
   pub tells : TellsEnd told before first_files end.lines final
   pub ends : ObjectsEnd told.crew lists objects shared first_files final end.lines.ending end.lines.run_files end.session
@@ -169,8 +169,8 @@ SessionEnds told shared first_files final ending run_files Nothing =
     (final.runs ≡ None) × (run_files ≡ first_files) × (ending ≡ Halted no_memory)
 
 -- A session of these declarations was to be opened, and its script was played to the end from its first start on.
-pub record PlaysSession {D S O F E C K : Type 0} {g : _} (told : OutsideTold S O F E C K) (shared : SharedOdb D) (first_files : F)
-    (quota : ℕ) (declared : Declared) (side : MainSide (SharedAccess D g) E C) (before : Script S O)
+pub record PlaysSession {D S O F E C K : Type 0} {g : _} {d : _} {e : _} (told : OutsideTold S O F E C K) (shared : SharedOdb D) (first_files : F)
+    (quota : ℕ) (declared : Declared) (side : MainSide (SharedAccess D g) E C d e) (before : Script S O)
     (lines : LinesEnd S O E C F K) (left : LeftBehind D g) : Type 0 where
   pub final : SessionStage
   pub tells : TellsEnd told before first_files lines final

@@ -13,8 +13,10 @@ ghost use Rattle.session_objects.specs.Rosters.{KeepsFresh, KeepsPasses};
 ghost use Rattle.daq_session.specs.Played.{IsBack, IsMainAlone, KeepsLeft, seen_by_main, unopened_lines};
 
 use crate::laws::sessions_hold;
+use crate::places::MemberSide;
 use crate::played::LinesEnd;
-use daq_io::{Clock, Files, Pick, Sink, Source};
+use daq_io::{Clock, Files, Gate, Pick, Sink, Source};
+use database_desk::DatabaseDesk;
 use odb_lock::{LockedDatabase, OdbPasses, SharedAccess, SharedOdb, WatchedSeen};
 use odb_tree::Database;
 use odb_watch::WatchEntry;
@@ -66,27 +68,37 @@ fn all_passes<'a, D: Database>(
 }
 
 /// What a script came to that opened no session, and what is left of it.
-pub fn leave_unopened<'a, S: Source, O: Sink, D: Database, E: Files, C: Clock, F: Files, K: Pick>(
+pub fn leave_unopened<
+    'a,
+    S: Source,
+    O: Sink,
+    D: Database,
+    E: Files,
+    C: Clock,
+    F: Files,
+    K: Pick,
+    G: Gate,
+>(
     shared: &SharedOdb<D>,
     side: MainSide<SharedAccess<'a, D>, E, C>,
     passes: OdbPasses<D>,
     ending: Ending,
-    run_files: F,
-    pick: K,
+    members: MemberSide<'a, F, K, G>,
     script: Script<S, O>,
 ) -> (LinesEnd<S, O, E, C, F, K>, LeftBehind<D>)
-    requires caller { (access_by_pass side.access).caller ≡ main_caller }
-    requires database { (access_by_pass side.access).database ≡ odb_identity shared.now }
+    requires caller { (access_by_pass side.database.access).caller ≡ main_caller }
+    requires database { (access_by_pass side.database.access).database ≡ odb_identity shared.now }
     requires others { KeepsFresh (main_caller ∷ []) (odb_lock_of shared.now) passes }
-    ensures lines { result.0 ≡ unopened_lines ending side.entry run_files pick script }
-    ensures left { IsMainAlone shared.now (access_by_pass side.entry.access).seen result.1 }
+    ensures lines { result.0 ≡ unopened_lines ending side.entry members.entry.run_files
+        members.entry.pick script }
+    ensures left { IsMainAlone shared.now (access_by_pass side.entry.database.access).seen result.1 }
 {
-    let MainSide {
+    let MainSide { database, clock } = side;
+    let DatabaseDesk {
         access,
         files: odb_files,
         replies,
-        clock,
-    } = side;
+    } = database;
     let passes = all_passes(shared, access, passes);
     let lines = LinesEnd {
         ending,
@@ -95,8 +107,8 @@ pub fn leave_unopened<'a, S: Source, O: Sink, D: Database, E: Files, C: Clock, F
         replies,
         odb_files,
         clock,
-        run_files,
-        pick,
+        run_files: members.run_files,
+        pick: members.pick,
         script,
     };
     (lines, LeftBehind::Unopened { passes })

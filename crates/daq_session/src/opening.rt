@@ -1,13 +1,10 @@
 // The opening of a session, with its first start.
-ghost use Rattle.std.specs.Prelude.{◌≡◌, ◌∷◌, [], ◌≤◌, IfErr, IfOk, OnErr, OnOk, length, map};
+ghost use Rattle.std.specs.Prelude.{◌≡◌, ◌≤◌, IfErr, IfOk, OnErr, OnOk, length, map};
 ghost use Rattle.daq_types.specs.Callers.{main_caller};
-ghost use Rattle.turn_lock.specs.Passes.{number_of, passes_of, IsOf};
+ghost use Rattle.turn_lock.specs.Passes.{number_of, IsOf};
 ghost use Rattle.turn_lock.specs.Roster.{IsFresh};
 ghost use Rattle.odb_port.specs.DatabasePorts.{IsSamePort};
-ghost use Rattle.odb_runinfo.specs.RunKeys.{session_rows};
-ghost use Rattle.odb_watch.specs.Steps.{unwatched};
 ghost use Rattle.odb_lock.specs.SharedAccesses.{access_by_pass};
-ghost use Rattle.odb_lock.specs.SharedOdbs.{first_database, odb_lock_of};
 ghost use Rattle.transitions.specs.Engines.{engine_opening};
 ghost use Rattle.transition_lock.specs.SharedEngines.{engine_lock_of, first_engine};
 ghost use Rattle.session_lines.specs.Stages.{opened_runs};
@@ -17,9 +14,9 @@ ghost use Rattle.session_setup.specs.Setup.{declared_by};
 ghost use Rattle.session_objects.specs.Kept.{HasFreshBut, out_to_fronts, out_to_members};
 ghost use Rattle.session_objects.specs.Members.{AreMembersOf, AreNewMembers};
 ghost use Rattle.session_objects.specs.Objects.{SuitMembers};
-ghost use Rattle.session_objects.specs.Rosters.{KeepsFresh};
+ghost use Rattle.daq_session.specs.NewDatabases.{IsNewDatabase};
 
-use crate::places::Places;
+use crate::places::{MemberSide, Places};
 use buffer_lock::SharedPort;
 use daq_io::{Files, Gate, Pick};
 use daq_members::EndlessPort;
@@ -66,13 +63,7 @@ where
 
 /// The online database of a session that is not open: it has the run's parameters.
 pub fn open_database(alloc: Global) -> Result<OpenDatabase<ArenaTree>, NoMemory>
-    ensures rows { IfOk result (λ d. first_database d.shared ≡ unwatched session_rows) }
-    ensures callers { IfOk result (λ d. passes_of (odb_lock_of d.shared) ≡ 33) }
-    ensures main { IfOk result (λ d. number_of d.main ≡ main_caller) }
-    ensures own { IfOk result (λ d. IsOf (odb_lock_of d.shared) d.main) }
-    ensures fresh { IfOk result (λ d. IsFresh d.main) }
-    ensures others { IfOk result (λ d. KeepsFresh (main_caller ∷ []) (odb_lock_of d.shared)
-        d.passes) }
+    ensures { IfOk result (λ d. IsNewDatabase d.shared d.main d.passes) }
 {
     let mut tree = ArenaTree::new(alloc);
     open(alloc, &mut tree)?;
@@ -234,8 +225,32 @@ fn open_runs<'a, R: Wait>(
     Runs::new(alloc, seat, quota, names, channels, named_analyzers)
 }
 
-/// The members of a session that opens, and what the main thread keeps of its runs; or the run files and the pick where there is
-/// no memory for them.
+/// The same, with the channels that were declared once more, for the logger. So the members are opened with one early end.
+fn open_runs_with_channels<'a, R: Wait>(
+    rt: &R,
+    alloc: Global,
+    objects: &'a SessionObjects,
+    main: EnginePass,
+    lists: &DeclaredLists,
+    quota: u32,
+) -> Result<(Runs<'a>, ChannelSpecs), NoMemory>
+    requires few { length lists.now.fronts ≤ 32 }
+    requires few_analyzers { length lists.now.analyzers ≤ 8 }
+    requires main { number_of main ≡ main_caller }
+    requires own { IsOf (engine_lock_of objects.now.engine) main }
+    requires fresh { IsFresh main }
+    requires opening { first_engine objects.now.engine ≡ engine_opening }
+    ensures runs { IfOk result (λ opened. opened.0 ≡ opened_runs quota (declared_by lists.now)
+        objects.now.engine) }
+    ensures channels { IfOk result (λ opened. opened.1 ≡ lists.now.channels) }
+{
+    let runs = open_runs(rt, alloc, objects, main, lists, quota)?;
+    let channels = copied_channels(alloc, lists.channels.as_slice())?;
+    Ok((runs, channels))
+}
+
+/// The members of a session that opens, and what the main thread keeps of its runs; or what the members were to meet outside, where
+/// there is no memory for them.
 pub fn open_members<'a, R: Wait, D: Database, F: Files, K: Pick, G: Gate>(
     rt: &R,
     alloc: Global,
@@ -243,9 +258,8 @@ pub fn open_members<'a, R: Wait, D: Database, F: Files, K: Pick, G: Gate>(
     main: EnginePass,
     passes: &mut SessionPasses<D>,
     quota: u32,
-    run_files: F,
-    pick: K,
-) -> Result<(Runs<'a>, SessionCrew<'a, D, F, K, G>), Unmanned<F, K>>
+    members: MemberSide<'a, F, K, G>,
+) -> Result<(Runs<'a>, SessionCrew<'a, D, F, K, G>), MemberSide<'a, F, K, G>>
     requires main { number_of main ≡ main_caller }
     requires own { IsOf (engine_lock_of places.now.objects.now.engine) main }
     requires fresh { IsFresh main }
@@ -258,7 +272,7 @@ pub fn open_members<'a, R: Wait, D: Database, F: Files, K: Pick, G: Gate>(
         (declared_by places.now.lists.now) places.now.objects.now.engine) }
     ensures members { IfOk result (λ opened. AreNewMembers places.now.lists.now.fronts
         places.now.lists.now.analyzers places.now.lists.now.channels places.now.objects.now
-        places.now.shared.now run_files pick opened.1) }
+        places.now.shared.now members.entry.run_files members.entry.pick opened.1) }
     ensures are { IfOk result (λ opened. AreMembersOf places.now.lists.now.fronts
         places.now.lists.now.analyzers places.now.objects.now places.now.shared.now
         opened.1.fronts opened.1.logger opened.1.analyzers) }
@@ -267,28 +281,31 @@ pub fn open_members<'a, R: Wait, D: Database, F: Files, K: Pick, G: Gate>(
     ensures out { OnOk result (HasFreshBut (out_to_members places.now.lists.now.fronts
         places.now.lists.now.analyzers (length places.now.objects.now.buffers.items))
         places.now.objects.now places.now.shared.now passes.new) }
-    ensures files { IfErr result (λ unmanned. unmanned.files ≡ run_files) }
-    ensures pick { IfErr result (λ unmanned. unmanned.pick ≡ pick) }
+    ensures files { IfErr result (λ back. back.run_files ≡ members.entry.run_files) }
+    ensures pick { IfErr result (λ back. back.pick ≡ members.entry.pick) }
 {
-    let Ok(runs) = open_runs(rt, alloc, places.objects, main, places.lists, quota) else {
-        return Err(Unmanned {
-            files: run_files,
-            pick,
-        });
+    let (objects, shared, lists) = (places.objects, places.shared, places.lists);
+    let Ok((runs, channels)) = open_runs_with_channels(rt, alloc, objects, main, lists, quota)
+    else {
+        return Err(members);
     };
-    let Ok(channels) = copied_channels(alloc, places.lists.channels.as_slice()) else {
-        return Err(Unmanned {
-            files: run_files,
-            pick,
-        });
-    };
-    let fronts = places.lists.fronts.as_slice();
-    let analyzers = places.lists.analyzers.as_slice();
-    let (objects, shared, gate) = (places.objects, places.shared, places.gate);
+    let fronts = lists.fronts.as_slice();
+    let analyzers = lists.analyzers.as_slice();
+    let MemberSide {
+        run_files,
+        pick,
+        gate,
+        cooperative,
+    } = members;
     match objects.crew(
         alloc, shared, fronts, analyzers, channels, passes, run_files, pick, gate,
     ) {
         Ok(crew) => Ok((runs, crew)),
-        Err(unmanned) => Err(unmanned),
+        Err(Unmanned { files, pick }) => Err(MemberSide {
+            run_files: files,
+            pick,
+            gate,
+            cooperative,
+        }),
     }
 }

@@ -18,8 +18,9 @@ ghost use Rattle.daq_session.specs.LinesEnded.{outside_left};
 ghost use Rattle.daq_session.specs.Played.{PlaysObjects, PlaysOpened, unopened_lines};
 
 use crate::opening::{SessionRoom, let_go, open_keys, open_members};
-use crate::places::Places;
+use crate::places::{MemberSide, Places};
 use daq_io::{Clock, Files, Gate, Outside, Pick, Sink, Source};
+use database_desk::DatabaseDesk;
 use database_files::FileReplies;
 use odb_lock::{LockedDatabase, SharedAccess, WatchedSeen};
 use odb_tree::Database;
@@ -28,7 +29,7 @@ use script_desk::{Ending, Halt};
 use session_commands::laws::first_start_opens;
 use session_commands::{CrewEnd, MainEnd, MainSide, Script, play_crew};
 use session_objects::laws::{channels_stay, members_stay};
-use session_objects::{Returned, RunRecords, SessionCrew, SessionPasses, Unmanned};
+use session_objects::{Returned, RunRecords, SessionCrew, SessionPasses};
 use session_runs::Runs;
 use std::alloc::Global;
 use std::sync::Wait;
@@ -97,21 +98,31 @@ pub const NO_MEMORY: Ending = Ending::Halted {
 };
 
 /// What a session that was not opened came to.
-pub fn end_unopened<'a, S: Source, O: Sink, D: Database, E: Files, C: Clock, F: Files, K: Pick>(
+pub fn end_unopened<
+    'a,
+    S: Source,
+    O: Sink,
+    D: Database,
+    E: Files,
+    C: Clock,
+    F: Files,
+    K: Pick,
+    G: Gate,
+>(
     ending: Ending,
     side: MainSide<SharedAccess<'a, D>, E, C>,
-    run_files: F,
-    pick: K,
+    members: MemberSide<'a, F, K, G>,
     script: Script<S, O>,
 ) -> LinesEnd<S, O, E, C, F, K>
-    ensures { result ≡ unopened_lines ending side.entry run_files pick script }
+    ensures { result ≡ unopened_lines ending side.entry members.entry.run_files
+        members.entry.pick script }
 {
-    let MainSide {
+    let MainSide { database, clock } = side;
+    let DatabaseDesk {
         files: odb_files,
         replies,
-        clock,
         ..
-    } = side;
+    } = database;
     LinesEnd {
         ending,
         closing: None,
@@ -119,8 +130,8 @@ pub fn end_unopened<'a, S: Source, O: Sink, D: Database, E: Files, C: Clock, F: 
         replies,
         odb_files,
         clock,
-        run_files,
-        pick,
+        run_files: members.run_files,
+        pick: members.pick,
         script,
     }
 }
@@ -149,8 +160,8 @@ fn play_opened<
     script: Script<S, O>,
 ) -> OpenedEnd<D, S, O, E, C, F, K>
     requires fits { script.desk.number + 1 ≤ script.desk.reader.taken }
-    requires main { (access_by_pass side.access).caller ≡ main_caller }
-    requires database { (access_by_pass side.access).database
+    requires main { (access_by_pass side.database.access).caller ≡ main_caller }
+    requires database { (access_by_pass side.database.access).database
         ≡ odb_identity places.now.shared.now }
     requires engine { runs.main.engine ≡ places.now.objects.now.engine }
     requires callers { HaveCallers places.now.lists.now.fronts places.now.lists.now.analyzers
@@ -184,7 +195,13 @@ fn play_opened<
     } = end;
     let fronts = lists.fronts.as_slice();
     let analyzers = lists.analyzers.as_slice();
-    let pass = side.access.into_pass();
+    let MainSide { database, clock } = side;
+    let DatabaseDesk {
+        access,
+        files: odb_files,
+        replies,
+    } = database;
+    let pass = access.into_pass();
     let Returned {
         passes,
         files: run_files,
@@ -195,9 +212,9 @@ fn play_opened<
             ending,
             closing,
             failed,
-            replies: side.replies,
-            odb_files: side.files,
-            clock: side.clock,
+            replies,
+            odb_files,
+            clock,
             run_files,
             pick,
             script,
@@ -226,13 +243,12 @@ pub fn play_objects<
     mut passes: SessionPasses<D>,
     quota: u32,
     mut side: MainSide<SharedAccess<'a, D>, E, C>,
-    run_files: F,
-    pick: K,
+    members: MemberSide<'a, F, K, G>,
     script: Script<S, O>,
 ) -> OpenedEnd<D, S, O, E, C, F, K>
     requires fits { script.desk.number + 1 ≤ script.desk.reader.taken }
-    requires caller { (access_by_pass side.access).caller ≡ main_caller }
-    requires database { (access_by_pass side.access).database
+    requires caller { (access_by_pass side.database.access).caller ≡ main_caller }
+    requires database { (access_by_pass side.database.access).database
         ≡ odb_identity places.now.shared.now }
     requires main { number_of main ≡ main_caller }
     requires own { IsOf (engine_lock_of places.now.objects.now.engine) main }
@@ -246,25 +262,27 @@ pub fn play_objects<
         → opened_with_defaults declared ≡ declared_by places.now.lists.now
         → PlaysObjects (outside_told S.left S.faults O.written O.faults F.seen F.faults F.clashes
         F.first E.seen E.faults E.clashes E.first C.tells C.ahead K.tells K.ahead)
-        places.now.lists.now places.now.objects.now places.now.shared.now run_files quota declared
-        side.entry script result }
+        places.now.lists.now places.now.objects.now places.now.shared.now members.entry.run_files
+        quota declared side.entry script result }
 {
     first_start_opens::<D, E, C>(places.shared);
     let fronts = places.lists.fronts.as_slice();
-    let Ok(room) = open_keys(rt, alloc, places.cooperative, &mut side.access, fronts) else {
+    let database = &mut side.database;
+    let access = &mut database.access;
+    let Ok(room) = open_keys(rt, alloc, members.cooperative, access, fronts) else {
         return OpenedEnd {
-            lines: end_unopened(NO_MEMORY, side, run_files, pick, script),
+            lines: end_unopened(NO_MEMORY, side, members, script),
             session: None,
         };
     };
-    match open_members(rt, alloc, places, main, &mut passes, quota, run_files, pick) {
+    match open_members(rt, alloc, places, main, &mut passes, quota, members) {
         Ok((runs, crew)) => {
             play_opened(rt, alloc, places, room, runs, crew, side, passes, script)
         }
-        Err(Unmanned { files, pick }) => {
+        Err(members) => {
             let_go(room);
             OpenedEnd {
-                lines: end_unopened(NO_MEMORY, side, files, pick, script),
+                lines: end_unopened(NO_MEMORY, side, members, script),
                 session: None,
             }
         }

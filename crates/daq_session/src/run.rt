@@ -1,16 +1,14 @@
 // A whole script.
 ghost use Rattle.std.specs.Prelude.{◌≡◌, ◌∷◌, ◌≤◌, ◌+◌, []};
 ghost use Rattle.daq_types.specs.Callers.{main_caller};
-ghost use Rattle.turn_lock.specs.Passes.{IsOf, number_of, passes_of};
-ghost use Rattle.turn_lock.specs.Roster.{IsFresh};
-ghost use Rattle.odb_runinfo.specs.RunKeys.{session_rows};
-ghost use Rattle.odb_watch.specs.Steps.{unwatched};
-ghost use Rattle.odb_script.specs.Lines.{no_line_read};
+ghost use Rattle.turn_lock.specs.Passes.{passes_of};
 ghost use Rattle.odb_lock.specs.SharedAccesses.{access_by_pass, odb_identity};
-ghost use Rattle.odb_lock.specs.SharedOdbs.{first_database, odb_lock_of};
+ghost use Rattle.odb_lock.specs.SharedOdbs.{odb_lock_of};
 ghost use Rattle.session_setup.specs.Setup.{nothing_declared};
 ghost use Rattle.session_objects.specs.Rosters.{KeepsFresh};
+ghost use Rattle.session_commands.specs.FirstLines.{IsUnreadScript};
 ghost use Rattle.daq_session.specs.Environments.{outside_told};
+ghost use Rattle.daq_session.specs.NewDatabases.{IsNewDatabase, database_passes};
 ghost use Rattle.daq_session.specs.Played.{PlaysAll, PlaysSession};
 ghost use Rattle.daq_session.specs.Sessions.{RunsScript};
 
@@ -58,9 +56,9 @@ fn open_and_play<
     script: Script<S, O>,
 ) -> (LinesEnd<S, O, E, C, F, K>, LeftBehind<D>)
     requires fits { script.desk.number + 1 ≤ script.desk.reader.taken }
-    requires caller { (access_by_pass side.access).caller ≡ main_caller }
-    requires database { (access_by_pass side.access).database ≡ odb_identity shared.now }
-    requires callers { passes_of (odb_lock_of shared.now) ≡ 33 }
+    requires caller { (access_by_pass side.database.access).caller ≡ main_caller }
+    requires database { (access_by_pass side.database.access).database ≡ odb_identity shared.now }
+    requires callers { passes_of (odb_lock_of shared.now) ≡ database_passes }
     requires others { KeepsFresh (main_caller ∷ []) (odb_lock_of shared.now) passes }
     ensures played { PlaysSession (outside_told S.left S.faults O.written O.faults F.seen F.faults
         F.clashes F.first E.seen E.faults E.clashes E.first C.tells C.ahead K.tells K.ahead)
@@ -69,10 +67,9 @@ fn open_and_play<
     first_start_opens::<D, E, C>(shared);
     declarations.open();
     let lists = declarations.into_lists();
-    let (run_files, pick) = (members.run_files, members.pick);
     let Ok(opened) = SessionObjects::open(alloc, &lists, passes) else {
         return (
-            end_unopened(NO_MEMORY, side, run_files, pick, script),
+            end_unopened(NO_MEMORY, side, members, script),
             LeftBehind::Nothing,
         );
     };
@@ -87,10 +84,9 @@ fn open_and_play<
         objects: &objects,
         lists: &lists,
         gate: members.gate,
-        cooperative: members.cooperative,
     };
     let OpenedEnd { lines, session } = play_objects(
-        rt, alloc, &places, main, passes, quota, side, run_files, pick, script,
+        rt, alloc, &places, main, passes, quota, side, members, script,
     );
     match session {
         None => (lines, LeftBehind::Nothing),
@@ -129,15 +125,9 @@ fn play_all<
     members: MemberSide<'a, F, K, G>,
     mut script: Script<S, O>,
 ) -> (LinesEnd<S, O, E, C, F, K>, LeftBehind<D>)
-    requires callers { passes_of (odb_lock_of shared.now) ≡ 33 }
-    requires others { KeepsFresh (main_caller ∷ []) (odb_lock_of shared.now) passes }
-    requires main { number_of main ≡ main_caller }
-    requires own { IsOf (odb_lock_of shared.now) main }
-    requires fresh { IsFresh main }
+    requires database { IsNewDatabase shared.now main passes }
     requires nothing { declarations ≡ nothing_declared }
-    requires unread { script.desk.reader ≡ no_line_read }
-    requires none { script.desk.refusals ≡ record { count = 0; first = 0 } }
-    requires zero { script.desk.number ≡ 0 }
+    requires unread { IsUnreadScript script.desk }
     ensures played { PlaysAll (outside_told S.left S.faults O.written O.faults F.seen F.faults
         F.clashes F.first E.seen E.faults E.clashes E.first C.tells C.ahead K.tells K.ahead)
         shared.now odb_files clock members.entry.run_files script result.0 result.1 }
@@ -156,14 +146,11 @@ fn play_all<
         declarations,
         odb_files,
         clock,
-        &mut script.desk,
-        &mut script.src,
-        &mut script.out,
+        &mut script,
     );
     match end {
         PlayEnd::Ended { ending } => {
-            let (run_files, pick) = (members.run_files, members.pick);
-            leave_unopened(shared, side, passes, ending, run_files, pick, script)
+            leave_unopened(shared, side, passes, ending, members, script)
         }
         PlayEnd::Opens => open_and_play(
             rt,
@@ -205,17 +192,9 @@ fn run_session<
     FileReplies,
     Outside<S, O, F, E, C, K>,
 )
-    requires rows { first_database database.shared ≡ unwatched session_rows }
-    requires callers { passes_of (odb_lock_of database.shared) ≡ 33 }
-    requires main { number_of database.main ≡ main_caller }
-    requires own { IsOf (odb_lock_of database.shared) database.main }
-    requires fresh { IsFresh database.main }
-    requires others { KeepsFresh (main_caller ∷ []) (odb_lock_of database.shared)
-        database.passes }
-    requires unread { desk.reader ≡ no_line_read }
-    requires none { desk.refusals ≡ record { count = 0; first = 0 } }
-    requires zero { desk.number ≡ 0 }
+    requires database { IsNewDatabase database.shared database.main database.passes }
     requires nothing { declarations ≡ nothing_declared }
+    requires unread { IsUnreadScript desk }
     ensures ran { RunsScript (outside_told S.left S.faults O.written O.faults F.seen F.faults
         F.clashes F.first E.seen E.faults E.clashes E.first C.tells C.ahead K.tells K.ahead)
         outside result.3 result.0 result.2.replies result.1 }

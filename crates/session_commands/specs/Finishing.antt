@@ -11,12 +11,11 @@ use Rattle.session_runs.specs.KeptRuns.{RunsSeen}
 use Rattle.session_runs.specs.RunAnswers.{ClockTold, clock_of}
 use Rattle.session_replies.specs.declared.refusals.Refusals.{Refusals}
 use Rattle.database_desk.specs.DatabaseStages.{DatabaseStage, DumpFiles, dump_files}
-use Rattle.session_lines.specs.Stages.{SessionStage, first_stage, open_stage, unopened_stage}
+use Rattle.session_lines.specs.Stages.{SessionStage, open_stage, unopened_stage}
 use Rattle.session_lines.specs.ScriptLines.{BreaksScriptLine, ClosesScript, DoesScriptLine, GivesUp, opens_session}
 use Rattle.script_desk.specs.declared.endings.Ending.{Ending}
 use Rattle.script_desk.specs.declared.halts.Halt.{Halt}
-use Rattle.script_desk.specs.declared.play_end.PlayEnd.{PlayEnd}
-use Rattle.script_desk.specs.Playing.{HasLine, OpensAt, Played, PlaysTo}
+use Rattle.script_desk.specs.Playing.{HasLine, OpensAt, Played}
 use Rattle.script_desk.specs.Closing.{Finished}
 use Rattle.session_commands.specs.declared.script.Script.{Script}
 use Rattle.session_commands.specs.declared.side.MainSide.{MainSide}
@@ -40,17 +39,20 @@ side_told access seen faults clashes first tells ahead = record {
   clock = λ clock. clock_of (tells clock) (ahead clock);
 }
 
-module _ {D E C : Type 0} (told : SideTold D E C) where
+module _ {D E C : Type 0} {d : _} {e : _} (told : SideTold D E C) where
   -- the online database, by what the main thread has
-  abbrev pub database_at : MainSide D E C → DatabaseStage
-  database_at side =
-      record { access = told.access side.access; files = told.files side.files; replies = side.replies.replies }
+  abbrev pub database_at : MainSide D E C d e → DatabaseStage
+  database_at side = record {
+    access = told.access side.database.access;
+    files = told.files side.database.files;
+    replies = side.database.replies.replies;
+  }
 
   -- the stage of a session that is not open, and that of an open one
-  abbrev pub stage_unopened : (quota : ℕ) → Declared → MainSide D E C → SessionStage
+  abbrev pub stage_unopened : (quota : ℕ) → Declared → MainSide D E C d e → SessionStage
   stage_unopened quota declared side = unopened_stage quota declared (database_at side) (told.clock side.clock)
 
-  abbrev pub stage_open : DeclaredLists → RunsSeen → MainSide D E C → SessionStage
+  abbrev pub stage_open : DeclaredLists → RunsSeen → MainSide D E C d e → SessionStage
   stage_open lists runs side = open_stage (declared_by lists) (database_at side) (told.clock side.clock) runs
 
 -- Lines.
@@ -74,13 +76,6 @@ script_at left written reading last refusals number =
 abbrev pub script_point : {S O : Type 0} → (left : S → Option (List ℕ)) → (written : O → Option (List ℕ)) → Script S O → ScriptAt
 script_point left written script = script_at (left script.src) (written script.out) script.desk.reader script.desk.last
     script.desk.refusals script.desk.number
-
--- The lines up to the first start were played, or all of them, of a session in which nothing was declared before.
-abbrev pub PlaysFirst : {D E C : Type 0} (told : SideTold D E C) (access : DatabaseAccess) (files : E) (clock : C)
-    (source written : Option (List ℕ)) → PlayEnd → (behind : ScriptAt) (quota : ℕ) → Declared → MainSide D E C → Type 0
-PlaysFirst told access files clock source written end behind quota declared side =
-    PlaysTo DoesScriptLine BreaksScriptLine opens_session (first_stage access (told.files files) (told.clock clock)) source written
-    end behind.left behind.written behind.reading behind.last (stage_unopened told quota declared side) behind.refusals behind.number
 
 -- A script that began so was played to its end.
 abbrev pub FinishedAt : (first : SessionStage) (source written : Option (List ℕ)) (ending : Ending) (closing : Option Halt)
@@ -112,8 +107,8 @@ UnopenedFinish = (first now : SessionStage) (ending : Ending) (source left told_
 
 -- An open session was played from the line that opened it to the end of its script, and its engine was closed by the main
 -- thread's last call there: these are the records of its runs, and the main thread's own calls on the engine.
-pub record PlaysOpen {D E C : Type 0} (told : SideTold D E C) (lists : DeclaredLists) (runs : RunsSeen)
-    (before after : MainSide D E C) (at behind : ScriptAt) (ending : Ending) (closing : Option Halt)
+pub record PlaysOpen {D E C : Type 0} {d : _} {e : _} (told : SideTold D E C) (lists : DeclaredLists) (runs : RunsSeen)
+    (before after : MainSide D E C d e) (at behind : ScriptAt) (ending : Ending) (closing : Option Halt)
     (records : List RunRecord) (own : List EngineEntry) : Type 0 where
   pub last : RunsSeen
   pub records_are : records ≡ last.runs

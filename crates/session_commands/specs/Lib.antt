@@ -5,6 +5,8 @@ pub mod Keeping
 pub mod KeptDumps
 pub mod Quotas
 pub mod Finishing
+pub mod FirstLines
 pub mod FirstStarts
 pub mod MainEnds
+pub mod CrewEnds
 pub mod KeptByScripts

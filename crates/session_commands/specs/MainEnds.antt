@@ -18,11 +18,11 @@ use Rattle.session_commands.specs.Finishing.{PlaysOpen, ScriptAt, SideTold}
 
 -- An open session was played to the end of its script, and its engine was closed by the main thread's pass of it, which is free;
 -- its port to the database is the same.
-pub record MainEnds {D E C : Type 0} {g : _} (told : SideTold D E C) (lists : DeclaredLists) (runs : RunsSeen)
-    (before after : MainSide D E C) (at behind : ScriptAt) (ending : Ending) (closing : Option Halt)
+pub record MainEnds {D E C : Type 0} {d : _} {e : _} {g : _} (told : SideTold D E C) (lists : DeclaredLists) (runs : RunsSeen)
+    (before after : MainSide D E C d e) (at behind : ScriptAt) (ending : Ending) (closing : Option Halt)
     (records : List RunRecord) (main : Pass LockedEngine EngineState EngineEntry g) : Type 0 where
   pub played : PlaysOpen told lists runs before after at behind ending closing records (own_entries main)
   pub main_is : number_of main ≡ main_caller
   pub own : IsOf (engine_lock_of runs.main.engine) main
   pub idle : held_by main ≡ None
-  pub same : IsSamePort (told.access before.access) (told.access after.access)
+  pub same : IsSamePort (told.access before.database.access) (told.access after.database.access)

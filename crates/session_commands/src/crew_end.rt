@@ -10,6 +10,7 @@ ghost use Rattle.member_threads.specs.MemberTurns.{FrontTurns, LoggerTurns, Anal
 ghost use Rattle.member_threads.specs.Scattered.{EachEnded, members_seen};
 ghost use Rattle.session_crew.specs.Crews.{IsSameCrew, KeepContracts, NotesRunFaults, crew_seen, crew_told};
 ghost use Rattle.script_desk.specs.Closing.{EndCounts};
+ghost use Rattle.session_commands.specs.CrewEnds.{CrewEnds};
 ghost use Rattle.session_commands.specs.Endings.{NotesFailed};
 ghost use Rattle.session_commands.specs.Finishing.{PlaysOpen, script_point, side_told};
 
@@ -113,7 +114,6 @@ pub fn play_crew<
     script: Script<S, O>,
 ) -> CrewEnd<'a, X, P, S, O, D, E, C, F, K>
     requires fits { script.desk.number + 1 ≤ script.desk.reader.taken }
-    requires main { (D.access side.access).caller ≡ main_caller }
     ensures played { PlaysOpen
         (side_told D.access E.seen E.faults E.clashes E.first C.tells C.ahead)
         lists.now runs.entry side result.end.side
@@ -122,17 +122,11 @@ pub fn play_crew<
     ensures main { number_of result.end.main ≡ main_caller }
     ensures own { IsOf (engine_lock_of runs.entry.main.engine) result.end.main }
     ensures idle { held_by result.end.main ≡ None }
-    ensures same { IsSamePort (D.access side.access) (D.access result.end.side.access) }
-    ensures members { IsSameCrew (crew_told X.takes X.makes F.seen F.faults F.clashes F.first
+    ensures same { IsSamePort (D.access side.database.access)
+        (D.access result.end.side.database.access) }
+    ensures members { CrewEnds (crew_told X.takes X.makes F.seen F.faults F.clashes F.first
         K.tells K.ahead) crew.entry (crew_seen result.parts.fronts.items result.parts.logger
         result.parts.analyzers result.parts.pick) }
-    ensures keep { KeepContracts (crew_told X.takes X.makes F.seen F.faults F.clashes F.first
-        K.tells K.ahead)
-        (crew_seen result.parts.fronts.items result.parts.logger result.parts.analyzers
-        result.parts.pick) }
-    ensures ended { EachEnded (FrontTurns X.takes X.makes)
-        (LoggerTurns (files_by F.seen F.faults F.clashes F.first)) AnalyzerTurns
-        (members_seen result.parts.fronts.items result.parts.logger result.parts.analyzers) }
     // Where the logger had not noted a fault of the run files before.
     ensures failed { ¬ HasFailed crew.entry.logger.slots → NotesFailed result.failed
         (F.faults crew.entry.logger.files) (F.faults result.parts.logger.files) }

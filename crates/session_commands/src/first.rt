@@ -5,13 +5,14 @@ ghost use Rattle.turn_lock.specs.Passes.{number_of, seen_by, held_by, IsOf};
 ghost use Rattle.odb_lock.specs.SharedOdbs.{odb_lock_of};
 ghost use Rattle.odb_lock.specs.SharedAccesses.{access_by_pass, odb_identity, shared_access};
 ghost use Rattle.odb_port.specs.DatabasePorts.{IsSamePort};
-ghost use Rattle.odb_script.specs.Lines.{no_line_read};
 ghost use Rattle.session_setup.specs.Setup.{nothing_declared};
 ghost use Rattle.script_desk.specs.Endings.{SinkCounts, SourceCounts};
 ghost use Rattle.script_desk.specs.Playing.{FitsOn};
-ghost use Rattle.session_commands.specs.Finishing.{PlaysFirst, script_at, side_told};
+ghost use Rattle.session_commands.specs.Finishing.{side_told};
+ghost use Rattle.session_commands.specs.FirstLines.{IsUnreadScript, PlaysFirst};
 
 use crate::lasting::LastingPort;
+use crate::script::Script;
 use crate::side::MainSide;
 use crate::unopened::Unopened;
 use daq_io::{Clock, Files, Sink, Source};
@@ -19,7 +20,7 @@ use database_desk::DatabaseDesk;
 use database_files::FileReplies;
 use odb_lock::{OdbPass, SharedAccess, SharedOdb};
 use odb_tree::Database;
-use script_desk::{Desk, PlayEnd, play_script};
+use script_desk::{PlayEnd, play_script};
 use session_setup::Declarations;
 use std::alloc::Global;
 use std::sync::Wait;
@@ -43,43 +44,27 @@ pub fn play_first<'a, R: Wait, D: Database, S: Source, O: Sink, E: Files, C: Clo
     declarations: Declarations,
     files: E,
     clock: C,
-    desk: &mut Desk,
-    src: &mut S,
-    out: &mut O,
+    script: &mut Script<S, O>,
 ) -> FirstEnd<SharedAccess<'a, D>, E, C>
     requires main { number_of main ≡ main_caller }
     requires own { IsOf (odb_lock_of shared.now) main }
     requires idle { held_by main ≡ None }
     requires nothing { declarations ≡ nothing_declared }
-    requires unread { desk.old.reader ≡ no_line_read }
-    requires none { desk.old.refusals ≡ record { count = 0; first = 0 } }
-    requires zero { desk.old.number ≡ 0 }
+    requires unread { IsUnreadScript script.old.desk }
     ensures played { PlaysFirst
-        (side_told access_by_pass E.seen E.faults E.clashes E.first C.tells C.ahead)
-        (shared_access (odb_identity shared.now) main_caller (seen_by main)) files clock
-        (S.left src.old) (O.written out.old) result.end
-        (script_at (S.left src.new) (O.written out.new) desk.new.reader desk.new.last
-        desk.new.refusals desk.new.number) result.quota result.declarations result.side }
-    ensures fits { FitsOn result.end desk.new.number desk.new.reader.taken }
-    ensures source { SourceCounts result.end (S.faults src.old) (S.faults src.new) }
-    ensures sink { SinkCounts result.end (O.faults out.old) (O.faults out.new) }
+        (side_told access_by_pass E.seen E.faults E.clashes E.first C.tells C.ahead) S.left
+        O.written (shared_access (odb_identity shared.now) main_caller (seen_by main)) files clock
+        script.old script.new result }
+    ensures fits { FitsOn result.end script.new.desk.number script.new.desk.reader.taken }
+    ensures source { SourceCounts result.end (S.faults script.old.src) (S.faults script.new.src) }
+    ensures sink { SinkCounts result.end (O.faults script.old.out) (O.faults script.new.out) }
     ensures same { IsSamePort
         (shared_access (odb_identity shared.now) main_caller (seen_by main))
-        (access_by_pass result.side.access) }
+        (access_by_pass result.side.database.access) }
     ensures closed { result.declarations.opened ≡ false }
 {
     let access = SharedAccess::new(shared, main);
-    play_unopened(
-        rt,
-        alloc,
-        access,
-        declarations,
-        files,
-        clock,
-        desk,
-        src,
-        out,
-    )
+    play_unopened(rt, alloc, access, declarations, files, clock, script)
 }
 
 /// Plays the lines of a script up to its first start, or to its end, over a database that is called by any port.
@@ -90,58 +75,47 @@ fn play_unopened<R: Wait, D: LastingPort, S: Source, O: Sink, E: Files, C: Clock
     declarations: Declarations,
     files: E,
     clock: C,
-    desk: &mut Desk,
-    src: &mut S,
-    out: &mut O,
+    script: &mut Script<S, O>,
 ) -> FirstEnd<D, E, C>
     requires caller { (D.access access).caller ≡ main_caller }
     requires nothing { declarations ≡ nothing_declared }
-    requires unread { desk.old.reader ≡ no_line_read }
-    requires none { desk.old.refusals ≡ record { count = 0; first = 0 } }
-    requires zero { desk.old.number ≡ 0 }
+    requires unread { IsUnreadScript script.old.desk }
     ensures played { PlaysFirst
-        (side_told D.access E.seen E.faults E.clashes E.first C.tells C.ahead)
-        (D.access access) files clock
-        (S.left src.old) (O.written out.old) result.end
-        (script_at (S.left src.new) (O.written out.new) desk.new.reader desk.new.last
-        desk.new.refusals desk.new.number) result.quota result.declarations result.side }
-    ensures fits { FitsOn result.end desk.new.number desk.new.reader.taken }
-    ensures source { SourceCounts result.end (S.faults src.old) (S.faults src.new) }
-    ensures sink { SinkCounts result.end (O.faults out.old) (O.faults out.new) }
-    ensures same { IsSamePort (D.access access) (D.access result.side.access) }
+        (side_told D.access E.seen E.faults E.clashes E.first C.tells C.ahead) S.left O.written
+        (D.access access) files clock script.old script.new result }
+    ensures fits { FitsOn result.end script.new.desk.number script.new.desk.reader.taken }
+    ensures source { SourceCounts result.end (S.faults script.old.src) (S.faults script.new.src) }
+    ensures sink { SinkCounts result.end (O.faults script.old.out) (O.faults script.new.out) }
+    ensures same { IsSamePort (D.access access) (D.access result.side.database.access) }
     ensures closed { result.declarations.opened ≡ false }
 {
+    let database = DatabaseDesk {
+        access,
+        files,
+        replies: FileReplies::empty(alloc),
+    };
     let mut unopened = Unopened {
         quota: 0,
         declarations,
-        database: DatabaseDesk {
-            access,
-            files,
-            replies: FileReplies::empty(alloc),
-        },
-        clock,
+        side: MainSide { database, clock },
     };
-    let end = play_script(rt, alloc, desk, &mut unopened, src, out);
+    let end = play_script(
+        rt,
+        alloc,
+        &mut script.desk,
+        &mut unopened,
+        &mut script.src,
+        &mut script.out,
+    );
     let Unopened {
         quota,
         declarations,
-        database,
-        clock,
+        side,
     } = unopened;
-    let DatabaseDesk {
-        access,
-        files,
-        replies,
-    } = database;
     FirstEnd {
         end,
         quota,
         declarations,
-        side: MainSide {
-            access,
-            files,
-            replies,
-            clock,
-        },
+        side,
     }
 }

@@ -1,6 +1,5 @@
 // The main thread's part of an open session: the lines of its script, and the close of its engine.
-ghost use Rattle.std.specs.Prelude.{◌≡◌, ◌≤◌, ◌+◌};
-ghost use Rattle.daq_types.specs.Callers.{main_caller};
+ghost use Rattle.std.specs.Prelude.{◌≤◌, ◌+◌};
 
 use crate::lasting::LastingPort;
 use crate::opened::Opened;
@@ -8,7 +7,6 @@ use crate::script::Script;
 use crate::side::MainSide;
 use daq_io::{Clock, Files, Sink, Source};
 use daq_types::Journal;
-use database_desk::DatabaseDesk;
 use member_threads::Playing;
 use run_records::RunRecord;
 use script_desk::{Ending, Halt, play_out};
@@ -29,7 +27,6 @@ pub struct MainPlay<'a, S: Source, O: Sink, D: LastingPort, E: Files, C: Clock> 
     pub side: MainSide<D, E, C>,
     pub script: Script<S, O>,
     ghost fits: { script.desk.number + 1 ≤ script.desk.reader.taken },
-    ghost caller: { (D.access side.access).caller ≡ main_caller },
 }
 
 /// What the lines of an open session came to, and what its main thread has then.
@@ -66,12 +63,7 @@ impl<'a, S: Source, O: Sink, D: LastingPort, E: Files, C: Clock> Playing
         let mut opened = Opened {
             runs: self.runs,
             crew: members,
-            database: DatabaseDesk {
-                access: self.side.access,
-                files: self.side.files,
-                replies: self.side.replies,
-            },
-            clock: self.side.clock,
+            side: self.side,
             lists: self.lists,
             begun: false,
         };
@@ -84,20 +76,17 @@ impl<'a, S: Source, O: Sink, D: LastingPort, E: Files, C: Clock> Playing
             &mut script.src,
             &mut script.out,
         );
+        // For what `on` ensures: a run is on exactly where the engine's state, as the main thread knows it, is not stopped.
         opened.runs.on();
         let (seat, records) = opened.runs.into_parts();
+        // For what `state` ensures: the main thread stands between two transitions, so that it may close the engine.
         seat.state();
         let end = MainEnd {
             ending,
             closing,
             main: seat.close(rt),
             records,
-            side: MainSide {
-                access: opened.database.access,
-                files: opened.database.files,
-                replies: opened.database.replies,
-                clock: opened.clock,
-            },
+            side: opened.side,
             script,
         };
         (end, opened.crew)

@@ -4,9 +4,9 @@ ghost use Rattle.session_engine.specs.MadeTransitions.{HadRounds};
 
 use crate::commands::{answer_pause, answer_resume, answer_start, answer_stop};
 use crate::lasting::LastingPort;
+use crate::side::MainSide;
 use daq_io::{Clock, Files};
 use daq_types::NoMemory;
-use database_desk::DatabaseDesk;
 use odb_script::{Command, LineRefusal};
 use script_desk::Answerer;
 use session_engine::Rounds;
@@ -22,8 +22,7 @@ use std::sync::Wait;
 pub struct Opened<'a, D: LastingPort, M: Rounds, E: Files, C: Clock> {
     pub runs: Runs<'a>,
     pub crew: M,
-    pub database: DatabaseDesk<D, E>,
-    pub clock: C,
+    pub side: MainSide<D, E, C>,
     /// What was declared.
     pub lists: &'a DeclaredLists,
     /// Whether the line that opened the session was answered.
@@ -55,10 +54,10 @@ impl<'a, D: LastingPort, M: Rounds, E: Files, C: Clock> Answerer for Opened<'a, 
     ghost Stage = { SessionStage };
 
     ghost stage = { λ s. open_stage (declared_by s.lists.now)
-        (database_stage (D.access s.database.access) (E.seen s.database.files)
-        (E.faults s.database.files) (E.clashes s.database.files) (E.first s.database.files)
-        s.database.replies.replies)
-        (clock_of (C.tells s.clock) (C.ahead s.clock)) s.runs };
+        (database_stage (D.access s.side.database.access) (E.seen s.side.database.files)
+        (E.faults s.side.database.files) (E.clashes s.side.database.files) (E.first s.side.database.files)
+        s.side.database.replies.replies)
+        (clock_of (C.tells s.side.clock) (C.ahead s.side.clock)) s.runs };
 
     ghost leaves = { λ line. false };
 
@@ -71,7 +70,7 @@ impl<'a, D: LastingPort, M: Rounds, E: Files, C: Clock> Answerer for Opened<'a, 
     ghost gives_up = { GivesUp };
 
     ghost stays = { λ a b. StaysOpen M.round a.crew b.crew a.runs.main.engine
-        b.runs.main.engine (D.access a.database.access) (D.access b.database.access)
+        b.runs.main.engine (D.access a.side.database.access) (D.access b.side.database.access)
         a.lists.now b.lists.now };
 
     /// An open session answers each line.
@@ -94,7 +93,7 @@ impl<'a, D: LastingPort, M: Rounds, E: Files, C: Clock> Answerer for Opened<'a, 
         members_passed_over::<M>();
         commands_keep::<M>();
         let (runs, crew) = (&mut self.runs, &mut self.crew);
-        let access = &mut self.database.access;
+        let access = &mut self.side.database.access;
         match command {
             Command::Nothing | Command::Exit => Ok(Reply::Silent),
             Command::Buffer { .. }
@@ -107,11 +106,11 @@ impl<'a, D: LastingPort, M: Rounds, E: Files, C: Clock> Answerer for Opened<'a, 
                 runs.set_quota(count);
                 Ok(Reply::Silent)
             }
-            Command::Start => answer_start(rt, alloc, runs, access, crew, &mut self.clock),
-            Command::Stop => answer_stop(rt, alloc, runs, access, crew, &mut self.clock),
+            Command::Start => answer_start(rt, alloc, runs, access, crew, &mut self.side.clock),
+            Command::Stop => answer_stop(rt, alloc, runs, access, crew, &mut self.side.clock),
             Command::Pause => Ok(answer_pause(rt, alloc, runs, access, crew)),
             Command::Resume => Ok(answer_resume(rt, alloc, runs, access, crew)),
-            command => self.database.answer(rt, alloc, number, &command),
+            command => self.side.database.answer(rt, alloc, number, &command),
         }
     }
 
@@ -126,15 +125,15 @@ impl<'a, D: LastingPort, M: Rounds, E: Files, C: Clock> Answerer for Opened<'a, 
             rt,
             alloc,
             &mut self.runs,
-            &mut self.database.access,
+            &mut self.side.database.access,
             &mut self.crew,
-            &mut self.clock,
+            &mut self.side.clock,
         )?;
         Ok(Some(reply))
     }
 
     ghost stays_so = { λ a. stays_open a.crew a.runs.main.engine
-        (D.access a.database.access) a.lists.now };
+        (D.access a.side.database.access) a.lists.now };
 
     ghost stays_on = { λ a b c ab bc. stays_open_on ab bc };
 }

@@ -1,13 +1,11 @@
-use database_files::FileReplies;
+use daq_io::Files;
+use database_desk::DatabaseDesk;
+use odb_port::WatchPort;
 
-/// What the main thread of a session has besides its runs: its access to the online database, the files of the dumps, and the
+/// What the main thread of a session has besides its runs: the online database, as the lines of the script command it, and the
 /// clock.
 #[derive(Drop)]
-pub struct MainSide<D, E, C> {
-    pub access: D,
-    /// The files of the dumps.
-    pub files: E,
-    /// What came of the lines that called these.
-    pub replies: FileReplies,
+pub struct MainSide<D: WatchPort, E: Files, C> {
+    pub database: DatabaseDesk<D, E>,
     pub clock: C,
 }

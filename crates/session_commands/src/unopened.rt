@@ -3,9 +3,9 @@ ghost use Rattle.std.specs.Prelude.{◌≡◌, false, None};
 
 use crate::declaring::{declare_analyzer, declare_buffer, declare_channel, declare_front};
 use crate::lasting::LastingPort;
+use crate::side::MainSide;
 use daq_io::{Clock, Files};
 use daq_types::{NoMemory, RunState};
-use database_desk::DatabaseDesk;
 use odb_script::{Command, LineRefusal};
 use script_desk::Answerer;
 use session_replies::Reply;
@@ -19,8 +19,7 @@ pub struct Unopened<D: LastingPort, E: Files, C: Clock> {
     /// How many events each front-end has to send in the runs to come.
     pub quota: u32,
     pub declarations: Declarations,
-    pub database: DatabaseDesk<D, E>,
-    pub clock: C,
+    pub side: MainSide<D, E, C>,
     ghost closed: { declarations.opened ≡ false },
 }
 
@@ -35,10 +34,10 @@ impl<D: LastingPort, E: Files, C: Clock> Answerer for Unopened<D, E, C> {
     ghost Stage = { SessionStage };
 
     ghost stage = { λ s. unopened_stage s.quota s.declarations
-        (database_stage (D.access s.database.access) (E.seen s.database.files)
-        (E.faults s.database.files) (E.clashes s.database.files) (E.first s.database.files)
-        s.database.replies.replies)
-        (clock_of (C.tells s.clock) (C.ahead s.clock)) };
+        (database_stage (D.access s.side.database.access) (E.seen s.side.database.files)
+        (E.faults s.side.database.files) (E.clashes s.side.database.files) (E.first s.side.database.files)
+        s.side.database.replies.replies)
+        (clock_of (C.tells s.side.clock) (C.ahead s.side.clock)) };
 
     ghost leaves = { opens_session };
 
@@ -50,8 +49,8 @@ impl<D: LastingPort, E: Files, C: Clock> Answerer for Unopened<D, E, C> {
 
     ghost gives_up = { GivesUp };
 
-    ghost stays = { λ a b. IsSamePort (D.access a.database.access)
-        (D.access b.database.access) };
+    ghost stays = { λ a b. IsSamePort (D.access a.side.database.access)
+        (D.access b.side.database.access) };
 
     /// The first start is left to the session that it opens.
     fn is_left(&self, line: &Result<Command<'_>, LineRefusal>) -> bool {
@@ -102,7 +101,7 @@ impl<D: LastingPort, E: Files, C: Clock> Answerer for Unopened<D, E, C> {
             Command::Stop | Command::Pause | Command::Resume => Ok(Reply::WrongState {
                 state: RunState::Stopped,
             }),
-            command => self.database.answer(rt, alloc, number, &command),
+            command => self.side.database.answer(rt, alloc, number, &command),
         }
     }
 

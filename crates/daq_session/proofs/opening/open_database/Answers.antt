@@ -1,4 +1,4 @@
-use Rattle.std.proofs.Common.{ℕ, zero, suc, List, [], ◌∷◌, ◌∙◌, refl, sym, ap, subst, arith}
+use Rattle.std.proofs.Common.{ℕ, zero, suc, List, [], ◌∷◌, ◌∙◌, refl, sym, ap, subst, arith, rules}
 use Rattle.std.specs.Prelude.{Contains}
 use Rattle.std.proofs.lemmas.List.Elements.{Contains-append_left}
 use Rattle.turn_lock.specs.Roster.{numbers_below}
@@ -13,10 +13,15 @@ pub take_main-main-requires : goal.take_main-main-requires
 take_main-main-requires c = let P : List ℕ → Type 0 = λ ns. Contains ns 0 in
     subst P (sym c.in_ok-shared.ensures.numbers) (first_below 32)
 
-pub returns-clause-own : goal.returns-clause-own
-returns-clause-own c = c.take_main-main.ensures.own _ c.in_ok-shared.ensures.own
-
-pub returns-clause-others : goal.returns-clause-others
-returns-clause-others c =
+pub returns : goal.returns
+returns c =
     let made = c.in_ok-shared.ensures in
-    c.take_main-main.ensures.left _ made.own made.fresh (made.numbers ∙ ap numbers_below (sym made.count))
+    let main = c.take_main-main.ensures in
+    record {
+      rows = search rules;
+      callers = made.count;
+      main_is = main.number;
+      own = main.own _ made.own;
+      fresh = main.fresh made.fresh;
+      others = main.left _ made.own made.fresh (made.numbers ∙ ap numbers_below (sym made.count));
+    }

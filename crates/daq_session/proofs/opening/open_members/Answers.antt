@@ -1,4 +1,4 @@
-use Rattle.std.proofs.Common.{◌∙◌, List, length, sym, subst}
+use Rattle.std.proofs.Common.{List, length, sym, subst}
 use Rattle.loggers.specs.OtherFiles.{AreDeclared}
 use Rattle.mid_logger.specs.declared.channel_spec.ChannelSpec.{ChannelSpec}
 use Rattle.session_setup.specs.declared.declared.AnalyzerDeclared.{AnalyzerDeclared}
@@ -14,7 +14,7 @@ crew-requires-clause-suit g c =
     let P : List FrontDeclared → Type 0 = λ fronts. SuitMembers fronts places.lists.now.analyzers places.lists.now.channels places.objects.now places.shared.now in
     let R : List AnalyzerDeclared → Type 0 = λ analyzers. SuitMembers c.as_slice-fronts.result.now analyzers places.lists.now.channels places.objects.now places.shared.now in
     let Q : List ChannelSpec → Type 0 = λ channels. SuitMembers c.as_slice-fronts.result.now c.as_slice-analyzers.result.now channels places.objects.now places.shared.now in
-    subst Q (sym (c.in-Ok-copied_channels.ensures ∙ c.as_slice.ensures)) (subst R (sym c.as_slice-analyzers.ensures) (subst P (sym c.as_slice-fronts.ensures) c.requires.suit))
+    subst Q (sym c.in-Ok.ensures.channels) (subst R (sym c.as_slice-analyzers.ensures) (subst P (sym c.as_slice-fronts.ensures) c.requires.suit))
 
 pub crew-requires-clause-out : goal.crew-requires-clause-out
 crew-requires-clause-out g c =
@@ -26,10 +26,10 @@ pub returns-in-Ok-crew-clause-members : goal.returns-in-Ok-crew-clause-members
 returns-in-Ok-crew-clause-members g c =
     let places = c.args.places.now in
     let crew = c.in-Ok-crew.crew in
-    let P : List FrontDeclared → Type 0 = λ fronts. AreNewMembers fronts places.lists.now.analyzers places.lists.now.channels places.objects.now places.shared.now c.args.run_files c.args.pick crew in
-    let R : List AnalyzerDeclared → Type 0 = λ analyzers. AreNewMembers c.as_slice-fronts.result.now analyzers places.lists.now.channels places.objects.now places.shared.now c.args.run_files c.args.pick crew in
-    let Q : List ChannelSpec → Type 0 = λ channels. AreNewMembers c.as_slice-fronts.result.now c.as_slice-analyzers.result.now channels places.objects.now places.shared.now c.args.run_files c.args.pick crew in
-    subst P c.as_slice-fronts.ensures (subst R c.as_slice-analyzers.ensures (subst Q (c.in-Ok-copied_channels.ensures ∙ c.as_slice.ensures) c.in-Ok-crew.ensures.members))
+    let P : List FrontDeclared → Type 0 = λ fronts. AreNewMembers fronts places.lists.now.analyzers places.lists.now.channels places.objects.now places.shared.now c.args.members.run_files c.args.members.pick crew in
+    let R : List AnalyzerDeclared → Type 0 = λ analyzers. AreNewMembers c.as_slice-fronts.result.now analyzers places.lists.now.channels places.objects.now places.shared.now c.args.members.run_files c.args.members.pick crew in
+    let Q : List ChannelSpec → Type 0 = λ channels. AreNewMembers c.as_slice-fronts.result.now c.as_slice-analyzers.result.now channels places.objects.now places.shared.now c.args.members.run_files c.args.members.pick crew in
+    subst P c.as_slice-fronts.ensures (subst R c.as_slice-analyzers.ensures (subst Q c.in-Ok.ensures.channels c.in-Ok-crew.ensures.members))
 
 pub returns-in-Ok-crew-clause-are : goal.returns-in-Ok-crew-clause-are
 returns-in-Ok-crew-clause-are g c =
@@ -43,7 +43,7 @@ pub returns-in-Ok-crew-clause-channels : goal.returns-in-Ok-crew-clause-channels
 returns-in-Ok-crew-clause-channels g c =
     let crew = c.in-Ok-crew.crew in
     let P : List ChannelSpec → Type 0 = λ channels. AreDeclared channels crew.logger.slots in
-    subst P (c.in-Ok-copied_channels.ensures ∙ c.as_slice.ensures) c.in-Ok-crew.ensures.channels
+    subst P c.in-Ok.ensures.channels c.in-Ok-crew.ensures.channels
 
 pub returns-in-Ok-crew-clause-out : goal.returns-in-Ok-crew-clause-out
 returns-in-Ok-crew-clause-out g c =

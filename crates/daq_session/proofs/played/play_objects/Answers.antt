@@ -16,13 +16,13 @@ returns-in_default g c = record {
   played = λ declared opened.
       let places = c.args.places.now in
       let side = c.args.side in
-      let database : DatabaseStage = database_stage (access_by_pass side.access) (g.E.Files.seen side.files) (g.E.Files.faults side.files) (g.E.Files.clashes side.files) (g.E.Files.first side.files) side.replies.replies in
+      let database : DatabaseStage = database_stage (access_by_pass side.database.access) (g.E.Files.seen side.database.files) (g.E.Files.faults side.database.files) (g.E.Files.clashes side.database.files) (g.E.Files.first side.database.files) side.database.replies.replies in
       let clock : ClockTold = clock_of (g.C.Clock.tells side.clock) (g.C.Clock.ahead side.clock) in
       let after : DatabaseAccess = access_by_pass c.open_keys.new.access in
       let keys : CutsKeys (names_of places.lists.now.fronts) database.access after = rw c.as_slice-fronts.ensures at c.in_default.ensures.cut in
       rw c.end_unopened.ensures (record {
         final = unopened_stage c.args.quota declared (record database { access = after }) clock;
-        tells = cut_tells _ c.args.script c.args.run_files c.args.pick c.args.quota declared (record side { access = c.open_keys.new.access });
+        tells = cut_tells _ c.args.script c.args.members.run_files _ _ _ _ _ refl refl refl;
         ends = (refl, refl, refl);
         finishes = c.first_start_opens.ensures.cut _ _ _ (opening_cut c.args.quota declared places.lists.now database after clock opened keys);
       });
@@ -47,7 +47,7 @@ returns-in-Ok-open_members g c = record {
   played = λ declared opened.
       let places = c.args.places.now in
       let side = c.args.side in
-      let database : DatabaseStage = database_stage (access_by_pass side.access) (g.E.Files.seen side.files) (g.E.Files.faults side.files) (g.E.Files.clashes side.files) (g.E.Files.first side.files) side.replies.replies in
+      let database : DatabaseStage = database_stage (access_by_pass side.database.access) (g.E.Files.seen side.database.files) (g.E.Files.faults side.database.files) (g.E.Files.clashes side.database.files) (g.E.Files.first side.database.files) side.database.replies.replies in
       let clock : ClockTold = clock_of (g.C.Clock.tells side.clock) (g.C.Clock.ahead side.clock) in
       let after : DatabaseAccess = access_by_pass c.open_keys.new.access in
       let keys : KeysMade (names_of places.lists.now.fronts) database.access after = rw c.as_slice-fronts.ensures at c.in-Ok.ensures.made in
@@ -69,13 +69,13 @@ returns-in-Err g c = record {
   played = λ declared opened.
       let places = c.args.places.now in
       let side = c.args.side in
-      let database : DatabaseStage = database_stage (access_by_pass side.access) (g.E.Files.seen side.files) (g.E.Files.faults side.files) (g.E.Files.clashes side.files) (g.E.Files.first side.files) side.replies.replies in
+      let database : DatabaseStage = database_stage (access_by_pass side.database.access) (g.E.Files.seen side.database.files) (g.E.Files.faults side.database.files) (g.E.Files.clashes side.database.files) (g.E.Files.first side.database.files) side.database.replies.replies in
       let clock : ClockTold = clock_of (g.C.Clock.tells side.clock) (g.C.Clock.ahead side.clock) in
       let after : DatabaseAccess = access_by_pass c.open_keys.new.access in
       let keys : KeysMade (names_of places.lists.now.fronts) database.access after = rw c.as_slice-fronts.ensures at c.in-Ok.ensures.made in
       rw (c.end_unopened-in-Err.ensures, c.in-Err.ensures.files) (record {
         final = unopened_stage c.args.quota declared (record database { access = after }) clock;
-        tells = cut_tells _ c.args.script c.args.run_files _ c.args.quota declared (record side { access = c.open_keys.new.access });
+        tells = cut_tells _ c.args.script c.args.members.run_files _ _ _ _ _ refl refl refl;
         ends = (refl, refl, refl);
         finishes = c.first_start_opens.ensures.cut _ _ _
             (opening_cut c.args.quota declared places.lists.now database after clock opened (keys_cut (names_of places.lists.now.fronts) database.access after keys));

@@ -25,7 +25,7 @@ pub take_back-passes-requires-clause-members : goal.take_back-passes-requires-cl
 take_back-passes-requires-clause-members g c =
     let places = c.args.places.now in
     let parts = c.play_crew-end.result.parts in
-    let stay = c.play_crew-end.ensures.members in
+    let stay = c.play_crew-end.ensures.members.same in
     let P : List FrontDeclared → Type 0 = λ fronts. AreMembersOf fronts c.as_slice-analyzers.result.now places.objects.now places.shared.now parts.fronts.items parts.logger parts.analyzers in
     let R : List AnalyzerDeclared → Type 0 = λ analyzers. AreMembersOf places.lists.now.fronts analyzers places.objects.now places.shared.now parts.fronts.items parts.logger parts.analyzers in
     subst P (sym c.as_slice-fronts.ensures) (subst R (sym c.as_slice-analyzers.ensures)
@@ -61,7 +61,7 @@ returns g c =
     let places = c.args.places.now in
     let crew = c.play_crew-end in
     let parts = crew.result.parts in
-    let stay = crew.ensures.members in
+    let stay = crew.ensures.members.same in
     let back = c.take_back-passes in
     let opened = crew.ensures.played in
     let P : _ → Type 0 = λ files. NotesFailed crew.result.failed (g.F.Files.faults files) (g.F.Files.faults back.result.files) in
@@ -87,9 +87,9 @@ returns g c =
               caller = crew.ensures.same.caller ∙ c.requires.main;
               crew = crew_seen parts.fronts.items parts.logger parts.analyzers parts.pick;
               members = c.members_stay.ensures places.lists.now.fronts places.lists.now.analyzers places.objects.now places.shared.now c.args.crew _ stay c.requires.members;
-              keep = crew.ensures.keep;
+              keep = crew.ensures.members.keep;
               calls = calls_told places.lists.now.fronts c.as_slice-fronts.result.now places.lists.now.analyzers c.as_slice-analyzers.result.now places.objects.now places.shared.now back.result.passes
-                  _ _ (access_by_pass crew.result.end.side.access).seen (seen_by c.into_pass-pass.result) parts.fronts.items parts.logger parts.analyzers
+                  _ _ (access_by_pass crew.result.end.side.database.access).seen (seen_by c.into_pass-pass.result) parts.fronts.items parts.logger parts.analyzers
                   c.as_slice-fronts.ensures c.as_slice-analyzers.ensures opened.own_are (ap seen_by c.into_pass-pass.ensures.pass) back.ensures.calls;
               channels = c.channels_stay.ensures _ c.args.crew _ stay c.requires.channels;
               first = stay.logger.first;

@@ -29,12 +29,12 @@ play_objects-lines-requires-clause-out g c = λ κs lives. c.in-Ok.ensures.passe
 pub returns-in_default : goal.returns-in_default
 returns-in_default g c =
     let side = c.args.side in
-    let database : DatabaseStage = database_stage (access_by_pass side.access) (g.E.Files.seen side.files) (g.E.Files.faults side.files) (g.E.Files.clashes side.files) (g.E.Files.first side.files) side.replies.replies in
+    let database : DatabaseStage = database_stage (access_by_pass side.database.access) (g.E.Files.seen side.database.files) (g.E.Files.faults side.database.files) (g.E.Files.clashes side.database.files) (g.E.Files.first side.database.files) side.database.replies.replies in
     let clock : ClockTold = clock_of (g.C.Clock.tells side.clock) (g.C.Clock.ahead side.clock) in
     record {
       played = rw c.end_unopened.ensures (record {
         final = unopened_stage c.args.quota c.args.declarations database clock;
-        tells = cut_tells _ c.args.script c.args.members.run_files c.args.members.pick c.args.quota c.args.declarations side;
+        tells = cut_tells _ c.args.script c.args.members.run_files _ _ _ _ _ refl refl refl;
         ends = (refl, refl, refl);
         finishes = c.first_start_opens.ensures.cut _ _ _ (nothing_opened c.args.quota c.args.declarations database clock);
       });

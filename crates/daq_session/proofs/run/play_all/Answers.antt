@@ -10,7 +10,7 @@ pub returns-in-Ended : goal.returns-in-Ended
 returns-in-Ended g c =
     let first = c.play_first-end.result in
     let side = first.side in
-    let database : DatabaseStage = database_stage (access_by_pass side.access) (g.E.Files.seen side.files) (g.E.Files.faults side.files) (g.E.Files.clashes side.files) (g.E.Files.first side.files) side.replies.replies in
+    let database : DatabaseStage = database_stage (access_by_pass side.database.access) (g.E.Files.seen side.database.files) (g.E.Files.faults side.database.files) (g.E.Files.clashes side.database.files) (g.E.Files.first side.database.files) side.database.replies.replies in
     let clock : ClockTold = clock_of (g.C.Clock.tells side.clock) (g.C.Clock.ahead side.clock) in
     let left = c.leave_unopened.ensures in
     record {
@@ -20,7 +20,7 @@ returns-in-Ended g c =
           counts = record {
             may = tt;
             source_counts = rw c.in-Ended.is at c.play_first-end.ensures.source;
-            lines = g.O.Sink.faults c.play_first-end.new.out;
+            lines = g.O.Sink.faults c.play_first-end.new.script.out;
             sink_counts = rw c.in-Ended.is at c.play_first-end.ensures.sink;
             behind = refl;
           };
@@ -30,7 +30,7 @@ returns-in-Ended g c =
           clock_is = refl;
         };
         ends = unopened_ends _ c.args.shared.now c.args.members.run_files _ _ _ _ refl refl left.left;
-        finished = c.first_start_opens.ensures.unopened _ _ _ _ _ _ _ _ (rw (c.requires.fresh.seen, c.in-Ended.is) at c.play_first-end.ensures.played) refl;
+        finished = c.first_start_opens.ensures.unopened _ _ _ _ _ _ _ _ (rw (c.requires.database.fresh.seen, c.in-Ended.is) at c.play_first-end.ensures.played) refl;
       });
     }
 
@@ -50,6 +50,24 @@ returns-in-Opens g c =
           clock_is = played.tells.clock_is;
         };
         ends = played.ends;
-        finished = played.finishes _ _ _ (rw (c.requires.fresh.seen, c.in-Opens.is) at c.play_first-end.ensures.played);
+        finished = played.finishes _ _ _ (rw (c.requires.database.fresh.seen, c.in-Opens.is) at c.play_first-end.ensures.played);
       };
     }
+
+pub play_first-end-requires-clause-main : goal.play_first-end-requires-clause-main
+play_first-end-requires-clause-main g c = c.requires.database.main_is
+
+pub play_first-end-requires-clause-own : goal.play_first-end-requires-clause-own
+play_first-end-requires-clause-own g c = c.requires.database.own
+
+pub play_first-end-requires-clause-idle : goal.play_first-end-requires-clause-idle
+play_first-end-requires-clause-idle g c = c.requires.database.fresh.idle
+
+pub leave_unopened-requires-clause-others : goal.leave_unopened-requires-clause-others
+leave_unopened-requires-clause-others g c = c.requires.database.others
+
+pub open_and_play-requires-clause-callers : goal.open_and_play-requires-clause-callers
+open_and_play-requires-clause-callers g c = λ κs lives. c.requires.database.callers
+
+pub open_and_play-requires-clause-others : goal.open_and_play-requires-clause-others
+open_and_play-requires-clause-others g c = λ κs lives. c.requires.database.others

@@ -1,4 +1,4 @@
-use Rattle.std.proofs.Common.{refl}
+use Rattle.std.proofs.Common.{refl, arith}
 use Rattle.std.specs.Prelude.{◌≢◌, []}
 use Rattle.daq_types.specs.Callers.{main_caller}
 use Rattle.odb_lock.specs.SharedAccesses.{odb_identity, shared_access}
@@ -10,6 +10,9 @@ use Rattle.daq_session.proofs.ClosedLaws.{is_back, memory_ends, memory_found}
 use Rattle.daq_session.proofs.EndedLaws.{kept_ended}
 use Rattle.daq_session.proofs.LeftLaws.{lines_left}
 use Rattle.daq_session.proofs.run.run_session.Goals as goal
+
+pub close_left-record-requires-clause-some : goal.close_left-record-requires-clause-some
+close_left-record-requires-clause-some g c = omega (arith, c.requires.database.callers)
 
 pub close_left-record-requires-clause-back : goal.close_left-record-requires-clause-back
 close_left-record-requires-clause-back g c =
@@ -29,7 +32,7 @@ returns g c =
     let end = c.end_of-end.ensures (g.F.Files.faults outside.run_files) (g.E.Files.faults outside.odb_files) in
     let faults = end (λ asks. (played.tells.failed, rw (played.tells.replies_are, played.tells.files_are) at kept.faults refl asks)) in
     let saved : c.end_of-end.result ≢ NoMemory → StageSaved final = λ other. kept.saved (memory_found lines.ending lines.closing faults.0 refusals c.end_of-end.result faults.2 other) tt in
-    let keeps = c.close_left-record.ensures.kept outside.run_files final lines.ending c.end_of-end.result lines.run_files c.requires.rows
+    let keeps = c.close_left-record.ensures.kept outside.run_files final lines.ending c.end_of-end.result lines.run_files c.requires.database.rows
     (kept.kept tt) kept.over (kept.spares tt)
     (memory_ends lines.ending lines.closing faults.0 refusals c.end_of-end.result faults.2)
     played.ends in
@@ -38,7 +41,7 @@ returns g c =
         final = final;
         plays = record {
           access = shared_access (odb_identity c.args.database.shared) main_caller [];
-          opens = c.requires.rows;
+          opens = c.requires.database.rows;
           caller = refl;
           unseen = refl;
           ending = lines.ending;

@@ -21,3 +21,6 @@ returns-clause-counts g c = c.play_members-end.ensures.played.1
 
 pub returns-clause-failed : goal.returns-clause-failed
 returns-clause-failed g c = λ none. noted_failed _ _ _ _ _ c.failed-failed.ensures none c.play_members-end.ensures.faults
+
+pub returns-clause-members : goal.returns-clause-members
+returns-clause-members g c = let all = c.play_members-end.ensures in record { same = all.same; keep = all.keep; ended = all.ended }
