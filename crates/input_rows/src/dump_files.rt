@@ -108,3 +108,15 @@ fn replies_by_line(rt: HostRuntime) -> Result<(), Fail> {
     assert!(rt; FileReplies::empty(rt.alloc()).pop().is_none());
     Ok(())
 }
+
+#[test]
+fn a_reply_is_changed_in_its_place(rt: HostRuntime) -> Result<(), Fail> {
+    let mut replies = FileReplies::new(rt.alloc(), 1)?;
+    replies.push(3, FileReply::Done);
+    if let Some(entry) = replies.get_mut(0) {
+        *entry = (4, FileReply::Clash);
+    }
+    assert!(rt; replies.as_slice() == [(4, FileReply::Clash)].as_slice());
+    assert!(rt; replies.get_mut(1).is_none());
+    Ok(())
+}
