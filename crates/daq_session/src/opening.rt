@@ -225,7 +225,7 @@ fn open_runs<'a, R: Wait>(
     Runs::new(alloc, seat, quota, names, channels, named_analyzers)
 }
 
-/// The same, with the channels that were declared once more, for the logger. So the members are opened with one early end.
+/// What `open_runs` gives, and a copy of the declared channels for the logger. So the members are opened with one early end.
 fn open_runs_with_channels<'a, R: Wait>(
     rt: &R,
     alloc: Global,

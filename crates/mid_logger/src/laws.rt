@@ -5,8 +5,8 @@ ghost use Rattle.mid_logger.specs.Patterns.{NamePattern, IsPattern, pattern_text
 ghost use Rattle.mid_logger.specs.Keeping.{PullsKeep, PullsChange, AbortsKeep, AbortsChange, ClosesKeep, ClosesChange, OpensKeep, OpensChange, OpensAlone, FilesThere, BegunKeeps, EndedKeeps};
 ghost use Rattle.mid_logger.specs.Beside.{AbortsBeside, CallsBeside, ClosesBeside, FilesBeside, LeftBeside, OpensBeside, PullsBeside};
 
-/// A call on the channel's buffer that names another client, and does not end the run that the channel's client reads,
-/// leaves what the channel keeps: calls of other channels, and pauses and resumes.
+/// A call on the channel's buffer that names another client, and neither begins the run that the channel's client waits
+/// for nor ends the one that it reads, leaves what the channel keeps: calls of other channels, and pauses and resumes.
 pub fn calls_beside()
     ensures { CallsBeside }
 {}

@@ -20,7 +20,7 @@ IsCauseOf FileFault first cause = (name : List ℕ) × (cause ≡ causes.FileFau
 IsCauseOf SinkFault first cause = cause ≡ causes.SinkFault
 IsCauseOf NoMemory first cause = cause ≡ causes.NoMemory
 
--- what each tool writes; where memory is wanting `dump` has not called the files
+-- what each tool writes; where memory is wanting to `dump`, no call on the files has failed or met a clash
 abbrev pub ToolWrites : Tool → (seen : Seen) (name : List ℕ) → CallCounts → (told_old told_new : Option (List ℕ)) → ToolEnd → Type 0
 ToolWrites Check seen name counts told_old told_new end = Writes Checks seen name told_old told_new end
 ToolWrites Dump seen name counts told_old told_new end =

@@ -17,7 +17,7 @@ pub record IsUnreadScript (desk : Desk) : Type 0 where
   pub number : desk.number ≡ 0
 
 -- The lines up to the first start were played, or all of them, of a session in which nothing was declared before, and whose port to
--- the database was this one: the script was the one, and then the other.
+-- the database was this one: `before` and `after` are the script in front of these lines and behind them.
 abbrev pub PlaysFirst : {D E C S O : Type 0} {d : _} {e : _} (told : SideTold D E C) (left : S → Option (List ℕ))
     (written : O → Option (List ℕ)) (access : DatabaseAccess) (files : E) (clock : C) (before after : Script S O) →
     FirstEnd D E C d e → Type 0
