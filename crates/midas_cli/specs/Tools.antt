@@ -20,11 +20,11 @@ IsCauseOf FileFault first cause = (name : List ℕ) × (cause ≡ causes.FileFau
 IsCauseOf SinkFault first cause = cause ≡ causes.SinkFault
 IsCauseOf NoMemory first cause = cause ≡ causes.NoMemory
 
--- what each tool writes; where memory is wanting to `dump`, no call on the files has failed or met a clash
+-- what each tool writes; where memory is wanting, `dump` has read nothing of the files, and no call on them failed or met a clash
 abbrev pub ToolWrites : Tool → (seen : Seen) (name : List ℕ) → CallCounts → (told_old told_new : Option (List ℕ)) → ToolEnd → Type 0
 ToolWrites Check seen name counts told_old told_new end = Writes Checks seen name told_old told_new end
 ToolWrites Dump seen name counts told_old told_new end =
-    WritesOn seen name counts.read_old counts.read_new told_old told_new end × (end ≡ NoMemory → (counts.files_new ≡ counts.files_old) × (counts.clashes_new ≡ counts.clashes_old))
+    WritesOn seen name counts.read_old counts.read_new told_old told_new end × (end ≡ NoMemory → (counts.files_new ≡ counts.files_old) × (counts.clashes_new ≡ counts.clashes_old) × (counts.read_new ≡ counts.read_old))
 ToolWrites Analyze seen name counts told_old told_new end = Writes Analyzes seen name told_old told_new end
 
 -- A tool was run on the file of this name, and this is its cause.
