@@ -1,4 +1,4 @@
-ghost use Rattle.std.specs.Prelude.{◌≡◌, ◌≤◌, ◌<◌, ◌+◌, ◌++◌, ◌∷◌, [], length, slice_get, IsSome, ◌↔◌, IfOk, IfNone, OnOk, OnErr};
+ghost use Rattle.std.specs.Prelude.{◌≡◌, ◌≤◌, ◌<◌, ◌+◌, ◌++◌, ◌∷◌, [], length, slice_get, IsSome, ◌↔◌, IfOk, IfNone, OnOk};
 ghost use Rattle.std.specs.List.{IsItemAtMut};
 ghost use Rattle.std.specs.Borrow.{sem};
 ghost use Rattle.std.specs.Option.{option_copied, option_to_list};
@@ -68,10 +68,11 @@ impl FileReplies {
         self.entries.push_reserved((line, reply));
     }
 
-    /// The last entry, which is then gone.
+    /// The last entry, which is then gone, and leaves its room.
     pub fn pop(&mut self) -> Option<(u64, FileReply)>
         ensures last { self.old.replies ≡ self.new.replies ++ option_to_list result }
         ensures none { IfNone result (self.old.replies ≡ []) }
+        ensures room { self.old.room + length (option_to_list result) ≤ self.new.room }
     {
         self.entries.pop()
     }

@@ -4,7 +4,7 @@ ghost use Rattle.std.specs.Prelude.{None};
 use daq_io::{Failed, Source};
 use daq_mem::MemSource;
 use daq_types::NoMemory;
-use odb_script::{LineReader, NextLine, SCRIPT_BYTES};
+use odb_script::{LineReader, NextLine};
 use std::alloc::Global;
 use std::process::Abort;
 use std::test::Fail;
@@ -94,7 +94,7 @@ fn read_blanks(alloc: Global, blanks: usize) -> Result<[NextLine; 4], NoMemory> 
 /// The third line ends with the last byte that a script may have.
 #[test]
 fn a_script_that_is_too_long(rt: HostRuntime) -> Result<(), Fail> {
-    let answers = read_blanks(rt.alloc(), SCRIPT_BYTES as usize - 3)?;
+    let answers = read_blanks(rt.alloc(), 16_777_216 - 3)?;
     let [first, second, third, behind] = answers;
     assert!(rt; [first, second, third] == [NextLine::Line; 3]);
     assert!(rt; behind == NextLine::TooLong);

@@ -224,6 +224,7 @@ fn make_meet_and_find<R: Wait>(
     Ok([made, shared.find(rt, &mut other, path)])
 }
 
+// What a pass has seen stands in contracts alone: the row shows that the two calls can be made.
 #[test]
 fn a_pass_meets_what_another_has_seen(rt: HostRuntime) {
     let path = Path::read(rt.alloc(), b"/A/b").expect(&rt, "a path");

@@ -205,6 +205,7 @@ fn begin_meet_and_answer<R: Wait>(
     Ok((begun, take_turn(&shared, rt, &mut other)))
 }
 
+// What a pass has seen stands in contracts alone: the row shows that the two calls can be made.
 #[test]
 fn a_pass_meets_what_another_has_seen(rt: HostRuntime) {
     let name = Name::new(b"FE").expect(&rt, "a name");
