@@ -1,6 +1,6 @@
-//! An example of an equipment of one's own: a detector that gives pulse heights. Here they come from a table, where a
-//! real one would read a converter. A front-end with it takes part in runs and sends its events, and what is proved of
-//! every front-end holds of it.
+//! An example of an equipment of one's own: a detector that gives pulse heights, from a table. The trait asks that event k
+//! is known from the equipment, the order and k, so values that are only known once they are read do not meet it. A
+//! front-end with it takes part in runs and sends its events, and what is proved of every front-end holds of it.
 #![tactic(auto)]
 
 use daq_types::Order;
