@@ -349,6 +349,68 @@ const GATED: &[Step] = &[
     ),
 ];
 
+const DETACHED: &[Step] = &[
+    Attach(Ok(0)),
+    Attach(Ok(1)),
+    Request(0, 1, ANY, All, Ok(0)),
+    Request(1, 1, ANY, NonBlocking, Ok(0)),
+    Send(1, 0, 8, Ok(0)),
+    Send(1, 0, 8, Ok(1)),
+    Send(1, 0, 8, Ok(2)),
+    Send(1, 0, 8, Ok(3)),
+    Send(1, 0, 8, Ok(4)),
+    Send(1, 0, 8, Ok(5)),
+    Send(1, 0, 8, Ok(6)),
+    Send(1, 0, 8, Ok(7)),
+    Send(
+        1,
+        0,
+        8,
+        Err(SendRefusal::Full {
+            client: 0,
+            place: 0,
+        }),
+    ),
+    Detach(0, Ok(())),
+    Send(1, 0, 8, Ok(8)),
+    Level(256),
+    Receive(1, Received::Got { place: 1, start: 0 }),
+];
+
+const BOTH_SILENT: &[Step] = &[
+    Attach(Ok(0)),
+    Attach(Ok(1)),
+    Request(0, 1, ANY, All, Ok(0)),
+    Request(1, 1, ANY, All, Ok(0)),
+    Send(1, 0, 8, Ok(0)),
+    Send(1, 0, 8, Ok(1)),
+    Send(1, 0, 8, Ok(2)),
+    Send(1, 0, 8, Ok(3)),
+    Send(1, 0, 8, Ok(4)),
+    Send(1, 0, 8, Ok(5)),
+    Send(1, 0, 8, Ok(6)),
+    Send(1, 0, 8, Ok(7)),
+    Send(
+        1,
+        0,
+        8,
+        Err(SendRefusal::Full {
+            client: 0,
+            place: 0,
+        }),
+    ),
+    Detach(0, Ok(())),
+    Send(
+        1,
+        0,
+        8,
+        Err(SendRefusal::Full {
+            client: 1,
+            place: 0,
+        }),
+    ),
+];
+
 /// What events a buffer holds back and gives, and which calls it refuses.
 const ROWS: &[&[Step]] = &[
     // A client that must get all events holds back sends.
@@ -371,6 +433,10 @@ const ROWS: &[&[Step]] = &[
     PASSED_OVER,
     // The gate lets one run in.
     GATED,
+    // A client that is gone holds back none.
+    DETACHED,
+    // Of two that hold back a send, the other still does when one is gone.
+    BOTH_SILENT,
 ];
 
 /// A request and a client give their numbers back, which are the next ones then.
