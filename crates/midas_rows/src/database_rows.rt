@@ -9,7 +9,7 @@ const SETTINGS: &str =
     Thresholds = UINT16[3] :\n[0] 0\n[1] 500\n[2] 0\n\n";
 
 /// The rows.
-pub static DATABASE_ROWS: [Row; 11] = [
+pub static DATABASE_ROWS: [Row; 12] = [
     Row {
         title: "Settings",
         script: "set \"/runinfo/RUN NUMBER\" 7\nget \"/Runinfo/Run number\"\n\
@@ -19,7 +19,7 @@ pub static DATABASE_ROWS: [Row; 11] = [
     Row {
         title: "Keys",
         script: "create UINT8 /A/b 2\nset /A/b 1 0xff\nget /A/b\nset /A/b 2 1\nset /A/b 0 256\n\
-            create DIR /A\nrm /Runinfo/State\n",
+            create DIR /A\nrm /Runinfo/State\nfrob\n",
         ..PLAIN
     },
     Row {
@@ -46,6 +46,12 @@ pub static DATABASE_ROWS: [Row; 11] = [
         title: "A watch",
         script: "watch /B\ncreate UINT32 /A/x\nwatch /A\nset /A/x 1\nnotes 0\nset /A/x 2\n\
             rm /A/x\nnotes 0\nunwatch 0\nnotes 0\n",
+        ..PLAIN
+    },
+    Row {
+        title: "A new session that is saved twice",
+        script: "save a.odb\nsave a.odb\n",
+        dumps: &["a.odb"],
         ..PLAIN
     },
     Row {

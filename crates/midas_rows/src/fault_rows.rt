@@ -3,7 +3,7 @@ use crate::rows::{PLAIN, Row};
 use daq_mem::{FileFail, FileOp};
 
 /// The rows.
-pub static FAULT_ROWS: [Row; 8] = [
+pub static FAULT_ROWS: [Row; 12] = [
     Row {
         title: "A read of the script that fails",
         script: "events 3\nstart\nstop\n",
@@ -12,7 +12,7 @@ pub static FAULT_ROWS: [Row; 8] = [
     },
     Row {
         title: "A write of the console that fails",
-        script: "events 3\nstart\nstop\n",
+        script: "events 0\nstart\nstop\n",
         sink_fails: &[0],
         tools: &[&["check", "run00001.mid"]],
         ..PLAIN
@@ -29,12 +29,52 @@ pub static FAULT_ROWS: [Row; 8] = [
     },
     Row {
         title: "A run file that cannot be made",
-        script: "events 1\nstart\nstop\n",
+        script: "events 3\nstart\nstop\n",
         run_fails: &[FileFail {
             op: FileOp::Create,
             call: 0,
         }],
         run_files: &["run00001.mid"],
+        ..PLAIN
+    },
+    Row {
+        title: "The header of a begin record that cannot be written",
+        script: "events 3\nstart\nstop\n",
+        run_fails: &[FileFail {
+            op: FileOp::Append,
+            call: 0,
+        }],
+        run_files: &["run00001.mid"],
+        ..PLAIN
+    },
+    Row {
+        title: "The dump of a begin record that cannot be written",
+        script: "events 3\nstart\nstop\n",
+        run_fails: &[FileFail {
+            op: FileOp::Append,
+            call: 1,
+        }],
+        run_files: &["run00001.mid"],
+        ..PLAIN
+    },
+    Row {
+        title: "The header of an end record that cannot be written",
+        script: "events 3\nstart\nstop\n",
+        run_fails: &[FileFail {
+            op: FileOp::Append,
+            call: 5,
+        }],
+        tools: &[&["check", "run00001.mid"]],
+        ..PLAIN
+    },
+    Row {
+        title: "The dump of an end record that cannot be written",
+        script: "events 3\nstart\nstop\n",
+        run_fails: &[FileFail {
+            op: FileOp::Append,
+            call: 6,
+        }],
+        tools: &[&["check", "run00001.mid"]],
         ..PLAIN
     },
     Row {
@@ -58,7 +98,7 @@ pub static FAULT_ROWS: [Row; 8] = [
     },
     Row {
         title: "A dump that cannot be written",
-        script: "save a.odb\n",
+        script: "save a.odb\nls /\n",
         dump_fails: &[FileFail {
             op: FileOp::Append,
             call: 0,

@@ -2,7 +2,7 @@
 use crate::rows::{PLAIN, Row, TOOLS};
 
 /// The rows.
-pub static SESSION_ROWS: [Row; 20] = [
+pub static SESSION_ROWS: [Row; 27] = [
     Row {
         title: "An empty script",
         script: "",
@@ -30,6 +30,16 @@ pub static SESSION_ROWS: [Row; 20] = [
     Row {
         title: "Two runs, and the number that the front-end sets",
         script: "events 1\nstart\nstop\nget \"/Equipment/FE/Events sent\"\nstart\nstop\n",
+        ..PLAIN
+    },
+    Row {
+        title: "A run number that is set within a run",
+        script: "start\nset \"/Runinfo/Run number\" 5\nstop\nstart\nstop\n",
+        ..PLAIN
+    },
+    Row {
+        title: "A watch on the run's parameters",
+        script: "watch /Runinfo\nstart\nnotes 0\nstop\nnotes 0\n",
         ..PLAIN
     },
     Row {
@@ -93,6 +103,11 @@ pub static SESSION_ROWS: [Row; 20] = [
         ..PLAIN
     },
     Row {
+        title: "An analyzer with the name of the front-end that is taken where none is declared",
+        script: "analyzer FE SYSTEM 65535 65535 all\nstart\nstop\n",
+        ..PLAIN
+    },
+    Row {
         title: "A script that was generated",
         script: "buffer SYSTEM 65536\nequip FE1 1 1 SYSTEM\n\
             analyzer ANA SYSTEM 65535 65535 all\nevents 1000\nstart\nstop\nstart\npause\n\
@@ -115,8 +130,21 @@ pub static SESSION_ROWS: [Row; 20] = [
         ..PLAIN
     },
     Row {
+        title: "Two channels whose patterns give one name",
+        script: "channel 0 run%05d.mid SYSTEM 65535 65535\n\
+            channel 1 run%05d.mid SYSTEM 65535 65535\nstart\n",
+        run_files: &["run00001.mid"],
+        ..PLAIN
+    },
+    Row {
         title: "A start that is refused for a limit",
         script: "equip FE 1 0 SYSTEM 10\nevents 11\nstart\nevents 10\nstart\nstop\n",
+        ..PLAIN
+    },
+    Row {
+        title: "A start that is refused beside an analyzer",
+        script: "equip FE 1 0 SYSTEM 10\nanalyzer ANA SYSTEM 65535 65535 all\nevents 11\nstart\n\
+            events 10\nstart\nstop\n",
         ..PLAIN
     },
     Row {
@@ -137,6 +165,11 @@ pub static SESSION_ROWS: [Row; 20] = [
         ..PLAIN
     },
     Row {
+        title: "Declarations behind a start that is no command, and behind one that is refused",
+        script: "set \"/Runinfo/Run number\" -1\nstart now\nbuffer X 256\nstart\nbuffer Y 256\n",
+        ..PLAIN
+    },
+    Row {
         title: "A second start, and a run that is still on at the end",
         script: "start\r\nstart\r\n",
         ..PLAIN
@@ -144,6 +177,13 @@ pub static SESSION_ROWS: [Row; 20] = [
     Row {
         title: "A script that ends in a run",
         script: "start\nexit\nfrob\n",
+        ..PLAIN
+    },
+    Row {
+        title: "An empty run file",
+        script: "",
+        run_file: Some(("run00001.mid", "")),
+        tools: &[&["check", "run00001.mid"]],
         ..PLAIN
     },
     Row {
