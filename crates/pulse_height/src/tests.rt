@@ -67,6 +67,12 @@ fn is_refused<E: Equipment>(front: &mut FrontEnd<E>, quota: u32) -> bool {
     matches!(answer, Some(Answer::No(Why::NotReady)))
 }
 
+/// Starts run 1 with this quota. Says whether the front-end agrees, and has no events to tell of.
+fn is_accepted<E: Equipment>(front: &mut FrontEnd<E>, quota: u32) -> bool {
+    let answer = front.on_turn(Transition::Start, &order(RunState::Stopped, quota));
+    matches!(answer, Some(Answer::Yes(Tally::Plain)))
+}
+
 /// Stops run 1. Says whether the answer has to wait.
 fn stop_waits<E: Equipment>(front: &mut FrontEnd<E>) -> bool {
     let answer = front.on_turn(Transition::Stop, &order(RunState::Running, 0));
@@ -93,6 +99,8 @@ fn quota_told<E: Equipment>(front: &mut FrontEnd<E>) -> Option<u64> {
 struct QuotaRun {
     /// Whether the start with the larger quota was refused.
     refused: bool,
+    /// Whether the start with a quota of one event was accepted.
+    accepted: bool,
     first: FrontStep,
     second: FrontStep,
 }
@@ -108,9 +116,10 @@ fn start_twice<R: Wait, E: Equipment>(
 {
     begin(rt, port)?;
     let refused = is_refused(front, larger);
-    let _ = is_refused(front, 1);
+    let accepted = is_accepted(front, 1);
     Ok(QuotaRun {
         refused,
+        accepted,
         first: step(rt, front, port)?,
         second: step(rt, front, port)?,
     })
@@ -182,6 +191,7 @@ fn a_front_end_sends_its_quota(rt: HostRuntime) -> Result<(), Fail> {
     };
     let run = quota_run(&rt, rt.alloc(), generator, 11)?;
     assert!(rt; run.refused);
+    assert!(rt; run.accepted);
     assert!(rt; run.first == FrontStep::Sent { place: 0 });
     assert!(rt; run.second == FrontStep::NoWork);
     Ok(())
