@@ -74,6 +74,15 @@ const ROWS: &[Row] = &[
          rest ids 0 banks 0 bad 0\n",
     ),
     (Tool::Analyze, Made::Front(422), NONE, "bad AfterEnd 421\n"),
+    // A second record at the begin, one at the end of another run, and an event that is too long.
+    (Tool::Check, Made::With(229, 0), NONE, "bad BadRecord 229\n"),
+    (Tool::Check, Made::With(233, 2), NONE, "bad BadRecord 229\n"),
+    (
+        Tool::Check,
+        Made::With(203, 0x40),
+        NONE,
+        "bad TooBig 189 4194328\n",
+    ),
     // Banks that are wrong or have odd names.
     (
         Tool::Dump,
