@@ -480,6 +480,7 @@ const FAULTY_WORDS: &[(&str, u32)] = &[
     ("stop \"x", 7),
     ("stop \"", 6),
     ("stop a\"b", 5),
+    ("set \"/A", 7),
     ("set /A \"x y", 11),
     ("set /A x \"y", 11),
     ("set /A x y\"z", 9),
