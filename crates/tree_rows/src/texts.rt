@@ -22,12 +22,12 @@ pub const BEGUN: &str =
     "[/Runinfo]\nState = INT32 : 1\nRun number = INT32 : 1\nStart time binary = UINT32 : 1000\n\
     Stop time binary = UINT32 : 0\n\n[/Equipment]\n\n[/Equipment/FE]\nEvents sent = UINT64 : 0\n\n";
 
-/// The dump of that run at its end, with one event: 176 bytes.
+/// A dump that is read and written: 176 bytes.
 const ENDED: &str =
     "[/Runinfo]\nState = INT32 : 3\nRun number = INT32 : 1\nStart time binary = UINT32 : 1000\n\
     Stop time binary = UINT32 : 1010\n\n[/Equipment]\n\n[/Equipment/FE]\nEvents sent = UINT64 : 1\n\n";
 
-/// The dump of such a run without events at its end: 176 bytes.
+/// The dump of a run at its end: 176 bytes.
 pub const ENDED_EMPTY: &str =
     "[/Runinfo]\nState = INT32 : 3\nRun number = INT32 : 1\nStart time binary = UINT32 : 1000\n\
     Stop time binary = UINT32 : 1010\n\n[/Equipment]\n\n[/Equipment/FE]\nEvents sent = UINT64 : 0\n\n";
@@ -130,6 +130,12 @@ const TEXTS: &[Row] = &[
     ("", "x = INT[2] :\n[0] 1\n", Err(BadLine { line: 3 }), None),
     (
         "",
+        "x = INT32[3] :\n[0] 1\n",
+        Err(BadLine { line: 3 }),
+        None,
+    ),
+    (
+        "",
         "x = INT[2] :\n[0] 1\n\n[1] 2\n",
         Err(BadLine { line: 3 }),
         None,
@@ -142,6 +148,7 @@ const TEXTS: &[Row] = &[
     ),
     ("", "x = INT[0] :\n", Err(BadLine { line: 1 }), None),
     ("", "x = STRING : a", Err(BadLine { line: 1 }), None),
+    ("", "x = UINT8 : 256", Err(BadLine { line: 1 }), None),
     (
         "",
         "x = STRING[3] :\n[32] a\nb\n[1025] c\n",
@@ -157,6 +164,19 @@ const TEXTS: &[Row] = &[
     (
         "",
         "[/a/a/a/a/a/a/a/a/a/a/a/a/a/a/a/a/a/a/a/a/a/a/a/a/a/a/a/a/a/a/a/a]\nx = INT : 1",
+        Err(BadLine { line: 2 }),
+        None,
+    ),
+    // Lines that the grammar does not have, of keys that a database refuses too.
+    (
+        "",
+        "x = INT : 1\nx = DWORD[2] :\n[0] 1\n[1] bad\n",
+        Err(BadLine { line: 4 }),
+        None,
+    ),
+    (
+        "",
+        "x = INT : 1\nx = UINT8 : 300\n",
         Err(BadLine { line: 2 }),
         None,
     ),
@@ -234,6 +254,15 @@ const TEXTS: &[Row] = &[
         None,
     ),
     // Texts whose database is saved again.
+    (
+        "",
+        "a = CHAR : \nb = CHAR :  \n",
+        Ok(Loaded {
+            keys: 2,
+            skipped: 0,
+        }),
+        Some((30, "[/]\na = CHAR : \nb = CHAR :  \n\n")),
+    ),
     (
         SESSION,
         OLDER,
