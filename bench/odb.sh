@@ -1,9 +1,9 @@
 #!/bin/sh
 # Measures scripts of database commands: 10,000, 20,000 and 40,000 lines over 500, 1,000 and 2,000 keys in 50 directories,
 # half of the lines behind the creations `set` and half `get`, beside a plain Rust program with a hash map that plays the
-# same script to the same text. Prints seconds (the best of three), ratios, growth and the peak memory. Then the saving of 5,000,
-# 10,000 and 20,000 keys to a file and the loading of that file: processor time (the least of fifteen), without that of the
-# keys' creation, which a script that only makes them takes.
+# same script to the same text. Prints seconds (the best of seven), ratios by the clock and of the processor, growth and the
+# peak memory. Then the saving of 5,000, 10,000 and 20,000 keys to a file and the loading of that file, beside the same plain
+# program: processor time (the least of fifteen), without that of the keys' creation, which a script that only makes them takes.
 # usage: bench/odb.sh PROGRAM
 set -e
 program=$(realpath "$1")
@@ -34,9 +34,9 @@ def script(lines, keys):
     return ("\n".join(written) + "\n").encode()
 
 
-def seconds(command, script, runs=3):
-    """The best time of some runs, the peak memory in kB, and what was printed."""
-    best, peak = None, 0
+def seconds(command, script, runs=7):
+    """The best time of some runs by the clock and of the processor, the peak memory in kB, and what was printed."""
+    best, least, peak = math.inf, math.inf, 0
     for _ in range(runs):
         with open("script", "wb") as out:
             out.write(script)
@@ -46,32 +46,34 @@ def seconds(command, script, runs=3):
         took = time.time() - start
         assert status == 0, command
         peak = max(peak, usage.ru_maxrss)
-        best = took if best is None else min(best, took)
+        best = min(best, took)
+        least = min(least, usage.ru_utime + usage.ru_stime)
     with open("printed", "rb") as printed:
-        return best, peak, printed.read()
+        return best, least, peak, printed.read()
 
 
 first = None
 for times in (1, 2, 4):
     lines, keys = times * FEWEST_LINES, times * FEWEST_KEYS
-    took, peak, printed = seconds(program + " run", script(lines, keys))
-    plain, _, wanted = seconds("./plain", script(lines, keys))
+    took, busy_took, peak, printed = seconds(program + " run", script(lines, keys))
+    plain, busy_plain, _, wanted = seconds("./plain", script(lines, keys))
     assert printed == wanted, "the two programs print different texts"
     first = first or took
     exponent = math.log(took / first) / math.log(times) if times > 1 else 1
-    print("%6d lines  %5d keys  run %6.3f s  %5.1f times plain Rust  growth %5.2f of %d (exponent %4.2f)  peak %d kB"
-          % (lines, keys, took, took / plain, took / first, times, exponent, peak))
+    print("%6d lines  %5d keys  run %6.3f s  %5.1f times plain Rust, of the processor %5.1f  "
+          "growth %5.2f of %d (exponent %4.2f)  peak %d kB"
+          % (lines, keys, took, took / plain, busy_took / busy_plain, took / first, times, exponent, peak))
 
 
-def busy(script, before=lambda: None, runs=15):
-    """The least processor time of `run` on a script."""
+def busy(command, script, before=lambda: None, runs=15):
+    """The least processor time of a program on a script."""
     least = None
     with open("script", "wb") as out:
         out.write(script)
     for _ in range(runs):
         before()
-        with open("script", "rb") as given, open(os.devnull, "wb") as nothing:
-            process = subprocess.Popen([program, "run"], stdin=given, stdout=nothing)
+        with open("script", "rb") as given, open("printed", "wb") as printed:
+            process = subprocess.Popen(command, stdin=given, stdout=printed)
             _, status, usage = os.wait4(process.pid, 0)
         assert status == 0, script[-40:]
         took = usage.ru_utime + usage.ru_stime
@@ -84,15 +86,26 @@ def remove():
         os.remove("saved.odb")
 
 
+def files(command, made):
+    """What saving the keys that this script makes and loading that file take, and the text of the keys' directories."""
+    made_took = busy(command, made)
+    saved = busy(command, made + b"save saved.odb\n", remove) - made_took
+    loaded = busy(command, b"load saved.odb\n") - busy(command, b"")
+    with open("saved.odb", "rb") as text:
+        return saved, loaded, text.read().partition(b"[/Equipment/Crate0]")[2]
+
+
 first = None
 for times in (1, 2, 4):
     keys = times * FEWEST_SAVED
     made = ("\n".join("create UINT32 " + path(key) for key in range(keys)) + "\n").encode()
-    made_took = busy(made)
-    saved = busy(made + b"save saved.odb\n", remove) - made_took
-    loaded = busy(b"load saved.odb\n") - busy(b"")
+    plain_saved, plain_loaded, wanted = files(["./plain"], made)
+    saved, loaded, text = files([program, "run"], made)
+    assert text == wanted, "the two programs save different texts"
     first = first or saved + loaded
     exponent = math.log((saved + loaded) / first) / math.log(times) if times > 1 else 1
-    print("%6d keys  save %6.3f s  load %6.3f s of the processor  together %6.3f s  growth %5.2f of %d (exponent %4.2f)"
-          % (keys, saved, loaded, saved + loaded, (saved + loaded) / first, times, exponent))
+    print("%6d keys  save %6.3f s  load %6.3f s of the processor  %5.1f and %5.1f times plain Rust, together %5.1f  "
+          "growth %5.2f of %d (exponent %4.2f)"
+          % (keys, saved, loaded, saved / plain_saved, loaded / plain_loaded,
+             (saved + loaded) / (plain_saved + plain_loaded), (saved + loaded) / first, times, exponent))
 PYTHON

@@ -1,4 +1,5 @@
 pub mod Padding
+pub mod Words
 pub mod Below
 pub mod Finding
 pub mod Whole

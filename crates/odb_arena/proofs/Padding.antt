@@ -62,7 +62,7 @@ name_nonzero a h = nonzero_lower a (λ place l. kept_some (length a) place (slic
 -- names without case are the same with zeros behind as they are without
 pub folded_same : (a b : List ℕ) → IsName a → IsName b → pointwise nat_eq (folded a) (folded b) ≡ same_name a b
 folded_same a b h k =
-    pad_same (map to_ascii_lowercase a) (map to_ascii_lowercase b) (31 - length a) (31 - length b) (name_nonzero a h) (name_nonzero b k)
+    pad_same (map to_ascii_lowercase a) (map to_ascii_lowercase b) (32 - length a) (32 - length b) (name_nonzero a h) (name_nonzero b k)
     (omega (arith, lower_long a, lower_long b, h.short, k.short))
 
 -- a new name goes behind
@@ -88,19 +88,19 @@ set_long key xs zs i n v e l z =
     ∙ (pad_more xs n v ∙ ap (λ (k : List ℕ). k ++ replicate n 0) (sym z)))
 
 -- one byte more of a name
-pub fold_more : (key bytes : List ℕ) (i v : ℕ) → i < length bytes → length bytes ≤ 31 → key ≡ map to_ascii_lowercase (take i bytes) ++ replicate (31 - i) 0
-    → v ≡ to_ascii_lowercase (get_or bytes i 0) → set key i v ≡ map to_ascii_lowercase (take (i + 1) bytes) ++ replicate (31 - (i + 1)) 0
+pub fold_more : (key bytes : List ℕ) (i v : ℕ) → i < length bytes → length bytes ≤ 31 → key ≡ map to_ascii_lowercase (take i bytes) ++ replicate (32 - i) 0
+    → v ≡ to_ascii_lowercase (get_or bytes i 0) → set key i v ≡ map to_ascii_lowercase (take (i + 1) bytes) ++ replicate (32 - (i + 1)) 0
 fold_more key bytes i v h short e is =
-    let left : 31 - i ≡ suc (31 - (i + 1)) = omega arith in
-    set_long key (map to_ascii_lowercase (take i bytes)) (map to_ascii_lowercase (take (i + 1) bytes)) i (31 - (i + 1)) v
+    let left : 32 - i ≡ suc (32 - (i + 1)) = omega arith in
+    set_long key (map to_ascii_lowercase (take i bytes)) (map to_ascii_lowercase (take (i + 1) bytes)) i (32 - (i + 1)) v
     (e ∙ ap (λ (n : ℕ). map to_ascii_lowercase (take i bytes) ++ replicate n 0) left)
     (lower_long (take i bytes) ∙ length-take-le i bytes (omega arith))
     (ap (map to_ascii_lowercase) (take_more bytes i 0 h) ∙ (lower_append (take i bytes) (get_or bytes i 0 ∷ []) ∙ ap (λ (b : ℕ). map to_ascii_lowercase (take i bytes) ++ b ∷ []) (sym is)))
 
-pub fold_all : (key bytes text : List ℕ) (i : ℕ) → length bytes ≤ i → bytes ≡ text → i ≤ length bytes → key ≡ map to_ascii_lowercase (take i bytes) ++ replicate (31 - i) 0
+pub fold_all : (key bytes text : List ℕ) (i : ℕ) → length bytes ≤ i → bytes ≡ text → i ≤ length bytes → key ≡ map to_ascii_lowercase (take i bytes) ++ replicate (32 - i) 0
     → key ≡ folded text
 fold_all key bytes text i h same l e =
     let whole : i ≡ length bytes = omega arith in
-    e ∙ (ap (λ (n : ℕ). map to_ascii_lowercase (take n bytes) ++ replicate (31 - n) 0) whole
-    ∙ (ap (λ (b : List ℕ). map to_ascii_lowercase b ++ replicate (31 - length bytes) 0) (take_all (length bytes) bytes (omega arith))
+    e ∙ (ap (λ (n : ℕ). map to_ascii_lowercase (take n bytes) ++ replicate (32 - n) 0) whole
+    ∙ (ap (λ (b : List ℕ). map to_ascii_lowercase b ++ replicate (32 - length bytes) 0) (take_all (length bytes) bytes (omega arith))
     ∙ ap folded same))

@@ -7,9 +7,9 @@ use Rattle.std.specs.Map.{lookup, remove_entry}
 use Rattle.odb_tree.specs.declared.children.Child.{Child}
 use Rattle.odb_arena.specs.declared.directory.Directory.{Directory}
 
--- a name without the case of its letters: its bytes in lower case, and zeros behind them up to the longest name
+-- a name without the case of its letters: its bytes in lower case, and zeros behind them, 32 in all
 abbrev pub folded : List ℕ → List ℕ
-folded name = map to_ascii_lowercase name ++ replicate (31 - length name) 0
+folded name = map to_ascii_lowercase name ++ replicate (32 - length name) 0
 
 -- a child under its name
 abbrev pub entry_of : Child → List ℕ × Child

@@ -3,28 +3,11 @@ ghost use Rattle.std.specs.Cmp.Lexicographic.{pointwise};
 ghost use Rattle.std.specs.Map.{lookup};
 ghost use Rattle.odb_arena.specs.Names.{folded, names_in, child_in, with_child, without_name, last_named, last_child};
 
+use crate::folded::Folded;
 use daq_types::{Name, NoMemory};
 use indexmap::IndexMap;
 use odb_tree::{Child, Children};
 use std::alloc::Global;
-
-/// The longest name, in bytes.
-const NAME_BYTES: usize = 31;
-
-/// A name without the case of its letters: its bytes in lower case, and zeros behind them.
-pub type Folded = [u8; NAME_BYTES];
-
-/// The name without the case of its letters. Takes no memory.
-pub fn folded(name: &Name) -> Folded
-    ensures { result ≡ folded name.now }
-{
-    let bytes = name.as_slice();
-    let mut key = [0; NAME_BYTES];
-    for i in 0..bytes.len() {
-        key[i] = bytes[i].to_ascii_lowercase();
-    }
-    key
-}
 
 /// What stands in a directory, by name: its keys and its directories, each in order of making.
 #[derive(Drop)]
@@ -49,11 +32,13 @@ impl Directory {
         ensures { result ≡ child_in (folded name.now) (names_in true self.now)
             (names_in false self.now) }
     {
-        let key = folded(name);
-        match self.dirs.get(&key) {
-            Some(child) => Some(*child),
-            None => self.keys.get(&key).copied(),
+        let key = Folded::of(name);
+        if !self.dirs.is_empty() {
+            if let Some(child) = self.dirs.get(&key) {
+                return Some(*child);
+            }
         }
+        self.keys.get(&key).copied()
     }
 
     /// Adds a child under a name that is free among those of its kind, behind them.
@@ -65,7 +50,7 @@ impl Directory {
         ensures err { OnErr result ((keys : Bool) → names_in keys self.new
             ≡ names_in keys self.old) }
     {
-        let key = folded(&child.name);
+        let key = Folded::of(&child.name);
         if child.is_dir {
             self.dirs.insert(key, child)?;
         } else {
@@ -79,7 +64,7 @@ impl Directory {
         ensures { (keys : Bool) → names_in keys self.new
             ≡ without_name keys is_dir (folded name.now) (names_in keys self.old) }
     {
-        let key = folded(name);
+        let key = Folded::of(name);
         if is_dir {
             self.dirs.shift_remove(&key);
         } else {

@@ -6,6 +6,7 @@
 #![tactic(auto)]
 
 mod directory;
+mod folded;
 mod node;
 mod reaching;
 mod tree;

@@ -22,12 +22,12 @@ pub returns-in_ok-insert-clause-ok : goal.returns-in_ok-insert-clause-ok
 returns-in_ok-insert-clause-ok c = λ keys.
     elim keys as (λ (k : Bool). names_in k (record { keys = c.args.self.now.keys; dirs = c.insert.new.self }) ≡ with_child k c.args.child (names_in k c.args.self.now)) [
       | true ↦ stays c.args.child.is_dir _ _ _ c.if-child.true (λ _. c.args.self.now.keys.entries)
-      | false ↦ stays c.args.child.is_dir _ _ _ c.if-child.true (entered c.folded-key.result c.args.child _ _ c.folded-key.ensures (c.requires false) c.in_ok-insert.ensures.entries)
+      | false ↦ stays c.args.child.is_dir _ _ _ c.if-child.true (entered c.of-key.result c.args.child _ _ c.of-key.ensures (c.requires false) c.in_ok-insert.ensures.entries)
     ]
 
 pub returns-in_ok-insert-2-clause-ok : goal.returns-in_ok-insert-2-clause-ok
 returns-in_ok-insert-2-clause-ok c = λ keys.
     elim keys as (λ (k : Bool). names_in k (record { keys = c.insert-else-child.new.self; dirs = c.args.self.now.dirs }) ≡ with_child k c.args.child (names_in k c.args.self.now)) [
-      | true ↦ goes c.args.child.is_dir _ _ _ c.if-child.false (entered c.folded-key.result c.args.child _ _ c.folded-key.ensures (c.requires true) c.in_ok-insert-2.ensures.entries)
+      | true ↦ goes c.args.child.is_dir _ _ _ c.if-child.false (entered c.of-key.result c.args.child _ _ c.of-key.ensures (c.requires true) c.in_ok-insert-2.ensures.entries)
       | false ↦ goes c.args.child.is_dir _ _ _ c.if-child.false (λ _. c.args.self.now.dirs.entries)
     ]

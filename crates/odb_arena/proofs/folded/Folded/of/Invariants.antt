@@ -1,7 +1,7 @@
 use Rattle.std.proofs.Common.{◌≡◌, ◌-◌, ◌++◌, map, take}
 use Rattle.std.specs.Prelude.{replicate}
 use Rattle.std.specs.Char.{to_ascii_lowercase}
-use Rattle.odb_arena.proofs.directory.folded.Given as goal
+use Rattle.odb_arena.proofs.folded.Folded.of.Given as goal
 
 abbrev pub invariant-loop-i : goal.invariant-loop-i
-invariant-loop-i l = l.key ≡ map to_ascii_lowercase (take l.i l.bytes) ++ replicate (31 - l.i) 0
+invariant-loop-i l = l.bytes ≡ map to_ascii_lowercase (take l.i l.name) ++ replicate (32 - l.i) 0
