@@ -1,5 +1,5 @@
 -- How many blank reports a start has left: at each point of a history, as many as its sheet had, or no fewer less than clients
--- that want one have polled.
+-- that want one were given their turn.
 use Rattle.std.specs.Prelude.{◌≡◌, ℕ, zero, suc, ◌+◌, ◌≤◌, ◌&&◌, not, nat_lt, Bool, true, false, if◌then◌else◌, drop, length, slice_get, List, [], ◌∷◌, ◌++◌, Option, Some, None, Ok, Err, refl, ⊤}
 use Rattle.std.specs.Option.{option_map}
 use Rattle.std.specs.List.{AllByRecursion}
@@ -14,9 +14,6 @@ use Rattle.buffer_core.proofs.SlotLaws.{split}
 use Rattle.transitions.specs.declared.client.Registered.{Registered}
 use Rattle.transitions.specs.declared.sheet.Sheet.{Sheet}
 use Rattle.transitions.specs.declared.answers.Answer.{Answer as ClientAnswer}
-use Rattle.transitions.specs.declared.answers.Answer.TheVariants.{Yes, No}
-use Rattle.transitions.specs.declared.answers.Tally.{Tally}
-use Rattle.transitions.specs.declared.answers.Tally.TheVariants.{Plain}
 use Rattle.transitions.specs.declared.replies.Polled.TheVariants.{Turn, Idle, Closed as PollClosed, NoClient}
 use Rattle.transitions.specs.declared.replies.Progress.TheVariants.{Going, Done, None as NoneGoing}
 use Rattle.transitions.specs.declared.replies.RegisterRefusal.TheVariants.{Closed as RegisterClosed, NoSlot}
@@ -24,11 +21,12 @@ use Rattle.transitions.specs.declared.entry.EngineEntry.{EngineEntry}
 use Rattle.transitions.specs.declared.entry.EngineEntry.TheVariants.{Register, Begin, Poll, Answer, Check, Close}
 use Rattle.transitions.specs.Limits.{most_clients}
 use Rattle.transitions.specs.Engines.{Underway, EngineState, engine_opening}
-use Rattle.transitions.specs.EngineCalls.{is_start, is_next, turn_of, gets_blank, begun, polled_by, told, refused_by, answered_by, after_poll_by, after_answer_in, register_reply, register_reply_in, IsEngineReply, engine_after}
+use Rattle.transitions.specs.EngineCalls.{is_start, is_next, turn_of, without, begun, first_polled, polled_by, told, refused_by, answered_by, after_poll_by, after_answer_in, register_reply, register_reply_in, IsEngineReply, engine_after}
 use Rattle.transitions.specs.EngineHistories.{EngineHistory, IsEngineCaller, IsLegalEngine, engine_replay}
-use Rattle.engine_laws.proofs.Replies.{GivesTurn, gives_turn, Owes, owes}
+use Rattle.engine_laws.proofs.Standing.{next_called}
+use Rattle.engine_laws.proofs.Replies.{IsGiven, given_case, GivesTurn, gives_turn, Owes, owes, answered_case}
 use Rattle.blank_laws.specs.BlankLaws.{asked_by, reports_asked, AsksReports}
-use Rattle.blank_laws.proofs.Wanted.{one_if, wanted, total, pending, wanted_push, called_few, Front, front}
+use Rattle.blank_laws.proofs.Wanted.{one_if, wanted, total, total_without, wanted_push, called_few}
 
 -- The start in progress was begun with this sheet, whose blank reports are those that are left and those that were given.
 pub record StartHeld (h : EngineHistory) (clients : List Registered) (u : Underway) : Type 0 where
@@ -37,7 +35,7 @@ pub record StartHeld (h : EngineHistory) (clients : List Registered) (u : Underw
   pub caller : ℕ
   pub sheet : Sheet
   pub stands : h ≡ earlier ++ (caller, Begin Start sheet (Ok u.order.start)) ∷ later
-  pub few : length sheet.blanks + pending clients u.has_polled u.called ≤ length u.blanks + wanted clients
+  pub few : length sheet.blanks + total clients u.called ≤ length u.blanks + wanted clients
 
 abbrev pub Held : EngineHistory → List Registered → Option Underway → Type 0
 Held h clients None = ⊤
@@ -60,7 +58,7 @@ asked_more h later =
     omega (arith, asked_append (entries_by main_caller h) (entries_by main_caller later))
 
 held_longer : (h : EngineHistory) (x : ℕ × EngineEntry) (clients : List Registered) (u v : Underway) → v.order.start ≡ u.order.start → (hold : StartHeld h clients u)
-    → length hold.sheet.blanks + pending clients v.has_polled v.called ≤ length v.blanks + wanted clients → StartHeld (h ++ x ∷ []) clients v
+    → length hold.sheet.blanks + total clients v.called ≤ length v.blanks + wanted clients → StartHeld (h ++ x ∷ []) clients v
 held_longer h x clients u v number hold few =
     let e : ℕ × EngineEntry = (hold.caller, Begin Start hold.sheet (Ok u.order.start)) in
     record {
@@ -107,41 +105,31 @@ drop_one : (blanks : List Totals) → length blanks ≤ suc (length (drop 1 blan
 drop_one [] = omega arith
 drop_one (b ∷ blanks) = omega arith
 
-polled_few : (clients : List Registered) (c : Registered) (u : Underway) (most : ℕ) → (f : Front clients u.called c) → is_start (turn_of u) ≡ true → most + pending clients u.has_polled u.called ≤ length u.blanks + wanted clients
-    → most + total clients (drop 1 u.called) ≤ length (if gets_blank c u then drop 1 u.blanks else u.blanks) + wanted clients
-polled_few clients c u most f starts few =
-    split u.has_polled (λ b. most + pending clients b u.called ≤ length u.blanks + wanted clients → most + total clients (drop 1 u.called) ≤ length (if c.wants_report && (not b && is_start (turn_of u)) then drop 1 u.blanks else u.blanks) + wanted clients)
-    (λ h few'. again (c.wants_report) few')
-    (λ h few'. subst (λ (b : Bool). most + total clients (drop 1 u.called) ≤ length (if c.wants_report && b then drop 1 u.blanks else u.blanks) + wanted clients) (sym starts) (fresh c.wants_report f.whole few'))
-    few
-  where
-    again : (b : Bool) → most + total clients (drop 1 u.called) ≤ length u.blanks + wanted clients → most + total clients (drop 1 u.called) ≤ length (if b && false then drop 1 u.blanks else u.blanks) + wanted clients
-    again true few' = few'
-    again false few' = few'
+first_few : (wants starts : Bool) (blanks : List Totals) (most called left all : ℕ) → one_if wants + left ≤ called → starts ≡ true → most + called ≤ length blanks + all → most + left ≤ length (if wants && starts then drop 1 blanks else blanks) + all
+first_few true true blanks most called left all fewer is few = omega (arith, drop_one blanks)
+first_few true false blanks most called left all fewer is few = absurd (cc (is))
+first_few false starts blanks most called left all fewer is few = omega arith
 
-    fresh : (b : Bool) → total clients u.called ≡ one_if b + total clients (drop 1 u.called) → most + total clients u.called ≤ length u.blanks + wanted clients
-        → most + total clients (drop 1 u.called) ≤ length (if b && true then drop 1 u.blanks else u.blanks) + wanted clients
-    fresh true whole few' = omega (arith, drop_one u.blanks)
-    fresh false whole few' = omega arith
-
-polled_held : (h : EngineHistory) (x : ℕ × EngineEntry) (clients : List Registered) (client : ℕ) (c : Registered) (u : Underway) → is_next u.called client ≡ true → slice_get clients client ≡ Some c → Held h clients (Some u) → Held (h ++ x ∷ []) clients (Some (polled_by c u))
-polled_held h x clients client c u next at held = λ starts.
+first_held : (h : EngineHistory) (x : ℕ × EngineEntry) (clients : List Registered) (client : ℕ) (c : Registered) (u : Underway) → is_next u.polled u.called client ≡ true → slice_get clients client ≡ Some c → Held h clients (Some u) → Held (h ++ x ∷ []) clients (Some (first_polled client c u))
+first_held h x clients client c u next at held = λ starts.
     let hold : StartHeld h clients u = held starts in
-    held_longer h x clients u (polled_by c u) refl hold (polled_few clients c u (length hold.sheet.blanks) (front clients u.called client c next at) starts hold.few)
+    held_longer h x clients u (first_polled client c u) refl hold
+    (first_few c.wants_report (is_start (turn_of u)) u.blanks (length hold.sheet.blanks) (total clients u.called) (total clients (without client u.called)) (wanted clients) (total_without clients client c u.called at (next_called u client next)) starts hold.few)
+
+polled_held : (h : EngineHistory) (x : ℕ × EngineEntry) (clients : List Registered) (client : ℕ) (c : Registered) (u : Underway) (dump : _) → IsGiven c u client dump → slice_get clients client ≡ Some c → Held h clients (Some u) → Held (h ++ x ∷ []) clients (Some (polled_by client c u))
+polled_held h x clients client c u dump given at held =
+    given_case (λ v. Held (h ++ x ∷ []) clients (Some v)) client c u dump given (λ again. longer h x clients (Some u) held) (λ first. first_held h x clients client c u first.next at held)
 
 -- Answer.
 
-told_held : (h : EngineHistory) (x : ℕ × EngineEntry) (clients : List Registered) (client : ℕ) (tally : Tally) (u : Underway) → u.has_polled ≡ true → Held h clients (Some u) → Held (h ++ x ∷ []) clients (Some (told client tally u))
-told_held h x clients client tally u polled held = λ starts.
+answered_held : (h : EngineHistory) (x : ℕ × EngineEntry) (clients : List Registered) (client : ℕ) (answer : ClientAnswer) (u : Underway) → Held h clients (Some u) → Held (h ++ x ∷ []) clients (Some (answered_by clients client answer u))
+answered_held h x clients client answer u held =
+    answered_case (λ v. Held (h ++ x ∷ []) clients (Some v)) clients client answer u
+    (λ tally is starts. held_longer h x clients u (told client tally u) refl (held starts) (held starts).few)
+    (λ why is starts.
     let hold : StartHeld h clients u = held starts in
-    held_longer h x clients u (told client tally u) refl hold (subst (λ (b : Bool). length hold.sheet.blanks + pending clients b u.called ≤ length u.blanks + wanted clients) polled hold.few)
-
-answered_held : (h : EngineHistory) (x : ℕ × EngineEntry) (clients : List Registered) (client : ℕ) (answer : ClientAnswer) (u : Underway) → u.has_polled ≡ true → Held h clients (Some u) → Held (h ++ x ∷ []) clients (Some (answered_by clients client answer u))
-answered_held h x clients client (Yes tally) u polled held = told_held h x clients client tally u polled held
-answered_held h x clients client (No why) u polled held =
-    split (is_start (turn_of u)) (λ b. Held (h ++ x ∷ []) clients (Some (if b then refused_by clients client why u else told client Plain u)))
-    (λ s starts. absurd (cc (starts)))
-    (λ s. told_held h x clients client Plain u polled held)
+    held_longer h x clients u (refused_by client why u) refl hold (omega (arith, hold.few)))
+    (λ v is kept starts. absurd (cc (starts)))
 
 -- Register.
 
@@ -206,15 +194,15 @@ blanks_step h by client s (Begin t sheet (Ok n)) may reply asks at =
 blanks_step h by client s (Poll other (Turn turn order dump blank)) may reply asks at =
     let x : ℕ × EngineEntry = (by, Poll other (Turn turn order dump blank)) in
     let p : GivesTurn s other turn order dump = gives_turn s other turn order dump blank reply in
-    let held : Held (h ++ x ∷ []) s.clients (Some (polled_by p.c p.u)) = polled_held h x s.clients other p.c p.u p.front p.client_is (subst (Held h s.clients) p.underway_is at.held) in
-    subst (λ (o : Option Registered). BlanksAt (h ++ x ∷ []) client (after_poll_by s o).clients (after_poll_by s o).underway) (sym p.client_is)
-    (subst (λ (o : Option Underway). BlanksAt (h ++ x ∷ []) client s.clients (option_map (polled_by p.c) o)) (sym p.underway_is)
-    (with_held h x client s.clients s.underway (Some (polled_by p.c p.u)) at held))
+    let held : Held (h ++ x ∷ []) s.clients (Some (polled_by other p.c p.u)) = polled_held h x s.clients other p.c p.u dump p.given p.client_is (subst (Held h s.clients) p.underway_is at.held) in
+    subst (λ (o : Option Registered). BlanksAt (h ++ x ∷ []) client (after_poll_by s other o).clients (after_poll_by s other o).underway) (sym p.client_is)
+    (subst (λ (o : Option Underway). BlanksAt (h ++ x ∷ []) client s.clients (option_map (polled_by other p.c) o)) (sym p.underway_is)
+    (with_held h x client s.clients s.underway (Some (polled_by other p.c p.u)) at held))
 blanks_step h by client s (Answer other answer (Ok done)) may reply asks at =
     let x : ℕ × EngineEntry = (by, Answer other answer (Ok done)) in
     let o : Owes s other = owes s other done reply in
     subst (λ (w : Option Underway). BlanksAt (h ++ x ∷ []) client (after_answer_in s other answer w).clients (after_answer_in s other answer w).underway) (sym o.underway_is)
-    (with_held h x client s.clients s.underway (Some (answered_by s.clients other answer o.u)) at (answered_held h x s.clients other answer o.u o.polled (subst (Held h s.clients) o.underway_is at.held)))
+    (with_held h x client s.clients s.underway (Some (answered_by s.clients other answer o.u)) at (answered_held h x s.clients other answer o.u (subst (Held h s.clients) o.underway_is at.held)))
 blanks_step h by client s (Check (Done outcome) tallies) may reply asks at = with_held h (by, Check (Done outcome) tallies) client s.clients s.underway None at tt
 blanks_step h by client s (Close (Ok done)) may reply asks at = stays h (by, Close (Ok done)) client s.clients s.underway at
 blanks_step h by client s (Register name sequences dump report (Err r)) may reply asks at = stays h (by, Register name sequences dump report (Err r)) client s.clients s.underway at

@@ -1,6 +1,6 @@
 -- How many clients want a report: of those that are registered, and of those that are to be called for a transition, which are no
 -- more.
-use Rattle.std.specs.Prelude.{◌≡◌, ℕ, suc, ◌+◌, ◌≤◌, nat_lt, Bool, true, false, if◌then◌else◌, fold, drop, slice_get, List, [], ◌∷◌, ◌++◌, Option, Some, None, refl}
+use Rattle.std.specs.Prelude.{◌≡◌, ℕ, suc, ◌+◌, ◌≤◌, ◌==◌, nat_lt, Bool, true, false, not, ◌||◌, if◌then◌else◌, fold, slice_get, List, [], ◌∷◌, ◌++◌, Option, Some, None, refl}
 use Rattle.std.proofs.Common.{ap, ◌∙◌, subst, arith}
 use Rattle.std.proofs.lemmas.Bool.{eqb-true}
 use Rattle.daq_types.specs.declared.runs.Transition.{Transition}
@@ -10,7 +10,7 @@ use Rattle.buffer_core.proofs.SlotLaws.{split}
 use Rattle.transitions.specs.declared.client.Registered.{Registered}
 use Rattle.transitions.specs.declared.called.Called.{Called}
 use Rattle.transitions.specs.Called.{sequence_of, candidate_with, candidates, called_list}
-use Rattle.transitions.specs.EngineCalls.{is_next}
+use Rattle.transitions.specs.EngineCalls.{stands_in, without}
 
 abbrev pub one_if : Bool → ℕ
 one_if true = 1
@@ -30,11 +30,6 @@ wants clients x = wants_in (slice_get clients x.client)
 abbrev pub total : List Registered → List Called → ℕ
 total clients [] = 0
 total clients (x ∷ xs) = wants clients x + total clients xs
-
--- those that have yet to poll
-abbrev pub pending : List Registered → (has_polled : Bool) → List Called → ℕ
-pending clients true called = total clients (drop 1 called)
-pending clients false called = total clients called
 
 pub wanted_push : (cs : List Registered) (c : Registered) → wanted (cs ++ c ∷ []) ≡ wanted cs + one_if c.wants_report
 wanted_push [] c = omega arith
@@ -72,15 +67,20 @@ pub called_few : (t : Transition) (clients : List Registered) → total clients 
 unfolding called_list
 called_few t clients = omega (arith, total_ordered clients [] (candidates t 0 clients), candidates_few clients t 0 clients (λ k. (let none : 0 + k ≡ k = omega arith in ap (λ (n : ℕ). slice_get clients n) none)))
 
--- Who is in front.
+-- One of them is given its turn.
 
--- the first of these, which has this number, and those behind it
-pub record Front (clients : List Registered) (called : List Called) (c : Registered) : Type 0 where
-  pub whole : total clients called ≡ one_if c.wants_report + total clients (drop 1 called)
+total_fewer : (clients : List Registered) (n : ℕ) (called : List Called) → total clients (without n called) ≤ total clients called
+total_fewer clients n [] = omega arith
+total_fewer clients n (x ∷ xs) =
+    split (x.client == n) (λ b. total clients (if not b then x ∷ without n xs else without n xs) ≤ wants clients x + total clients xs)
+    (λ h. omega (arith, total_fewer clients n xs)) (λ h. omega (arith, total_fewer clients n xs))
 
-pub front : (clients : List Registered) (called : List Called) (client : ℕ) (c : Registered) → is_next called client ≡ true → slice_get clients client ≡ Some c → Front clients called c
-front clients [] client c next at = absurd (cc (next))
-front clients (x ∷ xs) client c next at =
-    let same : x.client ≡ client = eqb-true x.client client next in
-    let here : wants clients x ≡ one_if c.wants_report = ap (λ (n : ℕ). wants_in (slice_get clients n)) same ∙ ap wants_in at in
-    record { whole = omega arith }
+pub total_without : (clients : List Registered) (n : ℕ) (c : Registered) (called : List Called) → slice_get clients n ≡ Some c → stands_in called n ≡ true → one_if c.wants_report + total clients (without n called) ≤ total clients called
+total_without clients n c [] at stands = absurd (cc (stands))
+total_without clients n c (x ∷ xs) at stands =
+    split (x.client == n) (λ b. (x.client == n) ≡ b → (b || stands_in xs n) ≡ true → one_if c.wants_report + total clients (if not b then x ∷ without n xs else without n xs) ≤ wants clients x + total clients xs)
+    (λ h same stands'.
+    let here : wants clients x ≡ one_if c.wants_report = ap (λ (m : ℕ). wants_in (slice_get clients m)) (eqb-true x.client n same) ∙ ap wants_in at in
+    omega (arith, here, total_fewer clients n xs))
+    (λ h ne stands'. omega (arith, total_without clients n c xs at stands'))
+    refl stands

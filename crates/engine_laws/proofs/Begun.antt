@@ -7,23 +7,21 @@ use Rattle.daq_types.specs.declared.runs.Order.{Order}
 use Rattle.daq_types.specs.declared.runs.RunState.{RunState}
 use Rattle.daq_types.specs.declared.runs.RunState.TheVariants.{Stopped, Paused, Running}
 use Rattle.daq_types.specs.declared.runs.Transition.{Transition}
-use Rattle.daq_types.specs.declared.runs.Transition.TheVariants.{Start, Stop, Pause, Resume, StartAbort}
+use Rattle.daq_types.specs.declared.runs.Transition.TheVariants.{Start, Stop, StartAbort}
 use Rattle.daq_types.specs.declared.runs.Why.{Why}
 use Rattle.run_states.specs.States.{is_allowed}
 use Rattle.buffer_core.proofs.SlotLaws.{split}
 use Rattle.transitions.specs.declared.client.Registered.{Registered}
 use Rattle.transitions.specs.declared.sheet.Sheet.{Sheet}
 use Rattle.transitions.specs.declared.answers.Answer.{Answer as ClientAnswer}
-use Rattle.transitions.specs.declared.answers.Answer.TheVariants.{Yes, No}
 use Rattle.transitions.specs.declared.answers.Tally.{Tally}
-use Rattle.transitions.specs.declared.answers.Tally.TheVariants.{Plain}
 use Rattle.transitions.specs.declared.engine.Refusal.{Refusal}
 use Rattle.transitions.specs.declared.replies.Polled.TheVariants.{Turn, Idle, Closed as PollClosed, NoClient}
 use Rattle.transitions.specs.declared.replies.Progress.TheVariants.{Going, Done, None as NoneGoing}
 use Rattle.transitions.specs.declared.entry.EngineEntry.{EngineEntry}
 use Rattle.transitions.specs.declared.entry.EngineEntry.TheVariants.{Register, Begin, Poll, Answer, Check, Close}
 use Rattle.transitions.specs.Engines.{Underway, EngineState, engine_opening}
-use Rattle.transitions.specs.EngineCalls.{turn_kind, turn_of, is_start, order_for, begun, gets_dump, polled_by, told, refused_by, answered_by, after_poll_by, after_answer_in, IsEngineReply, engine_after}
+use Rattle.transitions.specs.EngineCalls.{turn_kind, turn_of, is_start, has_polled, order_for, begun, first_polled, polled_by, told, refused_by, is_due_off, called_off, answered_by, after_poll_by, after_answer_in, IsEngineReply, engine_after}
 use Rattle.transitions.specs.EngineHistories.{EngineHistory, IsEngineCaller, IsLegalEngine, engine_replay}
 use Rattle.transitions.specs.EnginePoints.{engine_past, state_at}
 use Rattle.transitions.specs.GivenTurns.{SpeaksFor}
@@ -31,26 +29,23 @@ use Rattle.member_model.specs.Turns.{MemberTurn, HasTurn}
 use Rattle.member_model.specs.TurnCalls.{turn_told, turn_answered, turns_with}
 use Rattle.engine_laws.specs.BegunTurns.{IsOfBegin, WasBegun}
 use Rattle.engine_laws.specs.EngineLaws.{TurnsWereBegun, StartsFromStopped, StopsFromRun}
-use Rattle.engine_laws.proofs.Replies.{begins, GivesTurn, gives_turn, Owes, owes}
+use Rattle.engine_laws.proofs.Standing.{KindFits, start_kind, kind_off}
+use Rattle.engine_laws.proofs.Replies.{begins, IsGiven, GivesTurn, gives_turn, Owes, owes, answered_case}
 use Rattle.engine_laws.proofs.StateTold.{Follows, StateTold, state_told, legal_joined, replay_apart}
 use Rattle.engine_laws.proofs.TurnLists.{with_answer}
-use Rattle.engine_laws.proofs.Gave.{CalledLists, Gave, gave_step, other_step, own_or_other, opening_gave}
+use Rattle.engine_laws.proofs.Gave.{Gave, gave_step, other_step, own_or_other, opening_gave}
 
 -- The transition in progress is that of a begin.
-
-abbrev pub StartIfRefused : Transition → Option Refusal → Type 0
-StartIfRefused t None = ⊤
-StartIfRefused t (Some refusal) = t ≡ Start
 
 pub record FromBegin (came : RunState) (transition : Transition) (sheet : Sheet) (start : ℕ) (u : Underway) : Type 0 where
   pub transition_is : u.transition ≡ transition
   pub order : u.order ≡ order_for sheet start came
   pub allowed : is_allowed came transition ≡ true
-  pub refused : StartIfRefused transition u.refusal
+  pub kind : KindFits transition u.refusal u.is_off
   pub dump : (bytes : List ℕ) → u.dump ≡ Some bytes → sheet.dump ≡ Some bytes
 
 pub from_begun : (came : RunState) (s : EngineState) (t : Transition) (sheet : Sheet) (n : ℕ) → s.state ≡ came → is_allowed s.state t ≡ true → FromBegin came t sheet n (begun s t sheet n)
-from_begun came s t sheet n is allowed = record { transition_is = refl; order = ap (order_for sheet n) is; allowed = ap (λ (r : RunState). is_allowed r t) (sym is) ∙ allowed; refused = tt; dump = λ bytes e. e }
+from_begun came s t sheet n is allowed = record { transition_is = refl; order = ap (order_for sheet n) is; allowed = ap (λ (r : RunState). is_allowed r t) (sym is) ∙ allowed; kind = refl; dump = λ bytes e. e }
 
 left_dump : (b : Bool) (d : Option (List ℕ)) (bytes : List ℕ) → (if b then None else d) ≡ Some bytes → d ≡ Some bytes
 left_dump true d bytes e = absurd (cc (e))
@@ -60,48 +55,55 @@ given_dump : (b : Bool) (d : Option (List ℕ)) (bytes : List ℕ) → (if b the
 given_dump true d bytes e = e
 given_dump false d bytes e = absurd (cc (e))
 
-pub from_polled : (came : RunState) (transition : Transition) (sheet : Sheet) (start : ℕ) (u : Underway) (c : Registered) → FromBegin came transition sheet start u → FromBegin came transition sheet start (polled_by c u)
-from_polled came transition sheet start u c f =
-    record { transition_is = f.transition_is; order = f.order; allowed = f.allowed; refused = f.refused; dump = λ bytes e. f.dump bytes (left_dump (gets_dump c u) u.dump bytes e) }
+pub from_first : (came : RunState) (transition : Transition) (sheet : Sheet) (start : ℕ) (u : Underway) (client : ℕ) (c : Registered) → FromBegin came transition sheet start u → FromBegin came transition sheet start (first_polled client c u)
+from_first came transition sheet start u client c f =
+    record { transition_is = f.transition_is; order = f.order; allowed = f.allowed; kind = f.kind; dump = λ bytes e. f.dump bytes (left_dump c.wants_dump u.dump bytes e) }
+
+pub from_polled : (came : RunState) (transition : Transition) (sheet : Sheet) (start : ℕ) (u : Underway) (client : ℕ) (c : Registered) → FromBegin came transition sheet start u → FromBegin came transition sheet start (polled_by client c u)
+from_polled came transition sheet start u client c f =
+    split (has_polled u client) (λ b. FromBegin came transition sheet start (if b then u else first_polled client c u)) (λ h. f) (λ h. from_first came transition sheet start u client c f)
 
 pub from_told : (came : RunState) (transition : Transition) (sheet : Sheet) (start : ℕ) (u : Underway) (client : ℕ) (tally : Tally) → FromBegin came transition sheet start u → FromBegin came transition sheet start (told client tally u)
-from_told came transition sheet start u client tally f = record { transition_is = f.transition_is; order = f.order; allowed = f.allowed; refused = f.refused; dump = f.dump }
+from_told came transition sheet start u client tally f = record { transition_is = f.transition_is; order = f.order; allowed = f.allowed; kind = f.kind; dump = f.dump }
 
-start_kind : (t : Transition) (r : Option Refusal) → is_start (turn_kind t r) ≡ true → t ≡ Start
-start_kind t (Some refusal) e = absurd (cc (e))
-start_kind Start None e = refl
-start_kind Stop None e = absurd (cc (e))
-start_kind Pause None e = absurd (cc (e))
-start_kind Resume None e = absurd (cc (e))
-start_kind StartAbort None e = absurd (cc (e))
+pub from_refused : (came : RunState) (transition : Transition) (sheet : Sheet) (start : ℕ) (u : Underway) (client : ℕ) (why : Why) → is_start (turn_of u) ≡ true → FromBegin came transition sheet start u → FromBegin came transition sheet start (refused_by client why u)
+from_refused came transition sheet start u client why starts f =
+    record { transition_is = f.transition_is; order = f.order; allowed = f.allowed; kind = sym f.transition_is ∙ start_kind u.transition u.is_off starts; dump = f.dump }
 
-pub from_refused : (came : RunState) (transition : Transition) (sheet : Sheet) (start : ℕ) (u : Underway) (clients : List Registered) (client : ℕ) (why : Why) → is_start (turn_of u) ≡ true → FromBegin came transition sheet start u → FromBegin came transition sheet start (refused_by clients client why u)
-from_refused came transition sheet start u clients client why starts f =
-    record { transition_is = f.transition_is; order = f.order; allowed = f.allowed; refused = sym f.transition_is ∙ start_kind u.transition u.refusal starts; dump = f.dump }
+pub from_off : (came : RunState) (transition : Transition) (sheet : Sheet) (start : ℕ) (clients : List Registered) (v : Underway) → is_due_off v.refusal v.polled v.is_off ≡ true → FromBegin came transition sheet start v → FromBegin came transition sheet start (called_off clients v)
+from_off came transition sheet start clients v is f =
+    record { transition_is = f.transition_is; order = f.order; allowed = f.allowed; kind = kind_off transition v.refusal v.polled v.is_off is f.kind; dump = f.dump }
 
 pub from_answered : (came : RunState) (transition : Transition) (sheet : Sheet) (start : ℕ) (u : Underway) (clients : List Registered) (client : ℕ) (answer : ClientAnswer) → FromBegin came transition sheet start u → FromBegin came transition sheet start (answered_by clients client answer u)
-from_answered came transition sheet start u clients client (Yes tally) f = from_told came transition sheet start u client tally f
-from_answered came transition sheet start u clients client (No why) f =
-    split (is_start (turn_of u)) (λ b. is_start (turn_of u) ≡ b → FromBegin came transition sheet start (if b then refused_by clients client why u else told client Plain u))
-    (λ h e. from_refused came transition sheet start u clients client why e f)
-    (λ h e. from_told came transition sheet start u client Plain f)
-    refl
+from_answered came transition sheet start u clients client answer f =
+    answered_case (FromBegin came transition sheet start) clients client answer u
+    (λ tally is. from_told came transition sheet start u client tally f)
+    (λ why is. from_refused came transition sheet start u client why is.starts f)
+    (λ v is kept. from_off came transition sheet start clients v is kept)
 
 -- A turn of it.
 
-kind_of : (t transition : Transition) (r : Option Refusal) → t ≡ transition → StartIfRefused transition r → (turn_kind t r ≡ transition) ⊎ ((transition ≡ Start) × (turn_kind t r ≡ StartAbort))
-kind_of t transition None same refused = inl same
-kind_of t transition (Some refusal) same refused = inr (refused, refl)
+kind_of : (t transition : Transition) (r : Option Refusal) (is_off : Bool) → t ≡ transition → KindFits transition r is_off → (turn_kind t is_off ≡ transition) ⊎ ((transition ≡ Start) × (turn_kind t is_off ≡ StartAbort))
+kind_of t transition r false same kind = inl same
+kind_of t transition None true same kind = absurd (cc (kind))
+kind_of t transition (Some refusal) true same kind = inr (kind, refl)
 
 abbrev pub turn_from : Underway → Option (List ℕ) → MemberTurn
 turn_from u dump = record { transition = turn_of u; order = u.order; dump = dump; answer = None }
 
-pub turn_of_begin : (came : RunState) (transition : Transition) (sheet : Sheet) (start : ℕ) (u : Underway) (b : Bool) (dump : Option (List ℕ)) → FromBegin came transition sheet start u → dump ≡ (if b then u.dump else None) → IsOfBegin came transition sheet start (turn_from u dump)
-turn_of_begin came transition sheet start u b dump f is = record {
-  kind = kind_of u.transition transition u.refusal f.transition_is f.refused;
+-- the dump of a reply is that of the transition, or none
+pub dump_from : (u : Underway) (client : ℕ) (c : Registered) (dump : Option (List ℕ)) (bytes : List ℕ) → IsGiven c u client dump → dump ≡ Some bytes → u.dump ≡ Some bytes
+dump_from u client c dump bytes (inl again) e =
+    let none : None ≡ Some bytes = sym again.dump_is ∙ e in
+    absurd (cc (none))
+dump_from u client c dump bytes (inr first) e = given_dump c.wants_dump u.dump bytes (sym first.dump_is ∙ e)
+
+pub turn_of_begin : (came : RunState) (transition : Transition) (sheet : Sheet) (start : ℕ) (u : Underway) (client : ℕ) (c : Registered) (dump : Option (List ℕ)) → FromBegin came transition sheet start u → IsGiven c u client dump → IsOfBegin came transition sheet start (turn_from u dump)
+turn_of_begin came transition sheet start u client c dump f given = record {
+  kind = kind_of u.transition transition u.refusal u.is_off f.transition_is f.kind;
   order = f.order;
   allowed = f.allowed;
-  dump = λ bytes e. f.dump bytes (given_dump b u.dump bytes (sym is ∙ e));
+  dump = λ bytes e. f.dump bytes (dump_from u client c dump bytes given e);
 }
 
 pub of_begin_answered : (came : RunState) (transition : Transition) (sheet : Sheet) (start : ℕ) (turn : MemberTurn) (answer : ClientAnswer) → IsOfBegin came transition sheet start turn → IsOfBegin came transition sheet start (with_answer turn answer)
@@ -138,8 +140,8 @@ answered_source (x ∷ xs) answer u has =
 
 -- The engine behind a call.
 
-pub polled_underway : (s : EngineState) (client : ℕ) (c : Registered) (u : Underway) → slice_get s.clients client ≡ Some c → s.underway ≡ Some u → (after_poll_by s (slice_get s.clients client)).underway ≡ Some (polled_by c u)
-polled_underway s client c u is at = ap (λ (o : Option Registered). (after_poll_by s o).underway) is ∙ ap (option_map (polled_by c)) at
+pub polled_underway : (s : EngineState) (client : ℕ) (c : Registered) (u : Underway) → slice_get s.clients client ≡ Some c → s.underway ≡ Some u → (after_poll_by s client (slice_get s.clients client)).underway ≡ Some (polled_by client c u)
+polled_underway s client c u is at = ap (λ (o : Option Registered). (after_poll_by s client o).underway) is ∙ ap (option_map (polled_by client c)) at
 
 pub answered_underway : (s : EngineState) (client : ℕ) (answer : ClientAnswer) (u : Underway) → s.underway ≡ Some u → (after_answer_in s client answer s.underway).underway ≡ Some (answered_by s.clients client answer u)
 answered_underway s client answer u at = ap (λ (o : Option Underway). (after_answer_in s client answer o).underway) at
@@ -208,8 +210,8 @@ begun_answered h t answer was = record {
 }
 
 -- a turn of the transition in progress
-turn_begun : (h : EngineHistory) (u : Underway) (b : Bool) (dump : Option (List ℕ)) → UnderwayBegun h u → dump ≡ (if b then u.dump else None) → WasBegun h (turn_from u dump)
-turn_begun h u b dump w is =
+turn_begun : (h : EngineHistory) (u : Underway) (client : ℕ) (c : Registered) (dump : Option (List ℕ)) → UnderwayBegun h u → IsGiven c u client dump → WasBegun h (turn_from u dump)
+turn_begun h u client c dump w given =
     let number : w.start ≡ u.order.start = sym (ap (λ (o : Order). o.start) w.from.order) in
     record {
       earlier = w.earlier;
@@ -218,7 +220,7 @@ turn_begun h u b dump w is =
       transition = w.transition;
       sheet = w.sheet;
       stands = w.stands ∙ ap (λ (n : ℕ). w.earlier ++ (w.caller, Begin w.transition w.sheet (Ok n)) ∷ w.later) number;
-      of_begin = subst (λ (n : ℕ). IsOfBegin (state_at (engine_past w.earlier)) w.transition w.sheet n (turn_from u dump)) number (turn_of_begin (state_at (engine_past w.earlier)) w.transition w.sheet w.start u b dump w.from is);
+      of_begin = subst (λ (n : ℕ). IsOfBegin (state_at (engine_past w.earlier)) w.transition w.sheet n (turn_from u dump)) number (turn_of_begin (state_at (engine_past w.earlier)) w.transition w.sheet w.start u client c dump w.from given);
     }
 
 all_told : (h : EngineHistory) (ts : List MemberTurn) (x : MemberTurn) (mine : Bool) → AllBegun h ts → WasBegun h x → AllBegun h (if mine then turn_told ts x else ts)
@@ -253,8 +255,8 @@ begun_step h s client by ts (Poll other (Turn turn order dump blank)) tells a ma
     let same : turn_from p.u dump ≡ told_so = ap (λ (k : Transition). record { transition = k; order = p.u.order; dump = dump; answer = None }) (sym p.turn_is) ∙ ap (λ (o : Order). record { transition = turn; order = o; dump = dump; answer = None }) (sym p.order_is) in
     let w : UnderwayBegun (h ++ x ∷ []) p.u = subst (BegunIf (h ++ x ∷ [])) p.underway_is (underway_longer h x s.underway a.underway) in
     record {
-      underway = subst (BegunIf (h ++ x ∷ [])) (sym (polled_underway s other p.c p.u p.client_is p.underway_is)) (underway_on (h ++ x ∷ []) p.u (polled_by p.c p.u) w (from_polled (state_at (engine_past w.earlier)) w.transition w.sheet w.start p.u p.c w.from));
-      turns = all_told (h ++ x ∷ []) ts told_so (other == client) (all_longer h x ts a.turns) (subst (WasBegun (h ++ x ∷ [])) same (turn_begun (h ++ x ∷ []) p.u (gets_dump p.c p.u) dump w p.dump_is));
+      underway = subst (BegunIf (h ++ x ∷ [])) (sym (polled_underway s other p.c p.u p.client_is p.underway_is)) (underway_on (h ++ x ∷ []) p.u (polled_by other p.c p.u) w (from_polled (state_at (engine_past w.earlier)) w.transition w.sheet w.start p.u other p.c w.from));
+      turns = all_told (h ++ x ∷ []) ts told_so (other == client) (all_longer h x ts a.turns) (subst (WasBegun (h ++ x ∷ [])) same (turn_begun (h ++ x ∷ []) p.u other p.c dump w p.given));
     }
 begun_step h s client by ts (Answer other answer (Ok done)) tells a may reply =
     let x : ℕ × EngineEntry = (by, Answer other answer (Ok done)) in
@@ -282,24 +284,24 @@ begun_step h s client by ts (Check Going tallies) tells a may reply = let x : �
 begun_step h s client by ts (Check NoneGoing tallies) tells a may reply = let x : ℕ × EngineEntry = (by, Check NoneGoing tallies) in record { underway = underway_longer h x s.underway a.underway; turns = all_longer h x ts a.turns }
 begun_step h s client by ts (Close (Err r)) tells a may reply = let x : ℕ × EngineEntry = (by, Close (Err r)) in record { underway = underway_longer h x s.underway a.underway; turns = all_longer h x ts a.turns }
 
-begun_all : (follows : Follows) (lists : CalledLists) (before : EngineHistory) (s : EngineState) (by client : ℕ) (h : EngineHistory) (ts : List MemberTurn) → IsLegalEngine engine_opening before → engine_replay engine_opening before ≡ s
+begun_all : (follows : Follows) (before : EngineHistory) (s : EngineState) (by client : ℕ) (h : EngineHistory) (ts : List MemberTurn) → IsLegalEngine engine_opening before → engine_replay engine_opening before ≡ s
     → IsLegalEngine s h → SpeaksFor by client h → Gave s client ts → AreBegun before s ts → AllBegun (before ++ h) (fold (turns_with client) ts (entries_by by h))
-begun_all follows lists before s by client [] ts past at legal alone g a = subst (λ (l : EngineHistory). AllBegun l ts) (sym (append-nil before)) a.turns
-begun_all follows lists before s by client (x ∷ h) ts past at legal alone g a =
+begun_all follows before s by client [] ts past at legal alone g a = subst (λ (l : EngineHistory). AllBegun l ts) (sym (append-nil before)) a.turns
+begun_all follows before s by client (x ∷ h) ts past at legal alone g a =
     let tells : StateTold before s = subst (StateTold before) at (state_told follows before past) in
     let past_next : IsLegalEngine engine_opening (before ++ x ∷ []) = legal_joined engine_opening before (x ∷ []) past (subst (λ (e : EngineState). IsLegalEngine e (x ∷ [])) (sym at) (legal.0, legal.1, tt)) in
     let at_next : engine_replay engine_opening (before ++ x ∷ []) ≡ engine_after s x.1 = replay_apart engine_opening before (x ∷ []) ∙ ap (λ (e : EngineState). engine_after e x.1) at in
-    let next : Gave (engine_after s x.1) client (turns_with client ts x.1) = gave_step lists s client ts x.1 g legal.1 in
+    let next : Gave (engine_after s x.1) client (turns_with client ts x.1) = gave_step s client ts x.1 g legal.1 in
     let begun_next : AreBegun (before ++ x ∷ []) (engine_after s x.1) (turns_with client ts x.1) = begun_step before s client x.0 ts x.1 tells a legal.0 legal.1 in
     subst (λ (l : EngineHistory). AllBegun l (fold (turns_with client) ts (entries_by by (x ∷ h)))) (append_assoc before (x ∷ []) h)
     (own_or_other by client x h (λ es. AllBegun ((before ++ x ∷ []) ++ h) (fold (turns_with client) ts es)) alone.0
-    (begun_all follows lists (before ++ x ∷ []) (engine_after s x.1) by client h (turns_with client ts x.1) past_next at_next legal.2 alone.1 next begun_next)
+    (begun_all follows (before ++ x ∷ []) (engine_after s x.1) by client h (turns_with client ts x.1) past_next at_next legal.2 alone.1 next begun_next)
     (λ not. let same : turns_with client ts x.1 ≡ ts = other_step s client ts x.1 g legal.1 not in
-    begun_all follows lists (before ++ x ∷ []) (engine_after s x.1) by client h ts past_next at_next legal.2 alone.1
+    begun_all follows (before ++ x ∷ []) (engine_after s x.1) by client h ts past_next at_next legal.2 alone.1
     (subst (Gave (engine_after s x.1) client) same next) (subst (AreBegun (before ++ x ∷ []) (engine_after s x.1)) same begun_next)))
 
-pub turns_were_begun : Follows → CalledLists → TurnsWereBegun
-turns_were_begun follows lists by client h legal alone = begun_all follows lists [] engine_opening by client h [] tt refl legal alone (opening_gave client) (record { underway = tt; turns = λ t has. absurd has })
+pub turns_were_begun : Follows → TurnsWereBegun
+turns_were_begun follows by client h legal alone = begun_all follows [] engine_opening by client h [] tt refl legal alone (opening_gave client) (record { underway = tt; turns = λ t has. absurd has })
 
 -- The state before.
 
@@ -313,17 +315,17 @@ stop_from t Stopped stops allowed = absurd (let e : is_allowed Stopped Stop ≡ 
 stop_from t Paused stops allowed = λ (same : Paused ≡ Stopped). cc (same)
 stop_from t Running stops allowed = λ (same : Running ≡ Stopped). cc (same)
 
-pub starts_from_stopped : Follows → CalledLists → StartsFromStopped
-starts_from_stopped follows lists by client h legal alone turn has starts =
-    let was : WasBegun h turn = turns_were_begun follows lists by client h legal alone turn has in
+pub starts_from_stopped : Follows → StartsFromStopped
+starts_from_stopped follows by client h legal alone turn has starts =
+    let was : WasBegun h turn = turns_were_begun follows by client h legal alone turn has in
     elim was.of_begin.kind as (λ w. turn.order.from ≡ Stopped) [
       | inl same ↦ ap (λ (o : Order). o.from) was.of_begin.order ∙ start_from was.transition (state_at (engine_past was.earlier)) (sym same ∙ starts) was.of_begin.allowed
       | inr off ↦ absurd (let e : Start ≡ StartAbort = sym starts ∙ off.1 in cc (e))
     ]
 
-pub stops_from_run : Follows → CalledLists → StopsFromRun
-stops_from_run follows lists by client h legal alone turn has stops =
-    let was : WasBegun h turn = turns_were_begun follows lists by client h legal alone turn has in
+pub stops_from_run : Follows → StopsFromRun
+stops_from_run follows by client h legal alone turn has stops =
+    let was : WasBegun h turn = turns_were_begun follows by client h legal alone turn has in
     elim was.of_begin.kind as (λ w. turn.order.from ≢ Stopped) [
       | inl same ↦ λ stopped. stop_from was.transition (state_at (engine_past was.earlier)) (sym same ∙ stops) was.of_begin.allowed (sym (ap (λ (o : Order). o.from) was.of_begin.order) ∙ stopped)
       | inr off ↦ absurd (let e : Stop ≡ StartAbort = sym stops ∙ off.1 in cc (e))

@@ -1,5 +1,5 @@
 -- The turns of a client are turns as an engine gives them: what holds of them and of the engine at each point of a history.
-use Rattle.std.specs.Prelude.{◌≡◌, ◌≢◌, ℕ, suc, ◌≤◌, ◌==◌, ◌&&◌, Bool, true, false, if◌then◌else◌, List, [], ◌∷◌, drop, fold, map, Option, Some, None, Ok, Err, refl, ⊤}
+use Rattle.std.specs.Prelude.{◌≡◌, ◌≢◌, ℕ, suc, ◌≤◌, ◌==◌, Bool, true, false, if◌then◌else◌, List, [], ◌∷◌, fold, map, Option, Some, None, Ok, Err, refl, ⊤}
 use Rattle.std.specs.List.{filter}
 use Rattle.std.specs.Option.{option_map}
 use Rattle.std.proofs.Common.{ap, sym, ◌∙◌, subst, arith, inr}
@@ -17,28 +17,28 @@ use Rattle.transitions.specs.declared.client.Registered.{Registered}
 use Rattle.transitions.specs.declared.called.Called.{Called}
 use Rattle.transitions.specs.declared.sheet.Sheet.{Sheet}
 use Rattle.transitions.specs.declared.answers.Answer.{Answer as ClientAnswer}
-use Rattle.transitions.specs.declared.answers.Answer.TheVariants.{Yes, No}
 use Rattle.transitions.specs.declared.answers.Tally.{Tally}
-use Rattle.transitions.specs.declared.answers.Tally.TheVariants.{Plain}
 use Rattle.transitions.specs.declared.engine.Refusal.{Refusal}
 use Rattle.transitions.specs.declared.replies.Polled.TheVariants.{Turn, Idle, Closed as PollClosed, NoClient}
 use Rattle.transitions.specs.declared.replies.Progress.TheVariants.{Going, Done, None as NoneGoing}
 use Rattle.transitions.specs.declared.entry.EngineEntry.{EngineEntry}
 use Rattle.transitions.specs.declared.entry.EngineEntry.TheVariants.{Register, Begin, Poll, Answer, Check, Close}
 use Rattle.transitions.specs.Called.{called_list}
-use Rattle.transitions.specs.CalledOrder.{IsCalledList}
 use Rattle.transitions.specs.Engines.{Underway, EngineState, engine_opening}
-use Rattle.transitions.specs.EngineCalls.{turn_kind, turn_of, is_start, is_next, state_with, begun, polled_by, told, refused_by, answered_by, after_poll_by, after_answer_in, with_underway, owes_answer, IsEngineReply, engine_after}
+use Rattle.transitions.specs.EngineCalls.{turn_kind, turn_of, is_start, stands_in, without, has_polled, is_next, open_of, state_with, begun, first_polled, polled_by, told, refused_by, is_due_off, called_off, answered_by, after_poll_by, after_answer_in, with_underway, owes_answer, IsEngineReply, engine_after}
 use Rattle.transitions.specs.EngineHistories.{EngineHistory, IsLegalEngine, engine_replay}
 use Rattle.transitions.specs.GivenTurns.{is_of_client, SpeaksFor}
+use Rattle.transitions.specs.Marks.{is_mark, HasNoMark}
 use Rattle.transitions.specs.TurnOrder.{number_with}
+use Rattle.transitions.proofs.Stands.{stands_gone, stands_other}
 use Rattle.member_model.specs.Turns.{MemberTurn, NoneOpen, IsOfRun, IsNextTurn, AreEngineTurns}
 use Rattle.member_model.specs.TurnCalls.{turn_told, turn_answered, turns_with}
 use Rattle.engine_laws.specs.EngineLaws.{GivesEngineTurns}
-use Rattle.engine_laws.proofs.Replies.{Begins, begins, GivesTurn, gives_turn, Owes, owes, owes_none, Finishes, finishes}
-use Rattle.engine_laws.proofs.TurnLists.{IsIn, AreDistinct, to_call, called_distinct, distinct_drop, to_call_more, front_in, front_gone, other_front, HaveUpTo, up_to_more, up_to_push, up_to_answered, Phase, phase_weaker, phase_answered, phase_next, phase_push, told_new, answered_none}
+use Rattle.engine_laws.proofs.Standing.{first_gone, first_owes, first_other_owes, first_fewer, next_called, open_polled, open_called, first_open, none_open, none_polled, KindFits, start_kind, due, due_kind, kind_off}
+use Rattle.engine_laws.proofs.Replies.{Begins, begins, GivesFirst, IsGiven, given_case, GivesTurn, gives_turn, Owes, owes, owes_none, answered_case, Finishes, finishes}
+use Rattle.engine_laws.proofs.TurnLists.{HaveUpTo, up_to_more, up_to_push, up_to_answered, with_answer, Phase, phase_weaker, phase_answered, phase_next, phase_push, told_new, answered_none}
 
--- the state of the engine fits the transition in progress
+-- the state of the engine fits the transition in progress, with these clients yet to answer
 abbrev pub StateFits : Transition → Option Refusal → List Called → RunState → Type 0
 StateFits t (Some refusal) called state = state ≡ Stopped
 StateFits Start None [] state = ⊤
@@ -54,12 +54,23 @@ abbrev pub OpenFor : Bool → Underway → List MemberTurn → Type 0
 OpenFor true u ts = (dump : Option (List ℕ)) × (rest : List MemberTurn) × (ts ≡ record { transition = turn_of u; order = u.order; dump = dump; answer = None } ∷ rest)
 OpenFor false u ts = NoneOpen ts
 
+-- a turn stays open while its kind and its order are the same
+pub open_like : (b : Bool) (u v : Underway) (ts : List MemberTurn) → turn_of v ≡ turn_of u → v.order ≡ u.order → OpenFor b u ts → OpenFor b v ts
+open_like true u v ts turn order still = (
+  still.0,
+  still.1,
+  still.2
+      ∙ (ap (λ (k : Transition). record { transition = k; order = u.order; dump = still.0; answer = None } ∷ still.1) (sym turn)
+      ∙ ap (λ (o : Order). record { transition = turn_of v; order = o; dump = still.0; answer = None } ∷ still.1) (sym order)),
+)
+open_like false u v ts turn order none = none
+
 pub record RunsOn (state : RunState) (start client : ℕ) (ts : List MemberTurn) (u : Underway) : Type 0 where
-  pub distinct : AreDistinct u.called
   pub number : u.order.start ≡ start
-  pub fits : StateFits u.transition u.refusal u.called state
-  pub phase : Phase (turn_of u) (IsIn client (to_call u.has_polled u.called)) start ts
-  pub open_turn : OpenFor (u.has_polled && is_next u.called client) u ts
+  pub kind : KindFits u.transition u.refusal u.is_off
+  pub fits : StateFits u.transition u.refusal (open_of u) state
+  pub phase : Phase (turn_of u) (stands_in u.called client ≡ true) start ts
+  pub open_turn : OpenFor (stands_in u.polled client) u ts
 
 pub record Rests (state : RunState) (start : ℕ) (ts : List MemberTurn) : Type 0 where
   pub of_run : state ≢ Stopped → IsOfRun start ts
@@ -117,215 +128,236 @@ begun_phase StartAbort come Stopped start n ts e number low of_run = absurd (cc 
 begun_phase StartAbort come Paused start n ts e number low of_run = absurd (cc (e))
 begun_phase StartAbort come Running start n ts e number low of_run = absurd (cc (e))
 
--- the law of called lists, for all
-abbrev pub CalledLists : Type 0
-CalledLists = (t : Transition) (clients : List Registered) → IsCalledList t clients (called_list t clients)
-
-gave_begun : (lists : CalledLists) (s : EngineState) (client : ℕ) (ts : List MemberTurn) (t : Transition) (sheet : Sheet) (n : ℕ) → Begins s t n → Gave s client ts
+gave_begun : (s : EngineState) (client : ℕ) (ts : List MemberTurn) (t : Transition) (sheet : Sheet) (n : ℕ) → Begins s t n → Gave s client ts
     → GaveAt (state_with s.state t None (called_list t s.clients)) n client ts (Some (begun s t sheet n))
-gave_begun lists s client ts t sheet n b g =
+gave_begun s client ts t sheet n b g =
     let rests : Rests s.state s.start ts = subst (StandsAt s.state s.start client ts) b.free g.now in
     record {
       low = up_to_more s.start n ts (number_grows t s.start n b.number) g.low;
       are = g.are;
       now = record {
-        distinct = called_distinct t s.clients (lists t s.clients);
         number = refl;
+        kind = refl;
         fits = begun_fits t s.state (called_list t s.clients) b.allowed;
-        phase = begun_phase t (IsIn client (called_list t s.clients)) s.state s.start n ts b.allowed b.number g.low rests.of_run;
+        phase = begun_phase t (stands_in (called_list t s.clients) client ≡ true) s.state s.start n ts b.allowed b.number g.low rests.of_run;
         open_turn = rests.none;
       };
     }
 
 -- Poll.
 
-none_open : (b : Bool) (next : Bool) (u : Underway) (ts : List MemberTurn) → next ≡ false → OpenFor (b && next) u ts → NoneOpen ts
-none_open true next u ts e is = subst (λ (x : Bool). OpenFor x u ts) e is
-none_open false next u ts e is = is
+never_both : (b : Bool) → b ≡ false → b ≡ true → ⊥
+never_both true not is = absurd (cc (not))
+never_both false not is = absurd (cc (is))
 
-polled_fresh : (state : RunState) (start client : ℕ) (ts : List MemberTurn) (u : Underway) (c : Registered) (dump : Option (List ℕ)) → GaveAt state start client ts (Some u) → u.has_polled ≡ false → is_next u.called client ≡ true
-    → GaveAt state start client (turn_told ts (record { transition = turn_of u; order = u.order; dump = dump; answer = None })) (Some (polled_by c u))
-polled_fresh state start client ts u c dump g before front =
+-- while somebody has yet to answer, the state fits
+still_fits : (t : Transition) (r : Option Refusal) (before after : List Called) (one other : ℕ) (state : RunState) → stands_in before one ≡ true → stands_in after other ≡ true → StateFits t r before state → StateFits t r after state
+still_fits t (Some refusal) before after one other state some left fits = fits
+still_fits Start None [] after one other state some left fits = absurd (cc (some))
+still_fits Start None (x ∷ xs) [] one other state some left fits = absurd (cc (left))
+still_fits Start None (x ∷ xs) (y ∷ ys) one other state some left fits = fits
+still_fits Stop None before [] one other state some left fits = absurd (cc (left))
+still_fits Stop None before (y ∷ ys) one other state some left fits = tt
+still_fits Pause None before after one other state some left fits = tt
+still_fits Resume None before after one other state some left fits = tt
+still_fits StartAbort None before after one other state some left fits = absurd fits
+
+first_fits : (state : RunState) (other : ℕ) (u : Underway) (c : Registered) → is_next u.polled u.called other ≡ true → StateFits u.transition u.refusal (open_of u) state → StateFits u.transition u.refusal (open_of (first_polled other c u)) state
+first_fits state other u c next fits =
+    let here : stands_in (open_of u) other ≡ true = open_called u other (next_called u other next) in
+    still_fits u.transition u.refusal (open_of u) (open_of (first_polled other c u)) other other state here (first_open other other c u here) fits
+
+polled_fresh : (state : RunState) (start client : ℕ) (ts : List MemberTurn) (u : Underway) (c : Registered) (dump : Option (List ℕ)) → GaveAt state start client ts (Some u) → GivesFirst c u client dump
+    → GaveAt state start client (turn_told ts (record { transition = turn_of u; order = u.order; dump = dump; answer = None })) (Some (first_polled client c u))
+polled_fresh state start client ts u c dump g first =
     let t : MemberTurn = record { transition = turn_of u; order = u.order; dump = dump; answer = None } in
     let now : RunsOn state start client ts u = g.now in
-    let none : NoneOpen ts = subst (λ (b : Bool). OpenFor (b && is_next u.called client) u ts) before now.open_turn in
-    let come : IsIn client (to_call u.has_polled u.called) = subst (λ (b : Bool). IsIn client (to_call b u.called)) (sym before) (front_in client u.called front) in
-    let next : IsNextTurn (turn_of u) u.order.start ts = subst (λ (n : ℕ). IsNextTurn (turn_of u) n ts) (sym now.number) (phase_next (turn_of u) (IsIn client (to_call u.has_polled u.called)) start ts come now.phase) in
-    subst (λ (x : List MemberTurn). GaveAt state start client x (Some (polled_by c u))) (sym (told_new ts t none)) (record {
+    let come : stands_in u.called client ≡ true = next_called u client first.next in
+    let none : NoneOpen ts = subst (λ (b : Bool). OpenFor b u ts) first.fresh now.open_turn in
+    let next : IsNextTurn (turn_of u) u.order.start ts = subst (λ (n : ℕ). IsNextTurn (turn_of u) n ts) (sym now.number) (phase_next (turn_of u) (stands_in u.called client ≡ true) start ts come now.phase) in
+    subst (λ (x : List MemberTurn). GaveAt state start client x (Some (first_polled client c u))) (sym (told_new ts t none)) (record {
       low = up_to_push start t ts now.number g.low;
       are = (next, g.are);
       now = record {
-        distinct = now.distinct;
         number = now.number;
-        fits = now.fits;
-        phase = phase_push (turn_of u) (IsIn client (to_call u.has_polled u.called)) (IsIn client (drop 1 u.called)) start ts u.order dump None now.number (front_gone client u.called now.distinct front) now.phase;
-        open_turn = subst (λ (b : Bool). OpenFor b (polled_by c u) (t ∷ ts)) (sym front) (dump, ts, refl);
+        kind = now.kind;
+        fits = first_fits state client u c first.next now.fits;
+        phase = phase_push (turn_of u) (stands_in u.called client ≡ true) (stands_in (first_polled client c u).called client ≡ true) start ts u.order dump None now.number
+            (never_both (stands_in (first_polled client c u).called client) (first_gone client c u)) now.phase;
+        open_turn = subst (λ (b : Bool). OpenFor b (first_polled client c u) (t ∷ ts)) (sym (first_owes client c u)) (dump, ts, refl);
       };
     })
 
-polled_again : (state : RunState) (start client : ℕ) (ts : List MemberTurn) (u : Underway) (c : Registered) (t : MemberTurn) → GaveAt state start client ts (Some u) → u.has_polled ≡ true → is_next u.called client ≡ true
-    → GaveAt state start client (turn_told ts t) (Some (polled_by c u))
-polled_again state start client ts u c t g before front =
+polled_other : (state : RunState) (start client other : ℕ) (ts : List MemberTurn) (u : Underway) (c : Registered) → GaveAt state start client ts (Some u) → is_next u.polled u.called other ≡ true → (other == client) ≡ false
+    → GaveAt state start client ts (Some (first_polled other c u))
+polled_other state start client other ts u c g next differs =
     let now : RunsOn state start client ts u = g.now in
-    let still : OpenFor true u ts = subst (λ (b : Bool). OpenFor b u ts) front (subst (λ (b : Bool). OpenFor (b && is_next u.called client) u ts) before now.open_turn) in
-    let latest : MemberTurn = record { transition = turn_of u; order = u.order; dump = still.0; answer = None } in
-    let again : turn_told ts t ≡ ts = ap (λ (x : List MemberTurn). turn_told x t) still.2 ∙ sym still.2 in
-    subst (λ (x : List MemberTurn). GaveAt state start client x (Some (polled_by c u))) (sym again) (record {
-      low = g.low;
-      are = g.are;
-      now = record {
-        distinct = now.distinct;
-        number = now.number;
-        fits = now.fits;
-        phase = phase_weaker (turn_of u) (IsIn client (to_call u.has_polled u.called)) (IsIn client (drop 1 u.called)) start ts (to_call_more u.has_polled client u.called) now.phase;
-        open_turn = subst (λ (b : Bool). OpenFor b (polled_by c u) ts) (sym front) still;
-      };
-    })
-
-polled_other : (state : RunState) (start client other : ℕ) (ts : List MemberTurn) (u : Underway) (c : Registered) → GaveAt state start client ts (Some u) → is_next u.called other ≡ true → other ≢ client
-    → GaveAt state start client ts (Some (polled_by c u))
-polled_other state start client other ts u c g front differs =
-    let now : RunsOn state start client ts u = g.now in
-    let next : is_next u.called client ≡ false = other_front client other u.called front differs in
     record {
       low = g.low;
       are = g.are;
       now = record {
-        distinct = now.distinct;
         number = now.number;
-        fits = now.fits;
-        phase = phase_weaker (turn_of u) (IsIn client (to_call u.has_polled u.called)) (IsIn client (drop 1 u.called)) start ts (to_call_more u.has_polled client u.called) now.phase;
-        open_turn = subst (λ (b : Bool). OpenFor b (polled_by c u) ts) (sym next) (none_open u.has_polled (is_next u.called client) u ts next now.open_turn);
+        kind = now.kind;
+        fits = first_fits state other u c next now.fits;
+        phase = phase_weaker (turn_of u) (stands_in u.called client ≡ true) (stands_in (first_polled other c u).called client ≡ true) start ts (first_fewer client other c u) now.phase;
+        open_turn = subst (λ (b : Bool). OpenFor b (first_polled other c u) ts) (sym (first_other_owes client other c u differs)) (open_like (stands_in u.polled client) u (first_polled other c u) ts refl refl now.open_turn);
       };
     }
 
-gave_polled : (state : RunState) (start client other : ℕ) (ts : List MemberTurn) (u : Underway) (c : Registered) (dump : Option (List ℕ)) → GaveAt state start client ts (Some u) → is_next u.called other ≡ true
-    → GaveAt state start client (if other == client then turn_told ts (record { transition = turn_of u; order = u.order; dump = dump; answer = None }) else ts) (Some (polled_by c u))
-gave_polled state start client other ts u c dump g front =
+-- a turn that is given again is the open one
+pub told_again : (client : ℕ) (ts : List MemberTurn) (u : Underway) (t : MemberTurn) → OpenFor (stands_in u.polled client) u ts → has_polled u client ≡ true → turn_told ts t ≡ ts
+told_again client ts u t open_turn polled =
+    let still : OpenFor true u ts = subst (λ (b : Bool). OpenFor b u ts) polled open_turn in
+    ap (λ (x : List MemberTurn). turn_told x t) still.2 ∙ sym still.2
+
+gave_polled : (state : RunState) (start client other : ℕ) (ts : List MemberTurn) (u : Underway) (c : Registered) (dump : Option (List ℕ)) → GaveAt state start client ts (Some u) → IsGiven c u other dump
+    → GaveAt state start client (if other == client then turn_told ts (record { transition = turn_of u; order = u.order; dump = dump; answer = None }) else ts) (Some (polled_by other c u))
+gave_polled state start client other ts u c dump g given =
     let t : MemberTurn = record { transition = turn_of u; order = u.order; dump = dump; answer = None } in
-    split (other == client) (λ b. (other == client) ≡ b → GaveAt state start client (if b then turn_told ts t else ts) (Some (polled_by c u)))
+    split (other == client) (λ b. (other == client) ≡ b → GaveAt state start client (if b then turn_told ts t else ts) (Some (polled_by other c u)))
     (λ h e.
-    let mine : is_next u.called client ≡ true = subst (λ (n : ℕ). is_next u.called n ≡ true) (eqb-true other client e) front in
-    split u.has_polled (λ b. u.has_polled ≡ b → GaveAt state start client (turn_told ts t) (Some (polled_by c u)))
-    (λ h' e'. polled_again state start client ts u c t g e' mine)
-    (λ h' e'. polled_fresh state start client ts u c dump g e' mine)
-    refl)
-    (λ h e. polled_other state start client other ts u c g front (eqb-false other client e))
+    let same : other ≡ client = eqb-true other client e in
+    given_case (λ v. GaveAt state start client (turn_told ts t) (Some v)) other c u dump given
+    (λ again. subst (λ (x : List MemberTurn). GaveAt state start client x (Some u)) (sym (told_again client ts u t g.now.open_turn (subst (λ (n : ℕ). has_polled u n ≡ true) same again.polled))) g)
+    (λ first. subst (λ (n : ℕ). GaveAt state start client (turn_told ts t) (Some (first_polled n c u))) (sym same)
+    (polled_fresh state start client ts u c dump g (subst (λ (n : ℕ). GivesFirst c u n dump) same first))))
+    (λ h e. given_case (λ v. GaveAt state start client ts (Some v)) other c u dump given (λ again. g) (λ first. polled_other state start client other ts u c g first.next e))
     refl
 
 -- Answer.
 
 -- what an answer leaves of the client's turns
-pub record Leaves (start client : ℕ) (ts later : List MemberTurn) : Type 0 where
+pub record Leaves (start client other : ℕ) (u : Underway) (ts later : List MemberTurn) : Type 0 where
   pub low : HaveUpTo start later
   pub are : AreEngineTurns later
-  pub none : NoneOpen later
-  pub phase : (k : Transition) (called : List Called) → Phase k (IsIn client called) start ts → Phase k (IsIn client called) start later
+  pub open_turn : OpenFor (stands_in (without other u.polled) client) u later
+  pub phase : (k : Transition) (called : List Called) → Phase k (stands_in called client ≡ true) start ts → Phase k (stands_in called client ≡ true) start later
 
-answered_mine : (state : RunState) (start client : ℕ) (ts : List MemberTurn) (u : Underway) (answer : ClientAnswer) → GaveAt state start client ts (Some u) → u.has_polled ≡ true → is_next u.called client ≡ true
-    → Leaves start client ts (turn_answered ts answer)
-answered_mine state start client ts u answer g before front =
+answered_mine : (state : RunState) (start client : ℕ) (ts : List MemberTurn) (u : Underway) (answer : ClientAnswer) → GaveAt state start client ts (Some u) → has_polled u client ≡ true
+    → Leaves start client client u ts (turn_answered ts answer)
+answered_mine state start client ts u answer g polled =
     let now : RunsOn state start client ts u = g.now in
-    let still : OpenFor true u ts = subst (λ (b : Bool). OpenFor b u ts) front (subst (λ (b : Bool). OpenFor (b && is_next u.called client) u ts) before now.open_turn) in
+    let still : OpenFor true u ts = subst (λ (b : Bool). OpenFor b u ts) polled now.open_turn in
     let t : MemberTurn = record { transition = turn_of u; order = u.order; dump = still.0; answer = None } in
     let are : AreEngineTurns (t ∷ still.1) = subst AreEngineTurns still.2 g.are in
-    subst (λ (x : List MemberTurn). Leaves start client x (turn_answered x answer)) (sym still.2) (record {
+    subst (λ (x : List MemberTurn). Leaves start client client u x (turn_answered x answer)) (sym still.2) (record {
       low = up_to_answered start t still.1 answer (subst (HaveUpTo start) still.2 g.low);
       are = are;
-      none = tt;
-      phase = λ k called phase. phase_answered k (IsIn client called) start t still.1 answer phase;
+      open_turn = subst (λ (b : Bool). OpenFor b u (with_answer t answer ∷ still.1)) (sym (stands_gone client u.polled)) tt;
+      phase = λ k called phase. phase_answered k (stands_in called client ≡ true) start t still.1 answer phase;
     })
 
-answered_other : (state : RunState) (start client other : ℕ) (ts : List MemberTurn) (u : Underway) → GaveAt state start client ts (Some u) → is_next u.called other ≡ true → other ≢ client → Leaves start client ts ts
-answered_other state start client other ts u g front differs =
+answered_other : (state : RunState) (start client other : ℕ) (ts : List MemberTurn) (u : Underway) → GaveAt state start client ts (Some u) → (other == client) ≡ false → Leaves start client other u ts ts
+answered_other state start client other ts u g differs =
     let now : RunsOn state start client ts u = g.now in
-    let next : is_next u.called client ≡ false = other_front client other u.called front differs in
     record {
       low = g.low;
       are = g.are;
-      none = none_open u.has_polled (is_next u.called client) u ts next now.open_turn;
+      open_turn = subst (λ (b : Bool). OpenFor b u ts) (sym (stands_other client other u.polled differs)) now.open_turn;
       phase = λ k called phase. phase;
     }
 
-leaves : (state : RunState) (start client other : ℕ) (ts : List MemberTurn) (u : Underway) (answer : ClientAnswer) → GaveAt state start client ts (Some u) → u.has_polled ≡ true → is_next u.called other ≡ true
-    → Leaves start client ts (if other == client then turn_answered ts answer else ts)
-leaves state start client other ts u answer g before front =
-    split (other == client) (λ b. (other == client) ≡ b → Leaves start client ts (if b then turn_answered ts answer else ts))
-    (λ h e. answered_mine state start client ts u answer g before (subst (λ (n : ℕ). is_next u.called n ≡ true) (eqb-true other client e) front))
-    (λ h e. answered_other state start client other ts u g front (eqb-false other client e))
+leaves : (state : RunState) (start client other : ℕ) (ts : List MemberTurn) (u : Underway) (answer : ClientAnswer) → GaveAt state start client ts (Some u) → has_polled u other ≡ true
+    → Leaves start client other u ts (if other == client then turn_answered ts answer else ts)
+leaves state start client other ts u answer g polled =
+    split (other == client) (λ b. (other == client) ≡ b → Leaves start client other u ts (if b then turn_answered ts answer else ts))
+    (λ h e.
+    let same : other ≡ client = eqb-true other client e in
+    subst (λ (n : ℕ). Leaves start client n u ts (turn_answered ts answer)) (sym same) (answered_mine state start client ts u answer g (subst (λ (n : ℕ). has_polled u n ≡ true) same polled)))
+    (λ h e. answered_other state start client other ts u g e)
     refl
 
-told_fits : (t : Transition) (r : Option Refusal) (called : List Called) (other : ℕ) (state : RunState) → is_next called other ≡ true → StateFits t r called state → StateFits t r (drop 1 called) (state_with state t r (drop 1 called))
-told_fits t (Some refusal) called other state front fits = fits
-told_fits t None [] other state front fits = absurd (cc (front))
-told_fits Start None (x ∷ []) other state front fits = tt
-told_fits Start None (x ∷ y ∷ ys) other state front fits = fits
-told_fits Stop None (x ∷ []) other state front fits = refl
-told_fits Stop None (x ∷ y ∷ ys) other state front fits = tt
-told_fits Pause None (x ∷ xs) other state front fits = tt
-told_fits Resume None (x ∷ xs) other state front fits = tt
-told_fits StartAbort None (x ∷ xs) other state front fits = absurd fits
+told_fits : (t : Transition) (r : Option Refusal) (before after : List Called) (one : ℕ) (state : RunState) → stands_in before one ≡ true → StateFits t r before state → StateFits t r after (state_with state t r after)
+told_fits t (Some refusal) before after one state some fits = fits
+told_fits Start None [] after one state some fits = absurd (cc (some))
+told_fits Start None (x ∷ xs) [] one state some fits = tt
+told_fits Start None (x ∷ xs) (y ∷ ys) one state some fits = fits
+told_fits Stop None before [] one state some fits = refl
+told_fits Stop None before (y ∷ ys) one state some fits = tt
+told_fits Pause None before after one state some fits = tt
+told_fits Resume None before after one state some fits = tt
+told_fits StartAbort None before after one state some fits = absurd fits
 
-gave_told : (state : RunState) (start client other : ℕ) (ts later : List MemberTurn) (u : Underway) (tally : Tally) → GaveAt state start client ts (Some u) → u.has_polled ≡ true → is_next u.called other ≡ true → Leaves start client ts later
-    → GaveAt (state_with state u.transition u.refusal (drop 1 u.called)) start client later (Some (told other tally u))
-gave_told state start client other ts later u tally g before front left =
+-- the engine with a transition in progress, of which this is kept
+abbrev pub GaveWith : RunState → (start client : ℕ) → List MemberTurn → Underway → Type 0
+GaveWith state start client ts v = GaveAt (state_with state v.transition v.refusal (open_of v)) start client ts (Some v)
+
+gave_told : (state : RunState) (start client other : ℕ) (ts later : List MemberTurn) (u : Underway) (tally : Tally) → GaveAt state start client ts (Some u) → has_polled u other ≡ true → Leaves start client other u ts later
+    → GaveWith state start client later (told other tally u)
+gave_told state start client other ts later u tally g polled left =
     let now : RunsOn state start client ts u = g.now in
     record {
       low = left.low;
       are = left.are;
       now = record {
-        distinct = distinct_drop u.called now.distinct;
         number = now.number;
-        fits = told_fits u.transition u.refusal u.called other state front now.fits;
-        phase = left.phase (turn_of u) (drop 1 u.called) (subst (λ (b : Bool). Phase (turn_of u) (IsIn client (to_call b u.called)) start ts) before now.phase);
-        open_turn = left.none;
+        kind = now.kind;
+        fits = told_fits u.transition u.refusal (open_of u) (open_of (told other tally u)) other state (open_polled u other polled) now.fits;
+        phase = left.phase (turn_of u) u.called now.phase;
+        open_turn = open_like (stands_in (without other u.polled) client) u (told other tally u) later refl refl left.open_turn;
       };
     }
 
-start_fits : (t : Transition) (r : Option Refusal) (called : List Called) (other : ℕ) (state : RunState) → is_start (turn_kind t r) ≡ true → is_next called other ≡ true → StateFits t r called state → state ≡ Stopped
-start_fits t (Some refusal) called other state starts front fits = fits
-start_fits t None [] other state starts front fits = absurd (cc (front))
-start_fits Start None (x ∷ xs) other state starts front fits = fits
-start_fits Stop None (x ∷ xs) other state starts front fits = absurd (cc (starts))
-start_fits Pause None (x ∷ xs) other state starts front fits = absurd (cc (starts))
-start_fits Resume None (x ∷ xs) other state starts front fits = absurd (cc (starts))
-start_fits StartAbort None (x ∷ xs) other state starts front fits = absurd (cc (starts))
+start_fits : (t : Transition) (r : Option Refusal) (called : List Called) (other : ℕ) (state : RunState) → t ≡ Start → stands_in called other ≡ true → StateFits t r called state → state ≡ Stopped
+start_fits t (Some refusal) called other state starts some fits = fits
+start_fits t None [] other state starts some fits = absurd (cc (some))
+start_fits Start None (x ∷ xs) other state starts some fits = fits
+start_fits Stop None (x ∷ xs) other state starts some fits = absurd (cc (starts))
+start_fits Pause None (x ∷ xs) other state starts some fits = absurd (cc (starts))
+start_fits Resume None (x ∷ xs) other state starts some fits = absurd (cc (starts))
+start_fits StartAbort None (x ∷ xs) other state starts some fits = absurd (cc (starts))
 
-start_phase : (k : Transition) (come : Type 0) (start : ℕ) (ts : List MemberTurn) → is_start k ≡ true → Phase k come start ts → IsOfRun start ts
-start_phase Start come start ts starts phase = phase.1
-start_phase Stop come start ts starts phase = absurd (cc (starts))
-start_phase Pause come start ts starts phase = absurd (cc (starts))
-start_phase Resume come start ts starts phase = absurd (cc (starts))
-start_phase StartAbort come start ts starts phase = absurd (cc (starts))
-
-gave_refused : (lists : CalledLists) (state : RunState) (start client other : ℕ) (ts later : List MemberTurn) (u : Underway) (clients : List Registered) (why : Why) → GaveAt state start client ts (Some u) → is_start (turn_of u) ≡ true → is_next u.called other ≡ true → Leaves start client ts later
-    → GaveAt state start client later (Some (refused_by clients other why u))
-gave_refused lists state start client other ts later u clients why g starts front left =
+gave_refused : (state : RunState) (start client other : ℕ) (ts later : List MemberTurn) (u : Underway) (why : Why) → GaveAt state start client ts (Some u) → is_start (turn_of u) ≡ true → has_polled u other ≡ true → Leaves start client other u ts later
+    → GaveWith state start client later (refused_by other why u)
+gave_refused state start client other ts later u why g starts polled left =
     let now : RunsOn state start client ts u = g.now in
-    let of_run : IsOfRun start ts = start_phase (turn_of u) (IsIn client (to_call u.has_polled u.called)) start ts starts now.phase in
+    let kind : u.transition ≡ Start = start_kind u.transition u.is_off starts in
     record {
       low = left.low;
       are = left.are;
       now = record {
-        distinct = called_distinct StartAbort clients (lists StartAbort clients);
         number = now.number;
-        fits = start_fits u.transition u.refusal u.called other state starts front now.fits;
-        phase = left.phase StartAbort (called_list StartAbort clients) (λ is. of_run);
-        open_turn = left.none;
+        kind = kind;
+        fits = start_fits u.transition u.refusal (open_of u) other state kind (open_polled u other polled) now.fits;
+        phase = left.phase (turn_of u) [] (phase_weaker (turn_of u) (stands_in u.called client ≡ true) (stands_in [] client ≡ true) start ts (λ (is : false ≡ true). absurd (cc (is))) now.phase);
+        open_turn = open_like (stands_in (without other u.polled) client) u (refused_by other why u) later refl refl left.open_turn;
       };
     }
 
-gave_answered : (lists : CalledLists) (s : EngineState) (client other : ℕ) (ts : List MemberTurn) (u : Underway) (answer : ClientAnswer) → GaveAt s.state s.start client ts (Some u) → u.has_polled ≡ true → is_next u.called other ≡ true
+off_fits : (t : Transition) (r : Option Refusal) (refusal : Refusal) (before after : List Called) (state : RunState) → r ≡ Some refusal → StateFits t r before (state_with state t r before) → StateFits t r after (state_with state t r after)
+off_fits t None refusal before after state refused fits = absurd (cc (refused))
+off_fits t (Some r) refusal before after state refused fits = fits
+
+start_phase : (k : Transition) (come : Type 0) (start : ℕ) (ts : List MemberTurn) → k ≡ Start → Phase k come start ts → IsOfRun start ts
+start_phase k come start ts starts phase = (subst (λ (x : Transition). Phase x come start ts) starts phase).1
+
+gave_off : (state : RunState) (start client : ℕ) (later : List MemberTurn) (clients : List Registered) (v : Underway) → is_due_off v.refusal v.polled v.is_off ≡ true → GaveWith state start client later v → GaveWith state start client later (called_off clients v)
+gave_off state start client later clients v is g =
+    let now : RunsOn (state_with state v.transition v.refusal (open_of v)) start client later v = g.now in
+    let d = due v.refusal v.polled v.is_off is in
+    let starts : turn_of v ≡ Start = ap (turn_kind v.transition) d.not_off ∙ due_kind v.transition v.refusal v.polled v.is_off is now.kind in
+    let none : stands_in v.polled client ≡ false = none_open v.polled client d.nobody in
+    record {
+      low = g.low;
+      are = g.are;
+      now = record {
+        number = now.number;
+        kind = kind_off v.transition v.refusal v.polled v.is_off is now.kind;
+        fits = off_fits v.transition v.refusal d.refusal (open_of v) (open_of (called_off clients v)) state d.refused now.fits;
+        phase = λ come. start_phase (turn_of v) (stands_in v.called client ≡ true) start later starts now.phase;
+        open_turn = subst (λ (b : Bool). OpenFor b (called_off clients v) later) (sym none) (subst (λ (b : Bool). OpenFor b v later) none now.open_turn);
+      };
+    }
+
+gave_answered : (s : EngineState) (client other : ℕ) (ts : List MemberTurn) (u : Underway) (answer : ClientAnswer) → GaveAt s.state s.start client ts (Some u) → has_polled u other ≡ true
     → Gave (with_underway s (answered_by s.clients other answer u)) client (if other == client then turn_answered ts answer else ts)
-gave_answered lists s client other ts u (Yes tally) g before front =
-    gave_told s.state s.start client other ts (if other == client then turn_answered ts (Yes tally) else ts) u tally g before front (leaves s.state s.start client other ts u (Yes tally) g before front)
-gave_answered lists s client other ts u (No why) g before front =
-    let later : List MemberTurn = if other == client then turn_answered ts (No why) else ts in
-    let left : Leaves s.start client ts later = leaves s.state s.start client other ts u (No why) g before front in
-    split (is_start (turn_of u)) (λ b. is_start (turn_of u) ≡ b → Gave (with_underway s (if b then refused_by s.clients other why u else told other Plain u)) client later)
-    (λ h e. gave_refused lists s.state s.start client other ts later u s.clients why g e front left)
-    (λ h e. gave_told s.state s.start client other ts later u Plain g before front left)
-    refl
+gave_answered s client other ts u answer g polled =
+    let later : List MemberTurn = if other == client then turn_answered ts answer else ts in
+    let left : Leaves s.start client other u ts later = leaves s.state s.start client other ts u answer g polled in
+    answered_case (GaveWith s.state s.start client later) s.clients other answer u
+    (λ tally is. gave_told s.state s.start client other ts later u tally g polled left)
+    (λ why is. gave_refused s.state s.start client other ts later u why g is.starts polled left)
+    (λ v is kept. gave_off s.state s.start client later s.clients v is kept)
 
 -- An answer that is not accepted.
 
@@ -342,61 +374,61 @@ gave_unaccepted s client other ts answer g none =
 
 -- Check.
 
-done_of_run : (t : Transition) (r : Option Refusal) (come : Type 0) (state : RunState) (start : ℕ) (ts : List MemberTurn) → StateFits t r [] state → Phase (turn_kind t r) come start ts → state ≢ Stopped → IsOfRun start ts
-done_of_run t (Some refusal) come state start ts fits phase on = absurd (on fits)
-done_of_run Start None come state start ts fits phase on = phase.1
-done_of_run Stop None come state start ts fits phase on = absurd (on fits)
-done_of_run Pause None come state start ts fits phase on = phase
-done_of_run Resume None come state start ts fits phase on = phase
-done_of_run StartAbort None come state start ts fits phase on = absurd fits
+done_of_run : (t : Transition) (r : Option Refusal) (is_off : Bool) (come : Type 0) (state : RunState) (start : ℕ) (ts : List MemberTurn) → KindFits t r is_off → StateFits t r [] state → Phase (turn_kind t is_off) come start ts → state ≢ Stopped → IsOfRun start ts
+done_of_run t (Some refusal) is_off come state start ts kind fits phase on = absurd (on fits)
+done_of_run Start None is_off come state start ts kind fits phase on = (subst (λ (b : Bool). Phase (turn_kind Start b) come start ts) kind phase).1
+done_of_run Stop None is_off come state start ts kind fits phase on = absurd (on fits)
+done_of_run Pause None is_off come state start ts kind fits phase on = subst (λ (b : Bool). Phase (turn_kind Pause b) come start ts) kind phase
+done_of_run Resume None is_off come state start ts kind fits phase on = subst (λ (b : Bool). Phase (turn_kind Resume b) come start ts) kind phase
+done_of_run StartAbort None is_off come state start ts kind fits phase on = absurd fits
 
-gave_done : (state : RunState) (start client : ℕ) (ts : List MemberTurn) (u : Underway) → GaveAt state start client ts (Some u) → u.called ≡ [] → GaveAt state start client ts None
+gave_done : (state : RunState) (start client : ℕ) (ts : List MemberTurn) (u : Underway) → GaveAt state start client ts (Some u) → open_of u ≡ [] → GaveAt state start client ts None
 gave_done state start client ts u g done =
     let now : RunsOn state start client ts u = g.now in
-    let next : is_next u.called client ≡ false = ap (λ (cs : List Called). is_next cs client) done in
+    let none : stands_in u.polled client ≡ false = none_open u.polled client (none_polled u.polled u.called done) in
     record {
       low = g.low;
       are = g.are;
       now = record {
-        of_run = done_of_run u.transition u.refusal (IsIn client (to_call u.has_polled u.called)) state start ts (subst (λ (cs : List Called). StateFits u.transition u.refusal cs state) done now.fits) now.phase;
-        none = none_open u.has_polled (is_next u.called client) u ts next now.open_turn;
+        of_run = done_of_run u.transition u.refusal u.is_off (stands_in u.called client ≡ true) state start ts now.kind (subst (λ (cs : List Called). StateFits u.transition u.refusal cs state) done now.fits) now.phase;
+        none = subst (λ (b : Bool). OpenFor b u ts) none now.open_turn;
       };
     }
 
 -- One call.
 
-pub gave_step : (lists : CalledLists) (s : EngineState) (client : ℕ) (ts : List MemberTurn) (e : EngineEntry) → Gave s client ts → IsEngineReply s e → Gave (engine_after s e) client (turns_with client ts e)
-gave_step lists s client ts (Register name sequences dump report (Ok n)) g reply = record { low = g.low; are = g.are; now = g.now }
-gave_step lists s client ts (Register name sequences dump report (Err r)) g reply = g
-gave_step lists s client ts (Begin t sheet (Ok n)) g reply = gave_begun lists s client ts t sheet n (begins s t n reply) g
-gave_step lists s client ts (Begin t sheet (Err r)) g reply = g
-gave_step lists s client ts (Poll other (Turn turn order dump blank)) g reply =
+pub gave_step : (s : EngineState) (client : ℕ) (ts : List MemberTurn) (e : EngineEntry) → Gave s client ts → IsEngineReply s e → Gave (engine_after s e) client (turns_with client ts e)
+gave_step s client ts (Register name sequences dump report (Ok n)) g reply = record { low = g.low; are = g.are; now = g.now }
+gave_step s client ts (Register name sequences dump report (Err r)) g reply = g
+gave_step s client ts (Begin t sheet (Ok n)) g reply = gave_begun s client ts t sheet n (begins s t n reply) g
+gave_step s client ts (Begin t sheet (Err r)) g reply = g
+gave_step s client ts (Poll other (Turn turn order dump blank)) g reply =
     let p : GivesTurn s other turn order dump = gives_turn s other turn order dump blank reply in
     let told_so : MemberTurn = record { transition = turn; order = order; dump = dump; answer = None } in
     let given : MemberTurn = record { transition = turn_of p.u; order = p.u.order; dump = dump; answer = None } in
     let same : given ≡ told_so = ap (λ (k : Transition). record { transition = k; order = p.u.order; dump = dump; answer = None }) (sym p.turn_is) ∙ ap (λ (o : Order). record { transition = turn; order = o; dump = dump; answer = None }) (sym p.order_is) in
     let at : GaveAt s.state s.start client ts (Some p.u) = subst (GaveAt s.state s.start client ts) p.underway_is g in
-    let after : GaveAt s.state s.start client (if other == client then turn_told ts given else ts) (Some (polled_by p.c p.u)) = gave_polled s.state s.start client other ts p.u p.c dump at p.front in
-    subst (λ (x : Option Registered). Gave (after_poll_by s x) client (if other == client then turn_told ts told_so else ts)) (sym p.client_is)
-    (subst (λ (o : Option Underway). GaveAt s.state s.start client (if other == client then turn_told ts told_so else ts) (option_map (polled_by p.c) o)) (sym p.underway_is)
-    (subst (λ (x : MemberTurn). GaveAt s.state s.start client (if other == client then turn_told ts x else ts) (Some (polled_by p.c p.u))) same after))
-gave_step lists s client ts (Poll other (Idle state)) g reply = g
-gave_step lists s client ts (Poll other PollClosed) g reply = g
-gave_step lists s client ts (Poll other NoClient) g reply = g
-gave_step lists s client ts (Answer other answer (Ok done)) g reply =
+    let after : GaveAt s.state s.start client (if other == client then turn_told ts given else ts) (Some (polled_by other p.c p.u)) = gave_polled s.state s.start client other ts p.u p.c dump at p.given in
+    subst (λ (x : Option Registered). Gave (after_poll_by s other x) client (if other == client then turn_told ts told_so else ts)) (sym p.client_is)
+    (subst (λ (o : Option Underway). GaveAt s.state s.start client (if other == client then turn_told ts told_so else ts) (option_map (polled_by other p.c) o)) (sym p.underway_is)
+    (subst (λ (x : MemberTurn). GaveAt s.state s.start client (if other == client then turn_told ts x else ts) (Some (polled_by other p.c p.u))) same after))
+gave_step s client ts (Poll other (Idle state)) g reply = g
+gave_step s client ts (Poll other PollClosed) g reply = g
+gave_step s client ts (Poll other NoClient) g reply = g
+gave_step s client ts (Answer other answer (Ok done)) g reply =
     let o : Owes s other = owes s other done reply in
     let at : GaveAt s.state s.start client ts (Some o.u) = subst (GaveAt s.state s.start client ts) o.underway_is g in
     subst (λ (x : Option Underway). Gave (after_answer_in s other answer x) client (if other == client then turn_answered ts answer else ts)) (sym o.underway_is)
-    (gave_answered lists s client other ts o.u answer at o.polled o.front)
-gave_step lists s client ts (Answer other answer (Err r)) g reply =
+    (gave_answered s client other ts o.u answer at o.polled)
+gave_step s client ts (Answer other answer (Err r)) g reply =
     subst (Gave s client) (sym (gave_unaccepted s client other ts answer g (owes_none s other r reply))) g
-gave_step lists s client ts (Check (Done outcome) tallies) g reply =
+gave_step s client ts (Check (Done outcome) tallies) g reply =
     let f : Finishes s outcome = finishes s outcome reply.0 in
     gave_done s.state s.start client ts f.u (subst (GaveAt s.state s.start client ts) f.underway_is g) f.done
-gave_step lists s client ts (Check Going tallies) g reply = g
-gave_step lists s client ts (Check NoneGoing tallies) g reply = g
-gave_step lists s client ts (Close (Ok done)) g reply = record { low = g.low; are = g.are; now = g.now }
-gave_step lists s client ts (Close (Err r)) g reply = g
+gave_step s client ts (Check Going tallies) g reply = g
+gave_step s client ts (Check NoneGoing tallies) g reply = g
+gave_step s client ts (Close (Ok done)) g reply = record { low = g.low; are = g.are; now = g.now }
+gave_step s client ts (Close (Err r)) g reply = g
 
 -- A call by another caller leaves the turns.
 
@@ -426,14 +458,28 @@ own_or_other by client x rest P alone own other =
     (λ h e. other (not_own (is_of_client client x.1) (λ is. eqb-false x.0 by e (alone is))))
     refl
 
-pub gave_all : (lists : CalledLists) (s : EngineState) (by client : ℕ) (h : EngineHistory) (ts : List MemberTurn) → IsLegalEngine s h → SpeaksFor by client h → Gave s client ts
+pub gave_all : (s : EngineState) (by client : ℕ) (h : EngineHistory) (ts : List MemberTurn) → IsLegalEngine s h → SpeaksFor by client h → Gave s client ts
     → Gave (engine_replay s h) client (fold (turns_with client) ts (entries_by by h))
-gave_all lists s by client [] ts legal alone g = g
-gave_all lists s by client (x ∷ h) ts legal alone g =
-    let next : Gave (engine_after s x.1) client (turns_with client ts x.1) = gave_step lists s client ts x.1 g legal.1 in
+gave_all s by client [] ts legal alone g = g
+gave_all s by client (x ∷ h) ts legal alone g =
+    let next : Gave (engine_after s x.1) client (turns_with client ts x.1) = gave_step s client ts x.1 g legal.1 in
     own_or_other by client x h (λ es. Gave (engine_replay (engine_after s x.1) h) client (fold (turns_with client) ts es)) alone.0
-    (gave_all lists (engine_after s x.1) by client h (turns_with client ts x.1) legal.2 alone.1 next)
-    (λ not. gave_all lists (engine_after s x.1) by client h ts legal.2 alone.1 (subst (Gave (engine_after s x.1) client) (other_step s client ts x.1 g legal.1 not) next))
+    (gave_all (engine_after s x.1) by client h (turns_with client ts x.1) legal.2 alone.1 next)
+    (λ not. gave_all (engine_after s x.1) by client h ts legal.2 alone.1 (subst (Gave (engine_after s x.1) client) (other_step s client ts x.1 g legal.1 not) next))
+
+-- what each call keeps that is no begin and no Done, all of them keep
+pub kept_all : (by client : ℕ) (K : List MemberTurn → EngineState → Type 0)
+    → ((ts : List MemberTurn) (s : EngineState) (e : EngineEntry) → Gave s client ts → is_mark e ≡ false → IsEngineReply s e → K ts s → K (turns_with client ts e) (engine_after s e))
+    → (ts : List MemberTurn) (s : EngineState) (h : EngineHistory) → IsLegalEngine s h → SpeaksFor by client h → HasNoMark h → Gave s client ts → K ts s → K (fold (turns_with client) ts (entries_by by h)) (engine_replay s h)
+kept_all by client K step ts s [] legal alone marks g kept = kept
+kept_all by client K step ts s (x ∷ h) legal alone marks g kept =
+    let next : Gave (engine_after s x.1) client (turns_with client ts x.1) = gave_step s client ts x.1 g legal.1 in
+    let kept_next : K (turns_with client ts x.1) (engine_after s x.1) = step ts s x.1 g marks.0 legal.1 kept in
+    own_or_other by client x h (λ es. K (fold (turns_with client) ts es) (engine_replay (engine_after s x.1) h)) alone.0
+    (kept_all by client K step (turns_with client ts x.1) (engine_after s x.1) h legal.2 alone.1 marks.1 next kept_next)
+    (λ not. let same : turns_with client ts x.1 ≡ ts = other_step s client ts x.1 g legal.1 not in
+    kept_all by client K step ts (engine_after s x.1) h legal.2 alone.1 marks.1 (subst (Gave (engine_after s x.1) client) same next)
+    (subst (λ (y : List MemberTurn). K y (engine_after s x.1)) same kept_next))
 
 pub opening_gave : (client : ℕ) → Gave engine_opening client []
 opening_gave client = record {
@@ -442,5 +488,5 @@ opening_gave client = record {
   now = record { of_run = λ on. absurd (on refl); none = tt };
 }
 
-pub gives_engine_turns : CalledLists → GivesEngineTurns
-gives_engine_turns lists by client h legal alone = (gave_all lists engine_opening by client h [] legal alone (opening_gave client)).are
+pub gives_engine_turns : GivesEngineTurns
+gives_engine_turns by client h legal alone = (gave_all engine_opening by client h [] legal alone (opening_gave client)).are

@@ -1,3 +1,4 @@
+pub mod Standing
 pub mod Replies
 pub mod TurnLists
 pub mod Gave
@@ -8,5 +9,7 @@ pub mod Tallied
 pub mod Completed
 pub mod CalledOff
 pub mod NosRefuse
+pub mod Lone
+pub mod LoneNos
 pub mod RunsOver
 pub mod MainCalls

@@ -1,6 +1,5 @@
--- Where the caller of a client answered No to its turn of a start, the Done of that start says so: from the first No on a start
--- is called off, and no turn of it is given.
-use Rattle.std.specs.Prelude.{◌≡◌, ℕ, suc, ◌≤◌, ◌<◌, ◌==◌, ◌&&◌, Bool, true, false, if◌then◌else◌, List, [], ◌∷◌, ◌++◌, fold, Option, Some, None, Ok, Err, refl}
+-- Where the caller of a client answered No to its turn of a start, the Done of that start says that it was refused.
+use Rattle.std.specs.Prelude.{◌≡◌, ℕ, suc, ◌≤◌, ◌<◌, ◌==◌, Bool, true, false, if◌then◌else◌, List, [], ◌∷◌, ◌++◌, fold, Option, Some, None, Ok, Err, refl}
 use Rattle.std.proofs.Common.{ap, sym, ◌∙◌, subst, arith, inl, inr}
 use Rattle.std.proofs.lemmas.Bool.{eqb-true}
 use Rattle.daq_types.specs.Callers.{entries_by}
@@ -8,45 +7,47 @@ use Rattle.daq_types.specs.declared.runs.Order.{Order}
 use Rattle.daq_types.specs.declared.runs.RunState.{RunState}
 use Rattle.daq_types.specs.declared.runs.StartOutcome.{StartOutcome}
 use Rattle.daq_types.specs.declared.runs.StartOutcome.TheVariants.{Refused}
-use Rattle.daq_types.specs.declared.runs.Transition.{Transition}
 use Rattle.daq_types.specs.declared.runs.Transition.TheVariants.{Start}
 use Rattle.daq_types.specs.declared.runs.Why.{Why}
+use Rattle.buffer_core.proofs.SlotLaws.{split}
 use Rattle.transitions.specs.declared.client.Registered.{Registered}
 use Rattle.transitions.specs.declared.answers.Answer.{Answer as ClientAnswer}
 use Rattle.transitions.specs.declared.answers.Answer.TheVariants.{Yes, No}
-use Rattle.transitions.specs.declared.answers.Tally.TheVariants.{Plain}
 use Rattle.transitions.specs.declared.engine.Refusal.{Refusal}
 use Rattle.transitions.specs.declared.replies.Polled.TheVariants.{Turn, Idle, Closed as PollClosed, NoClient}
 use Rattle.transitions.specs.declared.replies.Progress.TheVariants.{Going, Done, None as NoneGoing}
 use Rattle.transitions.specs.declared.entry.EngineEntry.{EngineEntry}
 use Rattle.transitions.specs.declared.entry.EngineEntry.TheVariants.{Register, Begin, Poll, Answer, Check, Close}
 use Rattle.transitions.specs.Engines.{Underway, EngineState, engine_opening}
-use Rattle.transitions.specs.EngineCalls.{turn_kind, turn_of, is_start, is_next, begun, polled_by, told, refused_by, answered_by, after_poll_by, after_answer_in, outcome_of, IsEngineReply, engine_after}
+use Rattle.transitions.specs.EngineCalls.{turn_of, is_start, has_polled, begun, first_polled, polled_by, first_refusal, answered_by, after_poll_by, after_answer_in, outcome_of, IsEngineReply, engine_after}
 use Rattle.transitions.specs.EngineHistories.{EngineHistory, IsLegalEngine, engine_replay}
 use Rattle.transitions.specs.GivenTurns.{SpeaksFor}
-use Rattle.transitions.specs.Marks.{is_mark, HasNoMark}
+use Rattle.transitions.specs.Marks.{is_mark}
 use Rattle.member_model.specs.Turns.{MemberTurn, HasTurn}
 use Rattle.member_model.specs.TurnCalls.{turn_told, turn_answered, turns_with, member_turns}
+use Rattle.transitions.specs.declared.answers.ClientTally.{ClientTally}
+use Rattle.transitions.specs.declared.sheet.Sheet.{Sheet}
+use Rattle.engine_laws.specs.BegunTurns.{HasTransition}
 use Rattle.engine_laws.specs.EngineLaws.{NosAreRefusals}
-use Rattle.engine_laws.proofs.Replies.{Begins, begins, GivesTurn, gives_turn, Owes, owes, owes_none, Finishes, finishes}
-use Rattle.engine_laws.proofs.TurnLists.{with_answer}
-use Rattle.engine_laws.proofs.Gave.{OpenFor, CalledLists, Gave, GaveAt, gave_step, gave_all, gave_unaccepted, other_step, own_or_other, opening_gave}
+use Rattle.engine_laws.proofs.Replies.{Begins, begins, GivesTurn, gives_turn, Owes, owes, owes_none, Refuses, answered_case, Finishes, finishes}
+use Rattle.engine_laws.proofs.TurnLists.{HaveUpTo, with_answer}
+use Rattle.engine_laws.proofs.Gave.{OpenFor, Gave, GaveAt, gave_step, gave_all, kept_all, gave_unaccepted, other_step, own_or_other, opening_gave}
 use Rattle.engine_laws.proofs.Begun.{told_source, polled_underway, answered_underway}
 use Rattle.engine_laws.proofs.Tallied.{legal_apart, speaks_apart, same_underway, turns_apart, turns_begin}
 
 -- The turns.
 
 -- the turn is of the start with this number, and was answered No for this reason
-record IsNo (start : ℕ) (t : MemberTurn) (why : Why) : Type 0 where
-  starts : t.transition ≡ Start
-  of : t.order.start ≡ start
-  answered : t.answer ≡ Some (No why)
+pub record IsNo (start : ℕ) (t : MemberTurn) (why : Why) : Type 0 where
+  pub starts : t.transition ≡ Start
+  pub of : t.order.start ≡ start
+  pub answered : t.answer ≡ Some (No why)
 
 -- what is said of each No to this start
-abbrev NosSaid : (start : ℕ) → (said : Why → Type 0) → List MemberTurn → Type 0
+abbrev pub NosSaid : (start : ℕ) → (said : Why → Type 0) → List MemberTurn → Type 0
 NosSaid start said ts = (t : MemberTurn) (why : Why) → HasTurn ts t → IsNo start t why → said why
 
-nos_polled : (start : ℕ) (said : Why → Type 0) (ts : List MemberTurn) (x : MemberTurn) → x.answer ≡ None → NosSaid start said ts → (mine : Bool) → NosSaid start said (if mine then turn_told ts x else ts)
+pub nos_polled : (start : ℕ) (said : Why → Type 0) (ts : List MemberTurn) (x : MemberTurn) → x.answer ≡ None → NosSaid start said ts → (mine : Bool) → NosSaid start said (if mine then turn_told ts x else ts)
 nos_polled start said ts x unanswered nos false t why has refuses = nos t why has refuses
 nos_polled start said ts x unanswered nos true t why has refuses = elim (told_source ts x t has) as (λ w. said why) [
   | inl before ↦ nos t why before refuses
@@ -68,23 +69,23 @@ nos_answered start said next ts u answer still keeps new nos t why has refuses =
       | inr before ↦ keeps why (nos t why (subst (λ (xs : List MemberTurn). HasTurn xs t) (sym still.2) (inr before)) refuses)
     ]
 
-open_for : (client other : ℕ) (ts : List MemberTurn) (state : RunState) (low : ℕ) (u : Underway) → GaveAt state low client ts (Some u) → u.has_polled ≡ true → is_next u.called other ≡ true → (other == client) ≡ true → OpenFor true u ts
-open_for client other ts state low u g polled front same =
-    let mine : is_next u.called client ≡ true = subst (λ (n : ℕ). is_next u.called n ≡ true) (eqb-true other client same) front in
-    subst (λ (b : Bool). OpenFor b u ts) mine (subst (λ (b : Bool). OpenFor (b && is_next u.called client) u ts) polled g.now.open_turn)
-
 -- so it is behind any answer that the engine takes
-nos_taken : (start client other : ℕ) (said next : Why → Type 0) (ts : List MemberTurn) (state : RunState) (low : ℕ) (u : Underway) (answer : ClientAnswer) → GaveAt state low client ts (Some u) → u.has_polled ≡ true → is_next u.called other ≡ true
-    → ((why : Why) → said why → next why) → ((why : Why) → other ≡ client → answer ≡ No why → is_start (turn_of u) ≡ true → u.order.start ≡ start → next why)
-    → NosSaid start said ts → (mine : Bool) → (other == client) ≡ mine → NosSaid start next (if mine then turn_answered ts answer else ts)
-nos_taken start client other said next ts state low u answer g polled front keeps new nos false not = λ t why has refuses. keeps why (nos t why has refuses)
-nos_taken start client other said next ts state low u answer g polled front keeps new nos true same =
-    nos_answered start said next ts u answer (open_for client other ts state low u g polled front same) keeps (λ why is starts of. new why (eqb-true other client same) is starts of) nos
+pub nos_taken : (start client other : ℕ) (said next : Why → Type 0) (ts : List MemberTurn) (state : RunState) (low : ℕ) (u : Underway) (answer : ClientAnswer) → GaveAt state low client ts (Some u) → has_polled u other ≡ true
+    → ((why : Why) → said why → next why) → ((why : Why) → other ≡ client → Refuses u answer why → u.order.start ≡ start → next why)
+    → NosSaid start said ts → NosSaid start next (if other == client then turn_answered ts answer else ts)
+nos_taken start client other said next ts state low u answer g polled keeps new nos =
+    split (other == client) (λ b. (other == client) ≡ b → NosSaid start next (if b then turn_answered ts answer else ts))
+    (λ h same.
+    let mine : other ≡ client = eqb-true other client same in
+    let still : OpenFor true u ts = subst (λ (b : Bool). OpenFor b u ts) (subst (λ (n : ℕ). has_polled u n ≡ true) mine polled) g.now.open_turn in
+    nos_answered start said next ts u answer still keeps (λ why is starts of. new why mine (record { is = is; starts = starts }) of) nos)
+    (λ h not t why has refuses. keeps why (nos t why has refuses))
+    refl
 
 -- The engine.
 
 -- the start number never falls
-start_grows : (s : EngineState) (e : EngineEntry) → IsEngineReply s e → s.start ≤ (engine_after s e).start
+pub start_grows : (s : EngineState) (e : EngineEntry) → IsEngineReply s e → s.start ≤ (engine_after s e).start
 start_grows s (Register name sequences dump report (Ok n)) reply = omega arith
 start_grows s (Register name sequences dump report (Err r)) reply = omega arith
 start_grows s (Begin t sheet (Ok n)) reply = grown (is_start t) n (begins s t n reply).number
@@ -95,7 +96,7 @@ start_grows s (Begin t sheet (Ok n)) reply = grown (is_start t) n (begins s t n 
 start_grows s (Begin t sheet (Err r)) reply = omega arith
 start_grows s (Poll other (Turn turn order dump blank)) reply =
     let p : GivesTurn s other turn order dump = gives_turn s other turn order dump blank reply in
-    let same : (engine_after s (Poll other (Turn turn order dump blank))).start ≡ s.start = ap (λ (o : Option Registered). (after_poll_by s o).start) p.client_is in
+    let same : (engine_after s (Poll other (Turn turn order dump blank))).start ≡ s.start = ap (λ (o : Option Registered). (after_poll_by s other o).start) p.client_is in
     omega (arith, same)
 start_grows s (Poll other (Idle state)) reply = omega arith
 start_grows s (Poll other PollClosed) reply = omega arith
@@ -111,52 +112,60 @@ start_grows s (Check NoneGoing tallies) reply = omega arith
 start_grows s (Close (Ok done)) reply = omega arith
 start_grows s (Close (Err r)) reply = omega arith
 
--- a start that was refused gives no turn of a start
-refused_starts_none : (t : Transition) (r : Option Refusal) (refusal : Refusal) → r ≡ Some refusal → is_start (turn_kind t r) ≡ true → ⊥
-refused_starts_none t None refusal is starts = cc (is)
-refused_starts_none t (Some other) refusal is starts = cc (starts)
-
 -- what an answer leaves of the transition
 record Answered (u later : Underway) : Type 0 where
   order : later.order ≡ u.order
   starts : is_start (turn_of later) ≡ true → is_start (turn_of u) ≡ true
 
 answered_so : (clients : List Registered) (other : ℕ) (answer : ClientAnswer) (u : Underway) → Answered u (answered_by clients other answer u)
-answered_so clients other (Yes tally) u = record { order = refl; starts = λ e. e }
-answered_so clients other (No why) u = by_kind (is_start (turn_of u))
-  where
-    by_kind : (starts : Bool) → Answered u (if starts then refused_by clients other why u else told other Plain u)
-    by_kind true = record { order = refl; starts = λ e. absurd (cc (e)) }
-    by_kind false = record { order = refl; starts = λ e. e }
+answered_so clients other answer u =
+    answered_case (Answered u) clients other answer u
+    (λ tally is. record { order = refl; starts = λ e. e }) (λ why is. record { order = refl; starts = λ e. e })
+    (λ v is kept. record { order = kept.order; starts = λ e. absurd (cc (e)) })
 
--- Between the begin and the Done each No to the start is its refusal.
+-- and a poll
+polled_so : (client : ℕ) (c : Registered) (u : Underway) → Answered u (polled_by client c u)
+polled_so client c u =
+    split (has_polled u client) (λ b. Answered u (if b then u else first_polled client c u)) (λ h. record { order = refl; starts = λ e. e }) (λ h. record { order = refl; starts = λ e. e })
 
-abbrev IsRefusalBy : (client : ℕ) → Underway → Why → Type 0
-IsRefusalBy client u why = u.refusal ≡ Some (record { client = client; why = why })
+-- Between the begin and the Done the start of each No is refused.
+
+record IsRefused (u : Underway) : Type 0 where
+  refusal : Refusal
+  is : u.refusal ≡ Some refusal
+
+abbrev SomeRefuses : Underway → Why → Type 0
+SomeRefuses u why = IsRefused u
 
 record NosGoing (client start : ℕ) (ts : List MemberTurn) (s : EngineState) : Type 0 where
   u : Underway
   underway_is : s.underway ≡ Some u
   low : start ≤ s.start
-  nos : NosSaid start (IsRefusalBy client u) ts
+  nos : NosSaid start (SomeRefuses u) ts
 
-going_answered : (client other start : ℕ) (ts : List MemberTurn) (state : RunState) (low : ℕ) (u : Underway) (clients : List Registered) (answer : ClientAnswer) → GaveAt state low client ts (Some u) → u.has_polled ≡ true → is_next u.called other ≡ true → NosSaid start (IsRefusalBy client u) ts
-    → NosSaid start (IsRefusalBy client (answered_by clients other answer u)) (if other == client then turn_answered ts answer else ts)
-going_answered client other start ts state low u clients (Yes tally) g polled front nos =
-    nos_taken start client other (IsRefusalBy client u) (IsRefusalBy client u) ts state low u (Yes tally) g polled front (λ why is. is) (λ why mine is. absurd (cc (is))) nos (other == client) refl
-going_answered client other start ts state low u clients (No why) g polled front nos = by_kind (is_start (turn_of u)) refl
-  where
-    by_kind : (starts : Bool) → is_start (turn_of u) ≡ starts → NosSaid start (IsRefusalBy client (if starts then refused_by clients other why u else told other Plain u)) (if other == client then turn_answered ts (No why) else ts)
-    by_kind true starts =
-        nos_taken start client other (IsRefusalBy client u) (IsRefusalBy client (refused_by clients other why u)) ts state low u (No why) g polled front
-        (λ reason is. absurd (refused_starts_none u.transition u.refusal (record { client = client; why = reason }) is starts))
-        (λ reason mine is kind of. let same : why ≡ reason = cc (is) in ap (λ (n : ℕ). Some (record { client = n; why = why })) mine ∙ ap (λ (w : Why). Some (record { client = client; why = w })) same)
-        nos (other == client) refl
-    by_kind false not =
-        nos_taken start client other (IsRefusalBy client u) (IsRefusalBy client u) ts state low u (No why) g polled front
-        (λ reason is. is)
-        (λ reason mine is kind of. absurd (let never : true ≡ false = sym kind ∙ not in cc (never)))
-        nos (other == client) refl
+-- a first reply changes no refusal
+polled_refused : (client : ℕ) (c : Registered) (u : Underway) → IsRefused u → IsRefused (polled_by client c u)
+polled_refused client c u r = split (has_polled u client) (λ b. IsRefused (if b then u else first_polled client c u)) (λ h. r) (λ h. record { refusal = r.refusal; is = r.is })
+
+-- nor does an answer behind the first No
+still_refused : (clients : List Registered) (other : ℕ) (answer : ClientAnswer) (u : Underway) → IsRefused u → IsRefused (answered_by clients other answer u)
+still_refused clients other answer u r =
+    answered_case IsRefused clients other answer u (λ tally is. record { refusal = r.refusal; is = r.is }) (λ why is. record { refusal = first_refusal u.refusal other why; is = refl })
+    (λ v is kept. record { refusal = kept.refusal; is = kept.is })
+
+-- and a No to a start is one
+now_refused : (clients : List Registered) (other : ℕ) (answer : ClientAnswer) (u : Underway) (why : Why) → Refuses u answer why → IsRefused (answered_by clients other answer u)
+now_refused clients other answer u why refuses =
+    answered_case IsRefused clients other answer u
+    (λ tally is. absurd (let both : Yes tally ≡ No why = sym (is.accepted refuses.starts) ∙ refuses.is in cc (both)))
+    (λ reason is. record { refusal = first_refusal u.refusal other reason; is = refl })
+    (λ v is kept. record { refusal = kept.refusal; is = kept.is })
+
+going_answered : (client other start : ℕ) (ts : List MemberTurn) (state : RunState) (low : ℕ) (u : Underway) (clients : List Registered) (answer : ClientAnswer) → GaveAt state low client ts (Some u) → has_polled u other ≡ true → NosSaid start (SomeRefuses u) ts
+    → NosSaid start (SomeRefuses (answered_by clients other answer u)) (if other == client then turn_answered ts answer else ts)
+going_answered client other start ts state low u clients answer g polled nos =
+    nos_taken start client other (SomeRefuses u) (SomeRefuses (answered_by clients other answer u)) ts state low u answer g polled
+    (λ why r. still_refused clients other answer u r) (λ why mine refuses of. now_refused clients other answer u why refuses) nos
 
 going_step : (client start : ℕ) (ts : List MemberTurn) (s : EngineState) (e : EngineEntry) → Gave s client ts → is_mark e ≡ false → IsEngineReply s e → NosGoing client start ts s → NosGoing client start (turns_with client ts e) (engine_after s e)
 going_step client start ts s (Begin t sheet (Ok n)) g mark reply o = absurd (cc (mark))
@@ -165,11 +174,11 @@ going_step client start ts s (Poll other (Turn turn order dump blank)) g mark re
     let p : GivesTurn s other turn order dump = gives_turn s other turn order dump blank reply in
     let grows : s.start ≤ (engine_after s (Poll other (Turn turn order dump blank))).start = start_grows s (Poll other (Turn turn order dump blank)) reply in
     record {
-      u = polled_by p.c p.u;
+      u = polled_by other p.c p.u;
       underway_is = polled_underway s other p.c p.u p.client_is p.underway_is;
       low = omega (arith, grows, o.low);
-      nos = nos_polled start (IsRefusalBy client p.u) ts (record { transition = turn; order = order; dump = dump; answer = None }) refl
-          (subst (λ (u : Underway). NosSaid start (IsRefusalBy client u) ts) (same_underway s o.u p.u o.underway_is p.underway_is) o.nos) (other == client);
+      nos = nos_polled start (SomeRefuses (polled_by other p.c p.u)) ts (record { transition = turn; order = order; dump = dump; answer = None }) refl
+          (λ t why has refuses. polled_refused other p.c p.u (subst IsRefused (same_underway s o.u p.u o.underway_is p.underway_is) (o.nos t why has refuses))) (other == client);
     }
 going_step client start ts s (Answer other answer (Ok done)) g mark reply o =
     let w : Owes s other = owes s other done reply in
@@ -179,8 +188,8 @@ going_step client start ts s (Answer other answer (Ok done)) g mark reply o =
       u = answered_by s.clients other answer w.u;
       underway_is = answered_underway s other answer w.u w.underway_is;
       low = omega (arith, grows, o.low);
-      nos = going_answered client other start ts s.state s.start w.u s.clients answer at w.polled w.front
-          (subst (λ (u : Underway). NosSaid start (IsRefusalBy client u) ts) (same_underway s o.u w.u o.underway_is w.underway_is) o.nos);
+      nos = going_answered client other start ts s.state s.start w.u s.clients answer at w.polled
+          (subst (λ (u : Underway). NosSaid start (SomeRefuses u) ts) (same_underway s o.u w.u o.underway_is w.underway_is) o.nos);
     }
 going_step client start ts s (Answer other answer (Err r)) g mark reply o =
     subst (λ (x : List MemberTurn). NosGoing client start x s) (sym (gave_unaccepted s client other ts answer g (owes_none s other r reply))) o
@@ -195,27 +204,15 @@ going_step client start ts s (Check Going tallies) g mark reply o = o
 going_step client start ts s (Check NoneGoing tallies) g mark reply o = o
 going_step client start ts s (Close (Err r)) g mark reply o = o
 
-going_all : (lists : CalledLists) (start by client : ℕ) (ts : List MemberTurn) (s : EngineState) (h : EngineHistory) → IsLegalEngine s h → SpeaksFor by client h → HasNoMark h → Gave s client ts → NosGoing client start ts s
-    → NosGoing client start (fold (turns_with client) ts (entries_by by h)) (engine_replay s h)
-going_all lists start by client ts s [] legal alone marks g o = o
-going_all lists start by client ts s (x ∷ h) legal alone marks g o =
-    let next : Gave (engine_after s x.1) client (turns_with client ts x.1) = gave_step lists s client ts x.1 g legal.1 in
-    let going : NosGoing client start (turns_with client ts x.1) (engine_after s x.1) = going_step client start ts s x.1 g marks.0 legal.1 o in
-    own_or_other by client x h (λ es. NosGoing client start (fold (turns_with client) ts es) (engine_replay (engine_after s x.1) h)) alone.0
-    (going_all lists start by client (turns_with client ts x.1) (engine_after s x.1) h legal.2 alone.1 marks.1 next going)
-    (λ not. let same : turns_with client ts x.1 ≡ ts = other_step s client ts x.1 g legal.1 not in
-    going_all lists start by client ts (engine_after s x.1) h legal.2 alone.1 marks.1 (subst (Gave (engine_after s x.1) client) same next)
-    (subst (λ (y : List MemberTurn). NosGoing client start y (engine_after s x.1)) same going))
-
 -- Behind the Done no turn of the start is given, and so none is answered.
 
-record NosOver (client start : ℕ) (outcome : StartOutcome) (ts : List MemberTurn) (s : EngineState) : Type 0 where
-  low : start ≤ s.start
-  other : (u : Underway) → s.underway ≡ Some u → is_start (turn_of u) ≡ true → start < u.order.start
-  nos : NosSaid start (λ why. outcome ≡ Refused client why) ts
+pub record NosOver (start : ℕ) (said : Why → Type 0) (ts : List MemberTurn) (s : EngineState) : Type 0 where
+  pub low : start ≤ s.start
+  pub other : (u : Underway) → s.underway ≡ Some u → is_start (turn_of u) ≡ true → start < u.order.start
+  pub nos : NosSaid start said ts
 
-over_step : (client start : ℕ) (outcome : StartOutcome) (ts : List MemberTurn) (s : EngineState) (e : EngineEntry) → Gave s client ts → IsEngineReply s e → NosOver client start outcome ts s → NosOver client start outcome (turns_with client ts e) (engine_after s e)
-over_step client start outcome ts s (Begin t sheet (Ok n)) g reply o =
+over_step : (client start : ℕ) (said : Why → Type 0) (ts : List MemberTurn) (s : EngineState) (e : EngineEntry) → Gave s client ts → IsEngineReply s e → NosOver start said ts s → NosOver start said (turns_with client ts e) (engine_after s e)
+over_step client start said ts s (Begin t sheet (Ok n)) g reply o =
     let grows : s.start ≤ n = start_grows s (Begin t sheet (Ok n)) reply in
     record {
       low = omega (arith, grows, o.low);
@@ -227,20 +224,21 @@ over_step client start outcome ts s (Begin t sheet (Ok n)) g reply o =
           omega (arith, number, of, o.low);
       nos = o.nos;
     }
-over_step client start outcome ts s (Poll other (Turn turn order dump blank)) g reply o =
+over_step client start said ts s (Poll other (Turn turn order dump blank)) g reply o =
     let p : GivesTurn s other turn order dump = gives_turn s other turn order dump blank reply in
     let grows : s.start ≤ (engine_after s (Poll other (Turn turn order dump blank))).start = start_grows s (Poll other (Turn turn order dump blank)) reply in
     record {
       low = omega (arith, grows, o.low);
       other = λ u is starts.
-          let both : Some (polled_by p.c p.u) ≡ Some u = sym (polled_underway s other p.c p.u p.client_is p.underway_is) ∙ is in
-          let same : polled_by p.c p.u ≡ u = cc (both) in
-          let kind : is_start (turn_of p.u) ≡ true = ap (λ (v : Underway). is_start (turn_of v)) same ∙ starts in
-          let of : p.u.order.start ≡ u.order.start = ap (λ (v : Underway). v.order.start) same in
+          let both : Some (polled_by other p.c p.u) ≡ Some u = sym (polled_underway s other p.c p.u p.client_is p.underway_is) ∙ is in
+          let same : polled_by other p.c p.u ≡ u = cc (both) in
+          let so : Answered p.u (polled_by other p.c p.u) = polled_so other p.c p.u in
+          let kind : is_start (turn_of p.u) ≡ true = so.starts (ap (λ (v : Underway). is_start (turn_of v)) same ∙ starts) in
+          let of : p.u.order.start ≡ u.order.start = ap (λ (x : Order). x.start) (sym so.order) ∙ ap (λ (v : Underway). v.order.start) same in
           omega (arith, o.other p.u p.underway_is kind, of);
-      nos = nos_polled start (λ why. outcome ≡ Refused client why) ts (record { transition = turn; order = order; dump = dump; answer = None }) refl o.nos (other == client);
+      nos = nos_polled start said ts (record { transition = turn; order = order; dump = dump; answer = None }) refl o.nos (other == client);
     }
-over_step client start outcome ts s (Answer other answer (Ok done)) g reply o =
+over_step client start said ts s (Answer other answer (Ok done)) g reply o =
     let w : Owes s other = owes s other done reply in
     let at : GaveAt s.state s.start client ts (Some w.u) = subst (GaveAt s.state s.start client ts) w.underway_is g in
     let grows : s.start ≤ (engine_after s (Answer other answer (Ok done))).start = start_grows s (Answer other answer (Ok done)) reply in
@@ -254,36 +252,34 @@ over_step client start outcome ts s (Answer other answer (Ok done)) g reply o =
           let kind : is_start (turn_of w.u) ≡ true = so.starts (ap (λ (v : Underway). is_start (turn_of v)) same ∙ starts) in
           let of : w.u.order.start ≡ u.order.start = ap (λ (x : Order). x.start) (sym so.order) ∙ ap (λ (v : Underway). v.order.start) same in
           omega (arith, o.other w.u w.underway_is kind, of);
-      nos = nos_taken start client other (λ why. outcome ≡ Refused client why) (λ why. outcome ≡ Refused client why) ts s.state s.start w.u answer at w.polled w.front
-          (λ why is. is)
-          (λ why mine is kind of. absurd (omega (arith, o.other w.u w.underway_is kind, of)))
-          o.nos (other == client) refl;
+      nos = nos_taken start client other said said ts s.state s.start w.u answer at w.polled
+          (λ why is. is) (λ why mine refuses of. absurd (omega (arith, o.other w.u w.underway_is refuses.starts, of))) o.nos;
     }
-over_step client start outcome ts s (Answer other answer (Err r)) g reply o =
-    subst (λ (x : List MemberTurn). NosOver client start outcome x s) (sym (gave_unaccepted s client other ts answer g (owes_none s other r reply))) o
-over_step client start outcome ts s (Check (Done later) tallies) g reply o = record { low = o.low; other = λ u is. absurd (cc (is)); nos = o.nos }
-over_step client start outcome ts s (Register name sequences dump report (Ok n)) g reply o = record { low = o.low; other = o.other; nos = o.nos }
-over_step client start outcome ts s (Close (Ok done)) g reply o = record { low = o.low; other = o.other; nos = o.nos }
-over_step client start outcome ts s (Register name sequences dump report (Err r)) g reply o = o
-over_step client start outcome ts s (Begin t sheet (Err r)) g reply o = o
-over_step client start outcome ts s (Poll other (Idle state)) g reply o = o
-over_step client start outcome ts s (Poll other PollClosed) g reply o = o
-over_step client start outcome ts s (Poll other NoClient) g reply o = o
-over_step client start outcome ts s (Check Going tallies) g reply o = o
-over_step client start outcome ts s (Check NoneGoing tallies) g reply o = o
-over_step client start outcome ts s (Close (Err r)) g reply o = o
+over_step client start said ts s (Answer other answer (Err r)) g reply o =
+    subst (λ (x : List MemberTurn). NosOver start said x s) (sym (gave_unaccepted s client other ts answer g (owes_none s other r reply))) o
+over_step client start said ts s (Check (Done later) tallies) g reply o = record { low = o.low; other = λ u is. absurd (cc (is)); nos = o.nos }
+over_step client start said ts s (Register name sequences dump report (Ok n)) g reply o = record { low = o.low; other = o.other; nos = o.nos }
+over_step client start said ts s (Close (Ok done)) g reply o = record { low = o.low; other = o.other; nos = o.nos }
+over_step client start said ts s (Register name sequences dump report (Err r)) g reply o = o
+over_step client start said ts s (Begin t sheet (Err r)) g reply o = o
+over_step client start said ts s (Poll other (Idle state)) g reply o = o
+over_step client start said ts s (Poll other PollClosed) g reply o = o
+over_step client start said ts s (Poll other NoClient) g reply o = o
+over_step client start said ts s (Check Going tallies) g reply o = o
+over_step client start said ts s (Check NoneGoing tallies) g reply o = o
+over_step client start said ts s (Close (Err r)) g reply o = o
 
-over_all : (lists : CalledLists) (start by client : ℕ) (outcome : StartOutcome) (ts : List MemberTurn) (s : EngineState) (h : EngineHistory) → IsLegalEngine s h → SpeaksFor by client h → Gave s client ts → NosOver client start outcome ts s
-    → NosOver client start outcome (fold (turns_with client) ts (entries_by by h)) (engine_replay s h)
-over_all lists start by client outcome ts s [] legal alone g o = o
-over_all lists start by client outcome ts s (x ∷ h) legal alone g o =
-    let next : Gave (engine_after s x.1) client (turns_with client ts x.1) = gave_step lists s client ts x.1 g legal.1 in
-    let over : NosOver client start outcome (turns_with client ts x.1) (engine_after s x.1) = over_step client start outcome ts s x.1 g legal.1 o in
-    own_or_other by client x h (λ es. NosOver client start outcome (fold (turns_with client) ts es) (engine_replay (engine_after s x.1) h)) alone.0
-    (over_all lists start by client outcome (turns_with client ts x.1) (engine_after s x.1) h legal.2 alone.1 next over)
+pub over_all : (start by client : ℕ) (said : Why → Type 0) (ts : List MemberTurn) (s : EngineState) (h : EngineHistory) → IsLegalEngine s h → SpeaksFor by client h → Gave s client ts → NosOver start said ts s
+    → NosOver start said (fold (turns_with client) ts (entries_by by h)) (engine_replay s h)
+over_all start by client said ts s [] legal alone g o = o
+over_all start by client said ts s (x ∷ h) legal alone g o =
+    let next : Gave (engine_after s x.1) client (turns_with client ts x.1) = gave_step s client ts x.1 g legal.1 in
+    let over : NosOver start said (turns_with client ts x.1) (engine_after s x.1) = over_step client start said ts s x.1 g legal.1 o in
+    own_or_other by client x h (λ es. NosOver start said (fold (turns_with client) ts es) (engine_replay (engine_after s x.1) h)) alone.0
+    (over_all start by client said (turns_with client ts x.1) (engine_after s x.1) h legal.2 alone.1 next over)
     (λ not. let same : turns_with client ts x.1 ≡ ts = other_step s client ts x.1 g legal.1 not in
-    over_all lists start by client outcome ts (engine_after s x.1) h legal.2 alone.1 (subst (Gave (engine_after s x.1) client) same next)
-    (subst (λ (y : List MemberTurn). NosOver client start outcome y (engine_after s x.1)) same over))
+    over_all start by client said ts (engine_after s x.1) h legal.2 alone.1 (subst (Gave (engine_after s x.1) client) same next)
+    (subst (λ (y : List MemberTurn). NosOver start said y (engine_after s x.1)) same over))
 
 -- The law.
 
@@ -292,8 +288,16 @@ turns_check : (by client : ℕ) (ts : List MemberTurn) (closer : ℕ) (outcome :
 turns_check by client ts closer outcome tallies ys =
     own_or_other by client (closer, Check (Done outcome) tallies) ys (λ es. fold (turns_with client) ts es ≡ fold (turns_with client) ts (entries_by by ys)) (λ (is : false ≡ true). absurd (cc (is))) refl (λ not. refl)
 
-pub nos_are_refusals : CalledLists → NosAreRefusals
-nos_are_refusals lists by client history legal alone sheet start outcome tallies has turn stands starts of why answered =
+-- What is kept from the begin of a start to its Done tells of each No to it at the history's end: behind the Done no turn of the
+-- start is given, and so none is answered.
+pub start_law : (by client : ℕ) (history : EngineHistory) → IsLegalEngine engine_opening history → SpeaksFor by client history → (sheet : Sheet) (start : ℕ) (outcome : StartOutcome) (tallies : List ClientTally)
+    → (has : HasTransition history Start sheet start outcome tallies) → (K : List MemberTurn → EngineState → Type 0) → (said : Why → Type 0)
+    → (IsLegalEngine engine_opening has.earlier → (ts : List MemberTurn) → Begins (engine_replay engine_opening has.earlier) Start start → HaveUpTo (engine_replay engine_opening has.earlier).start ts
+    → K ts (engine_after (engine_replay engine_opening has.earlier) (Begin Start sheet (Ok start))))
+    → ((ts : List MemberTurn) (s : EngineState) (e : EngineEntry) → Gave s client ts → is_mark e ≡ false → IsEngineReply s e → K ts s → K (turns_with client ts e) (engine_after s e))
+    → ((ts : List MemberTurn) (s : EngineState) → IsEngineReply s (Check (Done outcome) tallies) → K ts s → (start ≤ s.start) × NosSaid start said ts)
+    → NosSaid start said (member_turns client (entries_by by history))
+start_law by client history legal alone sheet start outcome tallies has K said opens step ends =
     let begin : ℕ × EngineEntry = (has.opener, Begin Start sheet (Ok start)) in
     let done : ℕ × EngineEntry = (has.closer, Check (Done outcome) tallies) in
     let rest : EngineHistory = has.between ++ done ∷ has.later in
@@ -307,31 +311,43 @@ nos_are_refusals lists by client history legal alone sheet start outcome tallies
     let speaks_later = speaks_apart by client has.between (done ∷ has.later) speaks.1.1 in
     let ts1 : List MemberTurn = fold (turns_with client) [] (entries_by by has.earlier) in
     let ts2 : List MemberTurn = fold (turns_with client) ts1 (entries_by by has.between) in
-    let g1 : Gave s1 client ts1 = gave_all lists engine_opening by client has.earlier [] first.0 speaks.0 (opening_gave client) in
-    let g2 : Gave s2 client ts1 = gave_step lists s1 client ts1 begin.1 g1 first.1.1 in
-    let g3 : Gave s3 client ts2 = gave_all lists s2 by client has.between ts1 second.0 speaks_later.0 g2 in
-    let g4 : Gave s4 client ts2 = gave_step lists s3 client ts2 done.1 g3 second.1.1 in
-    let b : Begins s1 Start start = begins s1 Start start first.1.1 in
-    let number : start ≡ suc s1.start = b.number in
-    let opens : NosGoing client start ts1 s2 = record {
-      u = begun s1 Start sheet start;
-      underway_is = refl;
-      low = omega arith;
-      nos = λ t reason there refuses. absurd (omega (arith, g1.low t there, number, refuses.of));
-    } in
-    let last : NosGoing client start ts2 s3 = going_all lists start by client ts1 s2 has.between second.0 speaks_later.0 has.on g2 opens in
-    let f : Finishes s3 outcome = finishes s3 outcome second.1.1.0 in
-    let over : NosOver client start outcome ts2 s4 = record {
-      low = last.low;
-      other = λ u is. absurd (cc (is));
-      nos = λ t reason there refuses.
-          let refusal : f.u.refusal ≡ Some (record { client = client; why = reason }) = ap (λ (u : Underway). u.refusal) (same_underway s3 f.u last.u f.underway_is last.underway_is) ∙ last.nos t reason there refuses in
-          f.outcome_is ∙ ap outcome_of refusal;
-    } in
-    let end : NosOver client start outcome (fold (turns_with client) ts2 (entries_by by has.later)) (engine_replay s4 has.later) = over_all lists start by client outcome ts2 s4 has.later second.1.2 speaks_later.1.1 g4 over in
+    let g1 : Gave s1 client ts1 = gave_all engine_opening by client has.earlier [] first.0 speaks.0 (opening_gave client) in
+    let g2 : Gave s2 client ts1 = gave_step s1 client ts1 begin.1 g1 first.1.1 in
+    let g3 : Gave s3 client ts2 = gave_all s2 by client has.between ts1 second.0 speaks_later.0 g2 in
+    let g4 : Gave s4 client ts2 = gave_step s3 client ts2 done.1 g3 second.1.1 in
+    let kept : K ts2 s3 = kept_all by client K step ts1 s2 has.between second.0 speaks_later.0 has.on g2 (opens first.0 ts1 (begins s1 Start start first.1.1) g1.low) in
+    let last = ends ts2 s3 second.1.1 kept in
+    let over : NosOver start said ts2 s4 = record { low = last.0; other = λ u is. absurd (cc (is)); nos = last.1 } in
+    let end : NosOver start said (fold (turns_with client) ts2 (entries_by by has.later)) (engine_replay s4 has.later) = over_all start by client said ts2 s4 has.later second.1.2 speaks_later.1.1 g4 over in
     let turns_are : member_turns client (entries_by by history) ≡ fold (turns_with client) ts2 (entries_by by has.later) =
     ap (λ (h : EngineHistory). member_turns client (entries_by by h)) has.whole
     ∙ (turns_apart by client [] has.earlier (begin ∷ rest)
     ∙ (turns_begin by client ts1 has.opener Start sheet start rest
     ∙ (turns_apart by client ts1 has.between (done ∷ has.later) ∙ turns_check by client ts2 has.closer outcome tallies has.later))) in
-    end.nos turn why (subst (λ (xs : List MemberTurn). HasTurn xs turn) turns_are stands) (record { starts = starts; of = of; answered = answered })
+    subst (NosSaid start said) (sym turns_are) end.nos
+
+-- no turn before the begin is of this start
+pub none_before : (start low : ℕ) (said : Why → Type 0) (ts : List MemberTurn) → start ≡ suc low → HaveUpTo low ts → NosSaid start said ts
+none_before start low said ts number up_to t why has refuses = absurd (omega (arith, up_to t has, number, refuses.of))
+
+abbrev IsRefusal : StartOutcome → Type 0
+IsRefusal outcome = (refuser : ℕ) × (reason : Why) × (outcome ≡ Refused refuser reason)
+
+pub nos_are_refusals : NosAreRefusals
+nos_are_refusals by client history legal alone sheet start outcome tallies has turn stands starts of why answered =
+    start_law by client history legal alone sheet start outcome tallies has (NosGoing client start) (λ reason. IsRefusal outcome) opens (going_step client start) ends turn why stands (record { starts = starts; of = of; answered = answered })
+  where
+    opens : IsLegalEngine engine_opening has.earlier → (ts : List MemberTurn) → Begins (engine_replay engine_opening has.earlier) Start start → HaveUpTo (engine_replay engine_opening has.earlier).start ts
+        → NosGoing client start ts (engine_after (engine_replay engine_opening has.earlier) (Begin Start sheet (Ok start)))
+    opens past ts b low =
+        let u : Underway = begun (engine_replay engine_opening has.earlier) Start sheet start in
+        record { u = u; underway_is = refl; low = omega arith; nos = none_before start (engine_replay engine_opening has.earlier).start (SomeRefuses u) ts b.number low }
+
+    ends : (ts : List MemberTurn) (s : EngineState) → IsEngineReply s (Check (Done outcome) tallies) → NosGoing client start ts s → (start ≤ s.start) × NosSaid start (λ reason. IsRefusal outcome) ts
+    ends ts s reply going = (
+      going.low,
+      λ t reason there refuses.
+          let f : Finishes s outcome = finishes s outcome reply.0 in
+          let r : IsRefused f.u = subst IsRefused (same_underway s going.u f.u going.underway_is f.underway_is) (going.nos t reason there refuses) in
+          (r.refusal.client, r.refusal.why, f.outcome_is ∙ ap outcome_of r.is),
+    )

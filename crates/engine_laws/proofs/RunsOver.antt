@@ -1,8 +1,8 @@
 -- A client that is called for each stop and each start-abort is given a start only once all runs before it are over.
-use Rattle.std.specs.Prelude.{◌≡◌, ◌≢◌, ℕ, ◌==◌, ◌&&◌, Bool, true, false, is_some, if◌then◌else◌, List, [], ◌∷◌, ◌++◌, drop, fold, slice_get, Option, Some, None, Ok, Err, refl, ⊤, ◌⊎◌}
+use Rattle.std.specs.Prelude.{◌≡◌, ◌≢◌, ℕ, ◌==◌, Bool, true, false, is_some, if◌then◌else◌, List, [], ◌∷◌, ◌++◌, fold, slice_get, Option, Some, None, Ok, Err, refl, ⊤, ◌⊎◌}
 use Rattle.std.specs.Option.{option_map}
 use Rattle.std.proofs.Common.{ap, sym, ◌∙◌, subst, arith, inl, inr, append_assoc}
-use Rattle.std.proofs.lemmas.Bool.{eqb-true, eqb-false}
+use Rattle.std.proofs.lemmas.Bool.{eqb-true}
 use Rattle.std.proofs.lemmas.Bool.Decides.{eqb_tells}
 use Rattle.daq_types.specs.Callers.{entries_by}
 use Rattle.daq_types.specs.declared.runs.RunState.{RunState}
@@ -10,15 +10,12 @@ use Rattle.daq_types.specs.declared.runs.RunState.TheVariants.{Stopped, Paused, 
 use Rattle.daq_types.specs.declared.runs.Transition.{Transition}
 use Rattle.daq_types.specs.declared.runs.Transition.TheVariants.{Start, Stop, Pause, Resume, StartAbort}
 use Rattle.daq_types.specs.declared.runs.Why.{Why}
-use Rattle.run_states.specs.Sequences.{sequence_for}
 use Rattle.run_states.specs.States.{is_allowed}
 use Rattle.buffer_core.proofs.SlotLaws.{split}
 use Rattle.transitions.specs.declared.client.Registered.{Registered}
 use Rattle.transitions.specs.declared.called.Called.{Called}
 use Rattle.transitions.specs.declared.answers.Answer.{Answer as ClientAnswer}
-use Rattle.transitions.specs.declared.answers.Answer.TheVariants.{Yes, No}
 use Rattle.transitions.specs.declared.answers.Tally.{Tally}
-use Rattle.transitions.specs.declared.answers.Tally.TheVariants.{Plain}
 use Rattle.transitions.specs.declared.engine.Refusal.{Refusal}
 use Rattle.transitions.specs.declared.replies.Polled.TheVariants.{Turn, Idle, Closed as PollClosed, NoClient}
 use Rattle.transitions.specs.declared.replies.Progress.TheVariants.{Going, Done, None as NoneGoing}
@@ -26,7 +23,7 @@ use Rattle.transitions.specs.declared.entry.EngineEntry.{EngineEntry}
 use Rattle.transitions.specs.declared.entry.EngineEntry.TheVariants.{Register, Begin, Poll, Answer, Check, Close}
 use Rattle.transitions.specs.Called.{called_list}
 use Rattle.transitions.specs.Engines.{Underway, EngineState, engine_opening}
-use Rattle.transitions.specs.EngineCalls.{turn_kind, turn_of, is_start, is_next, state_with, polled_by, told, refused_by, answered_by, after_poll_by, after_answer_in, with_underway, IsEngineReply, engine_after}
+use Rattle.transitions.specs.EngineCalls.{turn_kind, turn_of, is_start, stands_in, without, group_of, has_polled, is_next, open_of, state_with, first_polled, polled_by, told, refused_by, is_due_off, called_off, answered_with, answered_by, after_poll_by, after_answer_in, with_underway, IsEngineReply, engine_after}
 use Rattle.transitions.specs.EngineHistories.{EngineHistory, IsLegalEngine, engine_replay}
 use Rattle.transitions.specs.GivenTurns.{SpeaksFor}
 use Rattle.transitions.specs.TurnOrder.{number_with}
@@ -34,25 +31,16 @@ use Rattle.member_model.specs.Turns.{MemberTurn, HasTurn, NoneOpen}
 use Rattle.member_model.specs.TurnCalls.{turn_told, turn_answered, turns_with}
 use Rattle.engine_laws.specs.BegunTurns.{IsRegisteredIn, IsOver, AreOver, ComesLast, StartsComeLast, IsAlwaysCalled}
 use Rattle.engine_laws.specs.EngineLaws.{RunsAreOver}
-use Rattle.engine_laws.proofs.Replies.{Begins, begins, GivesTurn, gives_turn, Owes, owes, owes_none, Finishes, finishes}
-use Rattle.engine_laws.proofs.TurnLists.{IsIn, to_call, front_in, HaveBelow, Phase, with_answer, told_new}
-use Rattle.engine_laws.proofs.Gave.{OpenFor, RunsOn, CalledLists, Gave, GaveAt, not_stopped, gave_step, gave_unaccepted, other_step, own_or_other, opening_gave}
+use Rattle.transitions.proofs.Groups.{settled_not_due}
+use Rattle.transitions.proofs.Tracked.{pushed_not_due}
+use Rattle.engine_laws.proofs.Standing.{first_owes, first_other_called, next_called, open_polled, open_called, first_open, none_open, none_polled, KindFits, start_not_off, due}
+use Rattle.engine_laws.proofs.Replies.{Begins, begins, GivesFirst, IsGiven, given_case, GivesTurn, gives_turn, Owes, owes, owes_none, answered_case, Finishes, finishes}
+use Rattle.engine_laws.proofs.TurnLists.{HaveBelow, Phase, with_answer, told_new}
+use Rattle.engine_laws.proofs.Gave.{OpenFor, RunsOn, Gave, GaveAt, told_again, not_stopped, gave_step, gave_unaccepted, other_step, own_or_other, opening_gave}
 use Rattle.engine_laws.proofs.StateTold.{replay_apart}
 use Rattle.engine_laws.proofs.Tallied.{legal_apart, register_number, polled_clients, answered_clients}
-use Rattle.engine_laws.proofs.Completed.{registered_there, in_called}
-
--- The client is called.
-
-record Listed (k : Transition) (client : ℕ) (clients : List Registered) : Type 0 where
-  c : Registered
-  at : slice_get clients client ≡ Some c
-  sequence : ℕ
-  called : sequence_for c.sequences k ≡ Some sequence
-
-listed_in : (lists : CalledLists) (k : Transition) (client : ℕ) (clients : List Registered) → Listed k client clients → IsIn client (called_list k clients)
-listed_in lists k client clients l =
-    let x : Called = record { client = client; sequence = l.sequence } in
-    in_called x (called_list k clients) (((lists k clients).members x).1 (record { client = l.c; stands = l.at; sequence = l.called }))
+use Rattle.engine_laws.proofs.Begun.{polled_underway, answered_underway}
+use Rattle.engine_laws.proofs.Completed.{CalledLists, Listed, listed_in, registered_listed}
 
 -- Turns.
 
@@ -126,21 +114,23 @@ but_alike ts later start alike but t has starts differs =
 -- What is so while a transition goes on.
 
 -- the client's turn of a stop, or of a start-abort, is to come, or its run is over
-abbrev MayBeOver : (client start : ℕ) → List MemberTurn → (coming : List Called) → Type 0
-MayBeOver client start ts coming = IsIn client coming ⊎ IsOver ts start
+abbrev MayBeOver : (client start : ℕ) → List MemberTurn → (called : List Called) → Type 0
+MayBeOver client start ts called = (stands_in called client ≡ true) ⊎ IsOver ts start
 
-abbrev Held : Transition → Option Refusal → (client start : ℕ) → List MemberTurn → (coming called : List Called) → RunState → Type 0
-Held k (Some refusal) client start ts coming called state = MayBeOver client start ts coming
-Held Start None client start ts coming [] state = state ≢ Stopped
-Held Start None client start ts coming (x ∷ xs) state = ⊤
-Held Stop None client start ts coming called state = MayBeOver client start ts coming
-Held Pause None client start ts coming called state = state ≢ Stopped
-Held Resume None client start ts coming called state = state ≢ Stopped
-Held StartAbort None client start ts coming called state = ⊥
+-- with these clients without a turn, and these yet to answer; nothing while a refused start is not called off
+abbrev Held : Transition → Option Refusal → (is_off : Bool) → (client start : ℕ) → List MemberTurn → (called left : List Called) → RunState → Type 0
+Held k (Some refusal) true client start ts called left state = MayBeOver client start ts called
+Held k (Some refusal) false client start ts called left state = ⊤
+Held Start None is_off client start ts called [] state = state ≢ Stopped
+Held Start None is_off client start ts called (x ∷ xs) state = ⊤
+Held Stop None is_off client start ts called left state = MayBeOver client start ts called
+Held Pause None is_off client start ts called left state = state ≢ Stopped
+Held Resume None is_off client start ts called left state = state ≢ Stopped
+Held StartAbort None is_off client start ts called left state = ⊥
 
 abbrev Stays : RunState → (start client : ℕ) → List MemberTurn → Option Underway → Type 0
 Stays state start client ts None = AreOver ts ⊎ (state ≢ Stopped)
-Stays state start client ts (Some u) = Held u.transition u.refusal client start ts (to_call u.has_polled u.called) u.called state
+Stays state start client ts (Some u) = Held u.transition u.refusal u.is_off client start ts u.called (open_of u) state
 
 record OverAt (state : RunState) (start client : ℕ) (ts : List MemberTurn) (o : Option Underway) : Type 0 where
   but : AreOverBut start ts
@@ -159,9 +149,9 @@ never_aborted Stopped e = cc (e)
 never_aborted Paused e = cc (e)
 never_aborted Running e = cc (e)
 
-begun_start : (client start : ℕ) (ts : List MemberTurn) (coming called : List Called) (state : RunState) → Held Start None client start ts coming called (state_with state Start None called)
-begun_start client start ts coming [] state = λ (e : Running ≡ Stopped). cc (e)
-begun_start client start ts coming (x ∷ xs) state = tt
+begun_start : (client start : ℕ) (ts : List MemberTurn) (is_off : Bool) (called left : List Called) (state : RunState) → Held Start None is_off client start ts called left (state_with state Start None left)
+begun_start client start ts is_off called [] state = λ (e : Running ≡ Stopped). cc (e)
+begun_start client start ts is_off called (x ∷ xs) state = tt
 
 paused_state : (state : RunState) (called : List Called) → state ≢ Stopped → state_with state Pause None called ≢ Stopped
 paused_state state [] on = λ (e : Paused ≡ Stopped). cc (e)
@@ -174,16 +164,16 @@ resumed_state state (x ∷ xs) on = on
 -- what is so behind the begin of a transition
 record BegunOver (k : Transition) (client start : ℕ) (ts : List MemberTurn) (called : List Called) (state : RunState) : Type 0 where
   but : AreOverBut start ts
-  now : Held k None client start ts called called state
+  now : Held k None false client start ts called called state
 
-begun_over : (k : Transition) (state : RunState) (start client n : ℕ) (ts : List MemberTurn) (called : List Called) → is_allowed state k ≡ true → n ≡ number_with k start → (k ≡ Stop → IsIn client called) → AreOverBut start ts → AreOver ts ⊎ (state ≢ Stopped)
+begun_over : (k : Transition) (state : RunState) (start client n : ℕ) (ts : List MemberTurn) (called : List Called) → is_allowed state k ≡ true → n ≡ number_with k start → (k ≡ Stop → stands_in called client ≡ true) → AreOverBut start ts → AreOver ts ⊎ (state ≢ Stopped)
     → BegunOver k client n ts called (state_with state k None called)
 begun_over Start state start client n ts called allowed number listed but rests = record {
   but = λ t has starts differs. elim rests as (λ w. IsOver ts t.order.start) [
     | inl all ↦ all t has starts
     | inr on ↦ absurd (on (started_stopped state allowed))
   ];
-  now = begun_start client n ts called called state;
+  now = begun_start client n ts false called called state;
 }
 begun_over Stop state start client n ts called allowed number listed but rests = record { but = subst (λ (m : ℕ). AreOverBut m ts) (sym number) but; now = inl (listed refl) }
 begun_over Pause state start client n ts called allowed number listed but rests = record {
@@ -198,31 +188,36 @@ begun_over StartAbort state start client n ts called allowed number listed but r
 
 -- Poll.
 
-held_weaker : (k : Transition) (r : Option Refusal) (client start : ℕ) (ts : List MemberTurn) (coming fewer called : List Called) (state : RunState) → (IsIn client coming → IsIn client fewer) → Held k r client start ts coming called state → Held k r client start ts fewer called state
-held_weaker k (Some refusal) client start ts coming fewer called state more held = elim held as (λ w. MayBeOver client start ts fewer) [
+may_more : (client start : ℕ) (ts : List MemberTurn) (called fewer : List Called) → (stands_in called client ≡ true → stands_in fewer client ≡ true) → MayBeOver client start ts called → MayBeOver client start ts fewer
+may_more client start ts called fewer more may = elim may as (λ w. MayBeOver client start ts fewer) [
   | inl is ↦ inl (more is)
   | inr over ↦ inr over
 ]
-held_weaker Start None client start ts coming fewer [] state more held = held
-held_weaker Start None client start ts coming fewer (x ∷ xs) state more held = tt
-held_weaker Stop None client start ts coming fewer called state more held = elim held as (λ w. MayBeOver client start ts fewer) [
-  | inl is ↦ inl (more is)
-  | inr over ↦ inr over
-]
-held_weaker Pause None client start ts coming fewer called state more held = held
-held_weaker Resume None client start ts coming fewer called state more held = held
-held_weaker StartAbort None client start ts coming fewer called state more held = absurd held
 
--- the client's own turn
-held_push : (k : Transition) (r : Option Refusal) (client start : ℕ) (t : MemberTurn) (ts : List MemberTurn) (coming fewer called : List Called) (state : RunState) → t.transition ≡ turn_kind k r → t.order.start ≡ start → Held k r client start ts coming called state
-    → Held k r client start (t ∷ ts) fewer called state
-held_push k (Some refusal) client start t ts coming fewer called state kind number held = inr (record { turn = t; stands = inl refl; ends = inr kind; of = number })
-held_push Start None client start t ts coming fewer [] state kind number held = held
-held_push Start None client start t ts coming fewer (x ∷ xs) state kind number held = tt
-held_push Stop None client start t ts coming fewer called state kind number held = inr (record { turn = t; stands = inl refl; ends = inl kind; of = number })
-held_push Pause None client start t ts coming fewer called state kind number held = held
-held_push Resume None client start t ts coming fewer called state kind number held = held
-held_push StartAbort None client start t ts coming fewer called state kind number held = absurd held
+-- a first reply to another client, while somebody has yet to answer
+held_other : (k : Transition) (r : Option Refusal) (is_off : Bool) (client start : ℕ) (ts : List MemberTurn) (called fewer before after : List Called) (one : ℕ) (state : RunState) → (stands_in called client ≡ true → stands_in fewer client ≡ true) → stands_in before one ≡ true → stands_in after one ≡ true
+    → Held k r is_off client start ts called before state → Held k r is_off client start ts fewer after state
+held_other k (Some refusal) true client start ts called fewer before after one state more some left held = may_more client start ts called fewer more held
+held_other k (Some refusal) false client start ts called fewer before after one state more some left held = tt
+held_other Start None is_off client start ts called fewer before [] one state more some left held = absurd (cc (left))
+held_other Start None is_off client start ts called fewer before (y ∷ ys) one state more some left held = tt
+held_other Stop None is_off client start ts called fewer before after one state more some left held = may_more client start ts called fewer more held
+held_other Pause None is_off client start ts called fewer before after one state more some left held = held
+held_other Resume None is_off client start ts called fewer before after one state more some left held = held
+held_other StartAbort None is_off client start ts called fewer before after one state more some left held = absurd held
+
+-- and the client's own
+held_push : (k : Transition) (r : Option Refusal) (is_off : Bool) (client start : ℕ) (t : MemberTurn) (ts : List MemberTurn) (called fewer before after : List Called) (one : ℕ) (state : RunState) → KindFits k r is_off → t.transition ≡ turn_kind k is_off → t.order.start ≡ start → stands_in after one ≡ true
+    → Held k r is_off client start ts called before state → Held k r is_off client start (t ∷ ts) fewer after state
+held_push k (Some refusal) true client start t ts called fewer before after one state fits kind number left held = inr (record { turn = t; stands = inl refl; ends = inr kind; of = number })
+held_push k (Some refusal) false client start t ts called fewer before after one state fits kind number left held = tt
+held_push Start None is_off client start t ts called fewer before [] one state fits kind number left held = absurd (cc (left))
+held_push Start None is_off client start t ts called fewer before (y ∷ ys) one state fits kind number left held = tt
+held_push Stop None is_off client start t ts called fewer before after one state fits kind number left held =
+    inr (record { turn = t; stands = inl refl; ends = inl (kind ∙ ap (turn_kind Stop) fits); of = number })
+held_push Pause None is_off client start t ts called fewer before after one state fits kind number left held = held
+held_push Resume None is_off client start t ts called fewer before after one state fits kind number left held = held
+held_push StartAbort None is_off client start t ts called fewer before after one state fits kind number left held = absurd held
 
 but_push : (start : ℕ) (t : MemberTurn) (ts : List MemberTurn) → t.order.start ≡ start → AreOverBut start ts → AreOverBut start (t ∷ ts)
 but_push start t ts number but v has starts differs = elim has as (λ w. IsOver (t ∷ ts) v.order.start) [
@@ -237,132 +232,139 @@ start_last k come start ts is here phase but =
     let below : HaveBelow start ts = now.2 here in
     record { over = λ t has starts. but t has starts (λ same. omega (arith, below t has, same)); above = below }
 
-polled_mine : (state : RunState) (start client : ℕ) (ts : List MemberTurn) (u : Underway) (c : Registered) (dump : Option (List ℕ)) → GaveAt state start client ts (Some u) → u.has_polled ≡ false → is_next u.called client ≡ true → OverAt state start client ts (Some u)
-    → OverAt state start client (turn_told ts (record { transition = turn_of u; order = u.order; dump = dump; answer = None })) (Some (polled_by c u))
-polled_mine state start client ts u c dump g before front o =
+polled_mine : (state : RunState) (start client : ℕ) (ts : List MemberTurn) (u : Underway) (c : Registered) (dump : Option (List ℕ)) → GaveAt state start client ts (Some u) → GivesFirst c u client dump → OverAt state start client ts (Some u)
+    → OverAt state start client (turn_told ts (record { transition = turn_of u; order = u.order; dump = dump; answer = None })) (Some (first_polled client c u))
+polled_mine state start client ts u c dump g first o =
     let t : MemberTurn = record { transition = turn_of u; order = u.order; dump = dump; answer = None } in
     let now : RunsOn state start client ts u = g.now in
-    let none : NoneOpen ts = subst (λ (b : Bool). OpenFor (b && is_next u.called client) u ts) before now.open_turn in
-    let come : IsIn client (to_call u.has_polled u.called) = subst (λ (b : Bool). IsIn client (to_call b u.called)) (sym before) (front_in client u.called front) in
-    subst (λ (x : List MemberTurn). OverAt state start client x (Some (polled_by c u))) (sym (told_new ts t none)) (record {
+    let none : NoneOpen ts = subst (λ (b : Bool). OpenFor b u ts) first.fresh now.open_turn in
+    let come : stands_in u.called client ≡ true = next_called u client first.next in
+    let left : stands_in (open_of (first_polled client c u)) client ≡ true = open_polled (first_polled client c u) client (first_owes client c u) in
+    subst (λ (x : List MemberTurn). OverAt state start client x (Some (first_polled client c u))) (sym (told_new ts t none)) (record {
       but = but_push start t ts now.number o.but;
-      last = ((λ starts. subst (λ (n : ℕ). ComesLast ts n) (sym now.number) (start_last (turn_of u) (IsIn client (to_call u.has_polled u.called)) start ts starts come now.phase o.but)), o.last);
-      now = held_push u.transition u.refusal client start t ts (to_call u.has_polled u.called) (to_call true u.called) u.called state refl now.number o.now;
+      last = ((λ starts. subst (λ (n : ℕ). ComesLast ts n) (sym now.number) (start_last (turn_of u) (stands_in u.called client ≡ true) start ts starts come now.phase o.but)), o.last);
+      now = held_push u.transition u.refusal u.is_off client start t ts u.called (without client u.called) (open_of u) (open_of (first_polled client c u)) client state now.kind refl now.number left o.now;
     })
 
-polled_once_more : (state : RunState) (start client : ℕ) (ts : List MemberTurn) (u : Underway) (c : Registered) (t : MemberTurn) → GaveAt state start client ts (Some u) → u.has_polled ≡ true → is_next u.called client ≡ true → OverAt state start client ts (Some u)
-    → OverAt state start client (turn_told ts t) (Some (polled_by c u))
-polled_once_more state start client ts u c t g before front o =
-    let now : RunsOn state start client ts u = g.now in
-    let still : OpenFor true u ts = subst (λ (b : Bool). OpenFor b u ts) front (subst (λ (b : Bool). OpenFor (b && is_next u.called client) u ts) before now.open_turn) in
-    let again : turn_told ts t ≡ ts = ap (λ (x : List MemberTurn). turn_told x t) still.2 ∙ sym still.2 in
-    subst (λ (x : List MemberTurn). OverAt state start client x (Some (polled_by c u))) (sym again)
-    (record { but = o.but; last = o.last; now = subst (λ (b : Bool). Held u.transition u.refusal client start ts (to_call b u.called) u.called state) before o.now })
-
-later_in : (client other : ℕ) (called : List Called) → is_next called other ≡ true → other ≢ client → IsIn client called → IsIn client (drop 1 called)
-later_in client other [] front differs is = is
-later_in client other (x ∷ xs) front differs is = elim is as (λ w. IsIn client xs) [
-  | inl here ↦ absurd (differs (sym (eqb-true x.client other front) ∙ here))
-  | inr later ↦ later
-]
-
-to_come : (b : Bool) (client other : ℕ) (called : List Called) → is_next called other ≡ true → other ≢ client → IsIn client (to_call b called) → IsIn client (to_call true called)
-to_come true client other called front differs is = is
-to_come false client other called front differs is = later_in client other called front differs is
-
-over_polled : (state : RunState) (start client other : ℕ) (ts : List MemberTurn) (u : Underway) (c : Registered) (dump : Option (List ℕ)) → GaveAt state start client ts (Some u) → is_next u.called other ≡ true → OverAt state start client ts (Some u)
-    → OverAt state start client (if other == client then turn_told ts (record { transition = turn_of u; order = u.order; dump = dump; answer = None }) else ts) (Some (polled_by c u))
-over_polled state start client other ts u c dump g front o =
-    let t : MemberTurn = record { transition = turn_of u; order = u.order; dump = dump; answer = None } in
-    split (other == client) (λ b. (other == client) ≡ b → OverAt state start client (if b then turn_told ts t else ts) (Some (polled_by c u)))
-    (λ h e.
-    let mine : is_next u.called client ≡ true = subst (λ (n : ℕ). is_next u.called n ≡ true) (eqb-true other client e) front in
-    split u.has_polled (λ b. u.has_polled ≡ b → OverAt state start client (turn_told ts t) (Some (polled_by c u)))
-    (λ h' e'. polled_once_more state start client ts u c t g e' mine o)
-    (λ h' e'. polled_mine state start client ts u c dump g e' mine o)
-    refl)
-    (λ h e. record {
+polled_other : (state : RunState) (start client other : ℕ) (ts : List MemberTurn) (u : Underway) (c : Registered) → is_next u.polled u.called other ≡ true → (other == client) ≡ false → OverAt state start client ts (Some u) → OverAt state start client ts (Some (first_polled other c u))
+polled_other state start client other ts u c next differs o =
+    let here : stands_in (open_of u) other ≡ true = open_called u other (next_called u other next) in
+    record {
       but = o.but;
       last = o.last;
-      now = held_weaker u.transition u.refusal client start ts (to_call u.has_polled u.called) (to_call true u.called) u.called state (to_come u.has_polled client other u.called front (eqb-false other client e)) o.now;
-    })
+      now = held_other u.transition u.refusal u.is_off client start ts u.called (without other u.called) (open_of u) (open_of (first_polled other c u)) other state
+          (λ is. first_other_called client other c u differs ∙ is) here (first_open other other c u here) o.now;
+    }
+
+over_polled : (state : RunState) (start client other : ℕ) (ts : List MemberTurn) (u : Underway) (c : Registered) (dump : Option (List ℕ)) → GaveAt state start client ts (Some u) → IsGiven c u other dump → OverAt state start client ts (Some u)
+    → OverAt state start client (if other == client then turn_told ts (record { transition = turn_of u; order = u.order; dump = dump; answer = None }) else ts) (Some (polled_by other c u))
+over_polled state start client other ts u c dump g given o =
+    let t : MemberTurn = record { transition = turn_of u; order = u.order; dump = dump; answer = None } in
+    split (other == client) (λ b. (other == client) ≡ b → OverAt state start client (if b then turn_told ts t else ts) (Some (polled_by other c u)))
+    (λ h e.
+    let same : other ≡ client = eqb-true other client e in
+    given_case (λ v. OverAt state start client (turn_told ts t) (Some v)) other c u dump given
+    (λ again. subst (λ (x : List MemberTurn). OverAt state start client x (Some u)) (sym (told_again client ts u t g.now.open_turn (subst (λ (n : ℕ). has_polled u n ≡ true) same again.polled))) o)
+    (λ first. subst (λ (n : ℕ). OverAt state start client (turn_told ts t) (Some (first_polled n c u))) (sym same) (polled_mine state start client ts u c dump g (subst (λ (n : ℕ). GivesFirst c u n dump) same first) o)))
+    (λ h e. given_case (λ v. OverAt state start client ts (Some v)) other c u dump given (λ again. o) (λ first. polled_other state start client other ts u c first.next e o))
     refl
 
 -- Answer.
 
-may_alike : (client start : ℕ) (ts later : List MemberTurn) (coming : List Called) → Alike ts later → MayBeOver client start ts coming → MayBeOver client start later coming
-may_alike client start ts later coming alike may = elim may as (λ w. MayBeOver client start later coming) [
+may_alike : (client start : ℕ) (ts later : List MemberTurn) (called : List Called) → Alike ts later → MayBeOver client start ts called → MayBeOver client start later called
+may_alike client start ts later called alike may = elim may as (λ w. MayBeOver client start later called) [
   | inl is ↦ inl is
   | inr over ↦ inr (over_alike ts later start alike over)
 ]
 
-held_told : (k : Transition) (r : Option Refusal) (client other start : ℕ) (ts later : List MemberTurn) (called : List Called) (state : RunState) → Alike ts later → is_next called other ≡ true → Held k r client start ts (drop 1 called) called state
-    → Held k r client start later (drop 1 called) (drop 1 called) (state_with state k r (drop 1 called))
-held_told k (Some refusal) client other start ts later called state alike front held = may_alike client start ts later (drop 1 called) alike held
-held_told Start None client other start ts later [] state alike front held = absurd (cc (front))
-held_told Start None client other start ts later (x ∷ xs) state alike front held = begun_start client start later xs xs state
-held_told Stop None client other start ts later called state alike front held = may_alike client start ts later (drop 1 called) alike held
-held_told Pause None client other start ts later called state alike front held = paused_state state (drop 1 called) held
-held_told Resume None client other start ts later called state alike front held = resumed_state state (drop 1 called) held
-held_told StartAbort None client other start ts later called state alike front held = absurd held
+held_told : (k : Transition) (r : Option Refusal) (is_off : Bool) (client start : ℕ) (ts later : List MemberTurn) (called before after : List Called) (one : ℕ) (state : RunState) → Alike ts later → stands_in before one ≡ true → Held k r is_off client start ts called before state
+    → Held k r is_off client start later called after (state_with state k r after)
+held_told k (Some refusal) true client start ts later called before after one state alike some held = may_alike client start ts later called alike held
+held_told k (Some refusal) false client start ts later called before after one state alike some held = tt
+held_told Start None is_off client start ts later called before after one state alike some held = begun_start client start later is_off called after state
+held_told Stop None is_off client start ts later called before after one state alike some held = may_alike client start ts later called alike held
+held_told Pause None is_off client start ts later called before after one state alike some held = paused_state state after held
+held_told Resume None is_off client start ts later called before after one state alike some held = resumed_state state after held
+held_told StartAbort None is_off client start ts later called before after one state alike some held = absurd held
 
-over_told : (state : RunState) (start client other : ℕ) (ts later : List MemberTurn) (u : Underway) (tally : Tally) → Alike ts later → u.has_polled ≡ true → is_next u.called other ≡ true → OverAt state start client ts (Some u)
-    → OverAt (state_with state u.transition u.refusal (drop 1 u.called)) start client later (Some (told other tally u))
-over_told state start client other ts later u tally alike before front o = record {
+-- the engine with a transition in progress, of which this is kept
+abbrev OverWith : RunState → (start client : ℕ) → List MemberTurn → Underway → Type 0
+OverWith state start client ts v = OverAt (state_with state v.transition v.refusal (open_of v)) start client ts (Some v)
+
+over_told : (state : RunState) (start client other : ℕ) (ts later : List MemberTurn) (u : Underway) (tally : Tally) → Alike ts later → has_polled u other ≡ true → OverAt state start client ts (Some u)
+    → OverWith state start client later (told other tally u)
+over_told state start client other ts later u tally alike polled o = record {
   but = but_alike ts later start alike o.but;
   last = alike.last o.last;
-  now = held_told u.transition u.refusal client other start ts later u.called state alike front (subst (λ (b : Bool). Held u.transition u.refusal client start ts (to_call b u.called) u.called state) before o.now);
+  now = held_told u.transition u.refusal u.is_off client start ts later u.called (open_of u) (open_of (told other tally u)) other state alike (open_polled u other polled) o.now;
 }
 
-over_refused : (lists : CalledLists) (state : RunState) (start client other : ℕ) (ts later : List MemberTurn) (u : Underway) (clients : List Registered) (why : Why) → Alike ts later → Listed StartAbort client clients → OverAt state start client ts (Some u)
-    → OverAt state start client later (Some (refused_by clients other why u))
-over_refused lists state start client other ts later u clients why alike listed o = record {
-  but = but_alike ts later start alike o.but;
-  last = alike.last o.last;
-  now = inl (listed_in lists StartAbort client clients listed);
-}
+over_refused : (state : RunState) (start client other : ℕ) (ts later : List MemberTurn) (u : Underway) (why : Why) → Alike ts later → is_start (turn_of u) ≡ true → OverAt state start client ts (Some u)
+    → OverWith state start client later (refused_by other why u)
+over_refused state start client other ts later u why alike starts o =
+    let v : Underway = refused_by other why u in
+    record {
+      but = but_alike ts later start alike o.but;
+      last = alike.last o.last;
+      now = subst (λ (b : Bool). Held u.transition v.refusal b client start later [] (open_of v) state) (sym (start_not_off u.transition u.is_off starts)) tt;
+    }
+
+off_held : (k : Transition) (r : Option Refusal) (refusal : Refusal) (client start : ℕ) (ts : List MemberTurn) (called left : List Called) (state : RunState) → r ≡ Some refusal → MayBeOver client start ts called → Held k r true client start ts called left state
+off_held k None refusal client start ts called left state refused may = absurd (cc (refused))
+off_held k (Some r) refusal client start ts called left state refused may = may
+
+over_off : (lists : CalledLists) (state : RunState) (start client : ℕ) (ts : List MemberTurn) (clients : List Registered) (v : Underway) → Listed StartAbort client clients → is_due_off v.refusal v.polled v.is_off ≡ true → OverWith state start client ts v
+    → OverWith state start client ts (called_off clients v)
+over_off lists state start client ts clients v listed is o =
+    let d = due v.refusal v.polled v.is_off is in
+    let w : Underway = called_off clients v in
+    record {
+      but = o.but;
+      last = o.last;
+      now = off_held v.transition v.refusal d.refusal client start ts w.called (open_of w) (state_with state v.transition v.refusal (open_of w)) d.refused (inl (listed_in lists StartAbort client clients listed));
+    }
 
 alike_by : (client other : ℕ) (ts : List MemberTurn) (answer : ClientAnswer) → Alike ts (if other == client then turn_answered ts answer else ts)
 alike_by client other ts answer = split (other == client) (λ b. Alike ts (if b then turn_answered ts answer else ts)) (λ h. alike_answered ts answer) (λ h. alike_same ts)
 
-over_answered : (lists : CalledLists) (s : EngineState) (client other : ℕ) (ts : List MemberTurn) (u : Underway) (answer : ClientAnswer) → Listed StartAbort client s.clients → u.has_polled ≡ true → is_next u.called other ≡ true → OverAt s.state s.start client ts (Some u)
+over_answered : (lists : CalledLists) (s : EngineState) (client other : ℕ) (ts : List MemberTurn) (u : Underway) (answer : ClientAnswer) → Listed StartAbort client s.clients → has_polled u other ≡ true → OverAt s.state s.start client ts (Some u)
     → (let after : EngineState = with_underway s (answered_by s.clients other answer u) in OverAt after.state after.start client (if other == client then turn_answered ts answer else ts) after.underway)
-over_answered lists s client other ts u (Yes tally) listed before front o =
-    over_told s.state s.start client other ts (if other == client then turn_answered ts (Yes tally) else ts) u tally (alike_by client other ts (Yes tally)) before front o
-over_answered lists s client other ts u (No why) listed before front o =
-    let later : List MemberTurn = if other == client then turn_answered ts (No why) else ts in
-    let alike : Alike ts later = alike_by client other ts (No why) in
-    split (is_start (turn_of u)) (λ b. (let after : EngineState = with_underway s (if b then refused_by s.clients other why u else told other Plain u) in OverAt after.state after.start client later after.underway))
-    (λ h. over_refused lists s.state s.start client other ts later u s.clients why alike listed o)
-    (λ h. over_told s.state s.start client other ts later u Plain alike before front o)
+over_answered lists s client other ts u answer listed polled o =
+    let later : List MemberTurn = if other == client then turn_answered ts answer else ts in
+    let alike : Alike ts later = alike_by client other ts answer in
+    answered_case (OverWith s.state s.start client later) s.clients other answer u
+    (λ tally is. over_told s.state s.start client other ts later u tally alike polled o)
+    (λ why is. over_refused s.state s.start client other ts later u why alike is.starts o)
+    (λ v is kept. over_off lists s.state s.start client later s.clients v listed is kept)
 
 -- Done.
 
-none_left : (b : Bool) (client : ℕ) → IsIn client (to_call b []) → ⊥
-none_left true client is = is
-none_left false client is = is
-
-held_done : (k : Transition) (r : Option Refusal) (client start : ℕ) (ts : List MemberTurn) (coming : List Called) (state : RunState) → (IsIn client coming → ⊥) → AreOverBut start ts → Held k r client start ts coming [] state → AreOver ts ⊎ (state ≢ Stopped)
-held_done k (Some refusal) client start ts coming state none but held = elim held as (λ w. AreOver ts ⊎ (state ≢ Stopped)) [
-  | inl is ↦ absurd (none is)
+done_over : (client start : ℕ) (ts : List MemberTurn) (called : List Called) (state : RunState) → stands_in called client ≡ false → AreOverBut start ts → MayBeOver client start ts called → AreOver ts ⊎ (state ≢ Stopped)
+done_over client start ts called state none but may = elim may as (λ w. AreOver ts ⊎ (state ≢ Stopped)) [
+  | inl is ↦ absurd (let never : false ≡ true = sym none ∙ is in cc (never))
   | inr over ↦ inl (all_over ts start but over)
 ]
-held_done Start None client start ts coming state none but held = inr held
-held_done Stop None client start ts coming state none but held = elim held as (λ w. AreOver ts ⊎ (state ≢ Stopped)) [
-  | inl is ↦ absurd (none is)
-  | inr over ↦ inl (all_over ts start but over)
-]
-held_done Pause None client start ts coming state none but held = inr held
-held_done Resume None client start ts coming state none but held = inr held
-held_done StartAbort None client start ts coming state none but held = absurd held
 
-over_done : (state : RunState) (start client : ℕ) (ts : List MemberTurn) (u : Underway) → u.called ≡ [] → OverAt state start client ts (Some u) → OverAt state start client ts None
-over_done state start client ts u done o = record {
-  but = o.but;
-  last = o.last;
-  now = held_done u.transition u.refusal client start ts (to_call u.has_polled []) state (none_left u.has_polled client) o.but
-      (subst (λ (cs : List Called). Held u.transition u.refusal client start ts (to_call u.has_polled cs) cs state) done o.now);
-}
+held_done : (k : Transition) (r : Option Refusal) (is_off : Bool) (client start : ℕ) (ts : List MemberTurn) (called : List Called) (state : RunState) → stands_in called client ≡ false → is_due_off r [] is_off ≡ false → AreOverBut start ts → Held k r is_off client start ts called [] state
+    → AreOver ts ⊎ (state ≢ Stopped)
+held_done k (Some refusal) true client start ts called state none unsettled but held = done_over client start ts called state none but held
+held_done k (Some refusal) false client start ts called state none unsettled but held = absurd (cc (unsettled))
+held_done Start None is_off client start ts called state none unsettled but held = inr held
+held_done Stop None is_off client start ts called state none unsettled but held = done_over client start ts called state none but held
+held_done Pause None is_off client start ts called state none unsettled but held = inr held
+held_done Resume None is_off client start ts called state none unsettled but held = inr held
+held_done StartAbort None is_off client start ts called state none unsettled but held = absurd held
+
+over_done : (state : RunState) (start client : ℕ) (ts : List MemberTurn) (u : Underway) → open_of u ≡ [] → is_due_off u.refusal u.polled u.is_off ≡ false → OverAt state start client ts (Some u) → OverAt state start client ts None
+over_done state start client ts u done unsettled o =
+    let nobody : u.polled ≡ [] = none_polled u.polled u.called done in
+    record {
+      but = o.but;
+      last = o.last;
+      now = held_done u.transition u.refusal u.is_off client start ts u.called state
+          (none_open u.called client (ap (λ (ps : List Called). ps ++ u.called) (sym nobody) ∙ done)) (ap (λ (ps : List Called). is_due_off u.refusal ps u.is_off) (sym nobody) ∙ unsettled) o.but
+          (subst (λ (xs : List Called). Held u.transition u.refusal u.is_off client start ts u.called xs state) done o.now);
+    }
 
 -- One call.
 
@@ -372,19 +374,31 @@ Over s client ts = OverAt s.state s.start client ts s.underway
 record Runs (client : ℕ) (ts : List MemberTurn) (s : EngineState) : Type 0 where
   over : Over s client ts
   listed : (u : Underway) → s.underway ≡ Some u → Listed StartAbort client s.clients
+  unsettled : (u : Underway) → s.underway ≡ Some u → is_due_off u.refusal u.polled u.is_off ≡ false
+
+-- whether start-abort is due now
+abbrev due_in : Option Underway → Bool
+due_in None = false
+due_in (Some u) = is_due_off u.refusal u.polled u.is_off
+
+polled_unsettled : (client : ℕ) (c : Registered) (u : Underway) → is_due_off u.refusal u.polled u.is_off ≡ false → due_in (Some (polled_by client c u)) ≡ false
+polled_unsettled client c u unsettled =
+    split (has_polled u client) (λ b. due_in (Some (if b then u else first_polled client c u)) ≡ false) (λ h. unsettled)
+    (λ h. pushed_not_due u.refusal u.polled (record { client = client; sequence = group_of u.polled u.called }) u.is_off)
 
 -- where the call begins a transition, the client is called for what ends a run
 abbrev CallsFor : (client : ℕ) → EngineState → EngineEntry → Type 0
 CallsFor client s (Begin t sheet (Ok n)) = Listed Stop client s.clients × Listed StartAbort client s.clients
 CallsFor client s entry = ⊤
 
-stop_listed : (lists : CalledLists) (k : Transition) (client : ℕ) (clients : List Registered) → Listed Stop client clients → k ≡ Stop → IsIn client (called_list k clients)
-stop_listed lists k client clients listed is = subst (λ (x : Transition). IsIn client (called_list x clients)) (sym is) (listed_in lists Stop client clients listed)
+stop_listed : (lists : CalledLists) (k : Transition) (client : ℕ) (clients : List Registered) → Listed Stop client clients → k ≡ Stop → stands_in (called_list k clients) client ≡ true
+stop_listed lists k client clients listed is = subst (λ (x : Transition). stands_in (called_list x clients) client ≡ true) (sym is) (listed_in lists Stop client clients listed)
 
 runs_step : (lists : CalledLists) (client : ℕ) (ts : List MemberTurn) (s : EngineState) (e : EngineEntry) → Gave s client ts → IsEngineReply s e → CallsFor client s e → Runs client ts s → Runs client (turns_with client ts e) (engine_after s e)
 runs_step lists client ts s (Register name sequences dump report (Ok n)) g reply called o = record {
   over = record { but = o.over.but; last = o.over.last; now = o.over.now };
   listed = λ u is. absurd (let never : None ≡ Some u = sym (register_number s n reply).0 ∙ is in cc (never));
+  unsettled = o.unsettled;
 }
 runs_step lists client ts s (Register name sequences dump report (Err r)) g reply called o = o
 runs_step lists client ts s (Begin t sheet (Ok n)) g reply called o =
@@ -392,7 +406,7 @@ runs_step lists client ts s (Begin t sheet (Ok n)) g reply called o =
     let rests : AreOver ts ⊎ (s.state ≢ Stopped) = subst (Stays s.state s.start client ts) b.free o.over.now in
     let begins_over : BegunOver t client n ts (called_list t s.clients) (state_with s.state t None (called_list t s.clients)) =
     begun_over t s.state s.start client n ts (called_list t s.clients) b.allowed b.number (stop_listed lists t client s.clients called.0) o.over.but rests in
-    record { over = record { but = begins_over.but; last = o.over.last; now = begins_over.now }; listed = λ u is. called.1 }
+    record { over = record { but = begins_over.but; last = o.over.last; now = begins_over.now }; listed = λ u is. called.1; unsettled = λ u is. ap (λ (x : Option Underway). due_in x) (sym is) }
 runs_step lists client ts s (Begin t sheet (Err r)) g reply called o = o
 runs_step lists client ts s (Poll other (Turn turn order dump blank)) g reply called o =
     let p : GivesTurn s other turn order dump = gives_turn s other turn order dump blank reply in
@@ -401,12 +415,18 @@ runs_step lists client ts s (Poll other (Turn turn order dump blank)) g reply ca
     let same : given ≡ told_so = ap (λ (k : Transition). record { transition = k; order = p.u.order; dump = dump; answer = None }) (sym p.turn_is) ∙ ap (λ x. record { transition = turn; order = x; dump = dump; answer = None }) (sym p.order_is) in
     let at : GaveAt s.state s.start client ts (Some p.u) = subst (GaveAt s.state s.start client ts) p.underway_is g in
     let before : OverAt s.state s.start client ts (Some p.u) = subst (OverAt s.state s.start client ts) p.underway_is o.over in
-    let after : OverAt s.state s.start client (if other == client then turn_told ts given else ts) (Some (polled_by p.c p.u)) = over_polled s.state s.start client other ts p.u p.c dump at p.front before in
-    let over : Over (after_poll_by s (slice_get s.clients other)) client (if other == client then turn_told ts told_so else ts) =
-    subst (λ (x : Option Registered). Over (after_poll_by s x) client (if other == client then turn_told ts told_so else ts)) (sym p.client_is)
-    (subst (λ (x : Option Underway). OverAt s.state s.start client (if other == client then turn_told ts told_so else ts) (option_map (polled_by p.c) x)) (sym p.underway_is)
-    (subst (λ (x : MemberTurn). OverAt s.state s.start client (if other == client then turn_told ts x else ts) (Some (polled_by p.c p.u))) same after)) in
-    record { over = over; listed = λ u is. subst (Listed StartAbort client) (sym (polled_clients s other turn order dump p)) (o.listed p.u p.underway_is) }
+    let after : OverAt s.state s.start client (if other == client then turn_told ts given else ts) (Some (polled_by other p.c p.u)) = over_polled s.state s.start client other ts p.u p.c dump at p.given before in
+    let over : Over (after_poll_by s other (slice_get s.clients other)) client (if other == client then turn_told ts told_so else ts) =
+    subst (λ (x : Option Registered). Over (after_poll_by s other x) client (if other == client then turn_told ts told_so else ts)) (sym p.client_is)
+    (subst (λ (x : Option Underway). OverAt s.state s.start client (if other == client then turn_told ts told_so else ts) (option_map (polled_by other p.c) x)) (sym p.underway_is)
+    (subst (λ (x : MemberTurn). OverAt s.state s.start client (if other == client then turn_told ts x else ts) (Some (polled_by other p.c p.u))) same after)) in
+    record {
+      over = over;
+      listed = λ u is. subst (Listed StartAbort client) (sym (polled_clients s other turn order dump p)) (o.listed p.u p.underway_is);
+      unsettled = λ u is.
+          let both : Some (polled_by other p.c p.u) ≡ Some u = sym (polled_underway s other p.c p.u p.client_is p.underway_is) ∙ is in
+          ap due_in (sym both) ∙ polled_unsettled other p.c p.u (o.unsettled p.u p.underway_is);
+    }
 runs_step lists client ts s (Poll other (Idle state)) g reply called o = o
 runs_step lists client ts s (Poll other PollClosed) g reply called o = o
 runs_step lists client ts s (Poll other NoClient) g reply called o = o
@@ -415,24 +435,28 @@ runs_step lists client ts s (Answer other answer (Ok done)) g reply called o =
     let before : OverAt s.state s.start client ts (Some w.u) = subst (OverAt s.state s.start client ts) w.underway_is o.over in
     let over : Over (after_answer_in s other answer s.underway) client (if other == client then turn_answered ts answer else ts) =
     subst (λ (x : Option Underway). Over (after_answer_in s other answer x) client (if other == client then turn_answered ts answer else ts)) (sym w.underway_is)
-    (over_answered lists s client other ts w.u answer (o.listed w.u w.underway_is) w.polled w.front before) in
-    record { over = over; listed = λ u is. subst (Listed StartAbort client) (sym (answered_clients s other answer s.underway)) (o.listed w.u w.underway_is) }
+    (over_answered lists s client other ts w.u answer (o.listed w.u w.underway_is) w.polled before) in
+    record {
+      over = over;
+      listed = λ u is. subst (Listed StartAbort client) (sym (answered_clients s other answer s.underway)) (o.listed w.u w.underway_is);
+      unsettled = λ u is.
+          let both : Some (answered_by s.clients other answer w.u) ≡ Some u = sym (answered_underway s other answer w.u w.underway_is) ∙ is in
+          ap due_in (sym both) ∙ settled_not_due s.clients (answered_with other answer w.u);
+    }
 runs_step lists client ts s (Answer other answer (Err r)) g reply called o =
     subst (λ (x : List MemberTurn). Runs client x s) (sym (gave_unaccepted s client other ts answer g (owes_none s other r reply))) o
 runs_step lists client ts s (Check (Done outcome) tallies) g reply called o =
     let f : Finishes s outcome = finishes s outcome reply.0 in
-    record { over = over_done s.state s.start client ts f.u f.done (subst (OverAt s.state s.start client ts) f.underway_is o.over); listed = λ u is. absurd (cc (is)) }
+    record { over = over_done s.state s.start client ts f.u f.done (o.unsettled f.u f.underway_is) (subst (OverAt s.state s.start client ts) f.underway_is o.over); listed = λ u is. absurd (cc (is)); unsettled = λ u is. absurd (cc (is)) }
 runs_step lists client ts s (Check Going tallies) g reply called o = o
 runs_step lists client ts s (Check NoneGoing tallies) g reply called o = o
-runs_step lists client ts s (Close (Ok done)) g reply called o = record { over = record { but = o.over.but; last = o.over.last; now = o.over.now }; listed = o.listed }
+runs_step lists client ts s (Close (Ok done)) g reply called o = record { over = record { but = o.over.but; last = o.over.last; now = o.over.now }; listed = o.listed; unsettled = o.unsettled }
 runs_step lists client ts s (Close (Err r)) g reply called o = o
 
 -- A whole history.
 
 listed_of : (client : ℕ) (k : Transition) (pre : EngineHistory) (s : EngineState) → engine_replay engine_opening pre ≡ s → IsLegalEngine engine_opening pre → IsRegisteredIn pre client k → Listed k client s.clients
-listed_of client k pre s is legal r =
-    let c : Registered = record { name = r.name; sequences = r.sequences; wants_dump = r.wants_dump; wants_report = r.wants_report } in
-    record { c = c; at = subst (λ (x : EngineState). slice_get x.clients client ≡ Some c) is (registered_there pre client k legal r); sequence = r.sequence; called = r.called }
+listed_of client k pre s is legal r = subst (λ (x : EngineState). Listed k client x.clients) is (registered_listed pre client k legal r)
 
 calls_for : (client : ℕ) (history pre h : EngineHistory) (s : EngineState) (caller : ℕ) (e : EngineEntry) → history ≡ pre ++ (caller, e) ∷ h → engine_replay engine_opening pre ≡ s → IsLegalEngine engine_opening pre → IsAlwaysCalled history client → CallsFor client s e
 calls_for client history pre h s caller (Begin t sheet (Ok n)) whole is legal always =
@@ -451,7 +475,7 @@ all_last lists by client history legal always pre [] ts s whole is here alone g 
 all_last lists by client history legal always pre ((caller, e) ∷ h) ts s whole is here alone g o =
     let first : IsLegalEngine engine_opening pre = (legal_apart engine_opening pre ((caller, e) ∷ h) (subst (IsLegalEngine engine_opening) whole legal)).0 in
     let called : CallsFor client s e = calls_for client history pre h s caller e whole is first always in
-    let next : Gave (engine_after s e) client (turns_with client ts e) = gave_step lists s client ts e g here.1 in
+    let next : Gave (engine_after s e) client (turns_with client ts e) = gave_step s client ts e g here.1 in
     let runs : Runs client (turns_with client ts e) (engine_after s e) = runs_step lists client ts s e g here.1 called o in
     let longer : history ≡ (pre ++ (caller, e) ∷ []) ++ h = whole ∙ sym (append_assoc pre ((caller, e) ∷ []) h) in
     let behind : engine_replay engine_opening (pre ++ (caller, e) ∷ []) ≡ engine_after s e = replay_apart engine_opening pre ((caller, e) ∷ []) ∙ ap (λ (x : EngineState). engine_after x e) is in
@@ -464,4 +488,4 @@ all_last lists by client history legal always pre ((caller, e) ∷ h) ts s whole
 pub runs_are_over : CalledLists → RunsAreOver
 runs_are_over lists by client history legal alone always =
     all_last lists by client history legal always [] history [] engine_opening refl refl legal alone (opening_gave client)
-    (record { over = record { but = λ t has. absurd has; last = tt; now = inl (λ t has. absurd has) }; listed = λ u is. absurd (cc (is)) })
+    (record { over = record { but = λ t has. absurd has; last = tt; now = inl (λ t has. absurd has) }; listed = λ u is. absurd (cc (is)); unsettled = λ u is. absurd (cc (is)) })

@@ -1,5 +1,5 @@
 -- The tallies in a Done are the answers to turns of its transition.
-use Rattle.std.specs.Prelude.{◌≡◌, ◌≢◌, ℕ, zero, suc, ◌==◌, ◌&&◌, not, Bool, true, false, is_some, nat_lt, if◌then◌else◌, List, [], ◌∷◌, ◌++◌, ◌↔◌, fold, drop, length, slice_get, Option, Some, None, Ok, Err, refl, ◌⊎◌}
+use Rattle.std.specs.Prelude.{◌≡◌, ◌≢◌, ℕ, zero, suc, ◌==◌, Bool, true, false, is_some, nat_lt, if◌then◌else◌, List, [], ◌∷◌, ◌++◌, ◌↔◌, fold, length, slice_get, Option, Some, None, Ok, Err, refl, ◌⊎◌}
 use Rattle.std.specs.List.{AllByRecursion}
 use Rattle.std.proofs.Common.{ap, sym, ◌∙◌, subst, arith, inl, inr, append_assoc}
 use Rattle.std.proofs.lemmas.Grind.{fold-append}
@@ -11,7 +11,7 @@ use Rattle.daq_types.specs.declared.runs.StartOutcome.{StartOutcome}
 use Rattle.daq_types.specs.declared.runs.StartOutcome.TheVariants.{Completed, Refused}
 use Rattle.daq_types.specs.declared.runs.RunState.{RunState}
 use Rattle.daq_types.specs.declared.runs.Transition.{Transition}
-use Rattle.daq_types.specs.declared.runs.Transition.TheVariants.{Start, Stop, Pause, Resume, StartAbort}
+use Rattle.daq_types.specs.declared.runs.Transition.TheVariants.{Start, StartAbort}
 use Rattle.daq_types.specs.declared.runs.Why.{Why}
 use Rattle.buffer_core.proofs.SlotLaws.{split}
 use Rattle.transitions.specs.declared.client.Registered.{Registered}
@@ -19,7 +19,6 @@ use Rattle.transitions.specs.declared.sheet.Sheet.{Sheet}
 use Rattle.transitions.specs.declared.answers.Answer.{Answer as ClientAnswer}
 use Rattle.transitions.specs.declared.answers.Answer.TheVariants.{Yes, No}
 use Rattle.transitions.specs.declared.answers.Tally.{Tally}
-use Rattle.transitions.specs.declared.answers.Tally.TheVariants.{Plain}
 use Rattle.transitions.specs.declared.answers.ClientTally.{ClientTally}
 use Rattle.transitions.specs.declared.engine.Refusal.{Refusal}
 use Rattle.transitions.specs.declared.replies.RegisterRefusal.TheVariants.{Closed as RegisterClosed, NoSlot}
@@ -30,20 +29,21 @@ use Rattle.transitions.specs.declared.entry.EngineEntry.{EngineEntry}
 use Rattle.transitions.specs.declared.entry.EngineEntry.TheVariants.{Register, Begin, Poll, Answer, Check, Close}
 use Rattle.transitions.specs.Limits.{most_clients}
 use Rattle.transitions.specs.Engines.{Underway, EngineState, engine_opening}
-use Rattle.transitions.specs.EngineCalls.{turn_kind, turn_of, is_start, is_next, begun, gets_dump, polled_by, told, refused_by, answered_by, after_poll_by, after_answer_in, register_reply, register_reply_in, tallies_in, IsEngineReply, engine_after, outcome_of}
+use Rattle.transitions.specs.EngineCalls.{turn_kind, turn_of, is_start, stands_in, has_polled, begun, first_polled, polled_by, told, first_refusal, refused_by, is_due_off, called_off, answered_by, after_poll_by, after_answer_in, register_reply, register_reply_in, tallies_in, IsEngineReply, engine_after, outcome_of}
 use Rattle.transitions.specs.EngineHistories.{EngineHistory, IsLegalEngine, engine_replay}
 use Rattle.transitions.specs.EnginePoints.{engine_past, state_at, tally_of}
 use Rattle.transitions.specs.GivenTurns.{SpeaksFor}
-use Rattle.transitions.specs.Marks.{is_mark, HasNoMark, IsEndOf}
+use Rattle.transitions.specs.Marks.{is_mark, IsEndOf}
 use Rattle.member_model.specs.Turns.{MemberTurn, HasTurn, HasAnswer, NoneOpen}
 use Rattle.member_model.specs.TurnCalls.{turn_told, turn_answered, turns_with, member_turns}
-use Rattle.engine_laws.specs.BegunTurns.{IsOfBegin, HasTransition, WantsAlone, OneWantsDump, IsTallyOfTurn}
+use Rattle.engine_laws.specs.BegunTurns.{IsOfBegin, HasTransition, IsAlone, WantsAlone, OneWantsDump, IsTallyOfTurn}
 use Rattle.engine_laws.specs.EngineLaws.{DonesHaveBegins, TalliesAreAnswers, RefusalsAreAnswers}
-use Rattle.engine_laws.proofs.Replies.{Begins, begins, GivesTurn, gives_turn, Owes, owes, owes_none, Finishes, finishes}
-use Rattle.engine_laws.proofs.TurnLists.{IsIn, to_call, to_call_more, front_gone, front_in, with_answer, told_new}
-use Rattle.engine_laws.proofs.Gave.{OpenFor, RunsOn, StandsAt, CalledLists, Gave, GaveAt, gave_step, gave_all, gave_unaccepted, other_step, own_or_other, opening_gave}
+use Rattle.engine_laws.proofs.Standing.{first_gone, first_fewer, next_called, KindFits, unrefused_kind, is_start_kind}
+use Rattle.engine_laws.proofs.Replies.{Begins, begins, GivesFirst, IsGiven, given_case, GivesTurn, gives_turn, Owes, owes, owes_none, IsToldAs, Refuses, answered_case, Finishes, finishes}
+use Rattle.engine_laws.proofs.TurnLists.{with_answer, told_new}
+use Rattle.engine_laws.proofs.Gave.{OpenFor, RunsOn, StandsAt, Gave, GaveAt, told_again, gave_step, gave_all, kept_all, gave_unaccepted, own_or_other, opening_gave}
 use Rattle.engine_laws.proofs.StateTold.{Follows, state_told}
-use Rattle.engine_laws.proofs.Begun.{StartIfRefused, FromBegin, from_begun, from_polled, from_told, from_refused, turn_from, turn_of_begin, of_begin_answered, polled_underway, answered_underway}
+use Rattle.engine_laws.proofs.Begun.{FromBegin, from_begun, from_first, from_told, from_refused, from_off, turn_from, turn_of_begin, of_begin_answered, polled_underway, answered_underway}
 
 -- Lists.
 
@@ -59,7 +59,7 @@ speaks_apart by client (x ∷ xs) ys alone =
     let rest = speaks_apart by client xs ys alone.1 in
     ((alone.0, rest.0), rest.1)
 
-all_front : {X : Type 0} (P : X → Type 0) (xs ys : List X) → AllByRecursion P (xs ++ ys) → AllByRecursion P xs
+pub all_front : {X : Type 0} (P : X → Type 0) (xs ys : List X) → AllByRecursion P (xs ++ ys) → AllByRecursion P xs
 all_front P [] ys all = tt
 all_front P (x ∷ xs) ys all = (all.0, all_front P xs ys all.1)
 
@@ -109,10 +109,16 @@ pub all_stay : (client : ℕ) (ts : List MemberTurn) (es : List EngineEntry) (an
 all_stay client ts [] answer t is has = has
 all_stay client ts (e ∷ es) answer t is has = all_stay client (turns_with client ts e) es answer t is (step_stays client ts e answer t is has)
 
--- Who wants the dump.
+-- What is so of one client alone.
+
+abbrev pub OnlyIs : (P : Registered → Type 0) → (client : ℕ) → List Registered → Type 0
+OnlyIs P client clients = (other : ℕ) (c : Registered) → slice_get clients other ≡ Some c → P c ↔ (other ≡ client)
+
+abbrev WantsDump : Registered → Type 0
+WantsDump c = c.wants_dump ≡ true
 
 abbrev OnlyWants : (client : ℕ) → List Registered → Type 0
-OnlyWants client clients = (other : ℕ) (c : Registered) → slice_get clients other ≡ Some c → (c.wants_dump ≡ true) ↔ (other ≡ client)
+OnlyWants client clients = OnlyIs WantsDump client clients
 
 count_in : (count n : ℕ) → Ok n ≡ register_reply_in None count → n ≡ count
 count_in count n e = split (nat_lt count most_clients) (λ b. Ok n ≡ (if b then Ok count else Err NoSlot) → n ≡ count) (λ h e'. cc) (λ h e'. absurd cc) e
@@ -135,41 +141,40 @@ either_end (y ∷ ys) c d (suc i) e = elim (either_end ys c d i e) as (λ w. (sl
   | inr new ↦ inr (omega (arith, new.0), new.1)
 ]
 
-pub polled_clients : (s : EngineState) (client : ℕ) (turn : Transition) (order : Order) (dump : Option (List ℕ)) (p : GivesTurn s client turn order dump) → (after_poll_by s (slice_get s.clients client)).clients ≡ s.clients
-polled_clients s client turn order dump p = ap (λ (o : Option Registered). (after_poll_by s o).clients) p.client_is
+pub polled_clients : (s : EngineState) (client : ℕ) (turn : Transition) (order : Order) (dump : Option (List ℕ)) (p : GivesTurn s client turn order dump) → (after_poll_by s client (slice_get s.clients client)).clients ≡ s.clients
+polled_clients s client turn order dump p = ap (λ (o : Option Registered). (after_poll_by s client o).clients) p.client_is
 
 pub answered_clients : (s : EngineState) (client : ℕ) (answer : ClientAnswer) (o : Option Underway) → (after_answer_in s client answer o).clients ≡ s.clients
 answered_clients s client answer None = refl
 answered_clients s client answer (Some u) = refl
 
-wants_step : (client : ℕ) (s : EngineState) (x : ℕ × EngineEntry) → OnlyWants client s.clients → WantsAlone client x → IsEngineReply s x.1 → OnlyWants client (engine_after s x.1).clients
-wants_step client s (by, Register name sequences dump report (Ok n)) only alone reply = λ other c at.
+alone_step : (P : Registered → Type 0) (client : ℕ) (s : EngineState) (x : ℕ × EngineEntry) → OnlyIs P client s.clients → IsAlone P client x → IsEngineReply s x.1 → OnlyIs P client (engine_after s x.1).clients
+alone_step P client s (by, Register name sequences dump report (Ok n)) only alone reply = λ other c at.
     let new : Registered = record { name = name; sequences = sequences; wants_dump = dump; wants_report = report } in
-    elim (either_end s.clients new c other at) as (λ w. (c.wants_dump ≡ true) ↔ (other ≡ client)) [
+    elim (either_end s.clients new c other at) as (λ w. P c ↔ (other ≡ client)) [
       | inl old ↦ only other c old
       | inr here ↦
           let number : n ≡ other = (register_number s n reply).1 ∙ sym here.0 in
-          let dump_is : dump ≡ c.wants_dump = ap (λ (r : Registered). r.wants_dump) here.1 in
-          subst (λ (m : ℕ). (c.wants_dump ≡ true) ↔ (m ≡ client)) number (subst (λ (b : Bool). (b ≡ true) ↔ (n ≡ client)) dump_is alone)
+          subst (λ (m : ℕ). P c ↔ (m ≡ client)) number (subst (λ (r : Registered). P r ↔ (n ≡ client)) here.1 alone)
     ]
-wants_step client s (by, Register name sequences dump report (Err r)) only alone reply = only
-wants_step client s (by, Begin t sheet (Ok n)) only alone reply = only
-wants_step client s (by, Begin t sheet (Err r)) only alone reply = only
-wants_step client s (by, Poll other (Turn turn order dump blank)) only alone reply = subst (OnlyWants client) (sym (polled_clients s other turn order dump (gives_turn s other turn order dump blank reply))) only
-wants_step client s (by, Poll other (Idle state)) only alone reply = only
-wants_step client s (by, Poll other PollClosed) only alone reply = only
-wants_step client s (by, Poll other NoClient) only alone reply = only
-wants_step client s (by, Answer other answer (Ok done)) only alone reply = subst (OnlyWants client) (sym (answered_clients s other answer s.underway)) only
-wants_step client s (by, Answer other answer (Err r)) only alone reply = only
-wants_step client s (by, Check (Done outcome) tallies) only alone reply = only
-wants_step client s (by, Check Going tallies) only alone reply = only
-wants_step client s (by, Check NoneGoing tallies) only alone reply = only
-wants_step client s (by, Close (Ok done)) only alone reply = only
-wants_step client s (by, Close (Err r)) only alone reply = only
+alone_step P client s (by, Register name sequences dump report (Err r)) only alone reply = only
+alone_step P client s (by, Begin t sheet (Ok n)) only alone reply = only
+alone_step P client s (by, Begin t sheet (Err r)) only alone reply = only
+alone_step P client s (by, Poll other (Turn turn order dump blank)) only alone reply = subst (OnlyIs P client) (sym (polled_clients s other turn order dump (gives_turn s other turn order dump blank reply))) only
+alone_step P client s (by, Poll other (Idle state)) only alone reply = only
+alone_step P client s (by, Poll other PollClosed) only alone reply = only
+alone_step P client s (by, Poll other NoClient) only alone reply = only
+alone_step P client s (by, Answer other answer (Ok done)) only alone reply = subst (OnlyIs P client) (sym (answered_clients s other answer s.underway)) only
+alone_step P client s (by, Answer other answer (Err r)) only alone reply = only
+alone_step P client s (by, Check (Done outcome) tallies) only alone reply = only
+alone_step P client s (by, Check Going tallies) only alone reply = only
+alone_step P client s (by, Check NoneGoing tallies) only alone reply = only
+alone_step P client s (by, Close (Ok done)) only alone reply = only
+alone_step P client s (by, Close (Err r)) only alone reply = only
 
-wants_all : (client : ℕ) (s : EngineState) (h : EngineHistory) → IsLegalEngine s h → OneWantsDump client h → OnlyWants client s.clients → OnlyWants client (engine_replay s h).clients
-wants_all client s [] legal alone only = only
-wants_all client s (x ∷ h) legal alone only = wants_all client (engine_after s x.1) h legal.2 alone.1 (wants_step client s x only alone.0 legal.1)
+pub alone_all : (P : Registered → Type 0) (client : ℕ) (s : EngineState) (h : EngineHistory) → IsLegalEngine s h → AllByRecursion (IsAlone P client) h → OnlyIs P client s.clients → OnlyIs P client (engine_replay s h).clients
+alone_all P client s [] legal alone only = only
+alone_all P client s (x ∷ h) legal alone only = alone_all P client (engine_after s x.1) h legal.2 alone.1 (alone_step P client s x only alone.0 legal.1)
 
 not_true : (b : Bool) → (b ≡ true → ⊥) → b ≡ false
 not_true false never = refl
@@ -215,23 +220,23 @@ record Since (wants : Type 0) (came : RunState) (transition : Transition) (sheet
   plain : u.refusal ≡ None → AllByRecursion (IsOfKind transition) since
   told : AllByRecursion (TellsMine client since) u.tallies
   refused : RefusesMine client since u.refusal
-  fresh : wants → u.refusal ≡ None → IsIn client (to_call u.has_polled u.called) → u.dump ≡ sheet.dump
+  fresh : wants → u.is_off ≡ false → stands_in u.called client ≡ true → u.dump ≡ sheet.dump
 
 -- A poll.
 
-none_taken : (wish polled : Bool) (d : Option (List ℕ)) → wish ≡ false → (if wish && not polled then None else d) ≡ d
-none_taken true polled d e = absurd (cc (e))
-none_taken false polled d e = refl
+none_taken : (wish : Bool) (d : Option (List ℕ)) → wish ≡ false → (if wish then None else d) ≡ d
+none_taken true d e = absurd (cc (e))
+none_taken false d e = refl
 
-all_given : (wish polled : Bool) (d : Option (List ℕ)) → wish ≡ true → polled ≡ false → (if wish && not polled then d else None) ≡ d
-all_given true false d e e' = refl
-all_given true true d e e' = absurd (cc (e'))
-all_given false polled d e e' = absurd (cc (e))
+all_given : (wish : Bool) (d : Option (List ℕ)) → wish ≡ true → (if wish then d else None) ≡ d
+all_given true d e = refl
+all_given false d e = absurd (cc (e))
 
 -- a turn of a transition is none of its start-abort
-kept_kind : (t transition : Transition) (r : Option Refusal) → StartIfRefused transition r → turn_kind t r ≡ transition → r ≡ None
-kept_kind t transition None refused kind = refl
-kept_kind t transition (Some refusal) refused kind = absurd (let e : StartAbort ≡ Start = kind ∙ refused in cc (e))
+kept_kind : (t transition : Transition) (r : Option Refusal) (is_off : Bool) → KindFits transition r is_off → turn_kind t is_off ≡ transition → is_off ≡ false
+kept_kind t transition r false fits kind = refl
+kept_kind t transition None true fits kind = absurd (cc (fits))
+kept_kind t transition (Some refusal) true fits kind = absurd (let e : StartAbort ≡ Start = kind ∙ fits in cc (e))
 
 told_weaker : (client : ℕ) (since more : List MemberTurn) → ((t : MemberTurn) (answer : ClientAnswer) → t.answer ≡ Some answer → HasTurn since t → HasTurn more t) → (xs : List ClientTally) → AllByRecursion (TellsMine client since) xs → AllByRecursion (TellsMine client more) xs
 told_weaker client since more stays xs all =
@@ -240,62 +245,58 @@ told_weaker client since more stays xs all =
     record { turn = it.turn; stands = stays it.turn it.answer it.answered it.stands; answer = it.answer; answered = it.answered; tally_is = it.tally_is; accepted = it.accepted })
     xs all
 
-since_fresh : (wants : Type 0) (came : RunState) (transition : Transition) (sheet : Sheet) (start client : ℕ) (past ts : List MemberTurn) (u : Underway) (c : Registered) (dump : Option (List ℕ)) → Since wants came transition sheet start client past ts u → (wants → c.wants_dump ≡ true)
-    → dump ≡ (if gets_dump c u then u.dump else None) → u.has_polled ≡ false → IsIn client u.called → NoneOpen ts → (IsIn client (drop 1 u.called) → ⊥)
-    → Since wants came transition sheet start client past (turn_told ts (turn_from u dump)) (polled_by c u)
-since_fresh wants came transition sheet start client past ts u c dump s wish dump_is unpolled come none gone =
+since_first : (wants : Type 0) (came : RunState) (transition : Transition) (sheet : Sheet) (start client : ℕ) (past ts : List MemberTurn) (u : Underway) (c : Registered) (dump : Option (List ℕ)) → Since wants came transition sheet start client past ts u → (wants → c.wants_dump ≡ true)
+    → GivesFirst c u client dump → NoneOpen ts → Since wants came transition sheet start client past (turn_told ts (turn_from u dump)) (first_polled client c u)
+since_first wants came transition sheet start client past ts u c dump s wish first none =
     let t : MemberTurn = turn_from u dump in
-    let there : IsIn client (to_call u.has_polled u.called) = subst (λ (b : Bool). IsIn client (to_call b u.called)) (sym unpolled) come in
     record {
-      from = from_polled came transition sheet start u c s.from;
+      from = from_first came transition sheet start u client c s.from;
       since = t ∷ s.since;
       ts_is = told_new ts t none ∙ ap (λ (xs : List MemberTurn). t ∷ xs) s.ts_is;
       turns = (
         record {
-          of_begin = turn_of_begin came transition sheet start u (gets_dump c u) dump s.from dump_is;
-          dump = λ w kind. dump_is ∙ (all_given c.wants_dump u.has_polled u.dump (wish w) unpolled ∙ s.fresh w (kept_kind u.transition transition u.refusal s.from.refused kind) there);
+          of_begin = turn_of_begin came transition sheet start u client c dump s.from (inr first);
+          dump = λ w kind. first.dump_is ∙ (all_given c.wants_dump u.dump (wish w) ∙ s.fresh w (kept_kind u.transition transition u.refusal u.is_off s.from.kind kind) (next_called u client first.next));
         },
         s.turns,
       );
-      plain = λ none. (ap (λ (r : Option Refusal). turn_kind u.transition r) none ∙ s.from.transition_is, s.plain none);
+      plain = λ none. (ap (turn_kind u.transition) (unrefused_kind transition u.refusal u.is_off s.from.kind none) ∙ s.from.transition_is, s.plain none);
       told = told_weaker client s.since (t ∷ s.since) (λ v answer is has. inr has) u.tallies s.told;
       refused = λ r is mine. let it : IsRefused s.since r.why = s.refused r is mine in record { turn = it.turn; stands = inr it.stands; starts = it.starts; answered = it.answered };
-      fresh = λ w refusal is. absurd (gone is);
+      fresh = λ w off is. absurd (let never : false ≡ true = sym (first_gone client c u) ∙ is in cc (never));
     }
 
-since_again : (wants : Type 0) (came : RunState) (transition : Transition) (sheet : Sheet) (start client : ℕ) (past ts later : List MemberTurn) (u : Underway) (c : Registered) → Since wants came transition sheet start client past ts u → later ≡ ts
-    → (wants → IsIn client (drop 1 u.called) → c.wants_dump ≡ false) → Since wants came transition sheet start client past later (polled_by c u)
-since_again wants came transition sheet start client past ts later u c s same wish = record {
-  from = from_polled came transition sheet start u c s.from;
+since_other : (wants : Type 0) (came : RunState) (transition : Transition) (sheet : Sheet) (start client other : ℕ) (past ts : List MemberTurn) (u : Underway) (c : Registered) → Since wants came transition sheet start client past ts u → (wants → c.wants_dump ≡ false)
+    → Since wants came transition sheet start client past ts (first_polled other c u)
+since_other wants came transition sheet start client other past ts u c s wish = record {
+  from = from_first came transition sheet start u other c s.from;
   since = s.since;
-  ts_is = same ∙ s.ts_is;
+  ts_is = s.ts_is;
   turns = s.turns;
   plain = s.plain;
   told = s.told;
   refused = s.refused;
-  fresh = λ w refusal is. none_taken c.wants_dump u.has_polled u.dump (wish w is) ∙ s.fresh w refusal (to_call_more u.has_polled client u.called is);
+  fresh = λ w off is. none_taken c.wants_dump u.dump (wish w) ∙ s.fresh w off (first_fewer client other c u is);
 }
 
 since_polled : (wants : Type 0) (came : RunState) (transition : Transition) (sheet : Sheet) (start client other : ℕ) (past ts : List MemberTurn) (state : RunState) (number : ℕ) (u : Underway) (c : Registered) (clients : List Registered) (dump : Option (List ℕ))
-    → GaveAt state number client ts (Some u) → Since wants came transition sheet start client past ts u → (wants → OnlyWants client clients) → slice_get clients other ≡ Some c → is_next u.called other ≡ true → dump ≡ (if gets_dump c u then u.dump else None)
-    → Since wants came transition sheet start client past (if other == client then turn_told ts (turn_from u dump) else ts) (polled_by c u)
-since_polled wants came transition sheet start client other past ts state number u c clients dump g s only there front dump_is =
+    → GaveAt state number client ts (Some u) → Since wants came transition sheet start client past ts u → (wants → OnlyWants client clients) → slice_get clients other ≡ Some c → IsGiven c u other dump
+    → Since wants came transition sheet start client past (if other == client then turn_told ts (turn_from u dump) else ts) (polled_by other c u)
+since_polled wants came transition sheet start client other past ts state number u c clients dump g s only there given =
     let t : MemberTurn = turn_from u dump in
     let now : RunsOn state number client ts u = g.now in
-    split (other == client) (λ b. (other == client) ≡ b → Since wants came transition sheet start client past (if b then turn_told ts t else ts) (polled_by c u))
+    split (other == client) (λ b. (other == client) ≡ b → Since wants came transition sheet start client past (if b then turn_told ts t else ts) (polled_by other c u))
     (λ h e.
     let same : other ≡ client = eqb-true other client e in
-    let mine : is_next u.called client ≡ true = subst (λ (n : ℕ). is_next u.called n ≡ true) same front in
-    let gone : IsIn client (drop 1 u.called) → ⊥ = front_gone client u.called now.distinct mine in
-    split u.has_polled (λ b. u.has_polled ≡ b → Since wants came transition sheet start client past (turn_told ts t) (polled_by c u))
-    (λ h' polled.
-    let still : OpenFor true u ts = subst (λ (b : Bool). OpenFor b u ts) mine (subst (λ (b : Bool). OpenFor (b && is_next u.called client) u ts) polled now.open_turn) in
-    since_again wants came transition sheet start client past ts (turn_told ts t) u c s (ap (λ (x : List MemberTurn). turn_told x t) still.2 ∙ sym still.2) (λ w is. absurd (gone is)))
-    (λ h' unpolled.
-    since_fresh wants came transition sheet start client past ts u c dump s (λ w. (only w other c there).1 same) dump_is unpolled (front_in client u.called mine)
-    (subst (λ (b : Bool). OpenFor (b && is_next u.called client) u ts) unpolled now.open_turn) gone)
-    refl)
-    (λ h e. since_again wants came transition sheet start client past ts ts u c s refl (λ w is. not_true c.wants_dump (λ wish. eqb-false other client e ((only w other c there).0 wish))))
+    given_case (Since wants came transition sheet start client past (turn_told ts t)) other c u dump given
+    (λ again. subst (λ (x : List MemberTurn). Since wants came transition sheet start client past x u) (sym (told_again client ts u t now.open_turn (subst (λ (n : ℕ). has_polled u n ≡ true) same again.polled))) s)
+    (λ first.
+    let mine : GivesFirst c u client dump = subst (λ (n : ℕ). GivesFirst c u n dump) same first in
+    subst (λ (n : ℕ). Since wants came transition sheet start client past (turn_told ts t) (first_polled n c u)) (sym same)
+    (since_first wants came transition sheet start client past ts u c dump s (λ w. (only w other c there).1 same) mine (subst (λ (b : Bool). OpenFor b u ts) mine.fresh now.open_turn))))
+    (λ h e.
+    given_case (Since wants came transition sheet start client past ts) other c u dump given (λ again. s)
+    (λ first. since_other wants came transition sheet start client other past ts u c s (λ w. not_true c.wants_dump (λ wish. eqb-false other client e ((only w other c there).0 wish)))))
     refl
 
 -- An answer.
@@ -355,23 +356,20 @@ answered_since wants came transition sheet start client past ts u answer s none 
 abbrev Behind : (wants : Type 0) → RunState → Transition → Sheet → (start client other : ℕ) → (past ts : List MemberTurn) → Underway → ClientAnswer → Type 0
 Behind wants came transition sheet start client other past ts u answer = (other ≡ client) × AnsweredSince wants came transition sheet start client past ts u.tallies u.refusal (turn_of u) answer ⊎ (other ≢ client) × Since wants came transition sheet start client past ts u
 
-fresh_told : (wants : Type 0) (client : ℕ) (sheet : Sheet) (u : Underway) → u.has_polled ≡ true → (wants → u.refusal ≡ None → IsIn client (to_call u.has_polled u.called) → u.dump ≡ sheet.dump) → wants → u.refusal ≡ None → IsIn client (drop 1 u.called) → u.dump ≡ sheet.dump
-fresh_told wants client sheet u polled fresh w refusal is = fresh w refusal (subst (λ (b : Bool). IsIn client (to_call b u.called)) (sym polled) is)
-
-since_told : (wants : Type 0) (came : RunState) (transition : Transition) (sheet : Sheet) (start client other : ℕ) (past ts later : List MemberTurn) (u : Underway) (answer : ClientAnswer) (tally : Tally) → Since wants came transition sheet start client past ts u → u.has_polled ≡ true
-    → tally ≡ tally_of answer → (turn_of u ≡ Start → answer ≡ Yes tally) → Behind wants came transition sheet start client other past later u answer → Since wants came transition sheet start client past later (told other tally u)
-since_told wants came transition sheet start client other past ts later u answer tally s polled is accepted (inl (same, a)) = record {
+since_told : (wants : Type 0) (came : RunState) (transition : Transition) (sheet : Sheet) (start client other : ℕ) (past ts later : List MemberTurn) (u : Underway) (answer : ClientAnswer) (tally : Tally) → Since wants came transition sheet start client past ts u
+    → IsToldAs u answer tally → Behind wants came transition sheet start client other past later u answer → Since wants came transition sheet start client past later (told other tally u)
+since_told wants came transition sheet start client other past ts later u answer tally s is (inl (same, a)) = record {
   from = from_told came transition sheet start u other tally s.from;
   since = a.since;
   ts_is = a.ts_is;
   turns = a.turns;
   plain = a.plain;
   told = all_push (TellsMine client a.since) u.tallies (record { client = other; tally = tally }) a.told
-      (λ mine. record { turn = a.latest; stands = a.stands; answer = answer; answered = a.answered; tally_is = is; accepted = λ starts. accepted (sym a.of_kind ∙ starts) });
+      (λ mine. record { turn = a.latest; stands = a.stands; answer = answer; answered = a.answered; tally_is = is.tally_is; accepted = λ starts. is.accepted (ap is_start (sym a.of_kind ∙ starts)) });
   refused = a.refused;
-  fresh = fresh_told wants client sheet u polled s.fresh;
+  fresh = s.fresh;
 }
-since_told wants came transition sheet start client other past ts later u answer tally s polled is accepted (inr (differs, b)) = record {
+since_told wants came transition sheet start client other past ts later u answer tally s is (inr (differs, b)) = record {
   from = from_told came transition sheet start u other tally s.from;
   since = b.since;
   ts_is = b.ts_is;
@@ -379,63 +377,76 @@ since_told wants came transition sheet start client other past ts later u answer
   plain = b.plain;
   told = all_push (TellsMine client b.since) u.tallies (record { client = other; tally = tally }) b.told (λ mine. absurd (differs mine));
   refused = b.refused;
-  fresh = fresh_told wants client sheet u polled s.fresh;
+  fresh = s.fresh;
 }
 
-start_kind : (k : Transition) → is_start k ≡ true → k ≡ Start
-start_kind Start is = refl
-start_kind Stop is = absurd (cc (is))
-start_kind Pause is = absurd (cc (is))
-start_kind Resume is = absurd (cc (is))
-start_kind StartAbort is = absurd (cc (is))
+-- the first refusal stays
+first_by : (r : Option Refusal) (x : Refusal) (other : ℕ) (why : Why) → Some (first_refusal r other why) ≡ Some x → (r ≡ Some x) ⊎ (r ≡ None) × (other ≡ x.client) × (why ≡ x.why)
+first_by None x other why e = inr (refl, cc (e), cc (e))
+first_by (Some r) x other why e = inl e
 
-since_refused : (wants : Type 0) (came : RunState) (transition : Transition) (sheet : Sheet) (start client other : ℕ) (past ts later : List MemberTurn) (u : Underway) (clients : List Registered) (why : Why) → Since wants came transition sheet start client past ts u
-    → is_start (turn_of u) ≡ true → Behind wants came transition sheet start client other past later u (No why) → Since wants came transition sheet start client past later (refused_by clients other why u)
-since_refused wants came transition sheet start client other past ts later u clients why s starts (inl (same, a)) = record {
-  from = from_refused came transition sheet start u clients other why starts s.from;
+since_refused : (wants : Type 0) (came : RunState) (transition : Transition) (sheet : Sheet) (start client other : ℕ) (past ts later : List MemberTurn) (u : Underway) (why : Why) (answer : ClientAnswer) → Since wants came transition sheet start client past ts u
+    → Refuses u answer why → Behind wants came transition sheet start client other past later u answer → Since wants came transition sheet start client past later (refused_by other why u)
+since_refused wants came transition sheet start client other past ts later u why answer s refuses (inl (same, a)) = record {
+  from = from_refused came transition sheet start u other why refuses.starts s.from;
   since = a.since;
   ts_is = a.ts_is;
   turns = a.turns;
   plain = λ un. absurd (cc (un));
   told = a.told;
-  refused = λ r is mine. (let why_is : why ≡ r.why = cc (is) in record { turn = a.latest; stands = a.stands; starts = a.of_kind ∙ start_kind (turn_of u) starts; answered = a.answered ∙ ap (λ (w : Why). Some (No w)) why_is });
-  fresh = λ w refusal is. absurd (cc (refusal));
+  refused = λ r is mine. elim (first_by u.refusal r other why is) [
+    | inl before ↦ a.refused r before mine
+    | inr first ↦
+        record { turn = a.latest; stands = a.stands; starts = a.of_kind ∙ is_start_kind (turn_of u) refuses.starts; answered = a.answered ∙ (ap (λ (x : ClientAnswer). Some x) refuses.is ∙ ap (λ (w : Why). Some (No w)) first.2) }
+  ];
+  fresh = λ w off is. absurd (cc (is));
 }
-since_refused wants came transition sheet start client other past ts later u clients why s starts (inr (differs, b)) = record {
-  from = from_refused came transition sheet start u clients other why starts s.from;
+since_refused wants came transition sheet start client other past ts later u why answer s refuses (inr (differs, b)) = record {
+  from = from_refused came transition sheet start u other why refuses.starts s.from;
   since = b.since;
   ts_is = b.ts_is;
   turns = b.turns;
   plain = λ un. absurd (cc (un));
   told = b.told;
-  refused = λ r is mine. absurd (let by : other ≡ r.client = cc (is) in differs (by ∙ mine));
-  fresh = λ w refusal is. absurd (cc (refusal));
+  refused = λ r is mine. elim (first_by u.refusal r other why is) [
+    | inl before ↦ b.refused r before mine
+    | inr first ↦ absurd (differs (first.1 ∙ mine))
+  ];
+  fresh = λ w off is. absurd (cc (is));
 }
 
-not_start : (k : Transition) (answer : ClientAnswer) (tally : Tally) → is_start k ≡ false → k ≡ Start → answer ≡ Yes tally
-not_start k answer tally not starts = absurd (let e : is_start Start ≡ false = ap is_start (sym starts) ∙ not in cc (e))
+since_off : (wants : Type 0) (came : RunState) (transition : Transition) (sheet : Sheet) (start client : ℕ) (past ts : List MemberTurn) (clients : List Registered) (v : Underway) → is_due_off v.refusal v.polled v.is_off ≡ true → Since wants came transition sheet start client past ts v
+    → Since wants came transition sheet start client past ts (called_off clients v)
+since_off wants came transition sheet start client past ts clients v is s = record {
+  from = from_off came transition sheet start clients v is s.from;
+  since = s.since;
+  ts_is = s.ts_is;
+  turns = s.turns;
+  plain = s.plain;
+  told = s.told;
+  refused = s.refused;
+  fresh = λ w off is. absurd (cc (off));
+}
 
-since_by : (wants : Type 0) (came : RunState) (transition : Transition) (sheet : Sheet) (start client other : ℕ) (past ts later : List MemberTurn) (u : Underway) (clients : List Registered) (answer : ClientAnswer) → Since wants came transition sheet start client past ts u → u.has_polled ≡ true
+since_by : (wants : Type 0) (came : RunState) (transition : Transition) (sheet : Sheet) (start client other : ℕ) (past ts later : List MemberTurn) (u : Underway) (clients : List Registered) (answer : ClientAnswer) → Since wants came transition sheet start client past ts u
     → Behind wants came transition sheet start client other past later u answer → Since wants came transition sheet start client past later (answered_by clients other answer u)
-since_by wants came transition sheet start client other past ts later u clients (Yes tally) s polled behind = since_told wants came transition sheet start client other past ts later u (Yes tally) tally s polled refl (λ starts. refl) behind
-since_by wants came transition sheet start client other past ts later u clients (No why) s polled behind =
-    split (is_start (turn_of u)) (λ b. is_start (turn_of u) ≡ b → Since wants came transition sheet start client past later (if b then refused_by clients other why u else told other Plain u))
-    (λ h e. since_refused wants came transition sheet start client other past ts later u clients why s e behind)
-    (λ h e. since_told wants came transition sheet start client other past ts later u (No why) Plain s polled refl (not_start (turn_of u) (No why) Plain e) behind)
-    refl
+since_by wants came transition sheet start client other past ts later u clients answer s behind =
+    answered_case (Since wants came transition sheet start client past later) clients other answer u
+    (λ tally is. since_told wants came transition sheet start client other past ts later u answer tally s is behind)
+    (λ why is. since_refused wants came transition sheet start client other past ts later u why answer s is behind)
+    (λ v is kept. since_off wants came transition sheet start client past later clients v is kept)
 
 since_answered : (wants : Type 0) (came : RunState) (transition : Transition) (sheet : Sheet) (start client other : ℕ) (past ts : List MemberTurn) (state : RunState) (number : ℕ) (u : Underway) (clients : List Registered) (answer : ClientAnswer)
-    → GaveAt state number client ts (Some u) → Since wants came transition sheet start client past ts u → NoneOpen past → u.has_polled ≡ true → is_next u.called other ≡ true
+    → GaveAt state number client ts (Some u) → Since wants came transition sheet start client past ts u → NoneOpen past → has_polled u other ≡ true
     → Since wants came transition sheet start client past (if other == client then turn_answered ts answer else ts) (answered_by clients other answer u)
-since_answered wants came transition sheet start client other past ts state number u clients answer g s none polled front =
+since_answered wants came transition sheet start client other past ts state number u clients answer g s none polled =
     let now : RunsOn state number client ts u = g.now in
     split (other == client) (λ b. (other == client) ≡ b → Since wants came transition sheet start client past (if b then turn_answered ts answer else ts) (answered_by clients other answer u))
     (λ h e.
     let same : other ≡ client = eqb-true other client e in
-    let mine : is_next u.called client ≡ true = subst (λ (n : ℕ). is_next u.called n ≡ true) same front in
-    let still : OpenFor true u ts = subst (λ (b : Bool). OpenFor b u ts) mine (subst (λ (b : Bool). OpenFor (b && is_next u.called client) u ts) polled now.open_turn) in
-    since_by wants came transition sheet start client other past ts (turn_answered ts answer) u clients answer s polled (inl (same, answered_since wants came transition sheet start client past ts u answer s none still)))
-    (λ h e. since_by wants came transition sheet start client other past ts ts u clients answer s polled (inr (eqb-false other client e, s)))
+    let still : OpenFor true u ts = subst (λ (b : Bool). OpenFor b u ts) (subst (λ (n : ℕ). has_polled u n ≡ true) same polled) now.open_turn in
+    since_by wants came transition sheet start client other past ts (turn_answered ts answer) u clients answer s (inl (same, answered_since wants came transition sheet start client past ts u answer s none still)))
+    (λ h e. since_by wants came transition sheet start client other past ts ts u clients answer s (inr (eqb-false other client e, s)))
     refl
 
 -- One call.
@@ -462,11 +473,11 @@ goes_step wants came transition sheet start client past ts s (Poll other (Turn t
     let since : Since wants came transition sheet start client past ts p.u = subst (Since wants came transition sheet start client past ts) (same_underway s goes.u p.u goes.underway_is p.underway_is) goes.since in
     let at : GaveAt s.state s.start client ts (Some p.u) = subst (GaveAt s.state s.start client ts) p.underway_is g in
     record {
-      u = polled_by p.c p.u;
+      u = polled_by other p.c p.u;
       underway_is = polled_underway s other p.c p.u p.client_is p.underway_is;
       only = λ w. subst (OnlyWants client) (sym (polled_clients s other turn order dump p)) (goes.only w);
-      since = subst (λ (x : MemberTurn). Since wants came transition sheet start client past (if other == client then turn_told ts x else ts) (polled_by p.c p.u)) same
-          (since_polled wants came transition sheet start client other past ts s.state s.start p.u p.c s.clients dump at since goes.only p.client_is p.front p.dump_is);
+      since = subst (λ (x : MemberTurn). Since wants came transition sheet start client past (if other == client then turn_told ts x else ts) (polled_by other p.c p.u)) same
+          (since_polled wants came transition sheet start client other past ts s.state s.start p.u p.c s.clients dump at since goes.only p.client_is p.given);
     }
 goes_step wants came transition sheet start client past ts s (Answer other answer (Ok done)) g none mark reply goes =
     let o : Owes s other = owes s other done reply in
@@ -476,7 +487,7 @@ goes_step wants came transition sheet start client past ts s (Answer other answe
       u = answered_by s.clients other answer o.u;
       underway_is = answered_underway s other answer o.u o.underway_is;
       only = λ w. subst (OnlyWants client) (sym (answered_clients s other answer s.underway)) (goes.only w);
-      since = since_answered wants came transition sheet start client other past ts s.state s.start o.u s.clients answer at since none o.polled o.front;
+      since = since_answered wants came transition sheet start client other past ts s.state s.start o.u s.clients answer at since none o.polled;
     }
 goes_step wants came transition sheet start client past ts s (Answer other answer (Err r)) g none mark reply goes =
     subst (λ (x : List MemberTurn). Goes wants came transition sheet start client past x s) (sym (gave_unaccepted s client other ts answer g (owes_none s other r reply))) goes
@@ -489,18 +500,6 @@ goes_step wants came transition sheet start client past ts s (Poll other NoClien
 goes_step wants came transition sheet start client past ts s (Check Going tallies) g none mark reply goes = goes
 goes_step wants came transition sheet start client past ts s (Check NoneGoing tallies) g none mark reply goes = goes
 goes_step wants came transition sheet start client past ts s (Close (Err r)) g none mark reply goes = goes
-
-goes_all : (lists : CalledLists) (wants : Type 0) (came : RunState) (transition : Transition) (sheet : Sheet) (start by client : ℕ) (past ts : List MemberTurn) (s : EngineState) (h : EngineHistory) → IsLegalEngine s h → SpeaksFor by client h → HasNoMark h → NoneOpen past → Gave s client ts
-    → Goes wants came transition sheet start client past ts s → Goes wants came transition sheet start client past (fold (turns_with client) ts (entries_by by h)) (engine_replay s h)
-goes_all lists wants came transition sheet start by client past ts s [] legal alone marks none g goes = goes
-goes_all lists wants came transition sheet start by client past ts s (x ∷ h) legal alone marks none g goes =
-    let next : Gave (engine_after s x.1) client (turns_with client ts x.1) = gave_step lists s client ts x.1 g legal.1 in
-    let goes_next : Goes wants came transition sheet start client past (turns_with client ts x.1) (engine_after s x.1) = goes_step wants came transition sheet start client past ts s x.1 g none marks.0 legal.1 goes in
-    own_or_other by client x h (λ es. Goes wants came transition sheet start client past (fold (turns_with client) ts es) (engine_replay (engine_after s x.1) h)) alone.0
-    (goes_all lists wants came transition sheet start by client past (turns_with client ts x.1) (engine_after s x.1) h legal.2 alone.1 marks.1 none next goes_next)
-    (λ not. let same : turns_with client ts x.1 ≡ ts = other_step s client ts x.1 g legal.1 not in
-    goes_all lists wants came transition sheet start by client past ts (engine_after s x.1) h legal.2 alone.1 marks.1 none (subst (Gave (engine_after s x.1) client) same next)
-    (subst (λ (y : List MemberTurn). Goes wants came transition sheet start client past y (engine_after s x.1)) same goes_next))
 
 pub unrefused : (r : Option Refusal) → Completed ≡ outcome_of r → r ≡ None
 unrefused None e = refl
@@ -560,8 +559,8 @@ tally_told wants came transition sheet start by client past ts s closer outcome 
 rests_none : (client : ℕ) (ts : List MemberTurn) (s : EngineState) → s.underway ≡ None → Gave s client ts → NoneOpen ts
 rests_none client ts s free g = (subst (StandsAt s.state s.start client ts) free g.now).none
 
-opening_wants : (client : ℕ) → OnlyWants client []
-opening_wants client = λ other c at. absurd (cc (at))
+pub opening_alone : (P : Registered → Type 0) (client : ℕ) → OnlyIs P client []
+opening_alone P client = λ other c at. absurd (cc (at))
 
 -- the client's turns since the begin, at the Done
 record AtDone (by client : ℕ) (history : EngineHistory) (transition : Transition) (sheet : Sheet) (start : ℕ) (outcome : StartOutcome) (tallies : List ClientTally) (has : HasTransition history transition sheet start outcome tallies) : Type 0 where
@@ -572,9 +571,9 @@ record AtDone (by client : ℕ) (history : EngineHistory) (transition : Transiti
   reply : IsEngineReply engine (Check (Done outcome) tallies)
   turns_are : member_turns client (entries_by by history) ≡ fold (turns_with client) ts (entries_by by ((has.closer, Check (Done outcome) tallies) ∷ has.later))
 
-at_done : Follows → CalledLists → (by client : ℕ) (history : EngineHistory) → IsLegalEngine engine_opening history → SpeaksFor by client history → (transition : Transition) (sheet : Sheet) (start : ℕ) (outcome : StartOutcome) (tallies : List ClientTally)
+at_done : Follows → (by client : ℕ) (history : EngineHistory) → IsLegalEngine engine_opening history → SpeaksFor by client history → (transition : Transition) (sheet : Sheet) (start : ℕ) (outcome : StartOutcome) (tallies : List ClientTally)
     → (has : HasTransition history transition sheet start outcome tallies) → AtDone by client history transition sheet start outcome tallies has
-at_done follows lists by client history legal alone transition sheet start outcome tallies has =
+at_done follows by client history legal alone transition sheet start outcome tallies has =
     let wants : Type 0 = OneWantsDump client has.earlier in
     let came : RunState = state_at (engine_past has.earlier) in
     let begin : ℕ × EngineEntry = (has.opener, Begin transition sheet (Ok start)) in
@@ -587,24 +586,24 @@ at_done follows lists by client history legal alone transition sheet start outco
     let speaks = speaks_apart by client has.earlier (begin ∷ rest) (subst (SpeaksFor by client) has.whole alone) in
     let speaks_later = speaks_apart by client has.between (done ∷ has.later) speaks.1.1 in
     let ts1 : List MemberTurn = fold (turns_with client) [] (entries_by by has.earlier) in
-    let g1 : Gave s1 client ts1 = gave_all lists engine_opening by client has.earlier [] first.0 speaks.0 (opening_gave client) in
+    let g1 : Gave s1 client ts1 = gave_all engine_opening by client has.earlier [] first.0 speaks.0 (opening_gave client) in
     let b : Begins s1 transition start = begins s1 transition start first.1.1 in
-    let g2 : Gave s2 client ts1 = gave_step lists s1 client ts1 begin.1 g1 first.1.1 in
+    let g2 : Gave s2 client ts1 = gave_step s1 client ts1 begin.1 g1 first.1.1 in
     let none : NoneOpen ts1 = rests_none client ts1 s1 b.free g1 in
-    let goes2 : Goes wants came transition sheet start client ts1 ts1 s2 = goes_begun wants came client ts1 s1 transition sheet start (state_told follows has.earlier first.0 has.opener transition sheet start first.1.0 first.1.1) b (λ w. wants_all client engine_opening has.earlier first.0 w (opening_wants client)) in
+    let goes2 : Goes wants came transition sheet start client ts1 ts1 s2 = goes_begun wants came client ts1 s1 transition sheet start (state_told follows has.earlier first.0 has.opener transition sheet start first.1.0 first.1.1) b (λ w. alone_all WantsDump client engine_opening has.earlier first.0 w (opening_alone WantsDump client)) in
     record {
       past = ts1;
       ts = fold (turns_with client) ts1 (entries_by by has.between);
       engine = engine_replay s2 has.between;
-      goes = goes_all lists wants came transition sheet start by client ts1 ts1 s2 has.between second.0 speaks_later.0 has.on none g2 goes2;
+      goes = kept_all by client (Goes wants came transition sheet start client ts1) (λ ts s e g. goes_step wants came transition sheet start client ts1 ts s e g none) ts1 s2 has.between second.0 speaks_later.0 has.on g2 goes2;
       reply = second.1.1;
       turns_are = ap (λ (h : EngineHistory). member_turns client (entries_by by h)) has.whole
           ∙ (turns_apart by client [] has.earlier (begin ∷ rest) ∙ (turns_begin by client ts1 has.opener transition sheet start rest ∙ turns_apart by client ts1 has.between (done ∷ has.later)));
     }
 
-pub tallies_are_answers : Follows → CalledLists → TalliesAreAnswers
-tallies_are_answers follows lists by client history legal alone transition sheet start outcome tallies has index tally at =
-    let d : AtDone by client history transition sheet start outcome tallies has = at_done follows lists by client history legal alone transition sheet start outcome tallies has in
+pub tallies_are_answers : Follows → TalliesAreAnswers
+tallies_are_answers follows by client history legal alone transition sheet start outcome tallies has index tally at =
+    let d : AtDone by client history transition sheet start outcome tallies has = at_done follows by client history legal alone transition sheet start outcome tallies has in
     let begin : ℕ × EngineEntry = (has.opener, Begin transition sheet (Ok start)) in
     let rest : EngineHistory = has.between ++ (has.closer, Check (Done outcome) tallies) ∷ has.later in
     subst (λ (xs : List MemberTurn). IsTallyOfTurn history client xs (state_at (engine_past has.earlier)) transition sheet start outcome tally) (sym d.turns_are)
@@ -620,10 +619,10 @@ refusal_is (Some refusal) client why e =
     let why_is : refusal.why ≡ why = cc (e) in
     ap (λ (n : ℕ). Some (record { client = n; why = refusal.why })) client_is ∙ ap (λ (w : Why). Some (record { client = client; why = w })) why_is
 
-pub refusals_are_answers : Follows → CalledLists → RefusalsAreAnswers
-refusals_are_answers follows lists by client history legal alone sheet start why tallies has =
+pub refusals_are_answers : Follows → RefusalsAreAnswers
+refusals_are_answers follows by client history legal alone sheet start why tallies has =
     let outcome : StartOutcome = Refused client why in
-    let d : AtDone by client history Start sheet start outcome tallies has = at_done follows lists by client history legal alone Start sheet start outcome tallies has in
+    let d : AtDone by client history Start sheet start outcome tallies has = at_done follows by client history legal alone Start sheet start outcome tallies has in
     let came : RunState = state_at (engine_past has.earlier) in
     let wants : Type 0 = OneWantsDump client has.earlier in
     let f : Finishes d.engine outcome = finishes d.engine outcome d.reply.0 in

@@ -1,79 +1,12 @@
--- The turns of a client, and the clients that are still to be called.
-use Rattle.std.specs.Prelude.{◌≡◌, ◌≢◌, ℕ, ◌<◌, ◌≤◌, Bool, true, false, is_some, if◌then◌else◌, List, [], ◌∷◌, drop, slice_get, Option, Some, None, refl, ⊤, ◌⊎◌}
-use Rattle.std.specs.List.{AllByRecursion}
-use Rattle.std.proofs.Common.{ap, sym, ◌∙◌, subst, arith, inl, inr, ne_eqb}
-use Rattle.std.proofs.lemmas.Bool.{eqb-true}
+-- The turns of a client.
+use Rattle.std.specs.Prelude.{◌≡◌, ◌≢◌, ℕ, ◌<◌, ◌≤◌, Bool, true, is_some, if◌then◌else◌, List, [], ◌∷◌, Option, Some, None, refl}
+use Rattle.std.proofs.Common.{ap, ◌∙◌, subst, arith, inl, inr}
 use Rattle.daq_types.specs.declared.runs.Order.{Order}
 use Rattle.daq_types.specs.declared.runs.Transition.{Transition}
 use Rattle.daq_types.specs.declared.runs.Transition.TheVariants.{Start, Stop, Pause, Resume, StartAbort}
-use Rattle.run_states.specs.Sequences.{sequence_for}
-use Rattle.transitions.specs.declared.client.Registered.{Registered}
-use Rattle.transitions.specs.declared.called.Called.{Called}
 use Rattle.transitions.specs.declared.answers.Answer.{Answer}
-use Rattle.transitions.specs.Called.{called_list}
-use Rattle.transitions.specs.CalledOrder.{IsBefore, AreInOrder, IsCalledIn, IsRegisteredFor, IsCalledList}
-use Rattle.transitions.specs.EngineCalls.{is_next}
 use Rattle.member_model.specs.Turns.{MemberTurn, HasTurn, HasAnswer, NoneOpen, current_run, HasNoStart, IsOfRun, IsNextTurn}
 use Rattle.member_model.specs.TurnCalls.{turn_told, turn_answered}
-
--- Clients to be called.
-
-abbrev pub IsIn : (client : ℕ) → List Called → Type 0
-IsIn client [] = ⊥
-IsIn client (x ∷ xs) = (x.client ≡ client) ⊎ IsIn client xs
-
--- each client once
-abbrev pub AreDistinct : List Called → Type 0
-AreDistinct [] = ⊤
-AreDistinct (x ∷ xs) = (IsIn x.client xs → ⊥) × AreDistinct xs
-
--- those whose turn is not yet given: not the first, once it has polled
-abbrev pub to_call : (has_polled : Bool) → List Called → List Called
-to_call false cs = cs
-to_call true cs = drop 1 cs
-
-one_is_not_two : (t : Transition) (clients : List Registered) (x y : Called) → IsRegisteredFor t clients x → IsRegisteredFor t clients y → IsBefore x y → y.client ≢ x.client
-one_is_not_two t clients x y rx ry before same =
-    let there : slice_get clients x.client ≡ Some ry.client = subst (λ (n : ℕ). slice_get clients n ≡ Some ry.client) same ry.stands in
-    let both : Some rx.client ≡ Some ry.client = sym rx.stands ∙ there in
-    let client : rx.client ≡ ry.client = cc (both) in
-    let sequences : Some x.sequence ≡ Some y.sequence = sym rx.sequence ∙ (ap (λ (c : Registered). sequence_for c.sequences t) client ∙ ry.sequence) in
-    let sequence : x.sequence ≡ y.sequence = cc (sequences) in
-    omega (arith, before.equal sequence, same)
-
-never_again : (t : Transition) (clients : List Registered) (x : Called) (xs : List Called) → IsRegisteredFor t clients x → ((y : Called) → IsCalledIn y xs → IsRegisteredFor t clients y) → AllByRecursion (IsBefore x) xs → IsIn x.client xs → ⊥
-never_again t clients x [] rx each before is = is
-never_again t clients x (y ∷ ys) rx each before (inl same) = one_is_not_two t clients x y rx (each y (inl refl)) before.0 same
-never_again t clients x (y ∷ ys) rx each before (inr later) = never_again t clients x ys rx (λ z is. each z (inr is)) before.1 later
-
-ordered_distinct : (t : Transition) (clients : List Registered) (xs : List Called) → ((y : Called) → IsCalledIn y xs → IsRegisteredFor t clients y) → AreInOrder xs → AreDistinct xs
-ordered_distinct t clients [] each ordered = tt
-ordered_distinct t clients (x ∷ xs) each ordered =
-    (never_again t clients x xs (each x (inl refl)) (λ y is. each y (inr is)) ordered.0, ordered_distinct t clients xs (λ y is. each y (inr is)) ordered.1)
-
-pub called_distinct : (t : Transition) (clients : List Registered) → IsCalledList t clients (called_list t clients) → AreDistinct (called_list t clients)
-called_distinct t clients is = ordered_distinct t clients (called_list t clients) (λ y there. (is.members y).0 there) is.in_order
-
-pub distinct_drop : (xs : List Called) → AreDistinct xs → AreDistinct (drop 1 xs)
-distinct_drop [] are = tt
-distinct_drop (x ∷ xs) are = are.1
-
-pub to_call_more : (b : Bool) (client : ℕ) (xs : List Called) → IsIn client (drop 1 xs) → IsIn client (to_call b xs)
-to_call_more true client xs is = is
-to_call_more false client [] is = is
-to_call_more false client (x ∷ xs) is = inr is
-
-pub front_in : (client : ℕ) (xs : List Called) → is_next xs client ≡ true → IsIn client xs
-front_in client [] e = absurd (cc (e))
-front_in client (x ∷ xs) e = inl (eqb-true x.client client e)
-
-pub front_gone : (client : ℕ) (xs : List Called) → AreDistinct xs → is_next xs client ≡ true → IsIn client (drop 1 xs) → ⊥
-front_gone client [] are e is = is
-front_gone client (x ∷ xs) are e is = are.0 (subst (λ (n : ℕ). IsIn n xs) (sym (eqb-true x.client client e)) is)
-
-pub other_front : (client other : ℕ) (xs : List Called) → is_next xs other ≡ true → other ≢ client → is_next xs client ≡ false
-other_front client other [] e differs = refl
-other_front client other (x ∷ xs) e differs = ne_eqb x.client client (λ same. differs (sym (eqb-true x.client other e) ∙ same))
 
 -- Turns with low numbers.
 

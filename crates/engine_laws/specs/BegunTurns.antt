@@ -10,6 +10,7 @@ use Rattle.daq_types.specs.declared.runs.StartOutcome.{StartOutcome}
 use Rattle.daq_types.specs.declared.runs.Why.{Why}
 use Rattle.daq_types.specs.declared.runs.StartOutcome.TheVariants.{Completed}
 use Rattle.run_states.specs.States.{is_allowed}
+use Rattle.transitions.specs.declared.client.Registered.{Registered}
 use Rattle.transitions.specs.declared.sheet.Sheet.{Sheet}
 use Rattle.transitions.specs.declared.answers.Answer.{Answer}
 use Rattle.transitions.specs.declared.answers.Answer.TheVariants.{Yes, No}
@@ -71,13 +72,25 @@ pub record IsRegisteredIn (history : EngineHistory) (client : ℕ) (transition :
 abbrev pub HasTally : (client : ℕ) → List ClientTally → Type 0
 HasTally client tallies = (index : ℕ) × (tally : Tally) × (slice_get tallies index ≡ Some (record { client = client; tally = tally }))
 
+-- where the entry registers a client, this is so of it exactly where it is this one
+abbrev pub IsAlone : (P : Registered → Type 0) → (client : ℕ) → ℕ × EngineEntry → Type 0
+IsAlone P client (caller, Register name sequences dump report (Ok n)) =
+    P (record { name = name; sequences = sequences; wants_dump = dump; wants_report = report }) ↔ (n ≡ client)
+IsAlone P client entry = ⊤
+
 -- this client wants the dump, and no other
 abbrev pub WantsAlone : (client : ℕ) → ℕ × EngineEntry → Type 0
-WantsAlone client (caller, Register name sequences dump report (Ok n)) = (dump ≡ true) ↔ (n ≡ client)
-WantsAlone client entry = ⊤
+WantsAlone client entry = IsAlone (λ (c : Registered). c.wants_dump ≡ true) client entry
 
 abbrev pub OneWantsDump : (client : ℕ) → EngineHistory → Type 0
 OneWantsDump client history = AllByRecursion (WantsAlone client) history
+
+-- this client has this number for the transition, and no other: it is alone in its group
+abbrev pub IsNumberedAlone : (client : ℕ) → Transition → (sequence : ℕ) → ℕ × EngineEntry → Type 0
+IsNumberedAlone client t q entry = IsAlone (λ (c : Registered). sequence_for c.sequences t ≡ Some q) client entry
+
+abbrev pub OneHasNumber : (client : ℕ) → Transition → (sequence : ℕ) → EngineHistory → Type 0
+OneHasNumber client t q history = AllByRecursion (IsNumberedAlone client t q) history
 
 -- One of these turns is of such a transition, and this tally is its answer: a start that was answered No has none, and a
 -- No to any other transition is told as Yes without a tally. Where no start was refused, the turn is none of a start-abort.

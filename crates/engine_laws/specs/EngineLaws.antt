@@ -20,7 +20,7 @@ use Rattle.transitions.specs.GivenTurns.{SpeaksFor}
 use Rattle.member_model.specs.Turns.{MemberTurn, HasTurn, AreEngineTurns}
 use Rattle.member_model.specs.TurnCalls.{member_turns}
 use Rattle.daq_types.specs.declared.runs.StartOutcome.TheVariants.{Completed, Refused}
-use Rattle.engine_laws.specs.BegunTurns.{WasBegun, HasTransition, IsRegisteredIn, HasTally, IsTallyOfTurn, IsRefusedTurn, IsCalledOff, StartsComeLast, IsAlwaysCalled, AreUnmarked}
+use Rattle.engine_laws.specs.BegunTurns.{WasBegun, HasTransition, IsRegisteredIn, HasTally, OneHasNumber, IsTallyOfTurn, IsRefusedTurn, IsCalledOff, StartsComeLast, IsAlwaysCalled, AreUnmarked}
 
 -- The turns that the caller of a client reads off its own calls are turns as an engine gives them, where this caller alone
 -- polls and answers for the client.
@@ -83,11 +83,23 @@ RefusalsAreAnswers = (by client : ℕ) → (history : EngineHistory) →
     (has : HasTransition history Start sheet start (Refused client why) tallies) →
     IsRefusedTurn (member_turns client (entries_by by history)) (state_at (engine_past has.earlier)) sheet start why
 
--- Where the caller of a client answered No to its turn of a start, the Done of that start says that this client refused it, for
--- that reason: so one client refuses a start, and one only.
+-- Where the caller of a client answered No to its turn of a start, the Done of that start says that it was refused: by the client
+-- whose No came first.
 abbrev pub NosAreRefusals : Type 0
 NosAreRefusals = (by client : ℕ) → (history : EngineHistory) →
     IsLegalEngine engine_opening history → SpeaksFor by client history →
+    (sheet : Sheet) → (start : ℕ) → (outcome : StartOutcome) → (tallies : List ClientTally) →
+    HasTransition history Start sheet start outcome tallies →
+    (turn : MemberTurn) → HasTurn (member_turns client (entries_by by history)) turn →
+    turn.transition ≡ Start → turn.order.start ≡ start → (why : Why) → turn.answer ≡ Some (No why) →
+    (refuser : ℕ) × (reason : Why) × (outcome ≡ Refused refuser reason)
+
+-- A client that has its number for a start alone has its turn of it alone: so where its caller answered No, this is the refusal
+-- that the Done tells.
+abbrev pub LoneNosAreRefusals : Type 0
+LoneNosAreRefusals = (by client : ℕ) → (history : EngineHistory) →
+    IsLegalEngine engine_opening history → SpeaksFor by client history →
+    (sequence : ℕ) → OneHasNumber client Start sequence history →
     (sheet : Sheet) → (start : ℕ) → (outcome : StartOutcome) → (tallies : List ClientTally) →
     HasTransition history Start sheet start outcome tallies →
     (turn : MemberTurn) → HasTurn (member_turns client (entries_by by history)) turn →

@@ -1,6 +1,6 @@
 //! Laws of the turns of one client of an engine: each function does nothing, and its contract is the law.
 
-ghost use Rattle.engine_laws.specs.EngineLaws.{GivesEngineTurns, TurnsWereBegun, StartsFromStopped, StopsFromRun, DonesHaveBegins, OthersComplete, TalliesAreAnswers, RefusalsAreAnswers, NosAreRefusals, RefusedAreCalledOff, RunsAreOver, CalledAreTold, MainHasTransition};
+ghost use Rattle.engine_laws.specs.EngineLaws.{GivesEngineTurns, TurnsWereBegun, StartsFromStopped, StopsFromRun, DonesHaveBegins, OthersComplete, TalliesAreAnswers, RefusalsAreAnswers, NosAreRefusals, LoneNosAreRefusals, RefusedAreCalledOff, RunsAreOver, CalledAreTold, MainHasTransition};
 
 use transitions::laws;
 
@@ -8,9 +8,7 @@ use transitions::laws;
 /// and any other turn that of the run that is on, unless the client was not called for the start of its run.
 pub fn gives_turns()
     ensures { GivesEngineTurns }
-{
-    laws::called_in_order();
-}
+{}
 
 /// Each of these turns is one of a transition that was begun in the history, with its order, the state that the history tells
 /// there, and at most its dump: a start from the stopped state, a stop from another.
@@ -19,20 +17,20 @@ pub fn turns_begun()
     ensures starts { StartsFromStopped }
     ensures stops { StopsFromRun }
 {
-    laws::called_in_order();
     laws::follows();
 }
 
 /// Each Done belongs to the begin before it, and each tally of a client in it is what its caller answered to the client's turn
 /// of that transition; the turn of the one client that wants the dump has it. Only the Done of a start tells a refusal, which is
-/// what the caller of the client that it names answered to the client's turn of that start; and each No to a turn of a start is
-/// the refusal that its Done tells.
+/// what the caller of the client that it names answered to the client's turn of that start; and behind each No to a turn of a
+/// start its Done tells a refusal: this very one where the client is alone in its group.
 pub fn tallies_answered()
     ensures begins { DonesHaveBegins }
     ensures completed { OthersComplete }
     ensures tallies { TalliesAreAnswers }
     ensures refusals { RefusalsAreAnswers }
     ensures nos { NosAreRefusals }
+    ensures lone { LoneNosAreRefusals }
 {
     laws::called_in_order();
     laws::follows();

@@ -47,6 +47,8 @@ enum Call {
     Check(Progress, usize),
     /// And what the three tallies that move out tell at the first four places.
     CheckThree(Progress, &'static [Option<(u32, bool)>; 4]),
+    /// And which clients the tallies that move out are of, in order.
+    CheckClients(Progress, &'static [u32]),
     /// Whether the engine is closed.
     Close(bool),
 }
@@ -260,6 +262,25 @@ fn is_checked_by_three(
     Ok(are_three(tallies, told) && is_right)
 }
 
+/// Whether this is the progress of the transition, and the tallies that move out are of these clients, in this order.
+fn is_checked_by(
+    alloc: Global,
+    engine: &mut Engine,
+    progress: Progress,
+    clients: &[u32],
+) -> Result<bool, NoMemory> {
+    let mut tallies = Tallies::new(alloc)?;
+    let is_right = engine.check(&mut tallies) == progress;
+    let mut is_told = tallies.len() == clients.len();
+    for (place, client) in clients.iter().enumerate() {
+        is_told = is_told
+            && tallies
+                .get(place)
+                .is_some_and(|told| told.client == *client);
+    }
+    Ok(is_right && is_told)
+}
+
 /// What the client that counts what it sent answers.
 const COUNTED: Tally = Tally::Front {
     sent: 7,
@@ -293,6 +314,7 @@ fn is_right(alloc: Global, engine: &mut Engine, call: Call) -> Result<bool, NoMe
         BeginInVain(transition) => is_sheet_back(alloc, engine, transition),
         Check(progress, count) => is_checked(alloc, engine, progress, count),
         CheckThree(progress, told) => is_checked_by_three(alloc, engine, progress, told),
+        CheckClients(progress, clients) => is_checked_by(alloc, engine, progress, clients),
         Close(closed) => Ok(engine.close().is_ok() == closed),
         call => Ok(is_right_for_client(engine, call)),
     }
@@ -354,11 +376,12 @@ const BY_SEQUENCE: &[Call] = &[
     Poll(2, Found::Turn(Start, true, true)),
     Poll(2, Found::Turn(Start, false, false)),
     Yes(2, true),
-    Poll(1, Found::Idle(RunState::Stopped)),
+    Poll(0, Found::Turn(Start, false, false)),
+    Poll(1, Found::Turn(Start, false, false)),
     Poll(0, Found::Turn(Start, false, false)),
     Yes(0, true),
+    Poll(0, Found::Idle(RunState::Stopped)),
     Check(Progress::Going, 0),
-    Poll(1, Found::Turn(Start, false, false)),
     Close(false),
     Yes(1, true),
     Poll(0, Found::Idle(RunState::Running)),
@@ -393,15 +416,72 @@ const START_REFUSED: &[Call] = &[
     Yes(2, true),
     Poll(0, Found::Turn(Start, false, false)),
     No(0, true),
-    Poll(1, Found::Idle(RunState::Stopped)),
+    Poll(2, Found::Idle(RunState::Stopped)),
+    Poll(1, Found::Turn(StartAbort, false, false)),
     Poll(0, Found::Turn(StartAbort, false, false)),
     Yes(0, true),
-    Poll(1, Found::Turn(StartAbort, false, false)),
     No(1, true),
     Poll(2, Found::Turn(StartAbort, false, false)),
     Yes(2, true),
     Check(REFUSED, 4),
     Begin(Start, Ok(2)),
+];
+
+const REFUSED_BY_SECOND: Progress = Progress::Done {
+    outcome: StartOutcome::Refused {
+        client: 1,
+        why: Why::NotReady,
+    },
+};
+
+/// One of two that have their turns at once refuses the start: the other one still answers, and then start-abort begins.
+const REFUSED_IN_GROUP: &[Call] = &[
+    BeginBare(Start, Ok(1)),
+    Poll(0, Found::Idle(RunState::Stopped)),
+    Poll(2, Found::Turn(Start, false, false)),
+    Yes(2, true),
+    Poll(1, Found::Turn(Start, false, false)),
+    Poll(0, Found::Turn(Start, false, false)),
+    No(1, true),
+    Poll(2, Found::Idle(RunState::Stopped)),
+    Yes(0, true),
+    Poll(0, Found::Turn(StartAbort, false, false)),
+    Poll(1, Found::Turn(StartAbort, false, false)),
+    Poll(2, Found::Idle(RunState::Stopped)),
+    Yes(0, true),
+    Poll(2, Found::Idle(RunState::Stopped)),
+    Yes(1, true),
+    Poll(2, Found::Turn(StartAbort, false, false)),
+    Yes(2, true),
+    CheckClients(REFUSED_BY_SECOND, &[2, 0, 0, 1, 2]),
+];
+
+/// Both of them refuse it: the first No counts, and neither is among the tallies.
+const REFUSED_TWICE: &[Call] = &[
+    BeginBare(Start, Ok(1)),
+    Poll(2, Found::Turn(Start, false, false)),
+    Yes(2, true),
+    Poll(0, Found::Turn(Start, false, false)),
+    Poll(1, Found::Turn(Start, false, false)),
+    No(1, true),
+    Poll(1, Found::Idle(RunState::Stopped)),
+    Poll(0, Found::Turn(Start, false, false)),
+    No(0, true),
+    No(0, false),
+    Poll(1, Found::Turn(StartAbort, false, false)),
+    Yes(1, true),
+    Poll(0, Found::Turn(StartAbort, false, false)),
+    Yes(0, true),
+    Check(Progress::Going, 0),
+    Poll(2, Found::Turn(StartAbort, false, false)),
+    Yes(2, true),
+    CheckClients(REFUSED_BY_SECOND, &[2, 1, 0, 2]),
+    BeginBare(
+        Stop,
+        Err(BeginRefusal::WrongState {
+            state: RunState::Stopped,
+        }),
+    ),
 ];
 
 const STOP_NOT_REFUSED: &[Call] = &[
@@ -478,6 +558,8 @@ const ROWS: &[(&[Client], &[Call])] = &[
     (THREE, BY_SEQUENCE),
     (&[], WITHOUT_CLIENTS),
     (THREE, START_REFUSED),
+    (THREE, REFUSED_IN_GROUP),
+    (THREE, REFUSED_TWICE),
     (ONE, STOP_NOT_REFUSED),
     (TWO, DUMP_GIVEN_ONCE),
     (&[], MOST_CLIENTS_AND_TALLIES),

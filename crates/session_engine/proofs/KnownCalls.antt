@@ -13,13 +13,12 @@ use Rattle.transitions.specs.EnginePoints.{engine_past, engine_past_after}
 use Rattle.turn_lock.specs.History.{Appends}
 use Rattle.session_engine.specs.MainKnowledge.{MainKnows, known_at, known_from, entry_of_main}
 use Rattle.session_engine.proofs.KnownSteps.{Knows, polled, answered, main_step}
-use Rattle.std.specs.Prelude.{slice_get}
 
 -- a call of another caller changes nothing that the main thread knows
 other_step : (k : MainKnows) (s : EngineState) (by : ℕ) (e : EngineEntry) → by ≢ main_caller → IsEngineCaller by e → IsEngineReply s e → Knows k s → Knows k (engine_after s e)
 other_step k s by (Register name sequences dump report reply) other may replied knows = absurd (other may)
 other_step k s by (Begin t sheet reply) other may replied knows = absurd (other may.0)
-other_step k s by (Poll client (Turn t order dump blank)) other may replied knows = polled k s (slice_get s.clients client) knows
+other_step k s by (Poll client (Turn t order dump blank)) other may replied knows = polled k s client t order dump blank replied knows
 other_step k s by (Poll client (Idle state)) other may replied knows = knows
 other_step k s by (Poll client PollClosed) other may replied knows = knows
 other_step k s by (Poll client NoClient) other may replied knows = knows

@@ -1,5 +1,5 @@
 -- What the main thread knows is what the engine holds, behind each call of a legal history.
-use Rattle.std.specs.Prelude.{◌≡◌, ℕ, suc, ◌+◌, ◌&&◌, Bool, true, false, nat_lt, if◌then◌else◌, List, [], ◌∷◌, ◌++◌, slice_get, Option, Some, None, Result, Ok, Err, refl, ⊤}
+use Rattle.std.specs.Prelude.{◌≡◌, ℕ, suc, ◌+◌, Bool, true, false, nat_lt, if◌then◌else◌, List, [], ◌∷◌, ◌++◌, Option, Some, None, Result, Ok, Err, refl, ⊤}
 use Rattle.std.specs.Option.{option_map}
 use Rattle.std.proofs.Common.{ap, sym, subst, ◌∙◌, arith}
 use Rattle.daq_types.specs.declared.runs.RunState.{RunState}
@@ -12,8 +12,6 @@ use Rattle.transitions.specs.declared.client.Registered.{Registered}
 use Rattle.transitions.specs.declared.called.Called.{Called}
 use Rattle.transitions.specs.declared.engine.Refusal.{Refusal}
 use Rattle.transitions.specs.declared.answers.Answer.{Answer as ClientAnswer}
-use Rattle.transitions.specs.declared.answers.Answer.TheVariants.{Yes, No}
-use Rattle.transitions.specs.declared.answers.Tally.TheVariants.{Plain}
 use Rattle.transitions.specs.declared.replies.BeginRefusal.{BeginRefusal}
 use Rattle.transitions.specs.declared.replies.BeginRefusal.TheVariants.{Closed as BeginClosed, WrongState, LastStart}
 use Rattle.transitions.specs.declared.replies.Polled.TheVariants.{Turn, Idle, Closed as PollClosed, NoClient}
@@ -24,16 +22,19 @@ use Rattle.transitions.specs.declared.entry.EngineEntry.TheVariants.{Register, B
 use Rattle.transitions.specs.Limits.{last_start_number}
 use Rattle.transitions.specs.Called.{called_list}
 use Rattle.transitions.specs.Engines.{Underway, EngineState}
-use Rattle.transitions.specs.EngineCalls.{state_with, is_start, turn_of, is_next, owes_answer, not_your_turn, start_reply, begin_reply, begin_reply_in, polled_by, after_poll_by, told, refused_by, answered_by, after_answer_in, check_reply_in, progress_of, outcome_of, IsEngineReply, engine_after}
+use Rattle.transitions.specs.EngineCalls.{state_with, stands_in, has_polled, is_next, open_of, owes_answer, not_your_turn, start_reply, begin_reply, begin_reply_in, first_polled, polled_by, after_poll_by, answered_by, after_answer_in, check_reply_in, progress_of, outcome_of, IsEngineReply, engine_after}
 use Rattle.transitions.specs.EnginePoints.{transition_at}
 use Rattle.transitions.specs.TurnOrder.{number_with}
 use Rattle.daq_types.specs.Callers.{main_caller}
+use Rattle.daq_types.specs.declared.runs.Order.{Order}
+use Rattle.engine_laws.proofs.Standing.{next_called, open_polled, open_called, first_open}
+use Rattle.engine_laws.proofs.Replies.{given_case, GivesTurn, gives_turn, answered_case}
 use Rattle.session_engine.specs.MainKnowledge.{MainKnows, state_behind, state_told_at, known_at, begin_known, begin_known_in}
 
 -- the transition in progress, and the state: while all have not answered it is that before
 abbrev pub KnowsTransition : (going : Option Transition) → (before : RunState) → (state : RunState) → Option Underway → Type 0
 KnowsTransition going before state None = (going ≡ None) × (state ≡ before)
-KnowsTransition going before state (Some u) = (going ≡ Some u.transition) × (state ≡ state_with before u.transition u.refusal u.called)
+KnowsTransition going before state (Some u) = (going ≡ Some u.transition) × (state ≡ state_with before u.transition u.refusal (open_of u))
 
 -- the engine holds what is known
 pub record Knows (k : MainKnows) (s : EngineState) : Type 0 where
@@ -44,41 +45,47 @@ pub record Knows (k : MainKnows) (s : EngineState) : Type 0 where
 
 -- Polls.
 
-poll_keeps : (going : Option Transition) (before state : RunState) (c : Registered) (u : Option Underway) → KnowsTransition going before state u → KnowsTransition going before state (option_map (polled_by c) u)
-poll_keeps going before state c None knows = knows
-poll_keeps going before state c (Some u) knows = knows
+-- while somebody has yet to answer, the state is that before the transition
+still_before : (before : RunState) (t : Transition) (refusal : Option Refusal) (left : List Called) (client : ℕ) → stands_in left client ≡ true → state_with before t refusal left ≡ before
+still_before before t (Some r) left client some = refl
+still_before before t None [] client some = absurd (cc (some))
+still_before before t None (c ∷ cs) client some = refl
 
-pub polled : (k : MainKnows) (s : EngineState) (c : Option Registered) → Knows k s → Knows k (after_poll_by s c)
-polled k s None knows = knows
-polled k s (Some c) knows = record {
-  closed = knows.closed;
-  clients = knows.clients;
-  starts = knows.starts;
-  transition = poll_keeps k.going k.state s.state c s.underway knows.transition;
-}
+-- a first reply leaves somebody who has yet to answer
+first_keeps : (going : Option Transition) (before state : RunState) (client : ℕ) (c : Registered) (u : Underway) → is_next u.polled u.called client ≡ true → KnowsTransition going before state (Some u) → KnowsTransition going before state (Some (first_polled client c u))
+first_keeps going before state client c u next knows =
+    let here : stands_in (open_of u) client ≡ true = open_called u client (next_called u client next) in (
+      knows.0,
+      knows.1
+          ∙ (still_before before u.transition u.refusal (open_of u) client here
+          ∙ sym (still_before before u.transition u.refusal (open_of (first_polled client c u)) client (first_open client client c u here))),
+    )
+
+pub polled : (k : MainKnows) (s : EngineState) (client : ℕ) (turn : Transition) (order : Order) (dump : Option (List ℕ)) (blank : _) → IsEngineReply s (Poll client (Turn turn order dump blank)) → Knows k s
+    → Knows k (engine_after s (Poll client (Turn turn order dump blank)))
+polled k s client turn order dump blank reply knows =
+    let p : GivesTurn s client turn order dump = gives_turn s client turn order dump blank reply in
+    let now : KnowsTransition k.going k.state s.state (Some p.u) = subst (KnowsTransition k.going k.state s.state) p.underway_is knows.transition in
+    let later : KnowsTransition k.going k.state s.state (Some (polled_by client p.c p.u)) =
+    given_case (λ v. KnowsTransition k.going k.state s.state (Some v)) client p.c p.u dump p.given (λ again. now) (λ first. first_keeps k.going k.state s.state client p.c p.u first.next now) in
+    subst (λ (o : Option Registered). Knows k (after_poll_by s client o)) (sym p.client_is) (record {
+      closed = knows.closed;
+      clients = knows.clients;
+      starts = knows.starts;
+      transition = subst (λ (o : Option Underway). KnowsTransition k.going k.state s.state (option_map (polled_by client p.c) o)) (sym p.underway_is) later;
+    })
 
 -- Answers.
 
-chosen_transition : (clients : List Registered) (client : ℕ) (why : _) (u : Underway) (b : Bool) → (if b then refused_by clients client why u else told client Plain u).transition ≡ u.transition
-chosen_transition clients client why u true = refl
-chosen_transition clients client why u false = refl
-
 same_transition : (clients : List Registered) (client : ℕ) (answer : ClientAnswer) (u : Underway) → (answered_by clients client answer u).transition ≡ u.transition
-same_transition clients client (Yes tally) u = refl
-same_transition clients client (No why) u = chosen_transition clients client why u (is_start (turn_of u))
-
-still_before : (before state : RunState) (t : Transition) (refusal : Option Refusal) (called : List Called) (client : ℕ) → is_next called client ≡ true → state ≡ state_with before t refusal called → state ≡ before
-still_before before state t refusal [] client next is = absurd (cc (next))
-still_before before state t None (c ∷ cs) client next is = is
-still_before before state t (Some r) (c ∷ cs) client next is = is
+same_transition clients client answer u = answered_case (λ v. v.transition ≡ u.transition) clients client answer u (λ tally is. refl) (λ why is. refl) (λ v is kept. kept)
 
 abbrev may_answer : Bool → Result ⊤ NotYourTurn
 may_answer owes = if owes then Ok tt else Err not_your_turn
 
-owed_next : (polled next : Bool) (done : ⊤) → Ok done ≡ may_answer (polled && next) → next ≡ true
-owed_next true true done is = refl
-owed_next true false done is = absurd (cc (is))
-owed_next false next done is = absurd (cc (is))
+owed : (owes : Bool) (done : ⊤) → Ok done ≡ may_answer owes → owes ≡ true
+owed true done is = refl
+owed false done is = absurd (cc (is))
 
 pub answered : (k : MainKnows) (s : EngineState) (client : ℕ) (answer : ClientAnswer) (u : Option Underway) (done : ⊤) → s.underway ≡ u → Ok done ≡ may_answer (owes_answer u client)
     → Knows k s → Knows k (after_answer_in s client answer u)
@@ -86,12 +93,13 @@ answered k s client answer None done is reply knows = absurd (cc (reply))
 answered k s client answer (Some u) done is reply knows =
     let now : KnowsTransition k.going k.state s.state (Some u) = subst (KnowsTransition k.going k.state s.state) is knows.transition in
     let later : Underway = answered_by s.clients client answer u in
-    let state : s.state ≡ k.state = still_before k.state s.state u.transition u.refusal u.called client (owed_next u.has_polled (is_next u.called client) done reply) now.1 in
+    let some : stands_in (open_of u) client ≡ true = open_polled u client (owed (has_polled u client) done reply) in
+    let state : s.state ≡ k.state = now.1 ∙ still_before k.state u.transition u.refusal (open_of u) client some in
     record {
       closed = knows.closed;
       clients = knows.clients;
       starts = knows.starts;
-      transition = (now.0 ∙ ap Some (sym (same_transition s.clients client answer u)), ap (λ (r : RunState). state_with r later.transition later.refusal later.called) state);
+      transition = (now.0 ∙ ap Some (sym (same_transition s.clients client answer u)), ap (λ (r : RunState). state_with r later.transition later.refusal (open_of later)) state);
     }
 
 -- Begins.
@@ -132,7 +140,7 @@ pub ended : (before : RunState) (going : Option Transition) (state : RunState) (
     → KnowsTransition going before state u → state ≡ state_behind outcome going before
 ended before going state None outcome is knows = absurd (cc (is))
 ended before going state (Some u) outcome is knows =
-    let done : (u.called ≡ []) × (outcome ≡ outcome_of u.refusal) = done_outcome outcome u.called u.refusal is in
+    let done : (open_of u ≡ []) × (outcome ≡ outcome_of u.refusal) = done_outcome outcome (open_of u) u.refusal is in
     let at_end : state ≡ state_with before u.transition u.refusal [] = knows.1 ∙ ap (state_with before u.transition u.refusal) done.0 in
     ended_state before going state u.transition u.refusal knows.0 at_end ∙ ap (λ (o : StartOutcome). state_behind o going before) (sym done.1)
 
@@ -158,7 +166,7 @@ main_step past s (Begin t sheet (Ok n)) reply knows =
       transition = (refl, ap (λ (r : RunState). state_with r t None (called_list t s.clients)) (begun_from (known_at past) s knows parts.0));
     }
 main_step past s (Begin t sheet (Err refusal)) reply knows = knows
-main_step past s (Poll client (Turn t order dump blank)) reply knows = polled (known_at past) s (slice_get s.clients client) knows
+main_step past s (Poll client (Turn t order dump blank)) reply knows = polled (known_at past) s client t order dump blank reply knows
 main_step past s (Poll client (Idle state)) reply knows = knows
 main_step past s (Poll client PollClosed) reply knows = knows
 main_step past s (Poll client NoClient) reply knows = knows

@@ -23,7 +23,7 @@ use Rattle.transitions.specs.Limits.{most_clients}
 use Rattle.transitions.specs.Engines.{Underway, EngineState}
 use Rattle.transitions.specs.EnginePoints.{engine_past}
 use Rattle.std.proofs.lemmas.List.{length-append, length-take-le, take_more}
-use Rattle.transitions.specs.EngineCalls.{register_reply_in, close_reply_in, progress_of, check_reply_in, tallies_in}
+use Rattle.transitions.specs.EngineCalls.{open_of, register_reply_in, close_reply_in, progress_of, check_reply_in, tallies_in}
 use Rattle.session_engine.specs.declared.opening.MemberName.{MemberName}
 use Rattle.session_engine.specs.Members.{gets_dumps, gets_reports, registration, registrations}
 use Rattle.run_states.specs.Sequences.{sequences_of}
@@ -64,7 +64,7 @@ tells_some (c ∷ cs) refusal is = absurd (cc (is))
 
 is_going : (going : Option Transition) (before state : RunState) (u : Option Underway) (t : Transition) → KnowsTransition going before state u → going ≡ Some t → NoneGoing ≡ check_reply_in u → ⊥
 is_going going before state None t knows some is = absurd (cc (some, knows.0))
-is_going going before state (Some u) t knows some is = tells_some u.called u.refusal is
+is_going going before state (Some u) t knows some is = tells_some (open_of u) u.refusal is
 
 -- while a transition is going on, no check tells that there is none
 pub never_none : (own : List EngineEntry) (tallies : List ClientTally) (t : Transition) → (known_from own).going ≡ Some t → AtCall own (Check NoneGoing tallies) → ⊥

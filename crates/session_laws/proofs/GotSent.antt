@@ -10,7 +10,7 @@ use Rattle.session_laws.specs.ClosedSessions.{ClosedBuffer, ClosedSession, size_
 use Rattle.session_laws.specs.MembersAtEnd.{MembersAtEnd}
 
 pub got_sent : PortTells → (size by : ℕ) (h : History) → IsLegal (opening size) h → AllByRecursion (WasSentAt h) (given_in by (opening size) h)
-got_sent tells size by h legal = (tells size (record { opened = opening size; ports = 1; numbers = [] }) refl h legal by 0 0).sent_so
+got_sent tells size by h legal = (tells size (record { opened = opening size; ports = 1; numbers = [] }) refl h legal by).sent_so
 
 legal_in : (o : Option ClosedBuffer) → ((b : ClosedBuffer) → o ≡ Some b → IsLegal (opening b.size) b.history) → IsLegal (opening (size_in o)) (history_in o)
 legal_in None legal = tt

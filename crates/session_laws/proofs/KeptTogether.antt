@@ -20,7 +20,8 @@ use Rattle.analyzers.specs.declared.analyzer_run.EventRequest.{EventRequest}
 use Rattle.analyzers.specs.AnalyzerKept.{KeepsAnalyzer}
 use Rattle.analyzer_seats.specs.AnalyzerTaken.{MemberAnalyzersKeep}
 use Rattle.caller_laws.specs.CallerLaws.{PortTells}
-use Rattle.engine_laws.specs.BegunTurns.{WantsAlone, OneWantsDump}
+use Rattle.transitions.specs.declared.client.Registered.{Registered}
+use Rattle.engine_laws.specs.BegunTurns.{IsAlone, OneWantsDump, OneHasNumber}
 use Rattle.composition.specs.Sessions.{Session, SessionAnalyzer, SessionFront, HasAnalyzer, HasFront, NamesOwnClient, IsMemberCaller, IsRegistered, MembersKeep}
 use Rattle.daq_members.specs.OwnTurns.{is_call_for}
 use Rattle.daq_members.specs.FrontTaken.{FrontKeeps}
@@ -28,7 +29,7 @@ use Rattle.session_runs.specs.RunsFit.{SteersEngine}
 use Rattle.session_laws.specs.ClosedSessions.{ClosedAnalyzer, ClosedFront, ClosedSession, analyzer_client, logger_client, logger_caller, members_of, size_of_buffer, history_of_buffer, engine_calls, calls_on_buffer, got_from_buffer, session_analyzer, session_front, session_of}
 use Rattle.session_laws.specs.MembersAtEnd.{AnalyzerAtEnd, FrontAtEnd, MembersAtEnd}
 use Rattle.session_laws.proofs.EachCaller.{each_by, all_both, all_each, none_all, by_caller, each_for}
-use Rattle.session_laws.proofs.Registrations.{AtAnalyzer, analyzer_at, front_at, logger_at, wants_dump}
+use Rattle.session_laws.proofs.Registrations.{AtAnalyzer, analyzer_at, front_at, logger_at, IsOfLogger, logger_alone, alone_wants, alone_numbered}
 use Rattle.session_laws.proofs.MainFirst.{registered}
 use Rattle.session_laws.proofs.GotSent.{got_sent, legal_buffer}
 use Rattle.session_laws.proofs.LoggerEnd.{GotAll, logger_keeps}
@@ -74,35 +75,41 @@ names_own c ends =
     each_for client (λ e. NamesOwnClient (caller_of_client client, e)) (names_call client) (engine_calls c (caller_of_client client)) (ends.analyzers place a at).speaks))
     (λ by past. none_all (λ e. NamesOwnClient (by, e)) (engine_calls c by) (ends.others.engine by past)))
 
--- The logger alone wants the dump.
+-- The logger alone wants the dump, and has its number for a start.
 
-wants_call : (n by client : ℕ) (e : EngineEntry) → is_call_for client e ≡ true → WantsAlone n (by, e)
-wants_call n by client (Register name sequences dump report reply) is = absurd (cc (is))
-wants_call n by client (Begin t sheet reply) is = tt
-wants_call n by client (Poll m reply) is = tt
-wants_call n by client (Answer m answer reply) is = tt
-wants_call n by client (Check reply tallies) is = tt
-wants_call n by client (Close reply) is = tt
+alone_call : (P : Registered → Type 0) (n by client : ℕ) (e : EngineEntry) → is_call_for client e ≡ true → IsAlone P n (by, e)
+alone_call P n by client (Register name sequences dump report reply) is = absurd (cc (is))
+alone_call P n by client (Begin t sheet reply) is = tt
+alone_call P n by client (Poll m reply) is = tt
+alone_call P n by client (Answer m answer reply) is = tt
+alone_call P n by client (Check reply tallies) is = tt
+alone_call P n by client (Close reply) is = tt
 
-wants_steered : (n by : ℕ) (e : EngineEntry) → SteersEngine e → WantsAlone n (by, e)
-wants_steered n by (Register name sequences dump report reply) is = absurd is
-wants_steered n by (Begin t sheet reply) is = tt
-wants_steered n by (Poll m reply) is = absurd is
-wants_steered n by (Answer m answer reply) is = absurd is
-wants_steered n by (Check reply tallies) is = tt
-wants_steered n by (Close reply) is = tt
+alone_steered : (P : Registered → Type 0) (n by : ℕ) (e : EngineEntry) → SteersEngine e → IsAlone P n (by, e)
+alone_steered P n by (Register name sequences dump report reply) is = absurd is
+alone_steered P n by (Begin t sheet reply) is = tt
+alone_steered P n by (Poll m reply) is = absurd is
+alone_steered P n by (Answer m answer reply) is = absurd is
+alone_steered P n by (Check reply tallies) is = tt
+alone_steered P n by (Close reply) is = tt
+
+one_logger : (P : Registered → Type 0) → IsOfLogger P → (c : ClosedSession) → MembersAtEnd c → AllByRecursion (IsAlone P (logger_client c)) c.engine
+one_logger P of c ends =
+    let n : ℕ = logger_client c in
+    each_by (λ by e. IsAlone P n (by, e)) c.engine
+    (by_caller (λ by. AllByRecursion (λ e. IsAlone P n (by, e)) (engine_calls c by)) c
+    (main_calls c ends (λ e. IsAlone P n (main_caller, e)) (logger_alone P of 0 n c.fronts c.analyzers (omega arith)) (alone_steered P n main_caller))
+    (λ client f at. each_for client (λ e. IsAlone P n (caller_of_client client, e)) (alone_call P n (caller_of_client client) client) (engine_calls c (caller_of_client client)) (ends.fronts client f at).speaks)
+    (each_for n (λ e. IsAlone P n (logger_caller c, e)) (alone_call P n (logger_caller c) n) (engine_calls c (logger_caller c)) ends.logger.speaks)
+    (λ place a at. (let client : ℕ = analyzer_client c place in
+    each_for client (λ e. IsAlone P n (caller_of_client client, e)) (alone_call P n (caller_of_client client) client) (engine_calls c (caller_of_client client)) (ends.analyzers place a at).speaks))
+    (λ by past. none_all (λ e. IsAlone P n (by, e)) (engine_calls c by) (ends.others.engine by past)))
 
 one_dump : (c : ClosedSession) → MembersAtEnd c → OneWantsDump (logger_client c) c.engine
-one_dump c ends =
-    let n : ℕ = logger_client c in
-    each_by (λ by e. WantsAlone n (by, e)) c.engine
-    (by_caller (λ by. AllByRecursion (λ e. WantsAlone n (by, e)) (engine_calls c by)) c
-    (main_calls c ends (λ e. WantsAlone n (main_caller, e)) (wants_dump 0 n c.fronts c.analyzers (omega arith)) (wants_steered n main_caller))
-    (λ client f at. each_for client (λ e. WantsAlone n (caller_of_client client, e)) (wants_call n (caller_of_client client) client) (engine_calls c (caller_of_client client)) (ends.fronts client f at).speaks)
-    (each_for n (λ e. WantsAlone n (logger_caller c, e)) (wants_call n (logger_caller c) n) (engine_calls c (logger_caller c)) ends.logger.speaks)
-    (λ place a at. (let client : ℕ = analyzer_client c place in
-    each_for client (λ e. WantsAlone n (caller_of_client client, e)) (wants_call n (caller_of_client client) client) (engine_calls c (caller_of_client client)) (ends.analyzers place a at).speaks))
-    (λ by past. none_all (λ e. WantsAlone n (by, e)) (engine_calls c by) (ends.others.engine by past)))
+one_dump c ends = one_logger (λ (k : Registered). k.wants_dump ≡ true) alone_wants c ends
+
+pub one_number : (c : ClosedSession) → MembersAtEnd c → OneHasNumber (logger_client c) Start 200 c.engine
+one_number c ends = one_logger (λ (k : Registered). sequence_for k.sequences Start ≡ Some 200) alone_numbered c ends
 
 -- The callers of a buffer.
 

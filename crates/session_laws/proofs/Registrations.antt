@@ -1,13 +1,16 @@
--- How the members of a closed session are registered, and which of them wants the dump.
-use Rattle.std.specs.Prelude.{◌≡◌, ℕ, zero, suc, ◌+◌, ◌<◌, List, [], ◌∷◌, ◌++◌, length, map, slice_get, Some, refl}
+-- How the members of a closed session are registered, and what is so of the logger alone.
+use Rattle.std.specs.Prelude.{◌≡◌, ℕ, zero, suc, ◌+◌, ◌<◌, true, List, [], ◌∷◌, ◌++◌, length, map, slice_get, Some, refl}
 use Rattle.std.specs.List.{AllByRecursion}
 use Rattle.std.proofs.Common.{ap, sym, subst, ◌∙◌, arith}
 use Rattle.daq_types.specs.Callers.{main_caller}
 use Rattle.run_states.specs.declared.sequences.Role.TheVariants.{Analyzer, FrontEnd, Logger}
+use Rattle.daq_types.specs.declared.runs.Transition.TheVariants.{Start}
+use Rattle.run_states.specs.Sequences.{sequence_for, sequences_of}
+use Rattle.transitions.specs.declared.client.Registered.{Registered}
 use Rattle.transitions.specs.declared.entry.EngineEntry.{EngineEntry}
-use Rattle.engine_laws.specs.BegunTurns.{WantsAlone}
+use Rattle.engine_laws.specs.BegunTurns.{IsAlone}
 use Rattle.session_engine.specs.declared.opening.MemberName.{MemberName}
-use Rattle.session_engine.specs.Members.{member_in, registration, registrations}
+use Rattle.session_engine.specs.Members.{gets_dumps, gets_reports, member_in, registration, registrations}
 use Rattle.mid_logger.specs.ChannelTurns.{logger_name}
 use Rattle.session_laws.specs.ClosedSessions.{ClosedAnalyzer, ClosedFront, members_of}
 
@@ -79,12 +82,35 @@ behind_all first (m ∷ ms) (x ∷ xs) b ys zs none is =
     let rest = behind_all (suc first) ms xs b ys zs none (cc (is)) in
     (rest.0, ap (λ (e : EngineEntry). e ∷ xs) head ∙ ap (λ (l : List EngineEntry). registration first m ∷ l) rest.1)
 
--- The dump.
+-- What is so of the logger alone.
 
-analyzers_want : (first n : ℕ) (closed_analyzers : List ClosedAnalyzer) → n < first → AllByRecursion (λ e. WantsAlone n (main_caller, e)) (registrations first (analyzer_members closed_analyzers))
-analyzers_want first n [] past = tt
-analyzers_want first n (a ∷ closed_analyzers) past = (((λ is. absurd (cc (is))), (λ is. absurd (omega arith))), analyzers_want (suc first) n closed_analyzers (omega arith))
+-- the member as the engine knows it
+abbrev as_client : MemberName → Registered
+as_client m = record { name = m.name; sequences = sequences_of m.role; wants_dump = gets_dumps m.role; wants_report = gets_reports m.role }
 
-pub wants_dump : (first n : ℕ) (fs : List ClosedFront) (closed_analyzers : List ClosedAnalyzer) → first + length fs ≡ n → AllByRecursion (λ e. WantsAlone n (main_caller, e)) (registrations first (members_of fs closed_analyzers))
-wants_dump first n [] closed_analyzers number = (((λ is. omega arith), (λ is. refl)), analyzers_want (suc first) n closed_analyzers (omega arith))
-wants_dump first n (f ∷ fs) closed_analyzers number = (((λ is. absurd (cc (is))), (λ is. absurd (omega arith))), wants_dump (suc first) n fs closed_analyzers (omega arith))
+pub record IsOfLogger (P : Registered → Type 0) : Type 0 where
+  pub logger : (name : List ℕ) → P (as_client (member_in Logger name))
+  pub front : (name : List ℕ) → P (as_client (member_in FrontEnd name)) → ⊥
+  pub analyzer : (name : List ℕ) → P (as_client (member_in Analyzer name)) → ⊥
+
+analyzers_alone : (P : Registered → Type 0) → IsOfLogger P → (first n : ℕ) (closed_analyzers : List ClosedAnalyzer) → n < first → AllByRecursion (λ e. IsAlone P n (main_caller, e)) (registrations first (analyzer_members closed_analyzers))
+analyzers_alone P of first n [] past = tt
+analyzers_alone P of first n (a ∷ closed_analyzers) past = (((λ is. absurd (of.analyzer a.name is)), (λ is. absurd (omega arith))), analyzers_alone P of (suc first) n closed_analyzers (omega arith))
+
+pub logger_alone : (P : Registered → Type 0) → IsOfLogger P → (first n : ℕ) (fs : List ClosedFront) (closed_analyzers : List ClosedAnalyzer) → first + length fs ≡ n
+    → AllByRecursion (λ e. IsAlone P n (main_caller, e)) (registrations first (members_of fs closed_analyzers))
+logger_alone P of first n [] closed_analyzers number = (((λ is. omega arith), (λ is. of.logger logger_name)), analyzers_alone P of (suc first) n closed_analyzers (omega arith))
+logger_alone P of first n (f ∷ fs) closed_analyzers number = (((λ is. absurd (of.front f.name is)), (λ is. absurd (omega arith))), logger_alone P of (suc first) n fs closed_analyzers (omega arith))
+
+pub alone_wants : IsOfLogger (λ (c : Registered). c.wants_dump ≡ true)
+alone_wants = record { logger = λ name. refl; front = λ name is. absurd (cc (is)); analyzer = λ name is. absurd (cc (is)) }
+
+number_is : (a b : ℕ) → Some a ≡ Some b → a ≡ b
+number_is a b e = cc (e)
+
+pub alone_numbered : IsOfLogger (λ (c : Registered). sequence_for c.sequences Start ≡ Some 200)
+alone_numbered = record {
+  logger = λ name. refl;
+  front = λ name is. absurd (omega (arith, number_is 500 200 is));
+  analyzer = λ name is. absurd (omega (arith, number_is 300 200 is));
+}

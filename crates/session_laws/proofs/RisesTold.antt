@@ -40,7 +40,7 @@ use Rattle.loggers.specs.Reasons.{AnswerFits, ClashesAreTold}
 use Rattle.loggers.specs.ToldCounts.{faults_of_state, faults_of_answer, clashes_of_answer, undone_of_answer, undone_by, counted_of, faults_told, starts_undone, broken_off}
 use Rattle.loggers.proofs.ManyRose.{member_counts, off_of}
 use Rattle.engine_laws.specs.BegunTurns.{HasTransition, HasTally}
-use Rattle.engine_laws.specs.EngineLaws.{NosAreRefusals}
+use Rattle.engine_laws.specs.EngineLaws.{LoneNosAreRefusals}
 use Rattle.run_records.specs.declared.records.FileRecord.{FileRecord}
 use Rattle.run_records.specs.declared.records.RunRecord.{RunRecord}
 use Rattle.session_engine.specs.MadeTransitions.{TransitionIn}
@@ -59,7 +59,7 @@ use Rattle.session_laws.specs.CountedFaults.{LoggerReasons}
 use Rattle.session_laws.specs.MadeRuns.{RunIn}
 use Rattle.session_laws.specs.RecordedRuns.{run_channels, clients_in}
 use Rattle.session_laws.specs.OneAnswer.{faults_recorded, clashes_recorded, clashes_of_outcome, NoneRefused, RisesToldEach}
-use Rattle.session_laws.proofs.KeptTogether.{names_own}
+use Rattle.session_laws.proofs.KeptTogether.{names_own, one_number}
 use Rattle.session_laws.proofs.LoggerEnd.{none_taken_back}
 use Rattle.session_laws.proofs.NamesStay.{StartBegun, start_begun, abort_begun, HasSpec, has_spec}
 use Rattle.session_laws.proofs.OneEach.{starts_joined, state_counts, faults_of_file, file_first}
@@ -70,7 +70,7 @@ use Rattle.session_laws.proofs.UndoneNames.{UndoneLaws, Turned, one_end, one_sto
 -- the laws of engines and of loggers
 pub record RiseLaws : Type 0 where
   pub undone : UndoneLaws
-  pub nos : NosAreRefusals
+  pub nos : LoneNosAreRefusals
   pub names : ClashesAreTold
 
 -- Lists.
@@ -399,7 +399,7 @@ module _ (laws : RiseLaws) (c : ClosedSession) (ends : MembersAtEnd c) where
           let made : TransitionIn (engine_calls c main_caller) Start sheet o.kept.start (Refused client why) start.tallies =
           subst (λ (l : List EngineEntry). TransitionIn l Start sheet o.kept.start (Refused client why) start.tallies) (sym calls) (made_then own.engine more Start sheet o.kept.start (Refused client why) start.tallies here) in
           let stood : HasTransition c.engine Start sheet o.kept.start (Refused client why) start.tallies = has_made laws.undone.main c.engine Start sheet o.kept.start (Refused client why) start.tallies ends.engine made in
-          let told : Refused client why ≡ Refused n (Exists channel) = laws.nos (logger_caller c) n c.engine ends.engine (speaks n c.engine (names_own c ends)) sheet o.kept.start (Refused client why) start.tallies stood t has starts (sym o.is) (Exists channel) answered in
+          let told : Refused client why ≡ Refused n (Exists channel) = laws.nos (logger_caller c) n c.engine ends.engine (speaks n c.engine (names_own c ends)) 200 (one_number c ends) sheet o.kept.start (Refused client why) start.tallies stood t has starts (sym o.is) (Exists channel) answered in
           let one : clashes_recorded o.kept ≡ 1 = ap clashes_of_outcome (is ∙ told) in
           omega (arith, one, quiet, member_counts clashes_recorded runs o.place o.kept o.at)
 

@@ -1,9 +1,7 @@
 -- Every legal history of an engine is in order.
-use Rattle.std.proofs.Common.{◌≡◌, ℕ, suc, ◌+◌, ◌≤◌, Bool, true, false, ltb, List, [], ◌∷◌, ◌++◌, length, drop, Option, Some, None, refl, ap, sym, subst, ◌∙◌, arith, append_assoc}
-use Rattle.std.specs.Prelude.{◌&&◌, not, if◌then◌else◌, slice_get, Ok, Err, ⊤}
+use Rattle.std.proofs.Common.{◌≡◌, ℕ, suc, ◌+◌, Bool, true, false, ltb, List, [], ◌∷◌, ◌++◌, length, Option, Some, None, refl, ap, sym, subst, ◌∙◌, arith, inl, inr}
+use Rattle.std.specs.Prelude.{◌||◌, ◌&&◌, not, ◌⊎◌, if◌then◌else◌, slice_get, is_some, Ok, Err, ⊤}
 use Rattle.std.specs.Option.{option_map}
-use Rattle.std.proofs.lemmas.Bool.{and_parts}
-use Rattle.std.proofs.lemmas.List.{append-nil}
 use Rattle.daq_types.specs.declared.runs.RunState.{RunState}
 use Rattle.daq_types.specs.declared.runs.Transition.{Transition}
 use Rattle.daq_types.specs.declared.runs.Transition.TheVariants.{Start, Stop, Pause, Resume, StartAbort}
@@ -13,9 +11,7 @@ use Rattle.run_states.specs.States.{is_allowed}
 use Rattle.event_report.specs.Reports.{Totals}
 use Rattle.transitions.specs.declared.client.Registered.{Registered}
 use Rattle.transitions.specs.declared.called.Called.{Called}
-use Rattle.transitions.specs.declared.answers.Answer.{Answer as ClientAnswer}
-use Rattle.transitions.specs.declared.answers.Answer.TheVariants.{Yes, No}
-use Rattle.transitions.specs.declared.answers.Tally.TheVariants.{Plain}
+use Rattle.transitions.specs.declared.answers.ClientTally.{ClientTally}
 use Rattle.transitions.specs.declared.engine.Refusal.{Refusal}
 use Rattle.transitions.specs.declared.replies.BeginRefusal.TheVariants.{Closed as BeginClosed, InProgress as BeginInProgress, WrongState, LastStart}
 use Rattle.transitions.specs.declared.replies.RegisterRefusal.TheVariants.{Closed as RegisterClosed, NoSlot}
@@ -26,14 +22,17 @@ use Rattle.transitions.specs.declared.replies.Progress.TheVariants.{Going, Done,
 use Rattle.transitions.specs.declared.entry.EngineEntry.{EngineEntry}
 use Rattle.transitions.specs.declared.entry.EngineEntry.TheVariants.{Register, Begin, Poll, Answer, Check, Close}
 use Rattle.transitions.specs.Limits.{most_clients, last_start_number}
+use Rattle.transitions.specs.Called.{called_list}
+use Rattle.transitions.specs.CalledOrder.{IsCalledIn}
 use Rattle.transitions.specs.Engines.{Underway, EngineState, engine_opening}
-use Rattle.transitions.specs.EngineCalls.{turn_kind, turn_of, is_start, is_next, gets_dump, gets_blank, turn_reply, polled_by, told, refused_by, answered_by, outcome_of, register_reply, register_reply_in, begin_reply, begin_reply_in, start_reply, poll_reply, poll_reply_to, poll_reply_in, owes_answer, answer_reply, not_your_turn, check_reply, check_reply_in, progress_of, tallies_in, after_poll_by, after_answer_in, with_underway, IsEngineReply, engine_after}
+use Rattle.transitions.specs.EngineCalls.{turn_kind, turn_of, is_start, stands_in, group_of, has_polled, is_next, open_of, gets_blank, first_turn, same_turn, first_polled, polled_by, is_due_off, outcome_of, register_reply, register_reply_in, begin_reply, begin_reply_in, start_reply, poll_reply, poll_reply_to, poll_reply_in, owes_answer, answer_reply, not_your_turn, check_reply, check_reply_in, progress_of, tallies_in, after_poll_by, after_answer_in, IsEngineReply, engine_after}
 use Rattle.transitions.specs.EngineHistories.{IsLegalEngine}
-use Rattle.transitions.specs.EnginePoints.{engine_past_after, engine_past, Joined, Begun, GaveTurn, Answered, Ended, transition_at, callable_at, refusal_at, turned_at, answered_at, dump_at, blanks_at, calls_off, wants_dump, wants_report, is_among}
-use Rattle.transitions.specs.TurnOrder.{AreTurnsInOrder, IsRightTurn, IsRightCall, number_with, TurnsInOrder}
-use Rattle.transitions.proofs.Apart.{split, clients_of, IsApart}
-use Rattle.transitions.proofs.Fronts.{waiting, front_cut, front_waits, front_turned, dump_told, given_front}
-use Rattle.transitions.proofs.Tracked.{TracksUnderway, TracksNone, TracksTransition, Tracks, state_tracks, called_from, tracks_silent, none_joined, clients_joined, clients_kept, starts_kept, underway_begun, starts_begun, dump_wish, report_wish, underway_polled, underway_told, underway_refused, none_ended}
+use Rattle.transitions.specs.EnginePoints.{Calling, uncalled, engine_past_after, engine_past, Joined, Begun, GaveTurn, Answered, Ended, callable_at, calling_at, refusal_at, off_at, turn_at, turned_at, answered_at, dump_at, blanks_at, wants_dump, wants_report, is_among}
+use Rattle.transitions.specs.TurnOrder.{IsReached, AreApart, AreTurnsInGroups, is_refused_at, IsRightTurn, IsRightEnd, IsRightCall, number_with, TurnsInOrder}
+use Rattle.transitions.proofs.Apart.{split}
+use Rattle.transitions.proofs.Stands.{and_false, and_true, never_both, with_stands}
+use Rattle.transitions.proofs.Groups.{Stand, is_refused, fresh_owes, polled_turned, unrefused, next_reached, all_answered}
+use Rattle.transitions.proofs.Tracked.{TracksUnderway, TracksNone, TracksTransition, Tracks, state_tracks, called_is, tracks_silent, none_joined, clients_joined, clients_kept, starts_kept, underway_begun, starts_begun, dump_wish, report_wish, underway_first, underway_again, underway_answered, none_ended}
 
 -- What a reply says of the engine.
 
@@ -100,20 +99,42 @@ wrong_state s t state e =
     split s.closed (λ b. Err (WrongState state) ≡ (if b then Err BeginClosed else begin_reply_in s.underway s.state t s.start) → state ≡ s.state)
     (λ h e'. absurd cc) (λ h e'. wrong_in s.underway s.state t s.start state e') e
 
+-- a turn is given again until it is answered, and else to a client of the group whose turn it is
+pub record GivesAgain (u : Underway) (client : ℕ) (reply : Polled) : Type 0 where
+  pub polled : has_polled u client ≡ true
+  pub reply_is : reply ≡ same_turn u
+
+pub record GivesFirst (c : Registered) (u : Underway) (client : ℕ) (reply : Polled) : Type 0 where
+  pub fresh : has_polled u client ≡ false
+  pub next : is_next u.polled u.called client ≡ true
+  pub reply_is : reply ≡ first_turn c u
+
+abbrev pub IsGiven : Registered → Underway → (client : ℕ) → Polled → Type 0
+IsGiven c u client reply = GivesAgain u client reply ⊎ GivesFirst c u client reply
+
 pub record GivesTurn (s : EngineState) (client : ℕ) (reply : Polled) : Type 0 where
   pub c : Registered
   pub u : Underway
   pub client_is : slice_get s.clients client ≡ Some c
   pub underway_is : s.underway ≡ Some u
-  pub front : is_next u.called client ≡ true
-  pub reply_is : reply ≡ turn_reply c u
+  pub given : IsGiven c u client reply
+
+given_in : (state : RunState) (client : ℕ) (c : Registered) (u : Underway) (turn : Transition) (order : Order) (dump : Option (List ℕ)) (blank : Option Totals)
+    → Turn turn order dump blank ≡ poll_reply_in state client c (Some u) → IsGiven c u client (Turn turn order dump blank)
+given_in state client c u turn order dump blank e =
+    split (has_polled u client) (λ b. has_polled u client ≡ b
+    → Turn turn order dump blank ≡ (if b then same_turn u else if is_next u.polled u.called client then first_turn c u else Idle state) → IsGiven c u client (Turn turn order dump blank))
+    (λ h g e'. inl (record { polled = g; reply_is = e' }))
+    (λ h g e'. split (is_next u.polled u.called client) (λ b. is_next u.polled u.called client ≡ b
+    → Turn turn order dump blank ≡ (if b then first_turn c u else Idle state) → IsGiven c u client (Turn turn order dump blank))
+    (λ k f e''. inr (record { fresh = g; next = f; reply_is = e'' })) (λ k f e''. absurd cc) refl e')
+    refl e
 
 gives_in : (s : EngineState) (client : ℕ) (c : Registered) (o : Option Underway) (turn : Transition) (order : Order) (dump : Option (List ℕ)) (blank : Option Totals)
     → slice_get s.clients client ≡ Some c → s.underway ≡ o → Turn turn order dump blank ≡ poll_reply_in s.state client c o → GivesTurn s client (Turn turn order dump blank)
 gives_in s client c None turn order dump blank is at e = absurd cc
 gives_in s client c (Some u) turn order dump blank is at e =
-    split (is_next u.called client) (λ b. is_next u.called client ≡ b → Turn turn order dump blank ≡ (if b then turn_reply c u else Idle s.state) → GivesTurn s client (Turn turn order dump blank))
-    (λ h g e'. record { c = c; u = u; client_is = is; underway_is = at; front = g; reply_is = e' }) (λ h g e'. absurd cc) refl e
+    record { c = c; u = u; client_is = is; underway_is = at; given = given_in s.state client c u turn order dump blank e }
 
 gives_to : (s : EngineState) (client : ℕ) (o : Option Registered) (turn : Transition) (order : Order) (dump : Option (List ℕ)) (blank : Option Totals)
     → slice_get s.clients client ≡ o → Turn turn order dump blank ≡ poll_reply_to s client o → GivesTurn s client (Turn turn order dump blank)
@@ -128,7 +149,9 @@ gives_turn s client turn order dump blank e = gives_to s client (slice_get s.cli
 idle_in : (now : RunState) (client : ℕ) (c : Registered) (o : Option Underway) (state : RunState) → Idle state ≡ poll_reply_in now client c o → state ≡ now
 idle_in now client c None state e = cc
 idle_in now client c (Some u) state e =
-    split (is_next u.called client) (λ b. Idle state ≡ (if b then turn_reply c u else Idle now) → state ≡ now) (λ h e'. absurd cc) (λ h e'. cc) e
+    split (has_polled u client) (λ b. Idle state ≡ (if b then same_turn u else if is_next u.polled u.called client then first_turn c u else Idle now) → state ≡ now)
+    (λ h e'. absurd cc)
+    (λ h e'. split (is_next u.polled u.called client) (λ b. Idle state ≡ (if b then first_turn c u else Idle now) → state ≡ now) (λ k e''. absurd cc) (λ k e''. cc) e') e
 
 idle_to : (s : EngineState) (client : ℕ) (o : Option Registered) (state : RunState) → Idle state ≡ poll_reply_to s client o → state ≡ s.state
 idle_to s client None state e = absurd cc
@@ -139,14 +162,11 @@ idle_to s client (Some c) state e =
 pub record Owes (s : EngineState) (client : ℕ) : Type 0 where
   pub u : Underway
   pub underway_is : s.underway ≡ Some u
-  pub polled : u.has_polled ≡ true
-  pub front : is_next u.called client ≡ true
+  pub polled : has_polled u client ≡ true
 
 owes_in : (s : EngineState) (client : ℕ) (o : Option Underway) → s.underway ≡ o → owes_answer o client ≡ true → Owes s client
 owes_in s client None is e = absurd cc
-owes_in s client (Some u) is e =
-    let parts = and_parts u.has_polled (is_next u.called client) e in
-    record { u = u; underway_is = is; polled = parts.0; front = parts.1 }
+owes_in s client (Some u) is e = record { u = u; underway_is = is; polled = e }
 
 pub owes : (s : EngineState) (client : ℕ) (done : ⊤) → Ok done ≡ answer_reply s client → Owes s client
 owes s client done e =
@@ -156,7 +176,7 @@ owes s client done e =
 pub record Finishes (s : EngineState) (outcome : StartOutcome) : Type 0 where
   pub u : Underway
   pub underway_is : s.underway ≡ Some u
-  pub done : u.called ≡ []
+  pub done : open_of u ≡ []
   pub outcome_is : outcome ≡ outcome_of u.refusal
 
 finishes_at : (called : List Called) (r : Option Refusal) (outcome : StartOutcome) → Done outcome ≡ progress_of called r → (called ≡ []) × (outcome ≡ outcome_of r)
@@ -166,7 +186,7 @@ finishes_at (c ∷ cs) r outcome e = absurd cc
 finishes_in : (s : EngineState) (o : Option Underway) (outcome : StartOutcome) → s.underway ≡ o → Done outcome ≡ check_reply_in o → Finishes s outcome
 finishes_in s None outcome is e = absurd cc
 finishes_in s (Some u) outcome is e =
-    let parts = finishes_at u.called u.refusal outcome e in
+    let parts = finishes_at (open_of u) u.refusal outcome e in
     record { u = u; underway_is = is; done = parts.0; outcome_is = parts.1 }
 
 pub finishes : (s : EngineState) (outcome : StartOutcome) → Done outcome ≡ check_reply s → Finishes s outcome
@@ -174,34 +194,21 @@ finishes s outcome e = finishes_in s s.underway outcome refl e
 
 -- One call.
 
-off_is : (past : List (ℕ × EngineEntry)) (state : RunState) (clients : List Registered) (u : Underway) (answer : ClientAnswer) → TracksUnderway past state clients u → calls_off answer (transition_at past) (refusal_at past) ≡ calls_off answer (Some u.transition) u.refusal
-off_is past state clients u answer t =
-    ap (λ (o : Option Transition). calls_off answer o (refusal_at past)) t.transition ∙ ap (calls_off answer (Some u.transition)) t.refusal
-
-tracks_answer : (past : List (ℕ × EngineEntry)) (s : EngineState) (by client : ℕ) (answer : ClientAnswer) (done : ⊤) (u : Underway) → Tracks past s → TracksUnderway past s.state s.clients u → u.has_polled ≡ true → is_next u.called client ≡ true
-    → Tracks ((by, Answer client answer (Ok done)) ∷ past) (with_underway s (answered_by s.clients client answer u))
-tracks_answer past s by client (Yes tally) done u t tu polled front =
-    let e : ℕ × EngineEntry = (by, Answer client (Yes tally) (Ok done)) in
-    record {
-      clients = clients_kept past e (Answered client (Yes tally)) refl refl ∙ t.clients;
-      starts = starts_kept past e (Answered client (Yes tally)) refl refl ∙ t.starts;
-      transition = underway_told past e s.state s.clients u client (Yes tally) refl tu polled front refl;
-    }
-tracks_answer past s by client (No why) done u t tu polled front =
-    let e : ℕ × EngineEntry = (by, Answer client (No why) (Ok done)) in
-    let off = off_is past s.state s.clients u (No why) tu in
-    split (is_start (turn_of u)) (λ b. is_start (turn_of u) ≡ b → Tracks (e ∷ past) (with_underway s (if b then refused_by s.clients client why u else told client Plain u)))
-    (λ h g. record {
-      clients = clients_kept past e (Answered client (No why)) refl refl ∙ t.clients;
-      starts = starts_kept past e (Answered client (No why)) refl refl ∙ t.starts;
-      transition = underway_refused past e s.state s.clients u client why refl tu front (off ∙ g);
-    })
-    (λ h g. record {
-      clients = clients_kept past e (Answered client (No why)) refl refl ∙ t.clients;
-      starts = starts_kept past e (Answered client (No why)) refl refl ∙ t.starts;
-      transition = underway_told past e s.state s.clients u client (No why) refl tu polled front (off ∙ g);
-    })
-    refl
+tracks_turn : (past : List (ℕ × EngineEntry)) (s : EngineState) (by client : ℕ) (turn : Transition) (order : Order) (dump : Option (List ℕ)) (blank : Option Totals) (c : Registered) (u : Underway)
+    → TracksUnderway past s.state s.clients u → slice_get s.clients client ≡ Some c → IsGiven c u client (Turn turn order dump blank)
+    → TracksUnderway ((by, Poll client (Turn turn order dump blank)) ∷ past) s.state s.clients (polled_by client c u)
+tracks_turn past s by client turn order dump blank c u t is (inl again) =
+    let same = again.reply_is in
+    let blank_is : blank ≡ None = cc in
+    let e : ℕ × EngineEntry = (by, Poll client (Turn turn order dump blank)) in
+    subst (λ (b : Bool). TracksUnderway (e ∷ past) s.state s.clients (if b then u else first_polled client c u)) (sym again.polled)
+    (underway_again past e s.state s.clients u client (ap (λ (o : Option Totals). GaveTurn client o) blank_is) t again.polled)
+tracks_turn past s by client turn order dump blank c u t is (inr first) =
+    let same = first.reply_is in
+    let blank_is : blank ≡ (if gets_blank c u then slice_get u.blanks 0 else None) = cc in
+    let e : ℕ × EngineEntry = (by, Poll client (Turn turn order dump blank)) in
+    subst (λ (b : Bool). TracksUnderway (e ∷ past) s.state s.clients (if b then u else first_polled client c u)) (sym first.fresh)
+    (underway_first past e s.state s.clients u client c blank refl t is first.next blank_is)
 
 pub tracks_step : (past : List (ℕ × EngineEntry)) (s : EngineState) (by : ℕ) (entry : EngineEntry) → Tracks past s → IsEngineReply s entry → Tracks ((by, entry) ∷ past) (engine_after s entry)
 tracks_step past s by (Register name sequences dump report (Ok n)) t reply =
@@ -226,14 +233,12 @@ tracks_step past s by (Begin transition sheet (Err r)) t reply = tracks_silent p
 tracks_step past s by (Poll client (Turn turn order dump blank)) t reply =
     let e : ℕ × EngineEntry = (by, Poll client (Turn turn order dump blank)) in
     let g = gives_turn s client turn order dump blank reply in
-    let same = g.reply_is in
-    let blank_is : blank ≡ (if gets_blank g.c g.u then slice_get g.u.blanks 0 else None) = cc in
     let tu : TracksUnderway past s.state s.clients g.u = subst (TracksTransition past s.state s.clients) g.underway_is t.transition in
-    subst (λ (o : Option Registered). Tracks (e ∷ past) (after_poll_by s o)) (sym g.client_is) (record {
+    subst (λ (o : Option Registered). Tracks (e ∷ past) (after_poll_by s client o)) (sym g.client_is) (record {
       clients = clients_kept past e (GaveTurn client blank) refl refl ∙ t.clients;
       starts = starts_kept past e (GaveTurn client blank) refl refl ∙ t.starts;
-      transition = subst (λ (o : Option Underway). TracksTransition (e ∷ past) s.state s.clients (option_map (polled_by g.c) o)) (sym g.underway_is)
-          (underway_polled past e s.state s.clients g.u client g.c blank refl tu g.client_is g.front blank_is);
+      transition = subst (λ (o : Option Underway). TracksTransition (e ∷ past) s.state s.clients (option_map (polled_by client g.c) o)) (sym g.underway_is)
+          (tracks_turn past s by client turn order dump blank g.c g.u tu g.client_is g.given);
     })
 tracks_step past s by (Poll client (Idle state)) t reply = tracks_silent past s (by, Poll client (Idle state)) refl t
 tracks_step past s by (Poll client PollClosed) t reply = tracks_silent past s (by, Poll client PollClosed) refl t
@@ -242,7 +247,11 @@ tracks_step past s by (Answer client answer (Ok done)) t reply =
     let e : ℕ × EngineEntry = (by, Answer client answer (Ok done)) in
     let o = owes s client done reply in
     let tu : TracksUnderway past s.state s.clients o.u = subst (TracksTransition past s.state s.clients) o.underway_is t.transition in
-    subst (λ (x : Option Underway). Tracks (e ∷ past) (after_answer_in s client answer x)) (sym o.underway_is) (tracks_answer past s by client answer done o.u t tu o.polled o.front)
+    subst (λ (x : Option Underway). Tracks (e ∷ past) (after_answer_in s client answer x)) (sym o.underway_is) (record {
+      clients = clients_kept past e (Answered client answer) refl refl ∙ t.clients;
+      starts = starts_kept past e (Answered client answer) refl refl ∙ t.starts;
+      transition = underway_answered past e s.state s.clients o.u client answer refl tu o.polled;
+    })
 tracks_step past s by (Answer client answer (Err r)) t reply = tracks_silent past s (by, Answer client answer (Err r)) refl t
 tracks_step past s by (Check (Done outcome) tallies) t reply =
     let e : ℕ × EngineEntry = (by, Check (Done outcome) tallies) in
@@ -262,67 +271,129 @@ tracks_step past s by (Close (Err r)) t reply = tracks_silent past s (by, Close 
 
 -- Each point is in order.
 
-later_of : (polled : Bool) → List Called → List ℕ
-later_of true [] = []
-later_of true (c ∷ cs) = clients_of cs
-later_of false cs = clients_of cs
-
-later_cut : (polled : Bool) (called : List Called) (answered : List ℕ) → answered ++ clients_of called ≡ (answered ++ waiting polled called) ++ later_of polled called
-unfolding later_of
-later_cut true [] answered = sym (append-nil (answered ++ []))
-later_cut true (c ∷ cs) answered = sym (append_assoc answered (c.client ∷ []) (clients_of cs))
-later_cut false cs answered = ap (λ (xs : List ℕ). xs ++ clients_of cs) (sym (append-nil answered))
-
-waiting_one : (polled : Bool) (called : List Called) → length (waiting polled called) ≤ 1
-waiting_one true [] = omega arith
-waiting_one true (c ∷ cs) = omega arith
-waiting_one false called = omega arith
-
-point_in_order : (past : List (ℕ × EngineEntry)) (state : RunState) (clients : List Registered) (o : Option Underway) → TracksTransition past state clients o → AreTurnsInOrder past
-point_in_order past state clients None t = record {
-  later = [];
-  waiting = [];
-  turned = called_from past None (refusal_at past) (callable_at past) t.transition refl refl ∙ sym (append-nil (turned_at past) ∙ t.turned);
-  answered = t.turned ∙ sym (append-nil (answered_at past) ∙ t.answered);
-  one = omega arith;
+nothing_called : (past : List (ℕ × EngineEntry)) → calling_at past ≡ uncalled → AreTurnsInGroups past
+nothing_called past is = record {
+  turned = λ n e.
+      let nobody : is_among n [] ≡ true = ap (λ (c : Calling). is_among n c.turned) (sym is) ∙ e in
+      absurd cc;
+  answered = λ n e.
+      let nobody : is_among n [] ≡ true = ap (λ (c : Calling). is_among n c.answered) (sym is) ∙ e in
+      absurd cc;
+  once = subst (λ (c : Calling). AreApart c.answered) (sym is) tt;
 }
-point_in_order past state clients (Some u) t = record {
-  later = later_of u.has_polled u.called;
-  waiting = waiting u.has_polled u.called;
-  turned = t.called ∙ (later_cut u.has_polled u.called (answered_at past) ∙ ap (λ (xs : List ℕ). xs ++ later_of u.has_polled u.called) (sym t.turned));
-  answered = t.turned;
-  one = waiting_one u.has_polled u.called;
-}
+
+point_in_order : (past : List (ℕ × EngineEntry)) (state : RunState) (clients : List Registered) (o : Option Underway) → TracksTransition past state clients o → AreTurnsInGroups past
+point_in_order past state clients None t = nothing_called past t.calling
+point_in_order past state clients (Some u) t =
+    let all : List Called = called_list (turn_of u) clients in
+    let stand : Stand all (turned_at past) (answered_at past) u.called u.polled (is_refused u) = t.calling.stand in
+    record {
+      turned = λ n e. subst (λ (cs : List Called). IsReached cs (answered_at past) n) (sym (called_is past state clients u t)) (stand.reached n e);
+      answered = λ n e. stand.turned_is n ∙ ap (λ (b : Bool). b || stands_in u.polled n) e;
+      once = stand.once;
+    }
 
 -- Each call is right.
 
-right_turn : (past : List (ℕ × EngineEntry)) (s : EngineState) (client : ℕ) (turn : Transition) (order : Order) (dump : Option (List ℕ)) (blank : Option Totals) (g : GivesTurn s client (Turn turn order dump blank))
-    → TracksUnderway past s.state s.clients g.u → IsRightTurn past client turn order dump blank
-right_turn past s client turn order dump blank g t =
-    let u : Underway = g.u in
-    let c : Registered = g.c in
-    let same = g.reply_is in
+refused_is : (past : List (ℕ × EngineEntry)) (state : RunState) (clients : List Registered) (u : Underway) → TracksUnderway past state clients u → is_refused_at past ≡ is_refused u
+refused_is past state clients u t =
+    ap (λ (b : Bool). not b && is_some (refusal_at past)) t.calling.off ∙ ap (λ (r : Option Refusal). not u.is_off && is_some r) t.calling.refusal
+
+turn_is : (past : List (ℕ × EngineEntry)) (state : RunState) (clients : List Registered) (u : Underway) → TracksUnderway past state clients u → turn_at past ≡ Some (turn_of u)
+turn_is past state clients u t =
+    ap (λ (o : Option Transition). option_map (λ x. turn_kind x (off_at past)) o) t.transition ∙ ap (λ (b : Bool). Some (turn_kind u.transition b)) t.calling.off
+
+-- a further reply gives nothing
+again_blank : (wants start : Bool) (polled : Bool) (bs : List Totals) → polled ≡ true → None ≡ (if wants && (not polled && start) then slice_get bs 0 else None)
+again_blank false start polled bs e = refl
+again_blank true start true bs e = refl
+again_blank true start false bs e = absurd cc
+
+again_dump : (wants : Bool) (dump : Option (List ℕ)) → (wants ≡ true → dump ≡ None) → None ≡ (if wants then dump else None)
+again_dump false dump given = refl
+again_dump true dump given = sym (given refl)
+
+-- and a first one has its blank report
+first_blank : (wants start : Bool) (polled : Bool) (bs : List Totals) → polled ≡ false → (if wants && start then slice_get bs 0 else None) ≡ (if wants && (not polled && start) then slice_get bs 0 else None)
+first_blank wants start false bs e = refl
+first_blank wants start true bs e = absurd cc
+
+right_again : (past : List (ℕ × EngineEntry)) (s : EngineState) (client : ℕ) (turn : Transition) (order : Order) (dump : Option (List ℕ)) (blank : Option Totals) (u : Underway)
+    → TracksUnderway past s.state s.clients u → GivesAgain u client (Turn turn order dump blank) → IsRightTurn past client turn order dump blank
+right_again past s client turn order dump blank u t given =
+    let same = given.reply_is in
     let turn_same : turn ≡ turn_of u = cc in
     let order_same : order ≡ u.order = cc in
-    let dump_same : dump ≡ (if gets_dump c u then u.dump else None) = cc in
-    let blank_same : blank ≡ (if gets_blank c u then slice_get u.blanks 0 else None) = cc in
-    let dump_wanted : wants_dump (callable_at past) client ≡ c.wants_dump = ap (λ (cs : List Registered). wants_dump cs client) t.callable ∙ dump_wish s.clients client c g.client_is in
-    let report_wanted : wants_report (callable_at past) client ≡ c.wants_report = ap (λ (cs : List Registered). wants_report cs client) t.callable ∙ report_wish s.clients client c g.client_is in
-    let given : u.has_polled ≡ true → c.wants_dump ≡ true → u.dump ≡ None = λ polled wants. given_front u.has_polled s.clients client u.called u.dump g.front t.given polled (dump_wish s.clients client c g.client_is ∙ wants) in
-    let apart : IsApart (answered_at past ++ clients_of u.called) = subst IsApart t.called t.apart in
-    let polled : is_among client (turned_at past) ≡ u.has_polled = ap (is_among client) t.turned ∙ front_turned u.has_polled client u.called (answered_at past) g.front apart in
+    let dump_same : dump ≡ None = cc in
+    let blank_same : blank ≡ None = cc in
+    let all : List Called = called_list (turn_of u) s.clients in
+    let stand : Stand all (turned_at past) (answered_at past) u.called u.polled (is_refused u) = t.calling.stand in
+    let turned : is_among client (turned_at past) ≡ true = polled_turned all (turned_at past) (answered_at past) u.called u.polled (is_refused u) client stand given.polled in
     record {
-      later = clients_of (drop 1 u.called);
-      turn_is = ap (λ (o : Option Transition). option_map (λ x. turn_kind x (refusal_at past)) o) t.transition ∙ (ap (λ (r : Option Refusal). Some (turn_kind u.transition r)) t.refusal ∙ ap (λ (x : Transition). Some x) (sym turn_same));
+      turn_is = turn_is past s.state s.clients u t ∙ ap (λ (x : Transition). Some x) (sym turn_same);
       order_is = t.order ∙ ap (λ (x : Order). Some x) (sym order_same);
-      next = t.called ∙ ap (λ (xs : List ℕ). answered_at past ++ xs) (front_cut client u.called g.front);
-      dump_is = dump_same ∙ (dump_told c.wants_dump u.has_polled u.dump given
-          ∙ sym (ap (λ (b : Bool). if b then dump_at past else None) dump_wanted ∙ ap (λ (d : Option (List ℕ)). if c.wants_dump then d else None) t.dump));
-      blank_is = blank_same
+      reached = subst (λ (cs : List Called). IsReached cs (answered_at past) client) (sym (called_is past s.state s.clients u t)) (stand.reached client turned);
+      owes = stand.owes client given.polled;
+      no_later = λ e. turned;
+      dump_is = dump_same ∙ again_dump (wants_dump (callable_at past) client) (dump_at past)
+          (λ wants. t.dump ∙ t.given client given.polled (ap (λ (cs : List Registered). wants_dump cs client) (sym t.callable) ∙ wants));
+      blank_is = blank_same ∙ again_blank (wants_report (callable_at past) client) (is_start turn) (is_among client (turned_at past)) (blanks_at past) turned;
+    }
+
+right_first : (past : List (ℕ × EngineEntry)) (s : EngineState) (client : ℕ) (turn : Transition) (order : Order) (dump : Option (List ℕ)) (blank : Option Totals) (c : Registered) (u : Underway)
+    → TracksUnderway past s.state s.clients u → slice_get s.clients client ≡ Some c → GivesFirst c u client (Turn turn order dump blank) → IsRightTurn past client turn order dump blank
+right_first past s client turn order dump blank c u t is given =
+    let same = given.reply_is in
+    let turn_same : turn ≡ turn_of u = cc in
+    let order_same : order ≡ u.order = cc in
+    let dump_same : dump ≡ (if c.wants_dump then u.dump else None) = cc in
+    let blank_same : blank ≡ (if gets_blank c u then slice_get u.blanks 0 else None) = cc in
+    let dump_wanted : wants_dump (callable_at past) client ≡ c.wants_dump = ap (λ (cs : List Registered). wants_dump cs client) t.callable ∙ dump_wish s.clients client c is in
+    let report_wanted : wants_report (callable_at past) client ≡ c.wants_report = ap (λ (cs : List Registered). wants_report cs client) t.callable ∙ report_wish s.clients client c is in
+    let all : List Called = called_list (turn_of u) s.clients in
+    let stand : Stand all (turned_at past) (answered_at past) u.called u.polled (is_refused u) = t.calling.stand in
+    let group : ℕ = group_of u.polled u.called in
+    let stands : stands_in u.called client ≡ true = with_stands group u.called client given.next in
+    let fresh : is_among client (turned_at past) ≡ false = stand.fresh client stands in
+    let un : is_refused u ≡ false = unrefused all (turned_at past) (answered_at past) u.called u.polled (is_refused u) group client stand given.next in
+    let own : IsReached all (answered_at past) client =
+    record { one = record { client = client; sequence = group }; is = refl; group = next_reached all (turned_at past) (answered_at past) u.called u.polled (is_refused u) client stand given.next } in
+    record {
+      turn_is = turn_is past s.state s.clients u t ∙ ap (λ (x : Transition). Some x) (sym turn_same);
+      order_is = t.order ∙ ap (λ (x : Order). Some x) (sym order_same);
+      reached = subst (λ (cs : List Called). IsReached cs (answered_at past) client) (sym (called_is past s.state s.clients u t)) own;
+      owes = fresh_owes all (turned_at past) (answered_at past) u.called u.polled (is_refused u) client stand stands;
+      no_later = λ e. absurd (never_both (is_refused_at past) e (refused_is past s.state s.clients u t ∙ un));
+      dump_is = dump_same ∙ sym (ap (λ (b : Bool). if b then dump_at past else None) dump_wanted ∙ ap (λ (d : Option (List ℕ)). if c.wants_dump then d else None) t.dump);
+      blank_is = blank_same ∙ (first_blank c.wants_report (is_start (turn_of u)) (is_among client (turned_at past)) u.blanks fresh
           ∙ sym (ap (λ (b : Bool). if b && (not (is_among client (turned_at past)) && is_start turn) then slice_get (blanks_at past) 0 else None) report_wanted
-          ∙ (ap (λ (b : Bool). if c.wants_report && (not b && is_start turn) then slice_get (blanks_at past) 0 else None) polled
-          ∙ (ap (λ (x : Transition). if c.wants_report && (not u.has_polled && is_start x) then slice_get (blanks_at past) 0 else None) turn_same
-          ∙ ap (λ (xs : List Totals). if gets_blank c u then slice_get xs 0 else None) t.blanks)));
+          ∙ (ap (λ (x : Transition). if c.wants_report && (not (is_among client (turned_at past)) && is_start x) then slice_get (blanks_at past) 0 else None) turn_same
+          ∙ ap (λ (xs : List Totals). if c.wants_report && (not (is_among client (turned_at past)) && is_start (turn_of u)) then slice_get xs 0 else None) t.blanks)));
+    }
+
+right_turn : (past : List (ℕ × EngineEntry)) (s : EngineState) (client : ℕ) (turn : Transition) (order : Order) (dump : Option (List ℕ)) (blank : Option Totals) (c : Registered) (u : Underway)
+    → TracksUnderway past s.state s.clients u → slice_get s.clients client ≡ Some c → IsGiven c u client (Turn turn order dump blank) → IsRightTurn past client turn order dump blank
+right_turn past s client turn order dump blank c u t is (inl again) = right_again past s client turn order dump blank u t again
+right_turn past s client turn order dump blank c u t is (inr first) = right_first past s client turn order dump blank c u t is first
+
+-- where nobody has yet to answer, no refused start waits to be called off
+settled_unrefused : (r : Option Refusal) (polled called : List Called) (off : Bool) → is_due_off r polled off ≡ false → polled ++ called ≡ [] → (not off && is_some r) ≡ false
+settled_unrefused None polled called off e done = and_false (not off)
+settled_unrefused (Some r) [] called off e done = and_true (not off) ∙ e
+settled_unrefused (Some r) (p ∷ ps) called off e done = absurd cc
+
+right_end : (past : List (ℕ × EngineEntry)) (s : EngineState) (outcome : StartOutcome) (tallies : List ClientTally) (u : Underway) → TracksUnderway past s.state s.clients u
+    → open_of u ≡ [] → outcome ≡ outcome_of u.refusal → tallies ≡ u.tallies → IsRightEnd past outcome tallies
+right_end past s outcome tallies u t done outcome_is tallies_is =
+    let all : List Called = called_list (turn_of u) s.clients in
+    let un : is_refused u ≡ false = settled_unrefused u.refusal u.polled u.called u.is_off t.unsettled done in
+    record {
+      transition = u.transition;
+      in_progress = t.transition;
+      off = refused_is past s.state s.clients u t ∙ un;
+      all = λ one h. all_answered all (turned_at past) (answered_at past) u.called u.polled (is_refused u) t.calling.stand un done one (subst (IsCalledIn one) (called_is past s.state s.clients u t) h);
+      outcome_is = outcome_is ∙ ap outcome_of (sym t.calling.refusal);
+      tallies_is = tallies_is ∙ sym t.tallies;
     }
 
 right_call : (past : List (ℕ × EngineEntry)) (s : EngineState) (entry : EngineEntry) → Tracks past s → IsEngineReply s entry → IsRightCall past entry
@@ -342,25 +413,22 @@ right_call past s (Begin transition sheet (Err (BeginInProgress u))) t e = tt
 right_call past s (Begin transition sheet (Err LastStart)) t e = tt
 right_call past s (Poll client (Turn turn order dump blank)) t e =
     let g = gives_turn s client turn order dump blank e in
-    right_turn past s client turn order dump blank g (subst (TracksTransition past s.state s.clients) g.underway_is t.transition)
+    right_turn past s client turn order dump blank g.c g.u (subst (TracksTransition past s.state s.clients) g.underway_is t.transition) g.client_is g.given
 right_call past s (Poll client (Idle state)) t e = idle_to s client (slice_get s.clients client) state e ∙ sym (state_tracks past s.state s.clients s.underway t.transition)
 right_call past s (Poll client PollClosed) t e = tt
 right_call past s (Poll client NoClient) t e = tt
 right_call past s (Answer client answer (Ok done)) t e =
     let o = owes s client done e in
     let tu : TracksUnderway past s.state s.clients o.u = subst (TracksTransition past s.state s.clients) o.underway_is t.transition in
-    tu.turned ∙ ap (λ (xs : List ℕ). answered_at past ++ xs) (ap (λ (b : Bool). waiting b o.u.called) o.polled ∙ front_waits client o.u.called o.front)
+    record {
+      turned = polled_turned (called_list (turn_of o.u) s.clients) (turned_at past) (answered_at past) o.u.called o.u.polled (is_refused o.u) client tu.calling.stand o.polled;
+      owes = tu.calling.stand.owes client o.polled;
+    }
 right_call past s (Answer client answer (Err r)) t e = tt
 right_call past s (Check (Done outcome) tallies) t e =
     let f = finishes s outcome e.0 in
     let tu : TracksUnderway past s.state s.clients f.u = subst (TracksTransition past s.state s.clients) f.underway_is t.transition in
-    record {
-      transition = f.u.transition;
-      in_progress = tu.transition;
-      all = sym (tu.called ∙ (ap (λ (cs : List Called). answered_at past ++ clients_of cs) f.done ∙ append-nil (answered_at past)));
-      outcome_is = f.outcome_is ∙ ap outcome_of (sym tu.refusal);
-      tallies_is = e.1 ∙ (ap (λ (p : Progress). tallies_in p s.underway) (sym e.0) ∙ (ap (tallies_in (Done outcome)) f.underway_is ∙ sym tu.tallies));
-    }
+    right_end past s outcome tallies f.u tu f.done f.outcome_is (e.1 ∙ (ap (λ (p : Progress). tallies_in p s.underway) (sym e.0) ∙ ap (tallies_in (Done outcome)) f.underway_is))
 right_call past s (Check Going tallies) t e = tt
 right_call past s (Check NoneGoing tallies) t e = tt
 right_call past s (Close reply) t e = tt
@@ -377,7 +445,7 @@ reach past s [] after t legal = record { state = s; tracks = t; legal = legal }
 reach past s (e ∷ es) after t legal = reach (e ∷ past) (engine_after s e.1) es after (tracks_step past s e.0 e.1 t legal.1) legal.2
 
 pub opens : Tracks [] engine_opening
-opens = record { clients = refl; starts = refl; transition = record { transition = refl; refusal = refl; turned = refl; answered = refl; state_is = refl } }
+opens = record { clients = refl; starts = refl; transition = record { transition = refl; calling = refl; state_is = refl } }
 
 pub history_in_order : (history : List (ℕ × EngineEntry)) → IsLegalEngine engine_opening history → TurnsInOrder history
 history_in_order history legal = record {

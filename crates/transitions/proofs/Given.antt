@@ -1,6 +1,6 @@
 -- Laws of the turns that one client is given.
-use Rattle.std.proofs.Common.{◌≡◌, ℕ, suc, ◌<◌, ◌≤◌, Bool, true, false, eqb, List, [], ◌∷◌, ◌++◌, Option, Some, None, refl, ap, sym, subst, ◌∙◌, arith, append_assoc}
-use Rattle.std.specs.Prelude.{◌&&◌, not, if◌then◌else◌, slice_get, Ok, Err}
+use Rattle.std.proofs.Common.{◌≡◌, ℕ, suc, ◌<◌, ◌≤◌, Bool, true, false, eqb, List, [], ◌∷◌, ◌++◌, Option, Some, None, refl, ap, sym, subst, ◌∙◌, arith, append_assoc, inl, inr}
+use Rattle.std.specs.Prelude.{◌||◌, if◌then◌else◌, Ok, Err}
 use Rattle.std.specs.Option.{option_map}
 use Rattle.std.proofs.lemmas.Bool.{eqb-true}
 use Rattle.daq_types.specs.declared.runs.Transition.{Transition}
@@ -18,13 +18,15 @@ use Rattle.transitions.specs.declared.replies.Progress.TheVariants.{Going, Done,
 use Rattle.transitions.specs.declared.entry.EngineEntry.{EngineEntry}
 use Rattle.transitions.specs.declared.entry.EngineEntry.TheVariants.{Register, Begin, Poll, Answer, Check, Close}
 use Rattle.transitions.specs.Engines.{Underway, EngineState, engine_opening}
-use Rattle.transitions.specs.EngineCalls.{turn_of, is_start, is_next, gets_dump, gets_blank, polled_by, told, refused_by, answered_by, after_poll_by, after_answer_in, IsEngineReply, engine_after}
+use Rattle.transitions.specs.EngineCalls.{turn_kind, turn_of, is_start, stands_in, without, group_of, open_of, first_polled, polled_by, told, refused_by, is_due_off, called_off, settled, answered_with, answered_by, after_poll_by, after_answer_in, IsEngineReply, engine_after}
 use Rattle.transitions.specs.EngineHistories.{IsLegalEngine}
 use Rattle.transitions.specs.EnginePoints.{EngineNews, Silence, Joined, Begun, GaveTurn, Answered, Ended, engine_news, engine_past_after, engine_past, starts_after, starts_at}
 use Rattle.transitions.specs.GivenTurns.{OpenTurn, open_at, calls_of, IsRepeated}
 use Rattle.transitions.proofs.Apart.{split}
+use Rattle.transitions.proofs.Stands.{either, or_false, never_both, stands_gone, stands_other, stands_push}
+use Rattle.transitions.proofs.Groups.{due_none}
 use Rattle.transitions.proofs.Tracked.{Tracks}
-use Rattle.transitions.proofs.Followed.{begins, gives_turn, owes, finishes, history_in_order, tracks_step, opens}
+use Rattle.transitions.proofs.Followed.{begins, IsGiven, gives_turn, owes, finishes, history_in_order, tracks_step, opens}
 
 -- Start numbers.
 
@@ -67,60 +69,104 @@ opened turn order = Some (record { turn = turn; order = order })
 -- the open turn of a client in the engine
 pub open_in : Option Underway → (client : ℕ) → Option OpenTurn
 open_in None client = None
-open_in (Some u) client = if u.has_polled && is_next u.called client then opened (turn_of u) u.order else None
+open_in (Some u) client = if stands_in u.polled client then opened (turn_of u) u.order else None
 
--- where one client is in front, no other is
-front_other : (called : List Called) (client other : ℕ) → is_next called other ≡ true → eqb other client ≡ false → is_next called client ≡ false
-front_other [] client other e ne = refl
-front_other (c ∷ cs) client other e ne = ap (λ (n : ℕ). eqb n client) (eqb-true c.client other e) ∙ ne
-
-not_open : (b f : Bool) → f ≡ false → (b && f) ≡ false
-not_open true f e = e
-not_open false f e = refl
-
-open_polled : (client other : ℕ) (c : Registered) (u : Underway) (turn : Transition) (order : Order) → is_next u.called other ≡ true → turn ≡ turn_of u → order ≡ u.order
-    → (if eqb other client then opened turn order else open_in (Some u) client) ≡ open_in (Some (polled_by c u)) client
+open_again : (client other : ℕ) (u : Underway) (turn : Transition) (order : Order) → stands_in u.polled other ≡ true → turn ≡ turn_of u → order ≡ u.order
+    → (if eqb other client then opened turn order else open_in (Some u) client) ≡ open_in (Some u) client
 unfolding open_in
-open_polled client other c u turn order front turn_is order_is =
-    split (eqb other client) (λ b. eqb other client ≡ b → (if b then opened turn order else (if u.has_polled && is_next u.called client then opened (turn_of u) u.order else None))
-    ≡ (if is_next u.called client then opened (turn_of u) u.order else None))
+open_again client other u turn order polled turn_is order_is =
+    split (eqb other client) (λ b. eqb other client ≡ b
+    → (if b then opened turn order else (if stands_in u.polled client then opened (turn_of u) u.order else None)) ≡ (if stands_in u.polled client then opened (turn_of u) u.order else None))
     (λ h g.
-    let here : is_next u.called client ≡ true = subst (λ (n : ℕ). is_next u.called n ≡ true) (eqb-true other client g) front in
-    let same : opened turn order ≡ opened (turn_of u) u.order = rw (turn_is, order_is) refl in
-    same ∙ sym (rw here refl))
-    (λ h g.
-    let away : is_next u.called client ≡ false = front_other u.called client other front g in
-    rw (not_open u.has_polled (is_next u.called client) away) (sym (rw away refl)))
+    let here : stands_in u.polled client ≡ true = ap (λ (n : ℕ). stands_in u.polled n) (sym (eqb-true other client g)) ∙ polled in
+    ap (λ (t : Transition). opened t order) turn_is ∙ (ap (opened (turn_of u)) order_is ∙ sym (ap (λ (b : Bool). if b then opened (turn_of u) u.order else None) here)))
+    (λ h g. refl)
     refl
 
-open_answered : (client other : ℕ) (u v : Underway) → is_next u.called other ≡ true → v.has_polled ≡ false → (if eqb other client then None else open_in (Some u) client) ≡ open_in (Some v) client
+open_first : (client other : ℕ) (c : Registered) (u : Underway) (turn : Transition) (order : Order) → turn ≡ turn_of u → order ≡ u.order
+    → (if eqb other client then opened turn order else open_in (Some u) client) ≡ open_in (Some (first_polled other c u)) client
 unfolding open_in
-open_answered client other u v front off =
-    split (eqb other client) (λ b. eqb other client ≡ b → (if b then None else (if u.has_polled && is_next u.called client then opened (turn_of u) u.order else None))
-    ≡ (if v.has_polled && is_next v.called client then opened (turn_of v) v.order else None))
-    (λ h g. sym (rw off refl))
+open_first client other c u turn order turn_is order_is =
+    let pushed : stands_in (first_polled other c u).polled client ≡ (stands_in u.polled client || eqb other client) =
+    stands_push client u.polled (record { client = other; sequence = group_of u.polled u.called }) in
+    split (eqb other client) (λ b. eqb other client ≡ b
+    → (if b then opened turn order else (if stands_in u.polled client then opened (turn_of u) u.order else None)) ≡ (if stands_in (first_polled other c u).polled client then opened (turn_of u) u.order else None))
     (λ h g.
-    let away : is_next u.called client ≡ false = front_other u.called client other front g in
-    rw (not_open u.has_polled (is_next u.called client) away) (sym (rw off refl)))
+    let here : stands_in (first_polled other c u).polled client ≡ true = pushed ∙ (ap (λ (b : Bool). stands_in u.polled client || b) g ∙ either (stands_in u.polled client)) in
+    ap (λ (t : Transition). opened t order) turn_is ∙ (ap (opened (turn_of u)) order_is ∙ sym (ap (λ (b : Bool). if b then opened (turn_of u) u.order else None) here)))
+    (λ h g.
+    let there : stands_in (first_polled other c u).polled client ≡ stands_in u.polled client = pushed ∙ (ap (λ (b : Bool). stands_in u.polled client || b) g ∙ or_false (stands_in u.polled client)) in
+    sym (ap (λ (b : Bool). if b then opened (turn_of u) u.order else None) there))
     refl
 
-answered_waits : (clients : List Registered) (client : ℕ) (answer : ClientAnswer) (u : Underway) → (answered_by clients client answer u).has_polled ≡ false
-answered_waits clients client (Yes tally) u = refl
-answered_waits clients client (No why) u = split (is_start (turn_of u)) (λ b. (if b then refused_by clients client why u else told client Plain u).has_polled ≡ false) (λ h. refl) (λ h. refl)
+open_given : (client other : ℕ) (c : Registered) (u : Underway) (turn : Transition) (order : Order) (dump : Option (List ℕ)) (blank : Option Totals) → IsGiven c u other (Turn turn order dump blank)
+    → (if eqb other client then opened turn order else open_in (Some u) client) ≡ open_in (Some (polled_by other c u)) client
+open_given client other c u turn order dump blank (inl again) =
+    let same = again.reply_is in
+    let turn_is : turn ≡ turn_of u = cc in
+    let order_is : order ≡ u.order = cc in
+    subst (λ (b : Bool). (if eqb other client then opened turn order else open_in (Some u) client) ≡ open_in (Some (if b then u else first_polled other c u)) client) (sym again.polled)
+    (open_again client other u turn order again.polled turn_is order_is)
+open_given client other c u turn order dump blank (inr first) =
+    let same = first.reply_is in
+    let turn_is : turn ≡ turn_of u = cc in
+    let order_is : order ≡ u.order = cc in
+    subst (λ (b : Bool). (if eqb other client then opened turn order else open_in (Some u) client) ≡ open_in (Some (if b then u else first_polled other c u)) client) (sym first.fresh)
+    (open_first client other c u turn order turn_is order_is)
 
-open_done : (client : ℕ) (u : Underway) → u.called ≡ [] → open_in (Some u) client ≡ None
+-- an answer closes its own turn
+open_told : (client other : ℕ) (u v : Underway) → v.polled ≡ without other u.polled → v.transition ≡ u.transition → v.is_off ≡ u.is_off → v.order ≡ u.order
+    → (if eqb other client then None else open_in (Some u) client) ≡ open_in (Some v) client
 unfolding open_in
-open_done client u done =
-    let away : is_next u.called client ≡ false = ap (λ (cs : List Called). is_next cs client) done in
-    rw (not_open u.has_polled (is_next u.called client) away) refl
+open_told client other u v polled transition off order =
+    let turn : turn_of v ≡ turn_of u = ap (λ (t : Transition). turn_kind t v.is_off) transition ∙ ap (turn_kind u.transition) off in
+    let same : opened (turn_of v) v.order ≡ opened (turn_of u) u.order = ap (λ (t : Transition). opened t v.order) turn ∙ ap (opened (turn_of u)) order in
+    let left : stands_in v.polled client ≡ stands_in (without other u.polled) client = ap (λ (cs : List Called). stands_in cs client) polled in
+    split (eqb other client) (λ b. eqb other client ≡ b
+    → (if b then None else (if stands_in u.polled client then opened (turn_of u) u.order else None)) ≡ (if stands_in v.polled client then opened (turn_of v) v.order else None))
+    (λ h g.
+    let gone : stands_in v.polled client ≡ false = left ∙ (ap (λ (n : ℕ). stands_in (without other u.polled) n) (sym (eqb-true other client g)) ∙ stands_gone other u.polled) in
+    sym (ap (λ (b : Bool). if b then opened (turn_of v) v.order else None) gone))
+    (λ h g.
+    let there : stands_in v.polled client ≡ stands_in u.polled client = left ∙ stands_other client other u.polled g in
+    ap (λ (x : Option OpenTurn). if stands_in u.polled client then x else None) (sym same) ∙ ap (λ (b : Bool). if b then opened (turn_of v) v.order else None) (sym there))
+    refl
+
+open_with : (client other : ℕ) (answer : ClientAnswer) (u : Underway) → (if eqb other client then None else open_in (Some u) client) ≡ open_in (Some (answered_with other answer u)) client
+open_with client other (Yes tally) u = open_told client other u (told other tally u) refl refl refl refl
+open_with client other (No why) u =
+    split (is_start (turn_of u))
+    (λ b. (if eqb other client then None else open_in (Some u) client) ≡ open_in (Some (if b then refused_by other why u else told other Plain u)) client)
+    (λ h. open_told client other u (refused_by other why u) refl refl refl refl) (λ h. open_told client other u (told other Plain u) refl refl refl refl)
+
+open_fresh : (client : ℕ) (u : Underway) → u.polled ≡ [] → open_in (Some u) client ≡ None
+unfolding open_in
+open_fresh client u none = ap (λ (cs : List Called). if stands_in cs client then opened (turn_of u) u.order else None) none
+
+-- and none is open where start-abort begins
+open_settled : (client : ℕ) (clients : List Registered) (u : Underway) → open_in (Some u) client ≡ open_in (Some (settled clients u)) client
+open_settled client clients u =
+    split (is_due_off u.refusal u.polled u.is_off)
+    (λ b. is_due_off u.refusal u.polled u.is_off ≡ b → open_in (Some u) client ≡ open_in (Some (if b then called_off clients u else u)) client)
+    (λ h g.
+    let none : u.polled ≡ [] = due_none u.refusal u.polled u.is_off g in
+    open_fresh client u none ∙ sym (open_fresh client (called_off clients u) none))
+    (λ h g. refl)
+    refl
+
+open_answered : (client other : ℕ) (clients : List Registered) (answer : ClientAnswer) (u : Underway) → (if eqb other client then None else open_in (Some u) client) ≡ open_in (Some (answered_by clients other answer u)) client
+open_answered client other clients answer u = open_with client other answer u ∙ open_settled client clients (answered_with other answer u)
+
+nobody : (polled called : List Called) → polled ++ called ≡ [] → polled ≡ []
+nobody [] called e = refl
+nobody (p ∷ ps) called e = absurd cc
+
+open_done : (client : ℕ) (u : Underway) → open_of u ≡ [] → open_in (Some u) client ≡ None
+open_done client u done = open_fresh client u (nobody u.polled u.called done)
 
 pub open_none : (client : ℕ) → open_in None client ≡ None
 unfolding open_in
 open_none client = refl
-
-open_fresh : (client : ℕ) (u : Underway) → u.has_polled ≡ false → open_in (Some u) client ≡ None
-unfolding open_in
-open_fresh client u off = rw off refl
 
 open_step : (client : ℕ) (es : List EngineEntry) (s : EngineState) (entry : EngineEntry) → open_at client es ≡ open_in s.underway client → IsEngineReply s entry → open_at client (entry ∷ es) ≡ open_in (engine_after s entry).underway client
 open_step client es s (Register name sequences dump report (Ok n)) is e = is
@@ -131,19 +177,16 @@ open_step client es s (Begin t sheet (Ok n)) is e =
 open_step client es s (Begin t sheet (Err r)) is e = is
 open_step client es s (Poll other (Turn turn order dump blank)) is e =
     let g = gives_turn s other turn order dump blank e in
-    let same = g.reply_is in
-    let turn_is : turn ≡ turn_of g.u = cc in
-    let order_is : order ≡ g.u.order = cc in
     ap (λ (o : Option OpenTurn). if eqb other client then opened turn order else o) (is ∙ ap (λ (o : Option Underway). open_in o client) g.underway_is)
-    ∙ (open_polled client other g.c g.u turn order g.front turn_is order_is
-    ∙ sym (ap (λ (o : Option Registered). open_in (after_poll_by s o).underway client) g.client_is ∙ ap (λ (o : Option Underway). open_in (option_map (polled_by g.c) o) client) g.underway_is))
+    ∙ (open_given client other g.c g.u turn order dump blank g.given
+    ∙ sym (ap (λ (o : Option Registered). open_in (after_poll_by s other o).underway client) g.client_is ∙ ap (λ (o : Option Underway). open_in (option_map (polled_by other g.c) o) client) g.underway_is))
 open_step client es s (Poll other (Idle state)) is e = is
 open_step client es s (Poll other PollClosed) is e = is
 open_step client es s (Poll other NoClient) is e = is
 open_step client es s (Answer other answer (Ok done)) is e =
     let o = owes s other done e in
     ap (λ (x : Option OpenTurn). if eqb other client then None else x) (is ∙ ap (λ (x : Option Underway). open_in x client) o.underway_is)
-    ∙ (open_answered client other o.u (answered_by s.clients other answer o.u) o.front (answered_waits s.clients other answer o.u)
+    ∙ (open_answered client other s.clients answer o.u
     ∙ sym (ap (λ (x : Option Underway). open_in (after_answer_in s other answer x).underway client) o.underway_is))
 open_step client es s (Answer other answer (Err r)) is e = is
 open_step client es s (Check (Done outcome) tallies) is e =
@@ -166,15 +209,15 @@ open_reach client past s [] after tracks is legal = record { state = s; tracks =
 open_reach client past s (e ∷ es) after tracks is legal =
     open_reach client (e ∷ past) (engine_after s e.1) es after (tracks_step past s e.0 e.1 tracks legal.1) (open_step client (calls_of past) s e.1 is legal.1) legal.2
 
-open_is : (u : Underway) (client : ℕ) (o : OpenTurn) → is_next u.called client ≡ true → open_in (Some u) client ≡ Some o → (u.has_polled ≡ true) × (turn_of u ≡ o.turn) × (u.order ≡ o.order)
+open_is : (u : Underway) (client : ℕ) (o : OpenTurn) → open_in (Some u) client ≡ Some o → (stands_in u.polled client ≡ true) × (turn_of u ≡ o.turn) × (u.order ≡ o.order)
 unfolding open_in
-open_is u client o front e =
-    let simple : (if u.has_polled && true then opened (turn_of u) u.order else None) ≡ Some o = subst (λ (b : Bool). (if u.has_polled && b then opened (turn_of u) u.order else None) ≡ Some o) front e in
-    split u.has_polled (λ b. u.has_polled ≡ b → (if b && true then opened (turn_of u) u.order else None) ≡ Some o → (u.has_polled ≡ true) × (turn_of u ≡ o.turn) × (u.order ≡ o.order))
+open_is u client o e =
+    split (stands_in u.polled client)
+    (λ b. stands_in u.polled client ≡ b → (if b then opened (turn_of u) u.order else None) ≡ Some o → (stands_in u.polled client ≡ true) × (turn_of u ≡ o.turn) × (u.order ≡ o.order))
     (λ h g e'.
     let same : opened (turn_of u) u.order ≡ Some o = e' in
     (g, ap (λ (x : Option OpenTurn). turn_or (turn_of u) x) same, ap (λ (x : Option OpenTurn). order_or u.order x) same))
-    (λ h g e'. absurd cc) refl simple
+    (λ h g e'. absurd cc) refl e
   where
     turn_or : Transition → Option OpenTurn → Transition
     turn_or d None = d
@@ -184,9 +227,20 @@ open_is u client o front e =
     order_or d None = d
     order_or d (Some x) = x.order
 
-pub open_owed : (u : Underway) (client : ℕ) → u.has_polled ≡ true → is_next u.called client ≡ true → open_in (Some u) client ≡ opened (turn_of u) u.order
+pub open_owed : (u : Underway) (client : ℕ) → stands_in u.polled client ≡ true → open_in (Some u) client ≡ opened (turn_of u) u.order
 unfolding open_in
-open_owed u client polled front = rw (polled, front) refl
+open_owed u client polled = ap (λ (b : Bool). if b then opened (turn_of u) u.order else None) polled
+
+repeats : (c : Registered) (u : Underway) (client : ℕ) (turn : Transition) (order : Order) (dump : Option (List ℕ)) (blank : Option Totals) (o : OpenTurn)
+    → stands_in u.polled client ≡ true → turn_of u ≡ o.turn → u.order ≡ o.order → IsGiven c u client (Turn turn order dump blank) → IsRepeated o turn order dump blank
+repeats c u client turn order dump blank o polled turn_is order_is (inl again) =
+    let same = again.reply_is in
+    let turn_same : turn ≡ turn_of u = cc in
+    let order_same : order ≡ u.order = cc in
+    let no_dump : dump ≡ None = cc in
+    let no_blank : blank ≡ None = cc in
+    record { turn_is = turn_same ∙ turn_is; order_is = order_same ∙ order_is; dump_is = no_dump; blank_is = no_blank }
+repeats c u client turn order dump blank o polled turn_is order_is (inr first) = absurd (never_both (stands_in u.polled client) polled first.fresh)
 
 -- a turn that is polled again is the same, and gives nothing more
 pub turn_repeats : (before after : List (ℕ × EngineEntry)) (caller client : ℕ) (turn : Transition) (order : Order) (dump : Option (List ℕ)) (blank : Option Totals) (o : OpenTurn)
@@ -194,25 +248,5 @@ pub turn_repeats : (before after : List (ℕ × EngineEntry)) (caller client : �
 turn_repeats before after caller client turn order dump blank o legal is =
     let r = open_reach client [] engine_opening before ((caller, Poll client (Turn turn order dump blank)) ∷ after) opens (sym (open_none client)) legal in
     let g = gives_turn r.state client turn order dump blank r.legal.1 in
-    let same = g.reply_is in
-    let turn_is : turn ≡ turn_of g.u = cc in
-    let order_is : order ≡ g.u.order = cc in
-    let dump_is : dump ≡ (if gets_dump g.c g.u then g.u.dump else None) = cc in
-    let blank_is : blank ≡ (if gets_blank g.c g.u then slice_get g.u.blanks 0 else None) = cc in
-    let was = open_is g.u client o g.front (ap (λ (x : Option Underway). open_in x client) (sym g.underway_is) ∙ (sym r.is ∙ is)) in
-    record {
-      turn_is = turn_is ∙ was.1;
-      order_is = order_is ∙ was.2;
-      dump_is = dump_is ∙ no_dump g.c.wants_dump g.u.has_polled g.u.dump was.0;
-      blank_is = blank_is ∙ no_blank g.c.wants_report g.u.has_polled (is_start (turn_of g.u)) g.u.blanks was.0;
-    }
-  where
-    no_dump : (wants polled : Bool) (d : Option (List ℕ)) → polled ≡ true → (if wants && not polled then d else None) ≡ None
-    no_dump false polled d e = refl
-    no_dump true true d e = refl
-    no_dump true false d e = absurd cc
-
-    no_blank : (wants polled start : Bool) (bs : List Totals) → polled ≡ true → (if wants && (not polled && start) then slice_get bs 0 else None) ≡ None
-    no_blank false polled start bs e = refl
-    no_blank true true start bs e = refl
-    no_blank true false start bs e = absurd cc
+    let was = open_is g.u client o (ap (λ (x : Option Underway). open_in x client) (sym g.underway_is) ∙ (sym r.is ∙ is)) in
+    repeats g.c g.u client turn order dump blank o was.0 was.1 was.2 g.given

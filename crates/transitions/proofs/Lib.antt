@@ -1,7 +1,8 @@
 pub mod Placed
 pub mod EngineKept
 pub mod Apart
-pub mod Fronts
+pub mod Stands
+pub mod Groups
 pub mod Tracked
 pub mod Followed
 pub mod Sampled

@@ -6,7 +6,6 @@ use Rattle.daq_types.specs.declared.runs.Transition.{Transition}
 use Rattle.daq_types.specs.declared.runs.Order.{Order}
 use Rattle.event_report.specs.Reports.{Totals}
 use Rattle.transitions.specs.declared.answers.Answer.{Answer as ClientAnswer}
-use Rattle.transitions.specs.declared.engine.Refusal.{Refusal}
 use Rattle.daq_types.specs.declared.runs.StartOutcome.{StartOutcome}
 use Rattle.transitions.specs.declared.answers.ClientTally.{ClientTally}
 use Rattle.transitions.specs.declared.replies.Polled.TheVariants.{Turn, Idle, Closed as PollClosed, NoClient}
@@ -16,7 +15,7 @@ use Rattle.transitions.specs.declared.entry.EngineEntry.TheVariants.{Register, B
 use Rattle.transitions.specs.Engines.{Underway, engine_opening}
 use Rattle.transitions.specs.EngineCalls.{turn_kind, turn_of, order_for}
 use Rattle.transitions.specs.EngineHistories.{IsLegalEngine}
-use Rattle.transitions.specs.EnginePoints.{engine_past, engine_past_after, transition_at, order_at, refusal_at, dump_at, state_at, callable_at, wants_dump}
+use Rattle.transitions.specs.EnginePoints.{engine_past, engine_past_after, transition_at, order_at, off_at, dump_at, state_at, callable_at, wants_dump}
 use Rattle.transitions.specs.TurnOrder.{IsRightTurn, IsRightEnd}
 use Rattle.transitions.specs.Marks.{is_mark, HasNoMark, IsUnderway, IsEndOf}
 use Rattle.transitions.proofs.Apart.{split}
@@ -170,14 +169,14 @@ was_there : (wants : Bool) (d : Option (List ℕ)) (bytes : List ℕ) → (if wa
 was_there true d bytes e = e
 was_there false d bytes e = absurd cc
 
-record TurnFrom (o : Option Transition) (r : Option Refusal) (turn : Transition) : Type 0 where
+record TurnFrom (o : Option Transition) (off : Bool) (turn : Transition) : Type 0 where
   transition : Transition
   is : o ≡ Some transition
-  turn_is : turn ≡ turn_kind transition r
+  turn_is : turn ≡ turn_kind transition off
 
-turn_from : (o : Option Transition) (r : Option Refusal) (turn : Transition) → option_map (λ t. turn_kind t r) o ≡ Some turn → TurnFrom o r turn
-turn_from None r turn e = absurd cc
-turn_from (Some t) r turn e = record { transition = t; is = refl; turn_is = some_same turn (turn_kind t r) (sym e) }
+turn_from : (o : Option Transition) (off : Bool) (turn : Transition) → option_map (λ t. turn_kind t off) o ≡ Some turn → TurnFrom o off turn
+turn_from None off turn e = absurd cc
+turn_from (Some t) off turn e = record { transition = t; is = refl; turn_is = some_same turn (turn_kind t off) (sym e) }
 
 -- a turn is one of the transition in progress, and so is the dump that it gives
 pub turn_begun : (before after : List (ℕ × EngineEntry)) (caller client : ℕ) (turn : Transition) (order : Order) (dump : Option (List ℕ)) (blank : Option Totals)
@@ -186,7 +185,7 @@ turn_begun before after caller client turn order dump blank legal =
     let past : List (ℕ × EngineEntry) = engine_past before in
     let right : IsRightTurn past client turn order dump blank =
     (history_in_order (before ++ (caller, Poll client (Turn turn order dump blank)) ∷ after) legal).right before after caller (Poll client (Turn turn order dump blank)) refl in
-    let from : TurnFrom (transition_at past) (refusal_at past) turn = turn_from (transition_at past) (refusal_at past) turn right.turn_is in
+    let from : TurnFrom (transition_at past) (off_at past) turn = turn_from (transition_at past) (off_at past) turn right.turn_is in
     let u : IsUnderway before from.transition = underway_begun before from.transition from.is in
     record {
       transition = from.transition;
@@ -209,7 +208,7 @@ answer_closes before after caller client answer done legal =
       transition = o.u.transition;
       underway = u;
       open_turn = record { turn = turn_of o.u; order = o.u.order };
-      open_is = r.is ∙ (ap (λ (x : Option Underway). open_in x client) o.underway_is ∙ open_owed o.u client o.polled o.front);
-      turn_is = ap (turn_kind o.u.transition) (sym tracks.refusal);
+      open_is = r.is ∙ (ap (λ (x : Option Underway). open_in x client) o.underway_is ∙ open_owed o.u client o.polled);
+      turn_is = ap (turn_kind o.u.transition) (sym tracks.calling.off);
       order_is = some_order (order_for u.sheet u.start (state_at (engine_past u.earlier))) o.u.order (sym u.order_is ∙ tracks.order);
     }

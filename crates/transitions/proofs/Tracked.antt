@@ -1,53 +1,51 @@
 -- What the calls tell is what the engine holds, at each point of a legal history.
-use Rattle.std.proofs.Common.{◌≡◌, ℕ, suc, ◌+◌, Bool, true, false, eqb, List, [], ◌∷◌, ◌++◌, length, drop, Option, Some, None, refl, ap, sym, subst, ◌∙◌, arith}
-use Rattle.std.specs.Prelude.{if◌then◌else◌, slice_get}
+use Rattle.std.proofs.Common.{◌≡◌, ℕ, suc, Bool, true, false, eqb, List, [], ◌∷◌, ◌++◌, drop, Option, Some, None, refl, ap, sym, subst, ◌∙◌, inl, inr}
+use Rattle.std.specs.Prelude.{◌||◌, ◌&&◌, not, if◌then◌else◌, slice_get, fold, is_some}
 use Rattle.std.specs.Option.{option_map, option_map_or}
-use Rattle.std.proofs.lemmas.Bool.{eq-eqb, ne_eqb}
-use Rattle.std.proofs.lemmas.List.{append-nil, length-append, length-map}
+use Rattle.std.proofs.lemmas.Bool.{eqb-true, eq-eqb}
+use Rattle.std.proofs.lemmas.List.{append-nil}
 use Rattle.daq_types.specs.declared.runs.RunState.{RunState}
+use Rattle.daq_types.specs.declared.runs.RunState.TheVariants.{Stopped}
 use Rattle.daq_types.specs.declared.runs.Transition.{Transition}
-use Rattle.daq_types.specs.declared.runs.Transition.TheVariants.{StartAbort}
+use Rattle.daq_types.specs.declared.runs.Order.{Order}
 use Rattle.daq_types.specs.declared.runs.StartOutcome.{StartOutcome}
-use Rattle.daq_types.specs.declared.runs.Why.{Why}
 use Rattle.run_states.specs.States.{run_state_after}
 use Rattle.event_report.specs.Reports.{Totals}
 use Rattle.transitions.specs.declared.client.Registered.{Registered}
 use Rattle.transitions.specs.declared.called.Called.{Called}
 use Rattle.transitions.specs.declared.sheet.Sheet.{Sheet}
 use Rattle.transitions.specs.declared.answers.Answer.{Answer as ClientAnswer}
-use Rattle.transitions.specs.declared.answers.Answer.TheVariants.{No}
+use Rattle.transitions.specs.declared.answers.Answer.TheVariants.{Yes, No}
 use Rattle.transitions.specs.declared.answers.Tally.TheVariants.{Plain}
 use Rattle.transitions.specs.declared.answers.ClientTally.{ClientTally}
 use Rattle.transitions.specs.declared.engine.Refusal.{Refusal}
 use Rattle.transitions.specs.declared.entry.EngineEntry.{EngineEntry}
-use Rattle.transitions.specs.Called.{called_list}
+use Rattle.transitions.specs.Called.{called_list, clients_of}
 use Rattle.transitions.specs.Engines.{Underway, EngineState}
-use Rattle.transitions.specs.EngineCalls.{turn_kind, is_start, is_next, state_with, order_for, begun, gets_dump, gets_blank, polled_by, told, refused_by, outcome_of}
-use Rattle.transitions.specs.EnginePoints.{EngineNews, Silence, Joined, Begun, GaveTurn, Answered, Ended, engine_news, clients_at, starts_at, transition_at, callable_at, refusal_at, called_at, turned_at, answered_at, tallies_at, dump_at, blanks_at, completed_at, state_at, order_at, state_by, calls_off, refusal_from, is_call_off, list_for, tally_of, wants_dump, wants_report, is_among, joined_after, starts_after, transition_after, callable_after, refusal_after, turned_after, answered_after, tallies_after, dump_after, blanks_after, completed_after, ended_with, order_after, answered_to_the_end}
-use Rattle.transitions.proofs.Apart.{client_of, clients_of, IsApart, called_apart}
-use Rattle.transitions.proofs.Fronts.{waiting, IsGiven, front_moves, front_waits, turned_next, dump_next, given_none, given_front, given_from, blanks_next, state_open, state_by-push}
+use Rattle.transitions.specs.EngineCalls.{turn_kind, turn_of, is_start, stands_in, without, group_of, has_polled, is_next, open_of, state_with, order_for, begun, gets_blank, first_polled, told, refused_by, is_due_off, called_off, settled, answered_with, answered_by, outcome_of}
+use Rattle.transitions.specs.EnginePoints.{EngineNews, Silence, Joined, Begun, GaveTurn, Answered, Ended, engine_news, Calling, uncalled, refuses, off_opened, is_among, are_among, calling_after, calling_at, clients_at, starts_at, transition_at, callable_at, refusal_at, off_at, called_at, answered_at, tallies_at, dump_at, blanks_at, completed_at, state_at, order_at, state_by, list_for, tally_of, wants_dump, wants_report, joined_after, starts_after, transition_after, callable_after, tallies_after, dump_after, blanks_after, completed_after, ended_with, order_after, answered_to_the_end}
+use Rattle.transitions.proofs.Apart.{split}
+use Rattle.transitions.proofs.Stands.{either, and_false, or_parts, stood, stands_push, with_stands, entry_of, among_stands, all_among}
+use Rattle.transitions.proofs.Groups.{Keeps, is_refused, all_answered, not_all_answered, answered_calling, keeps_begun, keeps_polled, keeps_again, keeps_answered, keeps_settled, settled_not_due}
 
 -- a transition in progress
 pub record TracksUnderway (past : List (ℕ × EngineEntry)) (state : RunState) (clients : List Registered) (u : Underway) : Type 0 where
   pub transition : transition_at past ≡ Some u.transition
-  pub refusal : refusal_at past ≡ u.refusal
   pub order : order_at past ≡ Some u.order
   pub callable : callable_at past ≡ clients
-  pub called : called_at past ≡ answered_at past ++ clients_of u.called
-  pub turned : turned_at past ≡ answered_at past ++ waiting u.has_polled u.called
-  pub apart : IsApart (called_at past)
+  pub calling : Keeps (calling_at past) clients u
+  -- start-abort is begun as soon as it is due
+  pub unsettled : is_due_off u.refusal u.polled u.is_off ≡ false
   pub dump : dump_at past ≡ u.dump
-  pub given : IsGiven u.has_polled clients u.called u.dump
+  pub given : (n : ℕ) → stands_in u.polled n ≡ true → wants_dump clients n ≡ true → u.dump ≡ None
   pub blanks : blanks_at past ≡ u.blanks
   pub tallies : tallies_at past ≡ u.tallies
-  pub state_is : state ≡ state_with (state_by (completed_at past)) u.transition u.refusal u.called
+  pub state_is : state ≡ state_with (state_by (completed_at past)) u.transition u.refusal (open_of u)
 
 -- none in progress
 pub record TracksNone (past : List (ℕ × EngineEntry)) (state : RunState) : Type 0 where
   pub transition : transition_at past ≡ None
-  pub refusal : refusal_at past ≡ None
-  pub turned : turned_at past ≡ []
-  pub answered : answered_at past ≡ []
+  pub calling : calling_at past ≡ uncalled
   pub state_is : state ≡ state_by (completed_at past)
 
 abbrev pub TracksTransition : List (ℕ × EngineEntry) → RunState → List Registered → Option Underway → Type 0
@@ -61,27 +59,52 @@ pub record Tracks (past : List (ℕ × EngineEntry)) (s : EngineState) : Type 0 
 
 -- The state.
 
-ending : (t : Transition) (r : Option Refusal) (called answered : ℕ) (left : List Called) (base : RunState) (ts : List Transition) → base ≡ state_by ts → called ≡ answered + length left
-    → state_by (ts ++ answered_to_the_end (Some t) r called answered) ≡ state_with base t r left
-ending t (Some r) called answered left base ts is long = ap state_by (append-nil ts) ∙ sym is
-ending t None called answered [] base ts is long =
-    let e : eqb called answered ≡ true = eq-eqb called answered (omega arith) in
-    rw e (state_by-push ts t ∙ ap (λ (b : RunState). run_state_after b t) (sym is))
-ending t None called answered (c ∷ cs) base ts is long =
-    let e : eqb called answered ≡ false = ne_eqb called answered (λ same. omega arith) in
-    rw e (ap state_by (append-nil ts) ∙ sym is)
+pub state_by-push : (ts : List Transition) (t : Transition) → state_by (ts ++ t ∷ []) ≡ run_state_after (state_by ts) t
+state_by-push ts t = from Stopped ts
+  where
+    from : (state : RunState) (ts : List Transition) → fold run_state_after state (ts ++ t ∷ []) ≡ run_state_after (fold run_state_after state ts) t
+    from state [] = refl
+    from state (u ∷ us) = from (run_state_after state u) us
+
+abbrev pub with_state : RunState → Underway → RunState
+with_state state u = state_with state u.transition u.refusal (open_of u)
+
+-- without a refusal the transition ends where nobody has yet to answer
+ending : (t : Transition) (r : Option Refusal) (all : Bool) (left : List Called) (base : RunState) (ts : List Transition) → base ≡ state_by ts → (r ≡ None → left ≡ [] → all ≡ true)
+    → ((o : Called) (os : List Called) → left ≡ o ∷ os → all ≡ false) → state_by (ts ++ answered_to_the_end (Some t) r all) ≡ state_with base t r left
+ending t (Some r) all left base ts is none some = ap state_by (append-nil ts) ∙ sym is
+ending t None all [] base ts is none some =
+    ap (λ (b : Bool). state_by (ts ++ (if b then t ∷ [] else []))) (none refl refl) ∙ (state_by-push ts t ∙ ap (λ (b : RunState). run_state_after b t) (sym is))
+ending t None all (c ∷ cs) base ts is none some =
+    ap (λ (b : Bool). state_by (ts ++ (if b then t ∷ [] else []))) (some c cs refl) ∙ (ap state_by (append-nil ts) ∙ sym is)
+
+unrefused_none : (off : Bool) (r : Option Refusal) → r ≡ None → (not off && is_some r) ≡ false
+unrefused_none off r e = ap (λ (o : Option Refusal). not off && is_some o) e ∙ and_false (not off)
+
+pub called_is : (past : List (ℕ × EngineEntry)) (state : RunState) (clients : List Registered) (u : Underway) → TracksUnderway past state clients u → called_at past ≡ called_list (turn_of u) clients
+called_is past state clients u t =
+    ap (λ (o : Option Transition). list_for (option_map (λ x. turn_kind x (off_at past)) o) (callable_at past)) t.transition
+    ∙ (ap (λ (b : Bool). called_list (turn_kind u.transition b) (callable_at past)) t.calling.off ∙ ap (called_list (turn_of u)) t.callable)
 
 state_underway : (past : List (ℕ × EngineEntry)) (state : RunState) (clients : List Registered) (u : Underway) → TracksUnderway past state clients u → state_at past ≡ state
 state_underway past state clients u t =
-    let long : length (called_at past) ≡ length (answered_at past) + length u.called =
-    ap length t.called ∙ (length-append (answered_at past) (clients_of u.called) ∙ ap (λ (n : ℕ). length (answered_at past) + n) (length-map u.called client_of)) in
-    ap (λ (o : Option Transition). state_by (completed_at past ++ answered_to_the_end o (refusal_at past) (length (called_at past)) (length (answered_at past)))) t.transition
-    ∙ (ap (λ (r : Option Refusal). state_by (completed_at past ++ answered_to_the_end (Some u.transition) r (length (called_at past)) (length (answered_at past)))) t.refusal
-    ∙ (ending u.transition u.refusal (length (called_at past)) (length (answered_at past)) u.called (state_by (completed_at past)) (completed_at past) refl long ∙ sym t.state_is))
+    let all : List Called = called_list (turn_of u) clients in
+    let c : Calling = calling_at past in
+    let answered : Bool = are_among (clients_of (called_at past)) c.answered in
+    let answered_is : answered ≡ are_among (clients_of all) c.answered = ap (λ (cs : List Called). are_among (clients_of cs) c.answered) (called_is past state clients u t) in
+    let none : u.refusal ≡ None → open_of u ≡ [] → answered ≡ true = λ r done.
+    answered_is ∙ all_among (clients_of all) c.answered (λ n e.
+    let x = entry_of all n (sym (among_stands n all) ∙ e) in
+    ap (λ (m : ℕ). is_among m c.answered) (sym x.is) ∙ all_answered all c.turned c.answered u.called u.polled (is_refused u) t.calling.stand (unrefused_none u.is_off u.refusal r) done x.one x.among) in
+    let some : (o : Called) (os : List Called) → open_of u ≡ o ∷ os → answered ≡ false = λ o os left.
+    answered_is ∙ not_all_answered all c.turned c.answered u.called u.polled (is_refused u) o os t.calling.stand left in
+    ap (λ (o : Option Transition). state_by (completed_at past ++ answered_to_the_end o (refusal_at past) answered)) t.transition
+    ∙ (ap (λ (r : Option Refusal). state_by (completed_at past ++ answered_to_the_end (Some u.transition) r answered)) t.calling.refusal
+    ∙ (ending u.transition u.refusal answered (open_of u) (state_by (completed_at past)) (completed_at past) refl none some ∙ sym t.state_is))
 
 state_none : (past : List (ℕ × EngineEntry)) (state : RunState) → TracksNone past state → state_at past ≡ state
 state_none past state t =
-    ap (λ (o : Option Transition). state_by (completed_at past ++ answered_to_the_end o (refusal_at past) (length (called_at past)) (length (answered_at past)))) t.transition
+    ap (λ (o : Option Transition). state_by (completed_at past ++ answered_to_the_end o (refusal_at past) (are_among (clients_of (called_at past)) (answered_at past)))) t.transition
     ∙ (ap state_by (append-nil (completed_at past)) ∙ sym t.state_is)
 
 pub state_tracks : (past : List (ℕ × EngineEntry)) (state : RunState) (clients : List Registered) (o : Option Underway) → TracksTransition past state clients o → state_at past ≡ state
@@ -94,14 +117,12 @@ record Reads (past next : List (ℕ × EngineEntry)) (n : EngineNews) : Type 0 w
   clients : clients_at next ≡ joined_after n (clients_at past)
   starts : starts_at next ≡ starts_after n (starts_at past)
   transition : transition_at next ≡ transition_after n (transition_at past)
-  refusal : refusal_at next ≡ refusal_after n (transition_at past) (refusal_at past)
+  calling : calling_at next ≡ calling_after n (transition_at past) (calling_at past)
   order : order_at next ≡ order_after n (state_at past) (order_at past)
   callable : callable_at next ≡ callable_after n (clients_at past) (callable_at past)
-  turned : turned_at next ≡ turned_after n (is_call_off n past) (turned_at past)
-  answered : answered_at next ≡ answered_after n (is_call_off n past) (answered_at past)
   dump : dump_at next ≡ dump_after n (callable_at past) (dump_at past)
   blanks : blanks_at next ≡ blanks_after n (blanks_at past)
-  tallies : tallies_at next ≡ tallies_after n (is_call_off n past) (tallies_at past)
+  tallies : tallies_at next ≡ tallies_after n (transition_at past) (off_at past) (tallies_at past)
   ended : completed_at next ≡ completed_after n (transition_at past) (completed_at past)
 
 reads : (past : List (ℕ × EngineEntry)) (e : ℕ × EngineEntry) (n : EngineNews) → engine_news e.1 ≡ n → Reads past (e ∷ past) n
@@ -109,50 +130,38 @@ reads past e n is = record {
   clients = ap (λ (m : EngineNews). joined_after m (clients_at past)) is;
   starts = ap (λ (m : EngineNews). starts_after m (starts_at past)) is;
   transition = ap (λ (m : EngineNews). transition_after m (transition_at past)) is;
-  refusal = ap (λ (m : EngineNews). refusal_after m (transition_at past) (refusal_at past)) is;
+  calling = ap (λ (m : EngineNews). calling_after m (transition_at past) (calling_at past)) is;
   order = ap (λ (m : EngineNews). order_after m (state_at past) (order_at past)) is;
   callable = ap (λ (m : EngineNews). callable_after m (clients_at past) (callable_at past)) is;
-  turned = ap (λ (m : EngineNews). turned_after m (is_call_off m past) (turned_at past)) is;
-  answered = ap (λ (m : EngineNews). answered_after m (is_call_off m past) (answered_at past)) is;
   dump = ap (λ (m : EngineNews). dump_after m (callable_at past) (dump_at past)) is;
   blanks = ap (λ (m : EngineNews). blanks_after m (blanks_at past)) is;
-  tallies = ap (λ (m : EngineNews). tallies_after m (is_call_off m past) (tallies_at past)) is;
+  tallies = ap (λ (m : EngineNews). tallies_after m (transition_at past) (off_at past) (tallies_at past)) is;
   ended = ap (λ (m : EngineNews). completed_after m (transition_at past) (completed_at past)) is;
 }
 
-pub called_from : (past : List (ℕ × EngineEntry)) (t : Option Transition) (r : Option Refusal) (cs : List Registered) → transition_at past ≡ t → refusal_at past ≡ r → callable_at past ≡ cs
-    → called_at past ≡ list_for (option_map (λ x. turn_kind x r) t) cs
-called_from past t r cs et er ecs =
-    ap (λ (o : Option Transition). list_for (option_map (λ x. turn_kind x (refusal_at past)) o) (callable_at past)) et
-    ∙ (ap (λ (o : Option Refusal). list_for (option_map (λ x. turn_kind x o) t) (callable_at past)) er
-    ∙ ap (list_for (option_map (λ x. turn_kind x r) t)) ecs)
-
 -- An entry that tells nothing.
 
+keeps_from : (c d : Calling) (clients : List Registered) (u : Underway) → d ≡ c → Keeps c clients u → Keeps d clients u
+keeps_from c d clients u is k = subst (λ (x : Calling). Keeps x clients u) (sym is) k
+
 underway_silent : (past next : List (ℕ × EngineEntry)) (state : RunState) (clients : List Registered) (u : Underway) → Reads past next Silence → TracksUnderway past state clients u → TracksUnderway next state clients u
-underway_silent past next state clients u r t =
-    let called : called_at next ≡ called_at past = called_from next (transition_at past) (refusal_at past) (callable_at past) r.transition r.refusal r.callable in
-    record {
-      transition = r.transition ∙ t.transition;
-      refusal = r.refusal ∙ t.refusal;
-      order = r.order ∙ t.order;
-      callable = r.callable ∙ t.callable;
-      called = called ∙ (t.called ∙ ap (λ (xs : List ℕ). xs ++ clients_of u.called) (sym r.answered));
-      turned = r.turned ∙ (t.turned ∙ ap (λ (xs : List ℕ). xs ++ waiting u.has_polled u.called) (sym r.answered));
-      apart = subst IsApart (sym called) t.apart;
-      dump = r.dump ∙ t.dump;
-      given = t.given;
-      blanks = r.blanks ∙ t.blanks;
-      tallies = r.tallies ∙ t.tallies;
-      state_is = t.state_is ∙ ap (λ (ts : List Transition). state_with (state_by ts) u.transition u.refusal u.called) (sym r.ended);
-    }
+underway_silent past next state clients u r t = record {
+  transition = r.transition ∙ t.transition;
+  order = r.order ∙ t.order;
+  callable = r.callable ∙ t.callable;
+  calling = keeps_from (calling_at past) (calling_at next) clients u r.calling t.calling;
+  unsettled = t.unsettled;
+  dump = r.dump ∙ t.dump;
+  given = t.given;
+  blanks = r.blanks ∙ t.blanks;
+  tallies = r.tallies ∙ t.tallies;
+  state_is = t.state_is ∙ ap (λ (ts : List Transition). state_with (state_by ts) u.transition u.refusal (open_of u)) (sym r.ended);
+}
 
 transition_silent : (past next : List (ℕ × EngineEntry)) (state : RunState) (clients : List Registered) (o : Option Underway) → Reads past next Silence → TracksTransition past state clients o → TracksTransition next state clients o
 transition_silent past next state clients None r t = record {
   transition = r.transition ∙ t.transition;
-  refusal = r.refusal ∙ t.refusal;
-  turned = r.turned ∙ t.turned;
-  answered = r.answered ∙ t.answered;
+  calling = r.calling ∙ t.calling;
   state_is = t.state_is ∙ ap state_by (sym r.ended);
 }
 transition_silent past next state clients (Some u) r t = underway_silent past next state clients u r t
@@ -173,9 +182,7 @@ none_joined past e state c is t =
     let r = reads past e (Joined c) is in
     record {
       transition = r.transition ∙ t.transition;
-      refusal = r.refusal ∙ t.refusal;
-      turned = r.turned ∙ t.turned;
-      answered = r.answered ∙ t.answered;
+      calling = r.calling ∙ t.calling;
       state_is = t.state_is ∙ ap state_by (sym r.ended);
     }
 
@@ -197,18 +204,14 @@ pub underway_begun : (past : List (ℕ × EngineEntry)) (e : ℕ × EngineEntry)
     → TracksUnderway (e ∷ past) (state_with s.state t None (called_list t s.clients)) s.clients (begun s t sheet n)
 underway_begun past e s t sheet n is clients none =
     let r = reads past e (Begun t sheet n) is in
-    let next : List (ℕ × EngineEntry) = e ∷ past in
-    let called : called_at next ≡ clients_of (called_list t s.clients) = called_from next (Some t) None s.clients r.transition r.refusal (r.callable ∙ clients) in
     record {
       transition = r.transition;
-      refusal = r.refusal;
       order = r.order ∙ ap (λ (state : RunState). Some (order_for sheet n state)) (state_none past s.state none);
       callable = r.callable ∙ clients;
-      called = called ∙ ap (λ (xs : List ℕ). xs ++ clients_of (called_list t s.clients)) (sym r.answered);
-      turned = r.turned ∙ sym (append-nil (answered_at next) ∙ r.answered);
-      apart = subst IsApart (sym called) (called_apart t s.clients);
+      calling = keeps_from uncalled (calling_at (e ∷ past)) s.clients (begun s t sheet n) r.calling (keeps_begun s t sheet n);
+      unsettled = refl;
       dump = r.dump;
-      given = tt;
+      given = λ m polled. absurd cc;
       blanks = r.blanks;
       tallies = r.tallies;
       state_is = ap (λ (base : RunState). state_with base t None (called_list t s.clients)) (none.state_is ∙ ap state_by (sym r.ended));
@@ -225,97 +228,150 @@ dump_wish clients client c is = ap (λ (o : Option Registered). option_map_or (�
 pub report_wish : (clients : List Registered) (client : ℕ) (c : Registered) → slice_get clients client ≡ Some c → wants_report clients client ≡ c.wants_report
 report_wish clients client c is = ap (λ (o : Option Registered). option_map_or (λ (x : Registered). x.wants_report) o false) is
 
-pub underway_polled : (past : List (ℕ × EngineEntry)) (e : ℕ × EngineEntry) (state : RunState) (clients : List Registered) (u : Underway) (client : ℕ) (c : Registered) (blank : Option Totals)
-    → engine_news e.1 ≡ GaveTurn client blank → TracksUnderway past state clients u → slice_get clients client ≡ Some c → is_next u.called client ≡ true
-    → blank ≡ (if gets_blank c u then slice_get u.blanks 0 else None) → TracksUnderway (e ∷ past) state clients (polled_by c u)
-underway_polled past e state clients u client c blank news t is front blank_is =
+-- where somebody has polled, start-abort is not due
+pub pushed_not_due : (r : Option Refusal) (ps : List Called) (p : Called) (off : Bool) → is_due_off r (ps ++ p ∷ []) off ≡ false
+pushed_not_due None ps p off = refl
+pushed_not_due (Some r) [] p off = refl
+pushed_not_due (Some r) (q ∷ qs) p off = refl
+
+-- the blank reports behind a first turn
+blanks_next : (client : ℕ) (due : Bool) (blanks : List Totals) → blanks_after (GaveTurn client (if due then slice_get blanks 0 else None)) blanks ≡ (if due then drop 1 blanks else blanks)
+blanks_next client false blanks = refl
+blanks_next client true [] = refl
+blanks_next client true (b ∷ bs) = refl
+
+-- while somebody has yet to answer, the state is that before the transition
+state_open : (state : RunState) (t : Transition) (r : Option Refusal) (n : ℕ) (polled called : List Called) → (stands_in polled n || stands_in called n) ≡ true → state_with state t r (polled ++ called) ≡ state
+state_open state t (Some r) n polled called e = refl
+state_open state t None n (p ∷ ps) called e = refl
+state_open state t None n [] (c ∷ cs) e = refl
+state_open state t None n [] [] e = absurd cc
+
+given_more : (clients : List Registered) (u : Underway) (client : ℕ) (c : Registered) → ((n : ℕ) → stands_in u.polled n ≡ true → wants_dump clients n ≡ true → u.dump ≡ None) → wants_dump clients client ≡ c.wants_dump
+    → (n : ℕ) → stands_in (first_polled client c u).polled n ≡ true → wants_dump clients n ≡ true → (if c.wants_dump then None else u.dump) ≡ None
+given_more clients u client c given wish n polled wants =
+    elim (or_parts (stands_in u.polled n) (eqb client n) (sym (stands_push n u.polled (record { client = client; sequence = group_of u.polled u.called })) ∙ polled)) [
+      | inl old ↦ split c.wants_dump (λ b. (if b then None else u.dump) ≡ None) (λ h. refl) (λ h. given n old wants)
+      | inr same ↦ ap (λ (b : Bool). if b then None else u.dump) (sym wish ∙ (ap (wants_dump clients) (eqb-true client n same) ∙ wants))
+    ]
+
+pub underway_first : (past : List (ℕ × EngineEntry)) (e : ℕ × EngineEntry) (state : RunState) (clients : List Registered) (u : Underway) (client : ℕ) (c : Registered) (blank : Option Totals)
+    → engine_news e.1 ≡ GaveTurn client blank → TracksUnderway past state clients u → slice_get clients client ≡ Some c → is_next u.polled u.called client ≡ true
+    → blank ≡ (if gets_blank c u then slice_get u.blanks 0 else None) → TracksUnderway (e ∷ past) state clients (first_polled client c u)
+underway_first past e state clients u client c blank news t is next blank_is =
     let r = reads past e (GaveTurn client blank) news in
-    let next : List (ℕ × EngineEntry) = e ∷ past in
-    let called : called_at next ≡ called_at past = called_from next (transition_at past) (refusal_at past) (callable_at past) r.transition r.refusal r.callable in
     let wish : wants_dump clients client ≡ c.wants_dump = dump_wish clients client c is in
-    let given : u.has_polled ≡ true → c.wants_dump ≡ true → u.dump ≡ None = λ polled wants. given_front u.has_polled clients client u.called u.dump front t.given polled (wish ∙ wants) in
-    let apart : IsApart (answered_at past ++ clients_of u.called) = subst IsApart t.called t.apart in
-    let told_dump : (if wants_dump (callable_at past) client then None else dump_at past) ≡ (if gets_dump c u then None else u.dump) =
-    ap (λ (b : Bool). if b then None else dump_at past) (ap (λ (cs : List Registered). wants_dump cs client) t.callable ∙ wish)
-    ∙ (ap (λ (d : Option (List ℕ)). if c.wants_dump then None else d) t.dump ∙ dump_next c.wants_dump u.has_polled u.dump given) in
-    let told_turned : (if is_among client (turned_at past) then turned_at past else turned_at past ++ client ∷ []) ≡ answered_at past ++ waiting true u.called =
-    ap (λ (xs : List ℕ). if is_among client xs then xs else xs ++ client ∷ []) t.turned ∙ turned_next u.has_polled client u.called (answered_at past) front apart in
+    let stands : stands_in u.called client ≡ true = with_stands (group_of u.polled u.called) u.called client next in
+    let one : Called = record { client = client; sequence = group_of u.polled u.called } in
+    let base : state ≡ state_by (completed_at past) =
+    t.state_is ∙ state_open (state_by (completed_at past)) u.transition u.refusal client u.polled u.called (ap (λ (b : Bool). stands_in u.polled client || b) stands ∙ either (stands_in u.polled client)) in
+    let here : stands_in (u.polled ++ one ∷ []) client ≡ true = stands_push client u.polled one ∙ (ap (λ (b : Bool). stands_in u.polled client || b) (eq-eqb client client refl) ∙ either (stands_in u.polled client)) in
     record {
       transition = r.transition ∙ t.transition;
-      refusal = r.refusal ∙ t.refusal;
       order = r.order ∙ t.order;
       callable = r.callable ∙ t.callable;
-      called = called ∙ (t.called ∙ ap (λ (xs : List ℕ). xs ++ clients_of u.called) (sym r.answered));
-      turned = r.turned ∙ (told_turned ∙ ap (λ (xs : List ℕ). xs ++ waiting true u.called) (sym r.answered));
-      apart = subst IsApart (sym called) t.apart;
-      dump = r.dump ∙ told_dump;
-      given = given_from clients client u.called (if gets_dump c u then None else u.dump) front (λ wants. given_none c.wants_dump u.has_polled u.dump given (sym wish ∙ wants));
-      blanks = r.blanks ∙ (ap (blanks_after (GaveTurn client blank)) t.blanks ∙ blanks_next client (gets_blank c u) u.blanks blank blank_is);
+      calling = keeps_from (calling_after (GaveTurn client blank) (transition_at past) (calling_at past)) (calling_at (e ∷ past)) clients (first_polled client c u) r.calling
+          (keeps_polled (calling_at past) clients u client c blank (transition_at past) t.calling next);
+      unsettled = pushed_not_due u.refusal u.polled one u.is_off;
+      dump = r.dump ∙ (ap (λ (b : Bool). if b then None else dump_at past) (ap (λ (cs : List Registered). wants_dump cs client) t.callable ∙ wish)
+          ∙ ap (λ (d : Option (List ℕ)). if c.wants_dump then None else d) t.dump);
+      given = given_more clients u client c t.given wish;
+      blanks = r.blanks ∙ (ap (blanks_after (GaveTurn client blank)) t.blanks
+          ∙ (ap (λ (o : Option Totals). blanks_after (GaveTurn client o) u.blanks) blank_is ∙ blanks_next client (gets_blank c u) u.blanks));
       tallies = r.tallies ∙ t.tallies;
-      state_is = t.state_is ∙ ap (λ (ts : List Transition). state_with (state_by ts) u.transition u.refusal u.called) (sym r.ended);
+      state_is = base ∙ (ap state_by (sym r.ended)
+          ∙ sym (state_open (state_by (completed_at (e ∷ past))) u.transition u.refusal client (u.polled ++ one ∷ []) (without client u.called) (ap (λ (b : Bool). b || stands_in (without client u.called) client) here)));
     }
 
--- An answer that calls no start off.
+-- A further poll of the turn.
 
-pub underway_told : (past : List (ℕ × EngineEntry)) (e : ℕ × EngineEntry) (state : RunState) (clients : List Registered) (u : Underway) (client : ℕ) (answer : ClientAnswer)
-    → engine_news e.1 ≡ Answered client answer → TracksUnderway past state clients u → u.has_polled ≡ true → is_next u.called client ≡ true
-    → calls_off answer (transition_at past) (refusal_at past) ≡ false
-    → TracksUnderway (e ∷ past) (state_with state u.transition u.refusal (drop 1 u.called)) clients (told client (tally_of answer) u)
-underway_told past e state clients u client answer news t polled front off =
+no_dump_left : (wants : Bool) (dump : Option (List ℕ)) → (wants ≡ true → dump ≡ None) → (if wants then None else dump) ≡ dump
+no_dump_left false dump given = refl
+no_dump_left true dump given = sym (given refl)
+
+pub underway_again : (past : List (ℕ × EngineEntry)) (e : ℕ × EngineEntry) (state : RunState) (clients : List Registered) (u : Underway) (client : ℕ)
+    → engine_news e.1 ≡ GaveTurn client None → TracksUnderway past state clients u → has_polled u client ≡ true → TracksUnderway (e ∷ past) state clients u
+underway_again past e state clients u client news t polled =
+    let r = reads past e (GaveTurn client None) news in
+    record {
+      transition = r.transition ∙ t.transition;
+      order = r.order ∙ t.order;
+      callable = r.callable ∙ t.callable;
+      calling = keeps_from (calling_after (GaveTurn client None) (transition_at past) (calling_at past)) (calling_at (e ∷ past)) clients u r.calling
+          (keeps_again (calling_at past) clients u client None (transition_at past) t.calling polled);
+      unsettled = t.unsettled;
+      dump = r.dump ∙ (ap (λ (cs : List Registered). if wants_dump cs client then None else dump_at past) t.callable
+          ∙ (ap (λ (d : Option (List ℕ)). if wants_dump clients client then None else d) t.dump ∙ no_dump_left (wants_dump clients client) u.dump (t.given client polled)));
+      given = t.given;
+      blanks = r.blanks ∙ t.blanks;
+      tallies = r.tallies ∙ t.tallies;
+      state_is = t.state_is ∙ ap (λ (ts : List Transition). state_with (state_by ts) u.transition u.refusal (open_of u)) (sym r.ended);
+    }
+
+-- An answer.
+
+-- what an answer leaves as it was
+record IsAlike (u v : Underway) : Type 0 where
+  transition : v.transition ≡ u.transition
+  order : v.order ≡ u.order
+  dump : v.dump ≡ u.dump
+  blanks : v.blanks ≡ u.blanks
+  polled : (n : ℕ) → stands_in v.polled n ≡ true → stands_in u.polled n ≡ true
+
+alike_with : (client : ℕ) (answer : ClientAnswer) (u : Underway) → IsAlike u (answered_with client answer u)
+alike_with client (Yes tally) u = record { transition = refl; order = refl; dump = refl; blanks = refl; polled = λ n e. (stood n client u.polled e).1 }
+alike_with client (No why) u =
+    split (is_start (turn_of u)) (λ b. IsAlike u (if b then refused_by client why u else told client Plain u))
+    (λ h. record { transition = refl; order = refl; dump = refl; blanks = refl; polled = λ n e. (stood n client u.polled e).1 })
+    (λ h. record { transition = refl; order = refl; dump = refl; blanks = refl; polled = λ n e. (stood n client u.polled e).1 })
+
+alike_settled : (clients : List Registered) (u v : Underway) → IsAlike u v → IsAlike u (settled clients v)
+alike_settled clients u v a =
+    split (is_due_off v.refusal v.polled v.is_off) (λ b. IsAlike u (if b then called_off clients v else v))
+    (λ h. record { transition = a.transition; order = a.order; dump = a.dump; blanks = a.blanks; polled = a.polled }) (λ h. a)
+
+settled_tallies : (clients : List Registered) (v : Underway) → (settled clients v).tallies ≡ v.tallies
+settled_tallies clients v =
+    split (is_due_off v.refusal v.polled v.is_off) (λ b. (if b then called_off clients v else v).tallies ≡ v.tallies) (λ h. refl) (λ h. refl)
+
+-- a No to a start has no tally
+tallies_with : (client : ℕ) (answer : ClientAnswer) (u : Underway)
+    → (if refuses answer (Some u.transition) u.is_off then u.tallies else u.tallies ++ record { client = client; tally = tally_of answer } ∷ []) ≡ (answered_with client answer u).tallies
+tallies_with client (Yes tally) u = refl
+tallies_with client (No why) u =
+    split (is_start (turn_of u))
+    (λ b. (if b then u.tallies else u.tallies ++ record { client = client; tally = Plain } ∷ []) ≡ (if b then refused_by client why u else told client Plain u).tallies)
+    (λ h. refl) (λ h. refl)
+
+pub underway_answered : (past : List (ℕ × EngineEntry)) (e : ℕ × EngineEntry) (state : RunState) (clients : List Registered) (u : Underway) (client : ℕ) (answer : ClientAnswer)
+    → engine_news e.1 ≡ Answered client answer → TracksUnderway past state clients u → has_polled u client ≡ true
+    → TracksUnderway (e ∷ past) (with_state state (answered_by clients client answer u)) clients (answered_by clients client answer u)
+underway_answered past e state clients u client answer news t polled =
     let r = reads past e (Answered client answer) news in
-    let next : List (ℕ × EngineEntry) = e ∷ past in
-    let refusal : refusal_at next ≡ refusal_at past = r.refusal ∙ ap (λ (b : Bool). refusal_from b client answer (refusal_at past)) off in
-    let called : called_at next ≡ called_at past = called_from next (transition_at past) (refusal_at past) (callable_at past) r.transition refusal r.callable in
-    let answered : answered_at next ≡ answered_at past ++ client ∷ [] = r.answered ∙ ap (λ (b : Bool). if b then [] else answered_at past ++ client ∷ []) off in
-    let waits : waiting u.has_polled u.called ≡ client ∷ [] = ap (λ (b : Bool). waiting b u.called) polled ∙ front_waits client u.called front in
-    let turned : turned_at next ≡ answered_at past ++ client ∷ [] =
-    r.turned ∙ (ap (λ (b : Bool). if b then [] else turned_at past) off ∙ (t.turned ∙ ap (λ (xs : List ℕ). answered_at past ++ xs) waits)) in
-    let base : state ≡ state_by (completed_at past) = t.state_is ∙ state_open (state_by (completed_at past)) u.transition u.refusal client u.called front in
+    let v : Underway = answered_by clients client answer u in
+    let a : IsAlike u v = alike_settled clients u (answered_with client answer u) (alike_with client answer u) in
+    let base : state ≡ state_by (completed_at past) =
+    t.state_is ∙ state_open (state_by (completed_at past)) u.transition u.refusal client u.polled u.called (ap (λ (b : Bool). b || stands_in u.called client) polled) in
+    let calling : calling_at (e ∷ past) ≡ off_opened (answered_calling client answer (Some u.transition) (calling_at past)) =
+    r.calling ∙ ap (λ (o : Option Transition). off_opened (answered_calling client answer o (calling_at past))) t.transition in
     record {
-      transition = r.transition ∙ t.transition;
-      refusal = refusal ∙ t.refusal;
-      order = r.order ∙ t.order;
+      transition = r.transition ∙ (t.transition ∙ ap (λ (x : Transition). Some x) (sym a.transition));
+      order = r.order ∙ (t.order ∙ ap (λ (x : Order). Some x) (sym a.order));
       callable = r.callable ∙ t.callable;
-      called = called ∙ (t.called ∙ (front_moves client u.called (answered_at past) front ∙ ap (λ (xs : List ℕ). xs ++ clients_of (drop 1 u.called)) (sym answered)));
-      turned = turned ∙ sym (append-nil (answered_at next) ∙ answered);
-      apart = subst IsApart (sym called) t.apart;
-      dump = r.dump ∙ t.dump;
-      given = tt;
-      blanks = r.blanks ∙ t.blanks;
-      tallies = r.tallies ∙ (ap (λ (b : Bool). if b then tallies_at past else tallies_at past ++ record { client = client; tally = tally_of answer } ∷ []) off
-          ∙ ap (λ (xs : List ClientTally). xs ++ record { client = client; tally = tally_of answer } ∷ []) t.tallies);
-      state_is = ap (λ (b : RunState). state_with b u.transition u.refusal (drop 1 u.called)) (base ∙ ap state_by (sym r.ended));
+      calling = keeps_from (off_opened (answered_calling client answer (Some u.transition) (calling_at past))) (calling_at (e ∷ past)) clients v calling
+          (keeps_settled (answered_calling client answer (Some u.transition) (calling_at past)) clients (answered_with client answer u) (keeps_answered (calling_at past) clients u client answer t.calling polled));
+      unsettled = settled_not_due clients (answered_with client answer u);
+      dump = r.dump ∙ (t.dump ∙ sym a.dump);
+      given = λ n h wants. a.dump ∙ t.given n (a.polled n h) wants;
+      blanks = r.blanks ∙ (t.blanks ∙ sym a.blanks);
+      tallies = r.tallies ∙ (ap (λ (o : Option Transition). tallies_told o (off_at past) (tallies_at past)) t.transition
+          ∙ (ap (λ (b : Bool). tallies_told (Some u.transition) b (tallies_at past)) t.calling.off
+          ∙ (ap (tallies_told (Some u.transition) u.is_off) t.tallies ∙ (tallies_with client answer u ∙ sym (settled_tallies clients (answered_with client answer u))))));
+      state_is = ap (λ (b : RunState). with_state b v) (base ∙ ap state_by (sym r.ended));
     }
-
--- The refusal of a start.
-
-pub underway_refused : (past : List (ℕ × EngineEntry)) (e : ℕ × EngineEntry) (state : RunState) (clients : List Registered) (u : Underway) (client : ℕ) (why : Why)
-    → engine_news e.1 ≡ Answered client (No why) → TracksUnderway past state clients u → is_next u.called client ≡ true
-    → calls_off (No why) (transition_at past) (refusal_at past) ≡ true
-    → TracksUnderway (e ∷ past) state clients (refused_by clients client why u)
-underway_refused past e state clients u client why news t front off =
-    let r = reads past e (Answered client (No why)) news in
-    let next : List (ℕ × EngineEntry) = e ∷ past in
-    let own : Refusal = record { client = client; why = why } in
-    let refusal : refusal_at next ≡ Some own = r.refusal ∙ ap (λ (b : Bool). refusal_from b client (No why) (refusal_at past)) off in
-    let called : called_at next ≡ clients_of (called_list StartAbort clients) = called_from next (Some u.transition) (Some own) clients (r.transition ∙ t.transition) refusal (r.callable ∙ t.callable) in
-    let answered : answered_at next ≡ [] = r.answered ∙ ap (λ (b : Bool). if b then [] else answered_at past ++ client ∷ []) off in
-    let turned : turned_at next ≡ [] = r.turned ∙ ap (λ (b : Bool). if b then [] else turned_at past) off in
-    let base : state ≡ state_by (completed_at past) = t.state_is ∙ state_open (state_by (completed_at past)) u.transition u.refusal client u.called front in
-    record {
-      transition = r.transition ∙ t.transition;
-      refusal = refusal;
-      order = r.order ∙ t.order;
-      callable = r.callable ∙ t.callable;
-      called = called ∙ ap (λ (xs : List ℕ). xs ++ clients_of (called_list StartAbort clients)) (sym answered);
-      turned = turned ∙ sym (append-nil (answered_at next) ∙ answered);
-      apart = subst IsApart (sym called) (called_apart StartAbort clients);
-      dump = r.dump ∙ t.dump;
-      given = tt;
-      blanks = r.blanks ∙ t.blanks;
-      tallies = r.tallies ∙ (ap (λ (b : Bool). if b then tallies_at past else tallies_at past ++ record { client = client; tally = Plain } ∷ []) off ∙ t.tallies);
-      state_is = base ∙ ap state_by (sym r.ended);
-    }
+  where
+    tallies_told : Option Transition → Bool → List ClientTally → List ClientTally
+    tallies_told o off before = if refuses answer o off then before else before ++ record { client = client; tally = tally_of answer } ∷ []
 
 -- The end.
 
@@ -324,14 +380,12 @@ ended_state t None ts = sym (state_by-push ts t)
 ended_state t (Some r) ts = refl
 
 pub none_ended : (past : List (ℕ × EngineEntry)) (e : ℕ × EngineEntry) (state : RunState) (clients : List Registered) (u : Underway) (outcome : StartOutcome)
-    → engine_news e.1 ≡ Ended outcome → TracksUnderway past state clients u → u.called ≡ [] → outcome ≡ outcome_of u.refusal → TracksNone (e ∷ past) state
+    → engine_news e.1 ≡ Ended outcome → TracksUnderway past state clients u → open_of u ≡ [] → outcome ≡ outcome_of u.refusal → TracksNone (e ∷ past) state
 none_ended past e state clients u outcome news t done outcome_is =
     let r = reads past e (Ended outcome) news in
     record {
       transition = r.transition;
-      refusal = r.refusal;
-      turned = r.turned;
-      answered = r.answered;
+      calling = r.calling;
       state_is = t.state_is ∙ (ap (state_with (state_by (completed_at past)) u.transition u.refusal) done ∙ (ended_state u.transition u.refusal (completed_at past)
           ∙ ap state_by (sym (r.ended ∙ (ap (λ (o : StartOutcome). ended_with o (transition_at past) (completed_at past)) outcome_is
           ∙ ap (λ (o : Option Transition). ended_with (outcome_of u.refusal) o (completed_at past)) t.transition)))));

@@ -1,5 +1,6 @@
 -- The calls of the engine: the reply of each, and the engine after it.
-use Rattle.std.specs.Prelude.{◌≡◌, ℕ, ◌+◌, Bool, true, false, ◌&&◌, not, ◌==◌, nat_lt, if◌then◌else◌, List, [], ◌∷◌, ◌++◌, length, drop, slice_get, Option, Some, None, Result, Ok, Err, ⊤}
+use Rattle.std.specs.Prelude.{◌≡◌, ℕ, ◌+◌, Bool, true, false, ◌&&◌, not, ◌==◌, nat_lt, if◌then◌else◌, List, [], ◌∷◌, ◌++◌, length, drop, filter, slice_get, Option, Some, None, Result, Ok, Err, ⊤}
+use Rattle.std.specs.List.{list_any}
 use Rattle.std.specs.Option.{option_map}
 use Rattle.daq_types.specs.declared.runs.RunState.{RunState}
 use Rattle.daq_types.specs.declared.runs.Transition.{Transition}
@@ -37,37 +38,62 @@ use Rattle.transitions.specs.Engines.{Underway, EngineState}
 -- Turns.
 
 -- the transition whose turns are given: a refused start is called off
-abbrev pub turn_kind : Transition → Option Refusal → Transition
-turn_kind t None = t
-turn_kind t (Some refusal) = StartAbort
+abbrev pub turn_kind : Transition → (is_off : Bool) → Transition
+turn_kind t false = t
+turn_kind t true = StartAbort
 
 abbrev pub turn_of : Underway → Transition
-turn_of u = turn_kind u.transition u.refusal
+turn_of u = turn_kind u.transition u.is_off
 
 abbrev pub is_start : Transition → Bool
 is_start Start = true
 is_start t = false
 
--- whether this client is in front of those that are still to be called
-abbrev pub is_next : List Called → (client : ℕ) → Bool
-is_next [] client = false
-is_next (c ∷ cs) client = c.client == client
+-- whether this client is one of these
+abbrev pub stands_in : List Called → (client : ℕ) → Bool
+stands_in cs client = list_any (λ (c : Called). c.client == client) cs
+
+-- whether it is one of these, and in the group of this number
+abbrev pub stands_with : (sequence : ℕ) → List Called → (client : ℕ) → Bool
+stands_with q cs client = list_any (λ (c : Called). (c.client == client) && (c.sequence == q)) cs
+
+-- these but for this client
+abbrev pub without : (client : ℕ) → List Called → List Called
+without client cs = filter (λ (c : Called). not (c.client == client)) cs
+
+-- the number of the group whose turn it is: that of the clients whose answers are awaited, else that of the first to be called
+abbrev pub group_of : (polled called : List Called) → ℕ
+group_of (p ∷ ps) called = p.sequence
+group_of [] (c ∷ cs) = c.sequence
+group_of [] [] = 0
+
+-- whether it was given its turn, and has not answered
+abbrev pub has_polled : Underway → (client : ℕ) → Bool
+has_polled u client = stands_in u.polled client
+
+-- whether the turn is its, and it was not given it yet
+abbrev pub is_next : (polled called : List Called) → (client : ℕ) → Bool
+is_next polled called client = stands_with (group_of polled called) called client
 
 -- whether turns of a start are given
 abbrev pub is_in_start : Option Underway → Bool
 is_in_start None = false
 is_in_start (Some u) = is_start (turn_of u)
 
--- the state with these clients still to be called: where none is left, and no client refused, the transition is done
+-- all who have yet to answer
+abbrev pub open_of : Underway → List Called
+open_of u = u.polled ++ u.called
+
+-- the state with these clients yet to answer: where none is left, and no client refused, the transition is done
 abbrev pub state_with : RunState → Transition → Option Refusal → List Called → RunState
 state_with state t None [] = run_state_after state t
-state_with state t refusal called = state
+state_with state t refusal open_clients = state
 
 -- the engine with this transition, all of whose clients may have answered
 abbrev pub with_underway : EngineState → Underway → EngineState
 with_underway s u = record {
   closed = s.closed;
-  state = state_with s.state u.transition u.refusal u.called;
+  state = state_with s.state u.transition u.refusal (open_of u);
   start = s.start;
   clients = s.clients;
   underway = Some u;
@@ -109,8 +135,9 @@ begun s t sheet start = record {
   dump = sheet.dump;
   blanks = sheet.blanks;
   called = called_list t s.clients;
-  has_polled = false;
+  polled = [];
   refusal = None;
+  is_off = false;
   tallies = [];
 }
 
@@ -119,21 +146,23 @@ with_start s start = record { closed = s.closed; state = s.state; start = start;
 
 -- Polling.
 
--- a client that wants the dump is given it at the first poll of its turn, if it is still there
-abbrev pub gets_dump : Registered → Underway → Bool
-gets_dump c u = c.wants_dump && not u.has_polled
-
--- and a blank report at the first poll of its turn of a start
+-- a client that wants a blank report is given one with its turn of a start
 abbrev pub gets_blank : Registered → Underway → Bool
-gets_blank c u = c.wants_report && (not u.has_polled && is_start (turn_of u))
+gets_blank c u = c.wants_report && is_start (turn_of u)
 
-abbrev pub turn_reply : Registered → Underway → Polled
-turn_reply c u =
-    Turn (turn_of u) u.order (if gets_dump c u then u.dump else None) (if gets_blank c u then slice_get u.blanks 0 else None)
+-- the first reply of a turn: the dump, if it is still there, goes to a client that wants it
+abbrev pub first_turn : Registered → Underway → Polled
+first_turn c u =
+    Turn (turn_of u) u.order (if c.wants_dump then u.dump else None) (if gets_blank c u then slice_get u.blanks 0 else None)
+
+-- and each further one, until the client answers
+abbrev pub same_turn : Underway → Polled
+same_turn u = Turn (turn_of u) u.order None None
 
 abbrev pub poll_reply_in : RunState → (client : ℕ) → Registered → Option Underway → Polled
 poll_reply_in state client c None = Idle state
-poll_reply_in state client c (Some u) = if is_next u.called client then turn_reply c u else Idle state
+poll_reply_in state client c (Some u) =
+    if has_polled u client then same_turn u else if is_next u.polled u.called client then first_turn c u else Idle state
 
 abbrev pub poll_reply_to : EngineState → (client : ℕ) → Option Registered → Polled
 poll_reply_to s client None = NoClient
@@ -142,31 +171,36 @@ poll_reply_to s client (Some c) = if s.closed then PollClosed else poll_reply_in
 abbrev pub poll_reply : EngineState → (client : ℕ) → Polled
 poll_reply s client = poll_reply_to s client (slice_get s.clients client)
 
--- the transition after this client, which is in front, has polled
-abbrev pub polled_by : Registered → Underway → Underway
-polled_by c u = record {
+-- the transition after this client was given its turn
+abbrev pub first_polled : (client : ℕ) → Registered → Underway → Underway
+first_polled client c u = record {
   transition = u.transition;
   order = u.order;
-  dump = if gets_dump c u then None else u.dump;
+  dump = if c.wants_dump then None else u.dump;
   blanks = if gets_blank c u then drop 1 u.blanks else u.blanks;
-  called = u.called;
-  has_polled = true;
+  called = without client u.called;
+  polled = u.polled ++ record { client = client; sequence = group_of u.polled u.called } ∷ [];
   refusal = u.refusal;
+  is_off = u.is_off;
   tallies = u.tallies;
 }
 
-abbrev pub after_poll_by : EngineState → Option Registered → EngineState
-after_poll_by s None = s
-after_poll_by s (Some c) = record {
+-- the transition after a poll that was replied a turn: a further one changes nothing
+abbrev pub polled_by : (client : ℕ) → Registered → Underway → Underway
+polled_by client c u = if has_polled u client then u else first_polled client c u
+
+abbrev pub after_poll_by : EngineState → (client : ℕ) → Option Registered → EngineState
+after_poll_by s client None = s
+after_poll_by s client (Some c) = record {
   closed = s.closed;
   state = s.state;
   start = s.start;
   clients = s.clients;
-  underway = option_map (polled_by c) s.underway;
+  underway = option_map (polled_by client c) s.underway;
 }
 
 abbrev pub after_poll : EngineState → (client : ℕ) → EngineState
-after_poll s client = after_poll_by s (slice_get s.clients client)
+after_poll s client = after_poll_by s client (slice_get s.clients client)
 
 -- Answering.
 
@@ -176,7 +210,7 @@ not_your_turn = record {}
 -- whether the client was given a turn that it has not answered
 abbrev pub owes_answer : Option Underway → (client : ℕ) → Bool
 owes_answer None client = false
-owes_answer (Some u) client = u.has_polled && is_next u.called client
+owes_answer (Some u) client = has_polled u client
 
 abbrev pub answer_reply : EngineState → (client : ℕ) → Result ⊤ NotYourTurn
 answer_reply s client = if owes_answer s.underway client then Ok tt else Err not_your_turn
@@ -188,43 +222,71 @@ told client tally u = record {
   order = u.order;
   dump = u.dump;
   blanks = u.blanks;
-  called = drop 1 u.called;
-  has_polled = false;
+  called = u.called;
+  polled = without client u.polled;
   refusal = u.refusal;
+  is_off = u.is_off;
   tallies = u.tallies ++ record { client = client; tally = tally } ∷ [];
 }
 
--- the start after its refusal: those that are not called yet get no turn of it, and all clients for start-abort are called
-abbrev pub refused_by : List Registered → (client : ℕ) → Why → Underway → Underway
-refused_by clients client why u = record {
+-- a refusal behind the first one changes nothing
+abbrev pub first_refusal : Option Refusal → (client : ℕ) → Why → Refusal
+first_refusal None client why = record { client = client; why = why }
+first_refusal (Some refusal) client why = refusal
+
+-- the start after a No: the clients that were given no turn of it get none
+abbrev pub refused_by : (client : ℕ) → Why → Underway → Underway
+refused_by client why u = record {
+  transition = u.transition;
+  order = u.order;
+  dump = u.dump;
+  blanks = u.blanks;
+  called = [];
+  polled = without client u.polled;
+  refusal = Some (first_refusal u.refusal client why);
+  is_off = u.is_off;
+  tallies = u.tallies;
+}
+
+-- whether start-abort is due: a start was refused, and no answer is awaited any more
+abbrev pub is_due_off : Option Refusal → (polled : List Called) → (is_off : Bool) → Bool
+is_due_off None polled is_off = false
+is_due_off (Some refusal) [] is_off = not is_off
+is_due_off (Some refusal) (p ∷ ps) is_off = false
+
+-- all clients for start-abort are called
+abbrev pub called_off : List Registered → Underway → Underway
+called_off clients u = record {
   transition = u.transition;
   order = u.order;
   dump = u.dump;
   blanks = u.blanks;
   called = called_list StartAbort clients;
-  has_polled = false;
-  refusal = Some (record { client = client; why = why });
+  polled = u.polled;
+  refusal = u.refusal;
+  is_off = true;
   tallies = u.tallies;
 }
 
+abbrev pub settled : List Registered → Underway → Underway
+settled clients u = if is_due_off u.refusal u.polled u.is_off then called_off clients u else u
+
 -- a No to anything but a start is taken as Yes without a tally
+abbrev pub answered_with : (client : ℕ) → ClientAnswer → Underway → Underway
+answered_with client (Yes tally) u = told client tally u
+answered_with client (No why) u = if is_start (turn_of u) then refused_by client why u else told client Plain u
+
 abbrev pub answered_by : List Registered → (client : ℕ) → ClientAnswer → Underway → Underway
-answered_by clients client (Yes tally) u = told client tally u
-answered_by clients client (No why) u = if is_start (turn_of u) then refused_by clients client why u else told client Plain u
+answered_by clients client answer u = settled clients (answered_with client answer u)
 
 abbrev pub after_answer_in : EngineState → (client : ℕ) → ClientAnswer → Option Underway → EngineState
 after_answer_in s client answer None = s
 after_answer_in s client answer (Some u) = with_underway s (answered_by s.clients client answer u)
 
--- the engine after a client refused the start that is in progress
-abbrev pub after_refusal : EngineState → (client : ℕ) → Why → EngineState
-after_refusal s client why = record {
-  closed = s.closed;
-  state = s.state;
-  start = s.start;
-  clients = s.clients;
-  underway = option_map (refused_by s.clients client why) s.underway;
-}
+-- the engine once start-abort is begun, where it is due
+abbrev pub after_settling : EngineState → Option Underway → EngineState
+after_settling s None = s
+after_settling s (Some u) = with_underway s (settled s.clients u)
 
 -- Checking.
 
@@ -238,7 +300,7 @@ progress_of (c ∷ cs) refusal = Going
 
 abbrev pub check_reply_in : Option Underway → Progress
 check_reply_in None = NoneGoing
-check_reply_in (Some u) = progress_of u.called u.refusal
+check_reply_in (Some u) = progress_of (open_of u) u.refusal
 
 abbrev pub check_reply : EngineState → Progress
 check_reply s = check_reply_in s.underway

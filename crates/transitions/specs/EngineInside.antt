@@ -1,5 +1,5 @@
 -- How an engine is kept, and what is known of it.
-use Rattle.std.specs.Prelude.{◌≡◌, ℕ, ◌+◌, ◌≤◌, ◌<◌, List, length, Option, Some, None, IsTrue, if◌then◌else◌, is_some}
+use Rattle.std.specs.Prelude.{◌≡◌, ℕ, ◌+◌, ◌≤◌, ◌<◌, List, length, Option, Some, None, IsTrue, if◌then◌else◌, ⊤}
 use Rattle.std.specs.List.{AllByRecursion}
 use Rattle.std.specs.Global.{Vec}
 use Rattle.daq_types.specs.declared.runs.RunState.{RunState}
@@ -15,28 +15,37 @@ use Rattle.transitions.specs.Engines.{Underway}
 use Rattle.transitions.specs.EngineHistories.{IsShort, IsBlank}
 
 -- a transition in progress has its parts beside it
-abbrev pub underway_of : Option Stage → Option (List ℕ) → List Totals → List Called → List ClientTally → Option Underway
-underway_of None dump blanks called tallies = None
-underway_of (Some stage) dump blanks called tallies = Some (record {
+abbrev pub underway_of : Option Stage → Option (List ℕ) → List Totals → (called polled : List Called) → List ClientTally → Option Underway
+underway_of None dump blanks called polled tallies = None
+underway_of (Some stage) dump blanks called polled tallies = Some (record {
   transition = stage.transition;
   order = stage.order;
   dump = dump;
   blanks = blanks;
   called = called;
-  has_polled = stage.polled;
+  polled = polled;
   refusal = stage.refusal;
+  is_off = stage.off;
   tallies = tallies;
 })
 
--- the tallies that there are and that may still come: a refused start has some of start besides
-abbrev pub most_at : Stage → ℕ
-most_at stage = if is_some stage.refusal then most_tallies else most_clients
+-- the state allows a transition that no client refused
+abbrev pub IsChangeAllowed : RunState → Option Underway → Type 0
+IsChangeAllowed state None = ⊤
+IsChangeAllowed state (Some u) = u.refusal ≡ None → IsTrue (is_allowed state u.transition)
 
-pub record IsEngine (state : RunState) (clients : Vec Registered) (stage : Option Stage) (dump : Option (List ℕ)) (blanks : List Totals) (called : Vec Called) (tallies : List ClientTally) : Type 0 where
+-- the tallies that there are and that may still come: once start-abort is begun, some of start besides
+abbrev pub most_at : Stage → ℕ
+most_at stage = if stage.off then most_tallies else most_clients
+
+pub record IsEngine (state : RunState) (clients : Vec Registered) (stage : Option Stage) (dump : Option (List ℕ)) (blanks : List Totals) (called polled : Vec Called) (tallies : List ClientTally) : Type 0 where
   pub clients_fit : HasRoomFor most_clients clients
   pub called_fit : HasRoomFor most_clients called
-  pub tallies_fit : (now : Stage) → stage ≡ Some now → length tallies + length called.items ≤ most_at now
-  -- while a turn is open and no client refused, the transition is one that the state allows
-  pub allowed : (now : Stage) → stage ≡ Some now → now.refusal ≡ None → 0 < length called.items → IsTrue (is_allowed state now.transition)
+  pub polled_fit : HasRoomFor most_clients polled
+  -- all who have yet to answer have room in each of the two lists
+  pub open_fit : length polled.items + length called.items ≤ most_clients
+  pub tallies_fit : (now : Stage) → stage ≡ Some now → length tallies + (length polled.items + length called.items) ≤ most_at now
+  -- while an answer is awaited and no client refused, the transition is one that the state allows
+  pub allowed : (now : Stage) → stage ≡ Some now → now.refusal ≡ None → 0 < length polled.items + length called.items → IsTrue (is_allowed state now.transition)
   pub short : IsShort dump
   pub blank : AllByRecursion IsBlank blanks

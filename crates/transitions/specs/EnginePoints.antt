@@ -1,6 +1,6 @@
 -- What the calls of an engine and their replies tell, by themselves: nothing here looks into the engine.
 -- A point of a history is the list of the entries before it, the latest first.
-use Rattle.std.specs.Prelude.{ℕ, suc, ◌==◌, Bool, true, false, ◌||◌, if◌then◌else◌, List, [], ◌∷◌, ◌++◌, length, map, drop, fold, slice_get, Option, Some, None, Ok}
+use Rattle.std.specs.Prelude.{ℕ, suc, ◌==◌, Bool, true, false, ◌||◌, ◌&&◌, not, if◌then◌else◌, List, [], ◌∷◌, ◌++◌, drop, fold, slice_get, Option, Some, None, is_some, Ok}
 use Rattle.std.specs.Option.{option_map, option_map_or}
 use Rattle.daq_types.specs.declared.runs.RunState.{RunState}
 use Rattle.daq_types.specs.declared.runs.RunState.TheVariants.{Stopped}
@@ -23,7 +23,7 @@ use Rattle.transitions.specs.declared.replies.Polled.TheVariants.{Turn}
 use Rattle.transitions.specs.declared.replies.Progress.TheVariants.{Done}
 use Rattle.transitions.specs.declared.entry.EngineEntry.{EngineEntry}
 use Rattle.transitions.specs.declared.entry.EngineEntry.TheVariants.{Register, Begin, Poll, Answer, Check}
-use Rattle.transitions.specs.Called.{called_list}
+use Rattle.transitions.specs.Called.{called_list, clients_of}
 use Rattle.transitions.specs.EngineCalls.{turn_kind, is_start, order_for}
 
 -- the point behind these entries, which follow this point
@@ -92,73 +92,88 @@ abbrev pub callable_at : List (ℕ × EngineEntry) → List Registered
 callable_at [] = []
 callable_at (e ∷ past) = callable_after (engine_news e.1) (clients_at past) (callable_at past)
 
--- Refusals.
+-- What is known of the transition in progress, one entry after the other.
 
--- a No to a turn of a start calls the start off
-abbrev pub calls_off : ClientAnswer → Option Transition → Option Refusal → Bool
-calls_off (Yes tally) transition refusal = false
-calls_off (No why) None refusal = false
-calls_off (No why) (Some t) refusal = is_start (turn_kind t refusal)
+-- of a refused start the turns and answers of start-abort are counted by themselves
+pub record Calling : Type 0 where
+  -- the first refusal of a start
+  pub refusal : Option Refusal
+  -- whether clients are called for start-abort
+  pub off : Bool
+  -- the clients that were given a turn, in the order of the first replies that gave it
+  pub turned : List ℕ
+  -- the clients that answered, in order
+  pub answered : List ℕ
 
-abbrev pub refusal_from : Bool → (client : ℕ) → ClientAnswer → Option Refusal → Option Refusal
-refusal_from true client (No why) before = Some (record { client = client; why = why })
-refusal_from off client answer before = before
+-- where a transition was just begun, or none is in progress
+abbrev pub uncalled : Calling
+uncalled = record { refusal = None; off = false; turned = []; answered = [] }
 
-abbrev pub refusal_after : EngineNews → Option Transition → Option Refusal → Option Refusal
-refusal_after (Begun t sheet n) transition before = None
-refusal_after (Answered client answer) transition before = refusal_from (calls_off answer transition before) client answer before
-refusal_after (Ended outcome) transition before = None
-refusal_after news transition before = before
+-- a No to a turn of a start refuses it
+abbrev pub refuses : ClientAnswer → Option Transition → (off : Bool) → Bool
+refuses (Yes tally) transition off = false
+refuses (No why) None off = false
+refuses (No why) (Some t) off = is_start (turn_kind t off)
 
--- the refusal of the start in progress
-abbrev pub refusal_at : List (ℕ × EngineEntry) → Option Refusal
-refusal_at [] = None
-refusal_at (e ∷ past) = refusal_after (engine_news e.1) (transition_at past) (refusal_at past)
-
--- whether the entry calls a start off
-abbrev pub is_call_off : EngineNews → List (ℕ × EngineEntry) → Bool
-is_call_off (Answered client answer) past = calls_off answer (transition_at past) (refusal_at past)
-is_call_off news past = false
-
--- Turns and answers, since the transition was begun or, of a start that was refused, since its refusal.
-
--- the transition whose turns are given
-abbrev pub turn_at : List (ℕ × EngineEntry) → Option Transition
-turn_at past = option_map (λ t. turn_kind t (refusal_at past)) (transition_at past)
-
-abbrev pub list_for : Option Transition → List Registered → List ℕ
-list_for None clients = []
-list_for (Some t) clients = map (λ (c : Called). c.client) (called_list t clients)
-
--- the clients that are called, in their order
-abbrev pub called_at : List (ℕ × EngineEntry) → List ℕ
-called_at past = list_for (turn_at past) (callable_at past)
+-- a No behind the first one changes nothing
+abbrev pub refusal_from : (refused : Bool) → (client : ℕ) → ClientAnswer → Option Refusal → Option Refusal
+refusal_from true client (No why) None = Some (record { client = client; why = why })
+refusal_from refused client answer before = before
 
 abbrev pub is_among : (client : ℕ) → List ℕ → Bool
 is_among client [] = false
 is_among client (c ∷ cs) = (c == client) || is_among client cs
 
-abbrev pub turned_after : EngineNews → (off : Bool) → List ℕ → List ℕ
-turned_after (Begun t sheet n) off before = []
-turned_after (GaveTurn client blank) off before = if is_among client before then before else before ++ client ∷ []
-turned_after (Ended outcome) off before = []
-turned_after news off before = if off then [] else before
+-- whether each of these is among the others
+abbrev pub are_among : List ℕ → (others : List ℕ) → Bool
+are_among [] others = true
+are_among (c ∷ cs) others = is_among c others && are_among cs others
 
--- the clients that were given a turn, in the order of the first replies that gave it
+-- the answer behind which each client has answered that was given a turn of a refused start opens the turns of start-abort
+abbrev pub opens_off : Calling → Bool
+opens_off c = not c.off && (is_some c.refusal && are_among c.turned c.answered)
+
+abbrev pub off_opened : Calling → Calling
+off_opened c = if opens_off c then record { refusal = c.refusal; off = true; turned = []; answered = [] } else c
+
+abbrev pub turned_more : (client : ℕ) → List ℕ → List ℕ
+turned_more client before = if is_among client before then before else before ++ client ∷ []
+
+abbrev pub calling_after : EngineNews → Option Transition → Calling → Calling
+calling_after (Begun t sheet n) transition c = uncalled
+calling_after (GaveTurn client blank) transition c = record { refusal = c.refusal; off = c.off; turned = turned_more client c.turned; answered = c.answered }
+calling_after (Answered client answer) transition c =
+    off_opened (record { refusal = refusal_from (refuses answer transition c.off) client answer c.refusal; off = c.off; turned = c.turned; answered = c.answered ++ client ∷ [] })
+calling_after (Ended outcome) transition c = uncalled
+calling_after news transition c = c
+
+abbrev pub calling_at : List (ℕ × EngineEntry) → Calling
+calling_at [] = uncalled
+calling_at (e ∷ past) = calling_after (engine_news e.1) (transition_at past) (calling_at past)
+
+abbrev pub refusal_at : List (ℕ × EngineEntry) → Option Refusal
+refusal_at past = (calling_at past).refusal
+
+abbrev pub off_at : List (ℕ × EngineEntry) → Bool
+off_at past = (calling_at past).off
+
 abbrev pub turned_at : List (ℕ × EngineEntry) → List ℕ
-turned_at [] = []
-turned_at (e ∷ past) = turned_after (engine_news e.1) (is_call_off (engine_news e.1) past) (turned_at past)
+turned_at past = (calling_at past).turned
 
-abbrev pub answered_after : EngineNews → (off : Bool) → List ℕ → List ℕ
-answered_after (Begun t sheet n) off before = []
-answered_after (Answered client answer) off before = if off then [] else before ++ client ∷ []
-answered_after (Ended outcome) off before = []
-answered_after news off before = before
-
--- the clients that answered, in order
 abbrev pub answered_at : List (ℕ × EngineEntry) → List ℕ
-answered_at [] = []
-answered_at (e ∷ past) = answered_after (engine_news e.1) (is_call_off (engine_news e.1) past) (answered_at past)
+answered_at past = (calling_at past).answered
+
+-- the transition whose turns are given
+abbrev pub turn_at : List (ℕ × EngineEntry) → Option Transition
+turn_at past = option_map (λ t. turn_kind t (off_at past)) (transition_at past)
+
+abbrev pub list_for : Option Transition → List Registered → List Called
+list_for None clients = []
+list_for (Some t) clients = called_list t clients
+
+-- the clients that are called; those of equal sequence number are a group
+abbrev pub called_at : List (ℕ × EngineEntry) → List Called
+called_at past = list_for (turn_at past) (callable_at past)
 
 -- What is given and told since the transition was begun.
 
@@ -166,16 +181,17 @@ abbrev pub tally_of : ClientAnswer → Tally
 tally_of (Yes tally) = tally
 tally_of (No why) = Plain
 
-abbrev pub tallies_after : EngineNews → (off : Bool) → List ClientTally → List ClientTally
-tallies_after (Begun t sheet n) off before = []
-tallies_after (Answered client answer) off before = if off then before else before ++ record { client = client; tally = tally_of answer } ∷ []
-tallies_after (Ended outcome) off before = []
-tallies_after news off before = before
+abbrev pub tallies_after : EngineNews → Option Transition → (off : Bool) → List ClientTally → List ClientTally
+tallies_after (Begun t sheet n) transition off before = []
+tallies_after (Answered client answer) transition off before =
+    if refuses answer transition off then before else before ++ record { client = client; tally = tally_of answer } ∷ []
+tallies_after (Ended outcome) transition off before = []
+tallies_after news transition off before = before
 
 -- the answers, in order, without a No to a start, and with a No to anything else as Yes without a tally
 abbrev pub tallies_at : List (ℕ × EngineEntry) → List ClientTally
 tallies_at [] = []
-tallies_at (e ∷ past) = tallies_after (engine_news e.1) (is_call_off (engine_news e.1) past) (tallies_at past)
+tallies_at (e ∷ past) = tallies_after (engine_news e.1) (transition_at past) (off_at past) (tallies_at past)
 
 abbrev pub wants_dump : List Registered → (client : ℕ) → Bool
 wants_dump clients client = option_map_or (λ (c : Registered). c.wants_dump) (slice_get clients client) false
@@ -218,13 +234,13 @@ abbrev pub completed_at : List (ℕ × EngineEntry) → List Transition
 completed_at [] = []
 completed_at (e ∷ past) = completed_after (engine_news e.1) (transition_at past) (completed_at past)
 
-abbrev pub answered_to_the_end : Option Transition → Option Refusal → (called answered : ℕ) → List Transition
-answered_to_the_end (Some t) None called answered = if called == answered then t ∷ [] else []
-answered_to_the_end transition refusal called answered = []
+abbrev pub answered_to_the_end : Option Transition → Option Refusal → (all : Bool) → List Transition
+answered_to_the_end (Some t) None all = if all then t ∷ [] else []
+answered_to_the_end transition refusal all = []
 
 -- the transition in progress, if each client that is called has answered and none refused it
 abbrev pub ending_at : List (ℕ × EngineEntry) → List Transition
-ending_at past = answered_to_the_end (transition_at past) (refusal_at past) (length (called_at past)) (length (answered_at past))
+ending_at past = answered_to_the_end (transition_at past) (refusal_at past) (are_among (clients_of (called_at past)) (answered_at past))
 
 -- the walk over transitions from stopped
 abbrev pub state_by : List Transition → RunState

@@ -1,4 +1,4 @@
--- Two histories that an engine has, and some that none has, each wrong in one way.
+-- Some histories that an engine has, and some that none has, each wrong in one way.
 use Rattle.std.specs.Prelude.{ℕ, List, [], ◌∷◌, ◌++◌, Option, Some, None, Ok, true}
 use Rattle.daq_types.specs.declared.runs.RunState.TheVariants.{Stopped, Running}
 use Rattle.daq_types.specs.declared.runs.Transition.{Transition}
@@ -11,7 +11,7 @@ use Rattle.transitions.specs.declared.sheet.Sheet.{Sheet}
 use Rattle.transitions.specs.declared.answers.Answer.TheVariants.{Yes, No}
 use Rattle.transitions.specs.declared.answers.Tally.TheVariants.{Plain}
 use Rattle.transitions.specs.declared.answers.ClientTally.{ClientTally}
-use Rattle.transitions.specs.declared.replies.Polled.TheVariants.{Turn}
+use Rattle.transitions.specs.declared.replies.Polled.TheVariants.{Turn, Idle}
 use Rattle.transitions.specs.declared.replies.Progress.TheVariants.{Done}
 use Rattle.transitions.specs.declared.entry.EngineEntry.{EngineEntry}
 use Rattle.transitions.specs.declared.entry.EngineEntry.TheVariants.{Register, Begin, Poll, Answer, Check}
@@ -93,10 +93,6 @@ called_off = with_start_of None (turn_for 0 Start ∷ no_by 0 ∷ turn_for 0 Sta
 abbrev pub joins : (number sequence : ℕ) → ℕ × EngineEntry
 joins number sequence = (0, Register [] (at_all sequence) true true (Ok number))
 
--- two clients of equal sequence numbers, and a start
-abbrev pub equals_called : List (ℕ × EngineEntry)
-equals_called = joins 0 1 ∷ joins 1 1 ∷ (0, Begin Start (sheet_with None) (Ok 1)) ∷ []
-
 -- a start with a dump
 abbrev pub dump_waits : List (ℕ × EngineEntry)
 dump_waits = with_start_of (Some (7 ∷ [])) []
@@ -115,3 +111,52 @@ stop_answered_no =
     joins 0 1 ∷ (0, Begin Start (record { run = 1; time = 1000; quota = 0; dump = Some (7 ∷ []); blanks = report_of [] ∷ [] }) (Ok 1))
     ∷ (0, Poll 0 (Turn Start (order_for (sheet_with None) 1 Stopped) (Some (7 ∷ [])) (Some (report_of [])))) ∷ yes_by 0 ∷ done_with (plain 0 ∷ [])
     ∷ (0, Begin Stop (sheet_with None) (Ok 1)) ∷ (0, Poll 0 (Turn Stop (order_for (sheet_with None) 1 Running) None None)) ∷ no_by 0 ∷ done_with (plain 0 ∷ []) ∷ []
+
+-- Groups.
+
+-- it has a number for each transition
+abbrev pub joins_with : (number start start_abort : ℕ) → ℕ × EngineEntry
+joins_with number start start_abort =
+    (0, Register [] (record { start = Some start; stop = Some start; pause = None; resume = None; start_abort = Some start_abort }) true true (Ok number))
+
+-- clients 0 and 1 are called together, behind client 2 for a start and before it for start-abort
+abbrev pub with_group : List (ℕ × EngineEntry) → List (ℕ × EngineEntry)
+with_group es = joins_with 0 500 500 ∷ joins_with 1 500 500 ∷ joins_with 2 200 800 ∷ (0, Begin Start (sheet_with None) (Ok 1)) ∷ es
+
+-- the client has no turn
+abbrev pub idle_for : (client : ℕ) → ℕ × EngineEntry
+idle_for client = (client, Poll client (Idle Stopped))
+
+-- client 1 refuses the start while client 0 has its turn of it
+abbrev pub refused_in_group : List (ℕ × EngineEntry)
+refused_in_group =
+    with_group
+    (idle_for 0 ∷ turn_for 2 Start ∷ yes_by 2 ∷ turn_for 1 Start ∷ turn_for 0 Start ∷ no_by 1 ∷ idle_for 2 ∷ yes_by 0
+    ∷ turn_for 0 StartAbort ∷ turn_for 1 StartAbort ∷ idle_for 2 ∷ yes_by 0 ∷ yes_by 1 ∷ turn_for 2 StartAbort ∷ yes_by 2
+    ∷ called_off_by 1 (plain 2 ∷ plain 0 ∷ plain 0 ∷ plain 1 ∷ plain 2 ∷ []) ∷ [])
+
+-- the second of the group has its turn, before the client of the first one answered
+abbrev pub before_the_group : List (ℕ × EngineEntry)
+before_the_group = with_group (turn_for 2 Start ∷ [])
+
+-- three clients that are called together
+abbrev pub with_three : List (ℕ × EngineEntry) → List (ℕ × EngineEntry)
+with_three es = joins 0 1 ∷ joins 1 1 ∷ joins 2 1 ∷ (0, Begin Start (sheet_with None) (Ok 1)) ∷ es
+
+-- two have their turn, and one of them refuses the start
+abbrev pub one_refused : List (ℕ × EngineEntry)
+one_refused = with_three (turn_for 0 Start ∷ turn_for 1 Start ∷ no_by 0 ∷ [])
+
+-- so does the other one, and all three answer to start-abort, in another order
+abbrev pub two_refused : List (ℕ × EngineEntry)
+two_refused =
+    one_refused
+    ++ no_by 1 ∷ turn_for 2 StartAbort ∷ turn_for 0 StartAbort ∷ yes_by 0 ∷ turn_for 1 StartAbort ∷ yes_by 1 ∷ yes_by 2 ∷ []
+
+-- Done names the first one, and neither No is among the answers
+abbrev pub refused_twice : List (ℕ × EngineEntry)
+refused_twice = two_refused ++ called_off_by 0 (plain 0 ∷ plain 1 ∷ plain 2 ∷ []) ∷ []
+
+-- one has its turn
+abbrev pub one_turned : List (ℕ × EngineEntry)
+one_turned = with_three (turn_for 0 Start ∷ [])

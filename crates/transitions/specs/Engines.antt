@@ -18,12 +18,14 @@ pub record Underway : Type 0 where
   -- the dump and the blank reports that are not yet given
   pub dump : Option (List ℕ)
   pub blanks : List Totals
-  -- the clients still to be called, the one whose turn it is in front
+  -- the clients that were given no turn yet, in order; those of the group whose turn it is stand in front
   pub called : List Called
-  -- whether that one has polled
-  pub has_polled : Bool
-  -- a start that was refused: its clients for start-abort are called
+  -- the clients of that group that were given their turn and have not answered, in the order of their polls
+  pub polled : List Called
+  -- the first refusal of a start
   pub refusal : Option Refusal
+  -- whether clients are called for start-abort: a start was refused, and all its turns are answered
+  pub is_off : Bool
   -- the answers so far
   pub tallies : List ClientTally
 

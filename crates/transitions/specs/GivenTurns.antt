@@ -7,7 +7,7 @@ use Rattle.transitions.specs.declared.replies.Polled.TheVariants.{Turn}
 use Rattle.transitions.specs.declared.entry.EngineEntry.{EngineEntry}
 use Rattle.transitions.specs.declared.entry.EngineEntry.TheVariants.{Poll, Answer}
 use Rattle.transitions.specs.EngineCalls.{turn_kind, order_for}
-use Rattle.transitions.specs.EnginePoints.{engine_past, state_at, refusal_at}
+use Rattle.transitions.specs.EnginePoints.{engine_past, state_at, off_at}
 use Rattle.transitions.specs.Marks.{IsUnderway}
 
 -- a turn that was given and is not answered
@@ -51,7 +51,7 @@ pub record IsRepeated (open_turn : OpenTurn) (turn : Transition) (order : Order)
 pub record IsFromBegin (before : List (ℕ × EngineEntry)) (turn : Transition) (order : Order) (dump : Option (List ℕ)) : Type 0 where
   pub transition : Transition
   pub underway : IsUnderway before transition
-  pub turn_is : turn ≡ turn_kind transition (refusal_at (engine_past before))
+  pub turn_is : turn ≡ turn_kind transition (off_at (engine_past before))
   pub order_is : order ≡ order_for underway.sheet underway.start (state_at (engine_past underway.earlier))
   pub dump_is : (bytes : List ℕ) → dump ≡ Some bytes → underway.sheet.dump ≡ Some bytes
 
@@ -61,5 +61,5 @@ pub record ClosesTurn (before : List (ℕ × EngineEntry)) (client : ℕ) : Type
   pub underway : IsUnderway before transition
   pub open_turn : OpenTurn
   pub open_is : open_at client (calls_of (engine_past before)) ≡ Some open_turn
-  pub turn_is : open_turn.turn ≡ turn_kind transition (refusal_at (engine_past before))
+  pub turn_is : open_turn.turn ≡ turn_kind transition (off_at (engine_past before))
   pub order_is : open_turn.order ≡ order_for underway.sheet underway.start (state_at (engine_past underway.earlier))

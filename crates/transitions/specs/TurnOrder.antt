@@ -1,5 +1,5 @@
 -- How the transitions of an engine go: the law of its histories, read off calls and replies alone.
-use Rattle.std.specs.Prelude.{◌≡◌, ℕ, suc, ◌≤◌, true, ◌&&◌, not, if◌then◌else◌, List, [], ◌∷◌, ◌++◌, length, slice_get, Option, Some, None, Ok, Err, ⊤}
+use Rattle.std.specs.Prelude.{◌≡◌, ℕ, suc, ◌<◌, Bool, true, false, ◌&&◌, not, if◌then◌else◌, List, [], ◌∷◌, ◌++◌, length, slice_get, Option, Some, None, is_some, Ok, Err, ⊤}
 use Rattle.daq_types.specs.declared.runs.Transition.{Transition}
 use Rattle.daq_types.specs.declared.runs.Order.{Order}
 use Rattle.daq_types.specs.declared.runs.StartOutcome.{StartOutcome}
@@ -11,39 +11,63 @@ use Rattle.transitions.specs.declared.replies.Polled.TheVariants.{Turn, Idle}
 use Rattle.transitions.specs.declared.replies.Progress.TheVariants.{Done}
 use Rattle.transitions.specs.declared.entry.EngineEntry.{EngineEntry}
 use Rattle.transitions.specs.declared.entry.EngineEntry.TheVariants.{Register, Begin, Poll, Answer, Check}
+use Rattle.transitions.specs.declared.called.Called.{Called}
+use Rattle.transitions.specs.CalledOrder.{IsCalledIn}
 use Rattle.transitions.specs.EngineCalls.{is_start, outcome_of}
-use Rattle.transitions.specs.EnginePoints.{engine_past, clients_at, transition_at, turn_at, order_at, callable_at, called_at, turned_at, answered_at, refusal_at, tallies_at, dump_at, blanks_at, wants_dump, wants_report, is_among, starts_at, state_at}
+use Rattle.transitions.specs.EnginePoints.{engine_past, clients_at, transition_at, turn_at, order_at, callable_at, called_at, turned_at, answered_at, refusal_at, off_at, tallies_at, dump_at, blanks_at, wants_dump, wants_report, is_among, starts_at, state_at}
 
--- Those that were given a turn are the first ones of those that are called, those that answered the first ones of these,
--- and none has its turn before the answer of the one in front of it.
-pub record AreTurnsInOrder (past : List (ℕ × EngineEntry)) : Type 0 where
-  pub later : List ℕ
-  pub waiting : List ℕ
-  pub turned : called_at past ≡ turned_at past ++ later
-  pub answered : turned_at past ≡ answered_at past ++ waiting
-  pub one : length waiting ≤ 1
+-- The client is called, and each client of a lower number that is called has answered.
+pub record IsGroupReached (called : List Called) (answered : List ℕ) (one : Called) : Type 0 where
+  pub among : IsCalledIn one called
+  pub front : (other : Called) → IsCalledIn other called → other.sequence < one.sequence → is_among other.client answered ≡ true
 
--- A turn is one of the transition in progress, or of start-abort once a start was refused. It goes to the client behind
--- those that answered. The first one to a client that wants the dump has it, and no other; the first one of a start to a
+-- the client of this number is one of a group that is reached
+pub record IsReached (called : List Called) (answered : List ℕ) (client : ℕ) : Type 0 where
+  pub one : Called
+  pub is : one.client ≡ client
+  pub group : IsGroupReached called answered one
+
+-- no client twice
+abbrev pub AreApart : List ℕ → Type 0
+AreApart [] = ⊤
+AreApart (c ∷ cs) = (is_among c cs ≡ false) × AreApart cs
+
+-- Those that were given a turn are in groups that are reached: each client of the groups in front has answered. Those that
+-- answered had been given a turn, and each answered once.
+pub record AreTurnsInGroups (past : List (ℕ × EngineEntry)) : Type 0 where
+  pub turned : (client : ℕ) → is_among client (turned_at past) ≡ true → IsReached (called_at past) (answered_at past) client
+  pub answered : (client : ℕ) → is_among client (answered_at past) ≡ true → is_among client (turned_at past) ≡ true
+  pub once : AreApart (answered_at past)
+
+-- a start was refused, and some client that was given a turn of it has not answered
+abbrev pub is_refused_at : List (ℕ × EngineEntry) → Bool
+is_refused_at past = not (off_at past) && is_some (refusal_at past)
+
+-- A turn is one of the transition in progress, or of start-abort once a start was refused and all its turns are answered.
+-- It goes to a client of a group that is reached, until that client answers; behind the first No to a start to none that
+-- had not got it before. The first one to a client that wants the dump has it, and no other; the first one of a start to a
 -- client that wants a blank report has one, as long as there are some, and no other.
 pub record IsRightTurn (past : List (ℕ × EngineEntry)) (client : ℕ) (turn : Transition) (order : Order) (dump : Option (List ℕ)) (blank : Option Totals) : Type 0 where
-  pub later : List ℕ
   pub turn_is : turn_at past ≡ Some turn
   pub order_is : order_at past ≡ Some order
-  pub next : called_at past ≡ answered_at past ++ client ∷ later
+  pub reached : IsReached (called_at past) (answered_at past) client
+  pub owes : is_among client (answered_at past) ≡ false
+  pub no_later : is_refused_at past ≡ true → is_among client (turned_at past) ≡ true
   pub dump_is : dump ≡ (if wants_dump (callable_at past) client then dump_at past else None)
   pub blank_is : blank ≡ (if wants_report (callable_at past) client && (not (is_among client (turned_at past)) && is_start turn) then slice_get (blanks_at past) 0 else None)
 
--- an answer comes from the client that was given a turn last
-abbrev pub IsRightAnswer : List (ℕ × EngineEntry) → (client : ℕ) → Type 0
-IsRightAnswer past client = turned_at past ≡ answered_at past ++ client ∷ []
+-- an answer comes from a client that was given a turn and has not answered
+pub record IsRightAnswer (past : List (ℕ × EngineEntry)) (client : ℕ) : Type 0 where
+  pub turned : is_among client (turned_at past) ≡ true
+  pub owes : is_among client (answered_at past) ≡ false
 
--- Done is told where all that are called have answered. It says whether a start was refused, by whom and why, and gives
--- the answers.
+-- Done is told where all that are called have answered, behind a No to a start those for start-abort. It says whether a
+-- start was refused, by whom first and why, and gives the answers.
 pub record IsRightEnd (past : List (ℕ × EngineEntry)) (outcome : StartOutcome) (tallies : List ClientTally) : Type 0 where
   pub transition : Transition
   pub in_progress : transition_at past ≡ Some transition
-  pub all : answered_at past ≡ called_at past
+  pub off : is_refused_at past ≡ false
+  pub all : (one : Called) → IsCalledIn one (called_at past) → is_among one.client (answered_at past) ≡ true
   pub outcome_is : outcome ≡ outcome_of (refusal_at past)
   pub tallies_is : tallies ≡ tallies_at past
 
@@ -70,5 +94,5 @@ IsRightCall past entry = ⊤
 
 -- each point of the history is in order, and each entry is right
 pub record TurnsInOrder (history : List (ℕ × EngineEntry)) : Type 0 where
-  pub in_order : (before after : List (ℕ × EngineEntry)) → history ≡ before ++ after → AreTurnsInOrder (engine_past before)
+  pub in_order : (before after : List (ℕ × EngineEntry)) → history ≡ before ++ after → AreTurnsInGroups (engine_past before)
   pub right : (before after : List (ℕ × EngineEntry)) (caller : ℕ) (entry : EngineEntry) → history ≡ before ++ (caller, entry) ∷ after → IsRightCall (engine_past before) entry

@@ -1,10 +1,13 @@
-ghost use Rattle.std.specs.Prelude.{◌≡◌, ◌&&◌, not, IfOk, IfErr, None, IsTrue, drop, slice_get, if◌then◌else◌, []};
+ghost use Rattle.std.specs.Prelude.{◌≡◌, ◌&&◌, ◌++◌, IfOk, IfErr, None, IsTrue, drop, slice_get, if◌then◌else◌, []};
 ghost use Rattle.run_states.specs.States.{is_allowed};
 ghost use Rattle.transitions.specs.declared.entry.EngineEntry.TheVariants.{Register, Begin, Poll, Answer as AnswerCall, Check, Close};
-ghost use Rattle.transitions.specs.declared.answers.Answer.TheVariants.{Yes};
+ghost use Rattle.transitions.specs.declared.answers.Answer.TheVariants.{Yes, No};
 ghost use Rattle.transitions.specs.Engines.{engine_opening};
-ghost use Rattle.transitions.specs.EngineCalls.{turn_kind, is_start, is_next, state_with, outcome_of, owes_answer, is_in_start, register_reply, begin_reply, poll_reply, answer_reply, check_reply, tallies_given, close_reply, after_answer_in, after_refusal, without_return, engine_after};
+ghost use Rattle.transitions.specs.EngineCalls.{turn_kind, is_start, stands_in, stands_with, without, group_of, state_with, outcome_of, progress_of, first_refusal, is_due_off, owes_answer, is_in_start, register_reply, begin_reply, poll_reply, answer_reply, check_reply, tallies_given, close_reply, after_answer_in, after_settling, without_return, engine_after};
 ghost use Rattle.transitions.specs.EngineHistories.{IsSheet, IsFairTurn};
+ghost use Rattle.transitions.specs.EngineInside.{IsChangeAllowed};
+ghost use Rattle.transitions.specs.Limits.{most_clients};
+ghost use Rattle.transitions.specs.Rooms.{HasRoomFor};
 
 use crate::answers::{Answer, ClientTally, Tallies, Tally};
 use crate::called::{Called, call_clients};
@@ -30,12 +33,14 @@ pub struct Refusal {
 pub struct Stage {
     transition: Transition,
     order: Order,
+    /// The first refusal of a start.
     refusal: Option<Refusal>,
-    polled: bool,
+    /// Whether clients are called for start-abort.
+    off: bool,
 }
 
-/// The engine of run transitions. A transition in progress has its dump, its blank reports, the clients still to be called
-/// and the tallies beside its stage. Only `new` takes memory.
+/// The engine of run transitions. A transition in progress has its dump, its blank reports, the clients that were given no
+/// turn yet, those that have polled and not answered, and the tallies beside its stage. Only `new` takes memory.
 #[derive(Drop)]
 pub struct Engine {
     closed: bool,
@@ -46,6 +51,7 @@ pub struct Engine {
     dump: Option<Bytes>,
     blanks: Reports,
     called: Vec<Called>,
+    polled: Vec<Called>,
     tallies: Tallies,
 }
 
@@ -60,20 +66,21 @@ impl Model for Engine {
       state = e.state;
       start = e.start;
       clients = e.clients.items;
-      underway = underway_of e.stage e.dump e.blanks e.called.items e.tallies;
+      underway = underway_of e.stage e.dump e.blanks e.called.items e.polled.items e.tallies;
     } };
 
     ghost invariant = { λ e.
-        IsEngine e.state e.clients e.stage e.dump e.blanks e.called e.tallies };
+        IsEngine e.state e.clients e.stage e.dump e.blanks e.called e.polled e.tallies };
 }
 
 /// The transition whose turns are given: a refused start is called off.
-fn find_turn(transition: Transition, refusal: Option<Refusal>) -> Transition
-    ensures { result ≡ turn_kind transition refusal }
+fn find_turn(stage: &Stage) -> Transition
+    ensures { result ≡ turn_kind stage.now.transition stage.now.off }
 {
-    match refusal {
-        None => transition,
-        Some(_) => Transition::StartAbort,
+    if stage.off {
+        Transition::StartAbort
+    } else {
+        stage.transition
     }
 }
 
@@ -84,29 +91,88 @@ fn is_start(transition: Transition) -> bool
     matches!(transition, Transition::Start)
 }
 
-/// Whether this client is the first of those still to be called.
-fn is_next(called: &[Called], client: u32) -> bool
-    ensures { result ≡ is_next called.now client }
+/// Whether this client is one of these.
+fn is_among(called: &[Called], client: u32) -> bool
+    ensures { result ≡ stands_in called.now client }
 {
-    match called {
-        [] => false,
-        [front, ..] => front.client == client,
+    called.iter().any(|one| one.client == client)
+}
+
+/// Whether this client is one of these, with this sequence number.
+fn is_among_with(sequence: u32, called: &[Called], client: u32) -> bool
+    ensures { result ≡ stands_with sequence called.now client }
+{
+    called
+        .iter()
+        .any(|one| one.client == client && one.sequence == sequence)
+}
+
+/// The sequence number of the group whose turn it is.
+fn find_group(polled: &[Called], called: &[Called]) -> u32
+    ensures { result ≡ group_of polled.now called.now }
+{
+    match (polled.first(), called.first()) {
+        (Some(front), _) => front.sequence,
+        (None, Some(front)) => front.sequence,
+        (None, None) => 0,
     }
 }
 
-/// The state with these clients still to be called.
+/// Takes this client out of these.
+fn take_out(called: &mut Vec<Called>, client: u32)
+    requires room { HasRoomFor most_clients called.old }
+    ensures left { called.new.items ≡ without client called.old.items }
+    ensures room { HasRoomFor most_clients called.new }
+{
+    called.retain(|one| one.client != client);
+}
+
+/// The state with these clients yet to answer.
 fn find_state(
     state: RunState,
     transition: Transition,
     refusal: Option<Refusal>,
+    polled: &[Called],
     called: &[Called],
 ) -> RunState
-    requires { refusal ≡ None → called.now ≡ [] → IsTrue (is_allowed state transition) }
-    ensures { result ≡ state_with state transition refusal called.now }
+    requires { refusal ≡ None → polled.now ++ called.now ≡ [] → IsTrue (is_allowed state transition) }
+    ensures { result ≡ state_with state transition refusal (polled.now ++ called.now) }
 {
-    match (refusal, called) {
-        (None, []) => after(state, transition),
+    match (refusal, polled, called) {
+        (None, [], []) => after(state, transition),
         _ => state,
+    }
+}
+
+/// Whether start-abort is due: a start was refused, and no answer is awaited any more.
+fn is_due(stage: &Stage, polled: &[Called]) -> bool
+    ensures { result ≡ is_due_off stage.now.refusal polled.now stage.now.off }
+{
+    match (stage.refusal, polled) {
+        (Some(_), []) => !stage.off,
+        _ => false,
+    }
+}
+
+/// The first refusal, which this one is if there is none.
+fn keep_first(first: Option<Refusal>, client: u32, why: Why) -> Refusal
+    ensures { result ≡ first_refusal first client why }
+{
+    match first {
+        Some(refusal) => refusal,
+        None => Refusal { client, why },
+    }
+}
+
+/// How far a transition with these clients yet to answer is.
+fn find_progress(refusal: Option<Refusal>, polled: &[Called], called: &[Called]) -> Progress
+    ensures { result ≡ progress_of (polled.now ++ called.now) refusal }
+{
+    match (polled, called) {
+        ([], []) => Progress::Done {
+            outcome: find_outcome(refusal),
+        },
+        _ => Progress::Going,
     }
 }
 
@@ -130,19 +196,12 @@ fn find_client(clients: &[Registered], client: u32) -> Option<Registered>
     clients.get(client as usize).copied()
 }
 
-/// Whether a client that polls its turn is given the dump.
-fn gets_dump(client: &Registered, stage: &Stage) -> bool
-    ensures { result ≡ (client.now.wants_dump && not stage.now.polled) }
-{
-    client.wants_dump && !stage.polled
-}
-
-/// Whether a client that polls its turn is given a blank report.
+/// Whether a client that is given its turn is given a blank report.
 fn gets_blank(client: &Registered, stage: &Stage) -> bool
-    ensures { let turn = turn_kind stage.now.transition stage.now.refusal in
-        result ≡ (client.now.wants_report && (not stage.now.polled && is_start turn)) }
+    ensures { let turn = turn_kind stage.now.transition stage.now.off in
+        result ≡ (client.now.wants_report && is_start turn) }
 {
-    client.wants_report && !stage.polled && is_start(find_turn(stage.transition, stage.refusal))
+    client.wants_report && is_start(find_turn(stage))
 }
 
 /// The dump, where it is due; it is then given.
@@ -175,6 +234,7 @@ impl Engine {
             dump: None,
             blanks: Reports::of(Vec::new(alloc)),
             called: Vec::with_capacity(alloc, ENGINE_CLIENTS)?,
+            polled: Vec::with_capacity(alloc, ENGINE_CLIENTS)?,
             tallies: Tallies::new(alloc)?,
         })
     }
@@ -268,6 +328,7 @@ impl Engine {
             quota,
         };
         call_clients(&mut self.called, self.clients.as_slice(), transition);
+        self.polled.clear();
         self.tallies.clear();
         self.start = start;
         self.dump = dump;
@@ -276,14 +337,15 @@ impl Engine {
             transition,
             order,
             refusal: None,
-            polled: false,
+            off: false,
         });
-        self.state = find_state(self.state, transition, None, self.called.as_slice());
+        self.state = find_state(self.state, transition, None, &[], self.called.as_slice());
         Ok(start)
     }
 
-    /// Whether this client has its turn. The dump goes to the first client that wants it and polls its turn, once; a blank
-    /// report goes to each client that wants one, at the first poll of its turn of a start. Takes no memory.
+    /// Whether this client has its turn: all clients of a group of equal sequence number have it at once, until each answers.
+    /// The dump goes to the first client that wants it and is given its turn, once; a blank report goes to each client that
+    /// wants one, with the first reply of its turn of a start. Takes no memory.
     pub fn poll(&mut self, client: u32) -> Polled
         ensures reply { result ≡ poll_reply self.old client }
         ensures state { self.new ≡ engine_after self.old (Poll client result) }
@@ -298,24 +360,33 @@ impl Engine {
         let Some(stage) = self.stage else {
             return Polled::Idle { state: self.state };
         };
-        if !is_next(self.called.as_slice(), client) {
+        let transition = find_turn(&stage);
+        let order = stage.order;
+        if is_among(self.polled.as_slice(), client) {
+            return Polled::Turn {
+                transition,
+                order,
+                dump: None,
+                blank: None,
+            };
+        }
+        let sequence = find_group(self.polled.as_slice(), self.called.as_slice());
+        if !is_among_with(sequence, self.called.as_slice(), client) {
             return Polled::Idle { state: self.state };
         }
-        let dump = give_dump(&mut self.dump, gets_dump(&wishes, &stage));
-        let blank = give_blank(&mut self.blanks, gets_blank(&wishes, &stage));
-        self.stage = Some(Stage {
-            polled: true,
-            ..stage
-        });
+        take_out(&mut self.called, client);
+        self.polled.push_reserved(Called { client, sequence });
         Polled::Turn {
-            transition: find_turn(stage.transition, stage.refusal),
-            order: stage.order,
-            dump,
-            blank,
+            transition,
+            order,
+            dump: give_dump(&mut self.dump, wishes.wants_dump),
+            blank: give_blank(&mut self.blanks, gets_blank(&wishes, &stage)),
         }
     }
 
-    /// The client's answer to its turn, which it has polled; else the answer is handed back. Takes no memory.
+    /// The client's answer to its turn, which it has polled; else the answer is handed back. A No to a start refuses it: no
+    /// further client is given its turn of the start, and once each that was given it has answered, all clients are called
+    /// for start-abort. The first No counts, and a No to anything else is a Yes. Takes no memory.
     pub fn answer(&mut self, client: u32, answer: Answer) -> Result<(), (NotYourTurn, Answer)>
         ensures reply { without_return result ≡ answer_reply self.old client }
         ensures state { self.new ≡
@@ -325,14 +396,13 @@ impl Engine {
         let Some(stage) = self.stage else {
             return Err((NotYourTurn, answer));
         };
-        if !(stage.polled && is_next(self.called.as_slice(), client)) {
+        if !is_among(self.polled.as_slice(), client) {
             return Err((NotYourTurn, answer));
         }
-        let turn = find_turn(stage.transition, stage.refusal);
         match answer {
             Answer::Yes(tally) => self.tell(client, tally),
             Answer::No(why) => {
-                if is_start(turn) {
+                if is_start(find_turn(&stage)) {
                     self.refuse(client, why);
                 } else {
                     self.tell(client, Tally::Plain);
@@ -342,46 +412,58 @@ impl Engine {
         Ok(())
     }
 
-    /// The turn in front is answered with this tally.
+    /// The client's turn is answered with this tally.
     fn tell(&mut self, client: u32, tally: Tally)
         requires { IsTrue (owes_answer self.old.underway client) }
         ensures { self.new ≡ after_answer_in self.old client (Yes tally) self.old.underway }
     {
-        let Some(stage) = self.stage else {
-            return;
-        };
-        let _front = self.called.remove(0);
+        take_out(&mut self.polled, client);
         self.tallies.push(ClientTally { client, tally });
-        self.stage = Some(Stage {
-            polled: false,
-            ..stage
-        });
-        self.state = find_state(
-            self.state,
-            stage.transition,
-            stage.refusal,
-            self.called.as_slice(),
-        );
+        self.settle();
     }
 
-    /// The start is refused: it is called off.
+    /// The start is refused: the clients that were given no turn of it get none.
     fn refuse(&mut self, client: u32, why: Why)
-        requires { IsTrue (is_in_start self.old.underway) }
-        ensures { self.new ≡ after_refusal self.old client why }
+        requires owes { IsTrue (owes_answer self.old.underway client) }
+        requires start { IsTrue (is_in_start self.old.underway) }
+        ensures { self.new ≡ after_answer_in self.old client (No why) self.old.underway }
     {
         let Some(stage) = self.stage else {
             return;
         };
-        call_clients(
-            &mut self.called,
-            self.clients.as_slice(),
-            Transition::StartAbort,
-        );
+        take_out(&mut self.polled, client);
+        self.called.clear();
         self.stage = Some(Stage {
-            polled: false,
-            refusal: Some(Refusal { client, why }),
+            refusal: Some(keep_first(stage.refusal, client, why)),
             ..stage
         });
+        self.settle();
+    }
+
+    /// Calls a refused start off, if start-abort is due; at the last answer of a transition that was not refused the state
+    /// changes.
+    fn settle(&mut self)
+        requires { IsChangeAllowed self.old.state self.old.underway }
+        ensures { self.new ≡ after_settling self.old self.old.underway }
+    {
+        let Some(stage) = self.stage else {
+            return;
+        };
+        if is_due(&stage, self.polled.as_slice()) {
+            call_clients(
+                &mut self.called,
+                self.clients.as_slice(),
+                Transition::StartAbort,
+            );
+            self.stage = Some(Stage { off: true, ..stage });
+        }
+        self.state = find_state(
+            self.state,
+            stage.transition,
+            stage.refusal,
+            self.polled.as_slice(),
+            self.called.as_slice(),
+        );
     }
 
     /// How far the transition is. At the end of it the tallies move out, once, into a list that is empty, and so has room
@@ -395,13 +477,17 @@ impl Engine {
         let Some(stage) = self.stage else {
             return Progress::None;
         };
-        if !self.called.is_empty() {
-            return Progress::Going;
-        }
-        swap(&mut self.tallies, tallies);
-        self.stage = None;
-        Progress::Done {
-            outcome: find_outcome(stage.refusal),
+        match find_progress(
+            stage.refusal,
+            self.polled.as_slice(),
+            self.called.as_slice(),
+        ) {
+            Progress::Done { outcome } => {
+                swap(&mut self.tallies, tallies);
+                self.stage = None;
+                Progress::Done { outcome }
+            }
+            going => going,
         }
     }
 

@@ -25,11 +25,13 @@ ghost use Rattle.transitions.specs.Marks.{IsEndOf};
 ghost use Rattle.transitions.specs.declared.answers.ClientTally.{ClientTally};
 ghost use Rattle.transitions.specs.declared.answers.Answer.{Answer as ClientAnswer};
 ghost use Rattle.daq_types.specs.declared.runs.StartOutcome.{StartOutcome};
-ghost use Rattle.transitions.specs.EngineSamples.{sheet_with, turn_for, plain, with_dump, refused_by_second, out_of_order, before_the_answer, after_the_refusal, dump_given, both_answered, started, with_blank, blank_given, called_off, joins, equals_called, dump_waits, called_off_by, done_with, stop_answered_no};
+ghost use Rattle.transitions.specs.EngineSamples.{sheet_with, turn_for, yes_by, plain, with_dump, refused_by_second, out_of_order, before_the_answer, after_the_refusal, dump_given, both_answered, started, with_blank, blank_given, called_off, joins, dump_waits, called_off_by, done_with, stop_answered_no, refused_in_group, before_the_group, one_refused, two_refused, refused_twice, one_turned};
 
-/// Turns are given in the order of the called list, each behind the answer to the one before; a refused start is called
-/// off; the dump and each blank report are given once; Done gives the answers in order; the start numbers rise by one, and
-/// the states that are told are those that the transitions lead to.
+/// Turns are given in groups of equal sequence number, in rising number: to all clients of a group at once, each behind the
+/// answers of all groups before it. Behind the first No to a start no client gets its first turn of it, and once each that
+/// had one has answered, all are called for start-abort in the same way. The dump and each blank report are given once; Done
+/// names the first No and gives the answers in order; the start numbers rise by one, and the states that are told are those
+/// that the transitions lead to.
 pub fn follows()
     ensures { (history : EngineHistory) →
         IsLegalEngine engine_opening history → TurnsInOrder history }
@@ -93,14 +95,15 @@ pub fn tallies_belong()
         (transition : Transition) × IsEndOf before transition tallies }
 {}
 
-/// What the law asks is more than nothing: a history with a refused start, one with a dump, a report and a stop that was
-/// answered by No, and one of each kind that it rules out.
+/// What the law asks is more than nothing: histories with a refused start, with a dump, a report and a stop that was answered
+/// by No, with a No in a group and with two of them, and one of each kind that it rules out.
 pub fn tells_apart()
     ensures refusal { IsLegalEngine engine_opening refused_by_second }
     ensures stop { IsLegalEngine engine_opening stop_answered_no }
+    ensures group { IsLegalEngine engine_opening refused_in_group }
+    ensures twice { IsLegalEngine engine_opening refused_twice }
     ensures client { TurnsInOrder (joins 0 1 ∷ joins 0 2 ∷ []) → ⊥ }
     ensures order { TurnsInOrder (out_of_order ++ turn_for 1 Start ∷ []) → ⊥ }
-    ensures equals { TurnsInOrder (equals_called ++ turn_for 1 Start ∷ []) → ⊥ }
     ensures unanswered { TurnsInOrder (before_the_answer ++ turn_for 1 Start ∷ []) → ⊥ }
     ensures refused { TurnsInOrder (after_the_refusal ++ turn_for 1 Start ∷ []) → ⊥ }
     ensures call_off { TurnsInOrder (after_the_refusal ++ turn_for 1 StartAbort ∷ []) → ⊥ }
@@ -121,4 +124,13 @@ pub fn tells_apart()
         ((0, Begin Pause (sheet_with None) (Err (WrongState Running))) ∷ []) → ⊥ }
     ensures number { TurnsInOrder
         (refused_by_second ++ (0, Begin Start (sheet_with None) (Ok 1)) ∷ []) → ⊥ }
+    ensures second_group { TurnsInOrder (before_the_group ++ turn_for 0 Start ∷ []) → ⊥ }
+    ensures late_turn { TurnsInOrder (one_refused ++ turn_for 2 Start ∷ []) → ⊥ }
+    ensures early_abort { TurnsInOrder (one_refused ++ turn_for 0 StartAbort ∷ []) → ⊥ }
+    ensures second_refuser { TurnsInOrder
+        (two_refused ++ called_off_by 1 (plain 0 ∷ plain 1 ∷ plain 2 ∷ []) ∷ []) → ⊥ }
+    ensures second_counted { TurnsInOrder
+        (two_refused ++ called_off_by 0 (plain 1 ∷ plain 0 ∷ plain 1 ∷ plain 2 ∷ []) ∷ []) → ⊥ }
+    ensures answered { TurnsInOrder (one_turned ++ yes_by 0 ∷ yes_by 0 ∷ []) → ⊥ }
+    ensures unasked { TurnsInOrder (one_turned ++ yes_by 1 ∷ []) → ⊥ }
 {}

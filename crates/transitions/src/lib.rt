@@ -1,5 +1,5 @@
-//! The transition engine: the clients that take part in run transitions are called one after the other by their sequence
-//! numbers, each is given its turn, and answers; a start can be refused, and is then called off.
+//! The transition engine: the clients that take part in run transitions are called by their sequence numbers, those of equal
+//! number at once; each is given its turn, and answers; a start can be refused, and is then called off.
 #![tactic(auto)]
 
 mod answers;

@@ -2,4 +2,4 @@ use Rattle.blank_laws.proofs.Suffice.{blanks_suffice}
 use Rattle.blank_laws.proofs.laws.blanks_suffice.Goals as goal
 
 pub returns : goal.returns
-returns c = blanks_suffice c.tallies_answered.ensures.refusals c.called_in_order.ensures c.start_numbers_rise.ensures
+returns c = blanks_suffice c.tallies_answered.ensures.refusals c.start_numbers_rise.ensures

@@ -3,7 +3,7 @@ use Rattle.engine_laws.proofs.laws.turns_begun.Goals as goal
 
 pub returns : goal.returns
 returns c = record {
-  begun = turns_were_begun c.follows.ensures c.called_in_order.ensures;
-  starts = starts_from_stopped c.follows.ensures c.called_in_order.ensures;
-  stops = stops_from_run c.follows.ensures c.called_in_order.ensures;
+  begun = turns_were_begun c.follows.ensures;
+  starts = starts_from_stopped c.follows.ensures;
+  stops = stops_from_run c.follows.ensures;
 }

@@ -20,4 +20,4 @@ returns c =
       started = c.names_kept.ensures.started;
       keep = c.members_keep.ensures;
     } in
-    rises_told (record { undone = undone; nos = c.tallies_answered.ensures.nos; names = c.reasons_given.ensures.names })
+    rises_told (record { undone = undone; nos = c.tallies_answered.ensures.lone; names = c.reasons_given.ensures.names })
