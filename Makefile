@@ -1,4 +1,8 @@
-.PHONY: run test bench stress
+.PHONY: try run test bench stress faults
+
+# Plays the first script by a program that is compiled without a proof: some two minutes on a new machine.
+try:
+	@./examples/try
 
 # Builds the program and runs the first script in an empty folder.
 run:
@@ -19,3 +23,8 @@ bench:
 stress:
 	@./bench/build
 	@./bench/threads.sh crates/midas/out/midas
+
+# Each request for memory and each call on the system fails in turn, in a session and in the tools. Builds the program first.
+faults:
+	@./bench/build
+	@./bench/faults.sh crates/midas/out/midas

@@ -1,7 +1,7 @@
 ghost use Rattle.std.specs.Prelude.{◌≡◌, ◌+◌, ℕ, true, IsTrue, slice_index, min, length, ◌-◌};
 ghost use Rattle.daq_mem.specs.Series.{ahead_in};
 
-use daq_io::{Clock, Gate, Pick, Point};
+use daq_io::{Clock, Pick};
 use std::marker::Model;
 
 /// Numbers that are given one after another. The last repeats, and where there is none, 0 does.
@@ -101,12 +101,4 @@ impl Pick for MemPick {
     fn first(&mut self, members: u32) -> u32 {
         self.numbers.give() % members
     }
-}
-
-/// A gate that holds nobody.
-#[derive(Clone, Copy, Debug, PartialEq, Eq)]
-pub struct NoGate;
-
-impl Gate for NoGate {
-    fn at(&self, _member: u32, _point: Point) {}
 }

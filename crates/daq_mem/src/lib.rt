@@ -9,7 +9,7 @@ mod readers;
 mod slots;
 mod streams;
 
-pub use choices::{MemClock, MemPick, NoGate};
+pub use choices::{MemClock, MemPick};
 pub use files::MemFiles;
 pub use plans::{FileFail, FileOp};
 pub use streams::{MemSink, MemSource};

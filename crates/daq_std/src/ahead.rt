@@ -2,7 +2,8 @@ ghost use Rattle.std.specs.Prelude.{◌≡◌, ◌++◌, ◌↔◌, [], length, 
 ghost use Rattle.std.specs.Io.KnownBytes.{Consumes, IsAtEnd, Keeps};
 
 use crate::blocks::BLOCK_BYTES;
-use daq_io::{Failed, copy_front};
+use crate::system::{Fault, SystemFile};
+use daq_io::copy_front;
 use daq_types::NoMemory;
 use std::alloc::Global;
 use std::io::Read;
@@ -70,24 +71,22 @@ impl ReadAhead {
     }
 
     /// Reads the next block of the file, where nothing is left of the one before. No byte is its end.
-    pub fn fill<F: Read>(&mut self, file: &mut F) -> Result<(), Failed>
-        ensures read { OnOk result (Consumes (F.remaining file.old) (F.remaining file.new)
-            self.new) }
-        ensures end { OnOk result (self.new ≡ [] → IsAtEnd (F.remaining file.new)) }
-        ensures failed { OnErr result (Keeps (F.remaining file.old) (F.remaining file.new)) }
+    pub fn fill<F: Read>(&mut self, file: &mut SystemFile<F>) -> Result<(), Fault>
+        ensures read { OnOk result (Consumes (F.remaining file.old.file)
+            (F.remaining file.new.file) self.new) }
+        ensures end { OnOk result (self.new ≡ [] → IsAtEnd (F.remaining file.new.file)) }
+        ensures failed { OnErr result (Keeps (F.remaining file.old.file)
+            (F.remaining file.new.file)) }
         ensures none { OnErr result (self.new ≡ []) }
+        ensures opening { file.new.opening ≡ file.old.opening }
     {
         self.start = 0;
         self.end = 0;
         if self.block.resize(BLOCK_BYTES, 0).is_err() {
-            return Err(Failed);
+            unreachable!();
         }
-        match file.read(self.block.as_mut_slice()) {
-            Ok(count) => {
-                self.end = count;
-                Ok(())
-            }
-            Err(_) => Err(Failed),
-        }
+        let count = file.read(self.block.as_mut_slice())?;
+        self.end = count;
+        Ok(())
     }
 }

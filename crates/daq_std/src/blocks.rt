@@ -1,12 +1,12 @@
-ghost use Rattle.std.specs.Prelude.{◌≡◌, [], IsTrue, IfOk, OnOk, OnErr, IsErr, IsNone, IsSome};
+ghost use Rattle.std.specs.Prelude.{◌≡◌, [], IsErr, IsNone, IsSome, IfOk, OnErr, OnOk, Some};
 ghost use Rattle.std.specs.Io.{ReadsAtMost};
 ghost use Rattle.std.specs.Io.KnownBytes.{Appends, Keeps, ReadConsumes};
-ghost use Rattle.daq_std.specs.Blocks.{bytes_given, left_of};
-ghost use Rattle.daq_std.specs.BlockTables.{IsOpened};
+ghost use Rattle.daq_std.specs.Blocks.{bytes_given, opening_of};
+ghost use Rattle.daq_std.specs.BlockTables.{IsOpened, given_to, left_in};
 
 use crate::ahead::ReadAhead;
-use crate::disk::OnDisk;
-use daq_io::{ByteRoom, Failed};
+use crate::system::{Fault, OnDisk, SystemFile};
+use daq_io::ByteRoom;
 use daq_types::NoMemory;
 use std::alloc::Global;
 use std::fs::OpenFile;
@@ -18,24 +18,13 @@ pub const BLOCK_BYTES: usize = 65536;
 /// A file of the system, read or written in blocks.
 #[derive(Drop)]
 pub struct BlockFile<F> {
-    pub file: Option<F>,
+    pub file: Option<SystemFile<F>>,
     /// Bytes that are not written yet.
     pub pending: ByteRoom,
     /// Bytes that were read and not taken yet.
     pub ahead: ReadAhead,
-    /// Whether a write failed since the file was opened.
-    pub broken: bool,
-}
-
-/// Reads of a file into `into` alone.
-fn read_past<F: Read>(file: &mut F, into: &mut [u8]) -> Result<usize, Failed>
-    ensures within { ReadsAtMost result into.new }
-    ensures bytes { ReadConsumes (F.remaining file.old) (F.remaining file.new) result into.new }
-{
-    match file.read(into) {
-        Ok(count) => Ok(count),
-        Err(_) => Err(Failed),
-    }
+    /// Why a write failed, if one did since the file was opened.
+    pub broken: Option<Fault>,
 }
 
 impl<F: Read + Write + OpenFile + Drop> BlockFile<F> {
@@ -47,30 +36,32 @@ impl<F: Read + Write + OpenFile + Drop> BlockFile<F> {
             file: None,
             pending: ByteRoom::new(alloc, BLOCK_BYTES)?,
             ahead: ReadAhead::new(alloc)?,
-            broken: false,
+            broken: None,
         })
     }
 
     /// Goes on with this file, with nothing to write and nothing read ahead.
-    pub fn open(&mut self, file: F)
+    pub fn open(&mut self, file: SystemFile<F>)
         ensures { IsOpened file self.new }
     {
         self.pending.clear();
         self.ahead.clear();
-        self.broken = false;
+        self.broken = None;
         self.file = Some(file);
     }
 
-    /// Writes the bytes behind those so far. They may stay in the block for now. Once a write failed, none is taken.
-    pub fn append(&mut self, bytes: &[u8]) -> Result<(), Failed>
-        ensures grown { OnOk result (Appends (bytes_given F.contents self.old.file
-            self.old.pending.bytes) (bytes_given F.contents self.new.file self.new.pending.bytes)
-            bytes.now) }
-        ensures never_again { IsTrue self.old.broken → IsErr result }
-        ensures breaks { OnErr result (IsTrue self.new.broken) }
+    /// Writes the bytes behind those so far. They may stay in the block for now. Once a write failed, none is taken, and the
+    /// answer is the fault of that write.
+    pub fn append(&mut self, bytes: &[u8]) -> Result<(), Fault>
+        requires { IsSome (opening_of self.old.file) }
+        ensures grown { OnOk result (Appends (given_to F.contents self.old)
+            (given_to F.contents self.new) bytes.now) }
+        ensures never_again { IsSome self.old.broken → IsErr result }
+        ensures breaks { OnErr result (IsSome self.new.broken) }
+        ensures opening { opening_of self.new.file ≡ opening_of self.old.file }
     {
-        if self.broken {
-            return Err(Failed);
+        if let Some(fault) = self.broken {
+            return Err(fault);
         }
         if self.pending.put(bytes) {
             return Ok(());
@@ -82,58 +73,64 @@ impl<F: Read + Write + OpenFile + Drop> BlockFile<F> {
         self.write_out(bytes)
     }
 
-    /// Writes what is still in the block, and empties it.
-    fn flush(&mut self) -> Result<(), Failed>
+    /// Writes what is still in the block, and empties it; but not once a write failed.
+    fn flush(&mut self) -> Result<(), Fault>
+        requires { IsSome (opening_of self.old.file) }
         ensures kept { OnOk result (Keeps (bytes_given F.contents self.old.file
             self.old.pending.bytes) (bytes_given F.contents self.new.file [])) }
-        ensures empty { self.new.pending.bytes ≡ [] }
-        ensures stays_broken { IsTrue self.old.broken → IsTrue self.new.broken }
-        ensures breaks { OnErr result (IsTrue self.new.broken) }
+        ensures empty { OnOk result (self.new.pending.bytes ≡ []) }
+        ensures never_again { IsSome self.old.broken → IsErr result }
+        ensures breaks { OnErr result (IsSome self.new.broken) }
+        ensures opening { opening_of self.new.file ≡ opening_of self.old.file }
     {
-        let written = match &mut self.file {
-            Some(file) => file.write_all(self.pending.as_slice()).is_ok(),
-            None => false,
-        };
-        self.pending.clear();
-        if written {
-            return Ok(());
+        if let Some(fault) = self.broken {
+            return Err(fault);
         }
-        self.broken = true;
-        Err(Failed)
+        let Some(file) = &mut self.file else {
+            unreachable!();
+        };
+        if let Err(fault) = file.write_all(self.pending.as_slice()) {
+            self.broken = Some(fault);
+            return Err(fault);
+        }
+        self.pending.clear();
+        Ok(())
     }
 
     /// Writes bytes past the block, which is empty.
-    fn write_out(&mut self, bytes: &[u8]) -> Result<(), Failed>
-        requires { self.old.pending.bytes ≡ [] }
+    fn write_out(&mut self, bytes: &[u8]) -> Result<(), Fault>
+        requires open { IsSome (opening_of self.old.file) }
+        requires empty { self.old.pending.bytes ≡ [] }
         ensures grown { OnOk result (Appends (bytes_given F.contents self.old.file [])
             (bytes_given F.contents self.new.file self.new.pending.bytes) bytes.now) }
-        ensures breaks { OnErr result (IsTrue self.new.broken) }
+        ensures breaks { OnErr result (IsSome self.new.broken) }
+        ensures opening { opening_of self.new.file ≡ opening_of self.old.file }
     {
-        let written = match &mut self.file {
-            Some(file) => file.write_all(bytes).is_ok(),
-            None => false,
+        let Some(file) = &mut self.file else {
+            unreachable!();
         };
-        if written {
-            return Ok(());
+        if let Err(fault) = file.write_all(bytes) {
+            self.broken = Some(fault);
+            return Err(fault);
         }
-        self.broken = true;
-        Err(Failed)
+        Ok(())
     }
 
     /// Reads into the front of `into`, and answers how many bytes. None at all, where there is room, is the end. Where
     /// nothing was read ahead, as much as a block is read past it.
-    pub fn read(&mut self, into: &mut [u8]) -> Result<usize, Failed>
+    pub fn read(&mut self, into: &mut [u8]) -> Result<usize, Fault>
+        requires { IsSome (opening_of self.old.file) }
         ensures within { ReadsAtMost result into.new }
-        ensures bytes { ReadConsumes (left_of F.remaining self.old.file self.old.ahead)
-            (left_of F.remaining self.new.file self.new.ahead) result into.new }
-        ensures open { OnOk result (IsSome self.old.file) }
+        ensures bytes { ReadConsumes (left_in F.remaining self.old) (left_in F.remaining self.new)
+            result into.new }
+        ensures opening { opening_of self.new.file ≡ opening_of self.old.file }
     {
         let Some(file) = &mut self.file else {
-            return Err(Failed);
+            unreachable!();
         };
         if self.ahead.is_empty() {
             if into.len() >= BLOCK_BYTES {
-                return read_past(file, into);
+                return file.read(into);
             }
             self.ahead.fill(file)?;
         }
@@ -142,17 +139,21 @@ impl<F: Read + Write + OpenFile + Drop> BlockFile<F> {
 
     /// Writes what is left, has the system put all of the file on the disk, and hands the file out. Where a part was not
     /// written, also before, the file is let go.
-    pub fn close(&mut self) -> Result<OnDisk<F>, Failed>
-        ensures whole { IfOk result (λ file. Keeps (bytes_given F.contents self.old.file
-            self.old.pending.bytes) (F.contents file)) }
-        ensures broken { IsTrue self.old.broken → IsErr result }
+    pub fn close(&mut self) -> Result<OnDisk<F>, Fault>
+        requires { IsSome (opening_of self.old.file) }
+        ensures whole { IfOk result (λ synced. Keeps (given_to F.contents self.old)
+            (F.contents synced.file)) }
+        ensures opening { IfOk result (λ synced. Some synced.opening
+            ≡ opening_of self.old.file) }
+        ensures broken { IsSome self.old.broken → IsErr result }
         ensures gone { IsNone self.new.file }
     {
         let written = self.flush();
-        match (self.file.take(), written) {
-            (Some(file), Ok(())) if !self.broken => OnDisk::sync(file),
-            _ => Err(Failed),
-        }
+        let Some(file) = self.file.take() else {
+            unreachable!();
+        };
+        written?;
+        file.sync()
     }
 
     /// Lets the file go.

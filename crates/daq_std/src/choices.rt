@@ -1,8 +1,10 @@
-ghost use Rattle.std.specs.Prelude.{false};
+ghost use Rattle.std.specs.Prelude.{◌≡◌, ◌/◌, ◌%◌, ◌^◌, false, IfOk, OnErr};
+ghost use Rattle.std.specs.Duration.{as_nanos};
 
-use daq_io::{Clock, Pick};
+use daq_io::{Clock, Gate, Pick, Point};
+use std::io::Error;
 use std::rt;
-use std::time::{SystemTime, UNIX_EPOCH};
+use std::time::Duration;
 
 /// The clock of the system. Nothing is told of its readings.
 #[derive(Drop)]
@@ -17,20 +19,24 @@ impl<R: rt::Clock + Drop> StdClock<R> {
     }
 }
 
+/// What a clock reads for the time since 1970 that the system tells: its seconds modulo 2^32. Where it tells none, 0.
+fn reading(told: Result<Duration, Error>) -> u32
+    ensures seconds { IfOk told (λ time. result ≡ as_nanos time / 10 ^ 9 % 2 ^ 32) }
+    ensures none { OnErr told (result ≡ 0) }
+{
+    match told {
+        Ok(time) => (time.as_secs() % 4294967296) as u32,
+        Err(_) => 0,
+    }
+}
+
 impl<R: rt::Clock + Drop> Clock for StdClock<R> {
     ghost tells = { λ c. false };
 
     ghost ahead = { λ c n. 0 };
 
-    /// A clock that cannot be read, or stands before 1970, reads 0.
     fn now(&mut self) -> u32 {
-        match SystemTime::now(&self.system) {
-            Ok(time) => match time.duration_since(UNIX_EPOCH) {
-                Ok(since_1970) => (since_1970.as_secs() % 4294967296) as u32,
-                Err(_) => 0,
-            },
-            Err(_) => 0,
-        }
+        reading(self.system.since_1970())
     }
 }
 
@@ -57,4 +63,12 @@ impl Pick for RoundPick {
         self.next = member + 1;
         member
     }
+}
+
+/// A gate that holds nobody.
+#[derive(Clone, Copy, Debug, PartialEq, Eq)]
+pub struct NoGate;
+
+impl Gate for NoGate {
+    fn at(&self, _member: u32, _point: Point) {}
 }

@@ -1,11 +1,19 @@
-ghost use Rattle.std.specs.Prelude.{◌≡◌, ℕ, [], IfOk, IsErr, IsTrue, OnErr, OnOk};
-ghost use Rattle.daq_io.specs.Seen.{Closes, Ends, Extends, ExtendsPart, InUse, IsFree};
-ghost use Rattle.daq_std.specs.InBlocks.{CountsOne, GivesBytes, HasAll, IsBroken, NamesFirstAt, told_by};
+ghost use Rattle.std.specs.Prelude.{◌≡◌, ℕ, [], IfOk, IsErr, IsErrOf, IsTrue, None, OnErr, OnOk, Some, take};
+ghost use Rattle.std.specs.Io.{ReadsAtMost};
+ghost use Rattle.daq_io.specs.Counts.{NamesFirst};
+ghost use Rattle.daq_io.specs.Seen.{Closes, Creates, Ends, Extends, ExtendsPart, InUse, IsFree, Opens, Reads, Removes, Same};
+ghost use Rattle.daq_io.specs.Uses.{free_numbers};
+ghost use Rattle.daq_std.specs.BlockTables.{LeavesBlock, UsesBlock};
+ghost use Rattle.daq_std.specs.InBlocks.{CountsOne, CountsOnName, GivesBytes, HasAll, IsBroken, NamesFirstAt, NamesOnDisk, OpensFile, TakesBytes, told_by};
+ghost use Rattle.daq_std.specs.Paths.{path_in};
+ghost use Rattle.daq_std.specs.SystemCalls.{new_to_write, to_read};
 
-use crate::faults::{counted, refused};
+use crate::faults::FaultTally;
 use crate::folder::SystemFolder;
+use crate::standard::StandardTaken;
+use crate::system::{Fault, free_number};
 use crate::table::BlockTable;
-use daq_io::{Failed, Files, NameRefused, Tally, Usage, UseTable};
+use daq_io::{Failed, Files, NameRefused, Usage, UseTable};
 use daq_types::{FileName, NoMemory};
 use std::alloc::Global;
 use std::marker::Model;
@@ -14,35 +22,44 @@ use std::rt;
 /// The files of one folder of the system; a name that begins with `/` is one from the root. Nothing is told of their names
 /// and bytes. Reads and appends go through blocks that are taken once, so bytes may reach the system only at a later
 /// append or at the close, and a failure there is that call's fault. A close answers Ok only when the system has put the
-/// file on the disk. A file of which a write failed takes no more bytes, and its close fails.
+/// file and the names of its folder on the disk; what a removal undoes is there behind the next close in that folder. A
+/// file of which a write failed takes no more bytes, and its close fails. What is no file, such as a folder or a pipe, is
+/// not opened.
 #[derive(Drop)]
 pub struct StdFiles<R: rt::Files + Drop> {
     folder: SystemFolder<R>,
     numbers: UseTable,
     blocks: BlockTable<R::File>,
-    tally: Tally,
+    tally: FaultTally,
 }
 
 impl<R: rt::Files + Drop> Model for StdFiles<R> {
-    ghost use Rattle.daq_std.specs.InBlocks.{InBlocks};
+    ghost use Rattle.daq_std.specs.InBlocks.{HasFiles, InBlocks};
 
     ghost Value = { InBlocks R.File };
 
     ghost view = { λ s. record {
+      inside = s.folder;
       uses = s.numbers.uses.items;
       blocks = s.blocks.blocks.items;
       tallied = s.tally;
     } };
+
+    ghost invariant = { λ s. HasFiles s.folder.folder s.numbers.uses.items s.blocks.blocks.items };
 }
 
 impl<R: rt::Files + Drop> StdFiles<R> {
-    /// The files of this folder, of which so many are in use at a time, at most.
+    /// The files of this folder, of which so many are in use at a time, at most. None of them gets a number of the standard
+    /// streams.
     pub fn new(
         alloc: Global,
         system: R,
+        _taken: &StandardTaken,
         folder: &str,
         numbers: u32,
     ) -> Result<StdFiles<R>, NoMemory>
+        ensures folder { IfOk result (λ made. made.inside.folder ≡ folder.now) }
+        ensures numbers { IfOk result (λ made. free_numbers made.uses ≡ numbers) }
         ensures unused { IfOk result (λ made. (number : ℕ)
             → IsFree (⟦<StdFiles<R> as Files>⟧.seen made) number) }
         ensures faults { IfOk result (λ made. ⟦<StdFiles<R> as Files>⟧.faults made ≡ 0) }
@@ -54,8 +71,61 @@ impl<R: rt::Files + Drop> StdFiles<R> {
             folder,
             numbers: UseTable::new(alloc, numbers)?,
             blocks,
-            tally: Tally::new(),
+            tally: FaultTally::new(),
         })
+    }
+
+    /// Makes a file and goes on with it under a number.
+    fn make(&mut self, name: &FileName) -> Result<u32, Fault>
+        ensures made { IfOk result (λ number. Creates (told_by self.old) (told_by self.new)
+            name.now number []) }
+        ensures kept { OnErr result (Same (told_by self.old) (told_by self.new)) }
+        ensures opened { IfOk result (OpensFile new_to_write name.now self.old self.new) }
+        ensures others { OnErr result (self.new.blocks ≡ self.old.blocks) }
+        ensures tally { self.new.tallied ≡ self.old.tallied }
+        ensures removed { OnOk result (self.new.inside.removed ≡ None) }
+        ensures kept_name { OnOk result (self.new.inside.kept ≡ None) }
+        ensures folder { self.new.inside.folder ≡ self.old.inside.folder }
+    {
+        let number = free_number(&self.numbers)?;
+        let file = self.folder.create(name)?;
+        self.blocks.open(number, file);
+        self.numbers.assign(number, Usage::Writing(*name));
+        Ok(number)
+    }
+
+    /// Opens a file and goes on with it under a number.
+    fn open(&mut self, name: &FileName) -> Result<u32, Fault>
+        ensures opens { IfOk result (λ number. Opens (told_by self.old) (told_by self.new) name.now
+            number []) }
+        ensures kept { OnErr result (Same (told_by self.old) (told_by self.new)) }
+        ensures opened { IfOk result (OpensFile to_read name.now self.old self.new) }
+        ensures others { OnErr result (self.new.blocks ≡ self.old.blocks) }
+        ensures tally { self.new.tallied ≡ self.old.tallied }
+        ensures inside { self.new.inside ≡ self.old.inside }
+    {
+        let number = free_number(&self.numbers)?;
+        let file = self.folder.open(name)?;
+        self.blocks.open(number, file);
+        self.numbers.assign(number, Usage::Reading(*name));
+        Ok(number)
+    }
+
+    /// Puts the written file of this number on the disk, and the names of its folder. The number is not in use any more.
+    fn finish(&mut self, file: u32, name: &FileName) -> Result<(), Fault>
+        requires writes { IsTrue ((told_by self.old).writes file) }
+        requires named { (told_by self.old).name_of file ≡ name.now }
+        ensures closes { Closes (told_by self.old) (told_by self.new) file [] }
+        ensures all { OnOk result (HasAll R.File.contents self.old file) }
+        ensures named { OnOk result (NamesOnDisk self.old self.new file) }
+        ensures broken { IsBroken self.old file → IsErr result }
+        ensures leaves { LeavesBlock self.old.blocks self.new.blocks file }
+        ensures tally { self.new.tallied ≡ self.old.tallied }
+        ensures folder { self.new.inside.folder ≡ self.old.inside.folder }
+    {
+        self.numbers.assign(file, Usage::Free);
+        let on_disk = self.blocks.finish(file)?;
+        self.folder.sync(name, on_disk)
     }
 }
 
@@ -73,17 +143,24 @@ impl<R: rt::Files + Drop> Files for StdFiles<R> {
 
     ghost first = { λ s. s.tallied.first };
 
-    fn create(&mut self, name: &FileName) -> Result<u32, NameRefused> {
-        let Some(number) = self.numbers.free() else {
-            return Err(refused(&mut self.tally, name, NameRefused::Failed));
-        };
-        match self.folder.create(name) {
-            Ok(file) => {
-                self.blocks.open(number, file);
-                self.numbers.assign(number, Usage::Writing(*name));
-                Ok(number)
-            }
-            Err(why) => Err(refused(&mut self.tally, name, why)),
+    /// The number goes on with a file that the system made under the path of the name.
+    fn create(&mut self, name: &FileName) -> Result<u32, NameRefused>
+        ensures made { IfOk result (λ number. Creates (told_by self.old) (told_by self.new)
+            name.now number []) }
+        ensures kept { OnErr result (Same (told_by self.old) (told_by self.new)) }
+        ensures not_missing { ¬ IsErrOf result NameRefused.Missing }
+        ensures counts { CountsOnName name.now self.old self.new result }
+        ensures bytes_read { ⟦<StdFiles<R> as Files>⟧.bytes_read self.new
+            ≡ ⟦<StdFiles<R> as Files>⟧.bytes_read self.old }
+        ensures opened { IfOk result (OpensFile new_to_write name.now self.old self.new) }
+        ensures others { OnErr result (self.new.blocks ≡ self.old.blocks) }
+        ensures removed { OnOk result (self.new.inside.removed ≡ None) }
+        ensures kept_name { OnOk result (self.new.inside.kept ≡ None) }
+        ensures folder { self.new.inside.folder ≡ self.old.inside.folder }
+    {
+        match self.make(name) {
+            Ok(number) => Ok(number),
+            Err(fault) => Err(self.tally.not_made(name, fault)),
         }
     }
 
@@ -102,17 +179,19 @@ impl<R: rt::Files + Drop> Files for StdFiles<R> {
         ensures given { OnOk result (GivesBytes R.File.contents self.old self.new file bytes.now) }
         ensures never_again { IsBroken self.old file → IsErr result }
         ensures breaks { OnErr result (IsBroken self.new file) }
+        ensures uses { UsesBlock self.old.blocks self.new.blocks file }
+        ensures inside { self.new.inside ≡ self.old.inside }
     {
-        match self.blocks.append(file, bytes) {
-            Ok(()) => Ok(()),
-            Err(failed) => match self.numbers.usage(file) {
-                Usage::Writing(name) => counted(&mut self.tally, &name, Err(failed)),
-                _ => unreachable!(),
+        match self.numbers.usage(file) {
+            Usage::Writing(name) => match self.blocks.append(file, bytes) {
+                Ok(()) => Ok(()),
+                Err(fault) => Err(self.tally.failed(&name, fault)),
             },
+            _ => unreachable!(),
         }
     }
 
-    /// A written file is closed well where the system has put all of its bytes on the disk.
+    /// A written file is closed well where the system has put all of its bytes on the disk, and the names of its folder.
     fn close(&mut self, file: u32) -> Result<(), Failed>
         requires { InUse (told_by self.old) file }
         ensures written { IsTrue ((told_by self.old).writes file)
@@ -126,16 +205,18 @@ impl<R: rt::Files + Drop> Files for StdFiles<R> {
         ensures first { NamesFirstAt file self.old self.new result }
         ensures all { IsTrue ((told_by self.old).writes file)
             → OnOk result (HasAll R.File.contents self.old file) }
+        ensures named { IsTrue ((told_by self.old).writes file)
+            → OnOk result (NamesOnDisk self.old self.new file) }
         ensures broken { IsTrue ((told_by self.old).writes file) → IsBroken self.old file
             → IsErr result }
+        ensures leaves { LeavesBlock self.old.blocks self.new.blocks file }
+        ensures folder { self.new.inside.folder ≡ self.old.inside.folder }
     {
         match self.numbers.usage(file) {
-            Usage::Writing(name) => {
-                self.numbers.assign(file, Usage::Free);
-                let finished = self.blocks.finish(file);
-                let _file = counted(&mut self.tally, &name, finished)?;
-                Ok(())
-            }
+            Usage::Writing(name) => match self.finish(file, &name) {
+                Ok(()) => Ok(()),
+                Err(fault) => Err(self.tally.failed(&name, fault)),
+            },
             Usage::Reading(_) => {
                 self.numbers.assign(file, Usage::Free);
                 self.blocks.release(file);
@@ -145,31 +226,66 @@ impl<R: rt::Files + Drop> Files for StdFiles<R> {
         }
     }
 
-    fn remove(&mut self, name: &FileName) -> Result<(), Failed> {
-        let removed = self.folder.remove(name);
-        counted(&mut self.tally, name, removed)
-    }
-
-    fn open_read(&mut self, name: &FileName) -> Result<u32, NameRefused> {
-        let Some(number) = self.numbers.free() else {
-            return Err(refused(&mut self.tally, name, NameRefused::Failed));
-        };
-        match self.folder.open(name) {
-            Ok(file) => {
-                self.blocks.open(number, file);
-                self.numbers.assign(number, Usage::Reading(*name));
-                Ok(number)
-            }
-            Err(why) => Err(refused(&mut self.tally, name, why)),
+    /// The system removed the file under the path of the name, or told that there is none.
+    fn remove(&mut self, name: &FileName) -> Result<(), Failed>
+        ensures removed { OnOk result (Removes (told_by self.old) (told_by self.new) name.now) }
+        ensures kept { OnErr result (Same (told_by self.old) (told_by self.new)) }
+        ensures faults { CountsOne self.old self.new result }
+        ensures clashes { self.new.tallied.clashes ≡ self.old.tallied.clashes }
+        ensures bytes_read { ⟦<StdFiles<R> as Files>⟧.bytes_read self.new
+            ≡ ⟦<StdFiles<R> as Files>⟧.bytes_read self.old }
+        ensures first { NamesFirst name.now self.old.tallied.first self.new.tallied.first result }
+        ensures done { OnOk result (self.new.inside.removed
+            ≡ Some (path_in self.old.inside.folder name.now)) }
+        ensures files { self.new ≡ record self.old
+            { inside = self.new.inside; tallied = self.new.tallied } }
+        ensures folder { self.new.inside.folder ≡ self.old.inside.folder }
+    {
+        match self.folder.remove(name) {
+            Ok(()) => Ok(()),
+            Err(fault) => Err(self.tally.failed(name, fault)),
         }
     }
 
-    fn read(&mut self, file: u32, into: &mut [u8]) -> Result<usize, Failed> {
+    /// The number goes on with a file that the system opened under the path of the name.
+    fn open_read(&mut self, name: &FileName) -> Result<u32, NameRefused>
+        ensures opens { IfOk result (λ number. Opens (told_by self.old) (told_by self.new) name.now
+            number []) }
+        ensures kept { OnErr result (Same (told_by self.old) (told_by self.new)) }
+        ensures not_exists { ¬ IsErrOf result NameRefused.Exists }
+        ensures counts { CountsOnName name.now self.old self.new result }
+        ensures bytes_read { ⟦<StdFiles<R> as Files>⟧.bytes_read self.new
+            ≡ ⟦<StdFiles<R> as Files>⟧.bytes_read self.old }
+        ensures opened { IfOk result (OpensFile to_read name.now self.old self.new) }
+        ensures others { OnErr result (self.new.blocks ≡ self.old.blocks) }
+        ensures inside { self.new.inside ≡ self.old.inside }
+    {
+        match self.open(name) {
+            Ok(number) => Ok(number),
+            Err(fault) => Err(self.tally.not_opened(name, fault)),
+        }
+    }
+
+    /// The bytes are those of the file of that number.
+    fn read(&mut self, file: u32, into: &mut [u8]) -> Result<usize, Failed>
+        requires { IsTrue ((told_by self.old).reads file) }
+        ensures within { ReadsAtMost result into.new }
+        ensures bytes { IfOk result (λ count. Reads (told_by self.old) (told_by self.new) file
+            (take count into.new)) }
+        ensures kept { OnErr result (Same (told_by self.old) (told_by self.new)) }
+        ensures faults { CountsOne self.old self.new result }
+        ensures clashes { self.new.tallied.clashes ≡ self.old.tallied.clashes }
+        ensures bytes_read { ⟦<StdFiles<R> as Files>⟧.bytes_read self.new
+            ≡ ⟦<StdFiles<R> as Files>⟧.bytes_read self.old }
+        ensures first { NamesFirstAt file self.old self.new result }
+        ensures taken { TakesBytes R.File.remaining self.old self.new file result into.new }
+        ensures inside { self.new.inside ≡ self.old.inside }
+    {
         match self.numbers.usage(file) {
-            Usage::Reading(name) => {
-                let count = self.blocks.read(file, into);
-                counted(&mut self.tally, &name, count)
-            }
+            Usage::Reading(name) => match self.blocks.read(file, into) {
+                Ok(count) => Ok(count),
+                Err(fault) => Err(self.tally.failed(&name, fault)),
+            },
             _ => unreachable!(),
         }
     }

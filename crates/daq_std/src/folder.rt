@@ -1,12 +1,15 @@
-ghost use Rattle.std.specs.Prelude.{◌≡◌, IfOk, IsErrOf, OnOk, string_bytes};
-ghost use Rattle.daq_std.specs.Paths.{is_rooted, path_in};
+ghost use Rattle.std.specs.Prelude.{◌≡◌, ◌<◌, ◌+◌, ◌≤◌, ◌++◌, All, IfOk, IsTrue, None, OnOk, Some, length, string_bytes, string_capacity, take};
+ghost use Rattle.daq_types.specs.Names.{is_file_byte};
+ghost use Rattle.daq_std.specs.Paths.{IsFolderPart, KeepsName, is_rooted, path_in};
+ghost use Rattle.daq_std.specs.SystemCalls.{new_to_write, to_read};
 
-use daq_io::{ByteRoom, Failed, NameRefused};
+use crate::system::{
+    Fault, NameOnDisk, OnDisk, Removed, SystemFile, make_file, open_file, remove_file, sync_folder,
+};
 use daq_types::{FileName, NoMemory};
 use std::alloc::Global;
-use std::fs::File;
-use std::io::ErrorKind;
-use std::rt;
+use std::marker::Model;
+use std::{rt, str};
 
 /// The longest name of a file, and the slash before it.
 const NAME_ROOM: usize = 256;
@@ -15,113 +18,154 @@ const NAME_ROOM: usize = 256;
 #[derive(Drop)]
 pub struct SystemFolder<R> {
     system: R,
-    pub folder: String,
+    folder: String,
     /// The path that was made last, for the system.
-    pub path: ByteRoom,
+    path: String,
+    /// The last removal, where no file was asked to be made since.
+    removed: Option<Removed>,
+    /// The last name that was put on the disk, where none was made or removed since.
+    kept: Option<NameOnDisk>,
+}
+
+impl<R> Model for SystemFolder<R> {
+    ghost use Rattle.std.specs.Prelude.{◌+◌, ◌≤◌, length, string_bytes, string_capacity};
+    ghost use Rattle.daq_std.specs.InBlocks.{InFolder};
+
+    ghost Value = { InFolder };
+
+    ghost view = { λ s. record {
+      folder = string_bytes s.folder;
+      removed = s.removed;
+      kept = s.kept;
+    } };
+
+    // There is room for the longest path.
+    ghost invariant = { λ s. length (string_bytes s.folder) + 256 ≤ string_capacity s.path };
 }
 
 /// Whether a name is one from the root of the system.
-fn is_rooted(name: &FileName) -> bool
+fn is_rooted(name: &[u8]) -> bool
     ensures { result ≡ is_rooted name.now }
 {
-    match name.as_slice().first() {
+    match name.first() {
         Some(first) => *first == b'/',
         None => false,
     }
 }
 
+/// The first bytes of a name, so many, say in which folder its file lies.
+fn folder_part(name: &[u8]) -> usize
+    ensures { IsFolderPart name.now result }
+{
+    let mut count = name.len();
+    while count > 0 && name[count - 1] != b'/' {
+        count -= 1;
+    }
+    count
+}
+
+/// The text of bytes that a name of a file may have.
+fn text_of(name: &[u8]) -> &str
+    requires { All (λ b. IsTrue (is_file_byte b)) name.now }
+    ensures { result.now ≡ name.now }
+{
+    match str::from_utf8(name) {
+        Ok(text) => text,
+        Err(_) => unreachable!(),
+    }
+}
+
+/// Appends a text, for which there is room.
+fn put(path: &mut String, text: &str)
+    requires { length (string_bytes path.old) + length text.now ≤ string_capacity path.old }
+    ensures bytes { string_bytes path.new ≡ string_bytes path.old ++ text.now }
+    ensures room { string_capacity path.old ≤ string_capacity path.new }
+{
+    if path.push_str(text).is_err() {
+        unreachable!();
+    }
+}
+
+/// Makes the path of a name of a folder.
+fn make_path(folder: &str, name: &[u8], path: &mut String)
+    requires bytes { All (λ b. IsTrue (is_file_byte b)) name.now }
+    requires short { length name.now ≤ 255 }
+    requires room { length folder.now + 256 ≤ string_capacity path.old }
+    ensures path { string_bytes path.new ≡ path_in folder.now name.now }
+    ensures room { string_capacity path.old ≤ string_capacity path.new }
+{
+    path.clear();
+    if !is_rooted(name) {
+        put(path, folder);
+        put(path, "/");
+    }
+    put(path, text_of(name));
+}
+
 impl<R: rt::Files + Drop> SystemFolder<R> {
     /// A folder, with room for the longest path.
     pub fn new(alloc: Global, system: R, folder: &str) -> Result<SystemFolder<R>, NoMemory>
-        ensures { IfOk result (λ made. string_bytes made.folder ≡ folder.now) }
+        ensures folder { IfOk result (λ made. made.folder ≡ folder.now) }
     {
-        let room = folder.len().saturating_add(NAME_ROOM);
+        let Some(room) = folder.len().checked_add(NAME_ROOM) else {
+            return Err(NoMemory);
+        };
         Ok(SystemFolder {
             system,
             folder: String::from_str(alloc, folder)?,
-            path: ByteRoom::new(alloc, room)?,
+            path: String::with_capacity(alloc, room)?,
+            removed: None,
+            kept: None,
         })
     }
 
-    /// Makes the path of the file of this name: below the folder, or from the root where the name begins with `/`.
-    fn enter(&mut self, name: &FileName) -> Result<(), Failed>
-        ensures path { OnOk result (self.new.path.bytes
-            ≡ path_in (string_bytes self.old.folder) name.now) }
-        ensures folder { self.new.folder ≡ self.old.folder }
+    /// Makes a file of this name, where there is nothing of that name.
+    pub fn create(&mut self, name: &FileName) -> Result<SystemFile<R::File>, Fault>
+        ensures made { IfOk result (λ file. file.opening
+            ≡ record { how = new_to_write; path = path_in self.old.folder name.now }) }
+        ensures folder { self.new ≡ record self.old { removed = None; kept = None } }
     {
-        self.path.clear();
-        if is_rooted(name) {
-            if self.path.put(name.as_slice()) {
-                return Ok(());
-            }
-            return Err(Failed);
-        }
-        if self.path.put(self.folder.as_bytes())
-            && self.path.put(b"/")
-            && self.path.put(name.as_slice())
-        {
-            return Ok(());
-        }
-        Err(Failed)
-    }
-
-    /// The path that was made last.
-    fn path(&self) -> Result<&str, Failed>
-        ensures { IfOk result (λ path. path.now ≡ self.now.path.bytes) }
-    {
-        match std::str::from_utf8(self.path.as_slice()) {
-            Ok(path) => Ok(path),
-            Err(_) => Err(Failed),
-        }
-    }
-
-    /// Makes a file of this name, where there is none.
-    pub fn create(&mut self, name: &FileName) -> Result<R::File, NameRefused>
-        ensures never_missing { ¬ IsErrOf result NameRefused.Missing }
-        ensures path { ¬ IsErrOf result NameRefused.Failed
-            → self.new.path.bytes ≡ path_in (string_bytes self.old.folder) name.now }
-        ensures folder { self.new.folder ≡ self.old.folder }
-    {
-        self.enter(name)?;
-        match File::create_new(&self.system, self.path()?) {
-            Ok(file) => Ok(file),
-            Err(error) => match error.kind() {
-                ErrorKind::AlreadyExists => Err(NameRefused::Exists),
-                _ => Err(NameRefused::Failed),
-            },
-        }
+        self.removed = None;
+        self.kept = None;
+        make_path(self.folder.as_str(), name.as_slice(), &mut self.path);
+        make_file(&self.system, &self.path)
     }
 
     /// Opens the file of this name to read it.
-    pub fn open(&mut self, name: &FileName) -> Result<R::File, NameRefused>
-        ensures never_exists { ¬ IsErrOf result NameRefused.Exists }
-        ensures path { ¬ IsErrOf result NameRefused.Failed
-            → self.new.path.bytes ≡ path_in (string_bytes self.old.folder) name.now }
-        ensures folder { self.new.folder ≡ self.old.folder }
+    pub fn open(&mut self, name: &FileName) -> Result<SystemFile<R::File>, Fault>
+        ensures opened { IfOk result (λ file. file.opening
+            ≡ record { how = to_read; path = path_in self.old.folder name.now }) }
+        ensures folder { self.new ≡ self.old }
     {
-        self.enter(name)?;
-        match File::open(&self.system, self.path()?) {
-            Ok(file) => Ok(file),
-            Err(error) => match error.kind() {
-                ErrorKind::NotFound => Err(NameRefused::Missing),
-                _ => Err(NameRefused::Failed),
-            },
-        }
+        make_path(self.folder.as_str(), name.as_slice(), &mut self.path);
+        open_file(&self.system, &self.path)
     }
 
     /// Removes the file of this name, if there is one.
-    pub fn remove(&mut self, name: &FileName) -> Result<(), Failed>
-        ensures path { OnOk result (self.new.path.bytes
-            ≡ path_in (string_bytes self.old.folder) name.now) }
+    pub fn remove(&mut self, name: &FileName) -> Result<(), Fault>
+        ensures removed { OnOk result (self.new.removed
+            ≡ Some (path_in self.old.folder name.now)) }
         ensures folder { self.new.folder ≡ self.old.folder }
     {
-        self.enter(name)?;
-        match self.system.remove_file(self.path()?) {
-            Ok(()) => Ok(()),
-            Err(error) => match error.kind() {
-                ErrorKind::NotFound => Ok(()),
-                _ => Err(Failed),
-            },
-        }
+        self.kept = None;
+        make_path(self.folder.as_str(), name.as_slice(), &mut self.path);
+        self.removed = Some(remove_file(&self.system, &self.path)?);
+        Ok(())
+    }
+
+    /// Has the system put the names of the folder in which the file of this name lies on the disk, behind that file.
+    pub fn sync(&mut self, name: &FileName, file: OnDisk<R::File>) -> Result<(), Fault>
+        ensures kept { OnOk result (KeepsName self.old.folder name.now file.opening.path
+            self.new.kept) }
+        ensures folder { self.new.folder ≡ self.old.folder }
+    {
+        let name = name.as_slice();
+        make_path(
+            self.folder.as_str(),
+            &name[..folder_part(name)],
+            &mut self.path,
+        );
+        self.kept = Some(sync_folder(&self.system, &self.path, file)?);
+        Ok(())
     }
 }

@@ -5,14 +5,18 @@
 mod ahead;
 mod blocks;
 mod choices;
-mod disk;
 mod faults;
 mod files;
 mod folder;
 pub mod laws;
+mod standard;
 mod streams;
+mod system;
 mod table;
+mod words;
 
-pub use choices::{RoundPick, StdClock};
+pub use choices::{NoGate, RoundPick, StdClock};
 pub use files::StdFiles;
+pub use standard::StandardTaken;
 pub use streams::{StdSink, StdSource};
+pub use words::given_words;

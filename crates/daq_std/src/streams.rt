@@ -1,6 +1,8 @@
 ghost use Rattle.std.specs.Prelude.{◌≡◌, None, IfOk};
 ghost use Rattle.std.specs.Io.Buffered.{reader_remaining};
 
+use crate::faults::FaultCount;
+use crate::system::{read_once, write_once};
 use daq_io::{Failed, Sink, Source};
 use daq_types::NoMemory;
 use std::alloc::Global;
@@ -14,7 +16,7 @@ const AHEAD_BYTES: usize = 8192;
 #[derive(Drop)]
 pub struct StdSource<R: Read + Drop> {
     reader: BufReader<R>,
-    faults: u64,
+    faults: FaultCount,
 }
 
 impl<R: Read + Drop> StdSource<R> {
@@ -26,7 +28,10 @@ impl<R: Read + Drop> StdSource<R> {
         ensures origin { IfOk result (λ made. ⟦<StdSource<R> as Source>⟧.origin made ≡ None) }
     {
         match BufReader::with_capacity(alloc, AHEAD_BYTES, reader) {
-            Ok(reader) => Ok(StdSource { reader, faults: 0 }),
+            Ok(reader) => Ok(StdSource {
+                reader,
+                faults: FaultCount::new(),
+            }),
             Err(_) => Err(NoMemory),
         }
     }
@@ -40,12 +45,9 @@ impl<R: Read + Drop> Source for StdSource<R> {
     ghost origin = { λ _. None };
 
     fn read(&mut self, into: &mut [u8]) -> Result<usize, Failed> {
-        match self.reader.read(into) {
+        match read_once(&mut self.reader, into) {
             Ok(count) => Ok(count),
-            Err(_) => {
-                self.faults = self.faults.saturating_add(1);
-                Err(Failed)
-            }
+            Err(fault) => Err(self.faults.failed(fault)),
         }
     }
 }
@@ -55,7 +57,7 @@ impl<R: Read + Drop> Source for StdSource<R> {
 #[derive(Drop)]
 pub struct StdSink<W: Write + Drop> {
     writer: W,
-    faults: u64,
+    faults: FaultCount,
 }
 
 impl<W: Write + Drop> StdSink<W> {
@@ -64,7 +66,10 @@ impl<W: Write + Drop> StdSink<W> {
         ensures written { ⟦<StdSink<W> as Sink>⟧.written result ≡ W.contents writer }
         ensures faults { ⟦<StdSink<W> as Sink>⟧.faults result ≡ 0 }
     {
-        StdSink { writer, faults: 0 }
+        StdSink {
+            writer,
+            faults: FaultCount::new(),
+        }
     }
 }
 
@@ -74,18 +79,9 @@ impl<W: Write + Drop> Sink for StdSink<W> {
     ghost faults = { λ s. s.faults };
 
     fn write(&mut self, bytes: &[u8]) -> Result<usize, Failed> {
-        match self.writer.write(bytes) {
-            Ok(count) => {
-                if count == 0 && !bytes.is_empty() {
-                    self.faults = self.faults.saturating_add(1);
-                    return Err(Failed);
-                }
-                Ok(count)
-            }
-            Err(_) => {
-                self.faults = self.faults.saturating_add(1);
-                Err(Failed)
-            }
+        match write_once(&mut self.writer, bytes) {
+            Ok(count) => Ok(count),
+            Err(fault) => Err(self.faults.failed(fault)),
         }
     }
 }

@@ -1,11 +1,10 @@
-ghost use Rattle.std.specs.Prelude.{◌≡◌, IfOk, IfSome, IsErr, IsTrue, OnErr, OnOk, length, slice_get};
+ghost use Rattle.std.specs.Prelude.{◌≡◌, ◌<◌, IfOk, IsErr, IsSome, IsTrue, OnErr, OnOk, Some, length};
 ghost use Rattle.std.specs.Io.{ReadsAtMost};
-ghost use Rattle.std.specs.Io.KnownBytes.{Appends, Keeps, ReadConsumes};
-ghost use Rattle.daq_std.specs.BlockTables.{ChangesBlock, HasOpenFile, IsOpened, ahead_at, bytes_given_at, is_broken_at};
+ghost use Rattle.std.specs.Io.KnownBytes.{Keeps, ReadConsumes};
+ghost use Rattle.daq_std.specs.BlockTables.{GrowsBlock, LeavesBlock, OpensBlock, UsesBlock, ahead_at, bytes_given_at, opening_at, is_broken_at};
 
 use crate::blocks::BlockFile;
-use crate::disk::OnDisk;
-use daq_io::Failed;
+use crate::system::{Fault, OnDisk, SystemFile};
 use daq_types::NoMemory;
 use std::alloc::Global;
 use std::fs::OpenFile;
@@ -30,69 +29,59 @@ impl<F: Read + Write + OpenFile + Drop> BlockTable<F> {
     }
 
     /// Goes on with this file under this number, with nothing to write and nothing read ahead.
-    pub fn open(&mut self, number: u32, file: F)
-        ensures opened { IfSome (slice_get self.new.blocks.items number) (IsOpened file) }
-        ensures others { ChangesBlock self.old.blocks.items self.new.blocks.items number }
+    pub fn open(&mut self, number: u32, file: SystemFile<F>)
+        requires { number < length self.old.blocks.items }
+        ensures { OpensBlock file self.old.blocks.items self.new.blocks.items number }
     {
-        if number as usize >= self.blocks.as_slice().len() {
-            return;
-        }
         let block = &mut self.blocks[number as usize];
         block.open(file);
     }
 
     /// Appends to the file of this number. Once a write failed, it takes no byte.
-    pub fn append(&mut self, number: u32, bytes: &[u8]) -> Result<(), Failed>
-        ensures grown { OnOk result (Appends (bytes_given_at F.contents self.old.blocks.items
-            number) (bytes_given_at F.contents self.new.blocks.items number) bytes.now) }
+    pub fn append(&mut self, number: u32, bytes: &[u8]) -> Result<(), Fault>
+        requires { IsSome (opening_at self.old.blocks.items number) }
+        ensures grown { OnOk result (GrowsBlock F.contents self.old.blocks.items
+            self.new.blocks.items number bytes.now) }
         ensures never_again { IsTrue (is_broken_at self.old.blocks.items number) → IsErr result }
         ensures breaks { OnErr result (IsTrue (is_broken_at self.new.blocks.items number)) }
-        ensures others { ChangesBlock self.old.blocks.items self.new.blocks.items number }
+        ensures uses { UsesBlock self.old.blocks.items self.new.blocks.items number }
     {
-        if number as usize >= self.blocks.as_slice().len() {
-            return Err(Failed);
-        }
         let block = &mut self.blocks[number as usize];
         block.append(bytes)
     }
 
     /// Reads from the file of this number.
-    pub fn read(&mut self, number: u32, into: &mut [u8]) -> Result<usize, Failed>
+    pub fn read(&mut self, number: u32, into: &mut [u8]) -> Result<usize, Fault>
+        requires { IsSome (opening_at self.old.blocks.items number) }
         ensures within { ReadsAtMost result into.new }
         ensures bytes { ReadConsumes (ahead_at F.remaining self.old.blocks.items number)
             (ahead_at F.remaining self.new.blocks.items number) result into.new }
-        ensures open { OnOk result (HasOpenFile (slice_get self.old.blocks.items number)) }
-        ensures others { ChangesBlock self.old.blocks.items self.new.blocks.items number }
+        ensures uses { UsesBlock self.old.blocks.items self.new.blocks.items number }
     {
-        if number as usize >= self.blocks.as_slice().len() {
-            return Err(Failed);
-        }
         let block = &mut self.blocks[number as usize];
         block.read(into)
     }
 
     /// Writes what is left of the file of this number, has all of it put on the disk, and hands the file out. It does not
     /// where a write failed before.
-    pub fn finish(&mut self, number: u32) -> Result<OnDisk<F>, Failed>
-        ensures whole { IfOk result (λ file. Keeps (bytes_given_at F.contents
-            self.old.blocks.items number) (F.contents file)) }
+    pub fn finish(&mut self, number: u32) -> Result<OnDisk<F>, Fault>
+        requires { IsSome (opening_at self.old.blocks.items number) }
+        ensures whole { IfOk result (λ synced. Keeps (bytes_given_at F.contents
+            self.old.blocks.items number) (F.contents synced.file)) }
+        ensures opening { IfOk result (λ synced. Some synced.opening
+            ≡ opening_at self.old.blocks.items number) }
         ensures broken { IsTrue (is_broken_at self.old.blocks.items number) → IsErr result }
-        ensures others { ChangesBlock self.old.blocks.items self.new.blocks.items number }
+        ensures leaves { LeavesBlock self.old.blocks.items self.new.blocks.items number }
     {
-        if number as usize >= self.blocks.as_slice().len() {
-            return Err(Failed);
-        }
         let block = &mut self.blocks[number as usize];
         block.close()
     }
 
     /// Lets the file of this number go.
     pub fn release(&mut self, number: u32)
-        ensures { ChangesBlock self.old.blocks.items self.new.blocks.items number }
+        requires { IsSome (opening_at self.old.blocks.items number) }
+        ensures { LeavesBlock self.old.blocks.items self.new.blocks.items number }
     {
-        if number as usize >= self.blocks.as_slice().len() {
-            return;
-        }
         let block = &mut self.blocks[number as usize];
         block.release();
     }

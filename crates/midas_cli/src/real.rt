@@ -1,12 +1,20 @@
+ghost use Rattle.std.specs.Prelude.{◌≡◌, ◌≤◌, ◌↔◌, ◌∷◌, [], IfOk};
+ghost use Rattle.std.specs.Process.{exit_status};
+ghost use Rattle.command_words.specs.CommandLine.{HasForm};
+ghost use Rattle.daq_io.specs.Uses.{free_numbers};
+ghost use Rattle.midas_cli.specs.Outcomes.{status_of};
+
 use crate::causes::Cause;
-use crate::outcome::status;
+use crate::outcome::{Summary, status};
 use crate::top::midas;
 use daq_io::Outside;
-use daq_mem::NoGate;
-use daq_std::{RoundPick, StdClock, StdFiles, StdSink, StdSource};
+use daq_std::{
+    NoGate, RoundPick, StandardTaken, StdClock, StdFiles, StdSink, StdSource, given_words,
+};
 use daq_types::{NoMemory, Words};
+use std::alloc::Global;
 use std::env;
-use std::io::{self, Stdin, Stdout};
+use std::io::{Stdin, Stdout};
 use std::process::ExitCode;
 use std::sync::Wait;
 use std::thread::Threads;
@@ -27,62 +35,61 @@ type RealOutside = Outside<
     RoundPick,
 >;
 
-/// The words of the command line, without the program's name. None of them where one is not UTF-8, so that the line
-/// has no form.
-fn given_words(rt: HostRuntime) -> Result<Words, NoMemory> {
-    let mut words = Words::new(rt.alloc());
-    match env::args(&rt) {
-        Ok(args) => {
-            for word in args.skip(1) {
-                words.add(rt.alloc(), word.as_str())?;
-            }
-            Ok(words)
-        }
-        Err(error) => {
-            if error.kind() == io::ErrorKind::InvalidData {
-                Ok(words)
-            } else {
-                Err(NoMemory)
-            }
-        }
-    }
-}
-
 /// The real objects.
-fn real_outside(rt: HostRuntime) -> Result<RealOutside, NoMemory> {
+fn real_outside(rt: HostRuntime, taken: &StandardTaken) -> Result<RealOutside, NoMemory>
+    ensures run_files { IfOk result (λ made. free_numbers made.run_files.uses ≡ 16) }
+    ensures database_files { IfOk result (λ made. free_numbers made.odb_files.uses ≡ 1) }
+    ensures run_folder { IfOk result (λ made. made.run_files.inside.folder ≡ 46 ∷ []) }
+    ensures database_folder { IfOk result (λ made. made.odb_files.inside.folder ≡ 46 ∷ []) }
+{
     Ok(Outside {
         src: StdSource::new(rt.alloc(), rt.stdin())?,
         out: StdSink::new(rt.stdout()),
-        run_files: StdFiles::new(rt.alloc(), rt, ".", RUN_FILES)?,
-        odb_files: StdFiles::new(rt.alloc(), rt, ".", DATABASE_FILES)?,
+        run_files: StdFiles::new(rt.alloc(), rt, taken, ".", RUN_FILES)?,
+        odb_files: StdFiles::new(rt.alloc(), rt, taken, ".", DATABASE_FILES)?,
         clock: StdClock::new(rt),
         pick: RoundPick::new(),
     })
 }
 
-/// Calls the program with these words and these objects. This is the status of its outcome.
+/// Calls the program with these words and these objects, and answers what that came to.
 fn call<R: Threads + Wait + Sync>(
     threads: &R,
-    rt: HostRuntime,
+    alloc: Global,
     words: &Words,
     outside: RealOutside,
-) -> u8 {
-    let (outcome, _outside) = midas(threads, rt.alloc(), words, outside, &NoGate);
-    outcome.into_summary().status
+) -> Summary
+    ensures status { result.status ≡ status_of result.cause }
+    ensures usage { (result.cause ≡ Cause.Usage) ↔ ¬ HasForm words.now }
+{
+    let (outcome, _outside) = midas(threads, alloc, words, outside, &NoGate);
+    outcome.into_summary()
 }
 
 /// Calls the program with the words of the command line and the real objects.
-fn call_given<R: Threads + Wait + Sync>(threads: &R, rt: HostRuntime) -> Result<u8, NoMemory> {
-    let words = given_words(rt)?;
-    let outside = real_outside(rt)?;
-    Ok(call(threads, rt, &words, outside))
+fn call_given<R: Threads + Wait + Sync>(
+    threads: &R,
+    rt: HostRuntime,
+    taken: &StandardTaken,
+) -> Result<Summary, NoMemory>
+    ensures { IfOk result (λ made. made.status ≡ status_of made.cause) }
+{
+    let words = given_words(rt.alloc(), env::args(&rt))?;
+    let outside = real_outside(rt, taken)?;
+    Ok(call(threads, rt.alloc(), &words, outside))
 }
 
 /// The whole program: it gives the words of the command line and the real objects to `midas`, and its status is that of
-/// the outcome, 0 to 5. Where there is no memory for the words or the objects it is 5, and nothing was done.
-pub fn run_program<R: Threads + Wait + Sync>(threads: &R, rt: HostRuntime) -> ExitCode {
-    match call_given(threads, rt) {
-        Ok(status) => ExitCode::from(status),
+/// the outcome, 0 to 5. Where there is no memory for the words or the objects it is 5, and where the system does not let
+/// the numbers of the standard streams be taken it is 4; then nothing was done.
+pub fn run_program<R: Threads + Wait + Sync>(threads: &R, rt: HostRuntime) -> ExitCode
+    ensures { exit_status result ≤ 5 }
+{
+    let Some(taken) = StandardTaken::take(&rt) else {
+        return ExitCode::from(status(&Cause::SinkFault));
+    };
+    match call_given(threads, rt, &taken) {
+        Ok(summary) => ExitCode::from(summary.status),
         Err(NoMemory) => ExitCode::from(status(&Cause::NoMemory)),
     }
 }

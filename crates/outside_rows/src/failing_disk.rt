@@ -16,6 +16,10 @@ pub enum FailingStep {
     SecondWrite,
     /// Putting a file on the disk.
     Sync,
+    /// Opening a folder fails for this reason.
+    Folder(ErrorKind),
+    /// Putting a folder on the disk fails for this reason.
+    FolderSync(ErrorKind),
 }
 
 /// A system whose files take bytes and forget them.
@@ -28,7 +32,46 @@ pub struct FailingDisk {
 #[derive(Drop)]
 pub struct FailingFile {
     step: FailingStep,
+    is_folder: bool,
     was_written: bool,
+}
+
+/// A stream of which each call is interrupted once by a signal. It has one byte, and takes all bytes.
+#[derive(Drop)]
+pub struct Interrupted {
+    pub calls: u32,
+}
+
+impl Interrupted {
+    /// Whether this call is interrupted, and how many were not.
+    fn next_call(&mut self) -> Option<u32> {
+        let call = self.calls;
+        self.calls = call.saturating_add(1);
+        if call % 2 == 0 { None } else { Some(call / 2) }
+    }
+}
+
+impl Read for Interrupted {
+    fn read(&mut self, buf: &mut [u8]) -> io::Result<usize> {
+        match self.next_call() {
+            None => Err(Error::from(ErrorKind::Interrupted)),
+            Some(0) if !buf.is_empty() => Ok(1),
+            Some(_) => Ok(0),
+        }
+    }
+}
+
+impl Write for Interrupted {
+    fn write(&mut self, buf: &[u8]) -> io::Result<usize> {
+        match self.next_call() {
+            None => Err(Error::from(ErrorKind::Interrupted)),
+            Some(_) => Ok(buf.len()),
+        }
+    }
+
+    fn flush(&mut self) -> io::Result<()> {
+        Ok(())
+    }
 }
 
 fn unsupported<T>() -> io::Result<T> {
@@ -63,7 +106,7 @@ impl Seek for FailingFile {
 
 impl OpenFile for FailingFile {
     fn metadata(&self) -> io::Result<Metadata> {
-        unsupported()
+        Ok(Metadata::of_file(0))
     }
 
     fn set_len(&self, _size: u64) -> io::Result<()> {
@@ -73,6 +116,7 @@ impl OpenFile for FailingFile {
     fn sync_all(&self) -> io::Result<()> {
         match self.step {
             FailingStep::Sync => Err(Error::from(ErrorKind::StorageFull)),
+            FailingStep::FolderSync(kind) if self.is_folder => Err(Error::from(kind)),
             _ => Ok(()),
         }
     }
@@ -87,11 +131,14 @@ impl Files for FailingDisk {
 
     type Dir = Empty;
 
-    fn open_file(&self, _how: &OpenOptions, _path: &str) -> io::Result<FailingFile> {
+    fn open_file(&self, _how: &OpenOptions, path: &str) -> io::Result<FailingFile> {
+        let is_folder = path.as_bytes().last() == Some(&b'/');
         match self.step {
             FailingStep::Path(kind) => Err(Error::from(kind)),
+            FailingStep::Folder(kind) if is_folder => Err(Error::from(kind)),
             step => Ok(FailingFile {
                 step,
+                is_folder,
                 was_written: false,
             }),
         }
@@ -102,7 +149,10 @@ impl Files for FailingDisk {
     }
 
     fn metadata(&self, _path: &str) -> io::Result<Metadata> {
-        unsupported()
+        match self.step {
+            FailingStep::Path(kind) => Err(Error::from(kind)),
+            _ => Ok(Metadata::of_file(0)),
+        }
     }
 
     fn symlink_metadata(&self, _path: &str) -> io::Result<Metadata> {

@@ -4,7 +4,8 @@ use crate::objects::{
     next_three, read_as_source, write_and_read,
 };
 use daq_io::{Failed, Files, Gate, NameRefused, Point, Sink, Source, write_all};
-use daq_mem::{FileFail, FileOp, MemClock, MemFiles, MemPick, MemSink, MemSource, NoGate};
+use daq_mem::{FileFail, FileOp, MemClock, MemFiles, MemPick, MemSink, MemSource};
+use daq_std::NoGate;
 use daq_types::{FileName, NoMemory};
 use std::alloc::Global;
 use std::test::Fail;

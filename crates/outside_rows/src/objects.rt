@@ -64,16 +64,6 @@ pub fn is_missing<F: Files>(files: &mut F, name: &FileName) -> bool {
     (opened, files.remove(name)) == (Err(NameRefused::Missing), Ok(()))
 }
 
-/// Opens a file, and answers what one reading and the closing do.
-pub fn read_once<F: Files>(
-    files: &mut F,
-    name: &FileName,
-) -> Result<(Result<usize, Failed>, Result<(), Failed>), NameRefused> {
-    let number = files.open_read(name)?;
-    let read = files.read(number, &mut [0; 8]);
-    Ok((read, files.close(number)))
-}
-
 /// Appends to a file, and answers whether it took the bytes. It is still being written.
 fn is_appended<F: Files>(files: &mut F, file: u32, bytes: &[u8]) -> bool
     requires { IsTrue ((F.seen files.old).writes file) }
@@ -82,6 +72,14 @@ fn is_appended<F: Files>(files: &mut F, file: u32, bytes: &[u8]) -> bool
     match files.append(file, bytes) {
         Ok(()) => true,
         Err(Failed) => false,
+    }
+}
+
+/// Makes a file, and answers whether it took a byte.
+pub fn is_made_and_appended<F: Files>(files: &mut F, name: &FileName) -> bool {
+    match files.create(name) {
+        Ok(number) => is_appended(files, number, b"M"),
+        Err(_) => false,
     }
 }
 

@@ -1,13 +1,16 @@
 //! Rows of each real object.
-use crate::failing_disk::{FailingDisk, FailingStep};
+use crate::failing_disk::{FailingDisk, FailingStep, Interrupted};
 use crate::objects::{
-    append_twice_and_close, copy_all, first_three, is_missing, is_send, is_there_and_removed,
-    is_written_and_read, made_opened_and_removed, next_three, read_once,
+    append_twice_and_close, copy_all, first_three, is_made_and_appended, is_missing, is_send,
+    is_there_and_removed, is_written_and_read, made_opened_and_removed, next_three,
 };
-use daq_io::{Failed, Files, NameRefused};
-use daq_std::{RoundPick, StdClock, StdFiles, StdSink, StdSource};
-use daq_types::FileName;
+use daq_io::{Failed, Files, NameRefused, write_all};
+use daq_std::{RoundPick, StandardTaken, StdClock, StdFiles, StdSink, StdSource};
+use daq_types::{FileName, NoMemory};
+use std::alloc::Global;
+use std::fs::Files as _;
 use std::io::ErrorKind;
+use std::os::fd::AsRawFd;
 use std::test::Fail;
 use std::{fs, rt};
 
@@ -19,12 +22,23 @@ fn lies_there<R: AllocGlobal + rt::Files>(system: &R, path: &str, bytes: &[u8]) 
     }
 }
 
+/// The files of a folder, of which so many are in use at a time, at most.
+fn files_in<R: rt::Files + Drop>(
+    rt: HostRuntime,
+    system: R,
+    folder: &str,
+    numbers: u32,
+) -> Result<StdFiles<R>, Fail> {
+    let taken = StandardTaken::take(&rt).ok_or(NoMemory)?;
+    Ok(StdFiles::new(rt.alloc(), system, &taken, folder, numbers)?)
+}
+
 #[test]
 fn files_of_a_folder(rt: HostRuntime) -> Result<(), Fail> {
     let folder = "files_of_a_folder";
     fs::create_dir(&rt, folder)?;
     let run = FileName::new("run00001.mid")?;
-    let mut files = StdFiles::new(rt.alloc(), rt, folder, 1)?;
+    let mut files = files_in(rt, rt, folder, 1)?;
     is_send(&files);
     assert!(rt; is_written_and_read(&mut files, &run));
     assert!(rt; lies_there(&rt, "files_of_a_folder/run00001.mid", b"MIDAS"));
@@ -33,37 +47,49 @@ fn files_of_a_folder(rt: HostRuntime) -> Result<(), Fail> {
     Ok(())
 }
 
-/// What reading a file once answers, and then making it.
-fn read_and_made<F: Files + Drop>(
+/// What making a file answers, and what opening it does.
+fn made_and_opened<F: Files + Drop>(
     mut files: F,
     name: &FileName,
-) -> (
-    Result<(Result<usize, Failed>, Result<(), Failed>), NameRefused>,
-    Result<u32, NameRefused>,
-) {
-    (read_once(&mut files, name), files.create(name))
+) -> (Result<u32, NameRefused>, Result<u32, NameRefused>) {
+    (files.create(name), files.open_read(name))
 }
 
 #[test]
 fn a_name_from_the_root(rt: HostRuntime) -> Result<(), Fail> {
     let folder = "a_name_from_the_root";
     fs::create_dir(&rt, folder)?;
-    let nothing = FileName::new("/dev/null")?;
-    let answers = read_and_made(StdFiles::new(rt.alloc(), rt, folder, 1)?, &nothing);
-    assert!(rt; answers == (Ok((Ok(0), Ok(()))), Err(NameRefused::Exists)));
-    fs::remove_dir(&rt, folder)?;
+    let device = FileName::new("/dev/null")?;
+    let answers = made_and_opened(files_in(rt, rt, folder, 1)?, &device);
+    assert!(rt;
+        answers == (Err(NameRefused::Exists), Err(NameRefused::Failed)),
+        "it is there, and no file"
+    );
+    let run = FileName::new("/proc/self/cwd/a_name_from_the_root/run00001.mid")?;
+    let mut files = files_in(rt, rt, "/dev", 1)?;
+    assert!(rt; is_written_and_read(&mut files, &run));
+    assert!(rt; lies_there(&rt, "a_name_from_the_root/run00001.mid", b"MIDAS"));
+    fs::remove_dir_all(&rt, folder)?;
     Ok(())
 }
 
-/// What removing a file answers, and then reading it once.
-fn removed_and_read<F: Files + Drop>(
-    mut files: F,
-    name: &FileName,
-) -> (
-    Result<(), Failed>,
-    Result<(Result<usize, Failed>, Result<(), Failed>), NameRefused>,
-) {
-    (files.remove(name), read_once(&mut files, name))
+#[test]
+fn a_pipe_is_no_file(rt: HostRuntime) -> Result<(), Fail> {
+    let (reader, _writer) = rt.pipe()?;
+    let number = reader.as_raw_fd();
+    let path = format!(in rt.alloc(); "/proc/self/fd/{number}")?;
+    let name = FileName::new(path.as_str())?;
+    let answers = made_opened_and_removed(files_in(rt, rt, ".", 1)?, &name);
+    assert!(rt;
+        answers
+            == (
+                Err(NameRefused::Exists),
+                Err(NameRefused::Failed),
+                Err(Failed),
+                Some(name),
+            )
+    );
+    Ok(())
 }
 
 #[test]
@@ -72,8 +98,16 @@ fn a_folder_is_no_file(rt: HostRuntime) -> Result<(), Fail> {
     fs::create_dir(&rt, folder)?;
     fs::create_dir(&rt, "a_folder_is_no_file/part")?;
     let part = FileName::new("part")?;
-    let answers = removed_and_read(StdFiles::new(rt.alloc(), rt, folder, 1)?, &part);
-    assert!(rt; answers == (Err(Failed), Ok((Err(Failed), Ok(())))));
+    let answers = made_opened_and_removed(files_in(rt, rt, folder, 1)?, &part);
+    assert!(rt;
+        answers
+            == (
+                Err(NameRefused::Exists),
+                Err(NameRefused::Failed),
+                Err(Failed),
+                Some(part),
+            )
+    );
     fs::remove_dir_all(&rt, folder)?;
     Ok(())
 }
@@ -88,7 +122,7 @@ fn a_name_below_no_folder_is_missing(rt: HostRuntime) -> Result<(), Fail> {
     let folder = "a_name_below_no_folder_is_missing";
     fs::create_dir(&rt, folder)?;
     let name = FileName::new("no/run00001.mid")?;
-    let files = StdFiles::new(rt.alloc(), rt, folder, 1)?;
+    let files = files_in(rt, rt, folder, 1)?;
     assert!(rt; is_missing_without_fault(files, &name));
     fs::remove_dir(&rt, folder)?;
     Ok(())
@@ -123,7 +157,7 @@ fn names_that_the_system_refuses(rt: HostRuntime) -> Result<(), Fail> {
     fs::create(&rt, "names_that_the_system_refuses/run00001.mid")?;
     for (text, created, opened, removed) in REFUSED_NAMES {
         let name = FileName::new(text)?;
-        let files = StdFiles::new(rt.alloc(), rt, folder, 1)?;
+        let files = files_in(rt, rt, folder, 1)?;
         let answers = made_opened_and_removed(files, &name);
         assert!(rt;
             answers == (Err(*created), Err(*opened), *removed, Some(name)),
@@ -163,7 +197,7 @@ fn reasons_of_the_system(rt: HostRuntime) -> Result<(), Fail> {
     let run = FileName::new("run00001.mid")?;
     for (kind, created, opened, removed) in REASONS {
         let step = FailingStep::Path(*kind);
-        let files = StdFiles::new(rt.alloc(), FailingDisk { step }, "runs", 1)?;
+        let files = files_in(rt, FailingDisk { step }, "runs", 1)?;
         let answers = made_opened_and_removed(files, &run);
         assert!(rt;
             answers == (Err(*created), Err(*opened), *removed, Some(run)),
@@ -177,6 +211,24 @@ fn reasons_of_the_system(rt: HostRuntime) -> Result<(), Fail> {
 const STEPS: &[(&str, FailingStep, usize, [bool; 3])] = &[
     ("nothing", FailingStep::Nothing, 65537, [true, true, true]),
     ("sync", FailingStep::Sync, 0, [true, true, false]),
+    (
+        "sync of the folder",
+        FailingStep::FolderSync(ErrorKind::StorageFull),
+        0,
+        [true, true, false],
+    ),
+    (
+        "sync of a folder, which that system does not have",
+        FailingStep::FolderSync(ErrorKind::InvalidInput),
+        0,
+        [true, true, true],
+    ),
+    (
+        "opening of the folder",
+        FailingStep::Folder(ErrorKind::PermissionDenied),
+        0,
+        [true, true, false],
+    ),
     ("write", FailingStep::SecondWrite, 0, [true, true, true]),
     (
         "write",
@@ -198,7 +250,7 @@ fn steps_that_fail(rt: HostRuntime) -> Result<(), Fail> {
     let bytes = vec![in rt.alloc(); 0; 65537]?;
     for (fails, step, count, expected) in STEPS {
         let (second, _) = bytes.split_at(bytes.len().min(*count));
-        let files = StdFiles::new(rt.alloc(), FailingDisk { step: *step }, "runs", 1)?;
+        let files = files_in(rt, FailingDisk { step: *step }, "runs", 1)?;
         let answer = append_twice_and_close(files, &run, b"MIDAS", second)?;
         let first_fault = if *expected == [true; 3] {
             None
@@ -226,5 +278,83 @@ fn choices_of_the_system(rt: HostRuntime) -> Result<(), Fail> {
     let [first, second, third] = next_three(StdClock::new(rt));
     assert!(rt; first > 1_700_000_000 && first <= second && second <= third);
     assert!(rt; first_three(RoundPick::new(), 2) == [0, 1, 0]);
+    Ok(())
+}
+
+/// Makes a file for each number from 0 on, below so many, and appends a byte to it. Answers how many took the byte, and what
+/// one file more answers.
+fn many_at_once(
+    alloc: Global,
+    mut files: StdFiles<HostRuntime>,
+    count: u32,
+) -> Result<(u32, Result<u32, NameRefused>), Fail> {
+    let mut taken: u32 = 0;
+    for place in 0..count {
+        let text = format!(in alloc; "run{place:05}.mid")?;
+        let name = FileName::new(text.as_str())?;
+        if is_made_and_appended(&mut files, &name) {
+            taken = taken.saturating_add(1);
+        }
+    }
+    Ok((taken, files.create(&FileName::new("behind")?)))
+}
+
+#[test]
+fn sixteen_files_at_once(rt: HostRuntime) -> Result<(), Fail> {
+    let folder = "sixteen_files_at_once";
+    fs::create_dir(&rt, folder)?;
+    let answers = many_at_once(rt.alloc(), files_in(rt, rt, folder, 16)?, 16)?;
+    assert!(rt; answers == (16, Err(NameRefused::Failed)));
+    fs::remove_dir_all(&rt, folder)?;
+    Ok(())
+}
+
+#[test]
+fn a_name_of_255_bytes(rt: HostRuntime) -> Result<(), Fail> {
+    let folder = "a_name_of_255_bytes";
+    fs::create_dir(&rt, folder)?;
+    let name = FileName::from_bytes(&[b'r'; 255])?;
+    let mut files = files_in(rt, rt, folder, 1)?;
+    assert!(rt; is_written_and_read(&mut files, &name));
+    fs::remove_dir_all(&rt, folder)?;
+    Ok(())
+}
+
+#[test]
+fn an_append_of_two_mebibytes(rt: HostRuntime) -> Result<(), Fail> {
+    let folder = "an_append_of_two_mebibytes";
+    fs::create_dir(&rt, folder)?;
+    let run = FileName::new("run00001.mid")?;
+    let bytes = vec![in rt.alloc(); b'M'; 2_097_152]?;
+    let files = files_in(rt, rt, folder, 1)?;
+    let answer = append_twice_and_close(files, &run, bytes.as_slice(), b"")?;
+    assert!(rt; answer == ([true; 3], None));
+    assert!(rt;
+        lies_there(
+            &rt,
+            "an_append_of_two_mebibytes/run00001.mid",
+            bytes.as_slice()
+        )
+    );
+    fs::remove_dir_all(&rt, folder)?;
+    Ok(())
+}
+
+#[test]
+fn a_text_of_100_kibibytes(rt: HostRuntime) -> Result<(), Fail> {
+    let path = "a_text_of_100_kibibytes";
+    let text = vec![in rt.alloc(); b'M'; 102_400]?;
+    let mut sink = StdSink::new(fs::create(&rt, path)?);
+    assert!(rt; write_all(&mut sink, text.as_slice()) == Ok(()));
+    assert!(rt; lies_there(&rt, path, text.as_slice()));
+    fs::remove_file(&rt, path)?;
+    Ok(())
+}
+
+#[test]
+fn a_signal_is_no_fault(rt: HostRuntime) -> Result<(), Fail> {
+    let source = StdSource::new(rt.alloc(), Interrupted { calls: 0 })?;
+    let copied = copy_all(source, &mut StdSink::new(Interrupted { calls: 0 }));
+    assert!(rt; copied == Ok(1), "each call is interrupted once");
     Ok(())
 }

@@ -1,0 +1,2 @@
+mod ByteSteps
+mod InUse

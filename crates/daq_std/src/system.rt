@@ -1,0 +1,336 @@
+//! The calls of the system on files, each in a function of its own. What they hand out says what the system did, and there
+//! is no other way to have it than to ask the system. A fault is made here alone, also where no number is free.
+ghost use Rattle.std.specs.Prelude.{◌≡◌, ◌≢◌, ◌<◌, ◌↔◌, IfErr, IfOk, IsErrAnd, IsOk, Ok, OnErr, OnOk, length, string_bytes};
+ghost use Rattle.std.specs.Fs.{IsFile, file_type};
+ghost use Rattle.std.specs.Io.{ReadsAtMost, WritesAtMost};
+ghost use Rattle.std.specs.Io.KnownBytes.{Appends, ReadConsumes, WriteAppends};
+ghost use Rattle.std.specs.IoError.{error_kind};
+ghost use Rattle.daq_io.specs.Uses.{free_numbers, use_at};
+ghost use Rattle.daq_io.specs.declared.uses.Usage.TheVariants.{Free};
+ghost use Rattle.daq_std.specs.SystemCalls.{TellsKind, new_to_write, reason_of, to_read};
+
+use daq_io::UseTable;
+use std::fs::{Metadata, OpenFile, OpenOptions};
+use std::io::{self, ErrorKind, Read, Write};
+use std::marker::Model;
+use std::rt;
+use std::snapshot::Snapshot;
+
+/// What a fault says of the name that a call was on.
+#[derive(Clone, Copy)]
+pub enum Reason {
+    /// There is something of that name.
+    Taken,
+    /// There is nothing of that name.
+    Absent,
+    /// Neither: the system told another error, or no number was free, or what bears the name is no file.
+    Other,
+}
+
+/// Why a call on files or on a stream failed.
+#[derive(Clone, Copy)]
+pub struct Fault {
+    reason: Reason,
+}
+
+impl Fault {
+    /// What it says of the name.
+    pub fn reason(&self) -> Reason
+        ensures { result ≡ reason_of self.now }
+    {
+        self.reason
+    }
+}
+
+/// What an error of this kind says of the name.
+fn reason_for(kind: ErrorKind) -> Reason
+    ensures taken { (result ≡ Reason.Taken) ↔ (kind ≡ ErrorKind.AlreadyExists) }
+    ensures absent { (result ≡ Reason.Absent) ↔ (kind ≡ ErrorKind.NotFound) }
+{
+    match kind {
+        ErrorKind::AlreadyExists => Reason::Taken,
+        ErrorKind::NotFound => Reason::Absent,
+        _ => Reason::Other,
+    }
+}
+
+/// The fault that an error of this kind is.
+fn fault_of(kind: ErrorKind) -> Fault
+    ensures { TellsKind kind result }
+{
+    Fault {
+        reason: reason_for(kind),
+    }
+}
+
+/// The system removed the file under this path, or told that there is none.
+#[derive(Drop)]
+pub struct Removed {
+    path: Snapshot<String>,
+}
+
+impl Model for Removed {
+    ghost use Rattle.std.specs.Prelude.{List, string_bytes, ℕ};
+
+    ghost Value = { List ℕ };
+
+    ghost view = { λ r. string_bytes r.path.value };
+}
+
+/// The system put the names of the folder under a path on the disk, or told that it cannot do so for a folder; and before that
+/// the file that was opened under another.
+#[derive(Drop)]
+pub struct NameOnDisk {
+    folder: Snapshot<String>,
+    file: Snapshot<String>,
+}
+
+impl Model for NameOnDisk {
+    ghost use Rattle.std.specs.Prelude.{string_bytes};
+    ghost use Rattle.daq_std.specs.SystemCalls.{KeptName};
+
+    ghost Value = { KeptName };
+
+    ghost view = { λ n. record {
+      folder = string_bytes n.folder.value;
+      file = string_bytes n.file.value;
+    } };
+}
+
+/// A file of the system, which opened it so, under this path.
+#[derive(Drop)]
+pub struct SystemFile<F> {
+    file: F,
+    how: Snapshot<OpenOptions>,
+    path: Snapshot<String>,
+}
+
+impl<F> Model for SystemFile<F> {
+    ghost use Rattle.std.specs.Prelude.{string_bytes};
+    ghost use Rattle.daq_std.specs.SystemCalls.{OpenedFile};
+
+    ghost Value = { OpenedFile F };
+
+    ghost view = { λ f. record {
+      file = f.file;
+      opening = record { how = f.how.value; path = string_bytes f.path.value };
+    } };
+}
+
+/// A file that the system has put on the disk.
+#[derive(Drop)]
+pub struct OnDisk<F> {
+    file: SystemFile<F>,
+}
+
+impl<F> Model for OnDisk<F> {
+    ghost use Rattle.daq_std.specs.SystemCalls.{OpenedFile};
+
+    ghost Value = { OpenedFile F };
+
+    ghost view = { λ d. d.file };
+}
+
+/// What the system answered, where its error is a fault of that kind.
+fn told<T>(answer: io::Result<T>) -> Result<T, Fault>
+    ensures done { IfOk answer (λ value. result ≡ Ok value) }
+    ensures fault { IfErr answer (λ error. IsErrAnd result (TellsKind (error_kind error))) }
+{
+    match answer {
+        Ok(value) => Ok(value),
+        Err(error) => Err(fault_of(error.kind())),
+    }
+}
+
+/// What the system answered, where its error is a fault of that kind, but for one that is as good as done.
+fn told_unless(good: ErrorKind, answer: io::Result<()>) -> Result<(), Fault>
+    ensures done { OnOk answer (IsOk result) }
+    ensures good { IfErr answer (λ error. error_kind error ≡ good → IsOk result) }
+    ensures fault { IfErr answer (λ error. error_kind error ≢ good → IsErrAnd result
+        (TellsKind (error_kind error))) }
+{
+    match answer {
+        Ok(()) => Ok(()),
+        Err(error) => {
+            if error.kind() == good {
+                return Ok(());
+            }
+            Err(fault_of(error.kind()))
+        }
+    }
+}
+
+/// Refuses what is no file, such as a folder or a pipe.
+fn regular(found: io::Result<Metadata>) -> Result<(), Fault>
+    ensures file { IfOk found (λ metadata. IsOk result ↔ IsFile (file_type metadata)) }
+    ensures fault { IfErr found (λ error. IsErrAnd result (TellsKind (error_kind error))) }
+{
+    if told(found)?.is_file() {
+        return Ok(());
+    }
+    Err(fault_of(ErrorKind::InvalidInput))
+}
+
+/// Opens a file so.
+fn open_as<R: rt::Files>(
+    system: &R,
+    how: &OpenOptions,
+    path: &String,
+) -> Result<SystemFile<R::File>, Fault>
+    ensures { IfOk result (λ opened. opened.opening
+        ≡ record { how = how.now; path = string_bytes path.now }) }
+{
+    Ok(SystemFile {
+        file: told(how.open(system, path.as_str()))?,
+        how: Snapshot::of(how),
+        path: Snapshot::of(path),
+    })
+}
+
+/// Makes a file, where there is nothing of that name.
+pub fn make_file<R: rt::Files>(system: &R, path: &String) -> Result<SystemFile<R::File>, Fault>
+    ensures { IfOk result (λ made. made.opening
+        ≡ record { how = new_to_write; path = string_bytes path.now }) }
+{
+    let mut how = OpenOptions::new();
+    how.read(true).write(true).create_new(true);
+    open_as(system, &how, path)
+}
+
+/// Opens what is there, to read it.
+fn open_to_read<R: rt::Files>(system: &R, path: &String) -> Result<SystemFile<R::File>, Fault>
+    ensures { IfOk result (λ opened. opened.opening
+        ≡ record { how = to_read; path = string_bytes path.now }) }
+{
+    let mut how = OpenOptions::new();
+    how.read(true);
+    open_as(system, &how, path)
+}
+
+/// Opens the file that is there, to read it. What is no file is not opened, since the system may wait for the other end of
+/// a pipe; and it is looked at again once it is open.
+pub fn open_file<R: rt::Files>(system: &R, path: &String) -> Result<SystemFile<R::File>, Fault>
+    ensures { IfOk result (λ opened. opened.opening
+        ≡ record { how = to_read; path = string_bytes path.now }) }
+{
+    regular(system.metadata(path.as_str()))?;
+    let opened = open_to_read(system, path)?;
+    regular(opened.file.metadata())?;
+    Ok(opened)
+}
+
+/// Removes the file. That there is none is as good.
+pub fn remove_file<R: rt::Files>(system: &R, path: &String) -> Result<Removed, Fault>
+    ensures { IfOk result (λ removed. removed ≡ string_bytes path.now) }
+{
+    told_unless(ErrorKind::NotFound, system.remove_file(path.as_str()))?;
+    Ok(Removed {
+        path: Snapshot::of(path),
+    })
+}
+
+/// Has the system put the names of a folder on the disk, behind a file. That it cannot do so for a folder is as good.
+pub fn sync_folder<R: rt::Files>(
+    system: &R,
+    path: &String,
+    file: OnDisk<R::File>,
+) -> Result<NameOnDisk, Fault>
+    ensures { IfOk result (λ kept. kept
+        ≡ record { folder = string_bytes path.now; file = file.opening.path }) }
+{
+    let folder = open_to_read(system, path)?;
+    told_unless(ErrorKind::InvalidInput, folder.file.sync_all())?;
+    Ok(NameOnDisk {
+        folder: Snapshot::of(path),
+        file: file.file.path,
+    })
+}
+
+/// Reads once, and again as often as a signal interrupts that.
+pub fn read_once<R: Read>(reader: &mut R, into: &mut [u8]) -> Result<usize, Fault>
+    ensures within { ReadsAtMost result into.new }
+    ensures bytes { ReadConsumes (R.remaining reader.old) (R.remaining reader.new) result
+        into.new }
+{
+    for _ in 0..u64::MAX {
+        match reader.read(into) {
+            Ok(count) => return Ok(count),
+            Err(error) => {
+                if error.kind() != ErrorKind::Interrupted {
+                    return Err(fault_of(error.kind()));
+                }
+            }
+        }
+    }
+    Err(fault_of(ErrorKind::Interrupted))
+}
+
+/// Writes once, and again as often as a signal interrupts that. That no byte is taken, where there is one, is a fault.
+pub fn write_once<W: Write>(writer: &mut W, bytes: &[u8]) -> Result<usize, Fault>
+    ensures within { WritesAtMost result bytes.now }
+    ensures some { IfOk result (λ count. 0 < length bytes.now → 0 < count) }
+    ensures bytes { WriteAppends (W.contents writer.old) (W.contents writer.new) result
+        bytes.now }
+{
+    for _ in 0..u64::MAX {
+        match writer.write(bytes) {
+            Ok(count) => {
+                if count == 0 && !bytes.is_empty() {
+                    return Err(fault_of(ErrorKind::WriteZero));
+                }
+                return Ok(count);
+            }
+            Err(error) => {
+                if error.kind() != ErrorKind::Interrupted {
+                    return Err(fault_of(error.kind()));
+                }
+            }
+        }
+    }
+    Err(fault_of(ErrorKind::Interrupted))
+}
+
+impl<F: Read> SystemFile<F> {
+    /// Reads from the file.
+    pub fn read(&mut self, into: &mut [u8]) -> Result<usize, Fault>
+        ensures within { ReadsAtMost result into.new }
+        ensures bytes { ReadConsumes (F.remaining self.old.file) (F.remaining self.new.file) result
+            into.new }
+        ensures opening { self.new.opening ≡ self.old.opening }
+    {
+        read_once(&mut self.file, into)
+    }
+}
+
+impl<F: Write> SystemFile<F> {
+    /// Writes all of the bytes to the file.
+    pub fn write_all(&mut self, bytes: &[u8]) -> Result<(), Fault>
+        ensures bytes { OnOk result (Appends (F.contents self.old.file) (F.contents self.new.file)
+            bytes.now) }
+        ensures opening { self.new.opening ≡ self.old.opening }
+    {
+        told(self.file.write_all(bytes))
+    }
+}
+
+impl<F: OpenFile + Drop> SystemFile<F> {
+    /// Has the system put all of the file on the disk. Where it does not, the file is let go.
+    pub fn sync(self) -> Result<OnDisk<F>, Fault>
+        ensures { IfOk result (λ synced. synced ≡ self) }
+    {
+        told(self.file.sync_all())?;
+        Ok(OnDisk { file: self })
+    }
+}
+
+/// A number that is in no use.
+pub fn free_number(numbers: &UseTable) -> Result<u32, Fault>
+    ensures inside { IfOk result (λ number. number < length numbers.now.uses.items) }
+    ensures free { IfOk result (λ number. use_at numbers.now.uses.items number ≡ Free) }
+    ensures none { OnErr result (free_numbers numbers.now.uses.items ≡ 0) }
+{
+    match numbers.free() {
+        Some(number) => Ok(number),
+        None => Err(fault_of(ErrorKind::ResourceBusy)),
+    }
+}
