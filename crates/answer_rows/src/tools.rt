@@ -4,14 +4,15 @@ use daq_mem::{FileFail, FileOp, MemFiles, MemSink};
 use daq_types::{FileName, NoMemory};
 use midas_tools::{InputFault, ToolEnd, analyze_file, check_file, dump_file};
 use std::alloc::{AllocError, Global};
+use worked_dumps::{BEGIN, END, EVENT};
 
 /// A file that is made from that of a run of one event, which has 421 bytes.
 #[derive(Clone, Copy)]
 enum Made {
     /// Its first so many bytes. Behind its end stands one byte.
     Front(usize),
-    /// All of it and the byte behind its end, but with this byte at this place.
-    With(usize, u8),
+    /// All of it and the byte behind its end, but with these bytes from this place on.
+    With(usize, &'static [u8]),
     /// Its front up to the end of the event, and a second event, whose data are longer than what is
     /// read at a time.
     Long,
@@ -75,53 +76,63 @@ const ROWS: &[Row] = &[
     ),
     (Tool::Analyze, Made::Front(422), NONE, "bad AfterEnd 421\n"),
     // A second record at the begin, one at the end of another run, and an event that is too long.
-    (Tool::Check, Made::With(229, 0), NONE, "bad BadRecord 229\n"),
-    (Tool::Check, Made::With(233, 2), NONE, "bad BadRecord 229\n"),
     (
         Tool::Check,
-        Made::With(203, 0x40),
+        Made::With(229, &[0, 0x80]),
         NONE,
-        "bad TooBig 189 4194328\n",
+        "bad BadRecord 229\n",
+    ),
+    (
+        Tool::Check,
+        Made::With(233, &[2]),
+        NONE,
+        "bad BadRecord 229\n",
+    ),
+    (
+        Tool::Check,
+        Made::With(201, &[1, 0, 0x40, 0]),
+        NONE,
+        "bad TooBig 189 4194305\n",
     ),
     // Banks that are wrong or have odd names.
     (
         Tool::Dump,
-        Made::With(205, 0x0F),
+        Made::With(205, &[0x0F]),
         NONE,
         "begin 1 1000 173\nevent 1 0 1 1000 24\n  no banks BadSize 0\nend 1 1010 176\n\
          bad AfterEnd 421\n",
     ),
     (
         Tool::Dump,
-        Made::With(205, 0x11),
+        Made::With(205, &[0x11]),
         NONE,
         "begin 1 1000 173\nevent 1 0 1 1000 24\n  no banks Short 24\nend 1 1010 176\n\
          bad AfterEnd 421\n",
     ),
     (
         Tool::Dump,
-        Made::With(209, 2),
+        Made::With(209, &[2]),
         NONE,
         "begin 1 1000 173\nevent 1 0 1 1000 24\n  no banks BadFlags 2\nend 1 1010 176\n\
          bad AfterEnd 421\n",
     ),
     (
         Tool::Dump,
-        Made::With(213, 0x20),
+        Made::With(213, &[0x20]),
         NONE,
         "begin 1 1000 173\nevent 1 0 1 1000 24\n  bank .EN0 UINT32 4\nend 1 1010 176\n\
          bad AfterEnd 421\n",
     ),
     (
         Tool::Dump,
-        Made::With(217, 99),
+        Made::With(217, &[99]),
         NONE,
         "begin 1 1000 173\nevent 1 0 1 1000 24\n  bank GEN0 99 4\nend 1 1010 176\n\
          bad AfterEnd 421\n",
     ),
     (
         Tool::Dump,
-        Made::With(219, 9),
+        Made::With(219, &[9]),
         NONE,
         "begin 1 1000 173\nevent 1 0 1 1000 24\n  no banks BadSize 8\nend 1 1010 176\n\
          bad AfterEnd 421\n",
@@ -213,25 +224,12 @@ const NO_FILES: &[(Tool, &str, InputFault, &str)] = &[
     ),
 ];
 
-/// The header of a record at the begin, with 173 bytes of data.
-const BEGIN: &[u8] = &[
-    0, 0x80, 0x4D, 0x49, 1, 0, 0, 0, 0xE8, 3, 0, 0, 0xAD, 0, 0, 0,
-];
-
-/// An event with 24 bytes of data, and the header of a record at the end, with 176 bytes.
-const EVENT_AND_END: &[u8] = &[
-    1, 0, 0, 0, 1, 0, 0, 0, 0xE8, 3, 0, 0, 0x18, 0, 0, 0, // the header of the event
-    0x10, 0, 0, 0, 1, 0, 0, 0, // the header of its banks
-    0x47, 0x45, 0x4E, 0x30, 6, 0, 4, 0, 0xAC, 0x6F, 0x57, 0x6C, 0, 0, 0, 0, // a bank
-    1, 0x80, 0x4D, 0x49, 1, 0, 0, 0, 0xF2, 3, 0, 0, 0xB0, 0, 0, 0,
-];
-
 /// The file of a run of one event, and a byte behind its end.
 fn one_event(alloc: Global) -> Result<Vec<u8>, AllocError> {
     let mut file = BEGIN.to_vec(alloc)?;
-    file.resize(189, b'x')?;
-    file.extend_from_slice(EVENT_AND_END)?;
-    file.resize(422, b'x')?;
+    file.extend_from_slice(EVENT)?;
+    file.extend_from_slice(END)?;
+    file.push(b'x')?;
     Ok(file)
 }
 
@@ -240,9 +238,9 @@ fn bytes_of(alloc: Global, made: Made) -> Result<Vec<u8>, AllocError> {
     let mut file = one_event(alloc)?;
     match made {
         Made::Front(len) => file.truncate(len),
-        Made::With(place, byte) => {
-            if let Some(target) = file.as_mut_slice().get_mut(place) {
-                *target = byte;
+        Made::With(place, bytes) => {
+            for (target, byte) in file.as_mut_slice().iter_mut().skip(place).zip(bytes) {
+                *target = *byte;
             }
         }
         Made::Long => {

@@ -1,9 +1,8 @@
-//! A port to a buffer, and its journal.
+//! A buffer with the journal of its calls.
 ghost use Rattle.std.specs.Prelude.{◌≤◌};
 
 use buffer_core::{
-    BufferEntry, BufferPort, MarkRefusal, NoClient, NoSlot, Received, RequestRefusal, RunGate,
-    SendRefusal,
+    BufferEntry, MarkRefusal, NoClient, NoSlot, Received, RequestRefusal, RunGate, SendRefusal,
 };
 use daq_types::{Caller, Kind, Name, NoMemory};
 use event_header::{EventBuf, Header};
@@ -11,7 +10,6 @@ use local_port::{BufferJournal, LocalPort};
 use plain_buffer::PlainBuffer;
 use std::alloc::Global;
 use std::process::Abort;
-use std::sync::Wait;
 use std::test::Fail;
 
 /// A call with the reply that it must get.
@@ -55,36 +53,34 @@ fn name(rt: &impl Abort) -> Name {
     Name::new(b"ANA").expect(rt, "a name")
 }
 
-/// Makes the call by a port, and answers whether its reply is the right one.
-fn is_right<R: Abort + Wait, P: BufferPort>(
-    rt: &R,
-    port: &mut P,
+/// Makes the call, and answers whether its reply is the right one.
+fn is_right(
+    rt: &impl Abort,
+    port: &mut LocalPort<PlainBuffer>,
     step: Step,
     into: &mut EventBuf,
 ) -> bool
-    requires room { 1 ≤ (P.access port.old).entries }
-    requires bytes { 24 ≤ (P.access port.old).bytes }
+    requires room { 1 ≤ port.old.entries }
+    requires bytes { 24 ≤ port.old.bytes }
 {
     match step {
-        Attach(reply) => port.attach(rt, name(rt)) == reply,
-        Detach(client, reply) => port.detach(rt, client) == reply,
-        Request(client, reply) => port.request(rt, client, ANY, ANY, Kind::All) == reply,
-        Cancel(client, request, reply) => port.cancel(rt, client, request) == reply,
-        Send(reply) => port.send(rt, &header(8), &DATA[..8]) == reply,
-        SendInRun(start, reply) => {
-            port.send_in_run(rt, start, &header(24), &DATA[..24]) == reply
-        }
-        Receive(client, reply) => port.receive(rt, client, into) == reply,
-        Begin(start, reply) => port.begin(rt, start) == reply,
-        Pause(start, reply) => port.pause(rt, start) == reply,
-        Resume(start, reply) => port.resume(rt, start) == reply,
-        End(start, reply) => port.end(rt, start) == reply,
-        Level(level) => port.level(rt) == level,
-        Accepted(accepted) => port.accepted(rt) == accepted,
+        Attach(reply) => port.attach(name(rt)) == reply,
+        Detach(client, reply) => port.detach(client) == reply,
+        Request(client, reply) => port.request(client, ANY, ANY, Kind::All) == reply,
+        Cancel(client, request, reply) => port.cancel(client, request) == reply,
+        Send(reply) => port.send(&header(8), &DATA[..8]) == reply,
+        SendInRun(start, reply) => port.send_in_run(start, &header(24), &DATA[..24]) == reply,
+        Receive(client, reply) => port.receive(client, into) == reply,
+        Begin(start, reply) => port.begin(start) == reply,
+        Pause(start, reply) => port.pause(start) == reply,
+        Resume(start, reply) => port.resume(start) == reply,
+        End(start, reply) => port.end(start) == reply,
+        Level(level) => port.level() == level,
+        Accepted(accepted) => port.accepted() == accepted,
     }
 }
 
-/// A port to a new buffer of 256 bytes.
+/// A new buffer of 256 bytes with its journal.
 fn new_port(alloc: Global) -> Result<LocalPort<PlainBuffer>, NoMemory> {
     let mut port = LocalPort::new(alloc, PlainBuffer::new(alloc, 256)?);
     port.set_caller(Caller::of_client(3));
@@ -116,7 +112,7 @@ const STEPS: &[Step] = &[
 ];
 
 /// The same with room for the call in the journal and for an event.
-fn is_right_with_room<R: Abort + AllocGlobal + Wait>(
+fn is_right_with_room<R: Abort + AllocGlobal>(
     rt: &R,
     port: &mut LocalPort<PlainBuffer>,
     step: Step,
@@ -126,8 +122,8 @@ fn is_right_with_room<R: Abort + AllocGlobal + Wait>(
     Ok(is_right(rt, port, step, &mut into))
 }
 
-/// Makes the calls by the port up to the first whose reply is wrong. Says how many replies are right.
-fn count_right<R: Abort + AllocGlobal + Wait>(
+/// Makes the calls up to the first whose reply is wrong. Says how many replies are right.
+fn count_right<R: Abort + AllocGlobal>(
     rt: &R,
     port: &mut LocalPort<PlainBuffer>,
 ) -> Result<usize, NoMemory> {
@@ -160,9 +156,9 @@ struct Outcome {
     has_send: bool,
 }
 
-/// Makes the calls by a new port. It and its journal end here, so that the test holds neither while it looks at what
+/// Makes the calls on a new buffer. It and its journal end here, so that the test holds neither while it looks at what
 /// came of them.
-fn run_of_new<R: Abort + AllocGlobal + Wait>(rt: &R) -> Result<Outcome, NoMemory> {
+fn run_of_new<R: Abort + AllocGlobal>(rt: &R) -> Result<Outcome, NoMemory> {
     let mut port = new_port(rt.alloc())?;
     let right = count_right(rt, &mut port)?;
     let (_, journal) = port.into_parts();
@@ -174,7 +170,7 @@ fn run_of_new<R: Abort + AllocGlobal + Wait>(rt: &R) -> Result<Outcome, NoMemory
 }
 
 #[test]
-fn a_port_replies_as_its_buffer(rt: HostRuntime) -> Result<(), Fail> {
+fn a_buffer_with_a_journal_replies_as_without(rt: HostRuntime) -> Result<(), Fail> {
     let outcome = run_of_new(&rt)?;
     assert!(rt; outcome.right == STEPS.len(), "call {}", outcome.right);
     assert!(rt; outcome.noted == STEPS.len());

@@ -24,6 +24,8 @@ enum Step {
     SendShort(Result<u64, SendRefusal>),
     /// The start number.
     SendInRun(u32, Result<u64, SendRefusal>),
+    /// The first event of a run's front-end, with the start number.
+    SendFirst(u32, Result<u64, SendRefusal>),
     Receive(u32, Received),
     /// With room for so many bytes.
     ReceiveInto(u32, u32, Received),
@@ -50,6 +52,20 @@ const TOO_LONG: usize = 233;
 fn data_of(id: u16) -> [u8; TOO_LONG] {
     [id.to_le_bytes()[0]; TOO_LONG]
 }
+
+/// The first event that a front-end sends in a run.
+const FIRST: Header = Header {
+    event_id: 1,
+    trigger_mask: 0,
+    serial_number: 1,
+    time_stamp: 1000,
+    data_size: 24,
+};
+
+const FIRST_DATA: &[u8] = &[
+    0x10, 0, 0, 0, 1, 0, 0, 0, 0x47, 0x45, 0x4E, 0x30, 6, 0, 4, 0, 0xAC, 0x6F, 0x57, 0x6C, 0, 0, 0,
+    0,
+];
 
 fn header(id: u16, mask: u16, size: u32) -> Header {
     Header {
@@ -116,6 +132,7 @@ fn is_right<R: Abort + AllocGlobal, B: EventBuffer>(
         SendInRun(start, reply) => {
             buffer.send_in_run(start, &header(1, 0, 24), &data_of(1)[..24]) == reply
         }
+        SendFirst(start, reply) => buffer.send_in_run(start, &FIRST, FIRST_DATA) == reply,
         Receive(client, reply) => received(rt, buffer, client, TOO_LONG as u32)? == reply,
         ReceiveInto(client, room, reply) => received(rt, buffer, client, room)? == reply,
         Given(place, start, id, mask, size) => {
@@ -349,6 +366,26 @@ const GATED: &[Step] = &[
     ),
 ];
 
+const SHUT_AGAIN: &[Step] = &[
+    Begin(1, Ok(0)),
+    Begin(2, Err(MarkRefusal::GateOpen { start: 1 })),
+    SendFirst(
+        2,
+        Err(SendRefusal::NotRunning {
+            gate: RunGate::Running(1),
+        }),
+    ),
+    Pause(1, Ok(0)),
+    End(1, Ok(0)),
+    Begin(1, Err(MarkRefusal::OldStart { last: 1 })),
+    Resume(
+        1,
+        Err(MarkRefusal::WrongGate {
+            gate: RunGate::Shut,
+        }),
+    ),
+];
+
 const DETACHED: &[Step] = &[
     Attach(Ok(0)),
     Attach(Ok(1)),
@@ -433,6 +470,8 @@ const ROWS: &[&[Step]] = &[
     PASSED_OVER,
     // The gate lets one run in.
     GATED,
+    // It shuts behind a run that was paused, whose number is old then.
+    SHUT_AGAIN,
     // A client that is gone holds back none.
     DETACHED,
     // Of two that hold back a send, the other still does when one is gone.

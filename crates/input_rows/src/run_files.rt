@@ -9,28 +9,7 @@ use event_header::{EventBuf, Header, MAX_DATA};
 use mid_format::{Ahead, BlockSource, MidFault, MidReader, begin_record, end_record};
 use std::alloc::{AllocError, Global};
 use std::test::Fail;
-
-/// The begin record of a run: its header, and 173 bytes.
-const BEGIN: [&[u8]; 2] = [
-    &[
-        0, 0x80, 0x4D, 0x49, 1, 0, 0, 0, 0xE8, 3, 0, 0, 0xAD, 0, 0, 0,
-    ],
-    &[b'x'; 173],
-];
-
-/// An event with 24 bytes.
-const EVENT: &[u8] = &[
-    1, 0, 0, 0, 1, 0, 0, 0, 0xE8, 3, 0, 0, 0x18, 0, 0, 0, 0x10, 0, 0, 0, 1, 0, 0, 0, 0x47, 0x45,
-    0x4E, 0x30, 6, 0, 4, 0, 0xAC, 0x6F, 0x57, 0x6C, 0, 0, 0, 0,
-];
-
-/// The end record: its header, and 176 bytes.
-const END: [&[u8]; 2] = [
-    &[
-        1, 0x80, 0x4D, 0x49, 1, 0, 0, 0, 0xF2, 3, 0, 0, 0xB0, 0, 0, 0,
-    ],
-    &[b'x'; 176],
-];
+use worked_dumps::{BEGIN, END, EVENT};
 
 /// A file of these parts.
 fn file_of(alloc: Global, parts: &[&[u8]]) -> Result<Vec<u8>, AllocError> {
@@ -43,7 +22,7 @@ fn file_of(alloc: Global, parts: &[&[u8]]) -> Result<Vec<u8>, AllocError> {
 
 /// The file of a run of one event: a record with 173 bytes, an event with 24 bytes, and a record with 176 bytes.
 fn one_event(alloc: Global) -> Result<Vec<u8>, AllocError> {
-    file_of(alloc, &[BEGIN[0], BEGIN[1], EVENT, END[0], END[1]])
+    file_of(alloc, &[BEGIN, EVENT, END])
 }
 
 /// A source of these bytes, one at a time. It tells nothing.
@@ -233,10 +212,7 @@ fn a_source_that_fails_in_an_event(rt: HostRuntime) -> Result<(), Fail> {
 
 /// The file with its event three times.
 fn three_events(alloc: Global) -> Result<Vec<u8>, AllocError> {
-    file_of(
-        alloc,
-        &[BEGIN[0], BEGIN[1], EVENT, EVENT, EVENT, END[0], END[1]],
-    )
+    file_of(alloc, &[BEGIN, EVENT, EVENT, EVENT, END])
 }
 
 /// A block of so many bytes, and one at least.

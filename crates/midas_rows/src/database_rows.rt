@@ -1,5 +1,5 @@
 //! The online database, its dumps and its watches.
-use crate::rows::{PLAIN, Row};
+use crate::rows::{PLAIN, Repeated, Row};
 use worked_dumps::{OLDER, SAVED};
 
 /// Settings that were saved.
@@ -9,7 +9,7 @@ const SETTINGS: &str =
     Thresholds = UINT16[3] :\n[0] 0\n[1] 500\n[2] 0\n\n";
 
 /// The rows.
-pub static DATABASE_ROWS: [Row; 12] = [
+pub static DATABASE_ROWS: [Row; 13] = [
     Row {
         title: "Settings",
         script: "set \"/runinfo/RUN NUMBER\" 7\nget \"/Runinfo/Run number\"\n\
@@ -46,6 +46,16 @@ pub static DATABASE_ROWS: [Row; 12] = [
         title: "A watch",
         script: "watch /B\ncreate UINT32 /A/x\nwatch /A\nset /A/x 1\nnotes 0\nset /A/x 2\n\
             rm /A/x\nnotes 0\nunwatch 0\nnotes 0\n",
+        ..PLAIN
+    },
+    Row {
+        title: "More notes than a watch keeps",
+        script: "create UINT32 /A/x\nwatch /A\n",
+        repeated: Some(Repeated {
+            line: "set /A/x 1\n",
+            times: 257,
+            behind: "notes 0\nnotes 0\n",
+        }),
         ..PLAIN
     },
     Row {

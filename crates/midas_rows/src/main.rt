@@ -4,24 +4,31 @@
 #![tactic(auto)]
 
 mod database_rows;
+mod dump_fault_rows;
 mod fault_rows;
 mod manners;
 mod meeting;
+mod orders;
 mod outsides;
 mod page;
 mod playing;
 mod rows;
 mod session_rows;
+mod start_rows;
 mod telling;
+mod tool_rows;
 
 use crate::database_rows::DATABASE_ROWS;
+use crate::dump_fault_rows::DUMP_FAULT_ROWS;
 use crate::fault_rows::FAULT_ROWS;
 use crate::manners::{FIRST_FIRST, Manner, OTHERS};
 use crate::meeting::{MeetingGate, add_meeting};
 use crate::page::Page;
 use crate::playing::tell_row;
-use crate::rows::Row;
+use crate::rows::{PLAIN, Repeated, Row};
 use crate::session_rows::SESSION_ROWS;
+use crate::start_rows::START_ROWS;
+use crate::tool_rows::{TOOL_FAULT_ROWS, TOOL_ROWS};
 use daq_io::write_all;
 use daq_std::StdSink;
 use midas_cli::run_program;
@@ -82,9 +89,29 @@ fn add_sessions<R: Threads + Wait + Sync>(rt: &R, alloc: Global, page: &mut Page
     add_table(rt, alloc, page, &SESSION_ROWS);
 }
 
-/// Adds the rows of sessions with a call that fails.
+/// Adds the rows of starts that are refused, of pauses and of lines that come in the wrong state.
+fn add_starts<R: Threads + Wait + Sync>(rt: &R, alloc: Global, page: &mut Page) {
+    add_table(rt, alloc, page, &START_ROWS);
+}
+
+/// Adds the rows of words that run no session.
+fn add_words<R: Threads + Wait + Sync>(rt: &R, alloc: Global, page: &mut Page) {
+    add_table(rt, alloc, page, &TOOL_ROWS);
+}
+
+/// Adds the rows of sessions with a call on a stream or on a run file that fails.
 fn add_faults<R: Threads + Wait + Sync>(rt: &R, alloc: Global, page: &mut Page) {
     add_table(rt, alloc, page, &FAULT_ROWS);
+}
+
+/// Adds the rows of sessions with a call on a file of the database that fails.
+fn add_dump_faults<R: Threads + Wait + Sync>(rt: &R, alloc: Global, page: &mut Page) {
+    add_table(rt, alloc, page, &DUMP_FAULT_ROWS);
+}
+
+/// Adds the rows of tools with a call that fails.
+fn add_tool_faults<R: Threads + Wait + Sync>(rt: &R, alloc: Global, page: &mut Page) {
+    add_table(rt, alloc, page, &TOOL_FAULT_ROWS);
 }
 
 /// Adds the rows of the online database.
@@ -92,13 +119,35 @@ fn add_databases<R: Threads + Wait + Sync>(rt: &R, alloc: Global, page: &mut Pag
     add_table(rt, alloc, page, &DATABASE_ROWS);
 }
 
+/// A script of line ends alone, one more than a script may have bytes.
+static LONGEST: Row = Row {
+    title: "A script of one line end too many",
+    repeated: Some(Repeated {
+        line: "\n",
+        times: 16_777_217,
+        behind: "",
+    }),
+    ..PLAIN
+};
+
+/// Adds what that script comes to, which is long and so is played once.
+fn add_longest<R: Threads + Wait + Sync>(rt: &R, alloc: Global, page: &mut Page) {
+    let gate = MeetingGate::of(0);
+    tell_row(rt, alloc, page, &LONGEST, FIRST_FIRST, &gate);
+}
+
 /// All rows.
 fn all_rows<R: Threads + Wait + Sync>(rt: &R, alloc: Global) -> Page {
     let mut page = Page::new(alloc);
     add_sessions(rt, alloc, &mut page);
+    add_starts(rt, alloc, &mut page);
+    add_words(rt, alloc, &mut page);
     add_faults(rt, alloc, &mut page);
+    add_dump_faults(rt, alloc, &mut page);
+    add_tool_faults(rt, alloc, &mut page);
     add_databases(rt, alloc, &mut page);
     add_meeting(rt, alloc, &mut page);
+    add_longest(rt, alloc, &mut page);
     page
 }
 

@@ -1,4 +1,4 @@
-use crate::rows::Row;
+use crate::rows::{Repeated, Row};
 use daq_io::Outside;
 use daq_mem::{FileFail, MemClock, MemFiles, MemPick, MemSink, MemSource};
 use daq_types::{FileName, NoMemory};
@@ -13,30 +13,43 @@ const FILES: u32 = 4;
 /// How many bytes the console takes.
 const TEXT: usize = 10_000;
 
-/// Adds a file with this name and these bytes, where a name is given.
-fn add_given(
+/// Adds a file with this name and the bytes of these parts.
+fn add_file(
     alloc: Global,
     files: &mut MemFiles,
-    file: Option<(&str, &str)>,
+    name: &str,
+    parts: &[&[u8]],
 ) -> Result<(), NoMemory> {
-    let Some((name, text)) = file else {
-        return Ok(());
-    };
     let Ok(name) = FileName::new(name) else {
         return Ok(());
     };
-    files.add(name, text.as_bytes().to_vec(alloc)?)
+    let mut bytes = Vec::new(alloc);
+    for part in parts {
+        bytes.extend_from_slice(part)?;
+    }
+    files.add(name, bytes)
 }
 
-/// Files of at most so many bytes, with one of this name and these bytes where a name is given.
-fn files_with(
-    alloc: Global,
-    room: u64,
-    file: Option<(&str, &str)>,
-    fails: &[FileFail],
-) -> Result<MemFiles, NoMemory> {
-    let mut files = MemFiles::new(alloc, FILES, room, fails.to_vec(alloc)?)?;
-    add_given(alloc, &mut files, file)?;
+/// Files of at most so many bytes, of which these calls fail.
+fn files_of(alloc: Global, room: u64, fails: &[FileFail]) -> Result<MemFiles, NoMemory> {
+    MemFiles::new(alloc, FILES, room, fails.to_vec(alloc)?)
+}
+
+/// The run files of a row.
+fn run_files_of(alloc: Global, row: &Row) -> Result<MemFiles, NoMemory> {
+    let mut files = files_of(alloc, row.room, row.run_fails)?;
+    if let Some((name, parts)) = row.run_file {
+        add_file(alloc, &mut files, name, parts)?;
+    }
+    Ok(files)
+}
+
+/// The files of the database of a row.
+fn dumps_of(alloc: Global, row: &Row) -> Result<MemFiles, NoMemory> {
+    let mut files = files_of(alloc, row.room, row.dump_fails)?;
+    if let Some((name, text)) = row.dump {
+        add_file(alloc, &mut files, name, &[text.as_bytes()])?;
+    }
     Ok(files)
 }
 
@@ -45,10 +58,29 @@ pub fn console(alloc: Global, fails: &[u64]) -> Result<MemSink, NoMemory> {
     MemSink::new(alloc, TEXT, fails.to_vec(alloc)?)
 }
 
+/// The bytes of the script of a row.
+fn script_bytes(alloc: Global, row: &Row) -> Result<Vec<u8>, NoMemory> {
+    let mut script = row.script.as_bytes().to_vec(alloc)?;
+    if let Some(
+        Repeated {
+            line,
+            times,
+            behind,
+        },
+    ) = row.repeated
+    {
+        for _ in 0..times {
+            script.extend_from_slice(line.as_bytes())?;
+        }
+        script.extend_from_slice(behind.as_bytes())?;
+    }
+    Ok(script)
+}
+
 /// The script of a row, of which the calls that it lists fail.
 fn script_of(alloc: Global, row: &Row) -> Result<MemSource, NoMemory> {
     let fails = row.source_fails.to_vec(alloc)?;
-    let script = row.script.as_bytes().to_vec(alloc)?;
+    let script = script_bytes(alloc, row)?;
     Ok(MemSource::new(script, fails))
 }
 
@@ -57,13 +89,6 @@ fn streams_of(alloc: Global, row: &Row) -> Result<(MemSource, MemSink), NoMemory
     let src = script_of(alloc, row)?;
     let out = console(alloc, row.sink_fails)?;
     Ok((src, out))
-}
-
-/// The run files of a row, and the files of the database.
-fn stores_of(alloc: Global, row: &Row) -> Result<(MemFiles, MemFiles), NoMemory> {
-    let run_files = files_with(alloc, row.room, row.run_file, row.run_fails)?;
-    let odb_files = files_with(alloc, row.room, row.dump, row.dump_fails)?;
-    Ok((run_files, odb_files))
 }
 
 /// The clock, and which members are first.
@@ -77,7 +102,8 @@ fn choices_of(alloc: Global, picks: &[u32]) -> Result<(MemClock, MemPick), NoMem
 /// names it in all further rounds, and where there is none it is the first member.
 pub fn outside_of(alloc: Global, row: &Row, picks: &[u32]) -> Result<MemOutside, NoMemory> {
     let (src, out) = streams_of(alloc, row)?;
-    let (run_files, odb_files) = stores_of(alloc, row)?;
+    let run_files = run_files_of(alloc, row)?;
+    let odb_files = dumps_of(alloc, row)?;
     let (clock, pick) = choices_of(alloc, picks)?;
     Ok(Outside {
         src,

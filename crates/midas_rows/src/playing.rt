@@ -1,8 +1,9 @@
 use crate::manners::Manner;
 use crate::meeting::MeetingGate;
+use crate::orders::add_in_order;
 use crate::outsides::{MemOutside, console, outside_of};
 use crate::page::Page;
-use crate::rows::Row;
+use crate::rows::{Order, Row};
 use crate::telling::{add_played, add_tool};
 use daq_mem::MemSink;
 use daq_types::{NoMemory, Words};
@@ -58,7 +59,7 @@ fn use_tool<R: Threads + Wait + Sync>(
     after
 }
 
-/// Adds what the tools of a row say of the files that its script left.
+/// Adds what the tools of a row say of the files that its script left, and gives the outside back.
 fn add_tools<R: Threads + Wait + Sync>(
     rt: &R,
     alloc: Global,
@@ -66,11 +67,33 @@ fn add_tools<R: Threads + Wait + Sync>(
     tools: &[&[&str]],
     outside: MemOutside,
     gate: &MeetingGate,
-) {
+) -> MemOutside {
     let mut outside = outside;
     for list in tools {
         outside = use_tool(rt, alloc, page, list, outside, gate);
     }
+    outside
+}
+
+/// Adds whether the events of the first run stand in one of these orders, where there are some.
+fn add_orders<R: Threads + Wait + Sync>(
+    rt: &R,
+    alloc: Global,
+    page: &mut Page,
+    orders: &[Order],
+    outside: MemOutside,
+    gate: &MeetingGate,
+) {
+    if orders.is_empty() {
+        return;
+    }
+    let mut dumped = Page::new(alloc);
+    let list = &["dump", "run00001.mid"];
+    let after = use_tool(rt, alloc, &mut dumped, list, outside, gate);
+    if dumped.lacks {
+        page.lacks = true;
+    }
+    add_in_order(alloc, page, orders, after.out.bytes());
 }
 
 /// Adds what the script of a row came to that is played so, by members that pass this gate, and what the tools then say.
@@ -92,5 +115,6 @@ pub fn tell_row<R: Threads + Wait + Sync>(
     };
     let (outcome, after) = call(rt, alloc, &words, outside, gate);
     add_played(page, row, &outcome, &after);
-    add_tools(rt, alloc, page, row.tools, after, gate);
+    let after = add_tools(rt, alloc, page, row.tools, after, gate);
+    add_orders(rt, alloc, page, row.orders, after, gate);
 }

@@ -1,13 +1,27 @@
 //! A script of the table, and what is shown of it.
 use daq_mem::FileFail;
 
+/// A line that stands so often, and what stands behind it.
+#[derive(Clone, Copy)]
+pub struct Repeated {
+    pub line: &'static str,
+    pub times: u32,
+    pub behind: &'static str,
+}
+
+/// An order of the events of two front-ends: the id and the serial number of each.
+pub type Order = &'static [(u32, u32)];
+
 /// A script, the outside that it meets, and what is shown behind it.
 #[derive(Clone, Copy)]
 pub struct Row {
     pub title: &'static str,
     pub script: &'static str,
-    /// A run file that is there already, and a file of the database: name and text.
-    pub run_file: Option<(&'static str, &'static str)>,
+    /// What the script ends with.
+    pub repeated: Option<Repeated>,
+    /// A run file that is there already: its name, and the parts of its bytes.
+    pub run_file: Option<(&'static str, &'static [&'static [u8]])>,
+    /// A file of the database: name and text.
     pub dump: Option<(&'static str, &'static str)>,
     /// How many bytes a file may have.
     pub room: u64,
@@ -21,6 +35,8 @@ pub struct Row {
     pub dumps: &'static [&'static str],
     /// The words of tools that are called then.
     pub tools: &'static [&'static [&'static str]],
+    /// The orders in one of which the events of the first run stand, where that is looked at.
+    pub orders: &'static [Order],
     /// Whether what comes of it rests on the order in which threads have their turns.
     pub scheduled: bool,
 }
@@ -29,6 +45,7 @@ pub struct Row {
 pub const PLAIN: Row = Row {
     title: "",
     script: "",
+    repeated: None,
     run_file: None,
     dump: None,
     room: 2000,
@@ -39,6 +56,7 @@ pub const PLAIN: Row = Row {
     run_files: &[],
     dumps: &[],
     tools: &[],
+    orders: &[],
     scheduled: false,
 };
 

@@ -1,8 +1,21 @@
-//! Sessions with their members, and words that run none.
-use crate::rows::{PLAIN, Row, TOOLS};
+//! Sessions with their members.
+use crate::rows::{Order, PLAIN, Row, TOOLS};
+
+/// The orders of one event of each of two front-ends.
+const ONE_EACH: &[Order] = &[&[(1, 1), (2, 1)], &[(2, 1), (1, 1)]];
+
+/// Those of two events of each.
+const TWO_EACH: &[Order] = &[
+    &[(1, 1), (1, 2), (2, 1), (2, 2)],
+    &[(1, 1), (2, 1), (1, 2), (2, 2)],
+    &[(1, 1), (2, 1), (2, 2), (1, 2)],
+    &[(2, 1), (1, 1), (1, 2), (2, 2)],
+    &[(2, 1), (1, 1), (2, 2), (1, 2)],
+    &[(2, 1), (2, 2), (1, 1), (1, 2)],
+];
 
 /// The rows.
-pub static SESSION_ROWS: [Row; 27] = [
+pub static SESSION_ROWS: [Row; 15] = [
     Row {
         title: "An empty script",
         script: "",
@@ -47,6 +60,7 @@ pub static SESSION_ROWS: [Row; 27] = [
         script: "equip A 1 0 SYSTEM\nequip B 2 0 SYSTEM\n\
             analyzer ANA SYSTEM 65535 65535 all\nevents 1\nstart\nstop\n",
         tools: &[&["check", "run00001.mid"], &["analyze", "run00001.mid"]],
+        orders: ONE_EACH,
         ..PLAIN
     },
     Row {
@@ -54,6 +68,7 @@ pub static SESSION_ROWS: [Row; 27] = [
         script: "equip A 1 0 SYSTEM\nequip B 2 0 SYSTEM\n\
             analyzer ANA SYSTEM 65535 65535 all\nevents 2\nstart\nstop\n",
         tools: &[&["check", "run00001.mid"], &["analyze", "run00001.mid"]],
+        orders: TWO_EACH,
         ..PLAIN
     },
     Row {
@@ -116,92 +131,7 @@ pub static SESSION_ROWS: [Row; 27] = [
         tools: &[
             &["check", "run00001.mid"],
             &["analyze", "run00001.mid"],
-            &["check", "run00002.mid"],
             &["analyze", "run00002.mid"],
-        ],
-        scheduled: true,
-        ..PLAIN
-    },
-    Row {
-        title: "A start that is refused for a taken name",
-        script: "start\nget \"/Runinfo/Run number\"\n",
-        run_file: Some(("run00001.mid", "as it was")),
-        run_files: &["run00001.mid"],
-        ..PLAIN
-    },
-    Row {
-        title: "Two channels whose patterns give one name",
-        script: "channel 0 run%05d.mid SYSTEM 65535 65535\n\
-            channel 1 run%05d.mid SYSTEM 65535 65535\nstart\n",
-        run_files: &["run00001.mid"],
-        ..PLAIN
-    },
-    Row {
-        title: "A start that is refused for a limit",
-        script: "equip FE 1 0 SYSTEM 10\nevents 11\nstart\nevents 10\nstart\nstop\n",
-        ..PLAIN
-    },
-    Row {
-        title: "A start that is refused beside an analyzer",
-        script: "equip FE 1 0 SYSTEM 10\nanalyzer ANA SYSTEM 65535 65535 all\nevents 11\nstart\n\
-            events 10\nstart\nstop\n",
-        ..PLAIN
-    },
-    Row {
-        title: "A run that is paused and goes on",
-        script: "events 3\nstart\npause\npause\nget /Runinfo/State\nresume\nstop\n",
-        ..PLAIN
-    },
-    Row {
-        title: "A run that is stopped from a pause",
-        script: "events 5\nstart\npause\nstop\n",
-        run_files: &["run00001.mid"],
-        scheduled: true,
-        ..PLAIN
-    },
-    Row {
-        title: "Lines without a run, and one that is no command",
-        script: "stop\npause\nresume\n\nfrob\n",
-        ..PLAIN
-    },
-    Row {
-        title: "Declarations behind a start that is no command, and behind one that is refused",
-        script: "set \"/Runinfo/Run number\" -1\nstart now\nbuffer X 256\nstart\nbuffer Y 256\n",
-        ..PLAIN
-    },
-    Row {
-        title: "A second start, and a run that is still on at the end",
-        script: "start\r\nstart\r\n",
-        ..PLAIN
-    },
-    Row {
-        title: "A script that ends in a run",
-        script: "start\nexit\nfrob\n",
-        ..PLAIN
-    },
-    Row {
-        title: "An empty run file",
-        script: "",
-        run_file: Some(("run00001.mid", "")),
-        tools: &[&["check", "run00001.mid"]],
-        ..PLAIN
-    },
-    Row {
-        title: "Words that run no script",
-        script: "",
-        tools: &[
-            &["check", "run00001.mid.gz"],
-            &["check", "no.mid"],
-            &["dump", "-"],
-            &["analyze", "no.mid"],
-            &["gen", "000"],
-            &[],
-            &["check"],
-            &["run", "--"],
-            &["run", "--cooperative", "--cooperative"],
-            &["check", "-v"],
-            &["--help"],
-            &["gen", "4294967296"],
         ],
         ..PLAIN
     },

@@ -29,6 +29,15 @@ fn add_missing(page: &mut Page, name: &str) {
     page.note(added);
 }
 
+/// Whether the file of this name is closed, in a word.
+fn state_of(files: &MemFiles, name: &FileName) -> &'static str {
+    if files.is_closed(name) {
+        "closed"
+    } else {
+        "open"
+    }
+}
+
 /// Adds a file: whether it is there and closed, and its bytes.
 fn add_file(page: &mut Page, files: &MemFiles, name: &str) {
     let Ok(key) = FileName::new(name) else {
@@ -38,18 +47,14 @@ fn add_file(page: &mut Page, files: &MemFiles, name: &str) {
         add_missing(page, name);
         return;
     };
-    let state = if files.is_closed(&key) {
-        "closed"
-    } else {
-        "open"
-    };
+    let state = state_of(files, &key);
     let length = bytes.len();
     let added = writeln!(page.text, "{name}: {length} bytes, {state}");
     page.note(added);
     add_lines(page, bytes);
 }
 
-/// Adds a file of the database: its text.
+/// Adds a file of the database: whether it is there and closed, and its text.
 fn add_dump(page: &mut Page, files: &MemFiles, name: &str) {
     let Ok(key) = FileName::new(name) else {
         return;
@@ -58,7 +63,8 @@ fn add_dump(page: &mut Page, files: &MemFiles, name: &str) {
         add_missing(page, name);
         return;
     };
-    let added = writeln!(page.text, "{name}:");
+    let state = state_of(files, &key);
+    let added = writeln!(page.text, "{name}, {state}:");
     page.note(added);
     page.add_bytes(text);
 }

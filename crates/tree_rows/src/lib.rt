@@ -4,15 +4,11 @@
 #[cfg(test)]
 mod calls;
 #[cfg(test)]
-mod commands;
-#[cfg(test)]
 mod dumps;
 #[cfg(test)]
 mod lines;
 #[cfg(test)]
 mod ports;
-#[cfg(test)]
-mod sessions;
 #[cfg(test)]
 mod tests;
 #[cfg(test)]

@@ -1,15 +1,12 @@
-//! Calls by a port, each made on a database that notes it, and whose they are in the journal.
-ghost use Rattle.std.specs.Prelude.{◌≡◌, ◌≤◌};
-ghost use Rattle.daq_types.specs.Callers.{main_caller};
+//! Calls on a database that notes each, and whose they are in the journal.
+ghost use Rattle.std.specs.Prelude.{◌≤◌};
 
 use crate::calls::{Call, Reply, Row, children_in, item_of, items_in, named, value_of};
 use daq_types::{Caller, Tid};
 use odb_journal::LocalDatabase;
 use odb_path::Path;
-use odb_port::{DatabasePort, LocalAccess};
 use odb_tree::{DatabaseEntry, NewKey, OdbRefusal, PlainTree};
 use std::alloc::Global;
-use std::sync::Wait;
 use std::test::Fail;
 
 /// Calls and their replies. A member writes the items, and the main thread makes the other calls.
@@ -35,56 +32,51 @@ const CALLS: &[Row] = &[
 ];
 
 /// Sets the item of this type and text, as a member.
-fn set_by_member<R: Wait>(
-    rt: &R,
+fn set_by_member(
     alloc: Global,
-    port: &mut LocalAccess<PlainTree>,
+    database: &mut LocalDatabase<PlainTree>,
     path: Path,
     index: u32,
     tid: Tid,
     text: &str,
 ) -> Reply
-    requires room { 1 ≤ port.old.room }
+    requires room { 1 ≤ database.old.room }
 {
     let item = item_of(alloc, tid, text)?;
-    port.set_caller(Caller::of_client(0));
-    port.set(rt, alloc, path, index, item)
+    database.set(alloc, Caller::of_client(0), path, index, item)
 }
 
-fn set_all<R: Wait>(
-    rt: &R,
+fn set_all(
     alloc: Global,
-    port: &mut LocalAccess<PlainTree>,
+    database: &mut LocalDatabase<PlainTree>,
     path: Path,
     tid: Tid,
     len: u32,
 ) -> Reply
-    requires main { port.old.caller ≡ main_caller }
-    requires room { 1 ≤ port.old.room }
+    requires room { 1 ≤ database.old.room }
 {
     let value = value_of(alloc, tid, len)?;
-    port.set_all(rt, alloc, path, value)
+    database.set_all(alloc, path, value)
 }
 
-fn by_port<R: Wait>(
-    rt: &R,
+fn call_noted(
     alloc: Global,
-    port: &mut LocalAccess<PlainTree>,
+    database: &mut LocalDatabase<PlainTree>,
     path: Path,
     call: Call,
 ) -> Reply {
-    port.set_caller(Caller::MAIN);
-    port.reserve(1)?;
+    let main = Caller::MAIN;
+    database.reserve(1)?;
     match call {
-        Call::Keys(tid, len) => port.create(rt, alloc, path, NewKey::Keys { tid, len }),
-        Call::Set(index, tid, text) => set_by_member(rt, alloc, port, path, index, tid, text),
-        Call::SetAll(tid, len) => set_all(rt, alloc, port, path, tid, len),
-        Call::Get => items_in(port.get(rt, alloc, path)),
-        Call::Find => port.find(rt, path),
-        Call::List => children_in(port.list(rt, alloc, path)),
-        Call::Delete => port.delete(rt, path),
-        Call::Resize(len) => port.resize(rt, alloc, path, len),
-        Call::PathOf(row) => named(port.path_of(rt, alloc, row)),
+        Call::Keys(tid, len) => database.create(alloc, path, NewKey::Keys { tid, len }),
+        Call::Set(index, tid, text) => set_by_member(alloc, database, path, index, tid, text),
+        Call::SetAll(tid, len) => set_all(alloc, database, path, tid, len),
+        Call::Get => items_in(database.get(alloc, main, path)),
+        Call::Find => database.find(main, path),
+        Call::List => children_in(database.list(alloc, main, path)),
+        Call::Delete => database.delete(path),
+        Call::Resize(len) => database.resize(alloc, path, len),
+        Call::PathOf(row) => named(database.path_of(alloc, main, row)),
         _ => Err(OdbRefusal::NoMemory),
     }
 }
@@ -103,19 +95,17 @@ fn is_members(entry: &(Caller, DatabaseEntry)) -> bool {
 }
 
 #[test]
-fn calls_by_a_port_are_noted(rt: HostRuntime) -> Result<(), Fail> {
+fn calls_are_noted(rt: HostRuntime) -> Result<(), Fail> {
     let alloc = rt.alloc();
-    let database = LocalDatabase::new(alloc, PlainTree::new(alloc));
-    let mut port = LocalAccess::new(database, Caller::MAIN);
+    let mut database = LocalDatabase::new(alloc, PlainTree::new(alloc));
     for (text, call, wanted) in CALLS {
         let path = Path::read(alloc, text.as_bytes())?;
         assert!(rt;
-            by_port(&rt, alloc, &mut port, path, *call) == *wanted,
+            call_noted(alloc, &mut database, path, *call) == *wanted,
             "{text}"
         );
     }
-    port.tells_legal();
-    let (_, journal) = port.into_database().into_parts();
+    let (_, journal) = database.into_parts();
     assert!(rt; are_noted(journal.as_slice()));
     Ok(())
 }

@@ -1,4 +1,4 @@
-//! Worked dumps of an online database, which the crates of rows load, save and print.
+//! Worked dumps of an online database, which the crates of rows load, save and print, and a worked run file with two of them.
 #![tactic(auto)]
 
 /// A dump with older names of types, and with keys of types that the database does not keep.
@@ -68,3 +68,33 @@ pub const SAVED: &str = "\
     [0] 10\n\
     [1] 20\n\
     [2] 30\n\n";
+
+/// The begin record of run 1 at time 1000, with the dump that is saved then.
+pub const BEGIN: &[u8] = b"\
+    \x00\x80\x4D\x49\x01\x00\x00\x00\xE8\x03\x00\x00\xAD\x00\x00\x00\
+    [/Runinfo]\n\
+    State = INT32 : 1\n\
+    Run number = INT32 : 1\n\
+    Start time binary = UINT32 : 1000\n\
+    Stop time binary = UINT32 : 0\n\n\
+    [/Equipment]\n\n\
+    [/Equipment/FE]\n\
+    Events sent = UINT64 : 0\n\n";
+
+/// The first event of its front-end.
+pub const EVENT: &[u8] = b"\
+    \x01\x00\x00\x00\x01\x00\x00\x00\xE8\x03\x00\x00\x18\x00\x00\x00\
+    \x10\x00\x00\x00\x01\x00\x00\x00\x47\x45\x4E\x30\x06\x00\x04\x00\
+    \xAC\x6F\x57\x6C\x00\x00\x00\x00";
+
+/// Its end record at time 1010. The file of that run is the begin record, the event and the end record.
+pub const END: &[u8] = b"\
+    \x01\x80\x4D\x49\x01\x00\x00\x00\xF2\x03\x00\x00\xB0\x00\x00\x00\
+    [/Runinfo]\n\
+    State = INT32 : 3\n\
+    Run number = INT32 : 1\n\
+    Start time binary = UINT32 : 1000\n\
+    Stop time binary = UINT32 : 1010\n\n\
+    [/Equipment]\n\n\
+    [/Equipment/FE]\n\
+    Events sent = UINT64 : 0\n\n";
