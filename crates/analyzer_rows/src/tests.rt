@@ -1,6 +1,6 @@
-ghost use Rattle.std.specs.Prelude.{◌≡◌, ◌≤◌, [], None, IfOk, IfSome, length};
+ghost use Rattle.std.specs.Prelude.{◌≡◌, [], None, IfOk, IfSome};
 ghost use Rattle.event_report.specs.Reports.{report_of};
-ghost use Rattle.local_port.specs.Ported.{access_of};
+ghost use Rattle.local_port.specs.OwningPorts.{owned_access};
 ghost use Rattle.analyzers.specs.Analyzers.{IsWithinGot};
 
 use analyzers::{Analyzer, AnalyzerPull};
@@ -9,14 +9,11 @@ use daq_text::TextBuffer;
 use daq_types::{Kind, NoMemory, Order, RunState, Transition, Why};
 use event_header::Header;
 use event_report::Report;
-use local_port::LocalPort;
+use local_port::OwningPort;
 use plain_buffer::PlainBuffer;
 use std::alloc::Global;
 use std::sync::Wait;
 use transitions::{Answer, Tally};
-
-/// The port of the rows.
-type Port = LocalPort<PlainBuffer>;
 
 /// The data of the first event that a front-end generates with id 1: a bank of one word.
 const FIRST: &[u8] = b"\x10\0\0\0\x01\0\0\0GEN0\x06\0\x04\0\xac\x6f\x57\x6c\0\0\0\0";
@@ -36,10 +33,10 @@ fn order() -> Order {
 }
 
 /// A port to a new buffer.
-fn new_port(alloc: Global) -> Result<Port, NoMemory>
-    ensures { IfOk result (λ port. port.window.size ≡ 1024) }
+fn new_port(alloc: Global) -> Result<OwningPort<PlainBuffer>, NoMemory>
+    ensures { IfOk result (λ port. (owned_access (λ window. window) port).size ≡ 1024) }
 {
-    Ok(LocalPort::new(alloc, PlainBuffer::new(alloc, 1024)?))
+    OwningPort::new(alloc, PlainBuffer::new(alloc, 1024)?)
 }
 
 /// An analyzer of all events, with room for any that such a buffer holds.
@@ -51,10 +48,7 @@ fn new_analyzer(alloc: Global) -> Result<Analyzer, NoMemory>
 }
 
 /// Sends an event of this id in the run of this start number, which is begun unless it is on.
-fn send_begun<R: Wait, P: BufferPort>(rt: &R, port: &mut P, start: u32, id: u16, body: &[u8])
-    requires entries { 2 ≤ (P.access port.old).entries }
-    requires bytes { 24 ≤ (P.access port.old).bytes }
-    requires body { length body.now ≤ 24 }
+fn send<R: Wait, P: BufferPort>(rt: &R, port: &mut P, start: u32, id: u16, body: &[u8])
     ensures size { (P.access port.new).size ≡ (P.access port.old).size }
     ensures got { (P.access port.new).got ≡ (P.access port.old).got }
 {
@@ -67,17 +61,6 @@ fn send_begun<R: Wait, P: BufferPort>(rt: &R, port: &mut P, start: u32, id: u16,
     };
     let _ = port.begin(rt, start);
     let _ = port.send_in_run(rt, start, &header, body);
-}
-
-/// The same, with room to note the calls.
-fn send<R: Wait>(rt: &R, port: &mut Port, start: u32, id: u16, body: &[u8]) -> Result<(), NoMemory>
-    requires body { length body.now ≤ 24 }
-    ensures size { port.new.window.size ≡ port.old.window.size }
-    ensures got { (access_of port.new).got ≡ (access_of port.old).got }
-{
-    port.reserve(2, 24)?;
-    send_begun(rt, port, start, id, body);
-    Ok(())
 }
 
 /// What a turn is answered.
@@ -100,65 +83,63 @@ fn tells(answer: &Option<Answer>, told: Told) -> bool {
     }
 }
 
-/// Whether a turn of the run, with room to note its calls, is answered so.
-fn turns<R: Wait>(
+/// Whether a turn of the run is answered so.
+fn turns<R: Wait, P: BufferPort>(
     rt: &R,
     analyzer: &mut Analyzer,
-    port: &mut Port,
+    port: &mut P,
     transition: Transition,
     blank: Option<Report>,
     told: Told,
-) -> Result<bool, NoMemory>
+) -> bool
     requires blank { IfSome blank (λ report. report ≡ report_of []) }
-    requires counted { IsWithinGot analyzer.old.run (access_of port.old).got }
+    requires counted { IsWithinGot analyzer.old.run (P.access port.old).got }
     ensures room { analyzer.new.room ≡ analyzer.old.room }
-    ensures size { port.new.window.size ≡ port.old.window.size }
-    ensures counted { IsWithinGot analyzer.new.run (access_of port.new).got }
+    ensures size { (P.access port.new).size ≡ (P.access port.old).size }
+    ensures counted { IsWithinGot analyzer.new.run (P.access port.new).got }
 {
-    port.reserve(3, 0)?;
     let answer = analyzer.on_turn(rt, port, transition, &order(), blank);
-    Ok(tells(&answer, told))
+    tells(&answer, told)
 }
 
 /// Whether the start is accepted.
-fn starts<R: Wait>(
+fn starts<R: Wait, P: BufferPort>(
     rt: &R,
     alloc: Global,
     analyzer: &mut Analyzer,
-    port: &mut Port,
+    port: &mut P,
 ) -> Result<bool, NoMemory>
-    requires counted { IsWithinGot analyzer.old.run (access_of port.old).got }
+    requires counted { IsWithinGot analyzer.old.run (P.access port.old).got }
     ensures room { analyzer.new.room ≡ analyzer.old.room }
-    ensures size { port.new.window.size ≡ port.old.window.size }
-    ensures counted { IsWithinGot analyzer.new.run (access_of port.new).got }
+    ensures size { (P.access port.new).size ≡ (P.access port.old).size }
+    ensures counted { IsWithinGot analyzer.new.run (P.access port.new).got }
 {
     let blank = Report::new(alloc)?;
-    turns(
+    Ok(turns(
         rt,
         analyzer,
         port,
         Transition::Start,
         Some(blank),
         Told::Plain,
-    )
+    ))
 }
 
-/// Whether a pull, with room to note its calls, is answered so.
-fn pulls<R: Wait>(
+/// Whether a pull is answered so.
+fn pulls<R: Wait, P: BufferPort>(
     rt: &R,
     analyzer: &mut Analyzer,
-    port: &mut Port,
+    port: &mut P,
     wanted: AnalyzerPull,
-) -> Result<bool, NoMemory>
+) -> bool
     requires room { analyzer.old.room ≡ 1000 }
-    requires size { port.old.window.size ≡ 1024 }
-    requires counted { IsWithinGot analyzer.old.run (access_of port.old).got }
+    requires size { (P.access port.old).size ≡ 1024 }
+    requires counted { IsWithinGot analyzer.old.run (P.access port.old).got }
     ensures room { analyzer.new.room ≡ analyzer.old.room }
-    ensures size { port.new.window.size ≡ port.old.window.size }
-    ensures counted { IsWithinGot analyzer.new.run (access_of port.new).got }
+    ensures size { (P.access port.new).size ≡ (P.access port.old).size }
+    ensures counted { IsWithinGot analyzer.new.run (P.access port.new).got }
 {
-    port.reserve(2, 0)?;
-    Ok(analyzer.pull(rt, port) == wanted)
+    analyzer.pull(rt, port) == wanted
 }
 
 /// Whether the report that the stop is answered prints this text. While the stop waits there is none, and no text.
@@ -172,81 +153,81 @@ fn reports(alloc: Global, analyzer: &mut Analyzer, expected: &[u8]) -> Result<bo
 
 /// Starts the run, sends an event of each front-end in it, and stops it; whether the start is accepted and the stop has
 /// to wait.
-fn runs<R: Wait>(
+fn runs<R: Wait, P: BufferPort>(
     rt: &R,
     alloc: Global,
     analyzer: &mut Analyzer,
-    port: &mut Port,
+    port: &mut P,
 ) -> Result<bool, NoMemory>
-    requires counted { IsWithinGot analyzer.old.run (access_of port.old).got }
+    requires counted { IsWithinGot analyzer.old.run (P.access port.old).got }
     ensures room { analyzer.new.room ≡ analyzer.old.room }
-    ensures size { port.new.window.size ≡ port.old.window.size }
-    ensures counted { IsWithinGot analyzer.new.run (access_of port.new).got }
+    ensures size { (P.access port.new).size ≡ (P.access port.old).size }
+    ensures counted { IsWithinGot analyzer.new.run (P.access port.new).got }
 {
     let accepted = starts(rt, alloc, analyzer, port)?;
-    send(rt, port, 1, 1, FIRST)?;
-    send(rt, port, 1, 2, SECOND)?;
-    Ok(turns(rt, analyzer, port, Transition::Stop, None, Told::Waits)? && accepted)
+    send(rt, port, 1, 1, FIRST);
+    send(rt, port, 1, 2, SECOND);
+    Ok(turns(rt, analyzer, port, Transition::Stop, None, Told::Waits) && accepted)
 }
 
 /// Whether the two events are got, and nothing behind them.
-fn pulls_both<R: Wait>(rt: &R, analyzer: &mut Analyzer, port: &mut Port) -> Result<bool, NoMemory>
+fn pulls_both<R: Wait, P: BufferPort>(rt: &R, analyzer: &mut Analyzer, port: &mut P) -> bool
     requires room { analyzer.old.room ≡ 1000 }
-    requires size { port.old.window.size ≡ 1024 }
-    requires counted { IsWithinGot analyzer.old.run (access_of port.old).got }
+    requires size { (P.access port.old).size ≡ 1024 }
+    requires counted { IsWithinGot analyzer.old.run (P.access port.old).got }
 {
-    let first = pulls(rt, analyzer, port, AnalyzerPull::Folded { place: 0 })?;
-    let second = pulls(rt, analyzer, port, AnalyzerPull::Folded { place: 1 })?;
-    let last = pulls(rt, analyzer, port, AnalyzerPull::Nothing)?;
-    Ok(first && second && last)
+    let first = pulls(rt, analyzer, port, AnalyzerPull::Folded { place: 0 });
+    let second = pulls(rt, analyzer, port, AnalyzerPull::Folded { place: 1 });
+    let last = pulls(rt, analyzer, port, AnalyzerPull::Nothing);
+    first && second && last
 }
 
 /// Whether a run of two events, which are read behind its stop, goes so.
-fn counts_both<R: Wait>(
+fn counts_both<R: Wait, P: BufferPort>(
     rt: &R,
     alloc: Global,
     analyzer: &mut Analyzer,
-    port: &mut Port,
+    port: &mut P,
 ) -> Result<bool, NoMemory>
     requires room { analyzer.old.room ≡ 1000 }
-    requires size { port.old.window.size ≡ 1024 }
-    requires counted { IsWithinGot analyzer.old.run (access_of port.old).got }
+    requires size { (P.access port.old).size ≡ 1024 }
+    requires counted { IsWithinGot analyzer.old.run (P.access port.old).got }
 {
     let run = runs(rt, alloc, analyzer, port)?;
-    Ok(pulls_both(rt, analyzer, port)? && run)
+    Ok(pulls_both(rt, analyzer, port) && run)
 }
 
 /// Starts the run, which is refused at first for want of a blank report, and stops it; whether the stop has to wait.
-fn runs_empty<R: Wait>(
+fn runs_empty<R: Wait, P: BufferPort>(
     rt: &R,
     alloc: Global,
     analyzer: &mut Analyzer,
-    port: &mut Port,
+    port: &mut P,
 ) -> Result<bool, NoMemory>
-    requires counted { IsWithinGot analyzer.old.run (access_of port.old).got }
+    requires counted { IsWithinGot analyzer.old.run (P.access port.old).got }
     ensures room { analyzer.new.room ≡ analyzer.old.room }
-    ensures size { port.new.window.size ≡ port.old.window.size }
-    ensures counted { IsWithinGot analyzer.new.run (access_of port.new).got }
+    ensures size { (P.access port.new).size ≡ (P.access port.old).size }
+    ensures counted { IsWithinGot analyzer.new.run (P.access port.new).got }
 {
-    let refused = turns(rt, analyzer, port, Transition::Start, None, Told::NotReady)?;
+    let refused = turns(rt, analyzer, port, Transition::Start, None, Told::NotReady);
     let accepted = starts(rt, alloc, analyzer, port)?;
-    Ok(turns(rt, analyzer, port, Transition::Stop, None, Told::Waits)? && refused && accepted)
+    Ok(turns(rt, analyzer, port, Transition::Stop, None, Told::Waits) && refused && accepted)
 }
 
 /// Whether a run without events goes so, behind whose stop an event of another start is read and dropped.
-fn counts_none<R: Wait>(
+fn counts_none<R: Wait, P: BufferPort>(
     rt: &R,
     alloc: Global,
     analyzer: &mut Analyzer,
-    port: &mut Port,
+    port: &mut P,
 ) -> Result<bool, NoMemory>
     requires room { analyzer.old.room ≡ 1000 }
-    requires size { port.old.window.size ≡ 1024 }
-    requires counted { IsWithinGot analyzer.old.run (access_of port.old).got }
+    requires size { (P.access port.old).size ≡ 1024 }
+    requires counted { IsWithinGot analyzer.old.run (P.access port.old).got }
 {
     let empty = runs_empty(rt, alloc, analyzer, port)?;
-    send(rt, port, 2, 1, FIRST)?;
-    Ok(pulls(rt, analyzer, port, AnalyzerPull::Dropped { place: 0 })? && empty)
+    send(rt, port, 2, 1, FIRST);
+    Ok(pulls(rt, analyzer, port, AnalyzerPull::Dropped { place: 0 }) && empty)
 }
 
 /// Which run an analyzer counts.
@@ -259,17 +240,17 @@ enum Run {
 }
 
 /// Whether the run goes so, and the report at its end prints this text.
-fn counts<R: Wait>(
+fn counts<R: Wait, P: BufferPort>(
     rt: &R,
     alloc: Global,
     analyzer: &mut Analyzer,
-    port: &mut Port,
+    port: &mut P,
     run: Run,
     expected: &[u8],
 ) -> Result<bool, NoMemory>
     requires room { analyzer.old.room ≡ 1000 }
-    requires size { port.old.window.size ≡ 1024 }
-    requires counted { IsWithinGot analyzer.old.run (access_of port.old).got }
+    requires size { (P.access port.old).size ≡ 1024 }
+    requires counted { IsWithinGot analyzer.old.run (P.access port.old).got }
 {
     let is_right = match run {
         Run::Both => counts_both(rt, alloc, analyzer, port)?,

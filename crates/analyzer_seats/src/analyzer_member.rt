@@ -60,7 +60,6 @@ impl<'a> AnalyzerMember<'a> {
         gate: &G,
     ) -> Turned
         requires caller { (P.access port.old).caller ≡ caller_of_client self.old.seat.client }
-        requires entries { 3 ≤ (P.access port.old).entries }
         requires room { min event_limit ((P.access port.old).size - 24)
             ≤ self.old.analyzer.room }
         requires counted { IsWithinGot self.old.analyzer.run (P.access port.old).got }
@@ -119,7 +118,6 @@ impl<'a> AnalyzerMember<'a> {
         port: &mut P,
         gate: &G,
     ) -> AnalyzerPull
-        requires entries { 2 ≤ (P.access port.old).entries }
         requires room { min event_limit ((P.access port.old).size - 24)
             ≤ self.old.analyzer.room }
         requires counted { IsWithinGot self.old.analyzer.run (P.access port.old).got }

@@ -10,8 +10,9 @@ ghost use Rattle.analyzers.specs.AnalyzerKept.{KeepsAnalyzer};
 ghost use Rattle.analyzer_seats.specs.AnalyzerTaken.{TakesAnalyzer, AnalyzerMemberStands};
 
 use crate::analyzer_member::AnalyzerMember;
+use buffer_core::BufferPort;
 use daq_io::Gate;
-use daq_members::{EndlessPort, Turned};
+use daq_members::Turned;
 use std::marker::Model;
 use std::sync::Wait;
 use transition_lock::EnginePass;
@@ -27,12 +28,12 @@ pub struct AnalyzerParts<P> {
 
 /// An analyzer in a session, with its own port to its buffer.
 #[derive(Drop)]
-pub struct AnalyzerSeat<'a, P: EndlessPort> {
+pub struct AnalyzerSeat<'a, P: BufferPort> {
     member: AnalyzerMember<'a>,
     port: P,
 }
 
-impl<'a, P: EndlessPort> Model for AnalyzerSeat<'a, P> {
+impl<'a, P: BufferPort> Model for AnalyzerSeat<'a, P> {
     ghost use Rattle.turn_lock.specs.Passes.{own_entries};
     ghost use Rattle.analyzer_seats.specs.SeatedAnalyzers.{AnalyzerSeen, IsAnalyzerSeated};
 
@@ -55,7 +56,7 @@ impl<'a, P: EndlessPort> Model for AnalyzerSeat<'a, P> {
     }) };
 }
 
-impl<'a, P: EndlessPort> AnalyzerSeat<'a, P> {
+impl<'a, P: BufferPort> AnalyzerSeat<'a, P> {
     ghost use Rattle.analyzer_seats.specs.SeatedAnalyzers.{IsAnalyzerSeated, IsSameAnalyzer, analyzer_taken};
 
     /// An analyzer that is ready for its turns, with its own port to its buffer.

@@ -4,8 +4,9 @@ ghost use Rattle.analyzer_seats.specs.SeatedAnalyzers.{AnalyzerSeen, IsAnalyzerS
 ghost use Rattle.analyzer_seats.specs.ManyAnalyzers.{TurnsAnalyzer};
 
 use crate::analyzer_seat::AnalyzerSeat;
+use buffer_core::BufferPort;
 use daq_io::Gate;
-use daq_members::{EndlessPort, Turned};
+use daq_members::Turned;
 use daq_types::BoundedList;
 use std::sync::Wait;
 
@@ -13,7 +14,7 @@ use std::sync::Wait;
 pub type AnalyzerSeats<'a, P> = BoundedList<AnalyzerSeat<'a, P>, 8>;
 
 /// One turn of the analyzer at this place.
-pub fn turn_at<'a, R: Wait, P: EndlessPort, G: Gate>(
+pub fn turn_at<'a, R: Wait, P: BufferPort, G: Gate>(
     rt: &R,
     seats: &mut AnalyzerSeats<'a, P>,
     gate: &G,
@@ -29,7 +30,7 @@ pub fn turn_at<'a, R: Wait, P: EndlessPort, G: Gate>(
 }
 
 /// Learns what each of these analyzers keeps.
-pub fn ask_all<'a, P: EndlessPort>(seats: &[AnalyzerSeat<'a, P>])
+pub fn ask_all<'a, P: BufferPort>(seats: &[AnalyzerSeat<'a, P>])
     ensures { (place : ℕ) → (seen : AnalyzerSeen) → slice_get seats.now place ≡ Some seen →
         IsAnalyzerSeated seen }
 {

@@ -7,7 +7,7 @@ ghost use Rattle.transitions.specs.declared.answers.Answer.TheVariants.{Yes};
 ghost use Rattle.transitions.specs.declared.answers.Tally.TheVariants.{Plain};
 ghost use Rattle.member_model.specs.Turns.{MemberTurn, NoneOpen, latest_answered};
 ghost use Rattle.analyzers.specs.declared.analyzer_run.AnalyzerStage.TheVariants.{Drained};
-ghost use Rattle.analyzers.specs.Analyzers.{AnalyzerState, CancelsRun, IsWithinGot, run_at};
+ghost use Rattle.analyzers.specs.Analyzers.{AnalyzerState, IsWithinGot};
 ghost use Rattle.analyzers.specs.AnalyzerTurns.{CancelsIn, DropsRun, GetsClient, StartsAnalyzer, StopsAnalyzer, StopsRun, TurnsBy, RequestsRun, analyzer_turn, report_answer, run_reported};
 ghost use Rattle.analyzers.specs.AnalyzerPulls.{CountsOwn, CountsReply, EndsReading, PullsBy, ReceivesFor, drains_by, got_bytes, pull_answer, was_drained};
 ghost use Rattle.analyzers.specs.AnalyzerKept.{AnalyzerStands, AnalyzerTells};
@@ -65,7 +65,6 @@ fn client_name() -> Name
 
 /// Cancels the request of a run, if that stands.
 fn cancel_live<R: Wait, P: BufferPort>(rt: &R, port: &mut P, run: &AnalyzerRun)
-    requires entries { 1 ≤ (P.access port.old).entries }
     ensures cancels { CancelsIn run.now.stage run.now (P.access port.old) (P.access port.new) }
     ensures size { (P.access port.new).size ≡ (P.access port.old).size }
 {
@@ -79,7 +78,6 @@ fn cancel_live<R: Wait, P: BufferPort>(rt: &R, port: &mut P, run: &AnalyzerRun)
 
 /// Stops this run: what the buffer took so far is to be read.
 fn stop_run<R: Wait, P: BufferPort>(rt: &R, port: &mut P, run: &mut AnalyzerRun)
-    requires entries { 1 ≤ (P.access port.old).entries }
     ensures stops { StopsRun run.old.stage run.old run.new
         (P.access port.old) (P.access port.new) }
     ensures size { (P.access port.new).size ≡ (P.access port.old).size }
@@ -159,7 +157,6 @@ fn receive_for<R: Wait, P: BufferPort>(
     event: &mut EventBuf,
     run: &mut AnalyzerRun,
 ) -> Received
-    requires entries { 1 ≤ (P.access port.old).entries }
     requires room { min event_limit ((P.access port.old).size - 24) ≤ event.old.room }
     requires counted { IsWithinGot (Some run.old) (P.access port.old).got }
     ensures room { event.new.room ≡ event.old.room }
@@ -168,7 +165,6 @@ fn receive_for<R: Wait, P: BufferPort>(
         result }
     ensures counted { IsWithinGot (Some run.new) (P.access port.new).got }
     ensures size { (P.access port.new).size ≡ (P.access port.old).size }
-    ensures entries { (P.access port.old).entries ≤ (P.access port.new).entries + 1 }
 {
     let reply = port.receive(rt, run.client, event);
     count_reply(run, reply, event);
@@ -177,7 +173,6 @@ fn receive_for<R: Wait, P: BufferPort>(
 
 /// Ends the reading of a client that was drained: its request is cancelled.
 fn end_reading<R: Wait, P: BufferPort>(rt: &R, port: &mut P, run: &mut AnalyzerRun, drained: bool)
-    requires entries { 1 ≤ (P.access port.old).entries }
     ensures ends { EndsReading drained run.old (Some run.new) (P.access port.old)
         (P.access port.new) }
     ensures got { (P.access port.new).got ≡ (P.access port.old).got }
@@ -222,7 +217,6 @@ impl Analyzer {
 
     /// Drops the run, if there is one, and cancels its request, if that stands.
     fn drop_run<R: Wait, P: BufferPort>(&mut self, rt: &R, port: &mut P)
-        requires entries { 1 ≤ (P.access port.old).entries }
         ensures after { self.new ≡ record self.old { run = None } }
         ensures drops { DropsRun self.old.run (P.access port.old) (P.access port.new) }
         ensures size { (P.access port.new).size ≡ (P.access port.old).size }
@@ -234,11 +228,9 @@ impl Analyzer {
 
     /// The analyzer's client, which is attached where there is none yet.
     fn attached<R: Wait, P: BufferPort>(&mut self, rt: &R, port: &mut P) -> Option<u32>
-        requires entries { 1 ≤ (P.access port.old).entries }
         ensures after { self.new ≡ record self.old { client = result } }
         ensures gets { GetsClient self.old.client result (P.access port.old) (P.access port.new) }
         ensures size { (P.access port.new).size ≡ (P.access port.old).size }
-        ensures entries { (P.access port.old).entries ≤ (P.access port.new).entries + 1 }
     {
         if self.client.is_none() {
             self.client = port.attach(rt, client_name()).ok();
@@ -254,7 +246,6 @@ impl Analyzer {
         start: u32,
         report: Report,
     ) -> Answer
-        requires entries { 1 ≤ (P.access port.old).entries }
         requires none { self.old.run ≡ None }
         ensures wanted { self.new.wanted ≡ self.old.wanted }
         ensures room { self.new.room ≡ self.old.room }
@@ -290,7 +281,6 @@ impl Analyzer {
         order: &Order,
         blank: Option<Report>,
     ) -> Answer
-        requires entries { 3 ≤ (P.access port.old).entries }
         ensures wanted { self.new.wanted ≡ self.old.wanted }
         ensures room { self.new.room ≡ self.old.room }
         ensures starts { StartsAnalyzer blank self.old.wanted order.now.start (record {
@@ -319,7 +309,6 @@ impl Analyzer {
         port: &mut P,
         order: &Order,
     ) -> Option<Answer>
-        requires entries { 1 ≤ (P.access port.old).entries }
         ensures wanted { self.new.wanted ≡ self.old.wanted }
         ensures room { self.new.room ≡ self.old.room }
         ensures stops { StopsAnalyzer self.old.run order.now.start (record {
@@ -351,7 +340,6 @@ impl Analyzer {
         order: &Order,
         blank: Option<Report>,
     ) -> Option<Answer>
-        requires entries { 3 ≤ (P.access port.old).entries }
         ensures wanted { self.new.wanted ≡ self.old.wanted }
         ensures room { self.new.room ≡ self.old.room }
         ensures turns { TurnsBy transition self.old.wanted order.now blank (record {
@@ -387,7 +375,6 @@ impl Analyzer {
         order: &Order,
         blank: Option<Report>,
     ) -> Option<Answer>
-        requires entries { 3 ≤ (P.access port.old).entries }
         requires blank { IfSome blank (λ report. report ≡ report_of []) }
         ensures wanted { self.new.wanted ≡ self.old.wanted }
         ensures room { self.new.room ≡ self.old.room }
@@ -419,7 +406,6 @@ impl Analyzer {
 
     /// Receives once, where a run is read, and counts what it gets.
     fn pull_once<R: Wait, P: BufferPort>(&mut self, rt: &R, port: &mut P) -> AnalyzerPull
-        requires entries { 2 ≤ (P.access port.old).entries }
         requires room { min event_limit ((P.access port.old).size - 24) ≤ self.old.room }
         requires counted { IsWithinGot self.old.run (P.access port.old).got }
         ensures wanted { self.new.wanted ≡ self.old.wanted }
@@ -450,7 +436,6 @@ impl Analyzer {
 
     /// Receives once, where a run is read, and counts what it gets, where that is of the run.
     pub fn pull<R: Wait, P: BufferPort>(&mut self, rt: &R, port: &mut P) -> AnalyzerPull
-        requires entries { 2 ≤ (P.access port.old).entries }
         requires room { min event_limit ((P.access port.old).size - 24) ≤ self.old.room }
         requires counted { IsWithinGot self.old.run (P.access port.old).got }
         ensures wanted { self.new.wanted ≡ self.old.wanted }

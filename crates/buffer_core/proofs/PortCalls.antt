@@ -14,7 +14,7 @@ use Rattle.buffer_core.specs.Slots.{slot_at}
 use Rattle.buffer_core.specs.Window.{Window, Sent, IsWindow, IsKeepable}
 use Rattle.buffer_core.specs.Calls.{IsReply, window_after, event_after}
 use Rattle.buffer_core.specs.Histories.{IsLegal, replay}
-use Rattle.buffer_core.specs.Ports.{BufferIdentity, GotEvent, PortCalled, Calls, Receives, data_of, got_after, slots_got, GivesSound, IsSmallBuf}
+use Rattle.buffer_core.specs.Ports.{BufferIdentity, GotEvent, PortCalled, Calls, Receives, got_after, slots_got, GivesSound, IsSmallBuf}
 use Rattle.buffer_core.specs.CallersView.{access_in, given_by, given_in, taken_back_in}
 use Rattle.buffer_core.proofs.HistoryLaws.{replay-push, legal_push, window_replays, room_enough}
 use Rattle.buffer_core.proofs.GotLaws.{IsGot, got_is, given_is, slots_few}
@@ -101,11 +101,11 @@ module _ (first : Window) (by : ℕ) (h h' : List (ℕ × BufferEntry)) where
     pub gives_whole : min event_limit ((replay first h).size - 24) ≤ room → ¬ (IsSmallBuf reply)
     gives_whole enough = small_buf (replay first h) client room reply window enough next.reply
 
-module _ (buffer : BufferIdentity) (by : ℕ) (h h' : List (ℕ × BufferEntry)) (entries bytes entries' bytes' : ℕ) where
+module _ (buffer : BufferIdentity) (by : ℕ) (h h' : List (ℕ × BufferEntry)) where
   -- each call is one of its caller
-  pub called : (e : BufferEntry) → CallsNext buffer.opened by h h' e → entries ≤ entries' + 1 → bytes ≤ bytes' + data_of e
-      → PortCalled (access_in buffer by h entries bytes) (access_in buffer by h' entries' bytes') e (given_in by buffer.opened h ++ given_by (replay buffer.opened h) e)
-  called e next free more =
+  pub called : (e : BufferEntry) → CallsNext buffer.opened by h h' e
+      → PortCalled (access_in buffer by h) (access_in buffer by h') e (given_in by buffer.opened h ++ given_by (replay buffer.opened h) e)
+  called e next =
       let same : taken_back_in by 0 h' ≡ taken_back_in by 0 h = taken_back_next buffer.opened by h h' e next in
       record {
         buffer = refl;
@@ -116,22 +116,20 @@ module _ (buffer : BufferIdentity) (by : ℕ) (h h' : List (ℕ × BufferEntry))
         got_is = ap (given_in by buffer.opened) next.history ∙ given_in-push by buffer.opened h e;
         still_known = λ call had. subst (λ (ns : List ℕ). Contains ns call) (sym same) had;
         newly_known = λ call has. inl (subst (λ (ns : List ℕ). Contains ns call) same has);
-        entries = free;
-        bytes = more;
       }
 
   -- a call that gives no event
-  pub calls : (e : BufferEntry) → CallsNext buffer.opened by h h' e → entries ≤ entries' + 1 → bytes ≤ bytes' + data_of e → given_by (replay buffer.opened h) e ≡ []
-      → Calls (access_in buffer by h entries bytes) (access_in buffer by h' entries' bytes') e
-  calls e next free more none =
-      subst (PortCalled (access_in buffer by h entries bytes) (access_in buffer by h' entries' bytes') e)
-      (ap (λ (gs : List GotEvent). given_in by buffer.opened h ++ gs) none ∙ append-nil (given_in by buffer.opened h)) (called e next free more)
+  pub calls : (e : BufferEntry) → CallsNext buffer.opened by h h' e → given_by (replay buffer.opened h) e ≡ []
+      → Calls (access_in buffer by h) (access_in buffer by h') e
+  calls e next none =
+      subst (PortCalled (access_in buffer by h) (access_in buffer by h') e)
+      (ap (λ (gs : List GotEvent). given_in by buffer.opened h ++ gs) none ∙ append-nil (given_in by buffer.opened h)) (called e next)
 
   -- a receive
-  pub receives : (client room : ℕ) (reply : Received) → CallsNext buffer.opened by h h' (Receive client room reply) → entries ≤ entries' + 1 → bytes ≤ bytes' + 0
+  pub receives : (client room : ℕ) (reply : Received) → CallsNext buffer.opened by h h' (Receive client room reply)
       → (held held' : Event) → held' ≡ event_after held (replay buffer.opened h) reply
-      → Receives (access_in buffer by h entries bytes) (access_in buffer by h' entries' bytes') client room reply held'
-  receives client room reply next free more held held' after =
+      → Receives (access_in buffer by h) (access_in buffer by h') client room reply held'
+  receives client room reply next held held' after =
       let giving' : IsGiving (replay buffer.opened h) client reply held held' = gives buffer.opened by h h' client room reply next held held' after in
-      subst (PortCalled (access_in buffer by h entries bytes) (access_in buffer by h' entries' bytes') (Receive client room reply))
-      (giving'.got (given_in by buffer.opened h)) (called (Receive client room reply) next free more)
+      subst (PortCalled (access_in buffer by h) (access_in buffer by h') (Receive client room reply))
+      (giving'.got (given_in by buffer.opened h)) (called (Receive client room reply) next)

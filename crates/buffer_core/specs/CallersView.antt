@@ -50,15 +50,13 @@ taken_back_in by call (e ∷ es) =
     else taken_back_in by call es
 
 -- What a port to this buffer tells this caller, where these are the calls that the caller has seen since the buffer opened
--- to its ports, and there is room for so many calls and bytes of data.
-abbrev pub access_in : BufferIdentity → (caller : ℕ) → List (ℕ × BufferEntry) → (entries bytes : ℕ) → Access
-access_in buffer caller seen entries bytes = record {
+-- to its ports.
+abbrev pub access_in : BufferIdentity → (caller : ℕ) → List (ℕ × BufferEntry) → Access
+access_in buffer caller seen = record {
   buffer = buffer;
   caller = caller;
   size = (replay buffer.opened seen).size;
   own = entries_by caller seen;
   got = given_in caller buffer.opened seen;
   taken_back = taken_back_in caller 0 seen;
-  entries = entries;
-  bytes = bytes;
 }

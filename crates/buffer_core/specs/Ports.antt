@@ -7,14 +7,8 @@ use Rattle.buffer_core.specs.declared.replies.SendRefusal.TheVariants.{NotRunnin
 use Rattle.buffer_core.specs.declared.replies.Received.{Received}
 use Rattle.buffer_core.specs.declared.replies.Received.TheVariants.{Got, SmallBuf}
 use Rattle.buffer_core.specs.declared.entry.BufferEntry.{BufferEntry}
-use Rattle.buffer_core.specs.declared.entry.BufferEntry.TheVariants.{Attach, Detach, Send, SendInRun, Receive}
+use Rattle.buffer_core.specs.declared.entry.BufferEntry.TheVariants.{Attach, Detach, Receive}
 use Rattle.buffer_core.specs.Window.{Window}
-
--- how many bytes of data the call hands over
-abbrev pub data_of : BufferEntry → ℕ
-data_of (Send stated e reply) = length e.body
-data_of (SendInRun start stated e reply) = length e.body
-data_of entry = 0
 
 -- an event that a client got by a call: the client's number, the event's place, the start number that it was sent with, and
 -- the event
@@ -46,8 +40,8 @@ pub record BufferIdentity : Type 0 where
 
 -- One caller's access to a buffer: which buffer it is; the caller's number; the buffer's size; the
 -- caller's own calls with their replies, in order; the events that its clients got by them, in
--- order; which of its own calls, counted from 0, gave it clients that other callers detached, as far
--- as is known; and room for so many calls more, which hand over so many bytes of data.
+-- order; and which of its own calls, counted from 0, gave it clients that other callers detached, as
+-- far as is known.
 pub record Access : Type 0 where
   pub buffer : BufferIdentity
   pub caller : ℕ
@@ -55,8 +49,6 @@ pub record Access : Type 0 where
   pub own : List BufferEntry
   pub got : List GotEvent
   pub taken_back : List ℕ
-  pub entries : ℕ
-  pub bytes : ℕ
 
 -- this one of the own calls was an attach that gave the caller the client, and no own call detached
 -- the client since
@@ -85,8 +77,6 @@ pub record PortCalled (a b : Access) (entry : BufferEntry) (got : List GotEvent)
   pub still_known : (call : ℕ) → Contains a.taken_back call → Contains b.taken_back call
   pub newly_known : (call : ℕ) → Contains b.taken_back call →
       Contains a.taken_back call ⊎ ((client : ℕ) × IsGivenAt a.own call client)
-  pub entries : a.entries ≤ b.entries + 1
-  pub bytes : a.bytes ≤ b.bytes + data_of entry
 
 -- a call that gives no event
 abbrev pub Calls : Access → Access → BufferEntry → Type 0

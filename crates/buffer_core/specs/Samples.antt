@@ -122,8 +122,6 @@ access_after own taken_back = record {
   own = own;
   got = [];
   taken_back = taken_back;
-  entries = 1;
-  bytes = 0;
 }
 
 -- a caller that was given client 0

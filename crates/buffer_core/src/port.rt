@@ -1,4 +1,4 @@
-ghost use Rattle.std.specs.Prelude.{◌≡◌, ◌-◌, ◌^◌, ◌≤◌, ℕ, length, map, min, IfOk, IfErr};
+ghost use Rattle.std.specs.Prelude.{◌≡◌, ◌-◌, ◌^◌, ◌≤◌, ℕ, map, min, IfOk, IfErr};
 ghost use Rattle.daq_model.specs.Events.{event_limit};
 ghost use Rattle.event_header.specs.Headers.{event_of};
 ghost use Rattle.buffer_core.specs.declared.entry.BufferEntry.TheVariants.{Attach, Detach, Request, Cancel, Send, SendInRun, Begin, Pause, Resume, End, Level, Accepted};
@@ -9,8 +9,7 @@ use daq_types::{Kind, Name};
 use event_header::{EventBuf, Header};
 use std::sync::Wait;
 
-/// One caller's access to a buffer, by the calls of `EventBuffer`. Each is noted as one call of the caller. There has to
-/// be room to note it, and room for the data that it hands over.
+/// One caller's access to a buffer, by the calls of `EventBuffer`. Each is one call of the caller.
 pub trait BufferPort {
     ghost use Rattle.buffer_core.specs.Ports.{Access};
 
@@ -20,13 +19,11 @@ pub trait BufferPort {
     /// that an attach by this port gave, and that no detach took back since, be it by this port or,
     /// as the port then knows, by another caller.
     fn attach<R: Wait>(&mut self, rt: &R, name: Name) -> Result<u32, NoSlot>
-        requires room { 1 ≤ (access self.old).entries }
         ensures called { Calls (access self.old) (access self.new) (Attach name result) }
         ensures number { IfOk result (IsNewNumber (knowing (access self.old) (access self.new))) };
 
     /// As `EventBuffer::detach`.
     fn detach<R: Wait>(&mut self, rt: &R, client: u32) -> Result<(), NoClient>
-        requires room { 1 ≤ (access self.old).entries }
         ensures { Calls (access self.old) (access self.new) (Detach client result) };
 
     /// As `EventBuffer::request`.
@@ -38,18 +35,14 @@ pub trait BufferPort {
         mask: u16,
         kind: Kind,
     ) -> Result<u32, RequestRefusal>
-        requires room { 1 ≤ (access self.old).entries }
         ensures { Calls (access self.old) (access self.new) (Request client id mask kind result) };
 
     /// As `EventBuffer::cancel`.
     fn cancel<R: Wait>(&mut self, rt: &R, client: u32, request: u32) -> Result<(), RequestRefusal>
-        requires room { 1 ≤ (access self.old).entries }
         ensures { Calls (access self.old) (access self.new) (Cancel client request result) };
 
     /// As `EventBuffer::send`.
     fn send<R: Wait>(&mut self, rt: &R, header: &Header, body: &[u8]) -> Result<u64, SendRefusal>
-        requires room { 1 ≤ (access self.old).entries }
-        requires bytes { length body.now ≤ (access self.old).bytes }
         ensures called { Calls (access self.old) (access self.new)
             (Send header.now.data_size (event_of header.now body.now) result) }
         ensures refused { IfErr result (IsSendFault (access self.old).size header.now.data_size
@@ -63,8 +56,6 @@ pub trait BufferPort {
         header: &Header,
         body: &[u8],
     ) -> Result<u64, SendRefusal>
-        requires room { 1 ≤ (access self.old).entries }
-        requires bytes { length body.now ≤ (access self.old).bytes }
         ensures called { Calls (access self.old) (access self.new)
             (SendInRun start header.now.data_size (event_of header.now body.now) result) }
         ensures refused { IfErr result (IsRunSendFault (access self.old).size header.now.data_size
@@ -72,7 +63,6 @@ pub trait BufferPort {
 
     /// As `EventBuffer::receive`.
     fn receive<R: Wait>(&mut self, rt: &R, client: u32, into: &mut EventBuf) -> Received
-        requires room { 1 ≤ (access self.old).entries }
         ensures called { Receives (access self.old) (access self.new) client into.old.room result
             into.new.event }
         ensures room { into.new.room ≡ into.old.room }
@@ -84,32 +74,26 @@ pub trait BufferPort {
 
     /// As `EventBuffer::begin`.
     fn begin<R: Wait>(&mut self, rt: &R, start: u32) -> Result<u64, MarkRefusal>
-        requires room { 1 ≤ (access self.old).entries }
         ensures { Calls (access self.old) (access self.new) (Begin start result) };
 
     /// As `EventBuffer::pause`.
     fn pause<R: Wait>(&mut self, rt: &R, start: u32) -> Result<u64, MarkRefusal>
-        requires room { 1 ≤ (access self.old).entries }
         ensures { Calls (access self.old) (access self.new) (Pause start result) };
 
     /// As `EventBuffer::resume`.
     fn resume<R: Wait>(&mut self, rt: &R, start: u32) -> Result<u64, MarkRefusal>
-        requires room { 1 ≤ (access self.old).entries }
         ensures { Calls (access self.old) (access self.new) (Resume start result) };
 
     /// As `EventBuffer::end`.
     fn end<R: Wait>(&mut self, rt: &R, start: u32) -> Result<u64, MarkRefusal>
-        requires room { 1 ≤ (access self.old).entries }
         ensures { Calls (access self.old) (access self.new) (End start result) };
 
     /// As `EventBuffer::level`.
     fn level<R: Wait>(&mut self, rt: &R) -> u64
-        requires room { 1 ≤ (access self.old).entries }
         ensures { Calls (access self.old) (access self.new) (Level result) };
 
     /// As `EventBuffer::accepted`.
     fn accepted<R: Wait>(&mut self, rt: &R) -> u64
-        requires room { 1 ≤ (access self.old).entries }
         ensures { Calls (access self.old) (access self.new) (Accepted result) };
 
     // The events got are those that the own calls gave, one for one: who called nothing got

@@ -1,6 +1,6 @@
 -- Each call by a port to a shared buffer is one of the port's caller.
 use Rattle.std.specs.Prelude.{◌≡◌, ℕ, ◌-◌, ◌^◌, ◌≤◌, List, [], ◌∷◌, ◌++◌, Contains, min, Result, Ok, Err, IfOk, IfErr, refl}
-use Rattle.std.proofs.Common.{ap, sym, subst, ◌∙◌, arith, ⊎_elim, inr, append-nil}
+use Rattle.std.proofs.Common.{ap, sym, subst, ◌∙◌, ⊎_elim, inr, append-nil}
 use Rattle.daq_types.specs.declared.events.Event.{Event}
 use Rattle.daq_model.specs.Events.{event_limit}
 use Rattle.daq_types.specs.Callers.{entries_by}
@@ -19,7 +19,7 @@ use Rattle.buffer_core.specs.CallersView.{given_by, given_in, taken_back_in}
 use Rattle.buffer_core.proofs.TakenBack.{CallsNext, new_number}
 use Rattle.buffer_core.proofs.PortCalls.{calls, receives, gives, gives_whole, gets_few, size_stays}
 use Rattle.turn_lock.specs.History.{Appends}
-use Rattle.buffer_lock.specs.SharedPorts.{endless, ported_by, access_to}
+use Rattle.buffer_lock.specs.SharedPorts.{ported_by, access_to}
 use Rattle.buffer_lock.proofs.ForeignLaws.{given_stays, taken_back_stays, newly_taken}
 use Rattle.buffer_lock.proofs.SharedLaws.{event_still}
 use Rattle.buffer_lock.proofs.SendFaults.{send_fault, run_send_fault}
@@ -61,8 +61,6 @@ called_since n first seen others b e got foreign call =
       newly_known = λ k has. ⊎_elim (λ before. newly_taken n k seen others foreign before)
           (λ given. inr (given.0, subst (λ (l : List BufferEntry). IsGivenAt l k given.0) own given.1))
           (call.newly_known k has);
-      entries = call.entries;
-      bytes = call.bytes;
     }
 
 -- the same call, told of this buffer
@@ -75,8 +73,6 @@ told_of buffer a b e got call = record {
   got_is = call.got_is;
   still_known = call.still_known;
   newly_known = call.newly_known;
-  entries = call.entries;
-  bytes = call.bytes;
 }
 
 module _ (n : ℕ) (first : Window) (seen after : List (ℕ × BufferEntry)) where
@@ -105,7 +101,7 @@ module _ (n n' : ℕ) (first : Window) (seen after : List (ℕ × BufferEntry)) 
       let step = at_step n first seen after e opens a legal in
       let earlier : List (ℕ × BufferEntry) = seen ++ a.others in
       let call = called_since n first seen a.others (ported_by n first after) e (given_in n first earlier) a.foreign
-      (calls (alone first) n earlier after endless endless endless endless e step (omega arith) (omega arith) (none (replay first earlier))) in
+      (calls (alone first) n earlier after e step (none (replay first earlier))) in
       subst (λ (m : ℕ). PortCalled (access_to buffer (ported_by n first seen)) (access_to buffer (ported_by m first after)) e (given_in n first seen)) (sym same)
       (told_of buffer (ported_by n first seen) (ported_by n first after) e (given_in n first seen)
       (subst (λ (gs : List GotEvent). PortCalled (ported_by n first seen) (ported_by n first after) e gs) (given_stays n first seen a.others a.foreign) call))
@@ -142,7 +138,7 @@ module _ (n n' : ℕ) (first : Window) (seen after : List (ℕ × BufferEntry)) 
     pub shared_receives : (buffer : BufferIdentity) → Receives (access_to buffer (ported_by n first seen)) (access_to buffer (ported_by n' first after)) client room reply held'
     shared_receives buffer =
         let call = called_since n first seen a.others (ported_by n first after) (Receive client room reply) (got_after (given_in n first (seen ++ a.others)) client reply held') a.foreign
-        (receives (alone first) n (seen ++ a.others) after endless endless endless endless client room reply step (omega arith) (omega arith) held held' event_then) in
+        (receives (alone first) n (seen ++ a.others) after client room reply step held held' event_then) in
         subst (λ (m : ℕ). PortCalled (access_to buffer (ported_by n first seen)) (access_to buffer (ported_by m first after)) (Receive client room reply) (got_after (given_in n first seen) client reply held')) (sym same)
         (told_of buffer (ported_by n first seen) (ported_by n first after) (Receive client room reply) (got_after (given_in n first seen) client reply held')
         (subst (λ (gs : List GotEvent). PortCalled (ported_by n first seen) (ported_by n first after) (Receive client room reply) (got_after gs client reply held')) (given_stays n first seen a.others a.foreign) call))

@@ -1,5 +1,5 @@
 -- What a port to a shared buffer tells its caller.
-use Rattle.std.specs.Prelude.{ℕ, ◌^◌, List, []}
+use Rattle.std.specs.Prelude.{ℕ, List, []}
 use Rattle.buffer_core.specs.declared.entry.BufferEntry.{BufferEntry}
 use Rattle.buffer_core.specs.Window.{Window}
 use Rattle.buffer_core.specs.Ports.{Access, BufferIdentity}
@@ -11,14 +11,10 @@ use Rattle.buffer_lock.specs.declared.shared.SharedBuffer.{SharedBuffer}
 use Rattle.buffer_lock.specs.declared.port.SharedPort.{SharedPort}
 use Rattle.buffer_lock.specs.SharedBuffers.{lock_of, first_buffer}
 
--- A port that takes no room for its calls: there is always as much as could be asked for.
-abbrev pub endless : ℕ
-endless = 2 ^ 64
-
 -- what a port of this caller tells, whose buffer had that window at first, where the caller has seen this history: as if it
 -- were the buffer's one port
 abbrev pub ported_by : (caller : ℕ) → Window → List (ℕ × BufferEntry) → Access
-ported_by caller first seen = access_in (record { opened = first; ports = 1; numbers = [] }) caller seen endless endless
+ported_by caller first seen = access_in (record { opened = first; ports = 1; numbers = [] }) caller seen
 
 -- what such a port tells, where it leads to this buffer
 abbrev pub access_to : BufferIdentity → Access → Access
@@ -48,4 +44,4 @@ module _ {B : Type 0} {g : _} where
   -- gave, in the history that the pass has seen.
   abbrev pub access_by : (B → Window) → SharedPort B g → Access
   access_by window port =
-      access_in (identity_by window (buffer_of port)) (caller_of port) (history_by port) endless endless
+      access_in (identity_by window (buffer_of port)) (caller_of port) (history_by port)

@@ -16,7 +16,7 @@ use turn_lock::Machine;
 use turn_lock::laws::same_lock;
 
 /// One caller's access to a shared buffer, by a pass. The caller's number is the pass's, and its own calls are the
-/// pass's entries. A call takes no room, so there always is room for one.
+/// pass's entries.
 #[derive(Drop)]
 pub struct SharedPort<'a, B: EventBuffer>
 where

@@ -68,7 +68,7 @@ given_from laws size by before (x ∷ xs) legal =
     later
 
 pub port_tells : BufferLaws → PortTells
-port_tells laws size buffer opens history legal caller entries bytes = record {
+port_tells laws size buffer opens history legal caller = record {
   own_is = refl;
   sent_so = subst (λ (w : Window). AllByRecursion (WasSentAt history) (given_in caller w history)) (sym opens) (given_from laws size caller [] history legal);
 }

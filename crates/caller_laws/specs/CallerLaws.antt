@@ -146,8 +146,8 @@ OwnGoOn = (own : List BufferEntry) → (entry : BufferEntry) →
 -- What a port tells its caller of the calls since the buffer's opening is the caller's part of them.
 abbrev pub PortTells : Type 0
 PortTells = (size : ℕ) → (buffer : BufferIdentity) → buffer.opened ≡ opening size →
-    (history : History) → IsLegal (opening size) history → (caller entries bytes : ℕ) →
-    (let told : Access = access_in buffer caller history entries bytes in
+    (history : History) → IsLegal (opening size) history → (caller : ℕ) →
+    (let told : Access = access_in buffer caller history in
     IsCallersPart history caller told.own told.got)
 
 -- Who only sends in runs names no client of another, and sends no event but in runs.

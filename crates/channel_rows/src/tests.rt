@@ -1,22 +1,20 @@
-ghost use Rattle.std.specs.Prelude.{◌≡◌, ◌≤◌, ◌-◌, IfOk, OnOk, min, length};
+ghost use Rattle.std.specs.Prelude.{◌≡◌, ◌≤◌, ◌-◌, IfOk, min, length};
 ghost use Rattle.daq_model.specs.Events.{event_limit, record_limit};
 ghost use Rattle.mid_logger.specs.declared.stage.ChannelStage.TheVariants.{Idle};
 ghost use Rattle.mid_logger.specs.Channels.{IsOpenFile, written_run};
+ghost use Rattle.local_port.specs.OwningPorts.{owned_access};
 
 use buffer_core::BufferPort;
 use daq_io::Files;
 use daq_mem::{FileFail, FileOp, MemFiles};
 use daq_types::{Bytes, ChannelState, FileName, NoMemory, Order, RunState, Why};
 use event_header::{EventBuf, Header};
-use local_port::LocalPort;
+use local_port::OwningPort;
 use mid_logger::{Channel, ChannelSpec, ChannelStage, Pattern, Pulled};
 use plain_buffer::PlainBuffer;
 use std::alloc::Global;
 use std::sync::Wait;
 use std::test::Fail;
-
-/// The port of the rows.
-type Port = LocalPort<PlainBuffer>;
 
 /// The dump at the start of a run: the database with a front-end that has sent nothing.
 const DUMP: &[u8] =
@@ -33,11 +31,11 @@ fn order() -> Order {
     }
 }
 
-/// A port to a new buffer, with room for so many calls.
-fn new_port(alloc: Global) -> Result<Port, NoMemory>
-    ensures { IfOk result (λ port. port.window.size ≡ 1024) }
+/// A port to a new buffer.
+fn new_port(alloc: Global) -> Result<OwningPort<PlainBuffer>, NoMemory>
+    ensures { IfOk result (λ port. (owned_access (λ window. window) port).size ≡ 1024) }
 {
-    Ok(LocalPort::new(alloc, PlainBuffer::new(alloc, 1024)?))
+    OwningPort::new(alloc, PlainBuffer::new(alloc, 1024)?)
 }
 
 /// Channel 3, which asks for all events.
@@ -59,73 +57,66 @@ fn new_channel(alloc: Global, pattern: Pattern) -> Result<Channel, NoMemory>
     })
 }
 
-/// Opens run 1, with room to note the calls.
-fn open<R: Wait, F: Files>(
+/// Opens run 1.
+fn open<R: Wait, F: Files, P: BufferPort>(
     rt: &R,
     files: &mut F,
-    port: &mut Port,
+    port: &mut P,
     channel: &mut Channel,
     dump: &[u8],
-) -> Result<Result<(), Why>, NoMemory>
+) -> Result<(), Why>
     requires idle { channel.old.stage ≡ Idle }
     requires small { length dump.now ≤ record_limit }
-    ensures size { port.new.window.size ≡ port.old.window.size }
+    ensures size { (P.access port.new).size ≡ (P.access port.old).size }
     ensures room { channel.new.event ≡ channel.old.event }
-    ensures file { OnOk result (IsOpenFile (F.seen files.new) channel.new.spec
-        (written_run channel.new.stage)) }
+    ensures file { IsOpenFile (F.seen files.new) channel.new.spec
+        (written_run channel.new.stage) }
 {
-    port.reserve(2, 0)?;
-    Ok(channel.open(rt, files, port, &order(), dump))
+    channel.open(rt, files, port, &order(), dump)
 }
 
 /// Begins the run in the buffer, and sends one event in it.
-fn begin_and_send<R: Wait>(
+fn begin_and_send<R: Wait, P: BufferPort>(
     rt: &R,
-    port: &mut Port,
+    port: &mut P,
     channel: &mut Channel,
     header: &Header,
     body: &[u8],
-) -> Result<(), NoMemory>
-    requires body { length body.now ≤ 80 }
-    ensures size { port.new.window.size ≡ port.old.window.size }
+)
+    ensures size { (P.access port.new).size ≡ (P.access port.old).size }
     ensures room { channel.new.event ≡ channel.old.event }
     ensures spec { channel.new.spec ≡ channel.old.spec }
     ensures file { written_run channel.new.stage ≡ written_run channel.old.stage }
 {
-    port.reserve(2, 80)?;
-    if let Ok(place) = BufferPort::begin(port, rt, 1) {
+    if let Ok(place) = port.begin(rt, 1) {
         channel.note_begun(place);
     }
-    let _ = BufferPort::send_in_run(port, rt, 1, header, body);
-    Ok(())
+    let _ = port.send_in_run(rt, 1, header, body);
 }
 
 /// Ends the run in the buffer.
-fn end<R: Wait>(rt: &R, port: &mut Port, channel: &mut Channel) -> Result<(), NoMemory>
-    ensures size { port.new.window.size ≡ port.old.window.size }
+fn end<R: Wait, P: BufferPort>(rt: &R, port: &mut P, channel: &mut Channel)
+    ensures size { (P.access port.new).size ≡ (P.access port.old).size }
     ensures room { channel.new.event ≡ channel.old.event }
     ensures spec { channel.new.spec ≡ channel.old.spec }
     ensures file { written_run channel.new.stage ≡ written_run channel.old.stage }
 {
-    port.reserve(1, 0)?;
-    channel.note_ended(BufferPort::end(port, rt, 1).ok());
-    Ok(())
+    channel.note_ended(port.end(rt, 1).ok());
 }
 
 /// Pulls once.
-fn pull<R: Wait, F: Files>(
+fn pull<R: Wait, F: Files, P: BufferPort>(
     rt: &R,
     files: &mut F,
-    port: &mut Port,
+    port: &mut P,
     channel: &mut Channel,
-) -> Result<Pulled, NoMemory>
+) -> Pulled
     requires file { IsOpenFile (F.seen files.old) channel.old.spec (written_run channel.old.stage) }
-    requires room { min event_limit (port.old.window.size - 24) ≤ channel.old.event.room }
+    requires room { min event_limit ((P.access port.old).size - 24) ≤ channel.old.event.room }
     ensures room { channel.new.event.room ≡ channel.old.event.room }
     ensures file { IsOpenFile (F.seen files.new) channel.new.spec (written_run channel.new.stage) }
 {
-    port.reserve(2, 0)?;
-    Ok(channel.pull(rt, files, port))
+    channel.pull(rt, files, port)
 }
 
 /// The name of the file of run 1.
@@ -148,22 +139,22 @@ fn event() -> Header {
 }
 
 /// Opens the run, sends one event in it, pulls once, and ends the run; answers what the pull did.
-fn run_of_one_event<R: Wait, F: Files>(
+fn run_of_one_event<R: Wait, F: Files, P: BufferPort>(
     rt: &R,
     files: &mut F,
-    port: &mut Port,
+    port: &mut P,
     channel: &mut Channel,
-) -> Result<Pulled, NoMemory>
+) -> Pulled
     requires idle { channel.old.stage ≡ Idle }
-    requires room { min event_limit (port.old.window.size - 24) ≤ channel.old.event.room }
-    ensures file { OnOk result (IsOpenFile (F.seen files.new) channel.new.spec
-        (written_run channel.new.stage)) }
+    requires room { min event_limit ((P.access port.old).size - 24) ≤ channel.old.event.room }
+    ensures file { IsOpenFile (F.seen files.new) channel.new.spec
+        (written_run channel.new.stage) }
 {
-    let _ = open(rt, files, port, channel, DUMP)?;
-    begin_and_send(rt, port, channel, &event(), b"ab")?;
-    let pulled = pull(rt, files, port, channel)?;
-    end(rt, port, channel)?;
-    Ok(pulled)
+    let _ = open(rt, files, port, channel, DUMP);
+    begin_and_send(rt, port, channel, &event(), b"ab");
+    let pulled = pull(rt, files, port, channel);
+    end(rt, port, channel);
+    pulled
 }
 
 /// How long the file of this name is, where it is closed; 0 where there is none.
@@ -198,7 +189,7 @@ fn run_and_close<R: Wait>(
     requires room { 1000 ≤ channel.old.event.room }
 {
     let mut port = new_port(alloc)?;
-    let pulled = run_of_one_event(rt, files, &mut port, channel)?;
+    let pulled = run_of_one_event(rt, files, &mut port, channel);
     let state = channel.close(files, 1010, &None);
     Ok(Outcome {
         pulled,

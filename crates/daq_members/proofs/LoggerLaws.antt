@@ -1,6 +1,6 @@
--- The room of ports as channels pull, and ports that stay the same.
-use Rattle.std.specs.Prelude.{◌≡◌, ℕ, ◌+◌, ◌-◌, ◌*◌, ◌≤◌, ◌<◌, Bool, true, false, ◌||◌, IfSome, is_some, List, length, map, slice_get, Option, Some, None, refl}
-use Rattle.std.proofs.Common.{ap, sym, subst, ◌∙◌, arith, add-one}
+-- Channels that pull one after another, and ports that stay the same.
+use Rattle.std.specs.Prelude.{◌≡◌, ℕ, ◌+◌, ◌-◌, ◌≤◌, Bool, true, false, ◌||◌, IfSome, is_some, List, length, map, slice_get, Option, Some, None, refl}
+use Rattle.std.proofs.Common.{ap, sym, subst, ◌∙◌, add-one}
 use Rattle.std.specs.List.{list_all}
 use Rattle.std.proofs.lemmas.List.{length-map}
 use Rattle.daq_model.specs.Events.{record_limit}
@@ -9,22 +9,10 @@ use Rattle.mid_logger.specs.declared.pulled.Pulled.{Pulled}
 use Rattle.mid_logger.specs.declared.pulled.Pulled.TheVariants.{NoChannel}
 use Rattle.buffer_core.specs.Ports.{Access}
 use Rattle.buffer_core.specs.Slots.{slot_at}
-use Rattle.loggers.specs.Moments.{LoggerMoment, HaveEntries, UseEntries, AreSamePorts}
+use Rattle.loggers.specs.Moments.{LoggerMoment, AreSamePorts}
 use Rattle.loggers.specs.SlotPulls.{PullsSlot, PullsNumbered}
 use Rattle.loggers.specs.Finishing.{LoggerFinish, FinishesBy, FinishesLogger, is_settled_slot, waiting_stop}
 use Rattle.daq_members.specs.LoggerTaken.{PullsBelow, has_pulled}
-
--- what has room for more calls has room for fewer
-pub entries_fewer : (more fewer : ℕ) (ports : List Access) → fewer ≤ more → HaveEntries more ports → HaveEntries fewer ports
-entries_fewer more fewer ports le have = λ buffer a at. let enough : more ≤ a.entries = have buffer a at in omega (arith, le, enough)
-
--- one pull more, of so many that are left
-pub entries_left : (channel : ℕ) (before after : List Access) → channel < 16 → AreSamePorts before after → UseEntries 2 before after → HaveEntries (2 * (16 - channel)) before → HaveEntries (2 * (16 - (channel + 1))) after
-entries_left channel before after less same uses have = λ buffer b at.
-    let old : (a : Access) × (slice_get before buffer ≡ Some a) = same.there buffer b at in
-    let enough : 2 * (16 - channel) ≤ old.0.entries = have buffer old.0 old.1 in
-    let left : old.0.entries ≤ b.entries + 2 = uses.each buffer old.0 b old.1 at in
-    omega (arith, less, enough, left)
 
 pub same_ports : (ports : List Access) → AreSamePorts ports ports
 same_ports ports = record {
@@ -52,8 +40,8 @@ pub pulls_more : (n : ℕ) (got later : Bool) (answer : Pulled) (a m b : LoggerM
 pulls_more n got later answer a m b below pulls is = subst (λ (k : ℕ). PullsBelow k later a b) (sym (add-one n)) (m, got, answer, below, pulls, is)
 
 -- as many ports as their accesses
-pub as_many : {P : Type 0} (access : P → Access) (before after : List P) → UseEntries 2 (map access before) (map access after) → length after ≡ length before
-as_many access before after uses = sym (length-map after access) ∙ (uses.many ∙ length-map before access)
+pub as_many : {P : Type 0} (access : P → Access) (before after : List P) → AreSamePorts (map access before) (map access after) → length after ≡ length before
+as_many access before after same = sym (length-map after access) ∙ (same.many ∙ length-map before access)
 
 -- the dump of the stop that waits is kept where it waits on, and there is none where it is answered
 finished_so : (settled : Bool) (stop : Option ℕ) (f : LoggerFinish) → FinishesBy settled stop f → IfSome f.stop_dump (λ bytes. length bytes ≤ record_limit) → IfSome f.later_stop_dump (λ bytes. length bytes ≤ record_limit)
@@ -71,9 +59,3 @@ pulls_none (Some c) number a none = absurd (cc (none))
 
 pub pulls_nothing : (number : ℕ) (a : LoggerMoment) → is_some (slot_at a.slots number) ≡ false → PullsNumbered number NoChannel a a
 pulls_nothing number a none = pulls_none (slot_at a.slots number) number a none
-
-pub uses_nothing : (count : ℕ) (ports : List Access) → UseEntries count ports ports
-uses_nothing count ports = record {
-  many = refl;
-  each = λ buffer a b before after. let same : a ≡ b = cc (before, after) in subst (λ (x : Access). a.entries ≤ x.entries + count) same (omega arith);
-}

@@ -1,18 +1,17 @@
--- The logger in a session, behind a turn; and the room of its ports.
-use Rattle.std.specs.Prelude.{◌≡◌, ◌≤◌, ℕ, zero, suc, Bool, List, [], ◌∷◌, length, map, slice_get, Option, Some, None, refl}
+-- The logger in a session, behind a turn.
+use Rattle.std.specs.Prelude.{◌≡◌, ◌≤◌, ℕ, zero, suc, Bool, List, length, map, slice_get, Option, Some, None, refl}
 use Rattle.std.proofs.Common.{sym, subst, ◌∙◌, arith, inl}
 use Rattle.std.proofs.lemmas.List.{length-map}
 use Rattle.buffer_core.specs.Ports.{Access}
 use Rattle.transitions.specs.declared.replies.Polled.{Polled}
 use Rattle.transitions.specs.declared.replies.Polled.TheVariants.{Turn, Idle as NoTurn, Closed, NoClient}
-use Rattle.loggers.specs.Moments.{LoggerMoment, HaveEntries, AreSamePorts}
+use Rattle.loggers.specs.Moments.{LoggerMoment, AreSamePorts}
 use Rattle.loggers.specs.NewLoggers.{NoneTakenBack}
 use Rattle.mid_logger.specs.declared.channel.Channel.{Channel}
 use Rattle.loggers.specs.LoggerFaults.{NotesFaults}
 use Rattle.loggers.specs.LoggerLaws.{TurnsLeaveKnown, PullsLeaveKnown, TurnsNote, PullsNote, FinishesNote, NotesFollow}
 use Rattle.daq_members.specs.OwnTurns.{start_owed}
 use Rattle.daq_members.specs.LoggerTaken.{LoggerTaken, HaveCaller, PullsBelow, TakesLoggerBy, TakesLogger, pulled_channels}
-use Rattle.daq_members.specs.Endless.{IsEndless}
 
 -- What was known of other callers before a turn is known behind it.
 
@@ -101,19 +100,6 @@ noted_by laws t (Turn transition order dump blank) (Some start) ends =
 
 pub taken_noted : NotedLaws → (t : LoggerTaken) → TakesLogger t → NotesFaults t.before.slots t.after.slots t.before.files.faults t.after.files.faults
 taken_noted laws t takes = noted_by laws t takes.reply (start_owed t.client t.calls) takes.takes
-
--- Endless ports have room for a turn.
-
-entries_of : {P : Type 0} (access : P → Access) (ports : List P) (buffer : ℕ) (a : Access) → ((port : P) → IsEndless (access port)) → slice_get (map access ports) buffer ≡ Some a → 49 ≤ a.entries
-entries_of access [] zero a endless at = absurd (cc (at))
-entries_of access [] (suc n) a endless at = absurd (cc (at))
-entries_of access (p ∷ ps) zero a endless at =
-    let is : access p ≡ a = cc (at) in
-    subst (λ (x : Access). 49 ≤ x.entries) is (endless p).entries
-entries_of access (p ∷ ps) (suc n) a endless at = entries_of access ps n a endless at
-
-pub have_entries : {P : Type 0} (access : P → Access) (ports : List P) → ((port : P) → IsEndless (access port)) → HaveEntries 49 (map access ports)
-have_entries access ports endless = λ buffer a at. entries_of access ports buffer a endless at
 
 -- The ports stay the caller's own, and there are as many of them as of their accesses.
 

@@ -2,7 +2,6 @@ pub mod OwnTurns
 pub mod SentSets
 pub mod FrontTaken
 pub mod LoggerTaken
-pub mod Endless
 pub mod FrontSeats
 pub mod StartedRuns
 pub mod LoggerSeats

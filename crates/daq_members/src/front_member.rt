@@ -11,7 +11,6 @@ ghost use Rattle.transitions.specs.declared.replies.Polled.TheVariants.{Turn};
 ghost use Rattle.transitions.specs.declared.entry.EngineEntry.{EngineEntry};
 ghost use Rattle.transitions.specs.declared.entry.EngineEntry.TheVariants.{Poll};
 ghost use Rattle.event_report.specs.Reports.{Totals};
-ghost use Rattle.front_ends.specs.FrontIds.{event_room};
 ghost use Rattle.front_ends.specs.Fronts.{front_answer, run_after, finish_answer, run_finished, events_sent};
 ghost use Rattle.loggers.specs.Moments.{IsSameAccess};
 ghost use Rattle.daq_members.specs.declared.seat.Seat.{Seat as Place};
@@ -149,8 +148,6 @@ impl<'a, E: Equipment> FrontMember<'a, E> {
         requires caller { (P.access port.old).caller ≡ caller_of_client self.old.seat.client }
         requires database_caller { (D.access database.old).caller
             ≡ caller_of_client self.old.seat.client }
-        requires entries { 1 ≤ (P.access port.old).entries }
-        requires bytes { event_room ≤ (P.access port.old).bytes }
         requires size { 104 ≤ (P.access port.old).size }
         ensures takes { TakesFront (front_member_taken E.takes E.makes self.old.name self.old.seat
             self.new.seat self.old.front self.new.front (P.access port.old) (P.access port.new)
@@ -183,8 +180,6 @@ impl<'a, E: Equipment> FrontMember<'a, E> {
         owed: Option<u32>,
         reply: &Polled,
     ) -> Turned
-        requires entries { 1 ≤ (P.access port.old).entries }
-        requires bytes { event_room ≤ (P.access port.old).bytes }
         requires size { 104 ≤ (P.access port.old).size }
         ensures takes { (before : Place) → Asked before self.old.seat owed reply.now →
             TakesFront (front_member_taken E.takes E.makes self.old.name before
@@ -228,8 +223,6 @@ impl<'a, E: Equipment> FrontMember<'a, E> {
 
     /// Sends the next event, if one is to be sent, between the two points of the gate.
     fn step<R: Wait, P: BufferPort, G: Gate>(&mut self, rt: &R, port: &mut P, gate: &G) -> FrontStep
-        requires entries { 1 ≤ (P.access port.old).entries }
-        requires bytes { event_room ≤ (P.access port.old).bytes }
         requires size { 104 ≤ (P.access port.old).size }
         ensures steps { StepsFront (E.makes self.old.front.equipment) self.old.front.run
             self.new.front.run (P.access port.old) (P.access port.new) result }

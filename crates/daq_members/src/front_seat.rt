@@ -1,14 +1,14 @@
 // A front-end in a session, with what it calls.
-ghost use Rattle.std.specs.Prelude.{◌≡◌, ◌≤◌, [], None};
+ghost use Rattle.std.specs.Prelude.{◌≡◌, ◌≤◌, None};
 ghost use Rattle.daq_types.specs.Callers.{caller_of_client};
 ghost use Rattle.odb_port.specs.DatabasePorts.{own_watched};
 ghost use Rattle.turn_lock.specs.Passes.{number_of, held_by, own_entries, IsOf};
 ghost use Rattle.transition_lock.specs.SharedEngines.{engine_lock_of};
 ghost use Rattle.daq_members.specs.FrontTaken.{TakesFront, FrontMemberStands};
 
-use crate::endless::EndlessPort;
 use crate::front_member::FrontMember;
 use crate::turned::Turned;
+use buffer_core::BufferPort;
 use daq_io::Gate;
 use daq_types::Name;
 use front_ends::Equipment;
@@ -31,13 +31,13 @@ pub struct FrontParts<P, D> {
 
 /// A front-end in a session, with its own port to its buffer and its own access to the database.
 #[derive(Drop)]
-pub struct FrontSeat<'a, E: Equipment, P: EndlessPort, D: WatchPort> {
+pub struct FrontSeat<'a, E: Equipment, P: BufferPort, D: WatchPort> {
     member: FrontMember<'a, E>,
     port: P,
     database: D,
 }
 
-impl<'a, E: Equipment, P: EndlessPort, D: WatchPort> Model for FrontSeat<'a, E, P, D> {
+impl<'a, E: Equipment, P: BufferPort, D: WatchPort> Model for FrontSeat<'a, E, P, D> {
     ghost use Rattle.turn_lock.specs.Passes.{own_entries};
     ghost use Rattle.daq_members.specs.FrontSeats.{FrontSeen, IsSeated};
 
@@ -66,7 +66,7 @@ impl<'a, E: Equipment, P: EndlessPort, D: WatchPort> Model for FrontSeat<'a, E, 
     }) };
 }
 
-impl<'a, E: Equipment, P: EndlessPort, D: WatchPort> FrontSeat<'a, E, P, D> {
+impl<'a, E: Equipment, P: BufferPort, D: WatchPort> FrontSeat<'a, E, P, D> {
     ghost use Rattle.daq_members.specs.FrontSeats.{IsSeated, IsSameFront, front_taken};
 
     /// A front-end that has made no call yet, with its own port to its buffer and its own access to the database.

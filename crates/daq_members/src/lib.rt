@@ -3,7 +3,6 @@
 //! logger writes the run files.
 #![tactic(auto)]
 
-mod endless;
 mod front_member;
 mod front_seat;
 pub mod laws;
@@ -12,7 +11,6 @@ mod logger_seat;
 mod seat;
 mod turned;
 
-pub use endless::EndlessPort;
 pub use front_member::{FrontMember, turned_by};
 pub use front_seat::{FrontParts, FrontSeat};
 pub use logger_member::LoggerMember;

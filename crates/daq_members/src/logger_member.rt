@@ -4,11 +4,8 @@ ghost use Rattle.daq_types.specs.Callers.{caller_of_client};
 ghost use Rattle.daq_model.specs.Events.{record_limit};
 ghost use Rattle.buffer_core.specs.Slots.{slot_at};
 ghost use Rattle.transitions.specs.EngineHistories.{IsFairTurn};
-ghost use Rattle.turn_lock.specs.Passes.{own_entries};
 ghost use Rattle.member_model.specs.Turns.{MemberTurn};
-ghost use Rattle.member_model.specs.TurnCalls.{member_turns};
-ghost use Rattle.loggers.specs.Moments.{files_by, moment_of, IsLoggerReady, HaveEntries, UseEntries, AreSamePorts};
-ghost use Rattle.loggers.specs.NewLoggers.{NoneTakenBack};
+ghost use Rattle.loggers.specs.Moments.{files_by, moment_of, IsLoggerReady, AreSamePorts};
 ghost use Rattle.loggers.specs.SlotPulls.{HasEventRoom, PullsNumbered};
 ghost use Rattle.loggers.specs.Turning.{IsIdleOutside, buffers_begun};
 ghost use Rattle.loggers.specs.LoggerStands.{LoggerStands};
@@ -95,7 +92,6 @@ impl<'a> LoggerMember<'a> {
             (map P.access ports.old) }
         requires ready { IsLoggerReady self.old.logger.channels (map P.access ports.old)
             (F.seen files.old) }
-        requires entries { HaveEntries 49 (map P.access ports.old) }
         requires room { (number : ℕ) → HasEventRoom number self.old.logger.channels
             (map P.access ports.old) }
         requires idle { IsIdleOutside self.old.logger.run self.old.logger.channels }
@@ -136,7 +132,6 @@ impl<'a> LoggerMember<'a> {
     ) -> Turned
         requires ready { IsLoggerReady self.old.logger.channels (map P.access ports.old)
             (F.seen files.old) }
-        requires entries { HaveEntries 49 (map P.access ports.old) }
         requires room { (number : ℕ) → HasEventRoom number self.old.logger.channels
             (map P.access ports.old) }
         requires idle { IsIdleOutside self.old.logger.run self.old.logger.channels }
@@ -201,7 +196,6 @@ impl<'a> LoggerMember<'a> {
     ) -> bool
         requires ready { IsLoggerReady self.old.logger.channels (map P.access ports.old)
             (F.seen files.old) }
-        requires entries { HaveEntries 49 (map P.access ports.old) }
         requires room { (number : ℕ) → HasEventRoom number self.old.logger.channels
             (map P.access ports.old) }
         requires idle { IsIdleOutside self.old.logger.run self.old.logger.channels }
@@ -251,7 +245,6 @@ impl<'a> LoggerMember<'a> {
     ) -> Pulled
         requires ready { IsLoggerReady self.old.logger.channels (map P.access ports.old)
             (F.seen files.old) }
-        requires entries { HaveEntries 2 (map P.access ports.old) }
         requires room { (number : ℕ) → HasEventRoom number self.old.logger.channels
             (map P.access ports.old) }
         requires idle { IsIdleOutside self.old.logger.run self.old.logger.channels }
@@ -260,7 +253,6 @@ impl<'a> LoggerMember<'a> {
             (files_by F.seen F.faults F.clashes F.first files.old))
             (moment_of self.new.logger.channels (map P.access ports.new)
             (files_by F.seen F.faults F.clashes F.first files.new)) }
-        ensures uses { UseEntries 2 (map P.access ports.old) (map P.access ports.new) }
         ensures seat { self.new.seat ≡ self.old.seat }
         ensures run { self.new.logger.run ≡ self.old.logger.run }
         ensures stop_dump { self.new.logger.stop_dump ≡ self.old.logger.stop_dump }

@@ -14,9 +14,9 @@ ghost use Rattle.loggers.specs.LoggerStands.{LoggerStands};
 ghost use Rattle.loggers.specs.Reasons.{GivesReasons};
 ghost use Rattle.daq_members.specs.LoggerTaken.{TakesLogger, HaveCaller};
 
-use crate::endless::EndlessPort;
 use crate::logger_member::LoggerMember;
 use crate::turned::Turned;
+use buffer_core::BufferPort;
 use daq_io::{Files, Gate};
 use loggers::{Ports, laws as logger_laws};
 use std::marker::Model;
@@ -36,14 +36,14 @@ pub struct LoggerParts<P, F> {
 
 /// The logger in a session, with its own ports to the buffers, each at its buffer's number, and the run files.
 #[derive(Drop)]
-pub struct LoggerSeat<'a, P: EndlessPort, F: Files> {
+pub struct LoggerSeat<'a, P: BufferPort, F: Files> {
     member: LoggerMember<'a>,
     ports: Ports<P>,
     files: F,
     first: Snapshot<F>,
 }
 
-impl<'a, P: EndlessPort, F: Files> Model for LoggerSeat<'a, P, F> {
+impl<'a, P: BufferPort, F: Files> Model for LoggerSeat<'a, P, F> {
     ghost use Rattle.std.specs.Prelude.{map};
     ghost use Rattle.turn_lock.specs.Passes.{own_entries};
     ghost use Rattle.loggers.specs.Moments.{files_by};
@@ -77,7 +77,7 @@ impl<'a, P: EndlessPort, F: Files> Model for LoggerSeat<'a, P, F> {
         }) };
 }
 
-impl<'a, P: EndlessPort, F: Files> LoggerSeat<'a, P, F> {
+impl<'a, P: BufferPort, F: Files> LoggerSeat<'a, P, F> {
     ghost use Rattle.loggers.specs.Moments.{files_by};
     ghost use Rattle.daq_members.specs.LoggerSeats.{IsLoggerSeated, HasLoggerReasons, KeepsLoggerNames, IsSameLogger, logger_taken};
 

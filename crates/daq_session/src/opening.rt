@@ -17,9 +17,9 @@ ghost use Rattle.session_objects.specs.Objects.{SuitMembers};
 ghost use Rattle.daq_session.specs.NewDatabases.{IsNewDatabase};
 
 use crate::places::{MemberSide, Places};
+use buffer_core::BufferPort;
 use buffer_lock::SharedPort;
 use daq_io::{Files, Gate, Pick};
-use daq_members::EndlessPort;
 use daq_types::{BoundedList, Name, NoMemory};
 use front_ends::Equipment;
 use frontend_kit::Generator;
@@ -127,13 +127,10 @@ pub type SessionRoom<'a, D, F> = ThreadRoom<
 >;
 
 /// Room for threads of the members, but where the main thread gives them their turns.
-fn thread_room<
-    'a,
-    X: Equipment + Drop,
-    P: EndlessPort + Drop,
-    D: WatchPort + Drop,
-    F: Files + Drop,
->(alloc: Global, cooperative: bool) -> Result<Option<ThreadRoom<'a, X, P, D, F>>, NoMemory> {
+fn thread_room<'a, X: Equipment + Drop, P: BufferPort + Drop, D: WatchPort + Drop, F: Files + Drop>(
+    alloc: Global,
+    cooperative: bool,
+) -> Result<Option<ThreadRoom<'a, X, P, D, F>>, NoMemory> {
     if cooperative {
         return Ok(None);
     }
@@ -142,7 +139,7 @@ fn thread_room<
 }
 
 /// Lets room for threads go. Dropped at the session's own types it would have all their laws proved at each place.
-pub fn let_go<'a, X: Equipment + Drop, P: EndlessPort + Drop, D: WatchPort + Drop, F: Files + Drop>(
+pub fn let_go<'a, X: Equipment + Drop, P: BufferPort + Drop, D: WatchPort + Drop, F: Files + Drop>(
     _room: Option<ThreadRoom<'a, X, P, D, F>>,
 ) {}
 

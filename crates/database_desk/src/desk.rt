@@ -40,7 +40,6 @@ impl<D: WatchPort, E: Files> DatabaseDesk<D, E> {
         command: &Command<'_>,
     ) -> Result<Reply, NoMemory>
         requires database { calls_objects command.now ≡ true }
-        requires room { 256 ≤ (D.access self.old.access).room }
         ensures did { IfOk result (λ reply. DoesDatabase number command.now
             (database_stage (D.access self.old.access) (E.seen self.old.files)
             (E.faults self.old.files) (E.clashes self.old.files) (E.first self.old.files)
@@ -74,7 +73,6 @@ impl<D: WatchPort, E: Files> DatabaseDesk<D, E> {
         command: &Command<'_>,
     ) -> Result<Reply, NoMemory>
         requires watches { performs_watches command.now ≡ true }
-        requires room { 256 ≤ (D.access self.old.access).room }
         ensures did { IfOk result (λ reply. PerformsDump number command.now
             (database_stage (D.access self.old.access) (E.seen self.old.files)
             (E.faults self.old.files) (E.clashes self.old.files) (E.first self.old.files)

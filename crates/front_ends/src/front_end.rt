@@ -10,7 +10,7 @@ ghost use Rattle.member_model.specs.SentCalls.{own_sent};
 ghost use Rattle.front_ends.specs.declared.front_step.FrontStep.TheVariants.{NoWork};
 ghost use Rattle.transitions.specs.declared.answers.Answer.TheVariants.{Yes};
 ghost use Rattle.transitions.specs.declared.answers.Tally.TheVariants.{Plain};
-ghost use Rattle.front_ends.specs.Fronts.{is_done, is_over, front_tally, begun_run, paused_run, stopping_run, stop_answer, stopped_run, IsStepOf, HasStep, run_sent, front_answer, run_after, finish_answer, run_finished, is_at_work, events_sent, SendsNext, front_turn};
+ghost use Rattle.front_ends.specs.Fronts.{is_done, is_over, front_tally, begun_run, paused_run, stop_answer, stopped_run, IsStepOf, HasStep, run_sent, front_answer, run_after, finish_answer, run_finished, is_at_work, events_sent, SendsNext, front_turn};
 ghost use Rattle.front_ends.specs.FrontIds.{event_room};
 ghost use Rattle.front_ends.specs.FrontKept.{IsInRun, FrontStands, KeepsMoments};
 
@@ -267,8 +267,6 @@ impl<E: Equipment> FrontEnd<E> {
     /// Sends the next event of the run, or nothing where none is to be sent: before the run's accepted start and after its
     /// stop, while it is paused, once the quota was sent, and once the buffer was spent.
     pub fn step<R: Wait, P: BufferPort>(&mut self, rt: &R, port: &mut P) -> FrontStep
-        requires entries { 1 ≤ (P.access port.old).entries }
-        requires bytes { event_room ≤ (P.access port.old).bytes }
         requires size { 104 ≤ (P.access port.old).size }
         ensures nothing { result ≡ NoWork ↔ (is_at_work self.old.run ≡ false) }
         ensures idle { is_at_work self.old.run ≡ false → self.new ≡ self.old }
@@ -308,8 +306,6 @@ impl<E: Equipment> FrontEnd<E> {
         run: FrontRun,
     ) -> Result<u64, SendRefusal>
         requires more { run.sent < run.order.quota }
-        requires entries { 1 ≤ (P.access port.old).entries }
-        requires bytes { event_room ≤ (P.access port.old).bytes }
         requires size { 104 ≤ (P.access port.old).size }
         ensures step { HasStep result }
         ensures run { self.new.run ≡ self.old.run }

@@ -3,8 +3,13 @@ use Rattle.std.specs.Prelude.{◌≡◌, ℕ, ◌+◌, List, [], ◌∷◌, leng
 use Rattle.daq_types.specs.declared.events.Event.{Event}
 use Rattle.buffer_core.specs.declared.entry.BufferEntry.{BufferEntry}
 use Rattle.buffer_core.specs.declared.entry.BufferEntry.TheVariants.{Send, SendInRun}
-use Rattle.buffer_core.specs.Ports.{data_of}
 use Rattle.local_port.specs.declared.journal.Line.{Line}
+
+-- how many bytes of data the call hands over
+abbrev pub data_of : BufferEntry → ℕ
+data_of (Send stated e reply) = length e.body
+data_of (SendInRun start stated e reply) = length e.body
+data_of entry = 0
 
 -- the event with these data
 abbrev pub event_with : List ℕ → Event → Event

@@ -1,3 +1,4 @@
 pub mod Journals
 pub mod JournalViews
 pub mod Ported
+pub mod OwningPorts

@@ -4,8 +4,7 @@ use Rattle.buffer_core.specs.declared.entry.BufferEntry.{BufferEntry}
 use Rattle.buffer_core.specs.Window.{Window, IsWindow}
 use Rattle.buffer_core.specs.Calls.{IsReply, window_after}
 use Rattle.buffer_core.specs.Histories.{IsLegal, replay}
-use Rattle.buffer_core.specs.Ports.{Access, data_of}
-use Rattle.buffer_core.specs.CallersView.{access_in}
+use Rattle.local_port.specs.Journals.{data_of}
 
 -- the window that the buffer had at first, and the one that it has; the calls since, each with the number of its caller;
 -- whose calls come next; and room for so many calls more, which hand over so many bytes of data
@@ -22,12 +21,6 @@ pub record IsPorted (p : Ported) : Type 0 where
   pub opens : IsWindow p.start
   pub legal : IsLegal p.start p.history
   pub replayed : p.window ≡ replay p.start p.history
-
--- what the port tells its caller: its buffer has no other port
-abbrev pub access_of : Ported → Access
-access_of p = record (access_in (record { opened = p.start; ports = 1; numbers = [] }) p.caller p.history p.entries p.bytes) {
-  size = p.window.size;
-}
 
 -- one call more, by the caller whose calls come
 pub record AppendsCall (p q : Ported) (entry : BufferEntry) : Type 0 where

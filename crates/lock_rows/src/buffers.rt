@@ -387,10 +387,7 @@ fn make_calls<R: Wait, P: BufferPort>(
     port: &mut P,
     name: Name,
     into: &mut EventBuf,
-) -> [bool; 13]
-    requires room { 13 ≤ (P.access port.old).entries }
-    requires bytes { 24 ≤ (P.access port.old).bytes }
-{
+) -> [bool; 13] {
     let got = Received::Got { place: 0, start: 0 };
     [
         port.attach(rt, name) == Ok(0),

@@ -1,16 +1,22 @@
 -- A logger with its ports and files between two calls of a row.
-use Rattle.std.specs.Prelude.{◌≡◌, ◌≤◌, ◌<◌, ◌==◌, ◌-◌, ◌%◌, ℕ, if◌then◌else◌, IfSome, List, length, slice_get, Some}
+use Rattle.std.specs.Prelude.{◌≡◌, ◌≤◌, ◌==◌, ◌-◌, ◌%◌, ℕ, if◌then◌else◌, IfSome, List, length, slice_get, Some}
 use Rattle.daq_model.specs.Events.{record_limit}
 use Rattle.daq_io.specs.Seen.{Seen}
 use Rattle.buffer_core.specs.Ports.{Access}
-use Rattle.local_port.specs.Ported.{Ported, KeepsPort}
+use Rattle.buffer_core.specs.Window.{Window}
+use Rattle.local_port.specs.declared.owning.OwningPort.{OwningPort}
+use Rattle.local_port.specs.OwningPorts.{owned_access}
 use Rattle.mid_logger.specs.declared.channel_spec.ChannelSpec.{ChannelSpec}
 use Rattle.loggers.specs.declared.logger.Logger.{Logger}
 use Rattle.loggers.specs.Moments.{IsLoggerReady}
 use Rattle.loggers.specs.SlotPulls.{HasEventRoom}
 use Rattle.loggers.specs.Turning.{IsIdleOutside, buffers_begun}
 
--- what the calls of the logger need, but room to note them
+-- what a port of the rows tells
+abbrev pub row_access : {g : _} → OwningPort Window g → Access
+row_access port = owned_access (λ window. window) port
+
+-- what the calls of the logger need
 pub record IsRowReady (logger : Logger) (ports : List Access) (seen : Seen) : Type 0 where
   pub ready : IsLoggerReady logger.channels ports seen
   pub idle : IsIdleOutside logger.run logger.channels
@@ -23,23 +29,15 @@ abbrev pub row_size : (number : ℕ) → ℕ
 row_size number = if number == 0 then 1024 else 256
 
 -- so many ports to buffers of these sizes
-pub record AreRowPorts (count : ℕ) (ports : List Ported) : Type 0 where
+pub record AreRowPorts (count : ℕ) (ports : List Access) : Type 0 where
   pub many : length ports ≡ count
-  pub sizes : (n : ℕ) → (p : Ported) → slice_get ports n ≡ Some p → p.window.size ≡ row_size n
+  pub sizes : (n : ℕ) → (p : Access) → slice_get ports n ≡ Some p → p.size ≡ row_size n
 
 -- the ports lead to buffers of the same sizes
-pub record HaveSameSizes (before after : List Ported) : Type 0 where
+pub record HaveSameSizes (before after : List Access) : Type 0 where
   pub many : length after ≡ length before
-  pub each : (n : ℕ) → (p q : Ported) → slice_get before n ≡ Some p →
-      slice_get after n ≡ Some q → q.window.size ≡ p.window.size
-
--- The ports are the same, with room for so many calls and bytes on those with numbers below this.
-pub record HaveGrown (count entries bytes : ℕ) (before after : List Ported) : Type 0 where
-  pub many : length after ≡ length before
-  pub same : (n : ℕ) → (p q : Ported) → slice_get before n ≡ Some p →
-      slice_get after n ≡ Some q → KeepsPort p q
-  pub room : (n : ℕ) → (q : Ported) → n < count → slice_get after n ≡ Some q →
-      (entries ≤ q.entries) × (bytes ≤ q.bytes)
+  pub each : (n : ℕ) → (p q : Access) → slice_get before n ≡ Some p →
+      slice_get after n ≡ Some q → q.size ≡ p.size
 
 -- So many specs, each with its place as its number. They read the buffers, which are so many, by turns.
 pub record AreRowSpecs (count buffers : ℕ) (specs : List ChannelSpec) : Type 0 where

@@ -1,10 +1,8 @@
-//! The calls of a row on a logger, and beside it on its buffers; before each there is made room to note it.
+//! The calls of a row on a logger, and beside it on its buffers.
 
-ghost use Rattle.std.specs.Prelude.{◌≡◌, ◌≤◌, length, map, OnOk};
-ghost use Rattle.local_port.specs.Ported.{access_of};
-ghost use Rattle.logger_rows.specs.LoggerRows.{IsRowReady, HaveGrown, HaveSameSizes};
+ghost use Rattle.std.specs.Prelude.{◌≡◌, map, OnOk};
+ghost use Rattle.logger_rows.specs.LoggerRows.{IsRowReady, HaveSameSizes};
 
-use crate::making::Port;
 use buffer_core::BufferPort;
 use daq_io::Files;
 use daq_types::{Bytes, NoMemory, Order, Transition};
@@ -19,33 +17,19 @@ use transitions::Answer;
 const DUMP: &[u8] =
     b"[/Runinfo]\nState = INT32 : 1\nRun number = INT32 : 1\nStart time binary = UINT32 : 1000\nStop time binary = UINT32 : 0\n\n[/Equipment]\n\n[/Equipment/FE]\nEvents sent = UINT64 : 0\n\n";
 
-/// Room to note so many calls on each port, with so many bytes of data.
-fn reserve_all(ports: &mut Ports<Port>, entries: u64, bytes: u64) -> Result<(), NoMemory>
-    ensures { OnOk result (HaveGrown (length ports.old) entries bytes ports.old ports.new) }
-{
-    for number in 0..ports.len() {
-        let Some(port) = ports.get_mut(number) else {
-            unreachable!()
-        };
-        port.reserve(entries, bytes)?;
-    }
-    Ok(())
-}
-
 /// Gives the logger a turn, with the dump.
-pub fn turn<R: Wait, F: Files>(
+pub fn turn<R: Wait, F: Files, P: BufferPort>(
     rt: &R,
     alloc: Global,
     logger: &mut Logger,
     files: &mut F,
-    ports: &mut Ports<Port>,
+    ports: &mut Ports<P>,
     transition: Transition,
     order: &Order,
 ) -> Result<Option<Answer>, NoMemory>
-    requires row { IsRowReady logger.old (map access_of ports.old) (F.seen files.old) }
-    ensures row { OnOk result (IsRowReady logger.new (map access_of ports.new) (F.seen files.new)) }
+    requires row { IsRowReady logger.old (map P.access ports.old) (F.seen files.old) }
+    ensures row { OnOk result (IsRowReady logger.new (map P.access ports.new) (F.seen files.new)) }
 {
-    reserve_all(ports, 49, 0)?;
     let dump = Bytes::of(DUMP.to_vec(alloc)?);
     Ok(logger.on_turn(rt, files, ports, transition, order, Some(dump)))
 }
@@ -55,8 +39,6 @@ const DATA: &[u8] = &[7; 1000];
 
 /// Sends an event of so many bytes in the run with this start number.
 fn send_on<R: Wait, P: BufferPort>(rt: &R, port: &mut P, start: u32, len: usize)
-    requires entries { 1 ≤ (P.access port.old).entries }
-    requires bytes { 1000 ≤ (P.access port.old).bytes }
     ensures size { (P.access port.new).size ≡ (P.access port.old).size }
 {
     let (body, _) = DATA.split_at(len.min(1000));
@@ -72,8 +54,6 @@ fn send_on<R: Wait, P: BufferPort>(rt: &R, port: &mut P, start: u32, len: usize)
 
 /// Sends an event of so many bytes in the run with this start number, or begins that run where there is none.
 fn call_on<R: Wait, P: BufferPort>(rt: &R, port: &mut P, start: u32, event: Option<usize>)
-    requires entries { 1 ≤ (P.access port.old).entries }
-    requires bytes { 1000 ≤ (P.access port.old).bytes }
     ensures size { (P.access port.new).size ≡ (P.access port.old).size }
 {
     match event {
@@ -86,34 +66,31 @@ fn call_on<R: Wait, P: BufferPort>(rt: &R, port: &mut P, start: u32, event: Opti
 
 /// Sends an event of so many bytes in the run with this start number into a buffer, or begins that run there where there
 /// is none.
-pub fn call<R: Wait>(
+pub fn call<R: Wait, P: BufferPort>(
     rt: &R,
-    ports: &mut Ports<Port>,
+    ports: &mut Ports<P>,
     buffer: usize,
     start: u32,
     event: Option<usize>,
-) -> Result<(), NoMemory>
-    ensures sizes { OnOk result (HaveSameSizes ports.old ports.new) }
+)
+    ensures sizes { HaveSameSizes (map P.access ports.old) (map P.access ports.new) }
 {
-    reserve_all(ports, 1, 1000)?;
     let Some(port) = ports.get_mut(buffer) else {
-        return Ok(());
+        return;
     };
     call_on(rt, port, start, event);
-    Ok(())
 }
 
 /// Pulls once on a channel.
-pub fn pull<R: Wait, F: Files>(
+pub fn pull<R: Wait, F: Files, P: BufferPort>(
     rt: &R,
     logger: &mut Logger,
     files: &mut F,
-    ports: &mut Ports<Port>,
+    ports: &mut Ports<P>,
     channel: u32,
-) -> Result<Pulled, NoMemory>
-    requires row { IsRowReady logger.old (map access_of ports.old) (F.seen files.old) }
-    ensures row { OnOk result (IsRowReady logger.new (map access_of ports.new) (F.seen files.new)) }
+) -> Pulled
+    requires row { IsRowReady logger.old (map P.access ports.old) (F.seen files.old) }
+    ensures row { IsRowReady logger.new (map P.access ports.new) (F.seen files.new) }
 {
-    reserve_all(ports, 2, 0)?;
-    Ok(logger.pull(rt, files, ports, channel))
+    logger.pull(rt, files, ports, channel)
 }

@@ -25,15 +25,14 @@ pub struct Fixture {
 impl Model for Fixture {
     ghost use Rattle.std.specs.Prelude.{ℕ, length, map};
     ghost use Rattle.daq_mem.specs.SeenFiles.{seen_files};
-    ghost use Rattle.local_port.specs.Ported.{access_of};
-    ghost use Rattle.logger_rows.specs.LoggerRows.{IsRowReady};
+    ghost use Rattle.logger_rows.specs.LoggerRows.{row_access, IsRowReady};
 
     ghost Value = { ℕ };
 
     ghost view = { λ f. length f.ports };
 
     ghost invariant = { λ f.
-        IsRowReady f.logger (map access_of f.ports) (seen_files f.files).seen };
+        IsRowReady f.logger (map row_access f.ports) (seen_files f.files).seen };
 }
 
 impl Fixture {
@@ -90,36 +89,23 @@ impl Fixture {
 
     /// Sends an event of so many bytes in the run with this start number into a buffer, or begins that run there where
     /// there is none.
-    pub fn call<R: Abort + Wait>(
-        &mut self,
-        rt: &R,
-        buffer: usize,
-        start: u32,
-        event: Option<usize>,
-    ) {
-        match calls::call(rt, &mut self.ports, buffer, start, event) {
-            Ok(()) => {}
-            Err(_) => panic!(rt; "no memory"),
-        }
+    pub fn call<R: Wait>(&mut self, rt: &R, buffer: usize, start: u32, event: Option<usize>) {
+        calls::call(rt, &mut self.ports, buffer, start, event);
     }
 
     /// Pulls once on a channel.
-    pub fn pull<R: Abort + Wait>(&mut self, rt: &R, channel: u32) -> Pulled {
-        let pulled = calls::pull(
+    pub fn pull<R: Wait>(&mut self, rt: &R, channel: u32) -> Pulled {
+        calls::pull(
             rt,
             &mut self.logger,
             &mut self.files,
             &mut self.ports,
             channel,
-        );
-        match pulled {
-            Ok(pulled) => pulled,
-            Err(_) => panic!(rt; "no memory"),
-        }
+        )
     }
 
     /// Pulls so often on a channel; answers how many events were written.
-    pub fn pull_all<R: Abort + Wait>(&mut self, rt: &R, channel: u32, times: u32) -> usize {
+    pub fn pull_all<R: Wait>(&mut self, rt: &R, channel: u32, times: u32) -> usize {
         let mut wrote = 0;
         for turn in 0..times {
             if let Pulled::Wrote { .. } = self.pull(rt, channel) {

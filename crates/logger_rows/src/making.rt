@@ -2,18 +2,18 @@
 
 ghost use Rattle.std.specs.Prelude.{◌≡◌, ◌≤◌, ◌<◌, ◌%◌, List, map, IfOk};
 ghost use Rattle.daq_io.specs.Seen.{Seen};
-ghost use Rattle.local_port.specs.Ported.{Ported, access_of};
-ghost use Rattle.logger_rows.specs.LoggerRows.{IsRowReady, AreRowPorts, AreRowSpecs, AreRowRooms, row_size};
+ghost use Rattle.buffer_core.specs.Ports.{Access};
+ghost use Rattle.logger_rows.specs.LoggerRows.{row_access, IsRowReady, AreRowPorts, AreRowSpecs, AreRowRooms, row_size};
 
 use daq_types::NoMemory;
-use local_port::LocalPort;
+use local_port::OwningPort;
 use loggers::{ChannelSpecs, Logger, Ports};
 use mid_logger::{ChannelSpec, Pattern};
 use plain_buffer::PlainBuffer;
 use std::alloc::Global;
 
 /// The port of the rows.
-pub type Port = LocalPort<PlainBuffer>;
+pub type Port = OwningPort<PlainBuffer>;
 
 /// The size in bytes of the buffer of this number: the first is the largest.
 fn size_of(number: u32) -> u32
@@ -25,13 +25,20 @@ fn size_of(number: u32) -> u32
     if number == 0 { 1024 } else { 256 }
 }
 
+/// A port to a new buffer of this number.
+fn new_port(alloc: Global, number: u32) -> Result<Port, NoMemory>
+    ensures { IfOk result (λ port. (row_access port).size ≡ row_size number) }
+{
+    OwningPort::new(alloc, PlainBuffer::new(alloc, size_of(number))?)
+}
+
 /// Ports to so many new buffers.
 pub fn new_ports(alloc: Global, count: u32) -> Result<Ports<Port>, NoMemory>
-    ensures { IfOk result (AreRowPorts count) }
+    ensures { IfOk result (λ ports. AreRowPorts count (map row_access ports)) }
 {
     let mut ports = Ports::new(alloc)?;
     for number in 0..count {
-        ports.try_push(LocalPort::new(alloc, PlainBuffer::new(alloc, size_of(number))?))?;
+        ports.try_push(new_port(alloc, number)?)?;
     }
     Ok(ports)
 }
@@ -88,8 +95,8 @@ fn new_rooms(alloc: Global, channels: u32, buffers: u32) -> Result<Vec<u32>, NoM
 pub fn new_logger(alloc: Global, channels: u32, buffers: u32) -> Result<Logger, NoMemory>
     requires few { channels ≤ 16 }
     requires some { 0 < buffers }
-    ensures { IfOk result (λ logger. (ports : List Ported) → (seen : Seen) →
-        AreRowPorts buffers ports → IsRowReady logger (map access_of ports) seen) }
+    ensures { IfOk result (λ logger. (ports : List Access) → (seen : Seen) →
+        AreRowPorts buffers ports → IsRowReady logger ports seen) }
 {
     let specs = new_specs(alloc, channels, buffers)?;
     let rooms = new_rooms(alloc, channels, buffers)?;

@@ -27,7 +27,6 @@ pub mod EndedReady
 pub mod KnownBefore
 pub mod OwnCalls
 pub mod TurnsOwn
-pub mod TurnUses
 pub mod FaultsNoted
 pub mod FilesLeft
 pub mod ManyRose

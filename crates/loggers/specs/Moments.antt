@@ -1,5 +1,5 @@
 -- A logger at a moment: its channels, what it knows of its ports, and the run files; and steps that follow one another.
-use Rattle.std.specs.Prelude.{◌≡◌, ◌≢◌, ◌≤◌, ◌<◌, ◌+◌, ◌==◌, ℕ, zero, suc, if◌then◌else◌, List, length, map, slice_get, slice_set, Option, Some, None}
+use Rattle.std.specs.Prelude.{◌≡◌, ◌≢◌, ◌≤◌, ◌<◌, ◌==◌, ℕ, zero, suc, if◌then◌else◌, List, length, map, slice_get, slice_set, Option, Some, None}
 use Rattle.std.specs.Option.{option_map}
 use Rattle.daq_io.specs.Seen.{Seen}
 use Rattle.buffer_core.specs.declared.entry.BufferEntry.{BufferEntry}
@@ -126,26 +126,6 @@ pub record IsLoggerReady (slots : List (Option Channel)) (ports : List Access) (
   pub many : length slots ≤ channel_limit
   pub served : (n : ℕ) → (c : Channel) → slot_at slots n ≡ Some c → c.spec.buffer < length ports
   pub files : HaveFilesOpen slots seen
-
--- there is room to note so many calls on each port
-abbrev pub HaveEntries : (count : ℕ) → List Access → Type 0
-HaveEntries count ports = (buffer : ℕ) → (a : Access) → slice_get ports buffer ≡ Some a → count ≤ a.entries
-
--- at most so many calls more are noted on each port
-pub record UseEntries (count : ℕ) (before after : List Access) : Type 0 where
-  pub many : length after ≡ length before
-  pub each : (buffer : ℕ) → (a b : Access) → slice_get before buffer ≡ Some a → slice_get after buffer ≡ Some b →
-      a.entries ≤ b.entries + count
-
--- there is room to note one call more on the port of this buffer
-abbrev pub HasEntry : (buffer : ℕ) → List Access → Type 0
-HasEntry buffer ports = (a : Access) → slice_get ports buffer ≡ Some a → 1 ≤ a.entries
-
--- at most one call more is noted on the port of this buffer, and none on any other
-pub record UsesEntry (buffer : ℕ) (before after : List Access) : Type 0 where
-  pub many : length after ≡ length before
-  pub each : (n : ℕ) → (a b : Access) → slice_get before n ≡ Some a → slice_get after n ≡ Some b →
-      a.entries ≤ b.entries + (if n == buffer then 1 else 0)
 
 -- the same caller's access to the same buffer, of the same size
 abbrev pub IsSameAccess : (a b : Access) → Type 0

@@ -1,4 +1,4 @@
-ghost use Rattle.std.specs.Prelude.{◌≡◌, ◌≤◌, ◌<◌, ℕ, List, [], ◌∷◌, if◌then◌else◌, length, map, unwrap_or, Option, Some, None, IfOk, IfSome};
+ghost use Rattle.std.specs.Prelude.{◌≡◌, ◌≤◌, ◌<◌, ℕ, List, [], if◌then◌else◌, length, map, unwrap_or, Option, Some, None, IfOk, IfSome};
 ghost use Rattle.daq_model.specs.Events.{record_limit};
 ghost use Rattle.daq_io.specs.Seen.{Seen};
 ghost use Rattle.buffer_core.specs.Ports.{Access};
@@ -7,11 +7,11 @@ ghost use Rattle.member_model.specs.Turns.{MemberTurn};
 ghost use Rattle.daq_types.specs.declared.runs.Transition.TheVariants.{Start, Stop, Pause, Resume, StartAbort};
 ghost use Rattle.transitions.specs.declared.answers.Answer.TheVariants.{Yes};
 ghost use Rattle.transitions.specs.declared.answers.Tally.TheVariants.{Plain};
-ghost use Rattle.loggers.specs.Moments.{RunFiles, files_by, moment_of, IsLoggerReady, HaveFilesOpen, HaveEntries, UseEntries, AreIdleChannels, AreSamePorts};
+ghost use Rattle.loggers.specs.Moments.{RunFiles, files_by, moment_of, IsLoggerReady, HaveFilesOpen, AreIdleChannels, AreSamePorts};
 ghost use Rattle.loggers.specs.Turning.{logger_turned, TakesTurn, TakesStart, TakesStop, TakesMark, TakesAbort, StartsLogger, PausesBuffer, ResumesBuffer, is_run_on, is_started, is_of_start, buffers_begun, IsIdleOutside, start_answer, start_part};
 ghost use Rattle.loggers.specs.Finishing.{FinishesLogger, logger_finished};
 ghost use Rattle.loggers.specs.SlotPulls.{HasEventRoom, PullsNumbered};
-ghost use Rattle.loggers.specs.NewLoggers.{HaveNumbers, HasNewChannels, HavePorts, AreUnused, HaveRooms, NoneTakenBack};
+ghost use Rattle.loggers.specs.NewLoggers.{HaveNumbers, HasNewChannels, HavePorts, AreUnused, HaveRooms};
 ghost use Rattle.loggers.specs.LoggerCalls.{KeepsLoggerCalls};
 ghost use Rattle.loggers.specs.LoggerFaults.{HasFailed, NotesFaults};
 ghost use Rattle.loggers.specs.LoggerLaws.{StandsAfterTurn, StandsAfterFinish};
@@ -165,7 +165,6 @@ impl Logger {
     ) -> Option<Answer>
         requires ready { IsLoggerReady self.old.channels (map P.access ports.old)
             (F.seen files.old) }
-        requires entries { HaveEntries 49 (map P.access ports.old) }
         requires idle { IsIdleOutside self.old.run self.old.channels }
         requires begun { buffers_begun self.old.run ≤ length ports.old }
         requires small { IfSome dump (λ bytes. length bytes ≤ record_limit) }
@@ -178,7 +177,6 @@ impl Logger {
         ensures begun { buffers_begun self.new.run ≤ length ports.new }
         ensures small { IfSome self.old.stop_dump (λ bytes. length bytes ≤ record_limit) →
             IfSome self.new.stop_dump (λ bytes. length bytes ≤ record_limit) }
-        ensures uses { UseEntries 49 (map P.access ports.old) (map P.access ports.new) }
         ensures same { AreSamePorts (map P.access ports.old) (map P.access ports.new) }
         ensures own { KeepsLoggerCalls self.old.channels (map P.access ports.old) →
             KeepsLoggerCalls self.new.channels (map P.access ports.new) }
@@ -207,7 +205,6 @@ impl Logger {
     ) -> Option<Answer>
         requires ready { IsLoggerReady self.old.channels (map P.access ports.old)
             (F.seen files.old) }
-        requires entries { HaveEntries 49 (map P.access ports.old) }
         requires idle { IsIdleOutside self.old.run self.old.channels }
         requires begun { buffers_begun self.old.run ≤ length ports.old }
         requires small { IfSome dump (λ bytes. length bytes ≤ record_limit) }
@@ -241,7 +238,6 @@ impl Logger {
     ) -> Answer
         requires ready { IsLoggerReady self.old.channels (map P.access ports.old)
             (F.seen files.old) }
-        requires entries { HaveEntries 49 (map P.access ports.old) }
         requires idle { IsIdleOutside self.old.run self.old.channels }
         requires begun { buffers_begun self.old.run ≤ length ports.old }
         requires small { IfSome dump.now (λ bytes. length bytes ≤ record_limit) }
@@ -271,7 +267,6 @@ impl Logger {
     ) -> Answer
         requires ready { IsLoggerReady self.old.channels (map P.access ports.old)
             (F.seen files.old) }
-        requires entries { HaveEntries 49 (map P.access ports.old) }
         requires idle { AreIdleChannels self.old.channels }
         requires small { IfSome dump.now (λ bytes. length bytes ≤ record_limit) }
         ensures starts { StartsLogger (logger_turned
@@ -311,7 +306,6 @@ impl Logger {
     ) -> Option<Answer>
         requires ready { IsLoggerReady self.old.channels (map P.access ports.old)
             (F.seen files.old) }
-        requires entries { HaveEntries 49 (map P.access ports.old) }
         requires idle { IsIdleOutside self.old.run self.old.channels }
         requires begun { buffers_begun self.old.run ≤ length ports.old }
         ensures takes { TakesStop (is_started self.old.run order.now.start)
@@ -350,7 +344,6 @@ impl Logger {
     ) -> Answer
         requires ready { IsLoggerReady self.old.channels (map P.access ports.old)
             (F.seen files.old) }
-        requires entries { HaveEntries 49 (map P.access ports.old) }
         requires idle { IsIdleOutside self.old.run self.old.channels }
         requires begun { buffers_begun self.old.run ≤ length ports.old }
         ensures takes { (dump : Option (List ℕ)) →
@@ -382,7 +375,6 @@ impl Logger {
     ) -> Answer
         requires ready { IsLoggerReady self.old.channels (map P.access ports.old)
             (F.seen files.old) }
-        requires entries { HaveEntries 49 (map P.access ports.old) }
         requires idle { IsIdleOutside self.old.run self.old.channels }
         requires begun { buffers_begun self.old.run ≤ length ports.old }
         ensures takes { (dump : Option (List ℕ)) →
@@ -414,7 +406,6 @@ impl Logger {
     ) -> Answer
         requires ready { IsLoggerReady self.old.channels (map P.access ports.old)
             (F.seen files.old) }
-        requires entries { HaveEntries 49 (map P.access ports.old) }
         requires idle { IsIdleOutside self.old.run self.old.channels }
         requires begun { buffers_begun self.old.run ≤ length ports.old }
         ensures takes { (dump : Option (List ℕ)) →
@@ -450,7 +441,6 @@ impl Logger {
     ) -> Pulled
         requires ready { IsLoggerReady self.old.channels (map P.access ports.old)
             (F.seen files.old) }
-        requires entries { HaveEntries 2 (map P.access ports.old) }
         requires idle { IsIdleOutside self.old.run self.old.channels }
         requires room { HasEventRoom channel self.old.channels (map P.access ports.old) }
         ensures pulls { PullsNumbered channel result
@@ -463,7 +453,6 @@ impl Logger {
         ensures ready { IsLoggerReady self.new.channels (map P.access ports.new)
             (F.seen files.new) }
         ensures idle { IsIdleOutside self.new.run self.new.channels }
-        ensures uses { UseEntries 2 (map P.access ports.old) (map P.access ports.new) }
         ensures same { AreSamePorts (map P.access ports.old) (map P.access ports.new) }
         ensures own { KeepsLoggerCalls self.old.channels (map P.access ports.old) →
             KeepsLoggerCalls self.new.channels (map P.access ports.new) }

@@ -1,12 +1,12 @@
 //! Marks of a run in the buffers, and how the channels note them.
 
-ghost use Rattle.std.specs.Prelude.{◌≡◌, ◌<◌, ◌≤◌, ℕ, List, Option, length, map, slice_set, OnOk, OnErr, IfErr};
+ghost use Rattle.std.specs.Prelude.{◌≡◌, ◌<◌, ◌≤◌, List, Option, length, map, OnOk, OnErr, IfErr};
 ghost use Rattle.std.specs.Option.{option_map};
 ghost use Rattle.daq_io.specs.Seen.{Seen};
 ghost use Rattle.buffer_core.specs.Slots.{change_slot};
 ghost use Rattle.mid_logger.specs.declared.channel.Channel.{Channel as a_channel};
 ghost use Rattle.mid_logger.specs.Channels.{stage_begun, stage_ended};
-ghost use Rattle.loggers.specs.Moments.{RunFiles, IsLoggerReady, HasEntry, UsesEntry, HaveEntries, UseEntries, InTurn, noted_channel};
+ghost use Rattle.loggers.specs.Moments.{RunFiles, IsLoggerReady, InTurn, noted_channel};
 ghost use Rattle.loggers.specs.Turning.{BeginsBuffer, RefusesBegin, EndsBuffer, PausesBuffer, ResumesBuffer, BeginsBelow, RefusesMark};
 
 use crate::slots::{Ports, Slots};
@@ -95,14 +95,13 @@ fn begin_at<R: Wait, P: BufferPort>(
     start: u32,
 ) -> Result<(), NotBegun>
     requires within { buffer < length ports.old }
-    requires entries { HasEntry buffer (map P.access ports.old) }
     ensures begins { OnOk result ((files : RunFiles) → BeginsBuffer start buffer
         (record { slots = slots.old; ports = map P.access ports.old; files = files })
         (record { slots = slots.new; ports = map P.access ports.new; files = files })) }
     ensures refuses { OnErr result ((files : RunFiles) → RefusesBegin start buffer
         (record { slots = slots.old; ports = map P.access ports.old; files = files })
         (record { slots = slots.new; ports = map P.access ports.new; files = files })) }
-    ensures entries { UsesEntry buffer (map P.access ports.old) (map P.access ports.new) }
+    ensures count { length ports.new ≡ length ports.old }
 {
     let Some(port) = ports.get_mut(buffer) else {
         unreachable!()
@@ -125,11 +124,10 @@ fn end_at<R: Wait, P: BufferPort>(
     start: u32,
 )
     requires within { buffer < length ports.old }
-    requires entries { HasEntry buffer (map P.access ports.old) }
     ensures ends { (files : RunFiles) → EndsBuffer start buffer
         (record { slots = slots.old; ports = map P.access ports.old; files = files })
         (record { slots = slots.new; ports = map P.access ports.new; files = files }) }
-    ensures entries { UsesEntry buffer (map P.access ports.old) (map P.access ports.new) }
+    ensures count { length ports.new ≡ length ports.old }
 {
     let Some(port) = ports.get_mut(buffer) else {
         unreachable!()
@@ -141,12 +139,11 @@ fn end_at<R: Wait, P: BufferPort>(
 /// Pauses the run in one buffer, where that is not refused.
 fn pause_at<R: Wait, P: BufferPort>(rt: &R, ports: &mut Ports<P>, buffer: usize, start: u32)
     requires within { buffer < length ports.old }
-    requires entries { HasEntry buffer (map P.access ports.old) }
     ensures pauses { (slots : List (Option a_channel)) → (files : RunFiles)
         → PausesBuffer start buffer
         (record { slots = slots; ports = map P.access ports.old; files = files })
         (record { slots = slots; ports = map P.access ports.new; files = files }) }
-    ensures entries { UsesEntry buffer (map P.access ports.old) (map P.access ports.new) }
+    ensures count { length ports.new ≡ length ports.old }
 {
     let Some(port) = ports.get_mut(buffer) else {
         unreachable!()
@@ -157,12 +154,11 @@ fn pause_at<R: Wait, P: BufferPort>(rt: &R, ports: &mut Ports<P>, buffer: usize,
 /// Resumes the run in one buffer, where that is not refused.
 fn resume_at<R: Wait, P: BufferPort>(rt: &R, ports: &mut Ports<P>, buffer: usize, start: u32)
     requires within { buffer < length ports.old }
-    requires entries { HasEntry buffer (map P.access ports.old) }
     ensures resumes { (slots : List (Option a_channel)) → (files : RunFiles)
         → ResumesBuffer start buffer
         (record { slots = slots; ports = map P.access ports.old; files = files })
         (record { slots = slots; ports = map P.access ports.new; files = files }) }
-    ensures entries { UsesEntry buffer (map P.access ports.old) (map P.access ports.new) }
+    ensures count { length ports.new ≡ length ports.old }
 {
     let Some(port) = ports.get_mut(buffer) else {
         unreachable!()
@@ -177,7 +173,6 @@ pub fn begin_all<R: Wait, P: BufferPort>(
     ports: &mut Ports<P>,
     start: u32,
 ) -> Result<(), usize>
-    requires entries { HaveEntries 1 (map P.access ports.old) }
     ensures begins { OnOk result ((files : RunFiles) → BeginsBelow start (length ports.old)
         (record { slots = slots.old; ports = map P.access ports.old; files = files })
         (record { slots = slots.new; ports = map P.access ports.new; files = files })) }
@@ -187,7 +182,6 @@ pub fn begin_all<R: Wait, P: BufferPort>(
     ensures ready { (seen : Seen) → IsLoggerReady slots.old (map P.access ports.old) seen →
         IsLoggerReady slots.new (map P.access ports.new) seen }
     ensures count { length ports.new ≡ length ports.old }
-    ensures entries { UseEntries 1 (map P.access ports.old) (map P.access ports.new) }
 {
     for buffer in 0..ports.len() {
         match begin_at(slots, rt, ports, buffer, start) {
@@ -207,14 +201,12 @@ pub fn end_first<R: Wait, P: BufferPort>(
     start: u32,
 )
     requires within { count ≤ length ports.old }
-    requires entries { HaveEntries 1 (map P.access ports.old) }
     ensures ends { (files : RunFiles) → InTurn (λ buffer. EndsBuffer start buffer) count
         (record { slots = slots.old; ports = map P.access ports.old; files = files })
         (record { slots = slots.new; ports = map P.access ports.new; files = files }) }
     ensures ready { (seen : Seen) → IsLoggerReady slots.old (map P.access ports.old) seen →
         IsLoggerReady slots.new (map P.access ports.new) seen }
     ensures count { length ports.new ≡ length ports.old }
-    ensures entries { UseEntries 1 (map P.access ports.old) (map P.access ports.new) }
 {
     for buffer in 0..count {
         end_at(slots, rt, ports, buffer, start);
@@ -223,13 +215,11 @@ pub fn end_first<R: Wait, P: BufferPort>(
 
 /// Pauses the run in every buffer, in order.
 pub fn pause_all<R: Wait, P: BufferPort>(rt: &R, ports: &mut Ports<P>, start: u32)
-    requires entries { HaveEntries 1 (map P.access ports.old) }
     ensures pauses { (slots : List (Option a_channel)) → (files : RunFiles) →
         InTurn (λ buffer. PausesBuffer start buffer) (length ports.old)
         (record { slots = slots; ports = map P.access ports.old; files = files })
         (record { slots = slots; ports = map P.access ports.new; files = files }) }
     ensures count { length ports.new ≡ length ports.old }
-    ensures entries { UseEntries 1 (map P.access ports.old) (map P.access ports.new) }
 {
     for buffer in 0..ports.len() {
         pause_at(rt, ports, buffer, start);
@@ -238,13 +228,11 @@ pub fn pause_all<R: Wait, P: BufferPort>(rt: &R, ports: &mut Ports<P>, start: u3
 
 /// Resumes the run in every buffer, in order.
 pub fn resume_all<R: Wait, P: BufferPort>(rt: &R, ports: &mut Ports<P>, start: u32)
-    requires entries { HaveEntries 1 (map P.access ports.old) }
     ensures resumes { (slots : List (Option a_channel)) → (files : RunFiles) →
         InTurn (λ buffer. ResumesBuffer start buffer) (length ports.old)
         (record { slots = slots; ports = map P.access ports.old; files = files })
         (record { slots = slots; ports = map P.access ports.new; files = files }) }
     ensures count { length ports.new ≡ length ports.old }
-    ensures entries { UseEntries 1 (map P.access ports.old) (map P.access ports.new) }
 {
     for buffer in 0..ports.len() {
         resume_at(rt, ports, buffer, start);

@@ -1,9 +1,8 @@
 //! The start of a run: each channel opens it, and it is begun in every buffer; or that is undone.
 
-ghost use Rattle.std.specs.Prelude.{◌≡◌, ◌≤◌, ℕ, length, map, OnOk, OnErr, IfErr, Some};
+ghost use Rattle.std.specs.Prelude.{◌≡◌, ◌≤◌, length, map, OnOk, OnErr, IfErr};
 ghost use Rattle.daq_model.specs.Events.{record_limit};
-ghost use Rattle.buffer_core.specs.Slots.{slot_at};
-ghost use Rattle.loggers.specs.Moments.{files_by, moment_of, IsLoggerReady, AreIdleChannels, HaveEntries, UseEntries};
+ghost use Rattle.loggers.specs.Moments.{files_by, moment_of, IsLoggerReady, AreIdleChannels};
 ghost use Rattle.loggers.specs.Turning.{OpensBelow, RefusesOpen, AbortsAll, StartsSo};
 
 use crate::marks::begin_all;
@@ -24,7 +23,6 @@ fn open_all<R: Wait, F: Files, P: BufferPort>(
     dump: &[u8],
 ) -> Result<(), Why>
     requires ready { IsLoggerReady slots.old (map P.access ports.old) (F.seen files.old) }
-    requires entries { HaveEntries 32 (map P.access ports.old) }
     requires idle { AreIdleChannels slots.old }
     requires small { length dump.now ≤ record_limit }
     ensures opens { OnOk result (OpensBelow order.now dump.now (length slots.old)
@@ -38,7 +36,7 @@ fn open_all<R: Wait, F: Files, P: BufferPort>(
         (moment_of slots.new (map P.access ports.new)
         (files_by F.seen F.faults F.clashes F.first files.new))) }
     ensures ready { IsLoggerReady slots.new (map P.access ports.new) (F.seen files.new) }
-    ensures entries { UseEntries 32 (map P.access ports.old) (map P.access ports.new) }
+    ensures count { length ports.new ≡ length ports.old }
 {
     for number in 0..slots.len() {
         match open_at(slots, rt, files, ports, number, order, dump) {
@@ -57,7 +55,6 @@ pub fn abort_all<R: Wait, F: Files, P: BufferPort>(
     ports: &mut Ports<P>,
 )
     requires ready { IsLoggerReady slots.old (map P.access ports.old) (F.seen files.old) }
-    requires entries { HaveEntries 16 (map P.access ports.old) }
     ensures aborts { AbortsAll (moment_of slots.old (map P.access ports.old)
         (files_by F.seen F.faults F.clashes F.first files.old))
         (moment_of slots.new (map P.access ports.new)
@@ -82,7 +79,6 @@ pub fn start_run<R: Wait, F: Files, P: BufferPort>(
     dump: &[u8],
 ) -> (usize, Result<(), Why>)
     requires ready { IsLoggerReady slots.old (map P.access ports.old) (F.seen files.old) }
-    requires entries { HaveEntries 49 (map P.access ports.old) }
     requires idle { AreIdleChannels slots.old }
     requires small { length dump.now ≤ record_limit }
     ensures starts { StartsSo result.1 order.now dump.now result.0

@@ -7,7 +7,7 @@ ghost use Rattle.buffer_core.specs.Slots.{slot_at};
 ghost use Rattle.mid_logger.specs.declared.channel.Channel.{Channel as a_channel};
 ghost use Rattle.mid_logger.specs.declared.stage.ChannelStage.TheVariants.{Idle};
 ghost use Rattle.mid_logger.specs.Channels.{IsOpenFile, written_run};
-ghost use Rattle.loggers.specs.Moments.{files_by, moment_of, StepsAt, StepsSlot, StepsChannel, IsLoggerReady, HaveEntries, UseEntries, LeavesOthers};
+ghost use Rattle.loggers.specs.Moments.{files_by, moment_of, StepsAt, StepsSlot, StepsChannel, IsLoggerReady, LeavesOthers};
 ghost use Rattle.loggers.specs.ChannelSteps.{OpensChannel, AbortsChannel};
 ghost use Rattle.loggers.specs.SlotPulls.{HasEventRoom, PullsSlot, PullsNumbered};
 
@@ -28,7 +28,6 @@ fn open_slot<R: Wait, F: Files, P: BufferPort>(
     dump: &[u8],
 ) -> Result<(), Why>
     requires served { (c : a_channel) → slot.old ≡ Some c → c.spec.buffer < length ports.old }
-    requires entries { HaveEntries 2 (map P.access ports.old) }
     requires idle { (c : a_channel) → slot.old ≡ Some c → c.stage ≡ Idle }
     requires small { length dump.now ≤ record_limit }
     ensures opens { OnOk result ((slots : List (Option a_channel)) →
@@ -45,7 +44,7 @@ fn open_slot<R: Wait, F: Files, P: BufferPort>(
         (files_by F.seen F.faults F.clashes F.first files.old))
         (moment_of (slice_set slots number slot.new) (map P.access ports.new)
         (files_by F.seen F.faults F.clashes F.first files.new)))) }
-    ensures entries { UseEntries 2 (map P.access ports.old) (map P.access ports.new) }
+    ensures count { length ports.new ≡ length ports.old }
 {
     let Some(channel) = slot else {
         return Ok(());
@@ -68,7 +67,6 @@ pub fn open_at<R: Wait, F: Files, P: BufferPort>(
     dump: &[u8],
 ) -> Result<(), Why>
     requires ready { IsLoggerReady slots.old (map P.access ports.old) (F.seen files.old) }
-    requires entries { HaveEntries 2 (map P.access ports.old) }
     requires idle { (c : a_channel) → slot_at slots.old number ≡ Some c → c.stage ≡ Idle }
     requires small { length dump.now ≤ record_limit }
     ensures opens { OnOk result (StepsAt (OpensChannel order.now dump.now (Ok tt)) number
@@ -84,8 +82,8 @@ pub fn open_at<R: Wait, F: Files, P: BufferPort>(
         (moment_of slots.new (map P.access ports.new)
         (files_by F.seen F.faults F.clashes F.first files.new))) }
     ensures ready { IsLoggerReady slots.new (map P.access ports.new) (F.seen files.new) }
-    ensures entries { UseEntries 2 (map P.access ports.old) (map P.access ports.new) }
     ensures others { LeavesOthers number slots.old slots.new }
+    ensures count { length ports.new ≡ length ports.old }
 {
     channel_laws::opens_kept();
     match slots.get_mut(number) {
@@ -102,7 +100,6 @@ fn abort_slot<R: Wait, F: Files, P: BufferPort>(
     ports: &mut Ports<P>,
 )
     requires served { (c : a_channel) → slot.old ≡ Some c → c.spec.buffer < length ports.old }
-    requires entries { HaveEntries 1 (map P.access ports.old) }
     requires file { (c : a_channel) → slot.old ≡ Some c →
         IsOpenFile (F.seen files.old) c.spec (written_run c.stage) }
     ensures aborts { (slots : List (Option a_channel)) →
@@ -113,7 +110,7 @@ fn abort_slot<R: Wait, F: Files, P: BufferPort>(
         (moment_of (slice_set slots number slot.new) (map P.access ports.new)
         (files_by F.seen F.faults F.clashes F.first files.new)) }
     ensures idle { (c : a_channel) → slot.new ≡ Some c → c.stage ≡ Idle }
-    ensures entries { UseEntries 1 (map P.access ports.old) (map P.access ports.new) }
+    ensures count { length ports.new ≡ length ports.old }
 {
     let Some(channel) = slot else {
         return;
@@ -133,7 +130,6 @@ pub fn abort_at<R: Wait, F: Files, P: BufferPort>(
     number: usize,
 )
     requires ready { IsLoggerReady slots.old (map P.access ports.old) (F.seen files.old) }
-    requires entries { HaveEntries 1 (map P.access ports.old) }
     ensures aborts { StepsAt AbortsChannel number
         (moment_of slots.old (map P.access ports.old)
         (files_by F.seen F.faults F.clashes F.first files.old))
@@ -141,8 +137,8 @@ pub fn abort_at<R: Wait, F: Files, P: BufferPort>(
         (files_by F.seen F.faults F.clashes F.first files.new)) }
     ensures idle { (c : a_channel) → slot_at slots.new number ≡ Some c → c.stage ≡ Idle }
     ensures ready { IsLoggerReady slots.new (map P.access ports.new) (F.seen files.new) }
-    ensures entries { UseEntries 1 (map P.access ports.old) (map P.access ports.new) }
     ensures others { LeavesOthers number slots.old slots.new }
+    ensures count { length ports.new ≡ length ports.old }
 {
     channel_laws::aborts_kept();
     match slots.get_mut(number) {
@@ -159,7 +155,6 @@ fn pull_slot<R: Wait, F: Files, P: BufferPort>(
     ports: &mut Ports<P>,
 ) -> Pulled
     requires served { (c : a_channel) → slot.old ≡ Some c → c.spec.buffer < length ports.old }
-    requires entries { HaveEntries 2 (map P.access ports.old) }
     requires file { (c : a_channel) → slot.old ≡ Some c →
         IsOpenFile (F.seen files.old) c.spec (written_run c.stage) }
     requires room { (c : a_channel) → (a : Access) → slot.old ≡ Some c →
@@ -171,7 +166,6 @@ fn pull_slot<R: Wait, F: Files, P: BufferPort>(
         (files_by F.seen F.faults F.clashes F.first files.old))
         (moment_of (slice_set slots number slot.new) (map P.access ports.new)
         (files_by F.seen F.faults F.clashes F.first files.new)) }
-    ensures entries { UseEntries 2 (map P.access ports.old) (map P.access ports.new) }
 {
     let Some(channel) = slot else {
         return Pulled::NoChannel;
@@ -191,7 +185,6 @@ pub fn pull_at<R: Wait, F: Files, P: BufferPort>(
     number: usize,
 ) -> Pulled
     requires ready { IsLoggerReady slots.old (map P.access ports.old) (F.seen files.old) }
-    requires entries { HaveEntries 2 (map P.access ports.old) }
     requires room { HasEventRoom number slots.old (map P.access ports.old) }
     ensures pulls { PullsNumbered number result
         (moment_of slots.old (map P.access ports.old)
@@ -199,7 +192,6 @@ pub fn pull_at<R: Wait, F: Files, P: BufferPort>(
         (moment_of slots.new (map P.access ports.new)
         (files_by F.seen F.faults F.clashes F.first files.new)) }
     ensures ready { IsLoggerReady slots.new (map P.access ports.new) (F.seen files.new) }
-    ensures entries { UseEntries 2 (map P.access ports.old) (map P.access ports.new) }
 {
     channel_laws::pulls_kept();
     match slots.get_mut(number) {

@@ -9,8 +9,9 @@ use crate::away::Members;
 use crate::playing::Playing;
 use crate::scattered::{Room, play_scattered};
 use analyzer_seats::AnalyzerSeat;
+use buffer_core::BufferPort;
 use daq_io::{Files, Gate, Pick};
-use daq_members::{EndlessPort, FrontSeat, LoggerSeat};
+use daq_members::{FrontSeat, LoggerSeat};
 use daq_types::BoundedList;
 use front_ends::Equipment;
 use odb_port::WatchPort;
@@ -33,7 +34,7 @@ pub fn play_in_threads<
     'a,
     R: Threads + Wait + Sync,
     E: Equipment + Drop + Send,
-    P: EndlessPort + Drop + Send,
+    P: BufferPort + Drop + Send,
     D: WatchPort + Drop + Send,
     F: Files + Drop + Send,
     K: Pick + Drop,

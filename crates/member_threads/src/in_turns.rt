@@ -10,8 +10,8 @@ use crate::last_turns::{end_all, end_entries};
 use crate::playing::Playing;
 use crate::post::finish;
 use crate::stir::Stir;
+use buffer_core::BufferPort;
 use daq_io::{Files, Gate, Pick};
-use daq_members::EndlessPort;
 use front_ends::Equipment;
 use odb_port::WatchPort;
 use session_crew::laws::{members_stay, rounds_keep};
@@ -24,7 +24,7 @@ pub fn play_in_turns<
     'a,
     R: Wait,
     E: Equipment,
-    P: EndlessPort,
+    P: BufferPort,
     D: WatchPort,
     F: Files,
     K: Pick,

@@ -1,13 +1,14 @@
 // The members of a session: front-ends, the logger and analyzers.
 use crate::member::Member;
 use analyzer_seats::AnalyzerSeat;
+use buffer_core::BufferPort;
 use daq_io::{Files, Gate};
-use daq_members::{EndlessPort, FrontSeat, LoggerSeat, Turned};
+use daq_members::{FrontSeat, LoggerSeat, Turned};
 use front_ends::Equipment;
 use odb_port::WatchPort;
 use std::sync::Wait;
 
-impl<'a, E: Equipment, P: EndlessPort, D: WatchPort> Member for FrontSeat<'a, E, P, D> {
+impl<'a, E: Equipment, P: BufferPort, D: WatchPort> Member for FrontSeat<'a, E, P, D> {
     ghost use Rattle.member_threads.specs.MemberTurns.{FrontTurns};
 
     ghost turns = { FrontTurns E.takes E.makes };
@@ -17,7 +18,7 @@ impl<'a, E: Equipment, P: EndlessPort, D: WatchPort> Member for FrontSeat<'a, E,
     }
 }
 
-impl<'a, P: EndlessPort, F: Files> Member for LoggerSeat<'a, P, F> {
+impl<'a, P: BufferPort, F: Files> Member for LoggerSeat<'a, P, F> {
     ghost use Rattle.loggers.specs.Moments.{files_by};
     ghost use Rattle.member_threads.specs.MemberTurns.{LoggerTurns};
 
@@ -28,7 +29,7 @@ impl<'a, P: EndlessPort, F: Files> Member for LoggerSeat<'a, P, F> {
     }
 }
 
-impl<'a, P: EndlessPort> Member for AnalyzerSeat<'a, P> {
+impl<'a, P: BufferPort> Member for AnalyzerSeat<'a, P> {
     ghost use Rattle.member_threads.specs.MemberTurns.{AnalyzerTurns};
 
     ghost turns = { AnalyzerTurns };

@@ -118,7 +118,6 @@ impl Channel {
         run: BegunRun,
     )
         requires file { IsTrue ((F.seen files.old).writes run.opened.file) }
-        requires entries { 1 ≤ (P.access port.old).entries }
         ensures stage { self.new ≡ record self.old
             { stage = Broken run; failed = true } }
         ensures cancelled { CancelsRequest (P.access port.old) (P.access port.new) run.opened }
@@ -144,7 +143,6 @@ impl Channel {
         run: BegunRun,
     ) -> Result<(), Failed>
         requires file { IsTrue ((F.seen files.old).writes run.opened.file) }
-        requires entries { 1 ≤ (P.access port.old).entries }
         ensures wrote { OnOk result (Extends (F.seen files.old) (F.seen files.new) run.opened.file
             (encoding self.old.event.event)) }
         ensures same { OnOk result (self.new ≡ self.old) }
@@ -171,7 +169,6 @@ impl Channel {
 
     /// Cancels the request of a client that was drained.
     fn end_reading<R: Wait, P: BufferPort>(&mut self, rt: &R, port: &mut P, run: BegunRun)
-        requires entries { 1 ≤ (P.access port.old).entries }
         ensures stage { self.new ≡ record self.old { stage = Drained run } }
         ensures cancelled { CancelsRequest (P.access port.old) (P.access port.new) run.opened }
     {
@@ -190,7 +187,6 @@ impl Channel {
         place: u64,
     ) -> Pulled
         requires file { IsTrue ((F.seen files.old).writes run.opened.file) }
-        requires entries { 1 ≤ (P.access port.old).entries }
         ensures spec { self.new.spec ≡ self.old.spec }
         ensures client { self.new.client ≡ self.old.client }
         ensures room { self.new.event.room ≡ self.old.event.room }
@@ -230,7 +226,6 @@ impl Channel {
         port: &mut P,
     ) -> Pulled
         requires file { IsOpenFile (F.seen files.old) self.old.spec (written_run self.old.stage) }
-        requires entries { 2 ≤ (P.access port.old).entries }
         requires room { min event_limit ((P.access port.old).size - 24) ≤ self.old.event.room }
         ensures spec { self.new.spec ≡ self.old.spec }
         ensures client { self.new.client ≡ self.old.client }
@@ -267,7 +262,6 @@ impl Channel {
         port: &mut P,
     ) -> Pulled
         requires file { IsOpenFile (F.seen files.old) self.old.spec (written_run self.old.stage) }
-        requires entries { 2 ≤ (P.access port.old).entries }
         requires room { min event_limit ((P.access port.old).size - 24) ≤ self.old.event.room }
         ensures spec { self.new.spec ≡ self.old.spec }
         ensures client { self.new.client ≡ self.old.client }
@@ -304,7 +298,6 @@ impl Channel {
         stopped: bool,
     ) -> Pulled
         requires file { IsTrue ((F.seen files.old).writes run.opened.file) }
-        requires entries { 2 ≤ (P.access port.old).entries }
         requires room { min event_limit ((P.access port.old).size - 24) ≤ self.old.event.room }
         requires stopped { stopped ≡ drains_at_none self.old.stage }
         ensures spec { self.new.spec ≡ self.old.spec }

@@ -1,8 +1,8 @@
 //! How a channel calls a run off, and how it ends the file of a run that its client has read.
 
-ghost use Rattle.std.specs.Prelude.{◌≡◌, ◌≤◌, ◌⊎◌, ℕ, List, IsTrue, IfSome, IfOk, OnOk, OnErr, length};
+ghost use Rattle.std.specs.Prelude.{◌≡◌, ◌≤◌, List, IsTrue, IfSome, IfOk, OnOk, OnErr, length};
 ghost use Rattle.daq_model.specs.Events.{record_limit};
-ghost use Rattle.daq_io.specs.Counts.{CountsFault, NamesFirst, Rose};
+ghost use Rattle.daq_io.specs.Counts.{CountsFault, NamesFirst};
 ghost use Rattle.daq_io.specs.Seen.{Closes};
 ghost use Rattle.buffer_core.specs.declared.entry.BufferEntry.{BufferEntry};
 ghost use Rattle.buffer_core.specs.Ports.{GotEvent};
@@ -129,7 +129,6 @@ fn close_read<F: Files>(
 impl Channel {
     /// Cancels the request that stands, if there is one.
     fn cancel_standing<R: Wait, P: BufferPort>(&self, rt: &R, port: &mut P)
-        requires { 1 ≤ (P.access port.old).entries }
         ensures { CancelsStanding (asking_run self.now.stage) (P.access port.old)
             (P.access port.new) }
     {
@@ -167,7 +166,6 @@ impl Channel {
     /// Calls the run off, if there is one: its request is cancelled, and its file closed and removed.
     pub fn abort<R: Wait, F: Files, P: BufferPort>(&mut self, rt: &R, files: &mut F, port: &mut P)
         requires file { IsOpenFile (F.seen files.old) self.old.spec (written_run self.old.stage) }
-        requires entries { 1 ≤ (P.access port.old).entries }
         ensures channel { self.new ≡ record self.old { stage = Idle; failed = self.new.failed } }
         ensures cancels { CancelsStanding (asking_run self.old.stage) (P.access port.old)
             (P.access port.new) }

@@ -1,6 +1,6 @@
 //! How a channel opens the file of a run and asks for its events, and how it calls a run off.
 
-ghost use Rattle.std.specs.Prelude.{◌≡◌, ◌≢◌, ◌≤◌, ◌+◌, ◌⊎◌, ◌↔◌, [], IsTrue, IsSome, IsErrOf, OnOk, OnErr, IfErr, IfSome, Some, None, codes, length};
+ghost use Rattle.std.specs.Prelude.{◌≡◌, ◌≢◌, ◌≤◌, ◌⊎◌, ◌↔◌, [], IsTrue, IsSome, IsErrOf, OnOk, OnErr, IfErr, IfSome, Some, None, codes, length};
 ghost use Rattle.std.specs.Option.{option_map};
 ghost use Rattle.daq_types.specs.declared.runs.Why.TheVariants.{Exists};
 ghost use Rattle.daq_model.specs.Events.{record_limit};
@@ -40,12 +40,10 @@ fn client_name() -> Name
 impl Channel {
     /// The channel's client, which is attached where there is none yet.
     fn attached<R: Wait, P: BufferPort>(&mut self, rt: &R, port: &mut P) -> Option<u32>
-        requires entries { 1 ≤ (P.access port.old).entries }
         ensures channel { self.new ≡ record self.old { client = self.new.client } }
         ensures client { result ≡ self.new.client }
         ensures has { HasClient self.old.client self.new.client (P.access port.old)
             (P.access port.new) }
-        ensures entries { (P.access port.old).entries ≤ (P.access port.new).entries + 1 }
     {
         match self.client {
             Some(client) => Some(client),
@@ -61,7 +59,6 @@ impl Channel {
 
     /// Asks for all events of the channel's id and mask.
     fn ask<R: Wait, P: BufferPort>(&mut self, rt: &R, port: &mut P) -> Option<Reader>
-        requires entries { 2 ≤ (P.access port.old).entries }
         ensures channel { self.new ≡ record self.old { client = self.new.client } }
         ensures client { IfSome result (λ reader. self.new.client ≡ Some reader.client) }
         ensures asks { AsksEvents self.old.spec self.old.client self.new.client
@@ -126,7 +123,6 @@ impl Channel {
     ) -> Result<(), Why>
         requires writes { IsTrue ((F.seen files.old).writes file) }
         requires named { (F.seen files.old).name_of file ≡ name.now }
-        requires entries { 2 ≤ (P.access port.old).entries }
         ensures spec { self.new.spec ≡ self.old.spec }
         ensures event { self.new.event ≡ self.old.event }
         ensures asks { OnOk result (StartsAsking self.old.spec order.now file (record {
@@ -189,7 +185,6 @@ impl Channel {
         dump: &[u8],
     ) -> Result<(), Why>
         requires idle { self.old.stage ≡ Idle }
-        requires entries { 2 ≤ (P.access port.old).entries }
         requires small { length dump.now ≤ record_limit }
         ensures spec { self.new.spec ≡ self.old.spec }
         ensures event { self.new.event ≡ self.old.event }
@@ -243,7 +238,6 @@ impl Channel {
         dump: &[u8],
     ) -> Result<(), Why>
         requires idle { self.old.stage ≡ Idle }
-        requires entries { 2 ≤ (P.access port.old).entries }
         requires small { length dump.now ≤ record_limit }
         ensures spec { self.new.spec ≡ self.old.spec }
         ensures event { self.new.event ≡ self.old.event }

@@ -1,4 +1,4 @@
-ghost use Rattle.std.specs.Prelude.{◌≡◌, ◌≤◌, ◌+◌, IfSome, IfNone, IfOk, OnErr, Err, IsFalse};
+ghost use Rattle.std.specs.Prelude.{◌≡◌, IfSome, IfNone, IfOk, OnErr, Err, IsFalse};
 ghost use Rattle.daq_types.specs.Callers.{main_caller};
 ghost use Rattle.odb_path.specs.PathText.{path_reply};
 ghost use Rattle.odb_port.specs.DatabasePorts.{IsSamePort};
@@ -16,9 +16,6 @@ use odb_tree::{Children, NewKey, OdbRefusal};
 use odb_value::{Item, Value};
 use std::alloc::Global;
 use std::sync::Wait;
-
-/// The most calls of a command.
-pub const COMMAND_CALLS: u32 = 3;
 
 /// The reply to a call that prints nothing where it is accepted.
 fn done_or(reply: Result<u32, OdbRefusal>) -> CommandReply
@@ -67,13 +64,11 @@ fn create_at<R: Wait, P: DatabasePort>(
     kind: NewKey,
 ) -> Result<CommandReply, NoMemory>
     requires main { (P.access port.old).caller ≡ main_caller }
-    requires room { 1 ≤ (P.access port.old).room }
     ensures did { IfOk result (Answers (P.access port.old) (P.access port.new)
         (CreatesKey kind path)) }
     ensures interrupted { OnErr result (CutsAnswer (P.access port.old) (P.access port.new)
         (CreatesKey kind path)) }
     ensures same { IsSamePort (P.access port.old) (P.access port.new) }
-    ensures room { (P.access port.old).room ≤ (P.access port.new).room + 1 }
 {
     let reply = settled(port.create(rt, alloc, path, kind))?;
     Ok(done_or(reply))
@@ -88,13 +83,11 @@ pub fn create<R: Wait, P: DatabasePort>(
     kind: NewKey,
 ) -> Result<CommandReply, NoMemory>
     requires main { (P.access port.old).caller ≡ main_caller }
-    requires room { 1 ≤ (P.access port.old).room }
     ensures did { IfOk result (Answers (P.access port.old) (P.access port.new)
         (AtPath (path_reply path.now) (CreatesKey kind))) }
     ensures interrupted { OnErr result (CutsAnswer (P.access port.old) (P.access port.new)
         (AtPath (path_reply path.now) (CreatesKey kind))) }
     ensures same { IsSamePort (P.access port.old) (P.access port.new) }
-    ensures room { (P.access port.old).room ≤ (P.access port.new).room + 1 }
 {
     match read_path(alloc, path)? {
         Err(why) => Ok(no_path(why)),
@@ -111,13 +104,11 @@ fn set_item<R: Wait, P: DatabasePort>(
     index: u32,
     item: Result<Item, CommandRefusal>,
 ) -> Result<CommandReply, NoMemory>
-    requires room { 1 ≤ (P.access port.old).room }
     ensures did { IfOk result (Answers (P.access port.old) (P.access port.new)
         (SetsItem path index item)) }
     ensures interrupted { OnErr result (CutsAnswer (P.access port.old) (P.access port.new)
         (SetsItem path index item)) }
     ensures same { IsSamePort (P.access port.old) (P.access port.new) }
-    ensures room { (P.access port.old).room ≤ (P.access port.new).room + 1 }
 {
     match item {
         Err(why) => Ok(CommandReply::Refused { why }),
@@ -138,13 +129,11 @@ fn set_in<R: Wait, P: DatabasePort>(
     text: &[u8],
     got: Result<Value, OdbRefusal>,
 ) -> Result<CommandReply, NoMemory>
-    requires room { 1 ≤ (P.access port.old).room }
     ensures did { IfOk result (Answers (P.access port.old) (P.access port.new)
         (SetsIn path index text.now got)) }
     ensures interrupted { OnErr result (CutsAnswer (P.access port.old) (P.access port.new)
         (SetsIn path index text.now got)) }
     ensures same { IsSamePort (P.access port.old) (P.access port.new) }
-    ensures room { (P.access port.old).room ≤ (P.access port.new).room + 1 }
 {
     match got {
         Err(why) => Ok(refused_by(why)),
@@ -164,13 +153,11 @@ fn set_at<R: Wait, P: DatabasePort>(
     index: u32,
     text: &[u8],
 ) -> Result<CommandReply, NoMemory>
-    requires room { 2 ≤ (P.access port.old).room }
     ensures did { IfOk result (Answers (P.access port.old) (P.access port.new)
         (Sets index text.now path)) }
     ensures interrupted { OnErr result (CutsAnswer (P.access port.old) (P.access port.new)
         (Sets index text.now path)) }
     ensures same { IsSamePort (P.access port.old) (P.access port.new) }
-    ensures room { (P.access port.old).room ≤ (P.access port.new).room + 2 }
 {
     let copy = path.try_clone(alloc)?;
     let got = settled(port.get(rt, alloc, copy))?;
@@ -186,13 +173,11 @@ pub fn set<R: Wait, P: DatabasePort>(
     index: u32,
     text: &[u8],
 ) -> Result<CommandReply, NoMemory>
-    requires room { 2 ≤ (P.access port.old).room }
     ensures did { IfOk result (Answers (P.access port.old) (P.access port.new)
         (AtPath (path_reply path.now) (Sets index text.now))) }
     ensures interrupted { OnErr result (CutsAnswer (P.access port.old) (P.access port.new)
         (AtPath (path_reply path.now) (Sets index text.now))) }
     ensures same { IsSamePort (P.access port.old) (P.access port.new) }
-    ensures room { (P.access port.old).room ≤ (P.access port.new).room + 2 }
 {
     match read_path(alloc, path)? {
         Err(why) => Ok(no_path(why)),
@@ -208,13 +193,11 @@ fn key_named<R: Wait, P: DatabasePort>(
     value: Value,
     row: u32,
 ) -> Result<CommandReply, NoMemory>
-    requires room { 1 ≤ (P.access port.old).room }
     ensures did { IfOk result (Answers (P.access port.old) (P.access port.new)
         (Names value row)) }
     ensures interrupted { OnErr result (CutsAnswer (P.access port.old) (P.access port.new)
         (Names value row)) }
     ensures same { IsSamePort (P.access port.old) (P.access port.new) }
-    ensures room { (P.access port.old).room ≤ (P.access port.new).room + 1 }
 {
     let path = port.path_of(rt, alloc, row)?;
     let path = path.unwrap_or(Path::root(alloc));
@@ -229,13 +212,11 @@ fn key_found<R: Wait, P: DatabasePort>(
     value: Value,
     found: Result<u32, OdbRefusal>,
 ) -> Result<CommandReply, NoMemory>
-    requires room { 1 ≤ (P.access port.old).room }
     ensures did { IfOk result (Answers (P.access port.old) (P.access port.new)
         (NamesFound value found)) }
     ensures interrupted { OnErr result (CutsAnswer (P.access port.old) (P.access port.new)
         (NamesFound value found)) }
     ensures same { IsSamePort (P.access port.old) (P.access port.new) }
-    ensures room { (P.access port.old).room ≤ (P.access port.new).room + 1 }
 {
     match found {
         Err(why) => Ok(refused_by(why)),
@@ -252,13 +233,11 @@ fn shown<R: Wait, P: DatabasePort>(
     index: Option<u32>,
     value: Value,
 ) -> Result<CommandReply, NoMemory>
-    requires room { 2 ≤ (P.access port.old).room }
     ensures did { IfOk result (Answers (P.access port.old) (P.access port.new)
         (Shows path index value)) }
     ensures interrupted { OnErr result (CutsAnswer (P.access port.old) (P.access port.new)
         (Shows path index value)) }
     ensures same { IsSamePort (P.access port.old) (P.access port.new) }
-    ensures room { (P.access port.old).room ≤ (P.access port.new).room + 2 }
 {
     match index {
         Some(index) => one_of(alloc, &value, index),
@@ -278,13 +257,11 @@ fn get_in<R: Wait, P: DatabasePort>(
     index: Option<u32>,
     got: Result<Value, OdbRefusal>,
 ) -> Result<CommandReply, NoMemory>
-    requires room { 2 ≤ (P.access port.old).room }
     ensures did { IfOk result (Answers (P.access port.old) (P.access port.new)
         (GetsIn path index got)) }
     ensures interrupted { OnErr result (CutsAnswer (P.access port.old) (P.access port.new)
         (GetsIn path index got)) }
     ensures same { IsSamePort (P.access port.old) (P.access port.new) }
-    ensures room { (P.access port.old).room ≤ (P.access port.new).room + 2 }
 {
     match got {
         Err(why) => Ok(refused_by(why)),
@@ -300,13 +277,11 @@ fn get_at<R: Wait, P: DatabasePort>(
     path: Path,
     index: Option<u32>,
 ) -> Result<CommandReply, NoMemory>
-    requires room { 3 ≤ (P.access port.old).room }
     ensures did { IfOk result (Answers (P.access port.old) (P.access port.new)
         (Gets index path)) }
     ensures interrupted { OnErr result (CutsAnswer (P.access port.old) (P.access port.new)
         (Gets index path)) }
     ensures same { IsSamePort (P.access port.old) (P.access port.new) }
-    ensures room { (P.access port.old).room ≤ (P.access port.new).room + 3 }
 {
     let copy = path.try_clone(alloc)?;
     let got = settled(port.get(rt, alloc, copy))?;
@@ -321,13 +296,11 @@ pub fn get<R: Wait, P: DatabasePort>(
     path: &[u8],
     index: Option<u32>,
 ) -> Result<CommandReply, NoMemory>
-    requires room { 3 ≤ (P.access port.old).room }
     ensures did { IfOk result (Answers (P.access port.old) (P.access port.new)
         (AtPath (path_reply path.now) (Gets index))) }
     ensures interrupted { OnErr result (CutsAnswer (P.access port.old) (P.access port.new)
         (AtPath (path_reply path.now) (Gets index))) }
     ensures same { IsSamePort (P.access port.old) (P.access port.new) }
-    ensures room { (P.access port.old).room ≤ (P.access port.new).room + 3 }
 {
     match read_path(alloc, path)? {
         Err(why) => Ok(no_path(why)),
@@ -342,13 +315,11 @@ fn list_at<R: Wait, P: DatabasePort>(
     port: &mut P,
     path: Path,
 ) -> Result<CommandReply, NoMemory>
-    requires room { 1 ≤ (P.access port.old).room }
     ensures did { IfOk result (Answers (P.access port.old) (P.access port.new)
         (Lists path)) }
     ensures interrupted { OnErr result (CutsAnswer (P.access port.old) (P.access port.new)
         (Lists path)) }
     ensures same { IsSamePort (P.access port.old) (P.access port.new) }
-    ensures room { (P.access port.old).room ≤ (P.access port.new).room + 1 }
 {
     let children = settled(port.list(rt, alloc, path))?;
     Ok(listed_or(children))
@@ -361,13 +332,11 @@ pub fn list<R: Wait, P: DatabasePort>(
     port: &mut P,
     path: &[u8],
 ) -> Result<CommandReply, NoMemory>
-    requires room { 1 ≤ (P.access port.old).room }
     ensures did { IfOk result (Answers (P.access port.old) (P.access port.new)
         (AtPath (path_reply path.now) Lists)) }
     ensures interrupted { OnErr result (CutsAnswer (P.access port.old) (P.access port.new)
         (AtPath (path_reply path.now) Lists)) }
     ensures same { IsSamePort (P.access port.old) (P.access port.new) }
-    ensures room { (P.access port.old).room ≤ (P.access port.new).room + 1 }
 {
     match read_path(alloc, path)? {
         Err(why) => Ok(no_path(why)),
@@ -378,10 +347,8 @@ pub fn list<R: Wait, P: DatabasePort>(
 /// The command at this path.
 fn remove_at<R: Wait, P: DatabasePort>(rt: &R, port: &mut P, path: Path) -> CommandReply
     requires main { (P.access port.old).caller ≡ main_caller }
-    requires room { 1 ≤ (P.access port.old).room }
     ensures did { Answers (P.access port.old) (P.access port.new) (RemovesKey path) result }
     ensures same { IsSamePort (P.access port.old) (P.access port.new) }
-    ensures room { (P.access port.old).room ≤ (P.access port.new).room + 1 }
 {
     if is_protected(path.names()) {
         return CommandReply::Refused {
@@ -399,13 +366,11 @@ pub fn remove<R: Wait, P: DatabasePort>(
     path: &[u8],
 ) -> Result<CommandReply, NoMemory>
     requires main { (P.access port.old).caller ≡ main_caller }
-    requires room { 1 ≤ (P.access port.old).room }
     ensures did { IfOk result (Answers (P.access port.old) (P.access port.new)
         (AtPath (path_reply path.now) RemovesKey)) }
     ensures interrupted { OnErr result (CutsAnswer (P.access port.old) (P.access port.new)
         (AtPath (path_reply path.now) RemovesKey)) }
     ensures same { IsSamePort (P.access port.old) (P.access port.new) }
-    ensures room { (P.access port.old).room ≤ (P.access port.new).room + 1 }
 {
     match read_path(alloc, path)? {
         Err(why) => Ok(no_path(why)),
@@ -421,13 +386,11 @@ fn answer<R: Wait, P: DatabasePort>(
     command: &Command<'_>,
 ) -> Option<Result<CommandReply, NoMemory>>
     requires main { (P.access port.old).caller ≡ main_caller }
-    requires room { COMMAND_CALLS ≤ (P.access port.old).room }
     ensures ends { IfSome result (EndsCommand (P.access port.old) (P.access port.new)
         (Performs command.now)) }
     ensures no_call { IfNone result (P.access port.new ≡ P.access port.old) }
     ensures other { IfNone result (IsFalse (calls_database command.now)) }
     ensures same { IsSamePort (P.access port.old) (P.access port.new) }
-    ensures room { (P.access port.old).room ≤ (P.access port.new).room + COMMAND_CALLS }
 {
     match command {
         Command::Create { tid, path, len } => {
@@ -476,12 +439,10 @@ pub fn run_command<R: Wait, P: DatabasePort>(
     command: &Command<'_>,
 ) -> Result<Option<CommandReply>, NoMemory>
     requires main { (P.access port.old).caller ≡ main_caller }
-    requires room { COMMAND_CALLS ≤ (P.access port.old).room }
     ensures did { IfOk result (AnswersIf (P.access port.old) (P.access port.new) command.now) }
     ensures interrupted { OnErr result (CutsAnswer (P.access port.old) (P.access port.new)
         (Performs command.now)) }
     ensures same { IsSamePort (P.access port.old) (P.access port.new) }
-    ensures room { (P.access port.old).room ≤ (P.access port.new).room + COMMAND_CALLS }
 {
     match answer(rt, alloc, port, command) {
         Some(reply) => Ok(Some(reply?)),

@@ -1,8 +1,6 @@
 -- A database with the journal of its calls.
-use Rattle.std.specs.Prelude.{◌≡◌, ℕ, ◌+◌, ◌≤◌, List, [], ◌∷◌, ◌++◌, Err}
+use Rattle.std.specs.Prelude.{◌≡◌, ℕ, ◌+◌, ◌≤◌, List, [], ◌∷◌, ◌++◌}
 use Rattle.odb_tree.specs.declared.entry.DatabaseEntry.{DatabaseEntry}
-use Rattle.odb_tree.specs.declared.entry.DatabaseEntry.TheVariants.{Create, Set, SetAll, Get, ListDir, Resize, PathOf}
-use Rattle.odb_tree.specs.declared.refusals.OdbRefusal.TheVariants.{NoMemory as no_memory}
 use Rattle.odb_tree.specs.Rows.{Rows}
 use Rattle.odb_tree.specs.Calls.{IsRowsReply, rows_after}
 use Rattle.odb_tree.specs.Databases.{IsDatabase}
@@ -37,14 +35,3 @@ pub record KeepsCalls (p q : Noted) : Type 0 where
   pub rows : q.rows ≡ p.rows
   pub history : q.history ≡ p.history
   pub room : p.room ≤ q.room
-
--- the call where memory was wanting for it; a look-up and a removal take none
-abbrev pub unanswered : DatabaseEntry → DatabaseEntry
-unanswered (Create p kind reply) = Create p kind (Err no_memory)
-unanswered (Set p index item reply) = Set p index item (Err no_memory)
-unanswered (SetAll p v reply) = SetAll p v (Err no_memory)
-unanswered (Get p reply) = Get p (Err no_memory)
-unanswered (ListDir p reply) = ListDir p (Err no_memory)
-unanswered (Resize p len reply) = Resize p len (Err no_memory)
-unanswered (PathOf row reply) = PathOf row (Err (record {}))
-unanswered entry = entry

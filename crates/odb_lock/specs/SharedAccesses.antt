@@ -1,5 +1,5 @@
 -- What a port to a shared database tells its caller.
-use Rattle.std.specs.Prelude.{ℕ, ◌^◌, false, List}
+use Rattle.std.specs.Prelude.{ℕ, List}
 use Rattle.odb_tree.specs.Noting.{Watched}
 use Rattle.odb_watch.specs.declared.entry.WatchEntry.{WatchEntry}
 use Rattle.odb_port.specs.DatabasePorts.{DatabaseAccess, DatabaseIdentity}
@@ -10,13 +10,9 @@ use Rattle.odb_lock.specs.declared.shared.SharedOdb.{SharedOdb}
 use Rattle.odb_lock.specs.declared.access.SharedAccess.{SharedAccess}
 use Rattle.odb_lock.specs.SharedOdbs.{odb_lock_of, first_database}
 
--- No call takes room at a lock: there always is as much as could be asked for.
-abbrev pub unending : ℕ
-unending = 2 ^ 64
-
--- the access of this caller, who has seen these calls, to a database that others call too
+-- the access of this caller, who has seen these calls, to this database
 abbrev pub shared_access : DatabaseIdentity → (caller : ℕ) → List (ℕ × WatchEntry) → DatabaseAccess
-shared_access database caller seen = record { database = database; caller = caller; seen = seen; undisturbed = false; room = unending }
+shared_access database caller seen = record { database = database; caller = caller; seen = seen }
 
 -- which database a shared one is: the rows and the watches that it had as it came to be shared, its passes, and the numbers of
 -- its lock

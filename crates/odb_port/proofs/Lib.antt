@@ -1,2 +1,1 @@
-mod PortCalls
 mod CallLaws

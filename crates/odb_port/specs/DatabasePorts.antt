@@ -1,15 +1,14 @@
 -- What a port to a database tells its caller.
-use Rattle.std.specs.Prelude.{◌≡◌, ◌≢◌, ◌⊎◌, ℕ, ◌+◌, ◌≤◌, Bool, true, IsTrue, List, [], ◌∷◌, ◌++◌, map, Result, Ok, Err}
+use Rattle.std.specs.Prelude.{◌≡◌, ◌≢◌, ◌⊎◌, ℕ, ◌+◌, List, [], ◌∷◌, ◌++◌, map, Result, Ok, Err}
 use Rattle.daq_types.specs.Callers.{entries_by}
 use Rattle.odb_tree.specs.declared.entry.DatabaseEntry.{DatabaseEntry}
+use Rattle.odb_tree.specs.declared.entry.DatabaseEntry.TheVariants.{Create, Set, SetAll, Get, ListDir, Resize, PathOf}
 use Rattle.odb_tree.specs.declared.refusals.OdbRefusal.{OdbRefusal}
 use Rattle.odb_tree.specs.declared.refusals.OdbRefusal.TheVariants.{NoMemory as no_memory}
-use Rattle.odb_tree.specs.Rows.{Rows}
 use Rattle.odb_tree.specs.Noting.{Watched}
 use Rattle.odb_watch.specs.declared.entry.WatchEntry.{WatchEntry}
 use Rattle.odb_watch.specs.declared.entry.WatchEntry.TheVariants.{Call, Watch, Notes, Unwatch, Save, Load}
-use Rattle.odb_watch.specs.Steps.{IsLegalDatabase, unwatched}
-use Rattle.odb_journal.specs.Noted.{Noted, unanswered}
+use Rattle.odb_watch.specs.Steps.{IsLegalDatabase}
 
 -- Which database a port leads to: the rows and the watches with which it opened to its ports, how many ports it may have, and
 -- numbers by which it is told from other databases; none where it has one port.
@@ -18,15 +17,12 @@ pub record DatabaseIdentity : Type 0 where
   pub ports : ℕ
   pub numbers : List ℕ
 
--- One caller's access to a database: which database it is; the caller's number; the calls since the database opened, as far
--- as this caller has seen them, each with its caller and its reply, in order; whether no other caller can call while one of
--- its calls is made; and room to note so many calls more.
+-- One caller's access to a database: which database it is; the caller's number; and the calls since the database opened, as
+-- far as this caller has seen them, each with its caller and its reply, in order.
 pub record DatabaseAccess : Type 0 where
   pub database : DatabaseIdentity
   pub caller : ℕ
   pub seen : List (ℕ × WatchEntry)
-  pub undisturbed : Bool
-  pub room : ℕ
 
 -- the calls on the rows among these calls, which are those of `Database`
 abbrev pub rows_call : WatchEntry → List DatabaseEntry
@@ -53,7 +49,6 @@ own_calls a = rows_calls (own_watched a)
 pub record IsSamePort (a b : DatabaseAccess) : Type 0 where
   pub database : b.database ≡ a.database
   pub caller : b.caller ≡ a.caller
-  pub undisturbed : b.undisturbed ≡ a.undisturbed
 
 -- One call more of the caller. What it has seen now begins with what it had seen, goes on with calls of others alone, and
 -- ends with this call; and all that is a legal history of the database.
@@ -62,9 +57,7 @@ pub record AddsEntry (a b : DatabaseAccess) (entry : WatchEntry) : Type 0 where
   pub between : List (ℕ × WatchEntry)
   pub seen : b.seen ≡ (a.seen ++ between) ++ (a.caller, entry) ∷ []
   pub foreign : entries_by a.caller between ≡ []
-  pub none : IsTrue a.undisturbed → between ≡ []
   pub legal : IsLegalDatabase b.database.opened b.seen
-  pub room : a.room ≤ b.room + 1
 
 -- These calls more of the caller, one after the other; where there are none, nothing changed.
 abbrev pub AddsEntries : (a b : DatabaseAccess) → List WatchEntry → Type 0
@@ -100,40 +93,19 @@ abbrev pub IsSettled : {X : Type 0} → Result X OdbRefusal → Type 0
 IsSettled (Ok x) = Unit {0}
 IsSettled (Err refusal) = refusal ≢ no_memory
 
+-- the call where memory was wanting for it; a look-up and a removal take none
+abbrev pub unanswered : DatabaseEntry → DatabaseEntry
+unanswered (Create p kind reply) = Create p kind (Err no_memory)
+unanswered (Set p index item reply) = Set p index item (Err no_memory)
+unanswered (SetAll p v reply) = SetAll p v (Err no_memory)
+unanswered (Get p reply) = Get p (Err no_memory)
+unanswered (ListDir p reply) = ListDir p (Err no_memory)
+unanswered (Resize p len reply) = Resize p len (Err no_memory)
+unanswered (PathOf row reply) = PathOf row (Err (record {}))
+unanswered entry = entry
+
 -- Of these calls the first were made, and the last of them may be the one for which memory was wanting.
 abbrev pub IsCutShort : (calls made : List DatabaseEntry) → Type 0
 IsCutShort calls [] = Unit {0}
 IsCutShort [] (e ∷ made) = ⊥
 IsCutShort (c ∷ calls) (e ∷ made) = ((e ≡ c) × IsCutShort calls made) ⊎ ((e ≡ unanswered c) × (made ≡ []))
-
--- A database of one thread with the journal of its calls: the rows at first and now; the calls since, each with its caller;
--- whose calls come next; and room to note so many calls more.
-pub record CalledDatabase : Type 0 where
-  pub start : Rows
-  pub rows : Rows
-  pub history : List (ℕ × DatabaseEntry)
-  pub caller : ℕ
-  pub room : ℕ
-
--- a database with this journal, whose next calls are this caller's
-abbrev pub called_by : (caller : ℕ) → Noted → CalledDatabase
-called_by caller noted = record { start = noted.start; rows = noted.rows; history = noted.history; caller = caller; room = noted.room }
-
--- the same calls, the same caller, and as much room or more
-pub record KeepsDatabase (a b : CalledDatabase) : Type 0 where
-  pub start : b.start ≡ a.start
-  pub rows : b.rows ≡ a.rows
-  pub history : b.history ≡ a.history
-  pub caller : b.caller ≡ a.caller
-  pub room : a.room ≤ b.room
-
--- the access to it by that caller, which has seen the whole journal; nobody else calls while one of its calls is made, and
--- nobody watches
-abbrev pub local_access : CalledDatabase → DatabaseAccess
-local_access d = record {
-  database = record { opened = unwatched d.start; ports = 1; numbers = [] };
-  caller = d.caller;
-  seen = as_watched d.history;
-  undisturbed = true;
-  room = d.room;
-}

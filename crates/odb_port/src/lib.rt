@@ -1,12 +1,9 @@
-//! Ports to an online database: one caller's access to it, by which a lock or a database of one thread can stand behind the
-//! calls of a command or of a member.
+//! Ports to an online database: one caller's access to it, behind which a lock may stand.
 #![tactic(auto)]
 
 pub mod laws;
-mod local;
 mod port;
 mod watching;
 
-pub use local::LocalAccess;
 pub use port::DatabasePort;
 pub use watching::WatchPort;

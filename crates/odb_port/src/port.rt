@@ -1,4 +1,4 @@
-ghost use Rattle.std.specs.Prelude.{◌≡◌, ◌≢◌, ◌≤◌, Err};
+ghost use Rattle.std.specs.Prelude.{◌≡◌, ◌≢◌, Err};
 ghost use Rattle.daq_types.specs.Callers.{main_caller};
 ghost use Rattle.daq_types.specs.declared.types.Tid.{Tid};
 ghost use Rattle.odb_value.specs.Items.{tid_of};
@@ -14,9 +14,8 @@ use std::alloc::Global;
 use std::sync::Wait;
 
 /// One caller's access to an online database, by the calls of `Database`. Each is one call of the caller in the one history
-/// of that database, with its reply, and there has to be room to note it: what the caller has seen of that history, its own
-/// calls among it, is legal after each call, as the history of a watched database is. The calls that may make, remove or
-/// resize a row are the main thread's.
+/// of that database, with its reply: what the caller has seen of that history, its own calls among it, is legal after each
+/// call, as the history of a watched database is. The calls that may make, remove or resize a row are the main thread's.
 pub trait DatabasePort {
     ghost use Rattle.odb_port.specs.DatabasePorts.{DatabaseAccess};
 
@@ -31,7 +30,6 @@ pub trait DatabasePort {
         kind: NewKey,
     ) -> Result<u32, OdbRefusal>
         requires main { (access self.old).caller ≡ main_caller }
-        requires room { 1 ≤ (access self.old).room }
         ensures { AddsCall (access self.old) (access self.new) (Create path kind result) };
 
     /// As `Database::set`.
@@ -43,7 +41,6 @@ pub trait DatabasePort {
         index: u32,
         item: Item,
     ) -> Result<u32, OdbRefusal>
-        requires room { 1 ≤ (access self.old).room }
         ensures called { AddsCall (access self.old) (access self.new) (Set path index item result) }
         ensures memory { result ≡ Err no_memory → tid_of item ≡ Tid.Text };
 
@@ -56,29 +53,24 @@ pub trait DatabasePort {
         value: Value,
     ) -> Result<u32, OdbRefusal>
         requires main { (access self.old).caller ≡ main_caller }
-        requires room { 1 ≤ (access self.old).room }
         ensures { AddsCall (access self.old) (access self.new) (SetAll path value result) };
 
     /// As `Database::get`. Where there is no memory to note the value, the call is refused for that, and so noted.
     fn get<R: Wait>(&mut self, rt: &R, alloc: Global, path: Path) -> Result<Value, OdbRefusal>
-        requires room { 1 ≤ (access self.old).room }
         ensures { AddsCall (access self.old) (access self.new) (Get path result) };
 
     /// As `Database::find`. Takes no memory.
     fn find<R: Wait>(&mut self, rt: &R, path: Path) -> Result<u32, OdbRefusal>
-        requires room { 1 ≤ (access self.old).room }
         ensures called { AddsCall (access self.old) (access self.new) (Find path result) }
         ensures memory { result ≢ Err no_memory };
 
     /// As `Database::list`. Where there is no memory to note the list, the call is refused for that, and so noted.
     fn list<R: Wait>(&mut self, rt: &R, alloc: Global, path: Path) -> Result<Children, OdbRefusal>
-        requires room { 1 ≤ (access self.old).room }
         ensures { AddsCall (access self.old) (access self.new) (ListDir path result) };
 
     /// As `Database::delete`, by the main thread. Takes no memory.
     fn delete<R: Wait>(&mut self, rt: &R, path: Path) -> Result<u32, OdbRefusal>
         requires main { (access self.old).caller ≡ main_caller }
-        requires room { 1 ≤ (access self.old).room }
         ensures called { AddsCall (access self.old) (access self.new) (Delete path result) }
         ensures memory { result ≢ Err no_memory };
 
@@ -91,7 +83,6 @@ pub trait DatabasePort {
         len: u32,
     ) -> Result<u32, OdbRefusal>
         requires main { (access self.old).caller ≡ main_caller }
-        requires room { 1 ≤ (access self.old).room }
         ensures { AddsCall (access self.old) (access self.new) (Resize path len result) };
 
     /// As `Database::path_of`. Where there is no memory to note the path, the call is answered so, and so noted.
@@ -101,6 +92,5 @@ pub trait DatabasePort {
         alloc: Global,
         row: u32,
     ) -> Result<Option<Path>, NoMemory>
-        requires room { 1 ≤ (access self.old).room }
         ensures { AddsCall (access self.old) (access self.new) (PathOf row result) };
 }

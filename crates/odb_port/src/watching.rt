@@ -20,8 +20,7 @@ use odb_watch::{NoWatch, WatchRefusal};
 use std::alloc::Global;
 use std::sync::Wait;
 
-/// A port to a database that is watched, dumped and loaded too. These calls need no room and take none, since nothing has to
-/// keep what they take and answer.
+/// A port to a database that is watched, dumped and loaded too.
 pub trait WatchPort: DatabasePort {
     /// As `DatabasePort::set`, with the path and the item lent.
     fn set_lent<R: Wait>(
@@ -34,40 +33,34 @@ pub trait WatchPort: DatabasePort {
     ) -> Result<u32, OdbRefusal>
         ensures called { AddsCall (Self.access self.old) (Self.access self.new)
             (Set path.now index item.now result) }
-        ensures memory { result ≡ Err no_memory → tid_of item.now ≡ Tid.Text }
-        ensures room { (Self.access self.old).room ≤ (Self.access self.new).room };
+        ensures memory { result ≡ Err no_memory → tid_of item.now ≡ Tid.Text };
 
     /// Begins to watch a row, 0 for the root, and what is below it, as `Watches::watch`.
     fn watch<R: Wait>(&mut self, rt: &R, alloc: Global, row: u32) -> Result<u32, WatchRefusal>
         ensures called { AddsEntry (Self.access self.old) (Self.access self.new)
-            (Watch row result) }
-        ensures room { (Self.access self.old).room ≤ (Self.access self.new).room };
+            (Watch row result) };
 
     /// Moves out all notes that a watch has kept, at most 256, as `Watches::notes`. Takes no memory.
     fn notes<R: Wait>(&mut self, rt: &R, watch: u32, into: &mut Notes) -> Result<u64, NoWatch>
         ensures called { AddsEntry (Self.access self.old) (Self.access self.new)
             (taken_notes watch (moved_out into.new result)) }
         ensures few { OnOk result (length into.new ≤ notes_limit) }
-        ensures kept { OnErr result (into.new ≡ into.old) }
-        ensures room { (Self.access self.old).room ≤ (Self.access self.new).room };
+        ensures kept { OnErr result (into.new ≡ into.old) };
 
     /// Ends a watch, as `Watches::unwatch`. Takes no memory.
     fn unwatch<R: Wait>(&mut self, rt: &R, watch: u32) -> Result<(), NoWatch>
         ensures called { AddsEntry (Self.access self.old) (Self.access self.new)
-            (Unwatch watch result) }
-        ensures room { (Self.access self.old).room ≤ (Self.access self.new).room };
+            (Unwatch watch result) };
 
     /// The text of the database, as `odb_ascii::save`.
     fn save<R: Wait>(&mut self, rt: &R, alloc: Global) -> Result<Bytes, NoMemory>
         ensures called { AddsEntry (Self.access self.old) (Self.access self.new) (Save result) }
-        ensures small { IfOk result (λ text. length text ≤ dump_limit) }
-        ensures room { (Self.access self.old).room ≤ (Self.access self.new).room };
+        ensures small { IfOk result (λ text. length text ≤ dump_limit) };
 
     /// Does what a text asks for, as `odb_ascii::load`, by the main thread.
     fn load<R: Wait>(&mut self, rt: &R, alloc: Global, text: &[u8]) -> Result<Loaded, LoadRefusal>
         requires main { (Self.access self.old).caller ≡ main_caller }
         requires small { length text.now ≤ dump_limit }
         ensures called { AddsEntry (Self.access self.old) (Self.access self.new)
-            (Load text.now result) }
-        ensures room { (Self.access self.old).room ≤ (Self.access self.new).room };
+            (Load text.now result) };
 }

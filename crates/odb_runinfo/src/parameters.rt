@@ -1,4 +1,4 @@
-// What the main thread sets of the run's parameters, by paths that were made before. No set takes memory or room.
+// What the main thread sets of the run's parameters, by paths that were made before. No set takes memory.
 ghost use Rattle.std.specs.Prelude.{◌≡◌, ◌≤◌, ◌<◌, ◌^◌, ◌∷◌, []};
 ghost use Rattle.odb_runinfo.specs.RunSets.{SetsNumbers, refused_sets, start_sets, state_item, state_set, stop_sets};
 

@@ -46,14 +46,12 @@ pub fn next_run<R: Wait, P: DatabasePort>(
     alloc: Global,
     port: &mut P,
 ) -> Result<Result<u32, RunNumber>, NoMemory>
-    requires room { 1 ≤ (P.access port.old).room }
     ensures run { IfOk result (λ run. GetsNumber (P.access port.old) (P.access port.new) run) }
     ensures small { IfOk result (λ run. IfOk run (λ number. number < 2 ^ 31)) }
     ensures least { IfOk result (λ run. IfOk run (λ number. 1 ≤ number)) }
     ensures interrupted { OnErr result (MayAdd (P.access port.old) (P.access port.new)
         (number_asked (Err no_memory))) }
     ensures same { IsSamePort (P.access port.old) (P.access port.new) }
-    ensures room { (P.access port.old).room ≤ (P.access port.new).room + 1 }
 {
     let path = RunKey::RunNumber.path(alloc)?;
     match port.get(rt, alloc, path) {
@@ -72,12 +70,10 @@ pub fn open_front<R: Wait, P: DatabasePort>(
     front: Name,
 ) -> Result<(), NoMemory>
     requires main { (P.access port.old).caller ≡ main_caller }
-    requires room { 1 ≤ (P.access port.old).room }
     ensures asked { OnOk result (AsksKey (P.access port.old) (P.access port.new) front) }
     ensures interrupted { OnErr result (MayAdd (P.access port.old) (P.access port.new)
         (sent_key_made front (Err no_memory))) }
     ensures same { IsSamePort (P.access port.old) (P.access port.new) }
-    ensures room { (P.access port.old).room ≤ (P.access port.new).room + 1 }
 {
     let path = sent_path(alloc, front)?;
     let kind = NewKey::Keys {

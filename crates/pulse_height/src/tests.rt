@@ -1,12 +1,13 @@
 //! Front-ends over a port to a buffer.
 ghost use Rattle.std.specs.Prelude.{◌≡◌, ◌≤◌, IfOk};
+ghost use Rattle.local_port.specs.OwningPorts.{owned_access};
 
 use crate::PulseHeight;
 use buffer_core::BufferPort;
 use daq_types::{FrontEnded, NoMemory, Order, RunState, Transition, Why};
 use front_ends::{Equipment, FrontEnd, FrontStep};
-use frontend_kit::{EVENT_ROOM, Generator};
-use local_port::LocalPort;
+use frontend_kit::Generator;
+use local_port::OwningPort;
 use plain_buffer::PlainBuffer;
 use std::alloc::Global;
 use std::sync::Wait;
@@ -25,40 +26,17 @@ fn order(from: RunState, quota: u32) -> Order {
 }
 
 /// A port to a new buffer.
-fn new_port(alloc: Global) -> Result<LocalPort<PlainBuffer>, NoMemory>
-    ensures { IfOk result (λ port. port.window.size ≡ 1024) }
+fn new_port(alloc: Global) -> Result<OwningPort<PlainBuffer>, NoMemory>
+    ensures { IfOk result (λ port. (owned_access (λ window. window) port).size ≡ 1024) }
 {
-    Ok(LocalPort::new(alloc, PlainBuffer::new(alloc, 1024)?))
+    OwningPort::new(alloc, PlainBuffer::new(alloc, 1024)?)
 }
 
 /// Begins the run.
-fn begin_run<R: Wait, P: BufferPort>(rt: &R, port: &mut P)
-    requires { 1 ≤ (P.access port.old).entries }
+fn begin<R: Wait, P: BufferPort>(rt: &R, port: &mut P)
     ensures { (P.access port.new).size ≡ (P.access port.old).size }
 {
     let _ = port.begin(rt, 1);
-}
-
-/// Begins the run, with room to note that.
-fn begin<R: Wait>(rt: &R, port: &mut LocalPort<PlainBuffer>) -> Result<(), NoMemory>
-    ensures { port.new.window.size ≡ port.old.window.size }
-{
-    port.reserve(1, 0)?;
-    begin_run(rt, port);
-    Ok(())
-}
-
-/// A step, with room to note its call.
-fn step<R: Wait, E: Equipment>(
-    rt: &R,
-    front: &mut FrontEnd<E>,
-    port: &mut LocalPort<PlainBuffer>,
-) -> Result<FrontStep, NoMemory>
-    requires { 104 ≤ port.old.window.size }
-    ensures { port.new.window.size ≡ port.old.window.size }
-{
-    port.reserve(1, u64::from(EVENT_ROOM))?;
-    Ok(front.step(rt, port))
 }
 
 /// Starts run 1 with this quota. Says whether that was refused since the equipment does not take part.
@@ -106,23 +84,23 @@ struct QuotaRun {
 }
 
 /// Starts run 1 with the larger quota and then with a quota of one event, and makes two steps.
-fn start_twice<R: Wait, E: Equipment>(
+fn start_twice<R: Wait, E: Equipment, P: BufferPort>(
     rt: &R,
     front: &mut FrontEnd<E>,
-    port: &mut LocalPort<PlainBuffer>,
+    port: &mut P,
     larger: u32,
-) -> Result<QuotaRun, NoMemory>
-    requires { 104 ≤ port.old.window.size }
+) -> QuotaRun
+    requires { 104 ≤ (P.access port.old).size }
 {
-    begin(rt, port)?;
+    begin(rt, port);
     let refused = is_refused(front, larger);
     let accepted = is_accepted(front, 1);
-    Ok(QuotaRun {
+    QuotaRun {
         refused,
         accepted,
-        first: step(rt, front, port)?,
-        second: step(rt, front, port)?,
-    })
+        first: front.step(rt, port),
+        second: front.step(rt, port),
+    }
 }
 
 /// The same with a new front-end and a new buffer. These end here, so that the test holds neither while it looks at what
@@ -137,7 +115,7 @@ fn quota_run<R: Wait, E: Equipment>(
 {
     let mut front = FrontEnd::new(alloc, equipment)?;
     let mut port = new_port(alloc)?;
-    start_twice(rt, &mut front, &mut port, larger)
+    Ok(start_twice(rt, &mut front, &mut port, larger))
 }
 
 /// What came of a run of two events that was stopped after the first.
@@ -152,21 +130,21 @@ struct StoppedRun {
 }
 
 /// Starts run 1 with a quota of two events, and stops it after the first.
-fn stop_after_one<R: Wait, E: Equipment>(
+fn stop_after_one<R: Wait, E: Equipment, P: BufferPort>(
     rt: &R,
     front: &mut FrontEnd<E>,
-    port: &mut LocalPort<PlainBuffer>,
-) -> Result<StoppedRun, NoMemory>
-    requires { 104 ≤ port.old.window.size }
+    port: &mut P,
+) -> StoppedRun
+    requires { 104 ≤ (P.access port.old).size }
 {
     let _ = is_refused(front, 2);
-    begin(rt, port)?;
-    Ok(StoppedRun {
-        first: step(rt, front, port)?,
+    begin(rt, port);
+    StoppedRun {
+        first: front.step(rt, port),
         waits: stop_waits(front),
-        second: step(rt, front, port)?,
+        second: front.step(rt, port),
         told: quota_told(front),
-    })
+    }
 }
 
 /// The same with a new front-end and a new buffer.
@@ -179,7 +157,7 @@ fn stopped_run<R: Wait, E: Equipment>(
 {
     let mut front = FrontEnd::new(alloc, equipment)?;
     let mut port = new_port(alloc)?;
-    stop_after_one(rt, &mut front, &mut port)
+    Ok(stop_after_one(rt, &mut front, &mut port))
 }
 
 #[test]

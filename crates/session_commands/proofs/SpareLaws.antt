@@ -1,7 +1,6 @@
 -- Calls that remove nothing of `/Runinfo`, so that the run number is always there.
-use Rattle.std.proofs.Common.{◌≡◌, ℕ, List, [], ◌∷◌, ◌++◌, refl, ap, sym, ◌∙◌, subst, append_assoc}
+use Rattle.std.proofs.Common.{◌≡◌, ℕ, List, [], ◌∷◌, ◌++◌, refl, ap, sym, subst}
 use Rattle.std.specs.Prelude.{Result, Ok, Err, ◌⊎◌}
-use Rattle.std.proofs.lemmas.List.{append-nil}
 use Rattle.std.proofs.Math.Logic.{⊎_elim}
 use Rattle.daq_io.specs.Seen.{Seen}
 use Rattle.daq_types.specs.declared.memory.NoMemory.{NoMemory}
@@ -13,8 +12,7 @@ use Rattle.odb_tree.specs.declared.entry.DatabaseEntry.{DatabaseEntry}
 use Rattle.odb_tree.specs.declared.entry.DatabaseEntry.TheVariants as row
 use Rattle.odb_watch.specs.declared.entry.WatchEntry.{WatchEntry}
 use Rattle.odb_watch.specs.declared.entry.WatchEntry.TheVariants as call
-use Rattle.odb_journal.specs.Noted.{unanswered}
-use Rattle.odb_port.specs.DatabasePorts.{AddsCall, AddsCalls, AddsEntries, DatabaseAccess, IsCutShort, MayAdd, calls_by, own_watched, row_calls}
+use Rattle.odb_port.specs.DatabasePorts.{AddsCall, AddsCalls, AddsEntries, DatabaseAccess, IsCutShort, MayAdd, calls_by, own_watched, row_calls, unanswered}
 use Rattle.odb_runinfo.specs.RunNumberKept.{AllSpareRuninfo, SparesRuninfo}
 use Rattle.odb_runinfo.specs.RunSets.{AreSets, Assignment, start_sets, state_set, stop_sets}
 use Rattle.odb_commands.specs.declared.replies.CommandReply.{CommandReply}

@@ -1,4 +1,3 @@
-pub mod Lasting
 pub mod Endings
 pub mod RunReplies
 pub mod Keeping

@@ -1,5 +1,5 @@
 // The commands of runs in an open session, with their replies.
-ghost use Rattle.std.specs.Prelude.{◌≤◌, IfOk, OnErr};
+ghost use Rattle.std.specs.Prelude.{IfOk, OnErr};
 ghost use Rattle.session_runs.specs.RunAnswers.{AnswersPause, AnswersResume, AnswersStart, AnswersStop, CutsStart, clock_of, point_of};
 ghost use Rattle.session_commands.specs.RunReplies.{RepliesBy, StopsUnanswered};
 
@@ -22,7 +22,6 @@ pub fn answer_start<R: Wait, D: WatchPort, M: Rounds, C: Clock>(
     members: &mut M,
     clock: &mut C,
 ) -> Result<Reply, NoMemory>
-    requires { 1 ≤ (D.access access.old).room }
     ensures did { IfOk result (λ reply. RepliesBy (λ answer. AnswersStart M.round answer
         (clock_of (C.tells clock.old) (C.ahead clock.old))
         (clock_of (C.tells clock.new) (C.ahead clock.new))) reply

@@ -14,14 +14,14 @@ ghost use Rattle.session_commands.specs.CrewEnds.{CrewEnds};
 ghost use Rattle.session_commands.specs.Endings.{NotesFailed};
 ghost use Rattle.session_commands.specs.Finishing.{PlaysOpen, script_point, side_told};
 
-use crate::lasting::LastingPort;
 use crate::main_play::{MainEnd, MainPlay};
 use crate::script::Script;
 use crate::side::MainSide;
+use buffer_core::BufferPort;
 use daq_io::{Clock, Files, Gate, Pick, Sink, Source};
-use daq_members::EndlessPort;
 use front_ends::Equipment;
 use member_threads::{Playing, ThreadRoom, play_in_threads, play_in_turns};
+use odb_port::WatchPort;
 use session_crew::{Crew, CrewParts};
 use session_runs::Runs;
 use session_setup::DeclaredLists;
@@ -34,10 +34,10 @@ use std::thread::Threads;
 pub struct CrewEnd<
     'a,
     X: Equipment,
-    P: EndlessPort,
+    P: BufferPort,
     S: Source,
     O: Sink,
-    D: LastingPort,
+    D: WatchPort,
     E: Files,
     C: Clock,
     F: Files,
@@ -55,8 +55,8 @@ fn play_members<
     'a,
     R: Threads + Wait + Sync,
     X: Equipment + Drop + Send,
-    P: EndlessPort + Drop + Send,
-    D: LastingPort + Drop + Send,
+    P: BufferPort + Drop + Send,
+    D: WatchPort + Drop + Send,
     F: Files + Drop + Send,
     K: Pick + Drop,
     G: Gate + Sync,
@@ -95,8 +95,8 @@ pub fn play_crew<
     S: Source + Drop,
     O: Sink + Drop,
     X: Equipment + Drop + Send,
-    P: EndlessPort + Drop + Send,
-    D: LastingPort + Drop + Send,
+    P: BufferPort + Drop + Send,
+    D: WatchPort + Drop + Send,
     E: Files + Drop,
     C: Clock + Drop,
     F: Files + Drop + Send,

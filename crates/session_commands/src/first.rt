@@ -11,7 +11,6 @@ ghost use Rattle.script_desk.specs.Playing.{FitsOn};
 ghost use Rattle.session_commands.specs.Finishing.{side_told};
 ghost use Rattle.session_commands.specs.FirstLines.{IsUnreadScript, PlaysFirst};
 
-use crate::lasting::LastingPort;
 use crate::script::Script;
 use crate::side::MainSide;
 use crate::unopened::Unopened;
@@ -19,6 +18,7 @@ use daq_io::{Clock, Files, Sink, Source};
 use database_desk::DatabaseDesk;
 use database_files::FileReplies;
 use odb_lock::{OdbPass, SharedAccess, SharedOdb};
+use odb_port::WatchPort;
 use odb_tree::Database;
 use script_desk::{PlayEnd, play_script};
 use session_setup::Declarations;
@@ -27,7 +27,7 @@ use std::sync::Wait;
 
 /// What the lines before a first start came to, and what the main thread has then.
 #[derive(Drop)]
-pub struct FirstEnd<D: LastingPort, E: Files, C: Clock> {
+pub struct FirstEnd<D: WatchPort, E: Files, C: Clock> {
     pub end: PlayEnd,
     /// How many events each front-end has to send in the runs to come.
     pub quota: u32,
@@ -68,7 +68,7 @@ pub fn play_first<'a, R: Wait, D: Database, S: Source, O: Sink, E: Files, C: Clo
 }
 
 /// Plays the lines of a script up to its first start, or to its end, over a database that is called by any port.
-fn play_unopened<R: Wait, D: LastingPort, S: Source, O: Sink, E: Files, C: Clock>(
+fn play_unopened<R: Wait, D: WatchPort, S: Source, O: Sink, E: Files, C: Clock>(
     rt: &R,
     alloc: Global,
     access: D,

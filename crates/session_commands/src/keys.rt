@@ -1,5 +1,5 @@
 // The keys in which the front-ends say how many events they sent.
-ghost use Rattle.std.specs.Prelude.{◌≡◌, ◌≤◌, OnErr, OnOk, length};
+ghost use Rattle.std.specs.Prelude.{◌≡◌, OnErr, OnOk};
 ghost use Rattle.daq_types.specs.Callers.{main_caller};
 ghost use Rattle.odb_port.specs.DatabasePorts.{IsSamePort};
 ghost use Rattle.session_lines.specs.RunLines.{CutsKeys, KeysMade};
@@ -18,7 +18,6 @@ pub fn make_keys<R: Wait, D: DatabasePort>(
     fronts: &[Name],
 ) -> Result<(), NoMemory>
     requires main { (D.access access.old).caller ≡ main_caller }
-    requires room { length fronts.now ≤ (D.access access.old).room }
     ensures made { OnOk result (KeysMade fronts.now (D.access access.old)
         (D.access access.new)) }
     ensures cut { OnErr result (CutsKeys fronts.now (D.access access.old)

@@ -3,11 +3,11 @@ ghost use Rattle.session_commands.specs.Finishing.{UnopenedFinish};
 ghost use Rattle.session_commands.specs.FirstStarts.{CutFinish, ReadyFinish};
 ghost use Rattle.session_commands.specs.KeptByScripts.{ScriptsKeep};
 
-use crate::lasting::LastingPort;
 use crate::unopened::Unopened;
 use daq_io::{Clock, Files};
 use odb_commands::laws::calls_spare_runinfo;
 use odb_lock::{SharedAccess, SharedOdb};
+use odb_port::WatchPort;
 use odb_port::laws::{calls_add_up, entries_add_up};
 use odb_runinfo::laws::own_calls_spare;
 use odb_tree::Database;
@@ -27,7 +27,7 @@ pub fn first_start_opens<'a, D: Database, E: Files, C: Clock>(_shared: &'a Share
 }
 
 /// The same of a session whose database is called by any port.
-fn start_opens<D: LastingPort, E: Files, C: Clock>()
+fn start_opens<D: WatchPort, E: Files, C: Clock>()
     ensures ready { ReadyFinish }
     ensures cut { CutFinish }
     ensures unopened { UnopenedFinish }

@@ -1,13 +1,13 @@
 // The main thread's part of an open session: the lines of its script, and the close of its engine.
 ghost use Rattle.std.specs.Prelude.{◌≤◌, ◌+◌};
 
-use crate::lasting::LastingPort;
 use crate::opened::Opened;
 use crate::script::Script;
 use crate::side::MainSide;
 use daq_io::{Clock, Files, Sink, Source};
 use daq_types::Journal;
 use member_threads::Playing;
+use odb_port::WatchPort;
 use run_records::RunRecord;
 use script_desk::{Ending, Halt, play_out};
 use session_engine::Rounds;
@@ -19,7 +19,7 @@ use transition_lock::EnginePass;
 
 /// All that the main thread of an open session calls, where a line of its script was read that is not answered yet.
 #[derive(Drop)]
-pub struct MainPlay<'a, S: Source, O: Sink, D: LastingPort, E: Files, C: Clock> {
+pub struct MainPlay<'a, S: Source, O: Sink, D: WatchPort, E: Files, C: Clock> {
     pub alloc: Global,
     /// What was declared.
     pub lists: &'a DeclaredLists,
@@ -31,7 +31,7 @@ pub struct MainPlay<'a, S: Source, O: Sink, D: LastingPort, E: Files, C: Clock> 
 
 /// What the lines of an open session came to, and what its main thread has then.
 #[derive(Drop)]
-pub struct MainEnd<S: Source, O: Sink, D: LastingPort, E: Files, C: Clock> {
+pub struct MainEnd<S: Source, O: Sink, D: WatchPort, E: Files, C: Clock> {
     pub ending: Ending,
     /// What failed behind the lines.
     pub closing: Option<Halt>,
@@ -42,7 +42,7 @@ pub struct MainEnd<S: Source, O: Sink, D: LastingPort, E: Files, C: Clock> {
     pub script: Script<S, O>,
 }
 
-impl<'a, S: Source, O: Sink, D: LastingPort, E: Files, C: Clock> Playing
+impl<'a, S: Source, O: Sink, D: WatchPort, E: Files, C: Clock> Playing
     for MainPlay<'a, S, O, D, E, C> {
     ghost use Rattle.script_desk.specs.Closing.{EndCounts};
     ghost use Rattle.session_commands.specs.Finishing.{script_point, side_told};

@@ -3,10 +3,10 @@ ghost use Rattle.std.specs.Prelude.{◌≡◌, true, false, if◌then◌else◌}
 ghost use Rattle.session_engine.specs.MadeTransitions.{HadRounds};
 
 use crate::commands::{answer_pause, answer_resume, answer_start, answer_stop};
-use crate::lasting::LastingPort;
 use crate::side::MainSide;
 use daq_io::{Clock, Files};
 use daq_types::NoMemory;
+use odb_port::WatchPort;
 use odb_script::{Command, LineRefusal};
 use script_desk::Answerer;
 use session_engine::Rounds;
@@ -19,7 +19,7 @@ use std::sync::Wait;
 
 /// A session that a start opened: what the main thread keeps of its runs, its members, and the online database.
 #[derive(Drop)]
-pub struct Opened<'a, D: LastingPort, M: Rounds, E: Files, C: Clock> {
+pub struct Opened<'a, D: WatchPort, M: Rounds, E: Files, C: Clock> {
     pub runs: Runs<'a>,
     pub crew: M,
     pub side: MainSide<D, E, C>,
@@ -42,7 +42,7 @@ fn begin_line<R: Wait, M: Rounds>(rt: &R, members: &mut M, begun: &mut bool)
     }
 }
 
-impl<'a, D: LastingPort, M: Rounds, E: Files, C: Clock> Answerer for Opened<'a, D, M, E, C> {
+impl<'a, D: WatchPort, M: Rounds, E: Files, C: Clock> Answerer for Opened<'a, D, M, E, C> {
     ghost use Rattle.session_lines.specs.Stages.{SessionStage, open_stage};
     ghost use Rattle.session_setup.specs.Setup.{declared_by};
     ghost use Rattle.session_lines.specs.ScriptLines.{BreaksScriptLine, ClosesScript, DoesScriptLine, GivesUp};

@@ -2,10 +2,10 @@
 ghost use Rattle.std.specs.Prelude.{◌≡◌, false, None};
 
 use crate::declaring::{declare_analyzer, declare_buffer, declare_channel, declare_front};
-use crate::lasting::LastingPort;
 use crate::side::MainSide;
 use daq_io::{Clock, Files};
 use daq_types::{NoMemory, RunState};
+use odb_port::WatchPort;
 use odb_script::{Command, LineRefusal};
 use script_desk::Answerer;
 use session_replies::Reply;
@@ -15,7 +15,7 @@ use std::sync::Wait;
 
 /// A session that no start opened yet: what is declared so far, and the online database.
 #[derive(Drop)]
-pub struct Unopened<D: LastingPort, E: Files, C: Clock> {
+pub struct Unopened<D: WatchPort, E: Files, C: Clock> {
     /// How many events each front-end has to send in the runs to come.
     pub quota: u32,
     pub declarations: Declarations,
@@ -23,7 +23,7 @@ pub struct Unopened<D: LastingPort, E: Files, C: Clock> {
     ghost closed: { declarations.opened ≡ false },
 }
 
-impl<D: LastingPort, E: Files, C: Clock> Answerer for Unopened<D, E, C> {
+impl<D: WatchPort, E: Files, C: Clock> Answerer for Unopened<D, E, C> {
     ghost use Rattle.session_lines.specs.Stages.{SessionStage, unopened_stage};
     ghost use Rattle.session_lines.specs.ScriptLines.{BreaksScriptLine, ClosesScript, DoesScriptLine, GivesUp, opens_session};
     ghost use Rattle.database_desk.specs.DatabaseStages.{database_stage};
@@ -110,11 +110,10 @@ impl<D: LastingPort, E: Files, C: Clock> Answerer for Unopened<D, E, C> {
         Ok(None)
     }
 
-    ghost stays_so = { λ a. record { database = refl; caller = refl; undisturbed = refl } };
+    ghost stays_so = { λ a. record { database = refl; caller = refl } };
 
     ghost stays_on = { λ a b c ab bc. record {
       database = bc.database ∙ ab.database;
       caller = bc.caller ∙ ab.caller;
-      undisturbed = bc.undisturbed ∙ ab.undisturbed;
     } };
 }

@@ -78,10 +78,10 @@ access_then : (a b c : Access) → IsSameAccess a b → IsSameAccess b c → IsS
 access_then a b c first then_ = (then_.0 ∙ first.0, then_.1 ∙ first.1, then_.2 ∙ first.2)
 
 same_port : (a : DatabaseAccess) → IsSamePort a a
-same_port a = record { database = refl; caller = refl; undisturbed = refl }
+same_port a = record { database = refl; caller = refl }
 
 port_then : (a b c : DatabaseAccess) → IsSamePort a b → IsSamePort b c → IsSamePort a c
-port_then a b c first then_ = record { database = then_.database ∙ first.database; caller = then_.caller ∙ first.caller; undisturbed = then_.undisturbed ∙ first.undisturbed }
+port_then a b c first then_ = record { database = then_.database ∙ first.database; caller = then_.caller ∙ first.caller }
 
 -- Loggers.
 

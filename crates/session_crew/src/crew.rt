@@ -3,8 +3,9 @@ ghost use Rattle.std.specs.Prelude.{◌≡◌, ◌<◌, ℕ, slice_get, Some, le
 ghost use Rattle.daq_members.specs.FrontSeats.{FrontSeen, IsSeated};
 
 use analyzer_seats::{AnalyzerSeats, ask_all as ask_analyzers, turn_at};
+use buffer_core::BufferPort;
 use daq_io::{Files, Gate, Pick};
-use daq_members::{EndlessPort, FrontSeat, LoggerSeat, Turned};
+use daq_members::{FrontSeat, LoggerSeat, Turned};
 use front_ends::Equipment;
 use odb_port::WatchPort;
 use session_engine::Rounds;
@@ -13,7 +14,7 @@ use std::sync::Wait;
 
 /// The members of a session and the pick, each for itself. A seat gives back what its member called with.
 #[derive(Drop)]
-pub struct CrewParts<'a, E: Equipment, P: EndlessPort, D: WatchPort, F: Files, K: Pick> {
+pub struct CrewParts<'a, E: Equipment, P: BufferPort, D: WatchPort, F: Files, K: Pick> {
     pub fronts: Vec<FrontSeat<'a, E, P, D>>,
     pub logger: LoggerSeat<'a, P, F>,
     pub analyzers: AnalyzerSeats<'a, P>,
@@ -21,7 +22,7 @@ pub struct CrewParts<'a, E: Equipment, P: EndlessPort, D: WatchPort, F: Files, K
 }
 
 /// Learns what each of these front-ends keeps.
-fn ask_all<'a, E: Equipment, P: EndlessPort, D: WatchPort>(fronts: &[FrontSeat<'a, E, P, D>])
+fn ask_all<'a, E: Equipment, P: BufferPort, D: WatchPort>(fronts: &[FrontSeat<'a, E, P, D>])
     ensures { (number : ℕ) → (front : FrontSeen E) → slice_get fronts.now number ≡ Some front →
         IsSeated E.takes E.makes front }
 {
@@ -34,7 +35,7 @@ fn ask_all<'a, E: Equipment, P: EndlessPort, D: WatchPort>(fronts: &[FrontSeat<'
 /// front-ends the first ones, in order, the logger the next, and the analyzers, in order, those behind it. There are at
 /// most 64. In each round the pick names the member that has its turn first.
 #[derive(Drop)]
-pub struct Crew<'a, E: Equipment, P: EndlessPort, D: WatchPort, F: Files, K: Pick, G: Gate> {
+pub struct Crew<'a, E: Equipment, P: BufferPort, D: WatchPort, F: Files, K: Pick, G: Gate> {
     fronts: Vec<FrontSeat<'a, E, P, D>>,
     logger: LoggerSeat<'a, P, F>,
     analyzers: AnalyzerSeats<'a, P>,
@@ -42,7 +43,7 @@ pub struct Crew<'a, E: Equipment, P: EndlessPort, D: WatchPort, F: Files, K: Pic
     gate: &'a G,
 }
 
-impl<'a, E: Equipment, P: EndlessPort, D: WatchPort, F: Files, K: Pick, G: Gate> Model
+impl<'a, E: Equipment, P: BufferPort, D: WatchPort, F: Files, K: Pick, G: Gate> Model
     for Crew<'a, E, P, D, F, K, G> {
     ghost use Rattle.session_crew.specs.Crews.{CrewSeen, AreMembers};
 
@@ -58,7 +59,7 @@ impl<'a, E: Equipment, P: EndlessPort, D: WatchPort, F: Files, K: Pick, G: Gate>
     ghost invariant = { λ c. AreMembers c.fronts.items c.logger c.analyzers };
 }
 
-impl<'a, E: Equipment, P: EndlessPort, D: WatchPort, F: Files, K: Pick, G: Gate> Crew<
+impl<'a, E: Equipment, P: BufferPort, D: WatchPort, F: Files, K: Pick, G: Gate> Crew<
     'a,
     E,
     P,
@@ -207,7 +208,7 @@ impl<'a, E: Equipment, P: EndlessPort, D: WatchPort, F: Files, K: Pick, G: Gate>
     }
 }
 
-impl<'a, E: Equipment, P: EndlessPort, D: WatchPort, F: Files, K: Pick, G: Gate> Rounds
+impl<'a, E: Equipment, P: BufferPort, D: WatchPort, F: Files, K: Pick, G: Gate> Rounds
     for Crew<'a, E, P, D, F, K, G> {
     ghost use Rattle.session_crew.specs.Crews.{crew_told, TakesRound};
 

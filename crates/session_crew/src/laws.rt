@@ -4,15 +4,15 @@ ghost use Rattle.session_engine.specs.MadeTransitions.{HadRounds};
 ghost use Rattle.session_crew.specs.Crews.{CrewSeen, crew_told, TakesRound, KeptByRounds, MembersStay};
 
 use crate::crew::Crew;
+use buffer_core::BufferPort;
 use daq_io::{Files, Gate, Pick};
-use daq_members::EndlessPort;
 use front_ends::Equipment;
 use loggers::laws as logger_laws;
 use odb_port::WatchPort;
 
 /// A crew that had any number of rounds has the same members as before, of which the logger noted each fault of the run
 /// files, and each round read one choice of its pick.
-pub fn rounds_keep<'a, E: Equipment, P: EndlessPort, D: WatchPort, F: Files, K: Pick, G: Gate>(
+pub fn rounds_keep<'a, E: Equipment, P: BufferPort, D: WatchPort, F: Files, K: Pick, G: Gate>(
     _crew: &Crew<'a, E, P, D, F, K, G>,
 )
     ensures { (count : ℕ) → (before : CrewSeen E F K) →
@@ -25,7 +25,7 @@ pub fn rounds_keep<'a, E: Equipment, P: EndlessPort, D: WatchPort, F: Files, K: 
 }
 
 /// Each member stays the same one, however many turns it takes, and the logger notes each fault of the run files in its turns.
-pub fn members_stay<'a, E: Equipment, P: EndlessPort, D: WatchPort, F: Files, K: Pick, G: Gate>(
+pub fn members_stay<'a, E: Equipment, P: BufferPort, D: WatchPort, F: Files, K: Pick, G: Gate>(
     _crew: &Crew<'a, E, P, D, F, K, G>,
 )
     ensures { MembersStay (crew_told E.takes E.makes F.seen F.faults F.clashes F.first

@@ -1,6 +1,6 @@
 -- What the commands of runs keep.
-use Rattle.std.proofs.Common.{◌≡◌, ℕ, zero, suc, List, [], ◌∷◌, refl, ap, sym, ◌∙◌, inl, inr, subst}
-use Rattle.std.specs.Prelude.{Result, Ok, Err, Option}
+use Rattle.std.proofs.Common.{◌≡◌, ℕ, List, [], ◌∷◌, refl, ap, sym, ◌∙◌, subst}
+use Rattle.std.specs.Prelude.{Result, Ok, Err}
 use Rattle.std.proofs.Math.Logic.{⊎_elim}
 use Rattle.daq_types.specs.declared.memory.NoMemory.{NoMemory}
 use Rattle.daq_types.specs.declared.runs.StartOutcome.{StartOutcome}
@@ -10,19 +10,19 @@ use Rattle.daq_types.specs.declared.runs.Transition.TheVariants.{Pause, Resume}
 use Rattle.odb_tree.specs.declared.entry.DatabaseEntry.{DatabaseEntry}
 use Rattle.odb_watch.specs.declared.entry.WatchEntry.{WatchEntry}
 use Rattle.odb_port.specs.DatabasePorts.{AddsCall, AddsEntries, DatabaseAccess, IsSamePort, MayAdd}
-use Rattle.session_engine.specs.MadeTransitions.{HadRounds, DrivesTransition}
+use Rattle.session_engine.specs.MadeTransitions.{HadRounds}
 use Rattle.session_runs.specs.declared.on.CurrentRun.{CurrentRun}
 use Rattle.session_runs.specs.declared.replies.RunReply.{RunReply}
 use Rattle.session_runs.specs.declared.replies.RunReply.TheVariants as answer
 use Rattle.session_runs.specs.KeptRuns.{RunsSeen, behind_start}
-use Rattle.session_runs.specs.RunAnswers.{AnswersPause, AnswersResume, AnswersStart, AnswersStop, BeginsRun, ClockTold, CommandPoint, CutsBegin, CutsNumber, CutsStart, GotNumber, LacksNumber, MakesChange, MakesStart, MakesStop, StopsUnsaved}
+use Rattle.session_runs.specs.RunAnswers.{AnswersPause, AnswersResume, AnswersStart, AnswersStop, BeginsRun, ClockTold, CommandPoint, CutsBegin, CutsStart, GotNumber, MakesChange, MakesStart, MakesStop, StopsUnsaved}
 use Rattle.session_lines.specs.Keeping.{KeptByCommand}
 
 port_same : (a : DatabaseAccess) → IsSamePort a a
-port_same a = record { database = refl; caller = refl; undisturbed = refl }
+port_same a = record { database = refl; caller = refl }
 
 port_on : (a b c : DatabaseAccess) → IsSamePort a b → IsSamePort b c → IsSamePort a c
-port_on a b c ab bc = record { database = bc.database ∙ ab.database; caller = bc.caller ∙ ab.caller; undisturbed = bc.undisturbed ∙ ab.undisturbed }
+port_on a b c ab bc = record { database = bc.database ∙ ab.database; caller = bc.caller ∙ ab.caller }
 
 pub entries_port : (entries : List WatchEntry) (a b : DatabaseAccess) → AddsEntries a b entries → IsSamePort a b
 entries_port [] a b same = subst (λ (x : DatabaseAccess). IsSamePort a x) (sym same) (port_same a)

@@ -1,6 +1,6 @@
 -- What stays of an open session.
-use Rattle.std.proofs.Common.{◌≡◌, ℕ, zero, suc, ◌+◌, refl, subst, sym, ◌∙◌}
-use Rattle.odb_port.specs.DatabasePorts.{DatabaseAccess, IsSamePort}
+use Rattle.std.proofs.Common.{ℕ, zero, suc, refl, subst, sym, ◌∙◌}
+use Rattle.odb_port.specs.DatabasePorts.{DatabaseAccess}
 use Rattle.transition_lock.specs.declared.shared.SharedEngine.{SharedEngine}
 use Rattle.session_engine.specs.MadeTransitions.{HadRounds}
 use Rattle.session_setup.specs.declared.declared.DeclaredLists.{DeclaredLists}
@@ -15,7 +15,7 @@ stays_open members engine access lists = record {
   count = 0;
   rounds = refl;
   same_engine = refl;
-  port = record { database = refl; caller = refl; undisturbed = refl };
+  port = record { database = refl; caller = refl };
   same_lists = refl;
 }
 
@@ -26,6 +26,6 @@ stays_open_on {M} {round} {a} {b} {c} ab bc =
       count = more.0;
       rounds = more.1;
       same_engine = bc.same_engine ∙ ab.same_engine;
-      port = record { database = bc.port.database ∙ ab.port.database; caller = bc.port.caller ∙ ab.port.caller; undisturbed = bc.port.undisturbed ∙ ab.port.undisturbed };
+      port = record { database = bc.port.database ∙ ab.port.database; caller = bc.port.caller ∙ ab.port.caller };
       same_lists = bc.same_lists ∙ ab.same_lists;
     }

@@ -18,9 +18,10 @@ use crate::seating::Seating;
 use crate::seats::{SessionAnalyzer, SessionAnalyzers, SessionCrew, SessionFront};
 use analyzer_seats::{AnalyzerMember, AnalyzerSeat, AnalyzerSeats};
 use analyzers::Analyzer;
+use buffer_core::BufferPort;
 use buffer_lock::SharedPort;
 use daq_io::{Files, Gate, Pick};
-use daq_members::{EndlessPort, FrontMember, FrontSeat, LoggerMember, LoggerSeat, Seat};
+use daq_members::{FrontMember, FrontSeat, LoggerMember, LoggerSeat, Seat};
 use daq_types::{BoundedList, Caller, NoMemory};
 use event_header::MAX_DATA;
 use frontend_kit::Generator;
@@ -66,7 +67,7 @@ struct AnalyzerPlaces<'a> {
 
 /// The members, but for the run files and the pick.
 #[derive(Drop)]
-struct BareMembers<'a, P: EndlessPort, A: WatchPort> {
+struct BareMembers<'a, P: BufferPort, A: WatchPort> {
     fronts: Vec<FrontSeat<'a, Generator, P, A>>,
     logger: LoggerMember<'a>,
     ports: Ports<P>,

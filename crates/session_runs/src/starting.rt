@@ -204,7 +204,6 @@ impl<'a> Runs<'a> {
         members: &mut M,
         clock: &mut C,
     ) -> Result<RunReply, NoMemory>
-        requires room { 1 ≤ (D.access database.old).room }
         ensures did { IfOk result (λ reply. AnswersStart M.round reply
             (clock_of (C.tells clock.old) (C.ahead clock.old))
             (clock_of (C.tells clock.new) (C.ahead clock.new))

@@ -1,5 +1,5 @@
 -- Calls that a command for watches made, and where memory cut them short.
-use Rattle.std.proofs.Common.{◌≡◌, ◌≢◌, ℕ, zero, suc, ◌+◌, ◌<◌, ◌≤◌, List, [], ◌∷◌, ◌++◌, length, map, take, drop, get_or, Option, None, Result, Ok, Err, refl, ap, sym, subst, ◌∙◌, inl, inr, arith}
+use Rattle.std.proofs.Common.{◌≡◌, ◌≢◌, ℕ, zero, suc, ◌+◌, ◌<◌, List, [], ◌∷◌, ◌++◌, length, map, take, drop, get_or, Option, None, Result, Ok, Err, refl, ap, sym, subst, ◌∙◌, inl, inr, arith}
 use Rattle.std.specs.Prelude.{IfOk, IsTrue, OnErr}
 use Rattle.std.proofs.lemmas.Result.{IfOk-weaker, on_err_weaker}
 use Rattle.daq_types.specs.declared.memory.NoMemory.{NoMemory}
@@ -172,7 +172,7 @@ notes_cut_if a b c w kept slice taken result called same rest =
 -- The paths of the notes are asked for, one after the other.
 
 same_on : (a b c : DatabaseAccess) → IsSamePort a b → IsSamePort b c → IsSamePort a c
-same_on a b c p q = record { database = q.database ∙ p.database; caller = q.caller ∙ p.caller; undisturbed = q.undisturbed ∙ p.undisturbed }
+same_on a b c p q = record { database = q.database ∙ p.database; caller = q.caller ∙ p.caller }
 
 adds_more : (a b c : DatabaseAccess) (calls : List WatchEntry) (entry : WatchEntry) → AddsEntries a b calls → AddsEntry b c entry → AddsEntries a c (calls ++ entry ∷ [])
 adds_more a b c [] entry before more = (c, subst (λ (x : DatabaseAccess). AddsEntry x c entry) before more, refl)
@@ -183,7 +183,6 @@ pub record IsTelling (a b : DatabaseAccess) (notes : List Note) (told : List Tol
   pub are : map note_told told ≡ take i notes
   pub adds : AddsEntries a b (map path_asked told)
   pub same : IsSamePort a b
-  pub room : a.room ≤ b.room + i
 
 map_more : {X Y : Type 0} (f : X → Y) (xs : List X) (x : X) → map f (xs ++ x ∷ []) ≡ map f xs ++ f x ∷ []
 map_more f [] x = refl
@@ -204,7 +203,6 @@ telling_more a b c notes told after i d path got before within called is more =
       are = map_more note_told told new ∙ (ap (λ (l : List Note). l ++ note ∷ []) before.are ∙ (sym (take_one_more notes i d within) ∙ ap (λ (n : ℕ). take n notes) {x = suc i} {y = i + 1} (omega arith)));
       adds = subst (AddsEntries a c) (sym (map_more path_asked told new)) (adds_more a b c (map path_asked told) (path_asked new) before.adds asked);
       same = same_on a b c before.same asked.same;
-      room = omega (arith, before.room, asked.room);
     }))
 
 -- Memory ended while they were asked for.

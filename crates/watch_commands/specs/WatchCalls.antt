@@ -16,8 +16,7 @@ use Rattle.odb_watch.specs.declared.notes.WatchRefusal.{WatchRefusal}
 use Rattle.odb_watch.specs.declared.notes.WatchRefusal.TheVariants as watch
 use Rattle.odb_watch.specs.declared.entry.WatchEntry.{WatchEntry}
 use Rattle.odb_watch.specs.declared.entry.WatchEntry.TheVariants as call
-use Rattle.odb_journal.specs.Noted.{unanswered}
-use Rattle.odb_port.specs.DatabasePorts.{DatabaseAccess, AddsEntries, IsSettled}
+use Rattle.odb_port.specs.DatabasePorts.{DatabaseAccess, AddsEntries, IsSettled, unanswered}
 use Rattle.database_files.specs.declared.replies.FileReply.{FileReply}
 use Rattle.database_files.specs.declared.replies.FileReply.TheVariants as file
 use Rattle.database_files.specs.declared.replies.FileRead.{FileRead}

@@ -1,4 +1,4 @@
-ghost use Rattle.std.specs.Prelude.{◌≡◌, ◌≤◌, ◌+◌, IfOk, OnErr};
+ghost use Rattle.std.specs.Prelude.{◌≡◌, ◌≤◌, IfOk, OnErr};
 ghost use Rattle.daq_types.specs.Callers.{main_caller};
 ghost use Rattle.daq_io.specs.Seen.{Same};
 ghost use Rattle.odb_port.specs.DatabasePorts.{IsSamePort};
@@ -15,9 +15,6 @@ use odb_script::Command;
 use std::alloc::Global;
 use std::sync::Wait;
 
-/// For how many calls on the rows of the database a command has room at most: one for the path of each note.
-pub const WATCH_CALLS: u32 = 256;
-
 /// Performs a command for watches or dumps, by the main thread: makes its calls on the database and on its files, each once
 /// and in order, and gives the answer. None for any other command. Where memory ends, the first of its calls on the database
 /// were made, the last of them maybe with that reply, and all of them only where its reply takes memory behind them; no file
@@ -30,7 +27,6 @@ pub fn run_watch_command<R: Wait, P: WatchPort, E: Files>(
     command: &Command<'_>,
 ) -> Result<Option<WatchAnswer>, NoMemory>
     requires main { (P.access port.old).caller ≡ main_caller }
-    requires room { WATCH_CALLS ≤ (P.access port.old).room }
     ensures did { IfOk result (AnswersWatchIf (P.access port.old) (P.access port.new) command.now
         (E.seen files.old) (E.seen files.new)) }
     ensures interrupted { OnErr result (CutsWatch (P.access port.old) (P.access port.new)
@@ -47,7 +43,6 @@ pub fn run_watch_command<R: Wait, P: WatchPort, E: Files>(
     ensures nameless { OnErr result (E.first files.new ≡ E.first files.old) }
     ensures unclashed { OnErr result (E.clashes files.new ≡ E.clashes files.old) }
     ensures same { IsSamePort (P.access port.old) (P.access port.new) }
-    ensures room { (P.access port.old).room ≤ (P.access port.new).room + WATCH_CALLS }
 {
     match command {
         Command::Load { file } => Ok(Some(load(rt, alloc, port, files, file.as_slice())?)),

@@ -74,7 +74,6 @@ fn load_whole<R: Wait, P: WatchPort>(
         (LoadsWhole text.now)) }
     ensures file { IfOk result (λ answer. answer.file ≡ Some FileReply.Done) }
     ensures same { IsSamePort (P.access port.old) (P.access port.new) }
-    ensures room { (P.access port.old).room ≤ (P.access port.new).room }
 {
     let reply = load_settled(port.load(rt, alloc, text))?;
     Ok(loaded_or(reply))
@@ -96,7 +95,6 @@ fn load_read<R: Wait, P: WatchPort>(
     ensures file { IfOk result (λ answer. answer.file ≡ Some (reply_of read)) }
     ensures whole { OnErr result (reply_of read ≡ FileReply.Done) }
     ensures same { IsSamePort (P.access port.old) (P.access port.new) }
-    ensures room { (P.access port.old).room ≤ (P.access port.new).room }
 {
     let came = read.reply();
     match read {
@@ -132,7 +130,6 @@ fn load_at<R: Wait, P: WatchPort, E: Files>(
     ensures nameless { OnErr result (E.first files.new ≡ E.first files.old) }
     ensures unclashed { OnErr result (E.clashes files.new ≡ E.clashes files.old) }
     ensures same { IsSamePort (P.access port.old) (P.access port.new) }
-    ensures room { (P.access port.old).room ≤ (P.access port.new).room }
 {
     let read = read_file(alloc, files, name)?;
     load_read(rt, alloc, port, read)
@@ -165,7 +162,6 @@ pub fn load<R: Wait, P: WatchPort, E: Files>(
     ensures nameless { OnErr result (E.first files.new ≡ E.first files.old) }
     ensures unclashed { OnErr result (E.clashes files.new ≡ E.clashes files.old) }
     ensures same { IsSamePort (P.access port.old) (P.access port.new) }
-    ensures room { (P.access port.old).room ≤ (P.access port.new).room }
 {
     match FileName::from_bytes(file) {
         Err(_) => Ok(refused_for(WatchCommandRefusal::BadFileName)),
@@ -210,7 +206,6 @@ fn save_at<R: Wait, P: WatchPort, E: Files>(
     ensures nameless { OnErr result (E.first files.new ≡ E.first files.old) }
     ensures unclashed { OnErr result (E.clashes files.new ≡ E.clashes files.old) }
     ensures same { IsSamePort (P.access port.old) (P.access port.new) }
-    ensures room { (P.access port.old).room ≤ (P.access port.new).room }
 {
     let dump = port.save(rt, alloc)?;
     let text = dump.as_slice();
@@ -245,7 +240,6 @@ pub fn save<R: Wait, P: WatchPort, E: Files>(
     ensures nameless { OnErr result (E.first files.new ≡ E.first files.old) }
     ensures unclashed { OnErr result (E.clashes files.new ≡ E.clashes files.old) }
     ensures same { IsSamePort (P.access port.old) (P.access port.new) }
-    ensures room { (P.access port.old).room ≤ (P.access port.new).room }
 {
     match FileName::from_bytes(file) {
         Err(_) => Ok(refused_for(WatchCommandRefusal::BadFileName)),

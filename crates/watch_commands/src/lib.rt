@@ -9,7 +9,7 @@ mod replies;
 mod texts;
 mod watches;
 
-pub use commands::{WATCH_CALLS, run_watch_command};
+pub use commands::run_watch_command;
 pub use dumps::{load, save};
 pub use replies::{ToldNote, ToldNotes, WatchAnswer, WatchCommandRefusal, WatchReply};
 pub use watches::{notes, unwatch, watch};

@@ -1,4 +1,4 @@
-ghost use Rattle.std.specs.Prelude.{◌≡◌, ◌≤◌, ◌+◌, [], Err, IfOk, OnOk, OnErr, length};
+ghost use Rattle.std.specs.Prelude.{◌≡◌, ◌≤◌, [], Err, IfOk, OnOk, OnErr, length};
 ghost use Rattle.odb_path.specs.PathText.{path_reply};
 ghost use Rattle.odb_tree.specs.Noting.{notes_limit};
 ghost use Rattle.odb_watch.specs.declared.notes.WatchRefusal.TheVariants.{NoMemory as no_memory};
@@ -66,7 +66,6 @@ fn watch_row<R: Wait, P: WatchPort>(
     ensures interrupted { OnErr result (CutsWatch (P.access port.old) (P.access port.new)
         (WatchesRow row)) }
     ensures same { IsSamePort (P.access port.old) (P.access port.new) }
-    ensures room { (P.access port.old).room ≤ (P.access port.new).room }
 {
     let reply = watch_settled(port.watch(rt, alloc, row))?;
     Ok(watching_or(reply))
@@ -84,7 +83,6 @@ fn watch_found<R: Wait, P: WatchPort>(
     ensures interrupted { OnErr result (CutsWatch (P.access port.old) (P.access port.new)
         (WatchesFound found)) }
     ensures same { IsSamePort (P.access port.old) (P.access port.new) }
-    ensures room { (P.access port.old).room ≤ (P.access port.new).room }
 {
     match found {
         Err(why) => Ok(refused_for(WatchCommandRefusal::Database { why })),
@@ -99,13 +97,11 @@ fn watch_at<R: Wait, P: WatchPort>(
     port: &mut P,
     path: Path,
 ) -> Result<WatchAnswer, NoMemory>
-    requires room { 1 ≤ (P.access port.old).room }
     ensures did { IfOk result (AnswersWatch (P.access port.old) (P.access port.new)
         (WatchesPath path)) }
     ensures interrupted { OnErr result (CutsWatch (P.access port.old) (P.access port.new)
         (WatchesPath path)) }
     ensures same { IsSamePort (P.access port.old) (P.access port.new) }
-    ensures room { (P.access port.old).room ≤ (P.access port.new).room + 1 }
 {
     let found = port.find(rt, path);
     watch_found(rt, alloc, port, found)
@@ -118,13 +114,11 @@ pub fn watch<R: Wait, P: WatchPort>(
     port: &mut P,
     path: &[u8],
 ) -> Result<WatchAnswer, NoMemory>
-    requires room { 1 ≤ (P.access port.old).room }
     ensures did { IfOk result (AnswersWatch (P.access port.old) (P.access port.new)
         (OnPath (path_reply path.now) WatchesPath)) }
     ensures interrupted { OnErr result (CutsWatch (P.access port.old) (P.access port.new)
         (OnPath (path_reply path.now) WatchesPath)) }
     ensures same { IsSamePort (P.access port.old) (P.access port.new) }
-    ensures room { (P.access port.old).room ≤ (P.access port.new).room + 1 }
 {
     match read_path(alloc, path)? {
         Err(why) => Ok(refused_for(WatchCommandRefusal::Path { why })),
@@ -143,13 +137,11 @@ fn tell_notes<R: Wait, P: WatchPort>(
 ) -> Result<WatchAnswer, NoMemory>
     requires empty { told ≡ [] }
     requires few { length notes.now ≤ notes_limit }
-    requires room { length notes.now ≤ (P.access port.old).room }
     ensures did { IfOk result (AnswersWatch (P.access port.old) (P.access port.new)
         (TellsNotes notes.now lost)) }
     ensures interrupted { OnErr result (CutsWatch (P.access port.old) (P.access port.new)
         (TellsNotes notes.now lost)) }
     ensures same { IsSamePort (P.access port.old) (P.access port.new) }
-    ensures room { (P.access port.old).room ≤ (P.access port.new).room + length notes.now }
 {
     for note in notes {
         let path = port.path_of(rt, alloc, note.row)?;
@@ -169,13 +161,11 @@ fn tell_taken<R: Wait, P: WatchPort>(
 ) -> Result<WatchAnswer, NoMemory>
     requires empty { told ≡ [] }
     requires few { OnOk taken (length notes.now ≤ notes_limit) }
-    requires room { notes_limit ≤ (P.access port.old).room }
     ensures did { IfOk result (AnswersWatch (P.access port.old) (P.access port.new)
         (TellsTaken (moved_out notes.now taken))) }
     ensures interrupted { OnErr result (CutsWatch (P.access port.old) (P.access port.new)
         (TellsTaken (moved_out notes.now taken))) }
     ensures same { IsSamePort (P.access port.old) (P.access port.new) }
-    ensures room { (P.access port.old).room ≤ (P.access port.new).room + notes_limit }
 {
     match taken {
         Err(_) => Ok(refused_for(WatchCommandRefusal::NoWatch)),
@@ -190,13 +180,11 @@ pub fn notes<R: Wait, P: WatchPort>(
     port: &mut P,
     watch: u32,
 ) -> Result<WatchAnswer, NoMemory>
-    requires room { notes_limit ≤ (P.access port.old).room }
     ensures did { IfOk result (AnswersWatch (P.access port.old) (P.access port.new)
         (TakesNotes watch)) }
     ensures interrupted { OnErr result (CutsWatch (P.access port.old) (P.access port.new)
         (TakesNotes watch)) }
     ensures same { IsSamePort (P.access port.old) (P.access port.new) }
-    ensures room { (P.access port.old).room ≤ (P.access port.new).room + notes_limit }
 {
     let mut notes = Notes::new(alloc)?;
     let told = ToldNotes::new(alloc)?;
@@ -218,7 +206,6 @@ fn ended_or(reply: Result<(), NoWatch>) -> WatchAnswer
 pub fn unwatch<R: Wait, P: WatchPort>(rt: &R, port: &mut P, watch: u32) -> WatchAnswer
     ensures did { AnswersWatch (P.access port.old) (P.access port.new) (EndsWatch watch) result }
     ensures same { IsSamePort (P.access port.old) (P.access port.new) }
-    ensures room { (P.access port.old).room ≤ (P.access port.new).room }
 {
     ended_or(port.unwatch(rt, watch))
 }

@@ -1,5 +1,5 @@
 //! Lines of a script in a row, with what each prints.
-ghost use Rattle.std.specs.Prelude.{◌≡◌, ◌≤◌, ◌+◌, ◌*◌, [], ◌∷◌, None, length, IfOk};
+ghost use Rattle.std.specs.Prelude.{◌≡◌, [], ◌∷◌, None, IfOk};
 ghost use Rattle.daq_types.specs.Callers.{main_caller};
 ghost use Rattle.turn_lock.specs.Passes.{number_of, held_by, IsOf};
 ghost use Rattle.turn_lock.specs.Roster.{numbers_of, ArePassesOf, AreFresh};
@@ -67,9 +67,7 @@ fn perform<R: Wait, P: WatchPort>(
     text: &mut TextBuffer,
 ) -> Result<(), NoMemory>
     requires main { (P.access port.old).caller ≡ main_caller }
-    requires room { 259 ≤ (P.access port.old).room }
     ensures main { (P.access port.new).caller ≡ main_caller }
-    ensures room { (P.access port.old).room ≤ (P.access port.new).room + 259 }
 {
     if let Some(answer) = run_watch_command(rt, alloc, port, files, command)? {
         return answer.reply.print(number, text);
@@ -91,9 +89,7 @@ fn prints<R: Wait, P: WatchPort>(
     line: Line<'_>,
 ) -> Result<bool, NoMemory>
     requires main { (P.access port.old).caller ≡ main_caller }
-    requires room { 259 ≤ (P.access port.old).room }
     ensures main { (P.access port.new).caller ≡ main_caller }
-    ensures room { (P.access port.old).room ≤ (P.access port.new).room + 259 }
 {
     let mut text = TextBuffer::new(alloc);
     if let Ok(command) = Command::read(line.0.as_bytes()) {
@@ -111,7 +107,6 @@ fn check_lines<R: Wait + Abort, P: WatchPort>(
     lines: &[Line<'_>],
 ) -> Result<(), Fail>
     requires main { (P.access port.old).caller ≡ main_caller }
-    requires room { 259 * length lines.now ≤ (P.access port.old).room }
 {
     for place in 0..lines.len() {
         let line = lines[place];
@@ -133,7 +128,6 @@ fn check_shared<R: Wait + Abort, D: Database>(
     requires own { IsOf (odb_lock_of shared.now) main }
     requires idle { held_by main ≡ None }
     requires main { number_of main ≡ main_caller }
-    requires few { length lines.now ≤ 1000 }
 {
     let mut port = SharedAccess::new(shared, main);
     check_lines(rt, alloc, &mut port, files, lines)
@@ -250,7 +244,6 @@ fn check_session<R: Wait + Abort>(
     files: &mut MemFiles,
     lines: &[Line<'_>],
 ) -> Result<(), Fail> {
-    assert!(rt; lines.len() <= 1000);
     let (shared, mut passes) = new_session(alloc)?;
     let main = main_pass(&shared, &mut passes);
     check_shared(rt, alloc, &shared, main, files, lines)

@@ -1,6 +1,5 @@
-use Rattle.std.proofs.Common.{◌≡◌, ℕ, List, [], length, refl, ap, ◌∙◌, subst, arith, inl}
+use Rattle.std.proofs.Common.{◌≡◌, ℕ, List, [], refl, ◌∙◌, subst, inl}
 use Rattle.std.specs.Prelude.{Result, Ok, Err, OnErr, OnOk}
-use Rattle.std.proofs.lemmas.List.{length-map}
 use Rattle.odb_port.specs.DatabasePorts.{DatabaseAccess}
 use Rattle.odb_lock.specs.SharedAccesses.{access_by_pass}
 use Rattle.session_lines.specs.RunLines.{CutsKeys, KeysMade}
@@ -21,17 +20,11 @@ none_made fronts access = record {
   next = inl refl;
 }
 
-pub make_keys-requires-clause-room : goal.make_keys-requires-clause-room
-make_keys-requires-clause-room g c =
-    let names : c.as_slice.result.now ≡ names_of c.args.fronts.now = c.as_slice.ensures ∙ c.in_ok-names.ensures in
-    let few : length (names_of c.args.fronts.now) ≡ length c.args.fronts.now = length-map c.args.fronts.now (λ front. front.name) in
-    omega (arith, c.requires.few, few, ap length names)
-
 pub returns-in_err-names-clause-cut : goal.returns-in_err-names-clause-cut
 returns-in_err-names-clause-cut g c = on_err_so _ _ (none_made (names_of c.args.fronts.now) (access_by_pass c.args.access.now))
 
 pub returns-in_err-names-clause-same : goal.returns-in_err-names-clause-same
-returns-in_err-names-clause-same g c = record { database = refl; caller = refl; undisturbed = refl }
+returns-in_err-names-clause-same g c = record { database = refl; caller = refl }
 
 pub returns-clause-made : goal.returns-clause-made
 returns-clause-made g c =

@@ -5,18 +5,12 @@ use Rattle.std.specs.Result.{result_ok}
 use Rattle.buffer_core.specs.declared.replies.MarkRefusal.{MarkRefusal}
 use Rattle.mid_logger.specs.Channels.{stage_ended, place_marked}
 use Rattle.loggers.specs.Moments.{noted_channel}
-use Rattle.loggers.proofs.StepEntries.{lent_at, lent_port, called_at, uses_entry}
+use Rattle.loggers.proofs.StepEntries.{lent_at, called_at}
 use Rattle.loggers.proofs.marks.end_at.Goals as goal
 
 place_ok : (reply : Result ℕ MarkRefusal) → result_ok reply ≡ place_marked reply
 place_ok (Ok place) = refl
 place_ok (Err why) = refl
-
-pub end-requires : goal.end-requires
-end-requires g c = record {
-  room = c.requires.entries (g.P.BufferPort.access c.in-Some.port.now)
-      (lent_port g.P.BufferPort.access c.args.ports.now c.args.buffer c.in-Some.port.now (lent_at c.args.ports.now c.args.buffer c.in-Some.port.now c.requires.within c.in-Some.ensures.entry.1));
-}
 
 pub returns-clause-ends : goal.returns-clause-ends
 returns-clause-ends g c = λ files. (
@@ -28,8 +22,3 @@ returns-clause-ends g c = λ files. (
         ∙ ap (λ (p : Option ℕ). map (option_map (noted_channel (λ stage. stage_ended stage p) c.args.buffer)) c.args.slots.now) (c.ok-place.ensures.value ∙ place_ok c.end.result);
   },
 )
-
-pub returns-clause-entries : goal.returns-clause-entries
-returns-clause-entries g c =
-    uses_entry g.P.BufferPort.access c.args.ports.now c.args.buffer c.in-Some.port.now c.end.new.self
-    (lent_at c.args.ports.now c.args.buffer c.in-Some.port.now c.requires.within c.in-Some.ensures.entry.1) c.end.ensures.entries

@@ -1,13 +1,12 @@
-use Rattle.std.proofs.Common.{map}
+use Rattle.std.proofs.Common.{◌≡◌, length, map}
 use Rattle.std.specs.Prelude.{List, Option}
 use Rattle.mid_logger.specs.declared.channel.Channel.{Channel}
 use Rattle.loggers.specs.Moments.{RunFiles, InTurn}
 use Rattle.loggers.specs.Turning.{PausesBuffer}
-use Rattle.loggers.proofs.InTurns.{UsesBelow}
 use Rattle.loggers.proofs.marks.pause_all.Given as goal
 
 abbrev pub invariant-loop-buffer : goal.invariant-loop-buffer
 invariant-loop-buffer g l = record {
   marks : (slots : List (Option Channel)) → (files : RunFiles) → InTurn (λ buffer. PausesBuffer l.start buffer) l.buffer (record { slots = slots; ports = map g.P.BufferPort.access l.fn.ports; files = files }) (record { slots = slots; ports = map g.P.BufferPort.access l.ports; files = files });
-  used : UsesBelow l.buffer (map g.P.BufferPort.access l.fn.ports) (map g.P.BufferPort.access l.ports);
+  count : length l.ports ≡ length l.fn.ports;
 }

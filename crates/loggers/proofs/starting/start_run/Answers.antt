@@ -1,18 +1,9 @@
-use Rattle.std.proofs.Common.{arith}
+use Rattle.std.proofs.Common.{map, sym, ◌∙◌, arith}
 use Rattle.std.proofs.lemmas.List.{length-map}
-use Rattle.loggers.proofs.InTurns.{uses_more, entries_left}
+use Rattle.loggers.specs.Moments.{files_by, moment_of}
+use Rattle.loggers.proofs.InTurns.{turns_as_many}
 use Rattle.loggers.proofs.ReadySteps.{files_with}
 use Rattle.loggers.proofs.starting.start_run.Goals as goal
-
-pub abort_all-requires-clause-entries : goal.abort_all-requires-clause-entries
-abort_all-requires-clause-entries g c = entries_left 32 16 49 _ _ c.requires.entries (omega arith) c.open_all.ensures.entries
-
-pub begin_all-requires : goal.begin_all-requires
-begin_all-requires g c = record { entries = entries_left 32 1 49 _ _ c.requires.entries (omega arith) c.open_all.ensures.entries }
-
-pub abort_all-requires-in-Err-begin_all-clause-entries : goal.abort_all-requires-in-Err-begin_all-clause-entries
-abort_all-requires-in-Err-begin_all-clause-entries g c =
-    entries_left 33 16 49 _ _ c.requires.entries (omega arith) (uses_more 32 1 _ _ _ c.open_all.ensures.entries c.begin_all.ensures.entries)
 
 pub returns-in-Err-begin_all-clause-begun : goal.returns-in-Err-begin_all-clause-begun
 returns-in-Err-begin_all-clause-begun g c =
@@ -23,3 +14,12 @@ returns-in-Err-begin_all-clause-begun g c =
       c.begin_all.ensures.count,
       c.abort_all-in-Err-begin_all.ensures.count,
     )
+
+pub returns-in-Ok-clause-starts : goal.returns-in-Ok-clause-starts
+returns-in-Ok-clause-starts g c = record {
+  opened = moment_of c.open_all.new.slots (map g.P.BufferPort.access c.open_all.new.ports) (files_by g.F.Files.seen g.F.Files.faults g.F.Files.clashes g.F.Files.first c.open_all.new.files);
+  opens = c.in_default.ensures.opens;
+  begins = turns_as_many _ _ _ _ _ (c.open_all.ensures.count ∙ sym (length-map c.args.ports.now g.P.BufferPort.access))
+      (c.in-Ok.ensures.begins (files_by g.F.Files.seen g.F.Files.faults g.F.Files.clashes g.F.Files.first c.open_all.new.files));
+  all = omega (arith, c.len.ensures, c.begin_all.ensures.count, c.open_all.ensures.count, length-map c.args.ports.now g.P.BufferPort.access);
+}

@@ -1,11 +1,5 @@
-use Rattle.loggers.proofs.StepEntries.{lent_at, lent_port, slot_opens, slot_refuses, uses_one_port, by_entries}
+use Rattle.loggers.proofs.StepEntries.{lent_at, slot_opens, slot_refuses}
 use Rattle.loggers.proofs.steps.open_slot.Goals as goal
-
-pub open-requires-clause-entries : goal.open-requires-clause-entries
-open-requires-clause-entries g c =
-    c.requires.entries c.in-Some.channel.spec.buffer (g.P.BufferPort.access c.in-Some-get_mut.port.now)
-    (lent_port g.P.BufferPort.access c.args.ports.now c.in-Some.channel.spec.buffer c.in-Some-get_mut.port.now
-    (lent_at c.args.ports.now c.in-Some.channel.spec.buffer c.in-Some-get_mut.port.now (c.requires.served c.in-Some.channel c.in-Some.is) c.in-Some-get_mut.ensures.entry.1))
 
 pub returns-clause-opens : goal.returns-clause-opens
 returns-clause-opens g c =
@@ -42,9 +36,3 @@ returns-clause-refuses g c =
       clashes = c.open.ensures.clashes;
       first = c.open.ensures.first;
     })
-
-pub returns-clause-entries : goal.returns-clause-entries
-returns-clause-entries g c =
-    uses_one_port g.P.BufferPort.access c.args.ports.now c.in-Some.channel.spec.buffer 2 c.in-Some-get_mut.port.now c.open.new.port
-    (lent_at c.args.ports.now c.in-Some.channel.spec.buffer c.in-Some-get_mut.port.now (c.requires.served c.in-Some.channel c.in-Some.is) c.in-Some-get_mut.ensures.entry.1)
-    (by_entries c.in-Some.channel.spec c.args.order.now c.args.dump.now c.open.result _ _ c.open.ensures.opens)

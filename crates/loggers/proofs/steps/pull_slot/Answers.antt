@@ -1,13 +1,6 @@
-use Rattle.mid_logger.specs.Channels.{reading_run}
 use Rattle.loggers.specs.ChannelSteps.{PullsChannel}
-use Rattle.loggers.proofs.StepEntries.{lent_at, lent_port, stepped, slot_pulls, uses_one_port, pulls_entries}
+use Rattle.loggers.proofs.StepEntries.{lent_at, lent_port, stepped, slot_pulls}
 use Rattle.loggers.proofs.steps.pull_slot.Goals as goal
-
-pub pull-requires-clause-entries : goal.pull-requires-clause-entries
-pull-requires-clause-entries g c =
-    c.requires.entries c.in-Some.channel.spec.buffer (g.P.BufferPort.access c.in-Some-get_mut.port.now)
-    (lent_port g.P.BufferPort.access c.args.ports.now c.in-Some.channel.spec.buffer c.in-Some-get_mut.port.now
-    (lent_at c.args.ports.now c.in-Some.channel.spec.buffer c.in-Some-get_mut.port.now (c.requires.served c.in-Some.channel c.in-Some.is) c.in-Some-get_mut.ensures.entry.1))
 
 pub pull-requires-clause-room : goal.pull-requires-clause-room
 pull-requires-clause-room g c =
@@ -15,26 +8,22 @@ pull-requires-clause-room g c =
     (lent_port g.P.BufferPort.access c.args.ports.now c.in-Some.channel.spec.buffer c.in-Some-get_mut.port.now
     (lent_at c.args.ports.now c.in-Some.channel.spec.buffer c.in-Some-get_mut.port.now (c.requires.served c.in-Some.channel c.in-Some.is) c.in-Some-get_mut.ensures.entry.1))
 
-pub returns-clause-pulls : goal.returns-clause-pulls
-returns-clause-pulls g c = λ slots number at.
-    slot_pulls c.pull.result number c.args.slot.now c.in-Some.channel _ _ c.in-Some.is
-    (stepped (PullsChannel c.pull.result) g.P.BufferPort.access number c.in-Some.channel c.pull.new.self slots c.args.ports.now c.in-Some-get_mut.port.now c.pull.new.port
-    (record { seen = g.F.Files.seen c.args.files.now; faults = g.F.Files.faults c.args.files.now; clashes = g.F.Files.clashes c.args.files.now; first = g.F.Files.first c.args.files.now })
-    (record { seen = g.F.Files.seen c.pull.new.files; faults = g.F.Files.faults c.pull.new.files; clashes = g.F.Files.clashes c.pull.new.files; first = g.F.Files.first c.pull.new.files })
-    (lent_at c.args.ports.now c.in-Some.channel.spec.buffer c.in-Some-get_mut.port.now (c.requires.served c.in-Some.channel c.in-Some.is) c.in-Some-get_mut.ensures.entry.1)
-    (record {
-      spec = c.pull.ensures.spec;
-      client = c.pull.ensures.client;
-      room = c.pull.ensures.room;
-      failed = c.pull.ensures.failed;
-      pulls = c.pull.ensures.pulls;
-      faults = c.pull.ensures.faults;
-      clashes = c.pull.ensures.clashes;
-      first = c.pull.ensures.first;
-    }))
-
-pub returns-clause-entries : goal.returns-clause-entries
-returns-clause-entries g c =
-    uses_one_port g.P.BufferPort.access c.args.ports.now c.in-Some.channel.spec.buffer 2 c.in-Some-get_mut.port.now c.pull.new.port
-    (lent_at c.args.ports.now c.in-Some.channel.spec.buffer c.in-Some-get_mut.port.now (c.requires.served c.in-Some.channel c.in-Some.is) c.in-Some-get_mut.ensures.entry.1)
-    (pulls_entries _ c.in-Some.channel.event.room (reading_run c.in-Some.channel.stage) c.pull.ensures.pulls)
+pub returns : goal.returns
+returns g c = record {
+  pulls = λ slots number at.
+      slot_pulls c.pull.result number c.args.slot.now c.in-Some.channel _ _ c.in-Some.is
+      (stepped (PullsChannel c.pull.result) g.P.BufferPort.access number c.in-Some.channel c.pull.new.self slots c.args.ports.now c.in-Some-get_mut.port.now c.pull.new.port
+      (record { seen = g.F.Files.seen c.args.files.now; faults = g.F.Files.faults c.args.files.now; clashes = g.F.Files.clashes c.args.files.now; first = g.F.Files.first c.args.files.now })
+      (record { seen = g.F.Files.seen c.pull.new.files; faults = g.F.Files.faults c.pull.new.files; clashes = g.F.Files.clashes c.pull.new.files; first = g.F.Files.first c.pull.new.files })
+      (lent_at c.args.ports.now c.in-Some.channel.spec.buffer c.in-Some-get_mut.port.now (c.requires.served c.in-Some.channel c.in-Some.is) c.in-Some-get_mut.ensures.entry.1)
+      (record {
+        spec = c.pull.ensures.spec;
+        client = c.pull.ensures.client;
+        room = c.pull.ensures.room;
+        failed = c.pull.ensures.failed;
+        pulls = c.pull.ensures.pulls;
+        faults = c.pull.ensures.faults;
+        clashes = c.pull.ensures.clashes;
+        first = c.pull.ensures.first;
+      }));
+}

@@ -1,4 +1,4 @@
-use Rattle.std.proofs.Common.{◌++◌, ◌∷◌, [], ℕ, List, take, sym, subst, ◌∙◌, arith}
+use Rattle.std.proofs.Common.{◌++◌, ◌∷◌, [], ℕ, List, take, sym, subst, ◌∙◌}
 use Rattle.odb_runinfo.specs.RunSets.{sent_key_made}
 use Rattle.session_lines.specs.RunLines.{MakesKeys}
 use Rattle.session_commands.proofs.KeyLaws.{calls_more, keys_more, take_next}
@@ -21,10 +21,8 @@ loop-front-preserved g c =
         calls_more so_far.made.0 _ _ _ _ so_far.made.2 asked.called,
       );
       main = same.caller ∙ so_far.main;
-      room = omega (arith, so_far.room, c.open_front.ensures.room);
       same = record {
         database = same.database ∙ so_far.same.database;
         caller = same.caller ∙ so_far.same.caller;
-        undisturbed = same.undisturbed ∙ so_far.same.undisturbed;
       };
     }

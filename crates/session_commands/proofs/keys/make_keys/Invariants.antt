@@ -1,5 +1,5 @@
 -- The keys of the front-ends so far were made.
-use Rattle.std.proofs.Common.{◌≡◌, ◌≤◌, ◌+◌, List, length}
+use Rattle.std.proofs.Common.{◌≡◌, List}
 use Rattle.std.specs.Prelude.{take}
 use Rattle.daq_types.specs.Callers.{main_caller}
 use Rattle.odb_tree.specs.declared.entry.DatabaseEntry.{DatabaseEntry}
@@ -11,6 +11,5 @@ abbrev pub invariant-loop-front : goal.invariant-loop-front
 invariant-loop-front g l = record {
   made : (keys : List DatabaseEntry) × MakesKeys (take l.front-index l.fronts) keys × AddsCalls (g.D.DatabasePort.access l.fn.access) (g.D.DatabasePort.access l.access) keys;
   main : (g.D.DatabasePort.access l.access).caller ≡ main_caller;
-  room : length l.fronts ≤ (g.D.DatabasePort.access l.access).room + l.front-index;
   same : IsSamePort (g.D.DatabasePort.access l.fn.access) (g.D.DatabasePort.access l.access);
 }

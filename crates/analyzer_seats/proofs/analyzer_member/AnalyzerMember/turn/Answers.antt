@@ -14,8 +14,8 @@ use Rattle.analyzer_seats.proofs.analyzer_member.AnalyzerMember.turn.Goals as go
 
 -- `c.poll` is the seat's poll; the exit without a name is that where a turn was owed.
 
-pub on_turn-answer-requires-clause-blank : goal.on_turn-answer-requires-clause-blank
-on_turn-answer-requires-clause-blank g c = blank_so c.in-Turn.transition c.in-Turn.order c.in-Turn.dump c.in-Turn.blank (rw c.in-Turn.is at c.poll.ensures.fair)
+pub on_turn-answer-requires : goal.on_turn-answer-requires
+on_turn-answer-requires g c = record { blank = blank_so c.in-Turn.transition c.in-Turn.order c.in-Turn.dump c.in-Turn.blank (rw c.in-Turn.is at c.poll.ensures.fair) }
 
 pub returns-in-Closed-clause-takes : goal.returns-in-Closed-clause-takes
 returns-in-Closed-clause-takes g c = record {

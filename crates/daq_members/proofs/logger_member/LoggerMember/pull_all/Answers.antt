@@ -1,7 +1,7 @@
-use Rattle.std.specs.Prelude.{◌-◌, ◌*◌, map}
+use Rattle.std.specs.Prelude.{◌-◌, map}
 use Rattle.loggers.specs.Moments.{files_by, moment_of}
 use Rattle.std.proofs.Common.{refl, arith, ◌∙◌}
-use Rattle.daq_members.proofs.LoggerLaws.{entries_fewer, entries_left, pulls_more, as_many, same_ports, same_then}
+use Rattle.daq_members.proofs.LoggerLaws.{pulls_more, as_many, same_ports, same_then}
 use Rattle.daq_members.proofs.logger_member.LoggerMember.pull_all.Goals as goal
 
 pub loop-channel-init : goal.loop-channel-init
@@ -9,7 +9,6 @@ loop-channel-init g c = record {
   pulls = (refl, refl);
   within = omega arith;
   many = refl;
-  entries = entries_fewer 49 32 _ (omega arith) c.requires.entries;
   seat = refl;
   run = refl;
   stop_dump = refl;
@@ -19,9 +18,6 @@ loop-channel-init g c = record {
   idle = c.requires.idle;
   keeps = λ turns stands. stands;
 }
-
-pub pull_one-requires-clause-entries : goal.pull_one-requires-clause-entries
-pull_one-requires-clause-entries g c = entries_fewer (2 * (16 - c.loop-channel.channel)) 2 _ (omega arith) c.loop-channel.invariant.entries
 
 pub loop-channel-preserved : goal.loop-channel-preserved
 loop-channel-preserved g c =
@@ -33,9 +29,8 @@ loop-channel-preserved g c =
           (moment_of c.loop-channel.self.logger.channels (map g.P.BufferPort.access c.loop-channel.ports) (files_by g.F.Files.seen g.F.Files.faults g.F.Files.clashes g.F.Files.first c.loop-channel.files))
           (moment_of c.pull_one.new.self.logger.channels (map g.P.BufferPort.access c.pull_one.new.ports) (files_by g.F.Files.seen g.F.Files.faults g.F.Files.clashes g.F.Files.first c.pull_one.new.files))
           so_far.pulls did.pulls c.or_pulled-got.ensures;
-      many = as_many g.P.BufferPort.access c.loop-channel.ports c.pull_one.new.ports did.uses ∙ so_far.many;
+      many = as_many g.P.BufferPort.access c.loop-channel.ports c.pull_one.new.ports did.same ∙ so_far.many;
       within = omega arith;
-      entries = entries_left c.loop-channel.channel _ _ (omega arith) did.same did.uses so_far.entries;
       seat = did.seat ∙ so_far.seat;
       run = did.run ∙ so_far.run;
       stop_dump = did.stop_dump ∙ so_far.stop_dump;

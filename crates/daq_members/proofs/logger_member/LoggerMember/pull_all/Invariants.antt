@@ -1,7 +1,7 @@
--- So far each channel below the number pulled once, and there is room for the pulls of the others.
-use Rattle.std.specs.Prelude.{◌≡◌, ◌≤◌, ◌-◌, ◌*◌, ℕ, List, length, map}
+-- So far each channel below the number pulled once.
+use Rattle.std.specs.Prelude.{◌≡◌, ◌≤◌, ◌-◌, ℕ, List, length, map}
 use Rattle.member_model.specs.Turns.{MemberTurn}
-use Rattle.loggers.specs.Moments.{files_by, moment_of, IsLoggerReady, HaveEntries, AreSamePorts}
+use Rattle.loggers.specs.Moments.{files_by, moment_of, IsLoggerReady, AreSamePorts}
 use Rattle.loggers.specs.SlotPulls.{HasEventRoom}
 use Rattle.loggers.specs.Turning.{IsIdleOutside}
 use Rattle.loggers.specs.LoggerStands.{LoggerStands}
@@ -15,7 +15,6 @@ invariant-loop-channel g l = record {
       (moment_of l.self.logger.channels (map g.P.BufferPort.access l.ports) (files_by g.F.Files.seen g.F.Files.faults g.F.Files.clashes g.F.Files.first l.files));
   within : l.channel ≤ 16;
   many : length l.ports ≡ length l.fn.ports;
-  entries : HaveEntries (2 * (16 - l.channel)) (map g.P.BufferPort.access l.ports);
   seat : l.self.seat ≡ l.fn.self.seat;
   run : l.self.logger.run ≡ l.fn.self.logger.run;
   stop_dump : l.self.logger.stop_dump ≡ l.fn.self.logger.stop_dump;

@@ -3,14 +3,11 @@ use Rattle.turn_lock.specs.Passes.{own_entries}
 use Rattle.std.proofs.Common.{subst}
 use Rattle.loggers.specs.OtherFiles.{specs_in}
 use Rattle.daq_members.specs.LoggerSeats.{LoggerSeen, IsSameLogger}
-use Rattle.daq_members.proofs.LoggerSeatLaws.{known_before, have_entries, caller_kept, begun_mapped, begun_read}
+use Rattle.daq_members.proofs.LoggerSeatLaws.{known_before, caller_kept, begun_mapped, begun_read}
 use Rattle.daq_members.proofs.OtherFilesKept.{LoggerLeaves, specs_stay, others_kept}
 use Rattle.daq_members.proofs.LoggerReasons.{ReasonLaws, reasons_kept}
 use Rattle.daq_members.proofs.LoggerNames.{NameLaws, names_stay}
 use Rattle.daq_members.proofs.logger_seat.LoggerSeat.turn.Goals as goal
-
-pub turn-requires-clause-entries : goal.turn-requires-clause-entries
-turn-requires-clause-entries g c = have_entries g.P.BufferPort.access c.self.inside.ports g.met.P.EndlessPort.has_room
 
 pub turn-requires-clause-begun : goal.turn-requires-clause-begun
 turn-requires-clause-begun g c = begun_read g.P.BufferPort.access c.self.inside.ports _ c.self.invariant.seated.begun

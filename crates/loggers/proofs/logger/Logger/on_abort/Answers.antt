@@ -1,12 +1,9 @@
-use Rattle.std.proofs.Common.{Some, map, ap, arith, refl}
+use Rattle.std.proofs.Common.{Some, map, ap, refl}
 use Rattle.transitions.specs.declared.answers.Answer.{Answer}
 use Rattle.loggers.specs.Turning.{buffers_begun, is_of_start}
-use Rattle.loggers.proofs.InTurns.{turns_as_many, entries_left}
+use Rattle.loggers.proofs.InTurns.{turns_as_many}
 use Rattle.loggers.proofs.TurnParts.{abort_taken, found_of, found_is}
 use Rattle.loggers.proofs.logger.Logger.on_abort.Goals as goal
-
-pub abort_all-requires-clause-entries : goal.abort_all-requires-clause-entries
-abort_all-requires-clause-entries g c = entries_left 1 16 49 _ _ c.requires.entries (omega arith) c.end_first.ensures.entries
 
 pub returns-clause-takes : goal.returns-clause-takes
 returns-clause-takes g c = λ dump.

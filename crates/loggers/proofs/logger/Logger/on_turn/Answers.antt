@@ -4,7 +4,6 @@ use Rattle.daq_model.specs.Events.{record_limit}
 use Rattle.loggers.specs.Moments.{files_by, moment_of}
 use Rattle.loggers.specs.Turning.{LoggerTurn}
 use Rattle.loggers.proofs.SameShape.{turn_ports, turn_room}
-use Rattle.loggers.proofs.TurnUses.{turn_uses}
 use Rattle.loggers.proofs.TurnsOwn.{turn_own}
 use Rattle.loggers.proofs.FaultsNoted.{turn_faults}
 use Rattle.loggers.proofs.logger.Logger.on_turn.Goals as goal
@@ -34,7 +33,6 @@ returns g c =
       idle = c.take_turn.ensures.idle;
       begun = c.take_turn.ensures.begun;
       small = c.take_turn.ensures.small;
-      uses = turn_uses t c.requires.ready.many c.take_turn.ensures.takes;
       own = turn_own t c.take_turn.ensures.takes;
       failed = turn_faults t c.take_turn.ensures.takes;
       same = turn_ports t c.take_turn.ensures.takes;

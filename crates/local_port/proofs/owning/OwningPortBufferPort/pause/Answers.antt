@@ -1,0 +1,6 @@
+use Rattle.std.proofs.Common.{refl}
+use Rattle.buffer_lock.proofs.SharedPortLaws.{shared_calls}
+use Rattle.local_port.proofs.owning.OwningPortBufferPort.pause.Goals as goal
+
+pub returns : goal.returns
+returns g c = shared_calls _ _ _ _ _ _ _ (λ w. refl) c.pause.ensures.opens c.pause.ensures.entered.number c.pause.ensures.entered.appends c.pause.ensures.legal

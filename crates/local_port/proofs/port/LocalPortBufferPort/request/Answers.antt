@@ -1,6 +1,0 @@
-use Rattle.std.proofs.Common.{refl}
-use Rattle.local_port.proofs.PortLaws.{calls}
-use Rattle.local_port.proofs.port.LocalPortBufferPort.request.Goals as goal
-
-pub returns : goal.returns
-returns g c = calls _ _ _ refl c.request.ensures.did

@@ -1,6 +1,0 @@
-use Rattle.std.proofs.Common.{refl}
-use Rattle.local_port.proofs.PortLaws.{calls}
-use Rattle.local_port.proofs.port.LocalPortBufferPort.send.Goals as goal
-
-pub returns-clause-called : goal.returns-clause-called
-returns-clause-called g c = calls _ _ _ refl c.send.ensures.did

@@ -1,0 +1,118 @@
+// A port that owns its database.
+ghost use Rattle.std.specs.Prelude.{◌≡◌, [], None, IfOk};
+ghost use Rattle.daq_types.specs.Callers.{main_caller};
+ghost use Rattle.turn_lock.specs.Passes.{held_by, IsOf};
+ghost use Rattle.odb_lock.specs.SharedOdbs.{odb_lock_of};
+
+use daq_types::NoMemory;
+use odb_lock::{LockedDatabase, OdbPass, SharedOdb, WatchedSeen};
+use odb_path::Path;
+use odb_port::DatabasePort;
+use odb_tree::{Children, Database, NewKey, OdbRefusal};
+use odb_value::{Item, Value};
+use odb_watch::WatchEntry;
+use std::alloc::Global;
+use std::sync::Wait;
+use turn_lock::Machine;
+
+/// The port of the one caller of a database, which it owns: the main thread.
+#[derive(Drop)]
+pub struct OwningAccess<D: Database>
+where
+    LockedDatabase<D>: Machine<State = WatchedSeen, Entry = WatchEntry>,
+{
+    database: SharedOdb<D>,
+    pass: OdbPass<D>,
+    ghost own: { IsOf (odb_lock_of database) pass },
+    ghost idle: { held_by pass ≡ None },
+}
+
+impl<D: Database + Drop> OwningAccess<D> {
+    ghost use Rattle.odb_journal.specs.OwningAccesses.{owned_database};
+
+    /// A port to this database, by which no call was made. Where there is no memory for it the database is dropped.
+    pub fn new(alloc: Global, database: D) -> Result<OwningAccess<D>, NoMemory>
+        ensures caller { IfOk result (λ port. (owned_database port).caller ≡ main_caller) }
+        ensures seen { IfOk result (λ port. (owned_database port).seen ≡ []) }
+    {
+        let (database, mut passes) = SharedOdb::new(alloc, database, 1)?;
+        let Some(pass) = passes.pop() else {
+            unreachable!()
+        };
+        Ok(OwningAccess { database, pass })
+    }
+}
+
+impl<D: Database> DatabasePort for OwningAccess<D> {
+    ghost use Rattle.odb_journal.specs.OwningAccesses.{owned_database};
+
+    ghost access = { owned_database };
+
+    fn create<R: Wait>(
+        &mut self,
+        rt: &R,
+        alloc: Global,
+        path: Path,
+        kind: NewKey,
+    ) -> Result<u32, OdbRefusal> {
+        self.database.create(rt, &mut self.pass, alloc, &path, kind)
+    }
+
+    fn set<R: Wait>(
+        &mut self,
+        rt: &R,
+        alloc: Global,
+        path: Path,
+        index: u32,
+        item: Item,
+    ) -> Result<u32, OdbRefusal> {
+        self.database
+            .set(rt, &mut self.pass, alloc, &path, index, &item)
+    }
+
+    fn set_all<R: Wait>(
+        &mut self,
+        rt: &R,
+        alloc: Global,
+        path: Path,
+        value: Value,
+    ) -> Result<u32, OdbRefusal> {
+        self.database
+            .set_all(rt, &mut self.pass, alloc, &path, &value)
+    }
+
+    fn get<R: Wait>(&mut self, rt: &R, alloc: Global, path: Path) -> Result<Value, OdbRefusal> {
+        self.database.get(rt, &mut self.pass, alloc, &path)
+    }
+
+    fn find<R: Wait>(&mut self, rt: &R, path: Path) -> Result<u32, OdbRefusal> {
+        self.database.find(rt, &mut self.pass, &path)
+    }
+
+    fn list<R: Wait>(&mut self, rt: &R, alloc: Global, path: Path) -> Result<Children, OdbRefusal> {
+        self.database.list(rt, &mut self.pass, alloc, &path)
+    }
+
+    fn delete<R: Wait>(&mut self, rt: &R, path: Path) -> Result<u32, OdbRefusal> {
+        self.database.delete(rt, &mut self.pass, &path)
+    }
+
+    fn resize<R: Wait>(
+        &mut self,
+        rt: &R,
+        alloc: Global,
+        path: Path,
+        len: u32,
+    ) -> Result<u32, OdbRefusal> {
+        self.database.resize(rt, &mut self.pass, alloc, &path, len)
+    }
+
+    fn path_of<R: Wait>(
+        &mut self,
+        rt: &R,
+        alloc: Global,
+        row: u32,
+    ) -> Result<Option<Path>, NoMemory> {
+        self.database.path_of(rt, &mut self.pass, alloc, row)
+    }
+}

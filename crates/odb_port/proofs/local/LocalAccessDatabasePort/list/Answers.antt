@@ -1,5 +1,0 @@
-use Rattle.odb_port.proofs.PortCalls.{calls_port}
-use Rattle.odb_port.proofs.local.LocalAccessDatabasePort.list.Goals as goal
-
-pub returns : goal.returns
-returns g c = calls_port _ _ _ _ _ c.self.view_is c.list-reply.ensures.did c.tells_legal.ensures

@@ -1,5 +1,0 @@
-use Rattle.odb_port.proofs.PortCalls.{calls_port}
-use Rattle.odb_port.proofs.local.LocalAccessDatabasePort.set.Goals as goal
-
-pub returns-clause-called : goal.returns-clause-called
-returns-clause-called g c = calls_port _ _ _ _ _ c.self.view_is c.set-reply.ensures.did c.tells_legal.ensures
