@@ -29,7 +29,7 @@ use Rattle.odb_ascii.specs.Grammar.{SpellsSteps}
 use Rattle.odb_ascii.proofs.OneReading.{one_reading}
 use Rattle.odb_ascii.proofs.DumpFollows.{dump_follows_walk}
 use Rattle.odb_ascii.proofs.WalkAgain.{AreAlike, contents_alike, walk_alike, walk_again, walk_placed, placed_alike}
-use Rattle.odb_ascii.proofs.Remade.{StepRuns, row_remade, HasRoom, room_less, room_within}
+use Rattle.odb_ascii.proofs.Remade.{StepRuns, row_remade, HasSpace, room_less, room_within}
 
 -- The rows with the numbers from this one on.
 
@@ -91,15 +91,15 @@ ran_on line s after act given steps e h =
 none_made : (s : Rows) → s ≡ with_rows s []
 none_made s = ap (λ (l : List Row). record { rows = l; next = s.next }) (sym (append-nil s.rows)) ∙ ap (λ (n : ℕ). record { rows = s.rows ++ []; next = n }) {x = s.next} {y = s.next + 0} (omega arith)
 
-rows_remade : (s : Rows) (made : List Row) (steps : List TextStep) → IsTree s → AreNew s made → AllByRecursion IsRow made → HasRoom s (length made) (total_of made)
+rows_remade : (s : Rows) (made : List Row) (steps : List TextStep) → IsTree s → AreNew s made → AllByRecursion IsRow made → HasSpace s (length made) (total_of made)
     → acts_of steps ≡ map act_for made → run_steps steps s ≡ Ok (with_rows s made)
 rows_remade s [] [] tree new sound room e = ap (λ (t : Rows). Ok t) (none_made s)
 rows_remade s [] (step ∷ steps) tree new sound room e = absurd (cc)
 rows_remade s (r ∷ rs) [] tree new sound room e = absurd (cc)
 rows_remade s (r ∷ rs) (step ∷ steps) tree new sound room e =
     let next : Rows = with_rows s (r ∷ []) in
-    let more : HasRoom next (length rs) (total_of rs) =
-    room_less s r (length rs) (total_of rs) (subst (λ (n : ℕ). HasRoom s (length (r ∷ rs)) n) (sum_by-cons bytes_of_row r rs) room) in
+    let more : HasSpace next (length rs) (total_of rs) =
+    room_less s r (length rs) (total_of rs) (subst (λ (n : ℕ). HasSpace s (length (r ∷ rs)) n) (sum_by-cons bytes_of_row r rs) room) in
     let head : step.act ≡ act_for r = cc in
     let tail : acts_of steps ≡ map act_for rs = cc in
     ran_on step.line s next (act_for r) step.act steps head (row_remade s r tree new.0 (room_within next (length rs) (total_of rs) more) sound.0.value)
@@ -137,7 +137,7 @@ walk_sound s h =
     counted_sound 1 (walk s)
     (recursion_from_All IsRow (walk s) (All-permutation IsRow s.rows (walk s) (IsPermutation-sym (walk s) s.rows (has_rows s h.tree (short_rows s.rows h.rows))) h.rows))
 
-walk_room : (s : Rows) → IsDatabase s → HasRoom no_rows (length (counted_from 1 (walk s))) (total_of (counted_from 1 (walk s)))
+walk_room : (s : Rows) → IsDatabase s → HasSpace no_rows (length (counted_from 1 (walk s))) (total_of (counted_from 1 (walk s)))
 walk_room s h =
     let same : IsPermutation (walk s) s.rows = has_rows s h.tree (short_rows s.rows h.rows) in
     let long : length (counted_from 1 (walk s)) ≡ length s.rows = counted_long 1 (walk s) ∙ sym (length_permutation (walk s) s.rows same) in

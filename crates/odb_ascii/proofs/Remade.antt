@@ -144,17 +144,17 @@ row_remade s new tree h within value =
     runs_with s new.path new.value (with_rows s (new ∷ [])) tree h.placed (none_found s.rows new.path h.free) (created_alone s new tree h) within value
 
 -- no limit is passed with it, where there is room for it and further ones
-pub record HasRoom (s : Rows) (count bytes : ℕ) : Type 0 where
+pub record HasSpace (s : Rows) (count bytes : ℕ) : Type 0 where
   pub rows : length s.rows + count ≤ rows_limit
   pub total : total_of s.rows + bytes ≤ total_limit
   pub next : s.next + count ≤ 2 ^ 32
 
-pub room_less : (s : Rows) (new : Row) (count bytes : ℕ) → HasRoom s (suc count) (bytes_of_row new + bytes) → HasRoom (with_rows s (new ∷ [])) count bytes
+pub room_less : (s : Rows) (new : Row) (count bytes : ℕ) → HasSpace s (suc count) (bytes_of_row new + bytes) → HasSpace (with_rows s (new ∷ [])) count bytes
 room_less s new count bytes h = record {
   rows = omega (arith, h.rows, length-append s.rows (new ∷ []));
   total = omega (arith, h.total, sum_by_push bytes_of_row s.rows new);
   next = omega (arith, h.next);
 }
 
-pub room_within : (s : Rows) (count bytes : ℕ) → HasRoom s count bytes → IsWithin s
+pub room_within : (s : Rows) (count bytes : ℕ) → HasSpace s count bytes → IsWithin s
 room_within s count bytes h = record { rows = omega (arith, h.rows); total = omega (arith, h.total); next = omega (arith, h.next) }

@@ -10,7 +10,7 @@ use Rattle.transitions.specs.declared.called.Called.{Called}
 use Rattle.transitions.specs.declared.answers.ClientTally.{ClientTally}
 use Rattle.transitions.specs.declared.engine.Stage.{Stage}
 use Rattle.transitions.specs.Limits.{most_clients, most_tallies}
-use Rattle.transitions.specs.Rooms.{HasRoomFor}
+use Rattle.transitions.specs.Rooms.{HasSpaceFor}
 use Rattle.transitions.specs.Engines.{Underway}
 use Rattle.transitions.specs.EngineHistories.{IsShort, IsBlank}
 
@@ -39,9 +39,9 @@ abbrev pub most_at : Stage → ℕ
 most_at stage = if stage.off then most_tallies else most_clients
 
 pub record IsEngine (state : RunState) (clients : Vec Registered) (stage : Option Stage) (dump : Option (List ℕ)) (blanks : List Totals) (called polled : Vec Called) (tallies : List ClientTally) : Type 0 where
-  pub clients_fit : HasRoomFor most_clients clients
-  pub called_fit : HasRoomFor most_clients called
-  pub polled_fit : HasRoomFor most_clients polled
+  pub clients_fit : HasSpaceFor most_clients clients
+  pub called_fit : HasSpaceFor most_clients called
+  pub polled_fit : HasSpaceFor most_clients polled
   -- all who have yet to answer have room in each of the two lists
   pub open_fit : length polled.items + length called.items ≤ most_clients
   pub tallies_fit : (now : Stage) → stage ≡ Some now → length tallies + (length polled.items + length called.items) ≤ most_at now

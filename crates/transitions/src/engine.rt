@@ -7,7 +7,7 @@ ghost use Rattle.transitions.specs.EngineCalls.{turn_kind, is_start, stands_in, 
 ghost use Rattle.transitions.specs.EngineHistories.{IsSheet, IsFairTurn};
 ghost use Rattle.transitions.specs.EngineInside.{IsChangeAllowed};
 ghost use Rattle.transitions.specs.Limits.{most_clients};
-ghost use Rattle.transitions.specs.Rooms.{HasRoomFor};
+ghost use Rattle.transitions.specs.Rooms.{HasSpaceFor};
 
 use crate::answers::{Answer, ClientTally, Tallies, Tally};
 use crate::called::{Called, call_clients};
@@ -120,9 +120,9 @@ fn find_group(polled: &[Called], called: &[Called]) -> u32
 
 /// Takes this client out of these.
 fn take_out(called: &mut Vec<Called>, client: u32)
-    requires room { HasRoomFor most_clients called.old }
+    requires room { HasSpaceFor most_clients called.old }
     ensures left { called.new.items ≡ without client called.old.items }
-    ensures room { HasRoomFor most_clients called.new }
+    ensures room { HasSpaceFor most_clients called.new }
 {
     called.retain(|one| one.client != client);
 }
