@@ -58,11 +58,13 @@ impl<B: EventBuffer> BufferPort for OwningPort<B> {
         (seen_by port.pass) };
 
     fn attach<R: Wait>(&mut self, rt: &R, name: Name) -> Result<u32, NoSlot> {
-        self.buffer.call(rt, &mut self.pass, calls::Attach { name }, &mut ())
+        self.buffer
+            .call(rt, &mut self.pass, calls::Attach { name }, &mut ())
     }
 
     fn detach<R: Wait>(&mut self, rt: &R, client: u32) -> Result<(), NoClient> {
-        self.buffer.call(rt, &mut self.pass, calls::Detach { client }, &mut ())
+        self.buffer
+            .call(rt, &mut self.pass, calls::Detach { client }, &mut ())
     }
 
     fn request<R: Wait>(
@@ -83,11 +85,17 @@ impl<B: EventBuffer> BufferPort for OwningPort<B> {
     }
 
     fn cancel<R: Wait>(&mut self, rt: &R, client: u32, request: u32) -> Result<(), RequestRefusal> {
-        self.buffer.call(rt, &mut self.pass, calls::Cancel { client, request }, &mut ())
+        self.buffer.call(
+            rt,
+            &mut self.pass,
+            calls::Cancel { client, request },
+            &mut (),
+        )
     }
 
     fn send<R: Wait>(&mut self, rt: &R, header: &Header, body: &[u8]) -> Result<u64, SendRefusal> {
-        self.buffer.call(rt, &mut self.pass, calls::Send { header, body }, &mut ())
+        self.buffer
+            .call(rt, &mut self.pass, calls::Send { header, body }, &mut ())
     }
 
     fn send_in_run<R: Wait>(
@@ -106,23 +114,28 @@ impl<B: EventBuffer> BufferPort for OwningPort<B> {
     }
 
     fn receive<R: Wait>(&mut self, rt: &R, client: u32, into: &mut EventBuf) -> Received {
-        self.buffer.call(rt, &mut self.pass, calls::Receive { client }, into)
+        self.buffer
+            .call(rt, &mut self.pass, calls::Receive { client }, into)
     }
 
     fn begin<R: Wait>(&mut self, rt: &R, start: u32) -> Result<u64, MarkRefusal> {
-        self.buffer.call(rt, &mut self.pass, calls::Begin { start }, &mut ())
+        self.buffer
+            .call(rt, &mut self.pass, calls::Begin { start }, &mut ())
     }
 
     fn pause<R: Wait>(&mut self, rt: &R, start: u32) -> Result<u64, MarkRefusal> {
-        self.buffer.call(rt, &mut self.pass, calls::Pause { start }, &mut ())
+        self.buffer
+            .call(rt, &mut self.pass, calls::Pause { start }, &mut ())
     }
 
     fn resume<R: Wait>(&mut self, rt: &R, start: u32) -> Result<u64, MarkRefusal> {
-        self.buffer.call(rt, &mut self.pass, calls::Resume { start }, &mut ())
+        self.buffer
+            .call(rt, &mut self.pass, calls::Resume { start }, &mut ())
     }
 
     fn end<R: Wait>(&mut self, rt: &R, start: u32) -> Result<u64, MarkRefusal> {
-        self.buffer.call(rt, &mut self.pass, calls::End { start }, &mut ())
+        self.buffer
+            .call(rt, &mut self.pass, calls::End { start }, &mut ())
     }
 
     fn level<R: Wait>(&mut self, rt: &R) -> u64 {
@@ -130,6 +143,7 @@ impl<B: EventBuffer> BufferPort for OwningPort<B> {
     }
 
     fn accepted<R: Wait>(&mut self, rt: &R) -> u64 {
-        self.buffer.call(rt, &mut self.pass, calls::Accepted, &mut ())
+        self.buffer
+            .call(rt, &mut self.pass, calls::Accepted, &mut ())
     }
 }
