@@ -55,7 +55,11 @@ impl<D: Database> DatabasePort for OwningAccess<D> {
         path: Path,
         kind: NewKey,
     ) -> Result<u32, OdbRefusal> {
-        let call = calls::Create { alloc, path: &path, kind };
+        let call = calls::Create {
+            alloc,
+            path: &path,
+            kind,
+        };
         self.database.call(rt, &mut self.pass, call, &mut ())
     }
 
@@ -67,7 +71,12 @@ impl<D: Database> DatabasePort for OwningAccess<D> {
         index: u32,
         item: Item,
     ) -> Result<u32, OdbRefusal> {
-        let call = calls::Set { alloc, path: &path, index, item: &item };
+        let call = calls::Set {
+            alloc,
+            path: &path,
+            index,
+            item: &item,
+        };
         self.database.call(rt, &mut self.pass, call, &mut ())
     }
 
@@ -78,7 +87,11 @@ impl<D: Database> DatabasePort for OwningAccess<D> {
         path: Path,
         value: Value,
     ) -> Result<u32, OdbRefusal> {
-        let call = calls::SetAll { alloc, path: &path, value: &value };
+        let call = calls::SetAll {
+            alloc,
+            path: &path,
+            value: &value,
+        };
         self.database.call(rt, &mut self.pass, call, &mut ())
     }
 
@@ -109,7 +122,11 @@ impl<D: Database> DatabasePort for OwningAccess<D> {
         path: Path,
         len: u32,
     ) -> Result<u32, OdbRefusal> {
-        let call = calls::Resize { alloc, path: &path, len };
+        let call = calls::Resize {
+            alloc,
+            path: &path,
+            len,
+        };
         self.database.call(rt, &mut self.pass, call, &mut ())
     }
 
