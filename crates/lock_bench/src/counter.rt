@@ -28,9 +28,9 @@ impl Machine for Counter {
 
 /// One more. Replies the number that was found.
 #[derive(Drop)]
-struct Increment;
+struct AddOne;
 
-impl Call<Counter> for Increment {
+impl Call<Counter> for AddOne {
     type Reply = u64;
     type Into = ();
 
@@ -51,7 +51,7 @@ fn increment<R: Wait>(rt: &R, lock: &Turns<Counter>, pass: &mut Pass<Counter>) -
     ensures number { number_of pass.new ≡ number_of pass.old }
     ensures mine { own_entries pass.new ≡ own_entries pass.old ++ result ∷ [] }
 {
-    lock.call(rt, pass, Increment, &mut ())
+    lock.call(rt, pass, AddOne, &mut ())
 }
 
 fn increment_times<R: Wait>(
