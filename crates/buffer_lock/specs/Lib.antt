@@ -1,4 +1,3 @@
 pub mod BufferSteps
-pub mod Tries
 pub mod SharedBuffers
 pub mod SharedPorts

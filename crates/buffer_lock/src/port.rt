@@ -3,6 +3,7 @@ ghost use Rattle.std.specs.Prelude.{◌≡◌, None};
 ghost use Rattle.turn_lock.specs.Passes.{held_by, IsOf};
 ghost use Rattle.buffer_lock.specs.SharedBuffers.{lock_of, first_buffer};
 
+use crate::calls;
 use crate::locked::{Locked, WindowSeen};
 use crate::shared::{BufferPass, SharedBuffer};
 use buffer_core::{
@@ -70,11 +71,13 @@ impl<'a, B: EventBuffer> BufferPort for SharedPort<'a, B> {
         (B.window (first_buffer (buffer_of port))) (history_by port) };
 
     fn attach<R: Wait>(&mut self, rt: &R, name: Name) -> Result<u32, NoSlot> {
-        self.shared.attach(rt, &mut self.pass, name)
+        self.shared
+            .call(rt, &mut self.pass, calls::Attach { name }, &mut ())
     }
 
     fn detach<R: Wait>(&mut self, rt: &R, client: u32) -> Result<(), NoClient> {
-        self.shared.detach(rt, &mut self.pass, client)
+        self.shared
+            .call(rt, &mut self.pass, calls::Detach { client }, &mut ())
     }
 
     fn request<R: Wait>(
@@ -85,16 +88,27 @@ impl<'a, B: EventBuffer> BufferPort for SharedPort<'a, B> {
         mask: u16,
         kind: Kind,
     ) -> Result<u32, RequestRefusal> {
-        self.shared
-            .request(rt, &mut self.pass, client, id, mask, kind)
+        let call = calls::Request {
+            client,
+            id,
+            mask,
+            kind,
+        };
+        self.shared.call(rt, &mut self.pass, call, &mut ())
     }
 
     fn cancel<R: Wait>(&mut self, rt: &R, client: u32, request: u32) -> Result<(), RequestRefusal> {
-        self.shared.cancel(rt, &mut self.pass, client, request)
+        self.shared.call(
+            rt,
+            &mut self.pass,
+            calls::Cancel { client, request },
+            &mut (),
+        )
     }
 
     fn send<R: Wait>(&mut self, rt: &R, header: &Header, body: &[u8]) -> Result<u64, SendRefusal> {
-        self.shared.send(rt, &mut self.pass, header, body)
+        self.shared
+            .call(rt, &mut self.pass, calls::Send { header, body }, &mut ())
     }
 
     fn send_in_run<R: Wait>(
@@ -104,35 +118,45 @@ impl<'a, B: EventBuffer> BufferPort for SharedPort<'a, B> {
         header: &Header,
         body: &[u8],
     ) -> Result<u64, SendRefusal> {
-        self.shared
-            .send_in_run(rt, &mut self.pass, start, header, body)
+        let call = calls::SendInRun {
+            start,
+            header,
+            body,
+        };
+        self.shared.call(rt, &mut self.pass, call, &mut ())
     }
 
     fn receive<R: Wait>(&mut self, rt: &R, client: u32, into: &mut EventBuf) -> Received {
-        self.shared.receive(rt, &mut self.pass, client, into)
+        self.shared
+            .call(rt, &mut self.pass, calls::Receive { client }, into)
     }
 
     fn begin<R: Wait>(&mut self, rt: &R, start: u32) -> Result<u64, MarkRefusal> {
-        self.shared.begin(rt, &mut self.pass, start)
+        self.shared
+            .call(rt, &mut self.pass, calls::Begin { start }, &mut ())
     }
 
     fn pause<R: Wait>(&mut self, rt: &R, start: u32) -> Result<u64, MarkRefusal> {
-        self.shared.pause(rt, &mut self.pass, start)
+        self.shared
+            .call(rt, &mut self.pass, calls::Pause { start }, &mut ())
     }
 
     fn resume<R: Wait>(&mut self, rt: &R, start: u32) -> Result<u64, MarkRefusal> {
-        self.shared.resume(rt, &mut self.pass, start)
+        self.shared
+            .call(rt, &mut self.pass, calls::Resume { start }, &mut ())
     }
 
     fn end<R: Wait>(&mut self, rt: &R, start: u32) -> Result<u64, MarkRefusal> {
-        self.shared.end(rt, &mut self.pass, start)
+        self.shared
+            .call(rt, &mut self.pass, calls::End { start }, &mut ())
     }
 
     fn level<R: Wait>(&mut self, rt: &R) -> u64 {
-        self.shared.level(rt, &mut self.pass)
+        self.shared.call(rt, &mut self.pass, calls::Level, &mut ())
     }
 
     fn accepted<R: Wait>(&mut self, rt: &R) -> u64 {
-        self.shared.accepted(rt, &mut self.pass)
+        self.shared
+            .call(rt, &mut self.pass, calls::Accepted, &mut ())
     }
 }

@@ -7,7 +7,7 @@ use buffer_core::{
     BufferEntry, BufferPort, EventBuffer, MarkRefusal, NoClient, NoSlot, Received, RequestRefusal,
     SendRefusal,
 };
-use buffer_lock::{BufferPass, Locked, SharedBuffer, WindowSeen};
+use buffer_lock::{BufferPass, Locked, SharedBuffer, WindowSeen, calls};
 use daq_types::{Kind, Name, NoMemory};
 use event_header::{EventBuf, Header};
 use std::alloc::Global;
@@ -58,11 +58,13 @@ impl<B: EventBuffer> BufferPort for OwningPort<B> {
         (seen_by port.pass) };
 
     fn attach<R: Wait>(&mut self, rt: &R, name: Name) -> Result<u32, NoSlot> {
-        self.buffer.attach(rt, &mut self.pass, name)
+        self.buffer
+            .call(rt, &mut self.pass, calls::Attach { name }, &mut ())
     }
 
     fn detach<R: Wait>(&mut self, rt: &R, client: u32) -> Result<(), NoClient> {
-        self.buffer.detach(rt, &mut self.pass, client)
+        self.buffer
+            .call(rt, &mut self.pass, calls::Detach { client }, &mut ())
     }
 
     fn request<R: Wait>(
@@ -73,16 +75,27 @@ impl<B: EventBuffer> BufferPort for OwningPort<B> {
         mask: u16,
         kind: Kind,
     ) -> Result<u32, RequestRefusal> {
-        self.buffer
-            .request(rt, &mut self.pass, client, id, mask, kind)
+        let call = calls::Request {
+            client,
+            id,
+            mask,
+            kind,
+        };
+        self.buffer.call(rt, &mut self.pass, call, &mut ())
     }
 
     fn cancel<R: Wait>(&mut self, rt: &R, client: u32, request: u32) -> Result<(), RequestRefusal> {
-        self.buffer.cancel(rt, &mut self.pass, client, request)
+        self.buffer.call(
+            rt,
+            &mut self.pass,
+            calls::Cancel { client, request },
+            &mut (),
+        )
     }
 
     fn send<R: Wait>(&mut self, rt: &R, header: &Header, body: &[u8]) -> Result<u64, SendRefusal> {
-        self.buffer.send(rt, &mut self.pass, header, body)
+        self.buffer
+            .call(rt, &mut self.pass, calls::Send { header, body }, &mut ())
     }
 
     fn send_in_run<R: Wait>(
@@ -92,35 +105,45 @@ impl<B: EventBuffer> BufferPort for OwningPort<B> {
         header: &Header,
         body: &[u8],
     ) -> Result<u64, SendRefusal> {
-        self.buffer
-            .send_in_run(rt, &mut self.pass, start, header, body)
+        let call = calls::SendInRun {
+            start,
+            header,
+            body,
+        };
+        self.buffer.call(rt, &mut self.pass, call, &mut ())
     }
 
     fn receive<R: Wait>(&mut self, rt: &R, client: u32, into: &mut EventBuf) -> Received {
-        self.buffer.receive(rt, &mut self.pass, client, into)
+        self.buffer
+            .call(rt, &mut self.pass, calls::Receive { client }, into)
     }
 
     fn begin<R: Wait>(&mut self, rt: &R, start: u32) -> Result<u64, MarkRefusal> {
-        self.buffer.begin(rt, &mut self.pass, start)
+        self.buffer
+            .call(rt, &mut self.pass, calls::Begin { start }, &mut ())
     }
 
     fn pause<R: Wait>(&mut self, rt: &R, start: u32) -> Result<u64, MarkRefusal> {
-        self.buffer.pause(rt, &mut self.pass, start)
+        self.buffer
+            .call(rt, &mut self.pass, calls::Pause { start }, &mut ())
     }
 
     fn resume<R: Wait>(&mut self, rt: &R, start: u32) -> Result<u64, MarkRefusal> {
-        self.buffer.resume(rt, &mut self.pass, start)
+        self.buffer
+            .call(rt, &mut self.pass, calls::Resume { start }, &mut ())
     }
 
     fn end<R: Wait>(&mut self, rt: &R, start: u32) -> Result<u64, MarkRefusal> {
-        self.buffer.end(rt, &mut self.pass, start)
+        self.buffer
+            .call(rt, &mut self.pass, calls::End { start }, &mut ())
     }
 
     fn level<R: Wait>(&mut self, rt: &R) -> u64 {
-        self.buffer.level(rt, &mut self.pass)
+        self.buffer.call(rt, &mut self.pass, calls::Level, &mut ())
     }
 
     fn accepted<R: Wait>(&mut self, rt: &R) -> u64 {
-        self.buffer.accepted(rt, &mut self.pass)
+        self.buffer
+            .call(rt, &mut self.pass, calls::Accepted, &mut ())
     }
 }

@@ -22,18 +22,27 @@ impl Machine for Counter {
     ghost state = { λ counter. counter.count };
 
     ghost step = { λ before by found after. (found ≡ before) × (after ≡ (before + 1) % 2 ^ 64) };
+
+    fn known(&self) {}
 }
 
+/// One more. Replies the number that was found.
 #[derive(Drop)]
-struct IncrementCall {
-    found: u64,
+struct AddOne;
+
+impl Call<Counter> for AddOne {
+    type Reply = u64;
+    type Into = ();
+
+    ghost entry = { λ _ _ found _. found };
+
+    fn make(self, value: &mut Counter, _into: &mut ()) -> u64 {
+        let found = value.count;
+        value.count = found.wrapping_add(1);
+        found
+    }
 }
 
-impl Call<Counter> for IncrementCall {
-    ghost entry = { λ call. call.found };
-}
-
-/// One more. Returns the number that was found.
 fn increment<R: Wait>(rt: &R, lock: &Turns<Counter>, pass: &mut Pass<Counter>) -> u64
     requires own { IsOf lock.now pass.old }
     requires idle { held_by pass.old ≡ None }
@@ -42,11 +51,7 @@ fn increment<R: Wait>(rt: &R, lock: &Turns<Counter>, pass: &mut Pass<Counter>) -
     ensures number { number_of pass.new ≡ number_of pass.old }
     ensures mine { own_entries pass.new ≡ own_entries pass.old ++ result ∷ [] }
 {
-    let mut held = lock.take(rt, pass);
-    let found = held.value.count;
-    held.value.count = found.wrapping_add(1);
-    lock.put(pass, held, &IncrementCall { found });
-    found
+    lock.call(rt, pass, AddOne, &mut ())
 }
 
 fn increment_times<R: Wait>(

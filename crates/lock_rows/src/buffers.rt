@@ -7,7 +7,9 @@ ghost use Rattle.turn_lock.specs.Roster.{items_of, numbers_of, numbers_below, Ar
 ghost use Rattle.buffer_lock.specs.SharedBuffers.{lock_of};
 
 use buffer_core::{BufferPort, EventBuffer, Received, SendRefusal};
-use buffer_lock::{BufferClosed, BufferPass, BufferPasses, SharedBuffer, SharedPort};
+use buffer_lock::{
+    BufferClosed, BufferPass, BufferPasses, Locked, SharedBuffer, SharedPort, calls,
+};
 use daq_types::{Kind, Name, NoMemory};
 use event_header::{EventBuf, Header};
 use plain_buffer::PlainBuffer;
@@ -15,6 +17,7 @@ use std::alloc::Global;
 use std::process::Abort;
 use std::sync::Wait;
 use std::thread::{Threads, join, yield_now};
+use turn_lock::{MadeCall, Taken};
 
 const SIZE: u32 = 1 << 20;
 
@@ -29,6 +32,14 @@ fn header(serial_number: u32) -> Header {
         serial_number,
         time_stamp: 0,
         data_size: 8,
+    }
+}
+
+/// The send of this header with the data of the rows.
+fn send_of(header: &Header) -> calls::Send<'_> {
+    calls::Send {
+        header,
+        body: &DATA,
     }
 }
 
@@ -89,7 +100,8 @@ fn send_times<R: Wait>(
     ensures all { length (own_entries result) ≡ times }
 {
     for done in 0..times {
-        let _ = shared.send(rt, &mut pass, &header(done), &DATA);
+        let header = header(done);
+        let _ = shared.call(rt, &mut pass, send_of(&header), &mut ());
     }
     pass
 }
@@ -181,8 +193,9 @@ fn send_until_taken<R: Wait>(
     ensures own { IsOf (lock_of shared.now) pass.new }
     ensures idle { held_by pass.new ≡ None }
 {
+    let header = header(serial);
     for _ in rt.forever() {
-        let Err(SendRefusal::Full { .. }) = shared.send(rt, pass, &header(serial), &DATA) else {
+        let Err(SendRefusal::Full { .. }) = shared.call(rt, pass, send_of(&header), &mut ()) else {
             return;
         };
         yield_now();
@@ -220,7 +233,7 @@ fn read_one<R: Wait>(
     ensures idle { held_by pass.new ≡ None }
 {
     for _ in rt.forever() {
-        if let Received::Got { .. } = shared.receive(rt, pass, 0, into) {
+        if let Received::Got { .. } = shared.call(rt, pass, calls::Receive { client: 0 }, into) {
             return;
         }
         yield_now();
@@ -353,8 +366,14 @@ fn attach_for_all<R: Wait>(
     ensures own { IsOf (lock_of shared.now) pass.new }
     ensures idle { held_by pass.new ≡ None }
 {
-    let attached = shared.attach(rt, pass, name) == Ok(0);
-    let requested = shared.request(rt, pass, 0, ANY, ANY, Kind::All) == Ok(0);
+    let attached = shared.call(rt, pass, calls::Attach { name }, &mut ()) == Ok(0);
+    let request = calls::Request {
+        client: 0,
+        id: ANY,
+        mask: ANY,
+        kind: Kind::All,
+    };
+    let requested = shared.call(rt, pass, request, &mut ()) == Ok(0);
     [attached, requested]
 }
 
@@ -369,7 +388,8 @@ fn read_from_four<R: Abort + Threads + Wait + Sync>(
     let mut reader = pop_pass(&shared, rt, &mut passes);
     let attached = attach_for_all(&shared, rt, &mut reader, name);
     let mut reader = send_in_four_and_read(&shared, rt, &mut passes, reader, into);
-    Ok((attached, shared.accepted(rt, &mut reader)))
+    let accepted = shared.call(rt, &mut reader, calls::Accepted, &mut ());
+    Ok((attached, accepted))
 }
 
 #[test]
@@ -461,12 +481,18 @@ fn try_each(
     ensures own { IsOf (lock_of shared.now) pass.new }
     ensures idle { held_by pass.new ≡ None }
 {
-    let sent = shared.try_send(pass, &header(1), &DATA);
-    let in_run = shared.try_send_in_run(pass, 1, &header(2), &DATA);
-    let got = shared.try_receive(pass, 0, into);
+    let header = header(1);
+    let sent = shared.try_call(pass, send_of(&header), &mut ());
+    let send_in_run = calls::SendInRun {
+        start: 1,
+        header: &header,
+        body: &DATA,
+    };
+    let in_run = shared.try_call(pass, send_in_run, &mut ());
+    let got = shared.try_call(pass, calls::Receive { client: 0 }, into);
     [
-        sent == Ok(0),
-        in_run == Ok(1),
+        sent == Ok(Ok(0)),
+        in_run == Ok(Ok(1)),
         got == Ok(Received::Got { place: 0, start: 0 }),
     ]
 }
@@ -483,8 +509,8 @@ fn meet_what_was_seen(
     ensures second { IsOf (lock_of shared.now) second.new }
     ensures idle { held_by second.new ≡ None }
 {
-    let note = shared.note(first);
-    shared.meet(second, note);
+    let note = shared.lock().note(first);
+    shared.lock().meet(second, note);
 }
 
 /// Makes the calls in one try on a buffer with a client and a run: whether each is done, and how many events the second
@@ -498,10 +524,11 @@ fn try_on_free<R: Wait>(
     let (shared, mut passes) = share(alloc, 256, 2)?;
     let (mut first, mut second) = two_passes(&shared, &mut passes);
     let attached = attach_for_all(&shared, rt, &mut first, name);
-    let begun = shared.begin(rt, &mut first, 1) == Ok(0);
+    let begun = shared.call(rt, &mut first, calls::Begin { start: 1 }, &mut ()) == Ok(0);
     let tried = try_each(&shared, &mut first, &mut into);
     meet_what_was_seen(&shared, &mut first, &mut second);
-    Ok((attached, begun, tried, shared.accepted(rt, &mut second)))
+    let accepted = shared.call(rt, &mut second, calls::Accepted, &mut ());
+    Ok((attached, begun, tried, accepted))
 }
 
 #[test]
@@ -511,5 +538,55 @@ fn calls_in_one_try_on_a_free_buffer(rt: HostRuntime) {
     assert!(rt;
         tried == Ok(([true; 2], true, [true; 3], 2)),
         "each is made, and two events are accepted"
+    );
+}
+
+/// The count of the accepted events, which a pass read while it had the turn.
+#[derive(Drop)]
+struct CountRead {
+    count: u64,
+}
+
+impl MadeCall<Locked<PlainBuffer>> for CountRead {
+    ghost use Rattle.buffer_core.specs.declared.entry.BufferEntry.TheVariants.{Accepted};
+
+    ghost entry = { λ call. Accepted call.count };
+}
+
+/// What a send in one try answers, or whose the turn was.
+type Tried = Result<Result<u64, SendRefusal>, Taken>;
+
+/// Tries a send by the second pass while the first has the turn, and again behind that.
+fn try_twice<R: Wait>(
+    shared: &SharedBuffer<PlainBuffer>,
+    rt: &R,
+    first: &mut BufferPass<PlainBuffer>,
+    second: &mut BufferPass<PlainBuffer>,
+) -> [Tried; 2]
+    requires first { IsOf (lock_of shared.now) first.old }
+    requires second { IsOf (lock_of shared.now) second.old }
+    requires idle { (held_by first.old ≡ None) × (held_by second.old ≡ None) }
+{
+    let header = header(1);
+    let held = shared.lock().take(rt, first);
+    let refused = shared.try_call(second, send_of(&header), &mut ());
+    let count = held.value.buffer.accepted();
+    shared.lock().put(first, held, &CountRead { count });
+    [refused, shared.try_call(second, send_of(&header), &mut ())]
+}
+
+/// Tries a send by the second of two passes while the first has the turn, and again behind that.
+fn try_on_taken<R: Wait>(rt: &R, alloc: Global) -> Result<[Tried; 2], NoMemory> {
+    let (shared, mut passes) = share(alloc, 256, 2)?;
+    let (mut first, mut second) = two_passes(&shared, &mut passes);
+    Ok(try_twice(&shared, rt, &mut first, &mut second))
+}
+
+#[test]
+fn a_try_on_a_taken_buffer_sends_nothing(rt: HostRuntime) {
+    let tried = try_on_taken(&rt, rt.alloc());
+    assert!(rt;
+        tried == Ok([Err(Taken { holder: 0 }), Ok(Ok(0))]),
+        "pass 0 has the turn, and then the event is the first that is accepted"
     );
 }

@@ -7,7 +7,7 @@ ghost use Rattle.odb_lock.specs.SharedAccesses.{odb_pass_of};
 ghost use Rattle.odb_lock.specs.SharedOdbs.{odb_lock_of};
 
 use daq_types::{NoMemory, Tid};
-use odb_lock::{OdbClosed, OdbPass, OdbPasses, SharedAccess, SharedOdb};
+use odb_lock::{OdbClosed, OdbPass, OdbPasses, SharedAccess, SharedOdb, calls};
 use odb_path::Path;
 use odb_port::{DatabasePort, WatchPort};
 use odb_tree::{Database, NewKey, Notes, OdbRefusal, PlainTree};
@@ -88,11 +88,14 @@ fn make_rows<R: Wait>(
         tid: Tid::UInt8,
         len: 2,
     };
-    let made = shared.create(rt, main, alloc, path, kind);
-    let value = shared.get(rt, main, alloc, path)?;
-    let resized = shared.resize(rt, main, alloc, path, 3);
-    let set = shared.set_all(rt, main, alloc, path, &value);
-    Ok([made, resized, set, shared.delete(rt, main, path)])
+    let made = shared.call(rt, main, calls::Create { alloc, path, kind }, &mut ());
+    let value = shared.call(rt, main, calls::Get { alloc, path }, &mut ())?;
+    let len = 3;
+    let resized = shared.call(rt, main, calls::Resize { alloc, path, len }, &mut ());
+    let value = &value;
+    let set = shared.call(rt, main, calls::SetAll { alloc, path, value }, &mut ());
+    let deleted = shared.call(rt, main, calls::Delete { path }, &mut ());
+    Ok([made, resized, set, deleted])
 }
 
 /// Shares a database, in which the main thread makes rows: the replies, and whether the key is gone in the end.
@@ -207,8 +210,8 @@ fn meet_what_was_seen(
     ensures second { IsOf (odb_lock_of shared.now) second.new }
     ensures idle { held_by second.new ≡ None }
 {
-    let note = shared.note(first);
-    shared.meet(second, note);
+    let note = shared.lock().note(first);
+    shared.lock().meet(second, note);
 }
 
 /// A directory that the main thread makes, and what the other finds behind a meeting with what the main thread has seen.
@@ -219,9 +222,11 @@ fn make_meet_and_find<R: Wait>(
 ) -> Result<[Result<u32, OdbRefusal>; 2], NoMemory> {
     let (shared, mut passes) = share(alloc)?;
     let (mut main, mut other) = two_passes(&shared, &mut passes);
-    let made = shared.create(rt, &mut main, alloc, path, NewKey::Dir);
+    let kind = NewKey::Dir;
+    let made = shared.call(rt, &mut main, calls::Create { alloc, path, kind }, &mut ());
     meet_what_was_seen(&shared, &mut main, &mut other);
-    Ok([made, shared.find(rt, &mut other, path)])
+    let found = shared.call(rt, &mut other, calls::Find { path }, &mut ());
+    Ok([made, found])
 }
 
 // What a pass has seen stands in contracts alone: the row shows that the two calls can be made.

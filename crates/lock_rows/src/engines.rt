@@ -187,8 +187,8 @@ fn meet_what_was_seen(shared: &SharedEngine, first: &mut EnginePass, second: &mu
     ensures second { IsOf (engine_lock_of shared.now) second.new }
     ensures idle { held_by second.new ≡ None }
 {
-    let note = shared.note(first);
-    shared.meet(second, note);
+    let note = shared.lock().note(first);
+    shared.lock().meet(second, note);
 }
 
 /// Begins a start, whose client then meets what the main thread has seen: whether the start is begun, and whether the client

@@ -9,7 +9,7 @@ use std::alloc::{AllocError, Global};
 use std::process::Abort;
 use std::sync::Wait;
 use std::thread::{Threads, join};
-use turn_lock::{Call, Closed, Machine, MissingPass, Pass, Passes, Taken, Turns};
+use turn_lock::{Call, Closed, Machine, MadeCall, MissingPass, Pass, Passes, Taken, Turns};
 
 /// A number that wraps, under the lock.
 #[derive(Drop)]
@@ -25,6 +25,26 @@ impl Machine for Counter {
     ghost state = { λ counter. counter.count };
 
     ghost step = { λ before by found after. (found ≡ before) × (after ≡ (before + 1) % 2 ^ 64) };
+
+    fn known(&self) {}
+}
+
+/// One more. Replies the number that was found.
+#[derive(Drop)]
+struct AddOne;
+
+impl Call<Counter> for AddOne {
+    type Reply = u64;
+
+    type Into = ();
+
+    ghost entry = { λ _ _ found _. found };
+
+    fn make(self, value: &mut Counter, _into: &mut ()) -> u64 {
+        let found = value.count;
+        value.count = found.wrapping_add(1);
+        found
+    }
 }
 
 /// One more, which found this number.
@@ -33,7 +53,7 @@ struct OneMore {
     found: u64,
 }
 
-impl Call<Counter> for OneMore {
+impl MadeCall<Counter> for OneMore {
     ghost entry = { λ call. call.found };
 }
 
@@ -67,11 +87,7 @@ fn increment<R: Wait>(lock: &Turns<Counter>, rt: &R, pass: &mut Pass<Counter>) -
     ensures number { number_of pass.new ≡ number_of pass.old }
     ensures one_more { length (own_entries pass.new) ≡ length (own_entries pass.old) + 1 }
 {
-    let mut held = lock.take(rt, pass);
-    let found = held.value.count;
-    held.value.count = found.wrapping_add(1);
-    lock.put(pass, held, &OneMore { found });
-    found
+    lock.call(rt, pass, AddOne, &mut ())
 }
 
 fn try_increment(lock: &Turns<Counter>, pass: &mut Pass<Counter>) -> Result<u64, Taken>
@@ -81,10 +97,7 @@ fn try_increment(lock: &Turns<Counter>, pass: &mut Pass<Counter>) -> Result<u64,
     ensures idle { held_by pass.new ≡ None }
     ensures number { number_of pass.new ≡ number_of pass.old }
 {
-    let mut held = lock.try_take(pass)?;
-    let found = held.value.count;
-    held.value.count = found.wrapping_add(1);
-    lock.put(pass, held, &OneMore { found });
+    let found = lock.try_call(pass, AddOne, &mut ())?;
     Ok(found)
 }
 

@@ -1,2 +1,1 @@
 pub mod HistoryLaws
-mod OwnedCalls

@@ -5,7 +5,7 @@ ghost use Rattle.turn_lock.specs.Passes.{held_by, IsOf};
 ghost use Rattle.odb_lock.specs.SharedOdbs.{odb_lock_of};
 
 use daq_types::NoMemory;
-use odb_lock::{LockedDatabase, OdbPass, SharedOdb, WatchedSeen};
+use odb_lock::{LockedDatabase, OdbPass, SharedOdb, WatchedSeen, calls};
 use odb_path::Path;
 use odb_port::DatabasePort;
 use odb_tree::{Children, Database, NewKey, OdbRefusal};
@@ -55,7 +55,12 @@ impl<D: Database> DatabasePort for OwningAccess<D> {
         path: Path,
         kind: NewKey,
     ) -> Result<u32, OdbRefusal> {
-        self.database.create(rt, &mut self.pass, alloc, &path, kind)
+        let call = calls::Create {
+            alloc,
+            path: &path,
+            kind,
+        };
+        self.database.call(rt, &mut self.pass, call, &mut ())
     }
 
     fn set<R: Wait>(
@@ -66,8 +71,13 @@ impl<D: Database> DatabasePort for OwningAccess<D> {
         index: u32,
         item: Item,
     ) -> Result<u32, OdbRefusal> {
-        self.database
-            .set(rt, &mut self.pass, alloc, &path, index, &item)
+        let call = calls::Set {
+            alloc,
+            path: &path,
+            index,
+            item: &item,
+        };
+        self.database.call(rt, &mut self.pass, call, &mut ())
     }
 
     fn set_all<R: Wait>(
@@ -77,24 +87,32 @@ impl<D: Database> DatabasePort for OwningAccess<D> {
         path: Path,
         value: Value,
     ) -> Result<u32, OdbRefusal> {
-        self.database
-            .set_all(rt, &mut self.pass, alloc, &path, &value)
+        let call = calls::SetAll {
+            alloc,
+            path: &path,
+            value: &value,
+        };
+        self.database.call(rt, &mut self.pass, call, &mut ())
     }
 
     fn get<R: Wait>(&mut self, rt: &R, alloc: Global, path: Path) -> Result<Value, OdbRefusal> {
-        self.database.get(rt, &mut self.pass, alloc, &path)
+        let call = calls::Get { alloc, path: &path };
+        self.database.call(rt, &mut self.pass, call, &mut ())
     }
 
     fn find<R: Wait>(&mut self, rt: &R, path: Path) -> Result<u32, OdbRefusal> {
-        self.database.find(rt, &mut self.pass, &path)
+        let call = calls::Find { path: &path };
+        self.database.call(rt, &mut self.pass, call, &mut ())
     }
 
     fn list<R: Wait>(&mut self, rt: &R, alloc: Global, path: Path) -> Result<Children, OdbRefusal> {
-        self.database.list(rt, &mut self.pass, alloc, &path)
+        let call = calls::List { alloc, path: &path };
+        self.database.call(rt, &mut self.pass, call, &mut ())
     }
 
     fn delete<R: Wait>(&mut self, rt: &R, path: Path) -> Result<u32, OdbRefusal> {
-        self.database.delete(rt, &mut self.pass, &path)
+        let call = calls::Delete { path: &path };
+        self.database.call(rt, &mut self.pass, call, &mut ())
     }
 
     fn resize<R: Wait>(
@@ -104,7 +122,12 @@ impl<D: Database> DatabasePort for OwningAccess<D> {
         path: Path,
         len: u32,
     ) -> Result<u32, OdbRefusal> {
-        self.database.resize(rt, &mut self.pass, alloc, &path, len)
+        let call = calls::Resize {
+            alloc,
+            path: &path,
+            len,
+        };
+        self.database.call(rt, &mut self.pass, call, &mut ())
     }
 
     fn path_of<R: Wait>(
@@ -113,6 +136,7 @@ impl<D: Database> DatabasePort for OwningAccess<D> {
         alloc: Global,
         row: u32,
     ) -> Result<Option<Path>, NoMemory> {
-        self.database.path_of(rt, &mut self.pass, alloc, row)
+        let call = calls::PathOf { alloc, row };
+        self.database.call(rt, &mut self.pass, call, &mut ())
     }
 }

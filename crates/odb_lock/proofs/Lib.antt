@@ -1,2 +1,2 @@
 pub mod SharedLaws
-mod SharedAccessLaws
+pub mod SharedAccessLaws

@@ -1,7 +1,7 @@
 -- What the lock and the database tell of a call, in the words of watched databases.
 use Rattle.std.specs.Prelude.{◌≡◌, ℕ, List, [], ◌∷◌, Option, Result, Ok, Err, IfOk, IfErr, OnErr}
 use Rattle.std.specs.Str.Lines.{lines}
-use Rattle.std.proofs.Common.{refl, sym, ap, subst, ◌∙◌}
+use Rattle.std.proofs.Common.{refl, sym, ap, ◌∙◌}
 use Rattle.daq_types.specs.declared.memory.NoMemory.{NoMemory}
 use Rattle.odb_tree.specs.declared.notes.Watch.{Watch as a_watch}
 use Rattle.odb_tree.specs.declared.entry.DatabaseEntry.{DatabaseEntry}
@@ -49,17 +49,11 @@ look_step before entry reply rows none = (
       (sym (none_noted before.slots) ∙ ap (λ (cs : List Change). all_noted cs before.slots) (sym none)),
 )
 
--- a call that may write, from the state that was held
-pub write_step : (before held after : Watched) (entry : DatabaseEntry) → held ≡ before → IsRowsReply held.rows entry → after.rows ≡ rows_after held.rows entry
-    → after.slots ≡ all_noted (changes_of held.rows entry) held.slots → StepsWatched before (Call entry) after
-write_step before held after entry same reply rows notes =
-    subst (λ (s : Watched). StepsWatched s (Call entry) after) same (call_step held after entry reply rows notes)
-
--- a removal from the state that was held
-pub removal_step : (before held after : Watched) (entry : DatabaseEntry) → held ≡ before → IsRowsReply held.rows entry → after.rows ≡ rows_after held.rows entry → after.slots ≡ held.slots
-    → changes_of held.rows entry ≡ [] → StepsWatched before (Call entry) after
-removal_step before held after entry same reply rows slots none =
-    write_step before held after entry same reply rows (slots ∙ sym (none_noted held.slots) ∙ ap (λ (cs : List Change). all_noted cs held.slots) (sym none))
+-- a removal
+pub removal_step : (before after : Watched) (entry : DatabaseEntry) → IsRowsReply before.rows entry → after.rows ≡ rows_after before.rows entry → after.slots ≡ before.slots
+    → changes_of before.rows entry ≡ [] → StepsWatched before (Call entry) after
+removal_step before after entry reply rows slots none =
+    call_step before after entry reply rows (slots ∙ sym (none_noted before.slots) ∙ ap (λ (cs : List Change). all_noted cs before.slots) (sym none))
 
 pub save_step : (before : Watched) (reply : Result (List ℕ) NoMemory) → IfOk reply (λ text. text ≡ dump_text before.rows) → StepsWatched before (Save reply) before
 save_step before (Ok text) h = (h, refl)

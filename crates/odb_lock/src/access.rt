@@ -3,6 +3,7 @@ ghost use Rattle.std.specs.Prelude.{◌≡◌, None};
 ghost use Rattle.turn_lock.specs.Passes.{held_by, IsOf};
 ghost use Rattle.odb_lock.specs.SharedOdbs.{odb_lock_of};
 
+use crate::calls;
 use crate::locked::{LockedDatabase, WatchedSeen};
 use crate::shared::{OdbPass, SharedOdb};
 use daq_types::{Bytes, NoMemory};
@@ -72,7 +73,12 @@ impl<'a, D: Database> DatabasePort for SharedAccess<'a, D> {
         path: Path,
         kind: NewKey,
     ) -> Result<u32, OdbRefusal> {
-        self.shared.create(rt, &mut self.pass, alloc, &path, kind)
+        let call = calls::Create {
+            alloc,
+            path: &path,
+            kind,
+        };
+        self.shared.call(rt, &mut self.pass, call, &mut ())
     }
 
     fn set<R: Wait>(
@@ -83,8 +89,13 @@ impl<'a, D: Database> DatabasePort for SharedAccess<'a, D> {
         index: u32,
         item: Item,
     ) -> Result<u32, OdbRefusal> {
-        self.shared
-            .set(rt, &mut self.pass, alloc, &path, index, &item)
+        let call = calls::Set {
+            alloc,
+            path: &path,
+            index,
+            item: &item,
+        };
+        self.shared.call(rt, &mut self.pass, call, &mut ())
     }
 
     fn set_all<R: Wait>(
@@ -94,24 +105,32 @@ impl<'a, D: Database> DatabasePort for SharedAccess<'a, D> {
         path: Path,
         value: Value,
     ) -> Result<u32, OdbRefusal> {
-        self.shared
-            .set_all(rt, &mut self.pass, alloc, &path, &value)
+        let call = calls::SetAll {
+            alloc,
+            path: &path,
+            value: &value,
+        };
+        self.shared.call(rt, &mut self.pass, call, &mut ())
     }
 
     fn get<R: Wait>(&mut self, rt: &R, alloc: Global, path: Path) -> Result<Value, OdbRefusal> {
-        self.shared.get(rt, &mut self.pass, alloc, &path)
+        let call = calls::Get { alloc, path: &path };
+        self.shared.call(rt, &mut self.pass, call, &mut ())
     }
 
     fn find<R: Wait>(&mut self, rt: &R, path: Path) -> Result<u32, OdbRefusal> {
-        self.shared.find(rt, &mut self.pass, &path)
+        let call = calls::Find { path: &path };
+        self.shared.call(rt, &mut self.pass, call, &mut ())
     }
 
     fn list<R: Wait>(&mut self, rt: &R, alloc: Global, path: Path) -> Result<Children, OdbRefusal> {
-        self.shared.list(rt, &mut self.pass, alloc, &path)
+        let call = calls::List { alloc, path: &path };
+        self.shared.call(rt, &mut self.pass, call, &mut ())
     }
 
     fn delete<R: Wait>(&mut self, rt: &R, path: Path) -> Result<u32, OdbRefusal> {
-        self.shared.delete(rt, &mut self.pass, &path)
+        let call = calls::Delete { path: &path };
+        self.shared.call(rt, &mut self.pass, call, &mut ())
     }
 
     fn resize<R: Wait>(
@@ -121,7 +140,12 @@ impl<'a, D: Database> DatabasePort for SharedAccess<'a, D> {
         path: Path,
         len: u32,
     ) -> Result<u32, OdbRefusal> {
-        self.shared.resize(rt, &mut self.pass, alloc, &path, len)
+        let call = calls::Resize {
+            alloc,
+            path: &path,
+            len,
+        };
+        self.shared.call(rt, &mut self.pass, call, &mut ())
     }
 
     fn path_of<R: Wait>(
@@ -130,7 +154,8 @@ impl<'a, D: Database> DatabasePort for SharedAccess<'a, D> {
         alloc: Global,
         row: u32,
     ) -> Result<Option<Path>, NoMemory> {
-        self.shared.path_of(rt, &mut self.pass, alloc, row)
+        let call = calls::PathOf { alloc, row };
+        self.shared.call(rt, &mut self.pass, call, &mut ())
     }
 }
 
@@ -143,27 +168,37 @@ impl<'a, D: Database> WatchPort for SharedAccess<'a, D> {
         index: u32,
         item: &Item,
     ) -> Result<u32, OdbRefusal> {
-        self.shared
-            .set(rt, &mut self.pass, alloc, path, index, item)
+        let call = calls::Set {
+            alloc,
+            path,
+            index,
+            item,
+        };
+        self.shared.call(rt, &mut self.pass, call, &mut ())
     }
 
     fn watch<R: Wait>(&mut self, rt: &R, alloc: Global, row: u32) -> Result<u32, WatchRefusal> {
-        self.shared.watch(rt, &mut self.pass, alloc, row)
+        let call = calls::Watch { alloc, row };
+        self.shared.call(rt, &mut self.pass, call, &mut ())
     }
 
     fn notes<R: Wait>(&mut self, rt: &R, watch: u32, into: &mut Notes) -> Result<u64, NoWatch> {
-        self.shared.notes(rt, &mut self.pass, watch, into)
+        let call = calls::TakeNotes { watch };
+        self.shared.call(rt, &mut self.pass, call, into)
     }
 
     fn unwatch<R: Wait>(&mut self, rt: &R, watch: u32) -> Result<(), NoWatch> {
-        self.shared.unwatch(rt, &mut self.pass, watch)
+        let call = calls::Unwatch { watch };
+        self.shared.call(rt, &mut self.pass, call, &mut ())
     }
 
     fn save<R: Wait>(&mut self, rt: &R, alloc: Global) -> Result<Bytes, NoMemory> {
-        self.shared.save(rt, &mut self.pass, alloc)
+        let call = calls::Save { alloc };
+        self.shared.call(rt, &mut self.pass, call, &mut ())
     }
 
     fn load<R: Wait>(&mut self, rt: &R, alloc: Global, text: &[u8]) -> Result<Loaded, LoadRefusal> {
-        self.shared.load(rt, &mut self.pass, alloc, text)
+        let call = calls::Load { alloc, text };
+        self.shared.call(rt, &mut self.pass, call, &mut ())
     }
 }

@@ -5,10 +5,10 @@
 #![tactic(auto)]
 
 mod access;
-mod calls;
+pub mod calls;
 mod locked;
 mod shared;
 
 pub use access::SharedAccess;
 pub use locked::{LockedDatabase, WatchedSeen};
-pub use shared::{OdbClosed, OdbNote, OdbPass, OdbPasses, SharedOdb};
+pub use shared::{OdbClosed, OdbPass, OdbPasses, SharedOdb};

@@ -1,9 +1,8 @@
 // A watched database as the counting lock sees it.
-use crate::calls::CallMade;
 use odb_tree::Database;
 use odb_watch::{WatchEntry, Watches};
 use std::marker::Model;
-use turn_lock::{Call, Machine};
+use turn_lock::Machine;
 
 /// A watched database under the lock. Its data are the rows and the watches, and its entries the calls with their
 /// replies.
@@ -37,10 +36,6 @@ impl<D: Database> Machine for LockedDatabase<D> {
     ghost state = { λ locked. locked.database };
 
     ghost step = { StepsDatabase };
-}
 
-impl<'a, D: Database> Call<LockedDatabase<D>> for CallMade<'a> {
-    ghost use Rattle.odb_lock.specs.Entries.{noted_call};
-
-    ghost entry = { noted_call };
+    fn known(&self) {}
 }

@@ -1,3 +1,2 @@
 pub mod EngineSteps
-pub mod EngineEntries
 pub mod SharedEngines

@@ -6,4 +6,4 @@ mod locked;
 mod shared;
 
 pub use locked::{EngineSeen, LockedEngine};
-pub use shared::{EngineClosed, EngineNote, EnginePass, EnginePasses, SharedEngine};
+pub use shared::{EngineClosed, EnginePass, EnginePasses, SharedEngine};

@@ -1,8 +1,7 @@
 // An engine as the counting lock sees it.
-use crate::calls::CallMade;
 use std::marker::Model;
 use transitions::{Engine, EngineEntry};
-use turn_lock::{Call, Machine};
+use turn_lock::Machine;
 
 /// An engine under the lock. Its data are the engine's state, and its entries the calls with their replies.
 #[derive(Drop)]
@@ -33,10 +32,6 @@ impl Machine for LockedEngine {
     ghost state = { λ locked. locked.engine };
 
     ghost step = { StepsEngine };
-}
 
-impl<'a> Call<LockedEngine> for CallMade<'a> {
-    ghost use Rattle.transition_lock.specs.EngineEntries.{engine_entry_of};
-
-    ghost entry = { engine_entry_of };
+    fn known(&self) {}
 }

@@ -1,38 +1,32 @@
 // An engine that threads share.
-ghost use Rattle.std.specs.Prelude.{◌≡◌, ◌<◌, ◌≤◌, ℕ, [], Option, Some, None, length, All, IfOk, IfErr};
+ghost use Rattle.std.specs.Prelude.{◌≡◌, ◌<◌, ◌≤◌, ℕ, [], None, length, All, IfOk, IfErr};
 ghost use Rattle.daq_types.specs.Callers.{entries_by, main_caller};
-ghost use Rattle.transitions.specs.declared.entry.EngineEntry.TheVariants.{Register, Begin, Poll, Answer as AnswerCall, Check, Close};
+ghost use Rattle.transitions.specs.declared.entry.EngineEntry.TheVariants.{Register as register_of, Begin as begin_of, Poll as poll_of, Answer as answer_of, Check as check_of, Close as close_of};
 ghost use Rattle.transitions.specs.EngineCalls.{without_return};
 ghost use Rattle.transitions.specs.EngineHistories.{IsSheet, IsFairTurn, IsLegalEngine, engine_replay};
-ghost use mathlib.Core.List.{IsPrefix};
-ghost use Rattle.turn_lock.specs.Passes.{passes_of, number_of, seen_by, held_by, found_by, IsOf, IsNoteOf, IsUnchanged, noted, own_entries};
-ghost use Rattle.turn_lock.specs.Views.{longer};
+ghost use Rattle.turn_lock.specs.Passes.{passes_of, number_of, seen_by, held_by, IsOf};
 ghost use Rattle.turn_lock.specs.History.{IsPartOf, entries_below};
 ghost use Rattle.turn_lock.specs.Closing.{AreComplete, IsLeastMissing, opened_with, history_of};
 ghost use Rattle.turn_lock.specs.Roster.{items_of, numbers_of, numbers_below, ArePassesOf, AreIdle, AreFresh};
 ghost use Rattle.turn_lock.specs.Entered.{Enters};
 
-use crate::calls::CallMade;
+use crate::calls::{AnswerTurn, Begin, Check, Close, Poll, Register};
 use crate::locked::LockedEngine;
 use daq_types::{Name, NoMemory, Transition};
 use run_states::Sequences;
 use std::alloc::Global;
-use std::snapshot::Snapshot;
 use std::sync::Wait;
 use transitions::{
     Answer, BeginRefusal, Engine, InProgress, NotYourTurn, Polled, Progress, RegisterRefusal,
     Sheet, Tallies,
 };
-use turn_lock::{Closed, Held, MissingPass, Note, Pass, Passes, Turns};
+use turn_lock::{Call, Closed, MissingPass, Pass, Passes, Turns};
 
 /// One caller's place at a shared engine, with its number. Number 0 is the main thread's.
 pub type EnginePass = Pass<LockedEngine>;
 
 /// Passes of one shared engine.
 pub type EnginePasses = Passes<LockedEngine>;
-
-/// What a pass of a shared engine had seen when the note was made.
-pub type EngineNote = Note<LockedEngine>;
 
 /// A shared engine that has ended: the engine, and for contracts the whole history of its calls.
 pub type EngineClosed = Closed<LockedEngine>;
@@ -45,20 +39,8 @@ pub struct SharedEngine {
     turns: Turns<LockedEngine>,
 }
 
-/// A reply without what a refusal hands back.
-fn bare<T: Copy, E: Copy, Y>(reply: &Result<T, (E, Y)>) -> Result<T, E>
-    ensures { result ≡ without_return reply.now }
-{
-    match reply {
-        Ok(value) => Ok(*value),
-        Err((refusal, _)) => Err(*refusal),
-    }
-}
-
 impl SharedEngine {
     ghost use Rattle.transition_lock.specs.SharedEngines.{engine_lock_of, first_engine};
-    ghost use Rattle.transition_lock.specs.EngineSteps.{StepsEngine};
-    ghost use Rattle.transition_lock.specs.EngineEntries.{engine_entry_of};
 
     /// Shares the engine among this many passes, 1 to 256, which are numbered from 0 on. The lock's memory is taken here, and
     /// by no other call. Where there is none the engine is dropped.
@@ -79,17 +61,23 @@ impl SharedEngine {
         Ok((SharedEngine { turns }, passes))
     }
 
-    /// Puts the engine back after a call on it, and frees the turn.
-    fn enter(&self, pass: &mut EnginePass, held: Held<LockedEngine>, call: &CallMade<'_>)
+    /// Makes a call on the engine in one turn.
+    fn call<R: Wait, C: Call<LockedEngine>>(
+        &self,
+        rt: &R,
+        pass: &mut EnginePass,
+        call: C,
+        into: &mut C::Into,
+    ) -> C::Reply
         requires own { IsOf (engine_lock_of self.now) pass.old }
-        requires step { (before : _) × (held_by pass.old ≡ Some before)
-            × StepsEngine before (number_of pass.old)
-            (engine_entry_of call.now) held.value.value.engine }
-        ensures entered { Enters (engine_lock_of self.now) (engine_entry_of call.now)
+        requires idle { held_by pass.old ≡ None }
+        requires may { C.may call into.old (number_of pass.old) }
+        ensures entered { Enters (engine_lock_of self.now) (C.entry call into.old result into.new)
             pass.old pass.new }
         ensures legal { IsLegalEngine (first_engine self.now) (seen_by pass.new) }
+        ensures tells { (last : _) × C.tells call into.old result into.new last }
     {
-        self.turns.put(pass, held, call);
+        self.turns.call(rt, pass, call, into)
     }
 
     /// As `Engine::register`, by the main thread.
@@ -106,26 +94,16 @@ impl SharedEngine {
         requires own { IsOf (engine_lock_of self.now) pass.old }
         requires idle { held_by pass.old ≡ None }
         ensures entered { Enters (engine_lock_of self.now)
-            (Register name sequences wants_dump wants_report result) pass.old pass.new }
+            (register_of name sequences wants_dump wants_report result) pass.old pass.new }
         ensures legal { IsLegalEngine (first_engine self.now) (seen_by pass.new) }
     {
-        let mut held = self.turns.take(rt, pass);
-        let reply = held
-            .value
-            .engine
-            .register(name, sequences, wants_dump, wants_report);
-        self.enter(
-            pass,
-            held,
-            &CallMade::Register {
-                name,
-                sequences,
-                wants_dump,
-                wants_report,
-                reply,
-            },
-        );
-        reply
+        let call = Register {
+            name,
+            sequences,
+            wants_dump,
+            wants_report,
+        };
+        self.call(rt, pass, call, &mut ())
     }
 
     /// As `Engine::begin`, by the main thread.
@@ -141,44 +119,22 @@ impl SharedEngine {
         requires idle { held_by pass.old ≡ None }
         requires sheet { IsSheet sheet }
         ensures entered { Enters (engine_lock_of self.now)
-            (Begin transition sheet (without_return result)) pass.old pass.new }
+            (begin_of transition sheet (without_return result)) pass.old pass.new }
         ensures legal { IsLegalEngine (first_engine self.now) (seen_by pass.new) }
         ensures back { IfErr result (λ refused. refused.1 ≡ sheet) }
     {
-        let given = Snapshot::of(&sheet);
-        let mut held = self.turns.take(rt, pass);
-        let reply = held.value.engine.begin(transition, sheet);
-        self.enter(
-            pass,
-            held,
-            &CallMade::Begin {
-                transition,
-                sheet: given,
-                reply: bare(&reply),
-            },
-        );
-        reply
+        self.call(rt, pass, Begin { transition, sheet }, &mut ())
     }
 
     /// As `Engine::poll`.
     pub fn poll<R: Wait>(&self, rt: &R, pass: &mut EnginePass, client: u32) -> Polled
         requires own { IsOf (engine_lock_of self.now) pass.old }
         requires idle { held_by pass.old ≡ None }
-        ensures entered { Enters (engine_lock_of self.now) (Poll client result) pass.old pass.new }
+        ensures entered { Enters (engine_lock_of self.now) (poll_of client result) pass.old pass.new }
         ensures legal { IsLegalEngine (first_engine self.now) (seen_by pass.new) }
         ensures fair { IsFairTurn result }
     {
-        let mut held = self.turns.take(rt, pass);
-        let reply = held.value.engine.poll(client);
-        self.enter(
-            pass,
-            held,
-            &CallMade::Poll {
-                client,
-                reply: &reply,
-            },
-        );
-        reply
+        self.call(rt, pass, Poll { client }, &mut ())
     }
 
     /// As `Engine::answer`.
@@ -192,23 +148,11 @@ impl SharedEngine {
         requires own { IsOf (engine_lock_of self.now) pass.old }
         requires idle { held_by pass.old ≡ None }
         ensures entered { Enters (engine_lock_of self.now)
-            (AnswerCall client answer (without_return result)) pass.old pass.new }
+            (answer_of client answer (without_return result)) pass.old pass.new }
         ensures legal { IsLegalEngine (first_engine self.now) (seen_by pass.new) }
         ensures back { IfErr result (λ refused. refused.1 ≡ answer) }
     {
-        let given = Snapshot::of(&answer);
-        let mut held = self.turns.take(rt, pass);
-        let reply = held.value.engine.answer(client, answer);
-        self.enter(
-            pass,
-            held,
-            &CallMade::Answer {
-                client,
-                answer: given,
-                reply: bare(&reply),
-            },
-        );
-        reply
+        self.call(rt, pass, AnswerTurn { client, answer }, &mut ())
     }
 
     /// As `Engine::check`, by the main thread.
@@ -218,13 +162,10 @@ impl SharedEngine {
         requires idle { held_by pass.old ≡ None }
         requires empty { tallies.old ≡ [] }
         ensures entered { Enters (engine_lock_of self.now)
-            (Check result tallies.new) pass.old pass.new }
+            (check_of result tallies.new) pass.old pass.new }
         ensures legal { IsLegalEngine (first_engine self.now) (seen_by pass.new) }
     {
-        let mut held = self.turns.take(rt, pass);
-        let reply = held.value.engine.check(tallies);
-        self.enter(pass, held, &CallMade::Check { reply, tallies });
-        reply
+        self.call(rt, pass, Check, tallies)
     }
 
     /// As `Engine::close`, by the main thread.
@@ -232,40 +173,17 @@ impl SharedEngine {
         requires main { number_of pass.old ≡ main_caller }
         requires own { IsOf (engine_lock_of self.now) pass.old }
         requires idle { held_by pass.old ≡ None }
-        ensures entered { Enters (engine_lock_of self.now) (Close result) pass.old pass.new }
+        ensures entered { Enters (engine_lock_of self.now) (close_of result) pass.old pass.new }
         ensures legal { IsLegalEngine (first_engine self.now) (seen_by pass.new) }
     {
-        let mut held = self.turns.take(rt, pass);
-        let reply = held.value.engine.close();
-        self.enter(pass, held, &CallMade::Close { reply });
-        reply
+        self.call(rt, pass, Close, &mut ())
     }
 
-    /// Copies what the pass has seen, so that another pass can meet it.
-    pub fn note(&self, pass: &mut EnginePass) -> EngineNote
-        requires { IsOf (engine_lock_of self.now) pass.old }
-        ensures own { IsOf (engine_lock_of self.now) pass.new }
-        ensures unchanged { IsUnchanged pass.old pass.new }
-        ensures note { IsNoteOf (engine_lock_of self.now) result }
-        ensures noted { noted result ≡ seen_by pass.old }
+    /// The lock, by which a pass can meet what another has seen.
+    pub fn lock(&self) -> &Turns<LockedEngine>
+        ensures { result.now ≡ engine_lock_of self.now }
     {
-        self.turns.note(pass)
-    }
-
-    /// The pass has then seen what the note has seen too: the longer of the two lists, which begins with both.
-    pub fn meet(&self, pass: &mut EnginePass, note: EngineNote)
-        requires own { IsOf (engine_lock_of self.now) pass.old }
-        requires note { IsNoteOf (engine_lock_of self.now) note }
-        ensures own { IsOf (engine_lock_of self.now) pass.new }
-        ensures number { number_of pass.new ≡ number_of pass.old }
-        ensures found { found_by pass.new ≡ found_by pass.old }
-        ensures held { held_by pass.new ≡ held_by pass.old }
-        ensures seen { IsPrefix (seen_by pass.old) (seen_by pass.new) }
-        ensures noted { IsPrefix (noted note) (seen_by pass.new) }
-        ensures longer { seen_by pass.new ≡ longer (seen_by pass.old) (noted note) }
-        ensures mine { own_entries pass.new ≡ own_entries pass.old }
-    {
-        self.turns.meet(pass, note);
+        &self.turns
     }
 
     /// Ends the sharing, for which all passes are given back. Where one is missing, all comes back.

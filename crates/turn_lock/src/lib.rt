@@ -13,6 +13,7 @@
 //! slot, the value in), free (swap of the turn), split, join and look (loads). No call but `new` takes memory.
 #![tactic(auto)]
 
+mod calling;
 mod closing;
 pub mod laws;
 mod lock;
@@ -24,5 +25,5 @@ mod steps;
 
 pub use closing::{Closed, MissingPass};
 pub use lock::{Held, Note, Pass, Taken, Turns};
-pub use object::{Call, Machine};
+pub use object::{Call, Machine, MadeCall};
 pub use roster::Passes;

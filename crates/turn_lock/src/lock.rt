@@ -2,7 +2,7 @@
 ghost use Rattle.std.specs.Prelude.{◌≡◌, ◌+◌, ◌<◌, ◌≤◌, ◌⊎◌, ◌++◌, ◌∷◌, [], Some, None, IfOk, IfErr, OnOk, IfSome, IfNone};
 ghost use Rattle.turn_lock.specs.Views.{carried};
 
-use crate::object::{Call, Machine};
+use crate::object::{Machine, MadeCall};
 use crate::rule::{LockKey, LockRule, View};
 use crate::steps::{Counts, Frees, Joins, Looks, Says, SplitsNote, TakesFreeTurn};
 use atomic_table::{Seat, Table};
@@ -192,7 +192,7 @@ impl<M: Machine> Turns<M> {
     }
 
     /// The one step that appends an entry, as `call` names it. The turn is still held, and `value` is to be laid back.
-    fn count<W: Says<M::State, M::Entry>, C: Call<M>>(
+    fn count<W: Says<M::State, M::Entry>, C: MadeCall<M>>(
         &self,
         pass: &mut Pass<M>,
         value: &M,
@@ -221,7 +221,7 @@ impl<M: Machine> Turns<M> {
     }
 
     /// Counts the entry that `call` stands for, lays the value back and frees the turn.
-    fn lay_back<C: Call<M>>(&self, pass: &mut Pass<M>, held: Held<M>, call: &C)
+    fn lay_back<C: MadeCall<M>>(&self, pass: &mut Pass<M>, held: Held<M>, call: &C)
         requires own { IsOf self.now pass.old }
         requires step { (before : _) × (held_by pass.old ≡ Some before)
             × M.step before (number_of pass.old) (C.entry call.now) (M.state held.value.value) }
@@ -250,7 +250,7 @@ impl<M: Machine> Turns<M> {
     }
 
     /// Puts the value back and frees the turn. The entry that `call` stands for is appended to the history.
-    pub fn put<C: Call<M>>(&self, pass: &mut Pass<M>, held: Held<M>, call: &C)
+    pub fn put<C: MadeCall<M>>(&self, pass: &mut Pass<M>, held: Held<M>, call: &C)
         requires own { IsOf self.now pass.old }
         requires step { (before : _) × (held_by pass.old ≡ Some before)
             × M.step before (number_of pass.old) (C.entry call.now) (M.state held.value.value) }

@@ -3,4 +3,4 @@ use Rattle.buffer_lock.proofs.SharedPortLaws.{shared_calls}
 use Rattle.buffer_lock.proofs.port.SharedPortBufferPort.level.Goals as goal
 
 pub returns : goal.returns
-returns g c = shared_calls _ _ _ _ _ _ _ (λ w. refl) c.level.ensures.opens c.level.ensures.entered.number c.level.ensures.entered.appends c.level.ensures.legal
+returns g c = shared_calls _ _ _ _ _ _ _ (λ w. refl) c.call.ensures.opens c.call.ensures.entered.number c.call.ensures.entered.appends c.call.ensures.legal

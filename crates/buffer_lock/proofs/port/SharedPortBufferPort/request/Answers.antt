@@ -3,4 +3,4 @@ use Rattle.buffer_lock.proofs.SharedPortLaws.{shared_calls}
 use Rattle.buffer_lock.proofs.port.SharedPortBufferPort.request.Goals as goal
 
 pub returns : goal.returns
-returns g c = shared_calls _ _ _ _ _ _ _ (λ w. refl) c.request.ensures.opens c.request.ensures.entered.number c.request.ensures.entered.appends c.request.ensures.legal
+returns g c = shared_calls _ _ _ _ _ _ _ (λ w. refl) c.call.ensures.opens c.call.ensures.entered.number c.call.ensures.entered.appends c.call.ensures.legal

@@ -2,13 +2,13 @@ use Rattle.buffer_lock.proofs.SharedPortLaws.{shared_few, shared_receives, share
 use Rattle.local_port.proofs.owning.OwningPortBufferPort.receive.Goals as goal
 
 pub returns-clause-called : goal.returns-clause-called
-returns-clause-called g c = shared_receives _ _ _ _ _ _ _ _ _ _ c.receive.ensures.opens c.receive.ensures.entered.number c.receive.ensures.entered.appends c.receive.ensures.legal c.receive.ensures.event _
+returns-clause-called g c = shared_receives _ _ _ _ _ _ _ _ _ _ c.call.ensures.opens c.call.ensures.entered.number c.call.ensures.entered.appends c.call.ensures.legal c.call.ensures.tells.0 _
 
 pub returns-clause-sound : goal.returns-clause-sound
-returns-clause-sound g c = shared_sound _ _ _ _ _ _ _ _ _ _ c.receive.ensures.opens c.receive.ensures.entered.number c.receive.ensures.entered.appends c.receive.ensures.legal c.receive.ensures.event
+returns-clause-sound g c = shared_sound _ _ _ _ _ _ _ _ _ _ c.call.ensures.opens c.call.ensures.entered.number c.call.ensures.entered.appends c.call.ensures.legal c.call.ensures.tells.0
 
 pub returns-clause-whole : goal.returns-clause-whole
-returns-clause-whole g c = shared_whole _ _ _ _ _ _ _ _ _ _ c.receive.ensures.opens c.receive.ensures.entered.number c.receive.ensures.entered.appends c.receive.ensures.legal c.receive.ensures.event
+returns-clause-whole g c = shared_whole _ _ _ _ _ _ _ _ _ _ c.call.ensures.opens c.call.ensures.entered.number c.call.ensures.entered.appends c.call.ensures.legal c.call.ensures.tells.0
 
 pub returns-clause-few : goal.returns-clause-few
-returns-clause-few g c = shared_few _ _ _ _ _ _ _ _ _ _ c.receive.ensures.opens c.receive.ensures.entered.number c.receive.ensures.entered.appends c.receive.ensures.legal c.receive.ensures.event
+returns-clause-few g c = shared_few _ _ _ _ _ _ _ _ _ _ c.call.ensures.opens c.call.ensures.entered.number c.call.ensures.entered.appends c.call.ensures.legal c.call.ensures.tells.0

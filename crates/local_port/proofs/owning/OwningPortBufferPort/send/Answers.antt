@@ -3,7 +3,7 @@ use Rattle.buffer_lock.proofs.SharedPortLaws.{shared_calls, shared_refused}
 use Rattle.local_port.proofs.owning.OwningPortBufferPort.send.Goals as goal
 
 pub returns-clause-called : goal.returns-clause-called
-returns-clause-called g c = shared_calls _ _ _ _ _ _ _ (λ w. refl) c.send.ensures.opens c.send.ensures.entered.number c.send.ensures.entered.appends c.send.ensures.legal
+returns-clause-called g c = shared_calls _ _ _ _ _ _ _ (λ w. refl) c.call.ensures.opens c.call.ensures.entered.number c.call.ensures.entered.appends c.call.ensures.legal
 
 pub returns-clause-refused : goal.returns-clause-refused
-returns-clause-refused g c = shared_refused _ _ _ _ _ _ _ c.send.ensures.opens c.send.ensures.entered.appends c.send.ensures.legal
+returns-clause-refused g c = shared_refused _ _ _ _ _ _ _ c.call.ensures.opens c.call.ensures.entered.appends c.call.ensures.legal

@@ -1,5 +1,5 @@
-use Rattle.odb_journal.proofs.OwnedCalls.{shared_adds}
+use Rattle.odb_lock.proofs.SharedAccessLaws.{shared_adds}
 use Rattle.odb_journal.proofs.owning.OwningAccessDatabasePort.create.Goals as goal
 
 pub returns : goal.returns
-returns g c = shared_adds _ _ _ _ _ _ c.create.ensures.entered.number c.create.ensures.entered.appends c.create.ensures.legal
+returns g c = shared_adds _ _ _ _ _ _ c.call.ensures.entered.number c.call.ensures.entered.appends c.call.ensures.legal

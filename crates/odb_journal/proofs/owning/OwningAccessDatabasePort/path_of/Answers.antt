@@ -1,5 +1,5 @@
-use Rattle.odb_journal.proofs.OwnedCalls.{shared_adds}
+use Rattle.odb_lock.proofs.SharedAccessLaws.{shared_adds}
 use Rattle.odb_journal.proofs.owning.OwningAccessDatabasePort.path_of.Goals as goal
 
 pub returns : goal.returns
-returns g c = shared_adds _ _ _ _ _ _ c.path_of.ensures.entered.number c.path_of.ensures.entered.appends c.path_of.ensures.legal
+returns g c = shared_adds _ _ _ _ _ _ c.call.ensures.entered.number c.call.ensures.entered.appends c.call.ensures.legal

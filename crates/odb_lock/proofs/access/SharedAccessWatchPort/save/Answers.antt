@@ -2,4 +2,4 @@ use Rattle.odb_lock.proofs.SharedAccessLaws.{shared_adds}
 use Rattle.odb_lock.proofs.access.SharedAccessWatchPort.save.Goals as goal
 
 pub returns-clause-called : goal.returns-clause-called
-returns-clause-called g c = shared_adds _ _ _ _ _ _ c.save.ensures.entered.number c.save.ensures.entered.appends c.save.ensures.legal
+returns-clause-called g c = shared_adds _ _ _ _ _ _ c.call.ensures.entered.number c.call.ensures.entered.appends c.call.ensures.legal

@@ -2,4 +2,4 @@ use Rattle.odb_lock.proofs.SharedAccessLaws.{shared_adds}
 use Rattle.odb_lock.proofs.access.SharedAccessWatchPort.watch.Goals as goal
 
 pub returns : goal.returns
-returns g c = record { called = shared_adds _ _ _ _ _ _ c.watch.ensures.entered.number c.watch.ensures.entered.appends c.watch.ensures.legal }
+returns g c = record { called = shared_adds _ _ _ _ _ _ c.call.ensures.entered.number c.call.ensures.entered.appends c.call.ensures.legal }

@@ -1,0 +1,5 @@
+use Rattle.odb_lock.proofs.SharedLaws.{leads_legal}
+use Rattle.odb_lock.proofs.shared.SharedOdb.call.Goals as goal
+
+pub returns-clause-legal : goal.returns-clause-legal
+returns-clause-legal g c = leads_legal _ _ _ c.call.ensures.told.1

@@ -1,5 +1,0 @@
-use Rattle.odb_lock.proofs.SharedLaws.{leads_legal}
-use Rattle.odb_lock.proofs.shared.SharedOdb.enter.Goals as goal
-
-pub returns-clause-legal : goal.returns-clause-legal
-returns-clause-legal g c = leads_legal _ _ _ c.put.ensures.legal
