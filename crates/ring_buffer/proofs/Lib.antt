@@ -1,5 +1,6 @@
 pub mod Fields
 pub mod Opening
+pub mod CountLaws
 pub mod Walking
 pub mod Sending
 pub mod GivenEvents

@@ -13,12 +13,12 @@ use Rattle.ring_buffer.specs.RingViews.{window_of, IsRingBuffer}
 use Rattle.ring_buffer.specs.Walks.{IsWalk, in_the_way}
 use Rattle.ring_buffer.proofs.Walking.{at}
 
-pub whole_walk : (b : Inside) → IsRingBuffer b → IsWalk b.ring (at b.off b.first) (at b.total b.count)
+pub whole_walk : (b : Inside) → IsRingBuffer b → IsWalk b.ring.bytes (at b.off b.first) (at b.total b.count)
 whole_walk b is =
     let start : b.total - level_of (window_of b) ≡ b.off = omega (arith, is.level) in
     record {
       order = is.order;
-      holds = subst (λ (o : ℕ). HoldsEvents b.ring o (window_of b).kept) start is.holds.events;
+      holds = subst (λ (o : ℕ). HoldsEvents b.ring.bytes o (window_of b).kept) start is.holds.events;
       fit = is.fit;
       level = is.level;
     }
@@ -34,10 +34,10 @@ open_reply w stated e same small free fits within =
 
 -- what is in the way of an event that may be sent decides its reply
 pub reply_by_way : (b : Inside) (w : Window) (stated slot : ℕ) (e : Event) (owed : Option (ℕ × ℕ)) → window_of b ≡ w → stated ≡ length e.body → stated ≤ event_limit → is_reserved e.id ≡ false
-    → slot ≡ slot_size e → slot ≤ length b.ring → b.total + slot ≤ 2 ^ 62 → in_the_way b.ring (clients_of b.clients) (at b.off b.first) (at b.total b.count) slot ≡ owed → send_reply w stated e ≡ full_reply owed (accepted_of w)
+    → slot ≡ slot_size e → slot ≤ length b.ring.bytes → b.total + slot ≤ 2 ^ 62 → in_the_way b.ring.bytes (clients_of b.clients) (at b.off b.first) (at b.total b.count) slot ≡ owed → send_reply w stated e ≡ full_reply owed (accepted_of w)
 reply_by_way b w stated slot e owed view same small free slot_is fits within found =
-    let here : in_the_way b.ring (clients_of b.clients) (at b.off b.first) (at b.total b.count) (slot_size e) ≡ owed =
-    ap (λ (s : ℕ). in_the_way b.ring (clients_of b.clients) (at b.off b.first) (at b.total b.count) s) (sym slot_is) ∙ found in
+    let here : in_the_way b.ring.bytes (clients_of b.clients) (at b.off b.first) (at b.total b.count) (slot_size e) ≡ owed =
+    ap (λ (s : ℕ). in_the_way b.ring.bytes (clients_of b.clients) (at b.off b.first) (at b.total b.count) s) (sym slot_is) ∙ found in
     subst (λ (v : Window). send_reply v stated e ≡ full_reply owed (accepted_of v)) view
-    (open_reply (window_of b) stated e same small free (subst (λ (s : ℕ). s ≤ length b.ring) slot_is fits) (subst (λ (s : ℕ). b.total + s ≤ 2 ^ 62) slot_is within)
+    (open_reply (window_of b) stated e same small free (subst (λ (s : ℕ). s ≤ length b.ring.bytes) slot_is fits) (subst (λ (s : ℕ). b.total + s ≤ 2 ^ 62) slot_is within)
     ∙ ap (λ (o : Option (ℕ × ℕ)). full_reply o (accepted_of (window_of b))) here)

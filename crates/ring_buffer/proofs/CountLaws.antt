@@ -1,0 +1,62 @@
+-- What a ring counts of its reads.
+use Rattle.std.specs.Prelude.{◌≡◌, ℕ, ◌+◌, ◌*◌, ◌%◌, ◌^◌, ◌≤◌, refl}
+use Rattle.std.proofs.Common.{ap, sym, ◌∙◌, arith}
+use Rattle.ring_bytes.specs.Rings.{CountedBytes, Rises, IsRead}
+use Rattle.buffer_core.specs.declared.entry.BufferEntry.{BufferEntry}
+use Rattle.ring_buffer.specs.CountedWindows.{CountedWindow}
+use Rattle.ring_buffer.specs.Reads.{RisesAtMost, ReadsFronts}
+use Rattle.ring_buffer.specs.LifeReads.{reads_of_call, bytes_of_call, ReadsFew}
+
+rises_none : (old new by : ℕ) → new ≡ old → by ≡ 0 → Rises old new by
+rises_none old new by same none = ap (λ (n : ℕ). n % 2 ^ 64) (let is : new ≡ old + by = omega (arith, same, none) in is)
+
+rises_on : (old now new by more : ℕ) → Rises old now by → Rises now new more → Rises old new (by + more)
+rises_on old now new by more first then = omega (arith, first, then)
+
+rises_as : (old new by by' : ℕ) → by ≡ by' → Rises old new by → Rises old new by'
+rises_as old new by by' same rises = rises ∙ ap (λ (n : ℕ). (old + n) % 2 ^ 64) same
+
+-- one read, by what it counts
+pub read_once : (old new : CountedBytes) (bytes : ℕ) → new.bytes ≡ old.bytes → new.reads ≡ (old.reads + 1) % 2 ^ 64 → new.bytes_read ≡ (old.bytes_read + bytes) % 2 ^ 64 → IsRead old new 1 bytes
+read_once old new bytes same reads much =
+    record { same = same; often = omega (arith, reads); much = omega (arith, much) }
+
+-- no read
+pub none_read : (now : CountedBytes) (fronts : ℕ) → fronts ≡ 0 → ReadsFronts now now fronts
+none_read now fronts none =
+    record { same = refl; often = rises_none now.reads now.reads fronts refl none; much = rises_none now.bytes_read now.bytes_read (24 * fronts) refl (omega (arith, none)) }
+
+-- more reads
+pub read_on : (old now new : CountedBytes) (reads more bytes most : ℕ) → IsRead old now reads bytes → IsRead now new more most → IsRead old new (reads + more) (bytes + most)
+read_on old now new reads more bytes most first then =
+    record {
+      same = then.same ∙ first.same;
+      often = rises_on old.reads now.reads new.reads reads more first.often then.often;
+      much = rises_on old.bytes_read now.bytes_read new.bytes_read bytes most first.much then.much;
+    }
+
+pub one_more_read : (old now new : CountedBytes) (fronts fronts' : ℕ) → ReadsFronts old now fronts → IsRead now new 1 24 → fronts' ≡ fronts + 1 → ReadsFronts old new fronts'
+one_more_read old now new fronts fronts' first then is =
+    let both : IsRead old new (fronts + 1) (24 * fronts + 24) = read_on old now new fronts 1 (24 * fronts) 24 first then in
+    record {
+      same = both.same;
+      often = rises_as old.reads new.reads (fronts + 1) fronts' (sym is) both.often;
+      much = rises_as old.bytes_read new.bytes_read (24 * fronts + 24) (24 * fronts') (omega (arith, is)) both.much;
+    }
+
+-- a call that reads nothing
+pub reads_nothing : (old new : CountedWindow) (entry : BufferEntry) → new.reads ≡ old.reads → new.bytes_read ≡ old.bytes_read → ReadsFew old new entry
+reads_nothing old new entry reads bytes =
+    record {
+      often = record { by = 0; few = omega arith; rises = rises_none old.reads new.reads 0 reads refl };
+      much = record { by = 0; few = omega arith; rises = rises_none old.bytes_read new.bytes_read 0 bytes refl };
+    }
+
+-- a call whose reads are few
+pub reads_within : (old new : CountedWindow) (entry : BufferEntry) (reads bytes : ℕ) → Rises old.reads new.reads reads → Rises old.bytes_read new.bytes_read bytes → reads ≤ reads_of_call old.window entry → bytes ≤ bytes_of_call old.window entry
+    → ReadsFew old new entry
+reads_within old new entry reads bytes often much few small =
+    record {
+      often = record { by = reads; few = few; rises = often };
+      much = record { by = bytes; few = small; rises = much };
+    }
