@@ -52,11 +52,19 @@ reads_nothing old new entry reads bytes =
       much = record { by = 0; few = omega arith; rises = rises_none old.bytes_read new.bytes_read 0 bytes refl };
     }
 
--- a call whose reads are few
-pub reads_within : (old new : CountedWindow) (entry : BufferEntry) (reads bytes : ℕ) → Rises old.reads new.reads reads → Rises old.bytes_read new.bytes_read bytes → reads ≤ reads_of_call old.window entry → bytes ≤ bytes_of_call old.window entry
-    → ReadsFew old new entry
-reads_within old new entry reads bytes often much few small =
+-- the reads of a call are those of its ring
+pub reads_few : (old new : CountedWindow) (before after : CountedBytes) (entry : BufferEntry) (reads bytes : ℕ) → IsRead before after reads bytes → before.reads ≡ old.reads → before.bytes_read ≡ old.bytes_read → after.reads ≡ new.reads → after.bytes_read ≡ new.bytes_read
+    → reads ≤ reads_of_call old.window entry → bytes ≤ bytes_of_call old.window entry → ReadsFew old new entry
+reads_few old new before after entry reads bytes read from from_bytes to to_bytes few small =
     record {
-      often = record { by = reads; few = few; rises = often };
-      much = record { by = bytes; few = small; rises = much };
+      often = record { by = reads; few = few; rises = sym (ap (λ (n : ℕ). n % 2 ^ 64) to) ∙ (read.often ∙ ap (λ (n : ℕ). (n + reads) % 2 ^ 64) from) };
+      much = record { by = bytes; few = small; rises = sym (ap (λ (n : ℕ). n % 2 ^ 64) to_bytes) ∙ (read.much ∙ ap (λ (n : ℕ). (n + bytes) % 2 ^ 64) from_bytes) };
+    }
+
+-- nothing more is read
+pub reads_no_more : (old now new : CountedWindow) (entry : BufferEntry) → ReadsFew old now entry → new.reads ≡ now.reads → new.bytes_read ≡ now.bytes_read → ReadsFew old new entry
+reads_no_more old now new entry few reads bytes =
+    record {
+      often = record { by = few.often.by; few = few.often.few; rises = ap (λ (n : ℕ). n % 2 ^ 64) reads ∙ few.often.rises };
+      much = record { by = few.much.by; few = few.much.few; rises = ap (λ (n : ℕ). n % 2 ^ 64) bytes ∙ few.much.rises };
     }

@@ -4,6 +4,7 @@ pub mod CountLaws
 pub mod Walking
 pub mod Sending
 pub mod GivenEvents
+pub mod ReceiveReads
 pub mod Clients
 pub mod Lives
 pub mod ReadRows

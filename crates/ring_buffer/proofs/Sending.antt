@@ -22,9 +22,10 @@ use Rattle.client_pointers.specs.declared.pointer.Pointer.{Pointer}
 use Rattle.client_pointers.specs.Pointers.{clients_of, raised, moved}
 use Rattle.client_pointers.proofs.PointerLaws.{clients_change_all, client_at}
 use Rattle.ring_buffer.specs.declared.ring_buffer.RingBuffer.TheInside.{Inside}
+use Rattle.ring_buffer.specs.CountedWindows.{CountedWindow}
 use Rattle.ring_buffer.specs.RingHolds.{front_of, HoldsEvent, HoldsEvents}
 use Rattle.ring_buffer.specs.Stored.{ring_event_at, ring_events_at, event_in, length_in, FitsSlot, AllFit, IsHeader}
-use Rattle.ring_buffer.specs.RingViews.{window_of, IsRingBuffer}
+use Rattle.ring_buffer.specs.RingViews.{window_of, counted_of, IsRingBuffer}
 use Rattle.ring_buffer.proofs.Fields.{event_back, length_back}
 
 -- What stands in a ring is read back.
@@ -161,6 +162,10 @@ placed_after first place gone off' total kept s p at from to place_is within way
     let cut : sum_by slot_of_sent (drop k (drop gone kept ++ s ∷ [])) ≡ sum_by slot_of_sent (drop k (drop gone kept) ++ s ∷ []) = ap (λ (ss : List Sent). sum_by slot_of_sent ss) (drop-append-le k (drop gone kept) (s ∷ []) short) in
     let old : sum_by slot_of_sent (drop k (drop gone kept)) ≡ sum_by slot_of_sent (drop (p.client.next - first) kept) = ap (λ (ss : List Sent). sum_by slot_of_sent ss) (drop-drop k gone kept ∙ ap (λ (n : ℕ). drop n kept) index) in
     omega (arith, cut, sum_by_push slot_of_sent (drop k (drop gone kept)) s, old, at))
+
+-- the window that is seen
+pub window_seen : (b : Inside) (v : CountedWindow) → counted_of b ≡ v → window_of b ≡ v.window
+window_seen b v view = ap (λ (x : CountedWindow). x.window) view
 
 pub accepted_is : (b : Inside) → IsRingBuffer b → accepted_of (window_of b) ≡ b.count
 accepted_is b is = omega (arith, length-events_at b.ring.bytes b.off (b.count - b.first), is.order)

@@ -116,7 +116,8 @@ impl EventBuffer for RingBuffer {
                 need: header.data_size,
             };
         }
-        self.ring.get_data(found.at.off + FRONT as u64, &header, into);
+        self.ring
+            .get_data(found.at.off + FRONT as u64, &header, into);
         let behind = found.at.off + u64::from(slot_len(header.data_size));
         let _ = self.clients.advance(client, behind, found.at.place + 1);
         Received::Got {

@@ -111,10 +111,11 @@ impl RingBuffer {
             off: self.total,
             place: self.count,
         };
-        match find_way(&mut self.ring, &self.clients, from, end, u64::from(slot)) {
-            Ok(way) => Ok(way),
-            Err(Owed { client, place }) => Err(SendRefusal::Full { client, place }),
-        }
+        let way = match find_way(&mut self.ring, &self.clients, from, end, u64::from(slot)) {
+            Ok(way) => way,
+            Err(Owed { client, place }) => return Err(SendRefusal::Full { client, place }),
+        };
+        Ok(way)
     }
 
     /// Drops the events in front of this position and takes this one, of the run with this start number.

@@ -30,6 +30,7 @@ pub fn find_way(
     ensures way { IfOk result (λ at. IsWay ring.old.bytes (clients_of clients.now) from at end slot) }
     ensures owed { IfErr result (λ owed. in_the_way ring.old.bytes (clients_of clients.now) from end
         slot ≡ Some (owed.client, owed.place)) }
+    ensures same { ring.new.bytes ≡ ring.old.bytes }
     ensures read { IfOk result (λ at. ReadsFronts ring.old ring.new (at.place - from.place)) }
     ensures owed_read { IfErr result (λ owed. ReadsFronts ring.old ring.new
         (owed.place - from.place + 1)) }
@@ -78,6 +79,7 @@ pub fn find_wanted(
         from end found) }
     ensures nothing { IfNone result (FindsNothing ring.old.bytes (clients_of clients.now) client from
         end) }
+    ensures same { ring.new.bytes ≡ ring.old.bytes }
     ensures read { IfSome result (λ found. ReadsFronts ring.old ring.new
         (found.at.place - from.place + 1)) }
     ensures all_read { IfNone result (ReadsFronts ring.old ring.new (end.place - from.place)) }
