@@ -4,7 +4,7 @@ use Rattle.std.proofs.Common.{ap, sym, ◌∙◌, arith}
 use Rattle.ring_bytes.specs.Rings.{CountedBytes, Rises, IsRead}
 use Rattle.buffer_core.specs.declared.entry.BufferEntry.{BufferEntry}
 use Rattle.ring_buffer.specs.CountedWindows.{CountedWindow}
-use Rattle.ring_buffer.specs.Reads.{RisesAtMost, ReadsFronts}
+use Rattle.ring_buffer.specs.Reads.{ReadsFronts}
 use Rattle.ring_buffer.specs.LifeReads.{reads_of_call, bytes_of_call, ReadsFew}
 
 rises_none : (old new by : ℕ) → new ≡ old → by ≡ 0 → Rises old new by

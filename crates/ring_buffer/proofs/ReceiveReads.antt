@@ -1,5 +1,5 @@
 -- How often a receive reads the ring, and how many bytes.
-use Rattle.std.specs.Prelude.{◌≡◌, ℕ, ◌+◌, ◌*◌, ◌-◌, ◌<◌, ◌≤◌, Option, Some, length, refl}
+use Rattle.std.specs.Prelude.{◌≡◌, ℕ, ◌+◌, ◌*◌, ◌-◌, ◌<◌, ◌≤◌, Option, Some, refl}
 use Rattle.std.proofs.Common.{ap, sym, ◌∙◌, subst, arith}
 use Rattle.ring_bytes.specs.Rings.{CountedBytes, IsRead}
 use Rattle.buffer_core.specs.declared.client.Client.{Client}
@@ -8,7 +8,7 @@ use Rattle.buffer_core.specs.declared.replies.Received.{Received}
 use Rattle.buffer_core.specs.declared.replies.Received.TheVariants.{Got, Empty, SmallBuf}
 use Rattle.buffer_core.specs.declared.entry.BufferEntry.TheVariants.{Receive}
 use Rattle.buffer_core.specs.Slots.{slot_at}
-use Rattle.buffer_core.specs.Window.{Sent, accepted_of, kept_at}
+use Rattle.buffer_core.specs.Window.{kept_at}
 use Rattle.buffer_core.proofs.WindowLaws.{found_kept}
 use Rattle.client_pointers.specs.Pointers.{clients_of}
 use Rattle.ring_buffer.specs.declared.ring_buffer.RingBuffer.TheInside.{Inside}

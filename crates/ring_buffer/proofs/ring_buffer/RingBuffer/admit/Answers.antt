@@ -1,4 +1,4 @@
-use Rattle.std.proofs.Common.{◌≡◌, ◌<◌, ◌≤◌, ◌^◌, length, ap, ◌∙◌, arith, rules}
+use Rattle.std.proofs.Common.{◌<◌, ◌≤◌, ◌^◌, length, ap, ◌∙◌, arith, rules}
 use Rattle.daq_model.specs.Events.{slot_size, slot_of_length}
 use Rattle.event_header.specs.Headers.{event_of}
 use Rattle.buffer_core.specs.Calls.{after_send}

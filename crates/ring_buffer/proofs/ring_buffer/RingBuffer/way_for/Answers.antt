@@ -1,9 +1,5 @@
-use Rattle.std.proofs.Common.{◌≡◌, ◌∙◌, arith, None}
-use Rattle.daq_model.specs.Events.{slot_size}
-use Rattle.event_header.specs.Headers.{event_of}
 use Rattle.ring_buffer.proofs.GivenEvents.{ring_read}
-use Rattle.ring_buffer.proofs.Sending.{window_seen}
-use Rattle.ring_buffer.proofs.WholeWalk.{whole_walk, reply_by_way}
+use Rattle.ring_buffer.proofs.WholeWalk.{whole_walk}
 use Rattle.ring_buffer.proofs.ring_buffer.RingBuffer.way_for.Goals as goal
 
 pub find_way-requires-clause-walk : goal.find_way-requires-clause-walk
