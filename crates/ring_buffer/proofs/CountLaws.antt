@@ -1,14 +1,11 @@
 -- What a ring counts of its reads.
-use Rattle.std.specs.Prelude.{◌≡◌, ℕ, ◌+◌, ◌*◌, ◌%◌, ◌^◌, ◌≤◌, refl}
+use Rattle.std.specs.Prelude.{◌≡◌, ℕ, ◌+◌, ◌*◌, ◌%◌, ◌^◌, ◌≤◌}
 use Rattle.std.proofs.Common.{ap, sym, ◌∙◌, arith}
 use Rattle.ring_bytes.specs.Rings.{CountedBytes, Rises, IsRead}
 use Rattle.buffer_core.specs.declared.entry.BufferEntry.{BufferEntry}
 use Rattle.ring_buffer.specs.CountedWindows.{CountedWindow}
 use Rattle.ring_buffer.specs.Reads.{ReadsFronts}
 use Rattle.ring_buffer.specs.LifeReads.{reads_of_call, bytes_of_call, ReadsFew}
-
-rises_none : (old new by : ℕ) → new ≡ old → by ≡ 0 → Rises old new by
-rises_none old new by same none = ap (λ (n : ℕ). n % 2 ^ 64) (let is : new ≡ old + by = omega (arith, same, none) in is)
 
 rises_on : (old now new by more : ℕ) → Rises old now by → Rises now new more → Rises old new (by + more)
 rises_on old now new by more first then = omega (arith, first, then)
@@ -20,11 +17,6 @@ rises_as old new by by' same rises = rises ∙ ap (λ (n : ℕ). (old + n) % 2 ^
 pub read_once : (old new : CountedBytes) (bytes : ℕ) → new.bytes ≡ old.bytes → new.reads ≡ (old.reads + 1) % 2 ^ 64 → new.bytes_read ≡ (old.bytes_read + bytes) % 2 ^ 64 → IsRead old new 1 bytes
 read_once old new bytes same reads much =
     record { same = same; often = omega (arith, reads); much = omega (arith, much) }
-
--- no read
-pub none_read : (now : CountedBytes) (fronts : ℕ) → fronts ≡ 0 → ReadsFronts now now fronts
-none_read now fronts none =
-    record { same = refl; often = rises_none now.reads now.reads fronts refl none; much = rises_none now.bytes_read now.bytes_read (24 * fronts) refl (omega (arith, none)) }
 
 -- more reads
 pub read_on : (old now new : CountedBytes) (reads more bytes most : ℕ) → IsRead old now reads bytes → IsRead now new more most → IsRead old new (reads + more) (bytes + most)
@@ -42,14 +34,6 @@ one_more_read old now new fronts fronts' first then is =
       same = both.same;
       often = rises_as old.reads new.reads (fronts + 1) fronts' (sym is) both.often;
       much = rises_as old.bytes_read new.bytes_read (24 * fronts + 24) (24 * fronts') (omega (arith, is)) both.much;
-    }
-
--- a call that reads nothing
-pub reads_nothing : (old new : CountedWindow) (entry : BufferEntry) → new.reads ≡ old.reads → new.bytes_read ≡ old.bytes_read → ReadsFew old new entry
-reads_nothing old new entry reads bytes =
-    record {
-      often = record { by = 0; few = omega arith; rises = rises_none old.reads new.reads 0 reads refl };
-      much = record { by = 0; few = omega arith; rises = rises_none old.bytes_read new.bytes_read 0 bytes refl };
     }
 
 -- the reads of a call are those of its ring

@@ -18,8 +18,8 @@ use Rattle.ring_buffer.specs.declared.walk.Position.{Position}
 use Rattle.ring_buffer.specs.RingHolds.{HoldsEvent, HoldsEvents}
 use Rattle.ring_buffer.specs.Stored.{ring_event_at, ring_events_at, FitsSlot, AllFit}
 use Rattle.ring_buffer.specs.Reads.{ReadsFronts}
-use Rattle.ring_buffer.specs.Walks.{between, IsWalk, IsOnWay, to_go, in_the_way, IsWay}
-use Rattle.ring_buffer.proofs.CountLaws.{none_read, one_more_read}
+use Rattle.ring_buffer.specs.Walks.{between, IsOnWay, to_go, in_the_way, IsWay}
+use Rattle.ring_buffer.proofs.CountLaws.{one_more_read}
 
 abbrev pub at : (off place : ℕ) → Position
 at off place = record { off = off; place = place }
@@ -72,24 +72,11 @@ pub end_is : (ring : List ℕ) (off place : ℕ) (end : Position) → end.place 
 unfolding ring_events_at
 end_is ring off place end late = ap (λ (k : ℕ). ring_events_at ring off k) (let none : end.place - place ≡ 0 = omega (arith, late) in none)
 
-pub begins : (ring : List ℕ) (from end : Position) → IsWalk ring from end → IsOnWay ring from (at from.off from.place) end
-begins ring from end walk =
-    let none : from.place - from.place ≡ 0 = omega arith in
-    record {
-      later = omega arith;
-      walk = walk;
-      rest = sym (ap (λ (k : ℕ). drop k (between ring from end)) none);
-    }
-
 -- what stands in a ring stands in it after a read too
 pub holds_read : (old new : List ℕ) (off : ℕ) (s : Sent) → new ≡ old → HoldsEvent old off s → HoldsEvent new off s
 holds_read old new off s same holds = subst (λ (ring : List ℕ). HoldsEvent ring off s) (sym same) holds
 
 -- The data do not matter to what clients want.
-
-pub owes_bare : (place : ℕ) (e : Event) (c : Client) → owes place (event_of (fields_of e) []) c ≡ owes place e c
-unfolding matches
-owes_bare place e c = refl
 
 pub wants_bare : (place : ℕ) (e : Event) (c : Client) → wants place (event_of (fields_of e) []) c ≡ wants place e c
 unfolding matches
@@ -107,10 +94,6 @@ pub record IsWalked (ring : List ℕ) (clients : List (Option Client)) (from : P
   pub gone : to_go ring from end slot ≡ (place - from.place) + to_go ring (at off place) end slot
   pub owed : in_the_way ring clients from end slot ≡ in_the_way ring clients (at off place) end slot
   pub read : ReadsFronts before now (place - from.place)
-
-pub walk_begins : (ring : List ℕ) (clients : List (Option Client)) (from end : Position) (slot : ℕ) (now : CountedBytes) → IsWalk ring from end → IsWalked ring clients from from.off from.place end slot now now
-walk_begins ring clients from end slot now walk =
-    record { on_way = begins ring from end walk; gone = omega arith; owed = refl; read = none_read now (from.place - from.place) (omega arith) }
 
 -- the least client that the event in front is owed to
 pub owed_now : (place : ℕ) (h : Header) (s : Sent) (clients : List (Option Client)) (r : Option ℕ) → h ≡ fields_of s.event → r ≡ first_slot (owes place (event_of h [])) clients → first_slot (owes place s.event) clients ≡ r
@@ -185,9 +168,6 @@ pub record IsSought (ring : List ℕ) (clients : List (Option Client)) (client :
   pub on_way : IsOnWay ring from (at off place) end
   pub found : (c : Client) → slot_at clients client ≡ Some c → found_in c from.place (between ring from end) ≡ found_in c place (between ring (at off place) end)
   pub read : ReadsFronts before now (place - from.place)
-
-pub sought_begins : (ring : List ℕ) (clients : List (Option Client)) (client : ℕ) (from end : Position) (now : CountedBytes) → IsWalk ring from end → IsSought ring clients client from from.off from.place end now now
-sought_begins ring clients client from end now walk = record { on_way = begins ring from end walk; found = λ c e. refl; read = none_read now (from.place - from.place) (omega arith) }
 
 -- whether the client wants the event in front
 pub wanted_now : (place : ℕ) (h : Header) (s : Sent) (c : Client) (r : Bool) → h ≡ fields_of s.event → r ≡ wants place (event_of h []) c → wants place s.event c ≡ r
