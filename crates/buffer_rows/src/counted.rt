@@ -1,6 +1,7 @@
 //! How often calls on a buffer read its ring, and how many bytes, as the ring itself counts them.
 use crate::tests::{
-    CANCELLED, GATED, MUST_GET, NOT_OWED, OVER_THE_END, PASSED_OVER, PUSHED, REFUSED, Step, is_right, run_all,
+    CANCELLED, GATED, MUST_GET, NOT_OWED, OVER_THE_END, PASSED_OVER, PUSHED, REFUSED, Step,
+    is_right, run_all,
 };
 use ring_buffer::RingBuffer;
 use ring_bytes::Ring;
