@@ -1,120 +1,148 @@
-//! Calls on a ring whose reads are counted.
-ghost use Rattle.std.specs.Prelude.{◌≡◌, ◌<◌};
-
-use buffer_core::{EventBuffer, MarkRefusal, NoSlot, Received, RequestRefusal, SendRefusal};
-use daq_types::{Kind, Name, NoMemory, Steps};
-use event_header::{EventBuf, Header};
+//! How often calls on a buffer read its ring, and how many bytes, as the ring itself counts them.
+use crate::tests::{
+    CANCELLED, GATED, MUST_GET, NOT_OWED, OVER_THE_END, PASSED_OVER, PUSHED, REFUSED, Step,
+    is_right, run_all,
+};
 use ring_buffer::RingBuffer;
 use ring_bytes::Ring;
-use std::alloc::Global;
-use std::marker::Brand;
-use std::sync::ledger::{Blank, Ledger};
+use std::process::Abort;
 use std::test::Fail;
 
-/// Of an event with 72 bytes of data, whose slot has 96.
-fn header(id: u16) -> Header {
-    Header {
-        event_id: id,
-        trigger_mask: 0,
-        serial_number: 1,
-        time_stamp: 0,
-        data_size: 72,
-    }
+/// Calls on a new buffer of 256 bytes, with what one of them reads.
+#[derive(Clone, Copy)]
+struct Row {
+    calls: &'static [Step],
+    /// The place of the one whose reads are counted.
+    place: usize,
+    reads: u64,
+    bytes: u64,
 }
 
-/// What the calls before the first event answer.
-#[derive(Drop)]
-struct Begun {
-    attached: Result<u32, NoSlot>,
-    requested: Result<u32, RequestRefusal>,
-    begun: Result<u64, MarkRefusal>,
+const ROWS: &[Row] = &[
+    // An event that is dropped is read once: what is in front of its data.
+    Row {
+        calls: NOT_OWED,
+        place: 10,
+        reads: 1,
+        bytes: 24,
+    },
+    // So is the one that stands in the way.
+    Row {
+        calls: NOT_OWED,
+        place: 11,
+        reads: 1,
+        bytes: 24,
+    },
+    // One that is received is read twice, the second time its data.
+    Row {
+        calls: PUSHED,
+        place: 11,
+        reads: 2,
+        bytes: 32,
+    },
+    // Eight that are passed over are read once each.
+    Row {
+        calls: PASSED_OVER,
+        place: 10,
+        reads: 8,
+        bytes: 192,
+    },
+    // One whose data have no room is read once.
+    Row {
+        calls: OVER_THE_END,
+        place: 7,
+        reads: 1,
+        bytes: 24,
+    },
+    // One over the end of the ring is read twice like any other.
+    Row {
+        calls: OVER_THE_END,
+        place: 8,
+        reads: 2,
+        bytes: 96,
+    },
+    // A client that has got all reads nothing.
+    Row {
+        calls: OVER_THE_END,
+        place: 9,
+        reads: 0,
+        bytes: 0,
+    },
+    // Nor does a send that fits, one that is too long, or one that no run lets in.
+    Row {
+        calls: MUST_GET,
+        place: 9,
+        reads: 0,
+        bytes: 0,
+    },
+    Row {
+        calls: REFUSED,
+        place: 0,
+        reads: 0,
+        bytes: 0,
+    },
+    Row {
+        calls: GATED,
+        place: 2,
+        reads: 0,
+        bytes: 0,
+    },
+    // Nor a client that comes, asks, takes that back or goes, nor a mark of a run.
+    Row {
+        calls: MUST_GET,
+        place: 0,
+        reads: 0,
+        bytes: 0,
+    },
+    Row {
+        calls: MUST_GET,
+        place: 1,
+        reads: 0,
+        bytes: 0,
+    },
+    Row {
+        calls: CANCELLED,
+        place: 6,
+        reads: 0,
+        bytes: 0,
+    },
+    Row {
+        calls: OVER_THE_END,
+        place: 10,
+        reads: 0,
+        bytes: 0,
+    },
+    Row {
+        calls: GATED,
+        place: 0,
+        reads: 0,
+        bytes: 0,
+    },
+];
+
+/// How often the ring was read, and how many bytes.
+fn counts_of(buffer: &RingBuffer) -> (u64, u64) {
+    (buffer.reads(), buffer.bytes_read())
 }
 
-/// Attaches a client that asks for all events, and begins a run.
-fn begin(buffer: &mut RingBuffer, name: Name) -> Begun {
-    Begun {
-        attached: buffer.attach(name),
-        requested: buffer.request(0, 0xFFFF, 0xFFFF, Kind::All),
-        begun: buffer.begin(7),
-    }
-}
-
-/// Sends three events into a ring of 256 bytes, and gets the first of them before the third is sent. The third
-/// lies at the offsets 192 to 287, over the ring's end.
-fn send_over_the_end<L: Ledger>(
-    buffer: &mut RingBuffer,
-    into: &mut EventBuf,
-    steps: &mut Steps<L>,
-) -> ([Result<u64, SendRefusal>; 3], Received) {
-    let first = buffer.send_counted(&header(1), &[1; 72], steps);
-    let second = buffer.send_in_run_counted(7, &header(2), &[2; 72], steps);
-    let received = buffer.receive_counted(0, into, steps);
-    let third = buffer.send_in_run_counted(7, &header(3), &[3; 72], steps);
-    ([first, second, third], received)
-}
-
-/// Whether the next event is that of this place and of the run, with this byte all over its data.
-fn is_next<L: Ledger>(
-    buffer: &mut RingBuffer,
-    into: &mut EventBuf,
-    steps: &mut Steps<L>,
-    place: u64,
-    byte: u8,
-) -> bool {
-    let received = buffer.receive_counted(0, into, steps);
-    received == Received::Got { place, start: 7 } && into.body() == [byte; 72].as_slice()
-}
-
-/// What came of the calls.
-#[derive(Drop)]
-struct Outcome {
-    begun: Begun,
-    sent: [Result<u64, SendRefusal>; 3],
-    received: Received,
-    /// Whether the two events that are left then are got.
-    second: bool,
-    third: bool,
-}
-
-fn make_calls<L: Ledger>(
-    buffer: &mut RingBuffer,
-    into: &mut EventBuf,
-    steps: &mut Steps<L>,
-    name: Name,
-) -> Outcome {
-    let begun = begin(buffer, name);
-    let (sent, received) = send_over_the_end(buffer, into, steps);
-    Outcome {
-        begun,
-        sent,
-        received,
-        second: is_next(buffer, into, steps, 1, 2),
-        third: is_next(buffer, into, steps, 2, 3),
-    }
-}
-
-/// The calls on a new ring. It ends here, so that the test does not hold it while it looks at what came of them.
-fn go_over_the_end<L: Ledger>(alloc: Global, name: Name, blank: Blank) -> Result<Outcome, NoMemory>
-    requires name { blank.name ≡ L.name }
-    requires parts { blank.parts ≡ L.parts }
-    requires some { 0 < blank.parts }
-{
-    let mut into = EventBuf::new(alloc, 72)?;
-    let mut buffer = RingBuffer::over(Ring::new(alloc, 256)?);
-    let mut steps = Steps::<L>::new(blank);
-    Ok(make_calls(&mut buffer, &mut into, &mut steps, name))
+/// How often the row's call reads the ring, and how many bytes. The buffer ends here.
+fn counted<R: Abort + AllocGlobal>(rt: &R, row: Row) -> Result<(u64, u64), Fail> {
+    let mut buffer = RingBuffer::over(Ring::new(rt.alloc(), 256)?);
+    assert!(rt; row.place < row.calls.len());
+    run_all(rt, &mut buffer, &row.calls[..row.place])?;
+    let before = counts_of(&buffer);
+    assert!(rt; is_right(rt, &mut buffer, row.calls[row.place])?);
+    let after = counts_of(&buffer);
+    Ok((
+        after.0.wrapping_sub(before.0),
+        after.1.wrapping_sub(before.1),
+    ))
 }
 
 #[test]
-fn an_event_lies_over_the_end_of_the_ring(rt: HostRuntime) -> Result<(), Fail> {
-    let name = Name::new(b"ANA").expect(&rt, "a name");
-    let outcome = go_over_the_end::<Brand>(rt.alloc(), name, Blank::new(1))?;
-    assert!(rt; outcome.begun.attached == Ok(0));
-    assert!(rt; outcome.begun.requested == Ok(0));
-    assert!(rt; outcome.begun.begun == Ok(0));
-    assert!(rt; outcome.sent == [Ok(0), Ok(1), Ok(2)]);
-    assert!(rt; outcome.received == Received::Got { place: 0, start: 0 });
-    assert!(rt; outcome.second);
-    assert!(rt; outcome.third);
+fn a_ring_is_read_as_often_as_the_rows_say(rt: HostRuntime) -> Result<(), Fail> {
+    for row in ROWS {
+        assert_eq!(rt; counted(&rt, *row)?, (row.reads, row.bytes));
+    }
     Ok(())
 }

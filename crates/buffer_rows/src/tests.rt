@@ -12,7 +12,7 @@ use std::test::Fail;
 
 /// A call with the reply that it must get.
 #[derive(Clone, Copy)]
-enum Step {
+pub(crate) enum Step {
     Attach(Result<u32, NoSlot>),
     Detach(u32, Result<(), NoClient>),
     /// The client, the id, the mask and the kind.
@@ -117,7 +117,7 @@ fn is_given<R: Abort + AllocGlobal, B: EventBuffer>(
 }
 
 /// Makes the call, and answers whether its reply is the right one.
-fn is_right<R: Abort + AllocGlobal, B: EventBuffer>(
+pub(crate) fn is_right<R: Abort + AllocGlobal, B: EventBuffer>(
     rt: &R,
     buffer: &mut B,
     step: Step,
@@ -152,7 +152,7 @@ fn name(rt: &impl Abort) -> Name {
 }
 
 /// Makes the calls, and compares their replies.
-fn run_all<R: Abort + AllocGlobal, B: EventBuffer>(
+pub(crate) fn run_all<R: Abort + AllocGlobal, B: EventBuffer>(
     rt: &R,
     buffer: &mut B,
     steps: &[Step],
@@ -169,7 +169,7 @@ const NOTHING: Received = Received::Empty {
     last: 0,
 };
 
-const MUST_GET: &[Step] = &[
+pub(crate) const MUST_GET: &[Step] = &[
     Attach(Ok(0)),
     Request(0, 1, ANY, All, Ok(0)),
     Send(1, 0, 8, Ok(0)),
@@ -195,7 +195,7 @@ const MUST_GET: &[Step] = &[
     Accepted(9),
 ];
 
-const PUSHED: &[Step] = &[
+pub(crate) const PUSHED: &[Step] = &[
     Attach(Ok(0)),
     Request(0, 1, ANY, NonBlocking, Ok(0)),
     Send(1, 0, 8, Ok(0)),
@@ -210,7 +210,7 @@ const PUSHED: &[Step] = &[
     Receive(0, Received::Got { place: 1, start: 0 }),
 ];
 
-const NOT_OWED: &[Step] = &[
+pub(crate) const NOT_OWED: &[Step] = &[
     Attach(Ok(0)),
     Request(0, 2, ANY, All, Ok(0)),
     Send(1, 0, 8, Ok(0)),
@@ -233,7 +233,7 @@ const NOT_OWED: &[Step] = &[
     ),
 ];
 
-const REFUSED: &[Step] = &[
+pub(crate) const REFUSED: &[Step] = &[
     Send(
         1,
         0,
@@ -256,7 +256,7 @@ const REFUSED: &[Step] = &[
 ];
 
 /// The third event lies over the end of the ring, at the offsets 192 to 287.
-const OVER_THE_END: &[Step] = &[
+pub(crate) const OVER_THE_END: &[Step] = &[
     Attach(Ok(0)),
     Request(0, ANY, ANY, All, Ok(0)),
     Send(1, 0, 72, Ok(0)),
@@ -296,7 +296,7 @@ const MATCHED: &[Step] = &[
     Receive(3, Received::NoClient),
 ];
 
-const CANCELLED: &[Step] = &[
+pub(crate) const CANCELLED: &[Step] = &[
     Attach(Ok(0)),
     Request(0, 1, ANY, All, Ok(0)),
     Request(0, ANY, ANY, All, Ok(1)),
@@ -309,7 +309,7 @@ const CANCELLED: &[Step] = &[
     Receive(0, NOTHING),
 ];
 
-const PASSED_OVER: &[Step] = &[
+pub(crate) const PASSED_OVER: &[Step] = &[
     Attach(Ok(0)),
     Request(0, 2, ANY, All, Ok(0)),
     Send(1, 0, 8, Ok(0)),
@@ -324,7 +324,7 @@ const PASSED_OVER: &[Step] = &[
     Send(1, 0, 8, Ok(8)),
 ];
 
-const GATED: &[Step] = &[
+pub(crate) const GATED: &[Step] = &[
     Begin(1, Ok(0)),
     Begin(2, Err(MarkRefusal::GateOpen { start: 1 })),
     SendInRun(

@@ -7,7 +7,7 @@ use Rattle.std.proofs.lemmas.List.{drop-drop, drop_all, length-drop}
 use Rattle.std.proofs.lemmas.List.Sums.{sum_by-cons, sum_by-take-drop}
 use Rattle.event_header.specs.declared.head.Header.{Header}
 use Rattle.event_header.specs.Headers.{event_of, fields_of}
-use Rattle.ring_bytes.specs.Rings.{bytes_at}
+use Rattle.ring_bytes.specs.Rings.{CountedBytes, bytes_at}
 use Rattle.buffer_core.specs.declared.gate.RunGate.{RunGate}
 use Rattle.buffer_core.specs.declared.client.Client.{Client}
 use Rattle.buffer_core.specs.declared.replies.NoClient.{NoClient}
@@ -29,13 +29,37 @@ use Rattle.ring_buffer.specs.Walks.{between, IsWalk, IsFoundFor, FindsNothing}
 use Rattle.ring_buffer.proofs.Walking.{at, IsNext, next_is}
 use Rattle.ring_buffer.proofs.Sending.{events_read, length-events_at, accepted_is, holds_drop, fit_drop}
 
--- Other clients or another gate, and the same events.
+-- Other clients, another gate or other counts, and the same events.
 
 abbrev pub with_pointers : Inside → List (Option Pointer) → Inside
 with_pointers b slots = record { ring = b.ring; first = b.first; off = b.off; count = b.count; total = b.total; clients = slots; gate = b.gate; last = b.last }
 
 abbrev pub with_run : Inside → RunGate → (last : ℕ) → Inside
 with_run b gate last = record { ring = b.ring; first = b.first; off = b.off; count = b.count; total = b.total; clients = b.clients; gate = gate; last = last }
+
+abbrev pub with_ring : Inside → CountedBytes → Inside
+with_ring b ring = record { ring = ring; first = b.first; off = b.off; count = b.count; total = b.total; clients = b.clients; gate = b.gate; last = b.last }
+
+-- a read changes what the ring counts alone
+pub window_read : (b : Inside) (ring : CountedBytes) → ring.bytes ≡ b.ring.bytes → window_of (with_ring b ring) ≡ window_of b
+window_read b ring same = ap (λ (bytes : List ℕ). window_of (with_ring b (record { bytes = bytes; reads = ring.reads; bytes_read = ring.bytes_read }))) same
+
+counts_matter_not : (b : Inside) (reads bytes_read : ℕ) → IsRingBuffer b → IsRingBuffer (with_ring b (record { bytes = b.ring.bytes; reads = reads; bytes_read = bytes_read }))
+counts_matter_not b reads bytes_read is =
+    record {
+      window = is.window;
+      holds = record { size = is.holds.size; events = is.holds.events };
+      fit = is.fit;
+      least = is.least;
+      order = is.order;
+      level = is.level;
+      placed = is.placed;
+    }
+
+pub ring_read : (b : Inside) (ring : CountedBytes) → ring.bytes ≡ b.ring.bytes → IsRingBuffer b → IsRingBuffer (with_ring b ring)
+ring_read b ring same is =
+    subst (λ (bytes : List ℕ). IsRingBuffer (with_ring b (record { bytes = bytes; reads = ring.reads; bytes_read = ring.bytes_read }))) (sym same)
+    (counts_matter_not b ring.reads ring.bytes_read is)
 
 pub ring_clients : (b : Inside) (slots : List (Option Pointer)) → IsRingBuffer b → IsWindow (window_of (with_pointers b slots)) → ((n : ℕ) (p : Pointer) → slot_at slots n ≡ Some p → IsAtOffset (window_of b) p) → IsRingBuffer (with_pointers b slots)
 ring_clients b slots is window placed =
@@ -77,14 +101,14 @@ placed_set P xs n o all here m p e =
 pub at_end : (b : Inside) → IsRingBuffer b → b.total + sum_by slot_of_sent (drop (b.count - b.first) (window_of b).kept) ≡ b.total
 at_end b is =
     let none : sum_by slot_of_sent (drop (b.count - b.first) (window_of b).kept) ≡ 0 =
-    ap (λ (ss : List Sent). sum_by slot_of_sent ss) (drop_all (b.count - b.first) (window_of b).kept (omega (arith, length-events_at b.ring b.off (b.count - b.first)))) in
+    ap (λ (ss : List Sent). sum_by slot_of_sent ss) (drop_all (b.count - b.first) (window_of b).kept (omega (arith, length-events_at b.ring.bytes b.off (b.count - b.first)))) in
     omega (arith, none)
 
 -- The walk of a client.
 
 pub record IsWalkOf (b : Inside) (p : Pointer) : Type 0 where
-  pub walk : IsWalk b.ring (at p.off p.client.next) (at b.total b.count)
-  pub rest : between b.ring (at p.off p.client.next) (at b.total b.count) ≡ drop (p.client.next - b.first) (window_of b).kept
+  pub walk : IsWalk b.ring.bytes (at p.off p.client.next) (at b.total b.count)
+  pub rest : between b.ring.bytes (at p.off p.client.next) (at b.total b.count) ≡ drop (p.client.next - b.first) (window_of b).kept
   pub from : b.first ≤ p.client.next
   pub to : p.client.next ≤ b.count
 
@@ -97,16 +121,16 @@ walk_of b client p is lives =
     let from : b.first ≤ p.client.next = bounds.from in
     let to : p.client.next ≤ b.count = omega (arith, bounds.to, accepted_is b is) in
     let first_off : b.total - level_of (window_of b) ≡ b.off = omega (arith, is.level) in
-    let old : HoldsEvents b.ring b.off kept = subst (λ (o : ℕ). HoldsEvents b.ring o (window_of b).kept) first_off is.holds.events in
+    let old : HoldsEvents b.ring.bytes b.off kept = subst (λ (o : ℕ). HoldsEvents b.ring.bytes o (window_of b).kept) first_off is.holds.events in
     let rest_off : b.off + sum_by slot_of_sent (take k kept) ≡ p.off = omega (arith, sum_by-take-drop slot_of_sent kept k, is.level, is.placed client p lives) in
-    let holds : HoldsEvents b.ring p.off rest = subst (λ (o : ℕ). HoldsEvents b.ring o (drop k kept)) rest_off (holds_drop b.ring k b.off kept old) in
+    let holds : HoldsEvents b.ring.bytes p.off rest = subst (λ (o : ℕ). HoldsEvents b.ring.bytes o (drop k kept)) rest_off (holds_drop b.ring.bytes k b.off kept old) in
     let fits : AllFit rest = fit_drop k kept is.fit in
-    let count : b.count - p.client.next ≡ length rest = omega (arith, length-drop k kept, length-events_at b.ring b.off (b.count - b.first), from, to) in
-    let rest_is : between b.ring (at p.off p.client.next) (at b.total b.count) ≡ rest = ap (λ (n : ℕ). ring_events_at b.ring p.off n) count ∙ events_read b.ring p.off rest holds fits in
+    let count : b.count - p.client.next ≡ length rest = omega (arith, length-drop k kept, length-events_at b.ring.bytes b.off (b.count - b.first), from, to) in
+    let rest_is : between b.ring.bytes (at p.off p.client.next) (at b.total b.count) ≡ rest = ap (λ (n : ℕ). ring_events_at b.ring.bytes p.off n) count ∙ events_read b.ring.bytes p.off rest holds fits in
     record {
       walk = record {
         order = to;
-        holds = subst (λ (ss : List Sent). HoldsEvents b.ring p.off ss) (sym rest_is) holds;
+        holds = subst (λ (ss : List Sent). HoldsEvents b.ring.bytes p.off ss) (sym rest_is) holds;
         fit = subst AllFit (sym rest_is) fits;
         level = ap (λ (ss : List Sent). p.off + sum_by slot_of_sent ss) rest_is ∙ is.placed client p lives;
       };
@@ -124,7 +148,7 @@ found_skip c (suc k) first (s ∷ ss) here =
     ap (λ (b : Bool). if b && some_slot (covers first s.event) c.requests then Some (first, s) else found_in c (suc first) ss) behind
     ∙ found_skip c k (suc first) ss (omega (arith, here))
 
-pub found_walk : (b : Inside) (p : Pointer) → IsWalkOf b p → found_in p.client b.first (window_of b).kept ≡ found_in p.client p.client.next (between b.ring (at p.off p.client.next) (at b.total b.count))
+pub found_walk : (b : Inside) (p : Pointer) → IsWalkOf b p → found_in p.client b.first (window_of b).kept ≡ found_in p.client p.client.next (between b.ring.bytes (at p.off p.client.next) (at b.total b.count))
 found_walk b p walk =
     found_skip p.client (p.client.next - b.first) b.first (window_of b).kept (omega (arith, walk.from)) ∙ ap (λ (ss : List Sent). found_in p.client p.client.next ss) (sym walk.rest)
 
@@ -139,12 +163,12 @@ pointer_from (Some p) position e = let same : (p.off, p.client.next) ≡ positio
 pub record IsReader (b : Inside) (client : ℕ) (from : Position) : Type 0 where
   pub pointer : Pointer
   pub lives : slot_at b.clients client ≡ Some pointer
-  pub walk : IsWalk b.ring from (at b.total b.count)
-  pub rest : between b.ring from (at b.total b.count) ≡ drop (from.place - b.first) (window_of b).kept
+  pub walk : IsWalk b.ring.bytes from (at b.total b.count)
+  pub rest : between b.ring.bytes from (at b.total b.count) ≡ drop (from.place - b.first) (window_of b).kept
   pub place : pointer.client.next ≡ from.place
   pub first : b.first ≤ from.place
   pub last : from.place ≤ b.count
-  pub found : found_in pointer.client b.first (window_of b).kept ≡ found_in pointer.client from.place (between b.ring from (at b.total b.count))
+  pub found : found_in pointer.client b.first (window_of b).kept ≡ found_in pointer.client from.place (between b.ring.bytes from (at b.total b.count))
 
 same_at : (o p o' p' : ℕ) → o ≡ o' → p ≡ p' → at o p ≡ at o' p'
 same_at o p o' p' e f = cc
@@ -167,22 +191,22 @@ reader b client position is e =
 
 -- the event that was found for the client
 pub record IsGiven (b : Inside) (client : ℕ) (from : Position) (f : Found) : Type 0 where
-  pub fits : FitsSlot (ring_event_at b.ring f.at.off)
-  pub found : (c : Client) → slot_at (clients_of b.clients) client ≡ Some c → found_in c b.first (window_of b).kept ≡ Some (f.at.place, ring_event_at b.ring f.at.off)
-  pub size : f.front.header.data_size ≡ length (ring_event_at b.ring f.at.off).event.body
-  pub whole : event_of f.front.header (bytes_at b.ring (f.at.off + 24) f.front.header.data_size) ≡ (ring_event_at b.ring f.at.off).event
-  pub behind : f.at.off + slot_of_sent (ring_event_at b.ring f.at.off) + sum_by slot_of_sent (drop (f.at.place + 1 - b.first) (window_of b).kept) ≡ b.total
+  pub fits : FitsSlot (ring_event_at b.ring.bytes f.at.off)
+  pub found : (c : Client) → slot_at (clients_of b.clients) client ≡ Some c → found_in c b.first (window_of b).kept ≡ Some (f.at.place, ring_event_at b.ring.bytes f.at.off)
+  pub size : f.front.header.data_size ≡ length (ring_event_at b.ring.bytes f.at.off).event.body
+  pub whole : event_of f.front.header (bytes_at b.ring.bytes (f.at.off + 24) f.front.header.data_size) ≡ (ring_event_at b.ring.bytes f.at.off).event
+  pub behind : f.at.off + slot_of_sent (ring_event_at b.ring.bytes f.at.off) + sum_by slot_of_sent (drop (f.at.place + 1 - b.first) (window_of b).kept) ≡ b.total
   pub later : from.place ≤ f.at.place
 
 same_client : (c d : Client) (o : Option Client) → o ≡ Some c → o ≡ Some d → c ≡ d
 same_client c d o e f = cc
 
-pub given : (b : Inside) (client : ℕ) (from : Position) (f : Found) → IsReader b client from → IsFoundFor b.ring (clients_of b.clients) client from (at b.total b.count) f → IsGiven b client from f
+pub given : (b : Inside) (client : ℕ) (from : Position) (f : Found) → IsReader b client from → IsFoundFor b.ring.bytes (clients_of b.clients) client from (at b.total b.count) f → IsGiven b client from f
 given b client from f r found =
-    let s : Sent = ring_event_at b.ring f.at.off in
-    let next : IsNext b.ring from f.at.off f.at.place (at b.total b.count) = next_is b.ring from f.at.off f.at.place (at b.total b.count) found.on_way found.early in
+    let s : Sent = ring_event_at b.ring.bytes f.at.off in
+    let next : IsNext b.ring.bytes from f.at.off f.at.place (at b.total b.count) = next_is b.ring.bytes from f.at.off f.at.place (at b.total b.count) found.on_way found.early in
     let index : (from.place - b.first) + (f.at.place + 1 - from.place) ≡ f.at.place + 1 - b.first = omega (arith, r.first, found.on_way.later) in
-    let rest : between b.ring (at (f.at.off + slot_of_sent (ring_event_at b.ring f.at.off)) (f.at.place + 1)) (at b.total b.count) ≡ drop (f.at.place + 1 - b.first) (window_of b).kept =
+    let rest : between b.ring.bytes (at (f.at.off + slot_of_sent (ring_event_at b.ring.bytes f.at.off)) (f.at.place + 1)) (at b.total b.count) ≡ drop (f.at.place + 1 - b.first) (window_of b).kept =
     next.on_way.rest
     ∙ (ap (λ (ss : List Sent). drop (f.at.place + 1 - from.place) ss) r.rest
     ∙ (drop-drop (f.at.place + 1 - from.place) (from.place - b.first) (window_of b).kept ∙ ap (λ (n : ℕ). drop n (window_of b).kept) index)) in
@@ -190,20 +214,20 @@ given b client from f r found =
       fits = next.fits;
       found = λ c lives.
           let own : c ≡ r.pointer.client = same_client c r.pointer.client _ lives (client_is b client r.pointer r.lives) in
-          subst (λ (d : Client). found_in d b.first (window_of b).kept ≡ Some (f.at.place, ring_event_at b.ring f.at.off)) (sym own)
+          subst (λ (d : Client). found_in d b.first (window_of b).kept ≡ Some (f.at.place, ring_event_at b.ring.bytes f.at.off)) (sym own)
           (r.found ∙ found.found r.pointer.client (client_is b client r.pointer r.lives));
       size = ap (λ (h : Header). h.data_size) found.header;
       whole =
-          ap (λ (h : Header). event_of h (bytes_at b.ring (f.at.off + 24) h.data_size)) found.header
-          ∙ ap (λ (bs : List ℕ). event_of (fields_of (ring_event_at b.ring f.at.off).event) bs) next.holds.body;
-      behind = ap (λ (ss : List Sent). f.at.off + slot_of_sent (ring_event_at b.ring f.at.off) + sum_by slot_of_sent ss) (sym rest) ∙ next.on_way.walk.level;
+          ap (λ (h : Header). event_of h (bytes_at b.ring.bytes (f.at.off + 24) h.data_size)) found.header
+          ∙ ap (λ (bs : List ℕ). event_of (fields_of (ring_event_at b.ring.bytes f.at.off).event) bs) next.holds.body;
+      behind = ap (λ (ss : List Sent). f.at.off + slot_of_sent (ring_event_at b.ring.bytes f.at.off) + sum_by slot_of_sent ss) (sym rest) ∙ next.on_way.walk.level;
       later = found.on_way.later;
     }
 
-pub got_reply : (b : Inside) (w : Window) (client room start : ℕ) (from : Position) (f : Found) → window_of b ≡ w → IsReader b client from → IsGiven b client from f → start ≡ (ring_event_at b.ring f.at.off).start
+pub got_reply : (b : Inside) (w : Window) (client room start : ℕ) (from : Position) (f : Found) → window_of b ≡ w → IsReader b client from → IsGiven b client from f → start ≡ (ring_event_at b.ring.bytes f.at.off).start
     → f.front.header.data_size ≤ room → Got f.at.place start ≡ receive_reply_to w room (slot_at w.clients client)
 got_reply b w client room start from f view r g started fits =
-    let s : Sent = ring_event_at b.ring f.at.off in
+    let s : Sent = ring_event_at b.ring.bytes f.at.off in
     let fit : nat_le (length s.event.body) room ≡ true = le-leb _ _ (omega (arith, g.size, fits)) in
     let here : receive_reply_to (window_of b) room (slot_at (clients_of b.clients) client) ≡ Got f.at.place s.start =
     ap (receive_reply_to (window_of b) room) (client_is b client r.pointer r.lives)
@@ -214,7 +238,7 @@ got_reply b w client room start from f view r g started fits =
 pub small_reply : (b : Inside) (w : Window) (client room : ℕ) (from : Position) (f : Found) → window_of b ≡ w → IsReader b client from → IsGiven b client from f → room < f.front.header.data_size
     → SmallBuf f.front.header.data_size ≡ receive_reply_to w room (slot_at w.clients client)
 small_reply b w client room from f view r g long =
-    let s : Sent = ring_event_at b.ring f.at.off in
+    let s : Sent = ring_event_at b.ring.bytes f.at.off in
     let fit : nat_le (length s.event.body) room ≡ false = lt-leb _ _ (omega (arith, g.size, long)) in
     let here : receive_reply_to (window_of b) room (slot_at (clients_of b.clients) client) ≡ SmallBuf (length s.event.body) =
     ap (receive_reply_to (window_of b) room) (client_is b client r.pointer r.lives)
@@ -222,7 +246,7 @@ small_reply b w client room from f view r g long =
     ∙ ap (λ (x : Bool). if x then Got f.at.place s.start else SmallBuf (length s.event.body)) fit) in
     ap (λ (n : ℕ). SmallBuf n) g.size ∙ subst (λ (x : Window). SmallBuf (length s.event.body) ≡ receive_reply_to x room (slot_at x.clients client)) view (sym here)
 
-pub empty_reply : (b : Inside) (w : Window) (client room : ℕ) (from : Position) → window_of b ≡ w → IsReader b client from → FindsNothing b.ring (clients_of b.clients) client from (at b.total b.count)
+pub empty_reply : (b : Inside) (w : Window) (client room : ℕ) (from : Position) → window_of b ≡ w → IsReader b client from → FindsNothing b.ring.bytes (clients_of b.clients) client from (at b.total b.count)
     → Empty b.gate b.last ≡ receive_reply_to w room (slot_at w.clients client)
 empty_reply b w client room from view r nothing =
     let lives = client_is b client r.pointer r.lives in
@@ -257,14 +281,14 @@ ring_moved b slots client off' place' is are placed window =
     n p (subst (λ (xs : List (Option Pointer)). slot_at xs n ≡ Some p) are e))
 
 -- the data fit the ring
-pub given_room : (b : Inside) (client : ℕ) (from : Position) (f : Found) → IsRingBuffer b → IsReader b client from → IsFoundFor b.ring (clients_of b.clients) client from (at b.total b.count) f → slot_of_sent (ring_event_at b.ring f.at.off) ≤ length b.ring
+pub given_room : (b : Inside) (client : ℕ) (from : Position) (f : Found) → IsRingBuffer b → IsReader b client from → IsFoundFor b.ring.bytes (clients_of b.clients) client from (at b.total b.count) f → slot_of_sent (ring_event_at b.ring.bytes f.at.off) ≤ length b.ring.bytes
 given_room b client from f is r found =
     let kept : List Sent = (window_of b).kept in
     let j : ℕ = (from.place - b.first) + (f.at.place - from.place) in
-    let next : IsNext b.ring from f.at.off f.at.place (at b.total b.count) = next_is b.ring from f.at.off f.at.place (at b.total b.count) found.on_way found.early in
-    let rest : List Sent = between b.ring (at (f.at.off + slot_of_sent (ring_event_at b.ring f.at.off)) (f.at.place + 1)) (at b.total b.count) in
-    let cut : between b.ring f.at (at b.total b.count) ≡ drop j kept =
+    let next : IsNext b.ring.bytes from f.at.off f.at.place (at b.total b.count) = next_is b.ring.bytes from f.at.off f.at.place (at b.total b.count) found.on_way found.early in
+    let rest : List Sent = between b.ring.bytes (at (f.at.off + slot_of_sent (ring_event_at b.ring.bytes f.at.off)) (f.at.place + 1)) (at b.total b.count) in
+    let cut : between b.ring.bytes f.at (at b.total b.count) ≡ drop j kept =
     found.on_way.rest ∙ (ap (λ (ss : List Sent). drop (f.at.place - from.place) ss) r.rest ∙ drop-drop (f.at.place - from.place) (from.place - b.first) kept) in
-    let sum : sum_by slot_of_sent (drop j kept) ≡ slot_of_sent (ring_event_at b.ring f.at.off) + sum_by slot_of_sent rest =
-    ap (λ (ss : List Sent). sum_by slot_of_sent ss) (sym cut ∙ next.first) ∙ sum_by-cons slot_of_sent (ring_event_at b.ring f.at.off) rest in
+    let sum : sum_by slot_of_sent (drop j kept) ≡ slot_of_sent (ring_event_at b.ring.bytes f.at.off) + sum_by slot_of_sent rest =
+    ap (λ (ss : List Sent). sum_by slot_of_sent ss) (sym cut ∙ next.first) ∙ sum_by-cons slot_of_sent (ring_event_at b.ring.bytes f.at.off) rest in
     omega (arith, sum, sum_by-take-drop slot_of_sent kept j, is.window.fits)

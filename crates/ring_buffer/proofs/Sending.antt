@@ -10,7 +10,7 @@ use Rattle.daq_model.specs.Events.{slot_size, event_limit}
 use Rattle.event_header.specs.declared.head.Header.{Header}
 use Rattle.event_header.specs.Headers.{event_of, fields_of}
 use Rattle.event_header.proofs.Headers.{header_back}
-use Rattle.ring_bytes.specs.Rings.{bytes_at, KeepsOtherOffsets}
+use Rattle.ring_bytes.specs.Rings.{CountedBytes, bytes_at, KeepsOtherOffsets}
 use Rattle.ring_bytes.proofs.RingLaws.{bytes_at-turn}
 use Rattle.buffer_core.specs.declared.client.Client.{Client}
 use Rattle.buffer_core.specs.Slots.{slot_at, change_all}
@@ -22,9 +22,10 @@ use Rattle.client_pointers.specs.declared.pointer.Pointer.{Pointer}
 use Rattle.client_pointers.specs.Pointers.{clients_of, raised, moved}
 use Rattle.client_pointers.proofs.PointerLaws.{clients_change_all, client_at}
 use Rattle.ring_buffer.specs.declared.ring_buffer.RingBuffer.TheInside.{Inside}
+use Rattle.ring_buffer.specs.CountedWindows.{CountedWindow}
 use Rattle.ring_buffer.specs.RingHolds.{front_of, HoldsEvent, HoldsEvents}
 use Rattle.ring_buffer.specs.Stored.{ring_event_at, ring_events_at, event_in, length_in, FitsSlot, AllFit, IsHeader}
-use Rattle.ring_buffer.specs.RingViews.{window_of, IsRingBuffer}
+use Rattle.ring_buffer.specs.RingViews.{window_of, counted_of, IsRingBuffer}
 use Rattle.ring_buffer.proofs.Fields.{event_back, length_back}
 
 -- What stands in a ring is read back.
@@ -127,11 +128,11 @@ pub record IsAdmitted (b : Inside) (way_off way_place start : ℕ) (h : Header) 
   pub place : way_place ≡ b.first + gone_of (window_of b) (event_of h body)
   pub level : way_off + sum_by slot_of_sent (drop (gone_of (window_of b) (event_of h body)) (window_of b).kept) ≡ b.total
   pub stated : h.data_size ≡ length body
-  pub room : sum_by slot_of_sent (drop (gone_of (window_of b) (event_of h body)) (window_of b).kept) + slot_size (event_of h body) ≤ length b.ring
+  pub room : sum_by slot_of_sent (drop (gone_of (window_of b) (event_of h body)) (window_of b).kept) + slot_size (event_of h body) ≤ length b.ring.bytes
   pub fit : FitsSlot (record { event = event_of h body; start = start })
   pub window : IsWindow (after_send (window_of b) start (event_of h body))
 
-abbrev pub after : (b : Inside) (ring : List ℕ) (off place slot : ℕ) (clients : List (Option Pointer)) → Inside
+abbrev pub after : (b : Inside) (ring : CountedBytes) (off place slot : ℕ) (clients : List (Option Pointer)) → Inside
 after b ring off place slot clients = record { ring = ring; first = place; off = off; count = b.count + 1; total = b.total + slot; clients = clients; gate = b.gate; last = b.last }
 
 mapped : (f : Pointer → Pointer) (o : Option Pointer) (y : Pointer) → option_map f o ≡ Some y → (x : Pointer) × (o ≡ Some x) × (f x ≡ y)
@@ -162,8 +163,12 @@ placed_after first place gone off' total kept s p at from to place_is within way
     let old : sum_by slot_of_sent (drop k (drop gone kept)) ≡ sum_by slot_of_sent (drop (p.client.next - first) kept) = ap (λ (ss : List Sent). sum_by slot_of_sent ss) (drop-drop k gone kept ∙ ap (λ (n : ℕ). drop n kept) index) in
     omega (arith, cut, sum_by_push slot_of_sent (drop k (drop gone kept)) s, old, at))
 
+-- the window that is seen
+pub window_seen : (b : Inside) (v : CountedWindow) → counted_of b ≡ v → window_of b ≡ v.window
+window_seen b v view = ap (λ (x : CountedWindow). x.window) view
+
 pub accepted_is : (b : Inside) → IsRingBuffer b → accepted_of (window_of b) ≡ b.count
-accepted_is b is = omega (arith, length-events_at b.ring b.off (b.count - b.first), is.order)
+accepted_is b is = omega (arith, length-events_at b.ring.bytes b.off (b.count - b.first), is.order)
 
 -- what stands in the ring afterwards
 pub record Stands (b : Inside) (new : List ℕ) (off place start : ℕ) (e : Event) : Type 0 where
@@ -173,7 +178,7 @@ pub record Stands (b : Inside) (new : List ℕ) (off place start : ℕ) (e : Eve
   pub sum : off + sum_by slot_of_sent (after_send (window_of b) start e).kept ≡ b.total + slot_size e
   pub within : gone_of (window_of b) e ≤ length (window_of b).kept
 
-pub stands : (b : Inside) (once new : List ℕ) (off place start : ℕ) (h : Header) (body front : List ℕ) → IsRingBuffer b → IsAdmitted b off place start h body → IsWritten b.ring once new b.total (slot_size (event_of h body)) front body → front ≡ front_of start h
+pub stands : (b : Inside) (once new : List ℕ) (off place start : ℕ) (h : Header) (body front : List ℕ) → IsRingBuffer b → IsAdmitted b off place start h body → IsWritten b.ring.bytes once new b.total (slot_size (event_of h body)) front body → front ≡ front_of start h
     → Stands b new off place start (event_of h body)
 stands b once new off place start h body front is adm written front_is =
     let kept : List Sent = (window_of b).kept in
@@ -181,18 +186,18 @@ stands b once new off place start h body front is adm written front_is =
     let gone : ℕ = gone_of (window_of b) (event_of h body) in
     let rest : List Sent = drop (gone_of (window_of b) (event_of h body)) (window_of b).kept in
     let s : Sent = record { event = event_of h body; start = start } in
-    let within : gone_of (window_of b) (event_of h body) ≤ length (window_of b).kept = to_drop_within slot_of_sent (length b.ring) (slot_size (event_of h body)) (window_of b).kept in
+    let within : gone_of (window_of b) (event_of h body) ≤ length (window_of b).kept = to_drop_within slot_of_sent (length b.ring.bytes) (slot_size (event_of h body)) (window_of b).kept in
     let sums : sum_by slot_of_sent (take gone kept) + sum_by slot_of_sent (drop gone kept) ≡ sum_by slot_of_sent kept = sum_by-take-drop slot_of_sent kept gone in
     let first_off : b.total - level_of (window_of b) ≡ b.off = omega (arith, is.level) in
-    let old : HoldsEvents b.ring b.off kept = subst (λ (o : ℕ). HoldsEvents b.ring o (window_of b).kept) first_off is.holds.events in
+    let old : HoldsEvents b.ring.bytes b.off kept = subst (λ (o : ℕ). HoldsEvents b.ring.bytes o (window_of b).kept) first_off is.holds.events in
     let rest_off : b.off + sum_by slot_of_sent (take gone kept) ≡ off = omega (arith, sums, is.level, adm.level) in
-    let old_rest : HoldsEvents b.ring off rest = subst (λ (o : ℕ). HoldsEvents b.ring o (drop gone kept)) rest_off (holds_drop b.ring gone b.off kept old) in
-    let new_rest : HoldsEvents new off rest = holds_still b.ring once new b.total (slot_size (event_of h body)) front body off rest written (omega (arith, adm.room, adm.level)) adm.level old_rest in
+    let old_rest : HoldsEvents b.ring.bytes off rest = subst (λ (o : ℕ). HoldsEvents b.ring.bytes o (drop gone kept)) rest_off (holds_drop b.ring.bytes gone b.off kept old) in
+    let new_rest : HoldsEvents new off rest = holds_still b.ring.bytes once new b.total (slot_size (event_of h body)) front body off rest written (omega (arith, adm.room, adm.level)) adm.level old_rest in
     let holds : HoldsEvents new off (rest ++ s ∷ []) =
-    holds_push new off b.total rest s new_rest adm.level (new_event b.ring once new b.total (slot_size (event_of h body)) start h body front written front_is adm.stated) in
+    holds_push new off b.total rest s new_rest adm.level (new_event b.ring.bytes once new b.total (slot_size (event_of h body)) start h body front written front_is adm.stated) in
     let fits : AllFit (rest ++ s ∷ []) = fit_push rest s (fit_drop gone kept is.fit) adm.fit in
     let count : b.count + 1 - place ≡ length (rest ++ s ∷ []) =
-    omega (arith, length_push rest s, length-drop gone kept, within, length-events_at b.ring b.off (b.count - b.first), is.order, adm.place) in
+    omega (arith, length_push rest s, length-drop gone kept, within, length-events_at b.ring.bytes b.off (b.count - b.first), is.order, adm.place) in
     record {
       kept = ap (λ (n : ℕ). ring_events_at new off n) count ∙ events_read new off (rest ++ s ∷ []) holds fits;
       holds = holds;
@@ -201,28 +206,28 @@ stands b once new off place start h body front is adm written front_is =
       within = within;
     }
 
-pub window_after_is : (b : Inside) (once new : List ℕ) (off place slot start : ℕ) (h : Header) (body front : List ℕ) (clients : List (Option Pointer)) → IsRingBuffer b → IsAdmitted b off place start h body
-    → IsWritten b.ring once new b.total (slot_size (event_of h body)) front body → front ≡ front_of start h → slot ≡ slot_size (event_of h body) → clients ≡ change_all (raised off place) b.clients
+pub window_after_is : (b : Inside) (once : List ℕ) (new : CountedBytes) (off place slot start : ℕ) (h : Header) (body front : List ℕ) (clients : List (Option Pointer)) → IsRingBuffer b → IsAdmitted b off place start h body
+    → IsWritten b.ring.bytes once new.bytes b.total (slot_size (event_of h body)) front body → front ≡ front_of start h → slot ≡ slot_size (event_of h body) → clients ≡ change_all (raised off place) b.clients
     → window_of (after b new off place slot clients) ≡ after_send (window_of b) start (event_of h body)
 window_after_is b once new off place slot start h body front clients is adm written front_is slot_is clients_are =
-    let there : Stands b new off place start (event_of h body) = stands b once new off place start h body front is adm written front_is in
+    let there : Stands b new.bytes off place start (event_of h body) = stands b once new.bytes off place start h body front is adm written front_is in
     let w : Window = after_send (window_of b) start (event_of h body) in
     let made : ℕ → ℕ → List Sent → List (Option Client) → ℕ → Window = λ size first kept cs total. record { size = size; first = first; kept = kept; clients = cs; gate = b.gate; last = b.last; total = total } in
     let cs : clients_of clients ≡ change_all (pushed (b.first + gone_of (window_of b) (event_of h body))) (clients_of b.clients) =
     ap clients_of clients_are
     ∙ (clients_change_all (raised off place) (pushed place) (pushed_is off place) b.clients
     ∙ ap (λ (n : ℕ). change_all (pushed n) (clients_of b.clients)) adm.place) in
-    ap (λ (n : ℕ). made n place (ring_events_at new off (b.count + 1 - place)) (clients_of clients) (b.total + slot)) (written.long_on ∙ written.long)
-    ∙ (ap (λ (n : ℕ). made (length b.ring) n (ring_events_at new off (b.count + 1 - place)) (clients_of clients) (b.total + slot)) adm.place
-    ∙ (ap (λ (ss : List Sent). made (length b.ring) w.first ss (clients_of clients) (b.total + slot)) there.kept
-    ∙ (ap (λ (xs : List (Option Client)). made (length b.ring) w.first w.kept xs (b.total + slot)) cs
-    ∙ ap (λ (n : ℕ). made (length b.ring) w.first w.kept w.clients (b.total + n)) slot_is)))
+    ap (λ (n : ℕ). made n place (ring_events_at new.bytes off (b.count + 1 - place)) (clients_of clients) (b.total + slot)) (written.long_on ∙ written.long)
+    ∙ (ap (λ (n : ℕ). made (length b.ring.bytes) n (ring_events_at new.bytes off (b.count + 1 - place)) (clients_of clients) (b.total + slot)) adm.place
+    ∙ (ap (λ (ss : List Sent). made (length b.ring.bytes) w.first ss (clients_of clients) (b.total + slot)) there.kept
+    ∙ (ap (λ (xs : List (Option Client)). made (length b.ring.bytes) w.first w.kept xs (b.total + slot)) cs
+    ∙ ap (λ (n : ℕ). made (length b.ring.bytes) w.first w.kept w.clients (b.total + n)) slot_is)))
 
-pub ring_after_is : (b : Inside) (once new : List ℕ) (off place slot start : ℕ) (h : Header) (body front : List ℕ) (clients : List (Option Pointer)) → IsRingBuffer b → IsAdmitted b off place start h body
-    → IsWritten b.ring once new b.total (slot_size (event_of h body)) front body → front ≡ front_of start h → slot ≡ slot_size (event_of h body) → clients ≡ change_all (raised off place) b.clients
+pub ring_after_is : (b : Inside) (once : List ℕ) (new : CountedBytes) (off place slot start : ℕ) (h : Header) (body front : List ℕ) (clients : List (Option Pointer)) → IsRingBuffer b → IsAdmitted b off place start h body
+    → IsWritten b.ring.bytes once new.bytes b.total (slot_size (event_of h body)) front body → front ≡ front_of start h → slot ≡ slot_size (event_of h body) → clients ≡ change_all (raised off place) b.clients
     → IsRingBuffer (after b new off place slot clients)
 ring_after_is b once new off place slot start h body front clients is adm written front_is slot_is clients_are =
-    let there : Stands b new off place start (event_of h body) = stands b once new off place start h body front is adm written front_is in
+    let there : Stands b new.bytes off place start (event_of h body) = stands b once new.bytes off place start h body front is adm written front_is in
     let s : Sent = record { event = event_of h body; start = start } in
     let kept' : List Sent = (after_send (window_of b) start (event_of h body)).kept in
     let here_off : off ≡ b.total + slot - sum_by slot_of_sent kept' = omega (arith, there.sum, slot_is) in
@@ -230,11 +235,11 @@ ring_after_is b once new off place slot start h body front clients is adm writte
       window = subst IsWindow (sym (window_after_is b once new off place slot start h body front clients is adm written front_is slot_is clients_are)) adm.window;
       holds = record {
         size = refl;
-        events = subst (λ (ks : List Sent). HoldsEvents new (b.total + slot - sum_by slot_of_sent ks) ks) (sym there.kept) (subst (λ (o : ℕ). HoldsEvents new o kept') here_off there.holds);
+        events = subst (λ (ks : List Sent). HoldsEvents new.bytes (b.total + slot - sum_by slot_of_sent ks) ks) (sym there.kept) (subst (λ (o : ℕ). HoldsEvents new.bytes o kept') here_off there.holds);
       };
       fit = subst AllFit (sym there.kept) there.fits;
       least = omega (arith, is.least, written.long, written.long_on);
-      order = omega (arith, adm.place, there.within, length-events_at b.ring b.off (b.count - b.first), is.order);
+      order = omega (arith, adm.place, there.within, length-events_at b.ring.bytes b.off (b.count - b.first), is.order);
       level = omega (arith, ap (λ (ks : List Sent). sum_by slot_of_sent ks) there.kept, there.sum, slot_is);
       placed = λ n p lives.
           let from = mapped (raised off place) (slot_at b.clients n) p (sym (slot_change_all (raised off place) b.clients n) ∙ (ap (λ (xs : List (Option Pointer)). slot_at xs n) (sym clients_are) ∙ lives)) in
@@ -263,12 +268,12 @@ pub admitted : (b : Inside) (w : Window) (way_off way_place start : ℕ) (h : He
     → way_off + sum_by slot_of_sent (drop (gone_of w (event_of h body)) w.kept) ≡ w.total → h.data_size ≡ length body → length body ≤ event_limit → slot_size (event_of h body) ≤ w.size → IsHeader h → start < 2 ^ 32
     → (IsWindow w → IsWindow (after_send w start (event_of h body))) → IsAdmitted b way_off way_place start h body
 admitted b w way_off way_place start h body view is place level stated small fits header starts stays =
-    let fits' : slot_size (event_of h body) ≤ length b.ring = omega (arith, fits, ap (λ (x : Window). x.size) view) in
+    let fits' : slot_size (event_of h body) ≤ length b.ring.bytes = omega (arith, fits, ap (λ (x : Window). x.size) view) in
     record {
       place = subst (λ (x : Window). way_place ≡ x.first + gone_of x (event_of h body)) (sym view) place;
       level = subst (λ (x : Window). way_off + sum_by slot_of_sent (drop (gone_of x (event_of h body)) x.kept) ≡ x.total) (sym view) level;
       stated = stated;
-      room = to_drop_fits slot_of_sent (length b.ring) (slot_size (event_of h body)) (window_of b).kept fits';
+      room = to_drop_fits slot_of_sent (length b.ring.bytes) (slot_size (event_of h body)) (window_of b).kept fits';
       fit = record { id = header.id; mask = header.mask; serial = header.serial; time = header.time; start = starts; small = small };
       window = subst (λ (x : Window). IsWindow (after_send x start (event_of h body))) (sym view) (stays (subst IsWindow view is.window));
     }

@@ -13,10 +13,13 @@ use Rattle.buffer_core.specs.Slots.{slot_at, first_slot}
 use Rattle.buffer_core.specs.Window.{Sent, slot_of_sent, owes, wants}
 use Rattle.buffer_core.specs.Calls.{to_drop, owed_in, or_later, found_in}
 use Rattle.buffer_core.proofs.WindowLaws.{to_drop_none}
+use Rattle.ring_bytes.specs.Rings.{CountedBytes, IsRead}
 use Rattle.ring_buffer.specs.declared.walk.Position.{Position}
 use Rattle.ring_buffer.specs.RingHolds.{HoldsEvent, HoldsEvents}
 use Rattle.ring_buffer.specs.Stored.{ring_event_at, ring_events_at, FitsSlot, AllFit}
-use Rattle.ring_buffer.specs.Walks.{between, IsWalk, IsOnWay, to_go, in_the_way, IsWay}
+use Rattle.ring_buffer.specs.Reads.{ReadsFronts}
+use Rattle.ring_buffer.specs.Walks.{between, IsOnWay, to_go, in_the_way, IsWay}
+use Rattle.ring_buffer.proofs.CountLaws.{one_more_read}
 
 abbrev pub at : (off place : ℕ) → Position
 at off place = record { off = off; place = place }
@@ -69,20 +72,11 @@ pub end_is : (ring : List ℕ) (off place : ℕ) (end : Position) → end.place 
 unfolding ring_events_at
 end_is ring off place end late = ap (λ (k : ℕ). ring_events_at ring off k) (let none : end.place - place ≡ 0 = omega (arith, late) in none)
 
-pub begins : (ring : List ℕ) (from end : Position) → IsWalk ring from end → IsOnWay ring from (at from.off from.place) end
-begins ring from end walk =
-    let none : from.place - from.place ≡ 0 = omega arith in
-    record {
-      later = omega arith;
-      walk = walk;
-      rest = sym (ap (λ (k : ℕ). drop k (between ring from end)) none);
-    }
+-- what stands in a ring stands in it after a read too
+pub holds_read : (old new : List ℕ) (off : ℕ) (s : Sent) → new ≡ old → HoldsEvent old off s → HoldsEvent new off s
+holds_read old new off s same holds = subst (λ (ring : List ℕ). HoldsEvent ring off s) (sym same) holds
 
 -- The data do not matter to what clients want.
-
-pub owes_bare : (place : ℕ) (e : Event) (c : Client) → owes place (event_of (fields_of e) []) c ≡ owes place e c
-unfolding matches
-owes_bare place e c = refl
 
 pub wants_bare : (place : ℕ) (e : Event) (c : Client) → wants place (event_of (fields_of e) []) c ≡ wants place e c
 unfolding matches
@@ -95,15 +89,11 @@ first_bare place e clients = refl
 -- Looking for the way.
 
 -- gone over so far, each event has to go and none is owed
-pub record IsWalked (ring : List ℕ) (clients : List (Option Client)) (from : Position) (off place : ℕ) (end : Position) (slot before steps : ℕ) : Type 0 where
+pub record IsWalked (ring : List ℕ) (clients : List (Option Client)) (from : Position) (off place : ℕ) (end : Position) (slot : ℕ) (before now : CountedBytes) : Type 0 where
   pub on_way : IsOnWay ring from (at off place) end
   pub gone : to_go ring from end slot ≡ (place - from.place) + to_go ring (at off place) end slot
   pub owed : in_the_way ring clients from end slot ≡ in_the_way ring clients (at off place) end slot
-  pub steps_are : steps ≡ before + (place - from.place)
-
-pub walk_begins : (ring : List ℕ) (clients : List (Option Client)) (from end : Position) (slot steps : ℕ) → IsWalk ring from end → IsWalked ring clients from from.off from.place end slot steps steps
-walk_begins ring clients from end slot steps walk =
-    record { on_way = begins ring from end walk; gone = omega arith; owed = refl; steps_are = omega arith }
+  pub read : ReadsFronts before now (place - from.place)
 
 -- the least client that the event in front is owed to
 pub owed_now : (place : ℕ) (h : Header) (s : Sent) (clients : List (Option Client)) (r : Option ℕ) → h ≡ fields_of s.event → r ≡ first_slot (owes place (event_of h [])) clients → first_slot (owes place s.event) clients ≡ r
@@ -131,12 +121,12 @@ way_at ring clients from off place end slot on next full =
     ∙ (ap (λ (ss : List Sent). owed_in clients place (take (suc k) ss)) next.first
     ∙ ap (λ (n : ℕ). or_later (first_slot (owes place (ring_event_at ring off).event) clients) place (owed_in clients n (take k rest))) one)
 
-pub walk_next : (ring : List ℕ) (clients : List (Option Client)) (from : Position) (off place : ℕ) (end : Position) (slot before steps steps' off' : ℕ) → IsWalked ring clients from off place end slot before steps → place < end.place
-    → length ring < end.off - off + slot → first_slot (owes place (ring_event_at ring off).event) clients ≡ None → steps' ≡ steps + 1 → off' ≡ off + slot_of_sent (ring_event_at ring off)
-    → IsWalked ring clients from off' (place + 1) end slot before steps'
-walk_next ring clients from off place end slot before steps steps' off' walked early full none stepped moved =
+pub walk_next : (ring : List ℕ) (clients : List (Option Client)) (from : Position) (off place : ℕ) (end : Position) (slot : ℕ) (before now now' : CountedBytes) (off' : ℕ) → IsWalked ring clients from off place end slot before now → place < end.place
+    → length ring < end.off - off + slot → first_slot (owes place (ring_event_at ring off).event) clients ≡ None → IsRead now now' 1 24 → off' ≡ off + slot_of_sent (ring_event_at ring off)
+    → IsWalked ring clients from off' (place + 1) end slot before now'
+walk_next ring clients from off place end slot before now now' off' walked early full none stepped moved =
     let next : IsNext ring from off place end = next_is ring from off place end walked.on_way early in
-    let here : IsWalked ring clients from (off + slot_of_sent (ring_event_at ring off)) (place + 1) end slot before steps' =
+    let here : IsWalked ring clients from (off + slot_of_sent (ring_event_at ring off)) (place + 1) end slot before now' =
     record {
       on_way = next.on_way;
       gone = omega (arith, walked.gone, goes ring from off place end slot walked.on_way next full, walked.on_way.later);
@@ -144,20 +134,20 @@ walk_next ring clients from off place end slot before steps steps' off' walked e
           walked.owed
           ∙ (way_at ring clients from off place end slot walked.on_way next full
           ∙ ap (λ (o : Option ℕ). or_later o place (in_the_way ring clients (at (off + slot_of_sent (ring_event_at ring off)) (place + 1)) end slot)) none);
-      steps_are = omega (arith, walked.steps_are, stepped, walked.on_way.later);
+      read = one_more_read before now now' (place - from.place) (place + 1 - from.place) walked.read stepped (omega (arith, walked.on_way.later));
     } in
-    subst (λ (o : ℕ). IsWalked ring clients from o (place + 1) end slot before steps') (sym moved) here
+    subst (λ (o : ℕ). IsWalked ring clients from o (place + 1) end slot before now') (sym moved) here
 
-pub walk_blocked : (ring : List ℕ) (clients : List (Option Client)) (from : Position) (off place : ℕ) (end : Position) (slot before steps client : ℕ) → IsWalked ring clients from off place end slot before steps → place < end.place
+pub walk_blocked : (ring : List ℕ) (clients : List (Option Client)) (from : Position) (off place : ℕ) (end : Position) (slot : ℕ) (before now : CountedBytes) (client : ℕ) → IsWalked ring clients from off place end slot before now → place < end.place
     → length ring < end.off - off + slot → first_slot (owes place (ring_event_at ring off).event) clients ≡ Some client → in_the_way ring clients from end slot ≡ Some (client, place)
-walk_blocked ring clients from off place end slot before steps client walked early full owed =
+walk_blocked ring clients from off place end slot before now client walked early full owed =
     walked.owed
     ∙ (way_at ring clients from off place end slot walked.on_way (next_is ring from off place end walked.on_way early) full
     ∙ ap (λ (o : Option ℕ). or_later o place (in_the_way ring clients (at (off + slot_of_sent (ring_event_at ring off)) (place + 1)) end slot)) owed)
 
-pub walk_ends : (ring : List ℕ) (clients : List (Option Client)) (from : Position) (off place : ℕ) (end : Position) (slot before steps : ℕ) → IsWalked ring clients from off place end slot before steps
+pub walk_ends : (ring : List ℕ) (clients : List (Option Client)) (from : Position) (off place : ℕ) (end : Position) (slot : ℕ) (before now : CountedBytes) → IsWalked ring clients from off place end slot before now
     → end.off - off + slot ≤ length ring → IsWay ring clients from (at off place) end slot
-walk_ends ring clients from off place end slot before steps walked fits =
+walk_ends ring clients from off place end slot before now walked fits =
     let none : to_go ring (at off place) end slot ≡ 0 = to_drop_none slot_of_sent (length ring) slot (between ring (at off place) end) (omega (arith, walked.on_way.walk.level, fits)) in
     record {
       on_way = walked.on_way;
@@ -165,22 +155,19 @@ walk_ends ring clients from off place end slot before steps walked fits =
       free = walked.owed ∙ ap (λ (n : ℕ). owed_in clients place (take n (between ring (at off place) end))) none;
     }
 
-pub walk_out : (ring : List ℕ) (clients : List (Option Client)) (from : Position) (off place : ℕ) (end : Position) (slot before steps : ℕ) → IsWalked ring clients from off place end slot before steps
+pub walk_out : (ring : List ℕ) (clients : List (Option Client)) (from : Position) (off place : ℕ) (end : Position) (slot : ℕ) (before now : CountedBytes) → IsWalked ring clients from off place end slot before now
     → place ≡ end.place → slot ≤ length ring → IsWay ring clients from (at off end.place) end slot
-walk_out ring clients from off place end slot before steps walked out fits =
+walk_out ring clients from off place end slot before now walked out fits =
     let none : sum_by slot_of_sent (between ring (at off place) end) ≡ 0 = ap (λ (ss : List Sent). sum_by slot_of_sent ss) (end_is ring off place end (omega (arith, out))) in
     subst (λ (p : ℕ). IsWay ring clients from (at off p) end slot) out
-    (walk_ends ring clients from off place end slot before steps walked (omega (arith, none, walked.on_way.walk.level, fits)))
+    (walk_ends ring clients from off place end slot before now walked (omega (arith, none, walked.on_way.walk.level, fits)))
 
 -- Looking for a client's next event.
 
-pub record IsSought (ring : List ℕ) (clients : List (Option Client)) (client : ℕ) (from : Position) (off place : ℕ) (end : Position) (before steps : ℕ) : Type 0 where
+pub record IsSought (ring : List ℕ) (clients : List (Option Client)) (client : ℕ) (from : Position) (off place : ℕ) (end : Position) (before now : CountedBytes) : Type 0 where
   pub on_way : IsOnWay ring from (at off place) end
   pub found : (c : Client) → slot_at clients client ≡ Some c → found_in c from.place (between ring from end) ≡ found_in c place (between ring (at off place) end)
-  pub steps_are : steps ≡ before + (place - from.place)
-
-pub sought_begins : (ring : List ℕ) (clients : List (Option Client)) (client : ℕ) (from end : Position) (steps : ℕ) → IsWalk ring from end → IsSought ring clients client from from.off from.place end steps steps
-sought_begins ring clients client from end steps walk = record { on_way = begins ring from end walk; found = λ c e. refl; steps_are = omega arith }
+  pub read : ReadsFronts before now (place - from.place)
 
 -- whether the client wants the event in front
 pub wanted_now : (place : ℕ) (h : Header) (s : Sent) (c : Client) (r : Bool) → h ≡ fields_of s.event → r ≡ wants place (event_of h []) c → wants place s.event c ≡ r
@@ -202,30 +189,30 @@ found_at ring from off place end c next =
     ap (λ (ss : List Sent). found_in c place ss) next.first
     ∙ ap (λ (n : ℕ). if wants place (ring_event_at ring off).event c then Some (place, ring_event_at ring off) else found_in c n (between ring (at (off + slot_of_sent (ring_event_at ring off)) (place + 1)) end)) one
 
-pub sought_next : (ring : List ℕ) (clients : List (Option Client)) (client : ℕ) (from : Position) (off place : ℕ) (end : Position) (before steps steps' off' : ℕ) → IsSought ring clients client from off place end before steps → place < end.place
-    → ((c : Client) → slot_at clients client ≡ Some c → wants place (ring_event_at ring off).event c ≡ false) → steps' ≡ steps + 1 → off' ≡ off + slot_of_sent (ring_event_at ring off)
-    → IsSought ring clients client from off' (place + 1) end before steps'
-sought_next ring clients client from off place end before steps steps' off' sought early unwanted stepped moved =
+pub sought_next : (ring : List ℕ) (clients : List (Option Client)) (client : ℕ) (from : Position) (off place : ℕ) (end : Position) (before now now' : CountedBytes) (off' : ℕ) → IsSought ring clients client from off place end before now → place < end.place
+    → ((c : Client) → slot_at clients client ≡ Some c → wants place (ring_event_at ring off).event c ≡ false) → IsRead now now' 1 24 → off' ≡ off + slot_of_sent (ring_event_at ring off)
+    → IsSought ring clients client from off' (place + 1) end before now'
+sought_next ring clients client from off place end before now now' off' sought early unwanted stepped moved =
     let next : IsNext ring from off place end = next_is ring from off place end sought.on_way early in
-    let here : IsSought ring clients client from (off + slot_of_sent (ring_event_at ring off)) (place + 1) end before steps' =
+    let here : IsSought ring clients client from (off + slot_of_sent (ring_event_at ring off)) (place + 1) end before now' =
     record {
       on_way = next.on_way;
       found = λ c lives.
           sought.found c lives
           ∙ (found_at ring from off place end c next
           ∙ ap (λ (b : Bool). if b then Some (place, ring_event_at ring off) else found_in c (place + 1) (between ring (at (off + slot_of_sent (ring_event_at ring off)) (place + 1)) end)) (unwanted c lives));
-      steps_are = omega (arith, sought.steps_are, stepped, sought.on_way.later);
+      read = one_more_read before now now' (place - from.place) (place + 1 - from.place) sought.read stepped (omega (arith, sought.on_way.later));
     } in
-    subst (λ (o : ℕ). IsSought ring clients client from o (place + 1) end before steps') (sym moved) here
+    subst (λ (o : ℕ). IsSought ring clients client from o (place + 1) end before now') (sym moved) here
 
-pub sought_found : (ring : List ℕ) (clients : List (Option Client)) (client : ℕ) (from : Position) (off place : ℕ) (end : Position) (before steps : ℕ) → IsSought ring clients client from off place end before steps → place < end.place
+pub sought_found : (ring : List ℕ) (clients : List (Option Client)) (client : ℕ) (from : Position) (off place : ℕ) (end : Position) (before now : CountedBytes) → IsSought ring clients client from off place end before now → place < end.place
     → (c : Client) → slot_at clients client ≡ Some c → wants place (ring_event_at ring off).event c ≡ true → found_in c from.place (between ring from end) ≡ Some (place, ring_event_at ring off)
-sought_found ring clients client from off place end before steps sought early c lives wanted =
+sought_found ring clients client from off place end before now sought early c lives wanted =
     sought.found c lives
     ∙ (found_at ring from off place end c (next_is ring from off place end sought.on_way early)
     ∙ ap (λ (b : Bool). if b then Some (place, ring_event_at ring off) else found_in c (place + 1) (between ring (at (off + slot_of_sent (ring_event_at ring off)) (place + 1)) end)) wanted)
 
-pub sought_nothing : (ring : List ℕ) (clients : List (Option Client)) (client : ℕ) (from : Position) (off place : ℕ) (end : Position) (before steps : ℕ) → IsSought ring clients client from off place end before steps → end.place ≤ place
+pub sought_nothing : (ring : List ℕ) (clients : List (Option Client)) (client : ℕ) (from : Position) (off place : ℕ) (end : Position) (before now : CountedBytes) → IsSought ring clients client from off place end before now → end.place ≤ place
     → (c : Client) → slot_at clients client ≡ Some c → found_in c from.place (between ring from end) ≡ None
-sought_nothing ring clients client from off place end before steps sought late c lives =
+sought_nothing ring clients client from off place end before now sought late c lives =
     sought.found c lives ∙ ap (λ (ss : List Sent). found_in c place ss) (end_is ring off place end late)

@@ -1,3 +1,4 @@
+pub mod CountedWindows
 pub mod RingHolds
 pub mod Stored
 pub mod RingViews

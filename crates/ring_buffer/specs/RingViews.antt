@@ -1,24 +1,29 @@
--- How a ring buffer keeps its window.
+-- How a ring buffer keeps its window, and what its ring counts.
 use Rattle.std.specs.Prelude.{◌≡◌, ℕ, ◌+◌, ◌-◌, ◌≤◌, length, drop, sum_by, Some}
 use Rattle.buffer_core.specs.Slots.{slot_at}
 use Rattle.buffer_core.specs.Window.{Window, slot_of_sent, level_of, IsWindow}
 use Rattle.client_pointers.specs.declared.pointer.Pointer.{Pointer}
 use Rattle.client_pointers.specs.Pointers.{clients_of}
 use Rattle.ring_buffer.specs.declared.ring_buffer.RingBuffer.TheInside.{Inside}
+use Rattle.ring_buffer.specs.CountedWindows.{CountedWindow}
 use Rattle.ring_buffer.specs.RingHolds.{RingHolds}
 use Rattle.ring_buffer.specs.Stored.{ring_events_at, AllFit}
 
 -- the window: its kept events are those that stand in the ring
 abbrev pub window_of : Inside → Window
 window_of b = record {
-  size = length b.ring;
+  size = length b.ring.bytes;
   first = b.first;
-  kept = ring_events_at b.ring b.off (b.count - b.first);
+  kept = ring_events_at b.ring.bytes b.off (b.count - b.first);
   clients = clients_of b.clients;
   gate = b.gate;
   last = b.last;
   total = b.total;
 }
+
+-- the window, and what the ring counts
+abbrev pub counted_of : Inside → CountedWindow
+counted_of b = record { window = window_of b; reads = b.ring.reads; bytes_read = b.ring.bytes_read }
 
 -- the client is at the offset of its next place: from there on the slots reach to the end
 abbrev pub IsAtOffset : Window → Pointer → Type 0
@@ -27,9 +32,9 @@ IsAtOffset w p = p.off + sum_by slot_of_sent (drop (p.client.next - w.first) w.k
 -- what every ring buffer keeps
 pub record IsRingBuffer (b : Inside) : Type 0 where
   pub window : IsWindow (window_of b)
-  pub holds : RingHolds (window_of b) b.ring
+  pub holds : RingHolds (window_of b) b.ring.bytes
   pub fit : AllFit (window_of b).kept
-  pub least : 256 ≤ length b.ring
+  pub least : 256 ≤ length b.ring.bytes
   pub order : b.first ≤ b.count
   pub level : b.off + level_of (window_of b) ≡ b.total
   pub placed : (n : ℕ) (p : Pointer) → slot_at b.clients n ≡ Some p → IsAtOffset (window_of b) p

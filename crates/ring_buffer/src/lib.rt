@@ -3,7 +3,6 @@
 
 mod calls;
 pub mod laws;
-mod receiving;
 mod ring_buffer;
 mod search;
 mod slot;

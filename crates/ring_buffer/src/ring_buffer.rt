@@ -1,22 +1,22 @@
 ghost use Rattle.std.specs.Prelude.{◌≡◌, ◌≤◌, ◌+◌, ◌^◌, ℕ, length, drop, sum_by, IfOk, IfErr, OnOk, OnErr, Ok, Err};
 ghost use Rattle.daq_model.specs.Events.{slot_size, event_limit};
 ghost use Rattle.event_header.specs.Headers.{event_of};
+ghost use Rattle.buffer_core.specs.declared.entry.BufferEntry.TheVariants.{Send};
 ghost use Rattle.buffer_core.specs.Window.{opening, accepted_of, slot_of_sent, IsWindow};
 ghost use Rattle.buffer_core.specs.Calls.{send_reply, after_send, gone_of};
-ghost use Rattle.ring_buffer.specs.Reads.{reads_of_send};
+ghost use Rattle.ring_buffer.specs.LifeReads.{ReadsFew};
 
 use crate::search::find_way;
 use crate::slot::{FRONT, front_bytes_of};
 use crate::walk::{Owed, Position};
 use buffer_core::{RunGate, SendRefusal, slot_for};
 use client_pointers::Pointers;
-use daq_types::Steps;
 use event_header::{Header, slot_len};
 use ring_bytes::Ring;
 use std::marker::Model;
-use std::sync::ledger::Ledger;
 
-/// An event buffer over the bytes of a ring. No call takes memory, so that the kept events have no other room.
+/// An event buffer over the bytes of a ring, which counts its reads. No call takes memory, so that the kept events have
+/// no other room.
 #[derive(Drop)]
 pub struct RingBuffer {
     pub(crate) ring: Ring,
@@ -34,13 +34,13 @@ pub struct RingBuffer {
 }
 
 impl Model for RingBuffer {
-    ghost use Rattle.buffer_core.specs.Window.{Window};
+    ghost use Rattle.ring_buffer.specs.CountedWindows.{CountedWindow};
 
-    ghost Value = { Window };
+    ghost Value = { CountedWindow };
 
-    ghost use Rattle.ring_buffer.specs.RingViews.{window_of, IsRingBuffer};
+    ghost use Rattle.ring_buffer.specs.RingViews.{counted_of, IsRingBuffer};
 
-    ghost view = { window_of };
+    ghost view = { counted_of };
 
     ghost invariant = { IsRingBuffer };
 }
@@ -48,8 +48,10 @@ impl Model for RingBuffer {
 impl RingBuffer {
     /// A buffer over this ring, of its size, with no event and no client.
     pub fn over(ring: Ring) -> RingBuffer
-        requires { 256 ≤ length ring }
-        ensures { result ≡ opening (length ring) }
+        requires { 256 ≤ length ring.bytes }
+        ensures window { result.window ≡ opening (length ring.bytes) }
+        ensures reads { result.reads ≡ ring.reads }
+        ensures bytes_read { result.bytes_read ≡ ring.bytes_read }
     {
         RingBuffer {
             ring,
@@ -63,31 +65,42 @@ impl RingBuffer {
         }
     }
 
+    /// How often the ring was read, modulo 2^64: once for what is in front of an event's data, and once for the data.
+    pub fn reads(&self) -> u64
+        ensures { result ≡ self.now.reads }
+    {
+        self.ring.reads()
+    }
+
+    /// How many bytes of the ring all its reads took together, modulo 2^64.
+    pub fn bytes_read(&self) -> u64
+        ensures { result ≡ self.now.bytes_read }
+    {
+        self.ring.bytes_read()
+    }
+
     /// Where the kept events begin once there is room for this one, or why it is not taken.
-    fn way_for<L: Ledger>(
-        &self,
-        header: &Header,
-        body: &[u8],
-        steps: &mut Steps<L>,
-    ) -> Result<Position, SendRefusal>
-        ensures taken { OnOk result (send_reply self.now header.now.data_size
-            (event_of header.now body.now) ≡ Ok (accepted_of self.now)) }
-        ensures refused { IfErr result (λ refusal. send_reply self.now header.now.data_size
+    fn way_for(&mut self, header: &Header, body: &[u8]) -> Result<Position, SendRefusal>
+        ensures window { self.new.window ≡ self.old.window }
+        ensures taken { OnOk result (send_reply self.old.window header.now.data_size
+            (event_of header.now body.now) ≡ Ok (accepted_of self.old.window)) }
+        ensures refused { IfErr result (λ refusal. send_reply self.old.window header.now.data_size
             (event_of header.now body.now) ≡ Err refusal) }
-        ensures place { IfOk result (λ way. way.place ≡ self.now.first + gone_of self.now
-            (event_of header.now body.now)) }
+        ensures place { IfOk result (λ way. way.place ≡ self.old.window.first
+            + gone_of self.old.window (event_of header.now body.now)) }
         ensures level { IfOk result (λ way. way.off + sum_by slot_of_sent
-            (drop (gone_of self.now (event_of header.now body.now)) self.now.kept)
-            ≡ self.now.total) }
+            (drop (gone_of self.old.window (event_of header.now body.now)) self.old.window.kept)
+            ≡ self.old.window.total) }
         ensures stated { OnOk result (header.now.data_size ≡ length body.now) }
         ensures small { OnOk result (length body.now ≤ event_limit) }
-        ensures fits { OnOk result (slot_size (event_of header.now body.now) ≤ self.now.size) }
-        ensures spent { OnOk result (self.now.total + slot_size (event_of header.now body.now)
-            ≤ 2 ^ 62) }
-        ensures reads { OnOk result (steps.new ≤ steps.old + gone_of self.now
-            (event_of header.now body.now)) }
-        ensures refused_reads { IfErr result (λ refusal. steps.new
-            ≤ steps.old + reads_of_send self.now (event_of header.now body.now) (Err refusal)) }
+        ensures fits { OnOk result (slot_size (event_of header.now body.now)
+            ≤ self.old.window.size) }
+        ensures spent { OnOk result (self.old.window.total
+            + slot_size (event_of header.now body.now) ≤ 2 ^ 62) }
+        ensures reads { (n : ℕ) → OnOk result (ReadsFew self.old self.new
+            (Send header.now.data_size (event_of header.now body.now) (Ok n))) }
+        ensures refused_reads { IfErr result (λ refusal. ReadsFew self.old self.new
+            (Send header.now.data_size (event_of header.now body.now) (Err refusal))) }
     {
         let slot = slot_for(header, body, self.ring.size(), self.total)?;
         let from = Position {
@@ -98,25 +111,31 @@ impl RingBuffer {
             off: self.total,
             place: self.count,
         };
-        match find_way(&self.ring, &self.clients, from, end, u64::from(slot), steps) {
-            Ok(way) => Ok(way),
-            Err(Owed { client, place }) => Err(SendRefusal::Full { client, place }),
-        }
+        let way = match find_way(&mut self.ring, &self.clients, from, end, u64::from(slot)) {
+            Ok(way) => way,
+            Err(Owed { client, place }) => return Err(SendRefusal::Full { client, place }),
+        };
+        Ok(way)
     }
 
     /// Drops the events in front of this position and takes this one, of the run with this start number.
     fn admit(&mut self, way: Position, start: u32, header: &Header, body: &[u8])
-        requires place { way.place ≡ self.old.first + gone_of self.old
+        requires place { way.place ≡ self.old.window.first + gone_of self.old.window
             (event_of header.now body.now) }
         requires level { way.off + sum_by slot_of_sent (drop
-            (gone_of self.old (event_of header.now body.now)) self.old.kept) ≡ self.old.total }
+            (gone_of self.old.window (event_of header.now body.now)) self.old.window.kept)
+            ≡ self.old.window.total }
         requires stated { header.now.data_size ≡ length body.now }
         requires small { length body.now ≤ event_limit }
-        requires fits { slot_size (event_of header.now body.now) ≤ self.old.size }
-        requires spent { self.old.total + slot_size (event_of header.now body.now) ≤ 2 ^ 62 }
-        requires window { IsWindow self.old → IsWindow (after_send self.old start
+        requires fits { slot_size (event_of header.now body.now) ≤ self.old.window.size }
+        requires spent { self.old.window.total + slot_size (event_of header.now body.now)
+            ≤ 2 ^ 62 }
+        requires window { IsWindow self.old.window → IsWindow (after_send self.old.window start
             (event_of header.now body.now)) }
-        ensures { self.new ≡ after_send self.old start (event_of header.now body.now) }
+        ensures after { self.new.window ≡ after_send self.old.window start
+            (event_of header.now body.now) }
+        ensures reads { self.new.reads ≡ self.old.reads }
+        ensures bytes_read { self.new.bytes_read ≡ self.old.bytes_read }
     {
         let front = front_bytes_of(start, header);
         self.ring.put_at(self.total, &front);
@@ -129,26 +148,25 @@ impl RingBuffer {
     }
 
     /// Takes the event, of the run with this start number, where there is room for it.
-    pub(crate) fn put<L: Ledger>(
+    pub(crate) fn put(
         &mut self,
         start: u32,
         header: &Header,
         body: &[u8],
-        steps: &mut Steps<L>,
     ) -> Result<u64, SendRefusal>
-        requires window { IsWindow self.old → (n : ℕ) → send_reply self.old header.now.data_size
-            (event_of header.now body.now) ≡ Ok n
-            → IsWindow (after_send self.old start (event_of header.now body.now)) }
-        ensures reply { result ≡ send_reply self.old header.now.data_size
+        requires window { IsWindow self.old.window → (n : ℕ) → send_reply self.old.window
+            header.now.data_size (event_of header.now body.now) ≡ Ok n
+            → IsWindow (after_send self.old.window start (event_of header.now body.now)) }
+        ensures reply { result ≡ send_reply self.old.window header.now.data_size
             (event_of header.now body.now) }
-        ensures ok { OnOk result (self.new ≡ after_send self.old start
+        ensures ok { OnOk result (self.new.window ≡ after_send self.old.window start
             (event_of header.now body.now)) }
-        ensures err { OnErr result (self.new ≡ self.old) }
-        ensures reads { steps.new ≤ steps.old + reads_of_send self.old
-            (event_of header.now body.now) result }
+        ensures err { OnErr result (self.new.window ≡ self.old.window) }
+        ensures reads { ReadsFew self.old self.new (Send header.now.data_size
+            (event_of header.now body.now) result) }
     {
-        let way = self.way_for(header, body, steps)?;
         let place = self.count;
+        let way = self.way_for(header, body)?;
         self.admit(way, start, header, body);
         Ok(place)
     }

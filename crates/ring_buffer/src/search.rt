@@ -4,37 +4,36 @@ ghost use Rattle.buffer_core.specs.declared.client.Client.{Client};
 ghost use Rattle.buffer_core.specs.Slots.{slot_at};
 ghost use Rattle.buffer_core.specs.Window.{wants};
 ghost use Rattle.client_pointers.specs.Pointers.{clients_of};
+ghost use Rattle.ring_buffer.specs.Reads.{ReadsFronts};
 ghost use Rattle.ring_buffer.specs.Walks.{IsWalk, IsWay, in_the_way, IsFoundFor, FindsNothing};
 
 use crate::slot::read_front;
 use crate::walk::{Found, Owed, Position};
 use client_pointers::Pointers;
-use daq_types::Steps;
 use event_header::{Header, slot_len};
 use ring_bytes::Ring;
-use std::sync::ledger::Ledger;
 
 /// How far the events have to go so that one of this slot fits before the end, or the first of them that is owed to a
 /// client, with the least such client.
-pub fn find_way<L: Ledger>(
-    ring: &Ring,
+pub fn find_way(
+    ring: &mut Ring,
     clients: &Pointers,
     from: Position,
     end: Position,
     slot: u64,
-    steps: &mut Steps<L>,
 ) -> Result<Position, Owed>
-    requires least { 24 ≤ length ring.now }
-    requires walk { IsWalk ring.now from end }
-    requires slot { slot ≤ length ring.now }
+    requires least { 24 ≤ length ring.old.bytes }
+    requires walk { IsWalk ring.old.bytes from end }
+    requires slot { slot ≤ length ring.old.bytes }
     requires small { end.off ≤ 2 ^ 62 }
-    requires short { length ring.now ≤ 2 ^ 32 }
-    ensures way { IfOk result (λ at. IsWay ring.now (clients_of clients.now) from at end slot) }
-    ensures owed { IfErr result (λ owed. in_the_way ring.now (clients_of clients.now) from end
+    requires short { length ring.old.bytes ≤ 2 ^ 32 }
+    ensures way { IfOk result (λ at. IsWay ring.old.bytes (clients_of clients.now) from at end slot) }
+    ensures owed { IfErr result (λ owed. in_the_way ring.old.bytes (clients_of clients.now) from end
         slot ≡ Some (owed.client, owed.place)) }
-    ensures steps { IfOk result (λ at. steps.new ≡ steps.old + (at.place - from.place)) }
-    ensures owed_steps { IfErr result (λ owed. steps.new
-        ≡ steps.old + (owed.place - from.place + 1)) }
+    ensures same { ring.new.bytes ≡ ring.old.bytes }
+    ensures read { IfOk result (λ at. ReadsFronts ring.old ring.new (at.place - from.place)) }
+    ensures owed_read { IfErr result (λ owed. ReadsFronts ring.old ring.new
+        (owed.place - from.place + 1)) }
 {
     let size = u64::from(ring.size());
     let mut off = from.off;
@@ -42,7 +41,7 @@ pub fn find_way<L: Ledger>(
         if end.off - off + slot <= size {
             return Ok(Position { off, place });
         }
-        let front = read_front(ring, off, steps);
+        let front = read_front(ring, off);
         match clients.owed(place, &front.header) {
             Some(client) => return Err(Owed { client, place }),
             None => off += u64::from(slot_len(front.header.data_size)),
@@ -66,28 +65,28 @@ fn is_wanted(clients: &Pointers, client: u32, place: u64, header: &Header) -> bo
 }
 
 /// The first event that the client has yet to be given.
-pub fn find_wanted<L: Ledger>(
-    ring: &Ring,
+pub fn find_wanted(
+    ring: &mut Ring,
     clients: &Pointers,
     client: u32,
     from: Position,
     end: Position,
-    steps: &mut Steps<L>,
 ) -> Option<Found>
-    requires least { 24 ≤ length ring.now }
-    requires walk { IsWalk ring.now from end }
+    requires least { 24 ≤ length ring.old.bytes }
+    requires walk { IsWalk ring.old.bytes from end }
     requires small { end.off ≤ 2 ^ 62 }
-    ensures found { IfSome result (λ found. IsFoundFor ring.now (clients_of clients.now) client
+    ensures found { IfSome result (λ found. IsFoundFor ring.old.bytes (clients_of clients.now) client
         from end found) }
-    ensures nothing { IfNone result (FindsNothing ring.now (clients_of clients.now) client from
+    ensures nothing { IfNone result (FindsNothing ring.old.bytes (clients_of clients.now) client from
         end) }
-    ensures steps { IfSome result (λ found. steps.new
-        ≡ steps.old + (found.at.place - from.place + 1)) }
-    ensures all_steps { IfNone result (steps.new ≡ steps.old + (end.place - from.place)) }
+    ensures same { ring.new.bytes ≡ ring.old.bytes }
+    ensures read { IfSome result (λ found. ReadsFronts ring.old ring.new
+        (found.at.place - from.place + 1)) }
+    ensures all_read { IfNone result (ReadsFronts ring.old ring.new (end.place - from.place)) }
 {
     let mut off = from.off;
     for place in from.place..end.place {
-        let front = read_front(ring, off, steps);
+        let front = read_front(ring, off);
         if is_wanted(clients, client, place, &front.header) {
             return Some(Found {
                 front,

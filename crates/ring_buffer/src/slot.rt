@@ -1,13 +1,12 @@
-ghost use Rattle.std.specs.Prelude.{◌≡◌, ◌+◌, ◌≤◌, length};
+ghost use Rattle.std.specs.Prelude.{◌≡◌, ◌≤◌, length};
 ghost use Rattle.event_header.specs.Headers.{fields_of};
+ghost use Rattle.ring_bytes.specs.Rings.{IsRead};
 ghost use Rattle.buffer_core.specs.Window.{Sent};
 ghost use Rattle.ring_buffer.specs.RingHolds.{front_of, HoldsEvent};
 ghost use Rattle.ring_buffer.specs.Stored.{FitsSlot, IsHeader};
 
-use daq_types::Steps;
 use event_header::{Header, read_header, write_header};
 use ring_bytes::Ring;
-use std::sync::ledger::Ledger;
 
 /// How many bytes stand in front of an event's data.
 pub const FRONT: usize = 24;
@@ -42,15 +41,16 @@ fn with_fields_that_fit(header: Header) -> Header
 }
 
 /// Reads what stands in front of the data of the event at this offset.
-pub fn read_front<L: Ledger>(ring: &Ring, off: u64, steps: &mut Steps<L>) -> Front
-    requires { 24 ≤ length ring.now }
-    ensures start { (s : Sent) → HoldsEvent ring.now off s → FitsSlot s → result.start ≡ s.start }
-    ensures header { (s : Sent) → HoldsEvent ring.now off s → FitsSlot s → result.header
+pub fn read_front(ring: &mut Ring, off: u64) -> Front
+    requires { 24 ≤ length ring.old.bytes }
+    ensures start { (s : Sent) → HoldsEvent ring.old.bytes off s → FitsSlot s → result.start
+        ≡ s.start }
+    ensures header { (s : Sent) → HoldsEvent ring.old.bytes off s → FitsSlot s → result.header
         ≡ fields_of s.event }
-    ensures step { steps.new ≡ steps.old + 1 }
+    ensures read { IsRead ring.old ring.new 1 24 }
 {
     let mut bytes = [0; FRONT];
-    ring.get_at(off, &mut bytes, steps);
+    ring.get_at(off, &mut bytes);
     let (front, rest) = bytes.split_at(8);
     let Ok(header) = read_header(rest) else {
         unreachable!()

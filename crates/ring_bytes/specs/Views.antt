@@ -1,10 +1,10 @@
--- How a ring keeps its bytes.
-use Rattle.std.specs.Prelude.{ℕ, ◌≤◌, List, length}
+-- How a ring keeps its bytes, and what it counts.
+use Rattle.std.specs.Prelude.{◌≤◌, length}
 use Rattle.ring_bytes.specs.declared.ring.Ring.TheInside.{Inside}
-use Rattle.ring_bytes.specs.Rings.{most_bytes}
+use Rattle.ring_bytes.specs.Rings.{CountedBytes, most_bytes}
 
-abbrev pub inside_bytes : Inside → List ℕ
-inside_bytes r = r.bytes.items
+abbrev pub counted_bytes : Inside → CountedBytes
+counted_bytes r = record { bytes = r.bytes.items; reads = r.reads; bytes_read = r.bytes_read }
 
 pub record IsRing (r : Inside) : Type 0 where
   pub some : 1 ≤ length r.bytes.items

@@ -19,6 +19,7 @@ use Rattle.loggers.specs.LoggerStands.{LoggerStands}
 use Rattle.daq_io.specs.Seen.{Seen}
 use Rattle.buffer_core.specs.Window.{Window}
 use Rattle.buffer_core.specs.Ports.{Access, BufferIdentity}
+use Rattle.ring_buffer.specs.CountedWindows.{CountedWindow}
 use Rattle.buffer_lock.specs.declared.shared.SharedBuffer.{SharedBuffer}
 use Rattle.buffer_lock.specs.SharedBuffers.{first_buffer}
 use Rattle.buffer_lock.specs.SharedPorts.{identity_by, access_to, ported_by}
@@ -41,12 +42,12 @@ use Rattle.session_objects.specs.declared.objects.SessionObjects.{SessionObjects
 use Rattle.session_objects.specs.Objects.{first_analyzer}
 use Rattle.session_objects.specs.Calls.{FrontCalls, AnalyzerCalls, SessionCalls}
 
--- a ring's value is its window
-abbrev pub ring_window : Window → Window
-ring_window window = window
+-- what is seen of a ring buffer tells its window
+abbrev pub ring_window : CountedWindow → Window
+ring_window buffer = buffer.window
 
 -- which buffer a shared ring is
-abbrev pub ring_identity : SharedBuffer Window → BufferIdentity
+abbrev pub ring_identity : SharedBuffer CountedWindow → BufferIdentity
 ring_identity shared = identity_by ring_window shared
 
 -- the equipment that was declared
@@ -177,8 +178,8 @@ pub record AreSeated {X : Type 0} (Holds : ℕ → X → Type 0) (count : ℕ) (
   pub each : (place : ℕ) → (seat : X) → slice_get seats place ≡ Some seat → Holds place seat
 
 -- what a port to a shared buffer tells before its caller called
-abbrev pub new_port : SharedBuffer Window → (caller : ℕ) → Access
-new_port shared caller = access_to (ring_identity shared) (ported_by caller (first_buffer shared) [])
+abbrev pub new_port : SharedBuffer CountedWindow → (caller : ℕ) → Access
+new_port shared caller = access_to (ring_identity shared) (ported_by caller (ring_window (first_buffer shared)) [])
 
 -- what the access to a shared database tells before its caller called
 abbrev pub new_access : {D : Type 0} → SharedOdb D → (caller : ℕ) → DatabaseAccess

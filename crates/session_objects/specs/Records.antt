@@ -73,7 +73,7 @@ pub record IsRecordOf (buffer : SessionBuffer) (r : BufferRecord) : Type 0 where
   pub name : r.name ≡ buffer.name
   pub size : r.size ≡ buffer.size
   pub legal : IsLegal (opening r.size) (history_of r.closed)
-  pub left : r.closed.value.buffer ≡ replay (opening r.size) (history_of r.closed)
+  pub left : r.closed.value.buffer.window ≡ replay (opening r.size) (history_of r.closed)
   pub delivers : Delivers r.size (history_of r.closed)
   pub runs : KeepsRuns (history_of r.closed)
 

@@ -17,7 +17,7 @@ pub struct SessionBuffer {
     pub size: u32,
     pub shared: SharedBuffer<RingBuffer>,
     ghost sized: { IsTrue (is_buffer_size size) },
-    ghost opens: { first_buffer shared ≡ opening size },
+    ghost opens: { (first_buffer shared).window ≡ opening size },
 }
 
 /// The objects that the members of a session share, but for the database: its buffers, in the order of their declaration,

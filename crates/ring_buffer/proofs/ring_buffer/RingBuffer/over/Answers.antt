@@ -8,5 +8,5 @@ pub invariant_of-result : goal.invariant_of-result
 invariant_of-result c =
     subst (λ (slots : List (Option Pointer)). IsRingBuffer (opened c.args.ring slots)) (sym c.new.ensures) (opened_is c.args.ring c.requires)
 
-pub returns : goal.returns
-returns c = ap (λ (slots : List (Option Pointer)). window_of (opened c.args.ring slots)) c.new.ensures ∙ opening_is c.args.ring
+pub returns-clause-window : goal.returns-clause-window
+returns-clause-window c = ap (λ (slots : List (Option Pointer)). window_of (opened c.args.ring slots)) c.new.ensures ∙ opening_is c.args.ring

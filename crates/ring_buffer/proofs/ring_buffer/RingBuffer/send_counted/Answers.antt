@@ -1,8 +1,0 @@
-use Rattle.std.proofs.Common.{Ok, sym}
-use Rattle.event_header.specs.Headers.{event_of}
-use Rattle.buffer_core.specs.declared.entry.BufferEntry.TheVariants.{Send}
-use Rattle.buffer_core.proofs.WindowKept.{window_stays}
-use Rattle.ring_buffer.proofs.ring_buffer.RingBuffer.send_counted.Goals as goal
-
-pub put-requires : goal.put-requires
-put-requires g c = record { window = λ is n ok. window_stays c.args.self.now (Send c.args.header.now.data_size (event_of c.args.header.now c.args.body.now) (Ok n)) is (sym ok) }
