@@ -3,6 +3,7 @@ use Rattle.std.proofs.Common.{◌≡◌, ◌≢◌, ℕ, ◌<◌, Bool, true, fa
 use Rattle.std.specs.Prelude.{IfOk, IsSome, IsTrue, OnErr, length, slice_get}
 use Rattle.std.proofs.lemmas.Bool.{false≢true, lt-ltb}
 use Rattle.std.specs.Option.{unwrap_or}
+use Rattle.std.specs.Result.{IsErr}
 use Rattle.daq_types.specs.declared.memory.NoMemory.{NoMemory}
 use Rattle.odb_path.specs.declared.refusals.PathRefusal.{PathRefusal}
 use Rattle.odb_path.specs.PathText.{path_reply}
@@ -154,6 +155,11 @@ cut_set_in p index text v within = subst (λ (item : Result Item CommandRefusal)
 one_cut : (p : List (List ℕ)) (len : ℕ) (item : Option Item) → IsSome item → Some_cut (SaysAtOnce (one_or len item))
 one_cut p len None some = absurd (false≢true some)
 one_cut p len (Some item) some = (([], One item, (refl, refl)), λ h. refl)
+
+-- what a command came to where memory ended
+pub ends_cut : (a b : DatabaseAccess) (Does : List DatabaseEntry → CommandReply → Type 0) (result : Result CommandReply NoMemory) → IsErr result → CutsAnswer a b Does → EndsCommand a b Does result
+ends_cut a b Does (Ok reply) wanting cut = absurd (false≢true wanting)
+ends_cut a b Does (Err why) wanting cut = cut
 
 pub one_not_begun : (a : DatabaseAccess) (p : List (List ℕ)) (index : ℕ) (v : HeldValue) (result : Result CommandReply NoMemory) → IfOk result (λ reply. reply ≡ one_or (length v.items) (slice_get v.items index))
     → OnErr result (IsSome (slice_get v.items index)) → EndsCommand a a (Shows p (Some index) v) result

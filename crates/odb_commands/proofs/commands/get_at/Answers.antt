@@ -1,11 +1,11 @@
-use Rattle.odb_commands.proofs.Made.{not_begun, cut_get, gets_behind, get_cut}
+use Rattle.odb_commands.proofs.Made.{ends_cut, not_begun, cut_get, gets_behind, get_cut}
 use Rattle.odb_commands.proofs.commands.get_at.Goals as goal
 
 pub returns-in_err-copy : goal.returns-in_err-copy
-returns-in_err-copy g c = not_begun _ _ (cut_get c.args.index c.args.path)
+returns-in_err-copy g c = ends_cut _ _ _ _ c.from_residual.ensures.0 (not_begun _ _ (cut_get c.args.index c.args.path))
 
 pub returns-in_err-got : goal.returns-in_err-got
-returns-in_err-got g c = get_cut _ _ _ _ _ _ c.get.ensures c.in_ok-copy.ensures c.in_err-got.ensures.memory
+returns-in_err-got g c = ends_cut _ _ _ _ c.from_residual-in_err-got.ensures.0 (get_cut _ _ _ _ _ _ c.get.ensures c.in_ok-copy.ensures c.in_err-got.ensures.memory)
 
 pub returns : goal.returns
 returns g c = gets_behind _ _ _ _ _ _ _ _ _ c.get.ensures c.in_ok-copy.ensures c.in_ok-got.ensures.same c.in_ok-got.ensures.wanted c.get_in.ensures
