@@ -132,6 +132,10 @@ pub no_name : (text : List ℕ) (seen : Seen) (D : List ℕ → List WatchEntry 
     → AnswersWatch a a (OnFileName text seen seen D) answer
 no_name text seen D a answer bad is = record { calls = []; made = refl; does = inl (bad, refl, (refl, is)) }
 
+pub named_as : (text name : List ℕ) (old new : Seen) (D : List ℕ → List WatchEntry → WatchAnswer → Type 0) (result : Result WatchAnswer NoMemory) (a b : DatabaseAccess) → text ≡ name → EndsWatchCommand a b (OnFileName text old new D) result
+    → EndsWatchCommand a b (OnFileName name old new D) result
+named_as text name old new D result a b same ends = subst (λ (n : List ℕ). EndsWatchCommand a b (OnFileName n old new D) result) same ends
+
 -- A text is the name of a file or is not.
 
 at_most_or_not : (m n : ℕ) → (m ≤ n) ⊎ (m ≤ n → ⊥)
