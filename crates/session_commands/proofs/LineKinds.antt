@@ -1,5 +1,5 @@
 -- A line of a script by its kind: what it changes of a session, whatever its form.
-use Rattle.std.proofs.Common.{◌≡◌, ℕ, true, false, refl}
+use Rattle.std.proofs.Common.{◌≡◌, ℕ, true, false, refl, sym, subst}
 use Rattle.std.specs.Prelude.{Bool, Ok, Err}
 use Rattle.odb_script.specs.declared.commands.Command.{Command}
 use Rattle.odb_script.specs.declared.commands.Command.TheVariants.{Nothing, Exit, Declare, Run, Database}
@@ -9,7 +9,7 @@ use Rattle.odb_script.specs.declared.refusals.LineRefusal.TheVariants.{BadComman
 use Rattle.odb_script.specs.Forms.{Read}
 use Rattle.session_replies.specs.declared.replies.Reply.{Reply}
 use Rattle.session_setup.specs.Setup.{Declared}
-use Rattle.database_desk.specs.DatabaseLines.{BreaksDatabase}
+use Rattle.database_desk.specs.DatabaseLines.{BreaksDatabase, DoesDatabase}
 use Rattle.session_lines.specs.Stages.{SessionStage, with_quota}
 use Rattle.session_lines.specs.SetupReplies.{SetupUnless}
 use Rattle.session_lines.specs.RunLines.{BreaksStart, BreaksStop, DoesPause, DoesResume, DoesStart, DoesStop}
@@ -67,3 +67,13 @@ command_cut (Database command) old new broke = CutsCalls command broke.0 broke.1
 pub line_cut : (number : ℕ) (line : Read Command) (old new : SessionStage) → BreaksScriptLine number line old new → LineCut old new
 line_cut number (Err refusal) old new broke = absurd broke
 line_cut number (Ok command) old new broke = command_cut command old new broke
+
+-- The commands of the online database, as lines.
+
+pub called_line : (number : ℕ) (line : Read Command) (command : DatabaseCommand) (old : SessionStage) (reply : Reply) (new : SessionStage) → line ≡ Ok (Database command) → DoesDatabase number command old.database reply new.database → new ≡ record old { database = new.database }
+    → DoesScriptLine number line old reply new
+called_line number line command old reply new at does same = subst (λ (x : Read Command). DoesScriptLine number x old reply new) (sym at) (does, same)
+
+pub cut_called : (number : ℕ) (line : Read Command) (command : DatabaseCommand) (old new : SessionStage) → line ≡ Ok (Database command) → BreaksDatabase command old.database new.database → new ≡ record old { database = new.database }
+    → BreaksScriptLine number line old new
+cut_called number line command old new at broke same = subst (λ (x : Read Command). BreaksScriptLine number x old new) (sym at) (broke, same)

@@ -99,20 +99,24 @@ impl<'a, D: WatchPort, M: Rounds, E: Files, C: Clock> Answerer for Opened<'a, D,
             Command::Declare { .. } => Ok(Reply::Setup {
                 refusal: SetupRefusal::Opened,
             }),
-            Command::Run { command } => match command {
-                RunCommand::Events { count } => {
-                    runs.set_quota(count);
-                    Ok(Reply::Silent)
-                }
-                RunCommand::Start => {
-                    answer_start(rt, alloc, runs, access, crew, &mut self.side.clock)
-                }
-                RunCommand::Stop => {
-                    answer_stop(rt, alloc, runs, access, crew, &mut self.side.clock)
-                }
-                RunCommand::Pause => Ok(answer_pause(rt, alloc, runs, access, crew)),
-                RunCommand::Resume => Ok(answer_resume(rt, alloc, runs, access, crew)),
-            },
+            Command::Run {
+                command: RunCommand::Events { count },
+            } => {
+                runs.set_quota(count);
+                Ok(Reply::Silent)
+            }
+            Command::Run {
+                command: RunCommand::Start,
+            } => answer_start(rt, alloc, runs, access, crew, &mut self.side.clock),
+            Command::Run {
+                command: RunCommand::Stop,
+            } => answer_stop(rt, alloc, runs, access, crew, &mut self.side.clock),
+            Command::Run {
+                command: RunCommand::Pause,
+            } => Ok(answer_pause(rt, alloc, runs, access, crew)),
+            Command::Run {
+                command: RunCommand::Resume,
+            } => Ok(answer_resume(rt, alloc, runs, access, crew)),
             Command::Database { command } => {
                 self.side.database.answer(rt, alloc, number, &command)
             }

@@ -76,18 +76,26 @@ impl<D: WatchPort, E: Files, C: Clock> Answerer for Unopened<D, E, C> {
         match command {
             Command::Nothing | Command::Exit => Ok(Reply::Silent),
             Command::Declare { declaration } => { Ok(declare(&mut self.declarations, declaration)) }
-            Command::Run { command } => match command {
-                RunCommand::Events { count } => {
-                    self.quota = count;
-                    Ok(Reply::Silent)
-                }
-                RunCommand::Start => unreachable!(),
-                RunCommand::Stop | RunCommand::Pause | RunCommand::Resume => {
-                    Ok(Reply::WrongState {
-                        state: RunState::Stopped,
-                    })
-                }
-            },
+            Command::Run {
+                command: RunCommand::Events { count },
+            } => {
+                self.quota = count;
+                Ok(Reply::Silent)
+            }
+            Command::Run {
+                command: RunCommand::Start,
+            } => unreachable!(),
+            Command::Run {
+                command: RunCommand::Stop,
+            }
+            | Command::Run {
+                command: RunCommand::Pause,
+            }
+            | Command::Run {
+                command: RunCommand::Resume,
+            } => Ok(Reply::WrongState {
+                state: RunState::Stopped,
+            }),
             Command::Database { command } => {
                 self.side.database.answer(rt, alloc, number, &command)
             }
