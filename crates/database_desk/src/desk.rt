@@ -1,7 +1,6 @@
-ghost use Rattle.std.specs.Prelude.{◌≡◌, ◌≤◌, IfOk, OnErr, true};
+ghost use Rattle.std.specs.Prelude.{◌≡◌, ◌≤◌, IfOk, OnErr};
 ghost use Rattle.daq_types.specs.Callers.{main_caller};
 ghost use Rattle.odb_port.specs.DatabasePorts.{IsSamePort};
-ghost use Rattle.watch_commands.specs.WatchPerforms.{performs_watches};
 
 use crate::noting::note_file;
 use daq_io::Files;
@@ -9,7 +8,7 @@ use daq_types::NoMemory;
 use database_files::FileReplies;
 use odb_commands::run_command;
 use odb_port::WatchPort;
-use odb_script::Command;
+use odb_script::DatabaseCommand;
 use session_replies::Reply;
 use std::alloc::Global;
 use std::sync::Wait;
@@ -28,7 +27,7 @@ pub struct DatabaseDesk<D: WatchPort, E: Files> {
 }
 
 impl<D: WatchPort, E: Files> DatabaseDesk<D, E> {
-    ghost use Rattle.database_desk.specs.DatabaseLines.{BreaksDatabase, DoesDatabase, PerformsDump, calls_objects};
+    ghost use Rattle.database_desk.specs.DatabaseLines.{BreaksDatabase, DoesDatabase};
     ghost use Rattle.database_desk.specs.DatabaseStages.{database_stage};
 
     /// Answers a command of the online database in the line of this number.
@@ -37,9 +36,8 @@ impl<D: WatchPort, E: Files> DatabaseDesk<D, E> {
         rt: &R,
         alloc: Global,
         number: u64,
-        command: &Command<'_>,
+        command: &DatabaseCommand<'_>,
     ) -> Result<Reply, NoMemory>
-        requires database { calls_objects command.now ≡ true }
         ensures did { IfOk result (λ reply. DoesDatabase number command.now
             (database_stage (D.access self.old.access) (E.seen self.old.files)
             (E.faults self.old.files) (E.clashes self.old.files) (E.first self.old.files)
@@ -58,47 +56,20 @@ impl<D: WatchPort, E: Files> DatabaseDesk<D, E> {
         ensures same { IsSamePort (D.access self.old.access)
             (D.access self.new.access) }
     {
-        match run_command(rt, alloc, &mut self.access, command)? {
-            Some(reply) => Ok(Reply::Database { reply }),
-            None => self.answer_watch(rt, alloc, number, command),
-        }
-    }
-
-    /// Answers a command for watches or dumps in the line of this number.
-    fn answer_watch<R: Wait>(
-        &mut self,
-        rt: &R,
-        alloc: Global,
-        number: u64,
-        command: &Command<'_>,
-    ) -> Result<Reply, NoMemory>
-        requires watches { performs_watches command.now ≡ true }
-        ensures did { IfOk result (λ reply. PerformsDump number command.now
-            (database_stage (D.access self.old.access) (E.seen self.old.files)
-            (E.faults self.old.files) (E.clashes self.old.files) (E.first self.old.files)
-            self.old.replies.replies)
-            reply
-            (database_stage (D.access self.new.access) (E.seen self.new.files)
-            (E.faults self.new.files) (E.clashes self.new.files) (E.first self.new.files)
-            self.new.replies.replies)) }
-        ensures broke { OnErr result (BreaksDatabase command.now
-            (database_stage (D.access self.old.access) (E.seen self.old.files)
-            (E.faults self.old.files) (E.clashes self.old.files) (E.first self.old.files)
-            self.old.replies.replies)
-            (database_stage (D.access self.new.access) (E.seen self.new.files)
-            (E.faults self.new.files) (E.clashes self.new.files) (E.first self.new.files)
-            self.new.replies.replies)) }
-        ensures same { IsSamePort (D.access self.old.access)
-            (D.access self.new.access) }
-    {
-        self.replies.reserve(1)?;
-        match run_watch_command(rt, alloc, &mut self.access, &mut self.files, command)? {
-            Some(answer) => {
-                let WatchAnswer { reply, file } = answer;
+        match command {
+            DatabaseCommand::Rows { command } => {
+                let reply = run_command(rt, alloc, &mut self.access, command)?;
+                Ok(Reply::Database { reply })
+            }
+            DatabaseCommand::Watches { command } => {
+                self.replies.reserve(1)?;
+                let (access, files) = (&mut self.access, &mut self.files);
+                let WatchAnswer { reply, file } = run_watch_command(
+                    rt, alloc, access, files, command,
+                )?;
                 note_file(&mut self.replies, number, file);
                 Ok(Reply::Watch { reply })
             }
-            None => unreachable!(),
         }
     }
 }

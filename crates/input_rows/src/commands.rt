@@ -1,6 +1,9 @@
 //! Worked lines of the script with their commands, and the places at which lines are refused.
 use daq_types::Kind;
-use odb_script::{Command, LineRefusal, LineText};
+use odb_script::{
+    Command, DatabaseCommand, Declaration, LineRefusal, LineText, RowCommand, RunCommand,
+    WatchCommand,
+};
 use std::alloc::{AllocError, Global};
 use std::process::Abort;
 use std::test::Fail;
@@ -51,11 +54,11 @@ fn kind_word(kind: Kind) -> &'static str {
     }
 }
 
-/// The parts of a command that declares a buffer or a member; any other has the form `no other`.
-fn parts_of_declared(command: Command<'_>) -> Parts<'_> {
-    match command {
-        Command::Buffer { name, size } => of_text("buffer", name, size),
-        Command::Equip {
+/// The parts of a declaration.
+fn parts_of_declared(declaration: Declaration<'_>) -> Parts<'_> {
+    match declaration {
+        Declaration::Buffer { name, size } => of_text("buffer", name, size),
+        Declaration::Equip {
             name,
             id,
             mask,
@@ -67,7 +70,7 @@ fn parts_of_declared(command: Command<'_>) -> Parts<'_> {
             texts: [name.as_slice(), buffer.as_slice()],
             numbers: [id, mask as u32, limit],
         },
-        Command::Channel {
+        Declaration::Channel {
             number,
             pattern,
             buffer,
@@ -79,7 +82,7 @@ fn parts_of_declared(command: Command<'_>) -> Parts<'_> {
             texts: [pattern.as_slice(), buffer.as_slice()],
             numbers: [number, id as u32, mask as u32],
         },
-        Command::Analyzer {
+        Declaration::Analyzer {
             name,
             buffer,
             id,
@@ -91,34 +94,54 @@ fn parts_of_declared(command: Command<'_>) -> Parts<'_> {
             texts: [name.as_slice(), buffer.as_slice()],
             numbers: [id as u32, mask as u32, 0],
         },
-        _ => of_form("no other"),
     }
 }
 
-/// The parts of a command on the keys of the database, or of one that declares.
-fn parts_of_key(command: Command<'_>) -> Parts<'_> {
+/// The parts of a command on the rows of the database.
+fn parts_of_rows(command: RowCommand<'_>) -> Parts<'_> {
     match command {
-        Command::Create { tid, path, len } => Parts {
+        RowCommand::Create { tid, path, len } => Parts {
             said: tid.name(),
             ..of_text("create", path, len)
         },
-        Command::CreateDir { path } => of_text("directory", path, 0),
-        Command::Set { path, index, value } => Parts {
+        RowCommand::CreateDir { path } => of_text("directory", path, 0),
+        RowCommand::Set { path, index, value } => Parts {
             form: "set",
             said: "",
             texts: [path.as_slice(), value.as_slice()],
             numbers: [index, 0, 0],
         },
-        Command::Get { path, index } => match index {
+        RowCommand::Get { path, index } => match index {
             None => of_text("get", path, 0),
             Some(index) => Parts {
                 said: "one",
                 ..of_text("get", path, index)
             },
         },
-        Command::List { path } => of_text("list", path, 0),
-        Command::Remove { path } => of_text("remove", path, 0),
-        other => parts_of_declared(other),
+        RowCommand::List { path } => of_text("list", path, 0),
+        RowCommand::Remove { path } => of_text("remove", path, 0),
+    }
+}
+
+/// The parts of a command for watches or dumps.
+fn parts_of_watches(command: WatchCommand<'_>) -> Parts<'_> {
+    match command {
+        WatchCommand::Load { file } => of_text("load", file, 0),
+        WatchCommand::Save { file } => of_text("save", file, 0),
+        WatchCommand::Watch { path } => of_text("watch", path, 0),
+        WatchCommand::Notes { watch } => of_number("notes", watch),
+        WatchCommand::Unwatch { watch } => of_number("unwatch", watch),
+    }
+}
+
+/// The parts of a command for runs.
+fn parts_of_run(command: RunCommand) -> Parts<'static> {
+    match command {
+        RunCommand::Events { count } => of_number("events", count),
+        RunCommand::Start => of_form("start"),
+        RunCommand::Stop => of_form("stop"),
+        RunCommand::Pause => of_form("pause"),
+        RunCommand::Resume => of_form("resume"),
     }
 }
 
@@ -126,18 +149,13 @@ fn parts_of_key(command: Command<'_>) -> Parts<'_> {
 fn parts_of(command: Command<'_>) -> Parts<'_> {
     match command {
         Command::Nothing => of_form("nothing"),
-        Command::Start => of_form("start"),
-        Command::Stop => of_form("stop"),
-        Command::Pause => of_form("pause"),
-        Command::Resume => of_form("resume"),
         Command::Exit => of_form("exit"),
-        Command::Events { count } => of_number("events", count),
-        Command::Load { file } => of_text("load", file, 0),
-        Command::Save { file } => of_text("save", file, 0),
-        Command::Watch { path } => of_text("watch", path, 0),
-        Command::Notes { watch } => of_number("notes", watch),
-        Command::Unwatch { watch } => of_number("unwatch", watch),
-        other => parts_of_key(other),
+        Command::Declare { declaration } => parts_of_declared(declaration),
+        Command::Run { command } => parts_of_run(command),
+        Command::Database { command } => match command {
+            DatabaseCommand::Rows { command } => parts_of_rows(command),
+            DatabaseCommand::Watches { command } => parts_of_watches(command),
+        },
     }
 }
 

@@ -20,14 +20,14 @@ use Rattle.odb_tree.specs.Rows.{Rows}
 use Rattle.odb_tree.specs.Calls.{Gives, GivesItem, create_reply, set_reply, get_reply, find_reply, list_reply, delete_reply, path_with, rows_after}
 use Rattle.odb_tree.specs.Histories.{IsLegalRows, IsLegalCall}
 use Rattle.odb_port.specs.DatabasePorts.{IsSettled, calls_by}
-use Rattle.odb_script.specs.declared.forms.Command.{Command}
-use Rattle.odb_script.specs.declared.forms.Command.TheVariants as command
+use Rattle.odb_script.specs.declared.commands.RowCommand.{RowCommand}
+use Rattle.odb_script.specs.declared.commands.RowCommand.TheVariants as command
 use Rattle.odb_commands.specs.declared.replies.CommandRefusal.{CommandRefusal}
 use Rattle.odb_commands.specs.declared.replies.CommandRefusal.TheVariants.{Protected}
 use Rattle.odb_commands.specs.declared.replies.CommandReply.{CommandReply}
 use Rattle.odb_commands.specs.declared.replies.CommandReply.TheVariants.{Key}
 use Rattle.odb_commands.specs.Answers.{CommandAnswer, refused, at_path, done_or, listed_or, create_at, item_for, set_item, set_in, set_at, key_found, shown_value, get_in, get_at, list_at, is_protected, removed, remove_at, answer_of}
-use Rattle.odb_commands.specs.CommandCalls.{AtPath, CreatesKey, SetsItem, SetsIn, Sets, NamesFound, Shows, GetsIn, Gets, Lists, RemovesIf, RemovesKey, Performs, IsAnswered, IsAnswerOf, OthersLeave}
+use Rattle.odb_commands.specs.CommandCalls.{AtPath, CreatesKey, SetsItem, SetsIn, Sets, NamesFound, Shows, GetsIn, Gets, Lists, RemovesIf, RemovesKey, Performs, IsAnswered, OthersLeave}
 
 -- A legal reply is that of the rows, where memory was not wanting.
 
@@ -134,7 +134,7 @@ path_answered : (read : Result (List (List ℕ)) PathRefusal) (answer : List (Li
 path_answered (Err why) answer Then calls reply each does = does
 path_answered (Ok p) answer Then calls reply each does = each p does
 
-pub performs_answered : (s : Rows) (c : Command) (calls : List DatabaseEntry) (reply : CommandReply) → Performs c calls reply → IsLegalRows s (calls_by 0 calls) → IsAnswerOf (answer_of s c) calls reply
+pub performs_answered : (s : Rows) (c : RowCommand) (calls : List DatabaseEntry) (reply : CommandReply) → Performs c calls reply → IsLegalRows s (calls_by 0 calls) → IsAnswered (answer_of s c) calls reply
 performs_answered s (command.Create type path len) calls reply does legal =
     path_answered (path_reply path) (create_at s (Keys type len)) (CreatesKey (Keys type len)) calls reply (λ p it. create_answered s (Keys type len) p calls reply legal it) does
 performs_answered s (command.CreateDir path) calls reply does legal = path_answered (path_reply path) (create_at s Dir) (CreatesKey Dir) calls reply (λ p it. create_answered s Dir p calls reply legal it) does
@@ -142,7 +142,6 @@ performs_answered s (command.Set path index value) calls reply does legal = path
 performs_answered s (command.Get path index) calls reply does legal = path_answered (path_reply path) (get_at s index) (Gets index) calls reply (λ p it. get_answered s index p calls reply legal it) does
 performs_answered s (command.List path) calls reply does legal = path_answered (path_reply path) (list_at s) Lists calls reply (λ p it. list_answered s p calls reply legal it) does
 performs_answered s (command.Remove path) calls reply does legal = path_answered (path_reply path) (remove_at s) RemovesKey calls reply (λ p it. remove_answered s p (is_protected p) calls reply legal it) does
-performs_answered s _ calls reply does legal = absurd does
 
 -- Calls of others that leave the rows can be left out.
 
@@ -164,5 +163,5 @@ own_legal s (e ∷ h) legal leave =
     subst (λ (es : List DatabaseEntry). IsLegalRows s (calls_by 0 es)) (sym (own_cons (e.0 == 0) e h refl))
     (own_legal_by (e.0 == 0) s e (entries_by 0 h) refl legal.0 leave.0 (own_legal (rows_after s e.1) h legal.1 leave.1))
 
-pub performs_among : (s : Rows) (h : List (ℕ × DatabaseEntry)) (c : Command) (reply : CommandReply) → Performs c (entries_by 0 h) reply → IsLegalRows s h → OthersLeave s h → IsAnswerOf (answer_of s c) (entries_by 0 h) reply
+pub performs_among : (s : Rows) (h : List (ℕ × DatabaseEntry)) (c : RowCommand) (reply : CommandReply) → Performs c (entries_by 0 h) reply → IsLegalRows s h → OthersLeave s h → IsAnswered (answer_of s c) (entries_by 0 h) reply
 performs_among s h c reply does legal leave = performs_answered s c (entries_by 0 h) reply does (own_legal s h legal leave)

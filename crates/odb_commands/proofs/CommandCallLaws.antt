@@ -23,14 +23,14 @@ use Rattle.odb_tree.specs.Limits.{limit_fault, text_fault}
 use Rattle.odb_tree.specs.Calls.{reply_or, exists_fault, kept_fault, items_fault, create_fault, create_reply, after_create, type_fault, index_fault, set_fault, set_reply_to, set_reply, after_set, value_reply, get_reply, number_reply, find_reply, children_or, list_reply, delete_reply, path_with, count_gone}
 use Rattle.odb_tree.specs.Making.{new_number}
 use Rattle.odb_port.specs.DatabasePorts.{IsSettled}
-use Rattle.odb_script.specs.declared.forms.Command.{Command}
-use Rattle.odb_script.specs.declared.forms.Command.TheVariants as command
+use Rattle.odb_script.specs.declared.commands.RowCommand.{RowCommand}
+use Rattle.odb_script.specs.declared.commands.RowCommand.TheVariants as command
 use Rattle.odb_commands.specs.declared.replies.CommandRefusal.{CommandRefusal}
 use Rattle.odb_commands.specs.declared.replies.CommandRefusal.TheVariants.{Protected}
 use Rattle.odb_commands.specs.declared.replies.CommandReply.{CommandReply}
 use Rattle.odb_commands.specs.Answers.{CommandAnswer, refused, at_path, create_at, item_for, set_item, set_in, set_at, key_found, shown_value, get_in, get_at, list_at, is_protected, removed, remove_at, answer_of}
 use Rattle.odb_commands.specs.CommandCalls.{AtPath, CreatesKey, SetsItem, SetsIn, Sets, NamesFound, Shows, GetsIn, Gets, Lists, RemovesIf, RemovesKey, Performs}
-use Rattle.odb_commands.specs.CommandCallLaws.{PerformsIf, Spares}
+use Rattle.odb_commands.specs.CommandCallLaws.{Spares}
 
 -- A refusal by the rows is never one for want of memory.
 
@@ -214,7 +214,7 @@ path_performs : (read : Result (List (List ℕ)) PathRefusal) (answer : List (Li
 path_performs (Err why) answer Then each = (refl, refl)
 path_performs (Ok p) answer Then each = each p
 
-pub performs_answer : (s : Rows) (c : Command) → PerformsIf c (answer_of s c)
+pub performs_answer : (s : Rows) (c : RowCommand) → Performs c (answer_of s c).calls (answer_of s c).reply
 performs_answer s (command.Create tid path len) = path_performs (path_reply path) (create_at s (Keys tid len)) (CreatesKey (Keys tid len)) (λ p. (create_reply s p (Keys tid len), refl, create_settled s p (Keys tid len), refl))
 performs_answer s (command.CreateDir path) = path_performs (path_reply path) (create_at s Dir) (CreatesKey Dir) (λ p. (create_reply s p Dir, refl, create_settled s p Dir, refl))
 performs_answer s (command.Set path index value) = path_performs (path_reply path) (set_at s index value) (Sets index value)
@@ -223,7 +223,6 @@ performs_answer s (command.Get path index) = path_performs (path_reply path) (ge
     (λ p. (get_reply s p, (get_in s p index (get_reply s p)).calls, refl, get_settled s p, get_performs s p index (get_reply s p)))
 performs_answer s (command.List path) = path_performs (path_reply path) (list_at s) Lists (λ p. (list_reply s p, refl, list_settled s p, refl))
 performs_answer s (command.Remove path) = path_performs (path_reply path) (remove_at s) RemovesKey (λ p. remove_performs s p (is_protected p))
-performs_answer s _ = tt
 
 spares_by : (calls more : List DatabaseEntry) → calls ≡ more → Spares more → Spares calls
 spares_by calls more is spares = subst Spares (sym is) spares
@@ -261,7 +260,7 @@ path_spares : (read : Result (List (List ℕ)) PathRefusal) (Then : List (List �
 path_spares (Err why) Then calls reply each does = spares_by calls [] does.0 tt
 path_spares (Ok p) Then calls reply each does = each p does
 
-pub performs_spares : (c : Command) (calls : List DatabaseEntry) (reply : CommandReply) → Performs c calls reply → Spares calls
+pub performs_spares : (c : RowCommand) (calls : List DatabaseEntry) (reply : CommandReply) → Performs c calls reply → Spares calls
 performs_spares (command.Create tid path len) calls reply does =
     path_spares (path_reply path) (CreatesKey (Keys tid len)) calls reply (λ p it. spares_by calls (call.Create p (Keys tid len) it.0 ∷ []) it.1 (tt, tt)) does
 performs_spares (command.CreateDir path) calls reply does =
@@ -273,4 +272,3 @@ performs_spares (command.Get path index) calls reply does =
 performs_spares (command.List path) calls reply does =
     path_spares (path_reply path) Lists calls reply (λ p it. spares_by calls (call.ListDir p it.0 ∷ []) it.1 (tt, tt)) does
 performs_spares (command.Remove path) calls reply does = path_spares (path_reply path) RemovesKey calls reply (λ p it. remove_spares p calls reply it) does
-performs_spares _ calls reply does = absurd does

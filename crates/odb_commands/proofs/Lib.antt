@@ -1,4 +1,3 @@
 mod AnswerLaws
 mod Made
 pub mod CommandCallLaws
-pub mod CommandLaws

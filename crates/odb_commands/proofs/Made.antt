@@ -2,8 +2,8 @@
 use Rattle.std.proofs.Common.{◌≡◌, ◌≢◌, ℕ, ◌<◌, Bool, true, false, List, [], ◌∷◌, Option, Some, None, Result, Ok, Err, refl, ap, sym, subst, ◌∙◌, inl, inr}
 use Rattle.std.specs.Prelude.{IfOk, IsSome, IsTrue, OnErr, length, slice_get}
 use Rattle.std.proofs.lemmas.Bool.{false≢true, lt-ltb}
-use Rattle.std.proofs.lemmas.Result.{IfOk-weaker, on_err_weaker}
 use Rattle.std.specs.Option.{unwrap_or}
+use Rattle.std.specs.Result.{IsErr}
 use Rattle.daq_types.specs.declared.memory.NoMemory.{NoMemory}
 use Rattle.odb_path.specs.declared.refusals.PathRefusal.{PathRefusal}
 use Rattle.odb_path.specs.PathText.{path_reply}
@@ -18,20 +18,17 @@ use Rattle.odb_tree.specs.declared.refusals.OdbRefusal.{OdbRefusal}
 use Rattle.odb_tree.specs.declared.refusals.OdbRefusal.TheVariants.{NoKey, NoMemory as no_memory}
 use Rattle.odb_tree.specs.declared.rows.NewKey.{NewKey}
 use Rattle.odb_tree.specs.declared.rows.NewKey.TheVariants.{Dir, Keys}
-use Rattle.odb_port.specs.DatabasePorts.{DatabaseAccess, AddsCall, IsSettled}
-use Rattle.odb_script.specs.declared.forms.Command.{Command}
-use Rattle.odb_script.specs.declared.forms.Command.TheVariants as command
+use Rattle.odb_port.specs.DatabasePorts.{DatabaseAccess, AddsCall, AddsCalls, IsSamePort, IsSettled, unanswered}
+use Rattle.odb_script.specs.declared.commands.RowCommand.{RowCommand}
+use Rattle.odb_script.specs.declared.commands.RowCommand.TheVariants as command
 use Rattle.odb_commands.specs.declared.replies.CommandRefusal.{CommandRefusal}
 use Rattle.odb_commands.specs.declared.replies.CommandRefusal.TheVariants.{Path, Protected, Item as BadItem, Database}
 use Rattle.odb_commands.specs.declared.replies.CommandReply.{CommandReply}
 use Rattle.odb_commands.specs.declared.replies.CommandReply.TheVariants.{Key, One, Refused}
 use Rattle.odb_commands.specs.Answers.{done_or, item_for, item_or, is_protected, listed_or, one_or}
-use Rattle.odb_commands.specs.CommandCalls.{Answers, AtPath, calls_database, CreatesKey, CutsAnswer, Gets, GetsIn, Lists, Names, NamesFound, Performs, RemovesIf, RemovesKey, reply_takes_memory, SaysAtOnce, Sets, SetsIn, SetsItem, Shows}
+use Rattle.odb_commands.specs.CommandCalls.{Answers, AtPath, CreatesKey, CutsAnswer, EndsCommand, Gets, GetsIn, Lists, Names, NamesFound, Performs, RemovesIf, RemovesKey, reply_takes_memory, SaysAtOnce, Sets, SetsIn, SetsItem, Shows}
 
--- An answer without any call; a call that is refused only by what it finds is settled.
-
-pub at_once : (a : DatabaseAccess) (answer reply : CommandReply) → reply ≡ answer → Answers a a (SaysAtOnce answer) reply
-at_once a answer reply is = record { calls = []; made = refl; does = (refl, is) }
+-- A call that is refused only by what it finds is settled.
 
 pub settled_by : {X : Type 0} (got : Result X OdbRefusal) → got ≢ Err no_memory → IsSettled got
 settled_by (Ok x) found = tt
@@ -81,79 +78,42 @@ pub was_removed : (a b : DatabaseAccess) (p : List (List ℕ)) (got : Result ℕ
 was_removed a b p got reply free called found is =
     subst (λ (t : Bool). Answers a b (RemovesIf t p) reply) (sym free) (record { calls = call.Delete p got ∷ []; made = (b, called, refl); does = (got, refl, settled_by got found, is) })
 
--- A call, and the rest answers the command.
-
--- the key that was got, by a path that is this one
-got_at : (a b : DatabaseAccess) (p copy : List (List ℕ)) (given got : Result HeldValue OdbRefusal) → AddsCall a b (call.Get copy given) → copy ≡ p → got ≡ given → AddsCall a b (call.Get p got)
-got_at a b p copy given got called is same = subst (AddsCall a b) (ap (λ (q : List (List ℕ)). call.Get q given) is ∙ ap (λ (r : Result HeldValue OdbRefusal). call.Get p r) (sym same)) called
-
-pub sets_behind : (a b c : DatabaseAccess) (index : ℕ) (text : List ℕ) (p copy : List (List ℕ)) (given got : Result HeldValue OdbRefusal) (reply : CommandReply) → AddsCall a b (call.Get copy given) → copy ≡ p → got ≡ given
-    → IsSettled got → Answers b c (SetsIn p index text got) reply → Answers a c (Sets index text p) reply
-sets_behind a b c index text p copy given got reply called is same settled rest = record {
-  calls = call.Get p got ∷ rest.calls;
-  made = (b, got_at a b p copy given got called is same, rest.made);
-  does = (got, rest.calls, refl, settled, rest.does);
-}
-
-pub gets_behind : (a b c : DatabaseAccess) (index : Option ℕ) (p copy : List (List ℕ)) (given got : Result HeldValue OdbRefusal) (reply : CommandReply) → AddsCall a b (call.Get copy given) → copy ≡ p → got ≡ given → IsSettled got
-    → Answers b c (GetsIn p index got) reply → Answers a c (Gets index p) reply
-gets_behind a b c index p copy given got reply called is same settled rest = record {
-  calls = call.Get p got ∷ rest.calls;
-  made = (b, got_at a b p copy given got called is same, rest.made);
-  does = (got, rest.calls, refl, settled, rest.does);
-}
-
-pub shows_behind : (a b c : DatabaseAccess) (p : List (List ℕ)) (v : HeldValue) (found : Result ℕ OdbRefusal) (reply : CommandReply) → AddsCall a b (call.Find p found) → found ≢ Err no_memory → Answers b c (NamesFound v found) reply
-    → Answers a c (Shows p None v) reply
-shows_behind a b c p v found reply called settled rest = record {
-  calls = call.Find p found ∷ rest.calls;
-  made = (b, called, rest.made);
-  does = (found, rest.calls, refl, settled_by found settled, rest.does);
-}
-
 -- Memory ended before any call. Some calls and a reply that do so there always are.
 
 abbrev Some_do : (Does : List DatabaseEntry → CommandReply → Type 0) → Type 0
 Some_do Does = (calls : List DatabaseEntry) × (reply : CommandReply) × Does calls reply
 
-on_err : {T E : Type 0} (P : Type 0) (result : Result T E) → P → OnErr result P
-on_err P (Ok x) holds = tt
-on_err P (Err why) holds = holds
-
 -- of these all are made only where the reply takes memory
 abbrev Some_cut : (Does : List DatabaseEntry → CommandReply → Type 0) → Type 0
 Some_cut Does = (some : Some_do Does) × ([] ≡ some.0 → IsTrue (reply_takes_memory some.1))
 
-not_begun_at : (a : DatabaseAccess) (Does : List DatabaseEntry → CommandReply → Type 0) → Some_cut Does → CutsAnswer a a Does
-not_begun_at a Does some = record { calls = some.0.0; reply = some.0.1; does = some.0.2; made = []; short = tt; rest = some.1; adds = refl }
+pub not_begun : (a : DatabaseAccess) (Does : List DatabaseEntry → CommandReply → Type 0) → Some_cut Does → CutsAnswer a a Does
+not_begun a Does some = record { calls = some.0.0; reply = some.0.1; does = some.0.2; made = []; short = tt; rest = some.1; adds = refl }
 
-pub not_begun : {T E : Type 0} (result : Result T E) (a : DatabaseAccess) (Does : List DatabaseEntry → CommandReply → Type 0) → Some_cut Does → OnErr result (CutsAnswer a a Does)
-not_begun result a Does some = on_err (CutsAnswer a a Does) result (not_begun_at a Does some)
-
-abbrev pub some_create : (kind : NewKey) (p : List (List ℕ)) → Some_do (CreatesKey kind p)
+abbrev some_create : (kind : NewKey) (p : List (List ℕ)) → Some_do (CreatesKey kind p)
 some_create kind p = (call.Create p kind (Err NoKey) ∷ [], done_or (Err NoKey), (Err NoKey, refl, no_key, refl))
 
 abbrev some_item : (p : List (List ℕ)) (index : ℕ) (item : Result Item CommandRefusal) → Some_do (SetsItem p index item)
 some_item p index (Err why) = ([], Refused why, (refl, refl))
 some_item p index (Ok item) = (call.Set p index item (Err NoKey) ∷ [], done_or (Err NoKey), (Err NoKey, refl, no_key, refl))
 
-abbrev pub some_set : (index : ℕ) (text : List ℕ) (p : List (List ℕ)) → Some_do (Sets index text p)
+abbrev some_set : (index : ℕ) (text : List ℕ) (p : List (List ℕ)) → Some_do (Sets index text p)
 some_set index text p = (call.Get p (Err NoKey) ∷ [], Refused (Database NoKey), (Err NoKey, [], refl, no_key, (refl, refl)))
 
-abbrev pub some_get : (index : Option ℕ) (p : List (List ℕ)) → Some_do (Gets index p)
+abbrev some_get : (index : Option ℕ) (p : List (List ℕ)) → Some_do (Gets index p)
 some_get index p = (call.Get p (Err NoKey) ∷ [], Refused (Database NoKey), (Err NoKey, [], refl, no_key, (refl, refl)))
 
-abbrev pub some_list : (p : List (List ℕ)) → Some_do (Lists p)
+abbrev some_list : (p : List (List ℕ)) → Some_do (Lists p)
 some_list p = (call.ListDir p (Err NoKey) ∷ [], listed_or (Err NoKey), (Err NoKey, refl, no_key, refl))
 
 abbrev remove_if : (b : Bool) (p : List (List ℕ)) → Some_do (RemovesIf b p)
 remove_if true p = ([], Refused Protected, (refl, refl))
 remove_if false p = (call.Delete p (Err NoKey) ∷ [], done_or (Err NoKey), (Err NoKey, refl, no_key, refl))
 
-abbrev pub some_remove : (p : List (List ℕ)) → Some_do (RemovesKey p)
+abbrev some_remove : (p : List (List ℕ)) → Some_do (RemovesKey p)
 some_remove p = remove_if (is_protected p) p
 
-abbrev pub some_at_path : (read : Result (List (List ℕ)) PathRefusal) (Then : List (List ℕ) → List DatabaseEntry → CommandReply → Type 0) → ((p : List (List ℕ)) → Some_do (Then p)) → Some_do (AtPath read Then)
+abbrev some_at_path : (read : Result (List (List ℕ)) PathRefusal) (Then : List (List ℕ) → List DatabaseEntry → CommandReply → Type 0) → ((p : List (List ℕ)) → Some_do (Then p)) → Some_do (AtPath read Then)
 some_at_path (Err why) Then each = ([], Refused (Path why), (refl, refl))
 some_at_path (Ok p) Then each = each p
 
@@ -196,173 +156,94 @@ one_cut : (p : List (List ℕ)) (len : ℕ) (item : Option Item) → IsSome item
 one_cut p len None some = absurd (false≢true some)
 one_cut p len (Some item) some = (([], One item, (refl, refl)), λ h. refl)
 
-pub shown_not_begun : {T E : Type 0} (result : Result T E) (a : DatabaseAccess) (p : List (List ℕ)) (index : ℕ) (v : HeldValue) → OnErr result (IsSome (slice_get v.items index)) → OnErr result (CutsAnswer a a (Shows p (Some index) v))
-shown_not_begun result a p index v some =
-    on_err_weaker result (λ (there : IsSome (slice_get v.items index)). not_begun_at a (Shows p (Some index) v) (one_cut p (length v.items) (slice_get v.items index) there)) some
+-- what a command came to where memory ended
+pub ends_cut : (a b : DatabaseAccess) (Does : List DatabaseEntry → CommandReply → Type 0) (result : Result CommandReply NoMemory) → IsErr result → CutsAnswer a b Does → EndsCommand a b Does result
+ends_cut a b Does (Ok reply) wanting cut = absurd (false≢true wanting)
+ends_cut a b Does (Err why) wanting cut = cut
 
--- Memory ended at the first call,
+pub one_not_begun : (a : DatabaseAccess) (p : List (List ℕ)) (index : ℕ) (v : HeldValue) (result : Result CommandReply NoMemory) → IfOk result (λ reply. reply ≡ one_or (length v.items) (slice_get v.items index))
+    → OnErr result (IsSome (slice_get v.items index)) → EndsCommand a a (Shows p (Some index) v) result
+one_not_begun a p index v (Ok reply) is there = record { calls = []; made = refl; does = (refl, is) }
+one_not_begun a p index v (Err why) is there = not_begun a (Shows p (Some index) v) (one_cut p (length v.items) (slice_get v.items index) there)
 
-create_cut_at : (a b : DatabaseAccess) (kind : NewKey) (p : List (List ℕ)) (got : Result ℕ OdbRefusal) → AddsCall a b (call.Create p kind got) → got ≡ Err no_memory → CutsAnswer a b (CreatesKey kind p)
-create_cut_at a b kind p got called wanting = let some = some_create kind p in record {
-  calls = some.0;
-  reply = some.1;
-  does = some.2;
-  made = call.Create p kind got ∷ [];
-  short = inr (ap (λ (r : Result ℕ OdbRefusal). call.Create p kind r) wanting, refl);
-  rest = λ same. absurd (cc);
-  adds = (b, called, refl);
-}
+-- Memory ended at the first call, of which this is what it would have been with a reply.
+cut_at_first : (a b : DatabaseAccess) (Does : List DatabaseEntry → CommandReply → Type 0) (wanted entry : DatabaseEntry) (reply : CommandReply) → Does (wanted ∷ []) reply → entry ≡ unanswered wanted → entry ∷ [] ≢ wanted ∷ []
+    → AddsCall a b entry → CutsAnswer a b Does
+cut_at_first a b Does wanted entry reply does is other called = record { calls = wanted ∷ []; reply = reply; does = does; made = entry ∷ []; short = inr (is, refl); rest = λ same. absurd (other same); adds = (b, called, refl) }
 
-pub create_cut : {T E : Type 0} (result : Result T E) (a b : DatabaseAccess) (kind : NewKey) (p : List (List ℕ)) (got : Result ℕ OdbRefusal) → AddsCall a b (call.Create p kind got) → got ≡ Err no_memory → OnErr result (CutsAnswer a b (CreatesKey kind p))
-create_cut result a b kind p got called wanting = on_err (CutsAnswer a b (CreatesKey kind p)) result (create_cut_at a b kind p got called wanting)
+pub create_cut : (a b : DatabaseAccess) (kind : NewKey) (p : List (List ℕ)) (got : Result ℕ OdbRefusal) → AddsCall a b (call.Create p kind got) → got ≡ Err no_memory → CutsAnswer a b (CreatesKey kind p)
+create_cut a b kind p got called wanting = cut_at_first a b (CreatesKey kind p) (call.Create p kind (Err NoKey)) (call.Create p kind got) (done_or (Err NoKey)) (Err NoKey, refl, no_key, refl)
+    (ap (λ (r : Result ℕ OdbRefusal). call.Create p kind r) wanting) (λ same. cc) called
 
-item_cut_at : (a b : DatabaseAccess) (p : List (List ℕ)) (index : ℕ) (item : Item) (got : Result ℕ OdbRefusal) → AddsCall a b (call.Set p index item got) → got ≡ Err no_memory → CutsAnswer a b (SetsItem p index (Ok item))
-item_cut_at a b p index item got called wanting = let some = some_item p index (Ok item) in record {
-  calls = some.0;
-  reply = some.1;
-  does = some.2;
-  made = call.Set p index item got ∷ [];
-  short = inr (ap (λ (r : Result ℕ OdbRefusal). call.Set p index item r) wanting, refl);
-  rest = λ same. absurd (cc);
-  adds = (b, called, refl);
-}
+pub item_cut : (a b : DatabaseAccess) (p : List (List ℕ)) (index : ℕ) (item : Item) (got : Result ℕ OdbRefusal) → AddsCall a b (call.Set p index item got) → got ≡ Err no_memory → CutsAnswer a b (SetsItem p index (Ok item))
+item_cut a b p index item got called wanting = cut_at_first a b (SetsItem p index (Ok item)) (call.Set p index item (Err NoKey)) (call.Set p index item got) (done_or (Err NoKey)) (Err NoKey, refl, no_key, refl)
+    (ap (λ (r : Result ℕ OdbRefusal). call.Set p index item r) wanting) (λ same. cc) called
 
-pub item_cut : {T E : Type 0} (result : Result T E) (a b : DatabaseAccess) (p : List (List ℕ)) (index : ℕ) (item : Item) (got : Result ℕ OdbRefusal) → AddsCall a b (call.Set p index item got) → got ≡ Err no_memory → OnErr result (CutsAnswer a b (SetsItem p index (Ok item)))
-item_cut result a b p index item got called wanting = on_err (CutsAnswer a b (SetsItem p index (Ok item))) result (item_cut_at a b p index item got called wanting)
+pub name_cut : (a b : DatabaseAccess) (v : HeldValue) (row : ℕ) (got : Result (Option (List (List ℕ))) NoMemory) (memory : NoMemory) → AddsCall a b (call.PathOf row got) → got ≡ Err memory → CutsAnswer a b (Names v row)
+name_cut a b v row got memory called wanting = cut_at_first a b (Names v row) (call.PathOf row (Ok None)) (call.PathOf row got) (Key [] v) (None, refl, refl)
+    (ap (λ (r : Result (Option (List (List ℕ))) NoMemory). call.PathOf row r) wanting) (λ same. cc) called
 
-name_cut_at : (a b : DatabaseAccess) (v : HeldValue) (row : ℕ) (got : Result (Option (List (List ℕ))) NoMemory) (memory : NoMemory) → AddsCall a b (call.PathOf row got) → got ≡ Err memory → CutsAnswer a b (Names v row)
-name_cut_at a b v row got memory called wanting = record {
-  calls = call.PathOf row (Ok None) ∷ [];
-  reply = Key [] v;
-  does = (None, refl, refl);
-  made = call.PathOf row got ∷ [];
-  short = inr (ap (λ (r : Result (Option (List (List ℕ))) NoMemory). call.PathOf row r) wanting, refl);
-  rest = λ same. absurd (cc);
-  adds = (b, called, refl);
-}
+pub list_cut : (a b : DatabaseAccess) (p : List (List ℕ)) (got : Result (List Child) OdbRefusal) → AddsCall a b (call.ListDir p got) → got ≡ Err no_memory → CutsAnswer a b (Lists p)
+list_cut a b p got called wanting = cut_at_first a b (Lists p) (call.ListDir p (Err NoKey)) (call.ListDir p got) (listed_or (Err NoKey)) (Err NoKey, refl, no_key, refl)
+    (ap (λ (r : Result (List Child) OdbRefusal). call.ListDir p r) wanting) (λ same. cc) called
 
-pub name_cut : {T E : Type 0} (result : Result T E) (a b : DatabaseAccess) (v : HeldValue) (row : ℕ) (got : Result (Option (List (List ℕ))) NoMemory) (memory : NoMemory) → AddsCall a b (call.PathOf row got) → got ≡ Err memory → OnErr result (CutsAnswer a b (Names v row))
-name_cut result a b v row got memory called wanting = on_err (CutsAnswer a b (Names v row)) result (name_cut_at a b v row got memory called wanting)
+-- the key that was got, by a path that is this one
+got_at : (a b : DatabaseAccess) (p copy : List (List ℕ)) (given got : Result HeldValue OdbRefusal) → AddsCall a b (call.Get copy given) → copy ≡ p → got ≡ given → AddsCall a b (call.Get p got)
+got_at a b p copy given got called is same = subst (AddsCall a b) (ap (λ (q : List (List ℕ)). call.Get q given) is ∙ ap (λ (r : Result HeldValue OdbRefusal). call.Get p r) (sym same)) called
 
-list_cut_at : (a b : DatabaseAccess) (p : List (List ℕ)) (got : Result (List Child) OdbRefusal) → AddsCall a b (call.ListDir p got) → got ≡ Err no_memory → CutsAnswer a b (Lists p)
-list_cut_at a b p got called wanting = let some = some_list p in record {
-  calls = some.0;
-  reply = some.1;
-  does = some.2;
-  made = call.ListDir p got ∷ [];
-  short = inr (ap (λ (r : Result (List Child) OdbRefusal). call.ListDir p r) wanting, refl);
-  rest = λ same. absurd (cc);
-  adds = (b, called, refl);
-}
+pub set_cut : (a b : DatabaseAccess) (index : ℕ) (text : List ℕ) (p copy : List (List ℕ)) (got : Result HeldValue OdbRefusal) → AddsCall a b (call.Get copy got) → copy ≡ p → got ≡ Err no_memory → CutsAnswer a b (Sets index text p)
+set_cut a b index text p copy got called is wanting = cut_at_first a b (Sets index text p) (call.Get p (Err NoKey)) (call.Get p got) (Refused (Database NoKey)) (Err NoKey, [], refl, no_key, (refl, refl))
+    (ap (λ (r : Result HeldValue OdbRefusal). call.Get p r) wanting) (λ same. cc) (got_at a b p copy got got called is refl)
 
-pub list_cut : {T E : Type 0} (result : Result T E) (a b : DatabaseAccess) (p : List (List ℕ)) (got : Result (List Child) OdbRefusal) → AddsCall a b (call.ListDir p got) → got ≡ Err no_memory → OnErr result (CutsAnswer a b (Lists p))
-list_cut result a b p got called wanting = on_err (CutsAnswer a b (Lists p)) result (list_cut_at a b p got called wanting)
+pub get_cut : (a b : DatabaseAccess) (index : Option ℕ) (p copy : List (List ℕ)) (got : Result HeldValue OdbRefusal) → AddsCall a b (call.Get copy got) → copy ≡ p → got ≡ Err no_memory → CutsAnswer a b (Gets index p)
+get_cut a b index p copy got called is wanting = cut_at_first a b (Gets index p) (call.Get p (Err NoKey)) (call.Get p got) (Refused (Database NoKey)) (Err NoKey, [], refl, no_key, (refl, refl))
+    (ap (λ (r : Result HeldValue OdbRefusal). call.Get p r) wanting) (λ same. cc) (got_at a b p copy got got called is refl)
 
-set_cut_at : (a b : DatabaseAccess) (index : ℕ) (text : List ℕ) (p copy : List (List ℕ)) (got : Result HeldValue OdbRefusal) → AddsCall a b (call.Get copy got) → copy ≡ p → got ≡ Err no_memory → CutsAnswer a b (Sets index text p)
-set_cut_at a b index text p copy got called is wanting = let some = some_set index text p in record {
-  calls = some.0;
-  reply = some.1;
-  does = some.2;
-  made = call.Get p got ∷ [];
-  short = inr (ap (λ (r : Result HeldValue OdbRefusal). call.Get p r) wanting, refl);
-  rest = λ same. absurd (cc);
-  adds = (b, got_at a b p copy got got called is refl, refl);
-}
-
-pub set_cut : {T E : Type 0} (result : Result T E) (a b : DatabaseAccess) (index : ℕ) (text : List ℕ) (p copy : List (List ℕ)) (got : Result HeldValue OdbRefusal) → AddsCall a b (call.Get copy got) → copy ≡ p → got ≡ Err no_memory → OnErr result (CutsAnswer a b (Sets index text p))
-set_cut result a b index text p copy got called is wanting = on_err (CutsAnswer a b (Sets index text p)) result (set_cut_at a b index text p copy got called is wanting)
-
-get_cut_at : (a b : DatabaseAccess) (index : Option ℕ) (p copy : List (List ℕ)) (got : Result HeldValue OdbRefusal) → AddsCall a b (call.Get copy got) → copy ≡ p → got ≡ Err no_memory → CutsAnswer a b (Gets index p)
-get_cut_at a b index p copy got called is wanting = let some = some_get index p in record {
-  calls = some.0;
-  reply = some.1;
-  does = some.2;
-  made = call.Get p got ∷ [];
-  short = inr (ap (λ (r : Result HeldValue OdbRefusal). call.Get p r) wanting, refl);
-  rest = λ same. absurd (cc);
-  adds = (b, got_at a b p copy got got called is refl, refl);
-}
-
-pub get_cut : {T E : Type 0} (result : Result T E) (a b : DatabaseAccess) (index : Option ℕ) (p copy : List (List ℕ)) (got : Result HeldValue OdbRefusal) → AddsCall a b (call.Get copy got) → copy ≡ p → got ≡ Err no_memory → OnErr result (CutsAnswer a b (Gets index p))
-get_cut result a b index p copy got called is wanting = on_err (CutsAnswer a b (Gets index p)) result (get_cut_at a b index p copy got called is wanting)
-
--- or behind it.
+-- A call, and behind it the rest: what that came to, the command came to.
 
 abbrev behind_first : List DatabaseEntry → List DatabaseEntry
 behind_first [] = []
 behind_first (e ∷ es) = es
 
-pub set_cut_behind : (a b c : DatabaseAccess) (index : ℕ) (text : List ℕ) (p copy : List (List ℕ)) (given got : Result HeldValue OdbRefusal) → AddsCall a b (call.Get copy given) → copy ≡ p → got ≡ given → IsSettled got
-    → CutsAnswer b c (SetsIn p index text got) → CutsAnswer a c (Sets index text p)
-set_cut_behind a b c index text p copy given got called is same settled rest = record {
-  calls = call.Get p got ∷ rest.calls;
-  reply = rest.reply;
-  does = (got, rest.calls, refl, settled, rest.does);
-  made = call.Get p got ∷ rest.made;
-  short = inl (refl, rest.short);
-  rest = λ same. rest.rest (ap behind_first same);
-  adds = (b, got_at a b p copy given got called is same, rest.adds);
+first_then : (a b c : DatabaseAccess) (Rest Does : List DatabaseEntry → CommandReply → Type 0) (entry : DatabaseEntry) (result : Result CommandReply NoMemory) → AddsCall a b entry
+    → ((calls : List DatabaseEntry) (reply : CommandReply) → Rest calls reply → Does (entry ∷ calls) reply) → EndsCommand b c Rest result → EndsCommand a c Does result
+first_then a b c Rest Does entry (Ok reply) called whole ends = record { calls = entry ∷ ends.calls; made = (b, called, ends.made); does = whole ends.calls reply ends.does }
+first_then a b c Rest Does entry (Err why) called whole ends = record {
+  calls = entry ∷ ends.calls;
+  reply = ends.reply;
+  does = whole ends.calls ends.reply ends.does;
+  made = entry ∷ ends.made;
+  short = inl (refl, ends.short);
+  rest = λ same. ends.rest (ap behind_first same);
+  adds = (b, called, ends.adds);
 }
 
-pub get_cut_behind : (a b c : DatabaseAccess) (index : Option ℕ) (p copy : List (List ℕ)) (given got : Result HeldValue OdbRefusal) → AddsCall a b (call.Get copy given) → copy ≡ p → got ≡ given → IsSettled got
-    → CutsAnswer b c (GetsIn p index got) → CutsAnswer a c (Gets index p)
-get_cut_behind a b c index p copy given got called is same settled rest = record {
-  calls = call.Get p got ∷ rest.calls;
-  reply = rest.reply;
-  does = (got, rest.calls, refl, settled, rest.does);
-  made = call.Get p got ∷ rest.made;
-  short = inl (refl, rest.short);
-  rest = λ same. rest.rest (ap behind_first same);
-  adds = (b, got_at a b p copy given got called is same, rest.adds);
-}
+pub sets_behind : (a b c : DatabaseAccess) (index : ℕ) (text : List ℕ) (p copy : List (List ℕ)) (given got : Result HeldValue OdbRefusal) (result : Result CommandReply NoMemory) → AddsCall a b (call.Get copy given) → copy ≡ p → got ≡ given
+    → IsSettled got → EndsCommand b c (SetsIn p index text got) result → EndsCommand a c (Sets index text p) result
+sets_behind a b c index text p copy given got result called is same settled rest =
+    first_then a b c (SetsIn p index text got) (Sets index text p) (call.Get p got) result (got_at a b p copy given got called is same) (λ calls reply does. (got, calls, refl, settled, does)) rest
 
-pub show_cut_behind : (a b c : DatabaseAccess) (p : List (List ℕ)) (v : HeldValue) (found : Result ℕ OdbRefusal) → AddsCall a b (call.Find p found) → found ≢ Err no_memory → CutsAnswer b c (NamesFound v found)
-    → CutsAnswer a c (Shows p None v)
-show_cut_behind a b c p v found called settled rest = record {
-  calls = call.Find p found ∷ rest.calls;
-  reply = rest.reply;
-  does = (found, rest.calls, refl, settled_by found settled, rest.does);
-  made = call.Find p found ∷ rest.made;
-  short = inl (refl, rest.short);
-  rest = λ same. rest.rest (ap behind_first same);
-  adds = (b, called, rest.adds);
-}
+pub gets_behind : (a b c : DatabaseAccess) (index : Option ℕ) (p copy : List (List ℕ)) (given got : Result HeldValue OdbRefusal) (result : Result CommandReply NoMemory) → AddsCall a b (call.Get copy given) → copy ≡ p → got ≡ given → IsSettled got
+    → EndsCommand b c (GetsIn p index got) result → EndsCommand a c (Gets index p) result
+gets_behind a b c index p copy given got result called is same settled rest =
+    first_then a b c (GetsIn p index got) (Gets index p) (call.Get p got) result (got_at a b p copy given got called is same) (λ calls reply does. (got, calls, refl, settled, does)) rest
 
--- The same where the rest is what the command's function gives back.
+pub shows_behind : (a b c : DatabaseAccess) (p : List (List ℕ)) (v : HeldValue) (found : Result ℕ OdbRefusal) (result : Result CommandReply NoMemory) → AddsCall a b (call.Find p found) → found ≢ Err no_memory
+    → EndsCommand b c (NamesFound v found) result → EndsCommand a c (Shows p None v) result
+shows_behind a b c p v found result called settled rest =
+    first_then a b c (NamesFound v found) (Shows p None v) (call.Find p found) result called (λ calls reply does. (found, calls, refl, settled_by found settled, does)) rest
 
-pub sets_behind_if : (a b c : DatabaseAccess) (index : ℕ) (text : List ℕ) (p copy : List (List ℕ)) (given got : Result HeldValue OdbRefusal) (result : Result CommandReply NoMemory) → AddsCall a b (call.Get copy given) → copy ≡ p → got ≡ given
-    → IsSettled got → IfOk result (Answers b c (SetsIn p index text got)) → IfOk result (Answers a c (Sets index text p))
-sets_behind_if a b c index text p copy given got result called is same settled rest =
-    IfOk-weaker result (Answers b c (SetsIn p index text got)) (Answers a c (Sets index text p)) (λ reply some. sets_behind a b c index text p copy given got reply called is same settled some) rest
+-- The port stays, by what its calls tell.
+pub port_stays : ((a b : DatabaseAccess) (calls : List DatabaseEntry) → AddsCalls a b calls → IsSamePort a b) → (a b : DatabaseAccess) (Does : List DatabaseEntry → CommandReply → Type 0) (result : Result CommandReply NoMemory)
+    → EndsCommand a b Does result → IsSamePort a b
+port_stays law a b Does (Ok reply) ends = law a b ends.calls ends.made
+port_stays law a b Does (Err why) ends = law a b ends.made ends.adds
 
-pub set_cut_behind_if : (a b c : DatabaseAccess) (index : ℕ) (text : List ℕ) (p copy : List (List ℕ)) (given got : Result HeldValue OdbRefusal) (result : Result CommandReply NoMemory) → AddsCall a b (call.Get copy given) → copy ≡ p → got ≡ given
-    → IsSettled got → OnErr result (CutsAnswer b c (SetsIn p index text got)) → OnErr result (CutsAnswer a c (Sets index text p))
-set_cut_behind_if a b c index text p copy given got result called is same settled rest = on_err_weaker result (set_cut_behind a b c index text p copy given got called is same settled) rest
-
-pub gets_behind_if : (a b c : DatabaseAccess) (index : Option ℕ) (p copy : List (List ℕ)) (given got : Result HeldValue OdbRefusal) (result : Result CommandReply NoMemory) → AddsCall a b (call.Get copy given) → copy ≡ p → got ≡ given
-    → IsSettled got → IfOk result (Answers b c (GetsIn p index got)) → IfOk result (Answers a c (Gets index p))
-gets_behind_if a b c index p copy given got result called is same settled rest =
-    IfOk-weaker result (Answers b c (GetsIn p index got)) (Answers a c (Gets index p)) (λ reply some. gets_behind a b c index p copy given got reply called is same settled some) rest
-
-pub get_cut_behind_if : (a b c : DatabaseAccess) (index : Option ℕ) (p copy : List (List ℕ)) (given got : Result HeldValue OdbRefusal) (result : Result CommandReply NoMemory) → AddsCall a b (call.Get copy given) → copy ≡ p → got ≡ given
-    → IsSettled got → OnErr result (CutsAnswer b c (GetsIn p index got)) → OnErr result (CutsAnswer a c (Gets index p))
-get_cut_behind_if a b c index p copy given got result called is same settled rest = on_err_weaker result (get_cut_behind a b c index p copy given got called is same settled) rest
-
-pub shows_behind_if : (a b c : DatabaseAccess) (p : List (List ℕ)) (v : HeldValue) (found : Result ℕ OdbRefusal) (result : Result CommandReply NoMemory) → AddsCall a b (call.Find p found) → found ≢ Err no_memory
-    → IfOk result (Answers b c (NamesFound v found)) → IfOk result (Answers a c (Shows p None v))
-shows_behind_if a b c p v found result called settled rest =
-    IfOk-weaker result (Answers b c (NamesFound v found)) (Answers a c (Shows p None v)) (λ reply some. shows_behind a b c p v found reply called settled some) rest
-
-pub show_cut_behind_if : (a b c : DatabaseAccess) (p : List (List ℕ)) (v : HeldValue) (found : Result ℕ OdbRefusal) (result : Result CommandReply NoMemory) → AddsCall a b (call.Find p found) → found ≢ Err no_memory
-    → OnErr result (CutsAnswer b c (NamesFound v found)) → OnErr result (CutsAnswer a c (Shows p None v))
-show_cut_behind_if a b c p v found result called settled rest = on_err_weaker result (show_cut_behind a b c p v found called settled) rest
-
--- Some calls and a reply do what a command of the database asks for.
-pub some_performs : (c : Command) → calls_database c ≡ true → Some_do (Performs c)
-some_performs (command.Create type path len) is = some_at_path (path_reply path) (CreatesKey (Keys type len)) (some_create (Keys type len))
-some_performs (command.CreateDir path) is = some_at_path (path_reply path) (CreatesKey Dir) (some_create Dir)
-some_performs (command.Set path index value) is = some_at_path (path_reply path) (Sets index value) (some_set index value)
-some_performs (command.Get path index) is = some_at_path (path_reply path) (Gets index) (some_get index)
-some_performs (command.List path) is = some_at_path (path_reply path) Lists some_list
-some_performs (command.Remove path) is = some_at_path (path_reply path) RemovesKey some_remove
-some_performs _ is = absurd (false≢true is)
+-- Some calls and a reply do what a command asks for.
+pub some_performs : (c : RowCommand) → Some_do (Performs c)
+some_performs (command.Create type path len) = some_at_path (path_reply path) (CreatesKey (Keys type len)) (some_create (Keys type len))
+some_performs (command.CreateDir path) = some_at_path (path_reply path) (CreatesKey Dir) (some_create Dir)
+some_performs (command.Set path index value) = some_at_path (path_reply path) (Sets index value) (some_set index value)
+some_performs (command.Get path index) = some_at_path (path_reply path) (Gets index) (some_get index)
+some_performs (command.List path) = some_at_path (path_reply path) Lists some_list
+some_performs (command.Remove path) = some_at_path (path_reply path) RemovesKey some_remove

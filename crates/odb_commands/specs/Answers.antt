@@ -18,8 +18,8 @@ use Rattle.odb_tree.specs.declared.rows.NewKey.{NewKey}
 use Rattle.odb_tree.specs.declared.rows.NewKey.TheVariants.{Dir, Keys}
 use Rattle.odb_tree.specs.Rows.{Rows}
 use Rattle.odb_tree.specs.Calls.{create_reply, set_reply, get_reply, find_reply, list_reply, delete_reply, path_with}
-use Rattle.odb_script.specs.declared.forms.Command.{Command}
-use Rattle.odb_script.specs.declared.forms.Command.TheVariants as command
+use Rattle.odb_script.specs.declared.commands.RowCommand.{RowCommand}
+use Rattle.odb_script.specs.declared.commands.RowCommand.TheVariants as command
 use Rattle.odb_commands.specs.declared.replies.CommandRefusal.{CommandRefusal}
 use Rattle.odb_commands.specs.declared.replies.CommandRefusal.TheVariants.{Path, Protected, Item as BadItem, Database}
 use Rattle.odb_commands.specs.declared.replies.CommandReply.{CommandReply}
@@ -120,12 +120,11 @@ removed s p = record { calls = call.Delete p (delete_reply s p) ∷ []; reply = 
 abbrev pub remove_at : Rows → List (List ℕ) → CommandAnswer
 remove_at s p = if is_protected p then refused Protected else removed s p
 
--- The answer of a command, where it is one of the database's.
-abbrev pub answer_of : Rows → Command → Option CommandAnswer
-answer_of s (command.Create tid path len) = Some (at_path (path_reply path) (create_at s (Keys tid len)))
-answer_of s (command.CreateDir path) = Some (at_path (path_reply path) (create_at s Dir))
-answer_of s (command.Set path index value) = Some (at_path (path_reply path) (set_at s index value))
-answer_of s (command.Get path index) = Some (at_path (path_reply path) (get_at s index))
-answer_of s (command.List path) = Some (at_path (path_reply path) (list_at s))
-answer_of s (command.Remove path) = Some (at_path (path_reply path) (remove_at s))
-answer_of s _ = None
+-- The answer of a command.
+abbrev pub answer_of : Rows → RowCommand → CommandAnswer
+answer_of s (command.Create tid path len) = at_path (path_reply path) (create_at s (Keys tid len))
+answer_of s (command.CreateDir path) = at_path (path_reply path) (create_at s Dir)
+answer_of s (command.Set path index value) = at_path (path_reply path) (set_at s index value)
+answer_of s (command.Get path index) = at_path (path_reply path) (get_at s index)
+answer_of s (command.List path) = at_path (path_reply path) (list_at s)
+answer_of s (command.Remove path) = at_path (path_reply path) (remove_at s)

@@ -1,17 +1,9 @@
--- Laws of what a command does: its calls where the rows give their replies, what they leave alone, and its calls where
--- memory ended.
-use Rattle.std.specs.Prelude.{List, Option, Some, None}
+-- What the calls of a command leave alone.
+use Rattle.std.specs.Prelude.{List}
 use Rattle.daq_types.specs.Callers.{main_caller}
 use Rattle.odb_tree.specs.declared.entry.DatabaseEntry.{DatabaseEntry}
 use Rattle.odb_port.specs.DatabasePorts.{calls_by}
 use Rattle.odb_runinfo.specs.RunNumberKept.{AllSpareRuninfo}
-use Rattle.odb_script.specs.declared.forms.Command.{Command}
-use Rattle.odb_commands.specs.Answers.{CommandAnswer}
-use Rattle.odb_commands.specs.CommandCalls.{Performs}
-
-abbrev pub PerformsIf : Command → Option CommandAnswer → Type 0
-PerformsIf c None = Unit {0}
-PerformsIf c (Some answer) = Performs c answer.calls answer.reply
 
 -- No command removes anything of `/Runinfo`, whatever its calls are answered.
 

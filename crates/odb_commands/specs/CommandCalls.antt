@@ -1,4 +1,4 @@
--- What a command of the database does: the calls that it makes, in order, each with the reply that it got, whatever that
+-- What a command on the rows of the database does: the calls that it makes, in order, each with the reply that it got, whatever that
 -- is; and what the command is answered, by its line and these replies alone.
 use Rattle.std.specs.Prelude.{◌≡◌, ◌≢◌, ℕ, Bool, true, false, IsTrue, List, [], ◌∷◌, length, slice_get, Option, Some, None, Result, Ok, Err}
 use Rattle.std.specs.Option.{unwrap_or}
@@ -17,8 +17,8 @@ use Rattle.odb_tree.specs.declared.rows.NewKey.TheVariants.{Dir, Keys}
 use Rattle.odb_tree.specs.Rows.{Rows}
 use Rattle.odb_tree.specs.Calls.{rows_after}
 use Rattle.odb_port.specs.DatabasePorts.{DatabaseAccess, AddsCalls, IsCutShort, IsSettled}
-use Rattle.odb_script.specs.declared.forms.Command.{Command}
-use Rattle.odb_script.specs.declared.forms.Command.TheVariants as command
+use Rattle.odb_script.specs.declared.commands.RowCommand.{RowCommand}
+use Rattle.odb_script.specs.declared.commands.RowCommand.TheVariants as command
 use Rattle.odb_commands.specs.declared.replies.CommandRefusal.{CommandRefusal}
 use Rattle.odb_commands.specs.declared.replies.CommandRefusal.TheVariants.{Path, Protected, Item as BadItem, Database}
 use Rattle.odb_commands.specs.declared.replies.CommandReply.{CommandReply}
@@ -83,14 +83,13 @@ abbrev pub RemovesKey : List (List ℕ) → (calls : List DatabaseEntry) → (re
 RemovesKey p calls reply = RemovesIf (is_protected p) p calls reply
 
 -- The command makes these calls, each with the reply that it got, and is answered this reply.
-abbrev pub Performs : Command → (calls : List DatabaseEntry) → (reply : CommandReply) → Type 0
+abbrev pub Performs : RowCommand → (calls : List DatabaseEntry) → (reply : CommandReply) → Type 0
 Performs (command.Create tid path len) calls reply = AtPath (path_reply path) (CreatesKey (Keys tid len)) calls reply
 Performs (command.CreateDir path) calls reply = AtPath (path_reply path) (CreatesKey Dir) calls reply
 Performs (command.Set path index value) calls reply = AtPath (path_reply path) (Sets index value) calls reply
 Performs (command.Get path index) calls reply = AtPath (path_reply path) (Gets index) calls reply
 Performs (command.List path) calls reply = AtPath (path_reply path) Lists calls reply
 Performs (command.Remove path) calls reply = AtPath (path_reply path) RemovesKey calls reply
-Performs _ calls reply = ⊥
 
 -- Calls were made that do so, and this is the reply.
 pub record Answers (a b : DatabaseAccess) (Does : List DatabaseEntry → CommandReply → Type 0) (reply : CommandReply) : Type 0 where
@@ -130,29 +129,9 @@ abbrev pub EndsCommand : (a b : DatabaseAccess) → (Does : List DatabaseEntry �
 EndsCommand a b Does (Ok reply) = Answers a b Does reply
 EndsCommand a b Does (Err wanting) = CutsAnswer a b Does
 
--- whether the command is one of the database's
-abbrev pub calls_database : Command → Bool
-calls_database (command.Create tid path len) = true
-calls_database (command.CreateDir path) = true
-calls_database (command.Set path index value) = true
-calls_database (command.Get path index) = true
-calls_database (command.List path) = true
-calls_database (command.Remove path) = true
-calls_database _ = false
-
--- the same for a command that may be another's, which makes no call and has no reply
-abbrev pub AnswersIf : (a b : DatabaseAccess) → Command → Option CommandReply → Type 0
-AnswersIf a b command None = (b ≡ a) × (calls_database command ≡ false)
-AnswersIf a b command (Some reply) = Answers a b (Performs command) reply
-
 -- These are the calls and the reply of the answer.
 abbrev pub IsAnswered : CommandAnswer → (calls : List DatabaseEntry) → (reply : CommandReply) → Type 0
 IsAnswered answer calls reply = (calls ≡ answer.calls) × (reply ≡ answer.reply)
-
--- the same of a command that may be another's, which has none
-abbrev pub IsAnswerOf : Option CommandAnswer → (calls : List DatabaseEntry) → (reply : CommandReply) → Type 0
-IsAnswerOf None calls reply = ⊥
-IsAnswerOf (Some answer) calls reply = IsAnswered answer calls reply
 
 -- the calls of all but the main thread leave the rows as they are at that point
 abbrev pub OthersLeave : Rows → List (ℕ × DatabaseEntry) → Type 0

@@ -1,17 +1,18 @@
-ghost use Rattle.std.specs.Prelude.{◌≡◌, IfSome, IfNone, IfOk, OnErr, Err, IsFalse};
+ghost use Rattle.std.specs.Prelude.{◌≡◌, Err};
 ghost use Rattle.daq_types.specs.Callers.{main_caller};
 ghost use Rattle.odb_path.specs.PathText.{path_reply};
 ghost use Rattle.odb_port.specs.DatabasePorts.{IsSamePort};
 ghost use Rattle.odb_tree.specs.declared.rows.NewKey.TheVariants.{Dir, Keys};
 ghost use Rattle.odb_commands.specs.Answers.{done_or, listed_or};
-ghost use Rattle.odb_commands.specs.CommandCalls.{Answers, AnswersIf, AtPath, calls_database, CreatesKey, CutsAnswer, EndsCommand, Gets, GetsIn, Lists, Names, NamesFound, Performs, RemovesKey, Sets, SetsIn, SetsItem, Shows};
+ghost use Rattle.odb_commands.specs.CommandCalls.{Answers, AtPath, CreatesKey, EndsCommand, Gets, GetsIn, Lists, Names, NamesFound, Performs, RemovesKey, Sets, SetsIn, SetsItem, Shows};
 
 use crate::reading::{is_protected, item_for, one_of, read_path, settled};
 use crate::replies::{CommandRefusal, CommandReply};
 use daq_types::NoMemory;
 use odb_path::{Path, PathRefusal};
 use odb_port::DatabasePort;
-use odb_script::Command;
+use odb_port::laws::calls_add_up;
+use odb_script::RowCommand;
 use odb_tree::{Children, NewKey, OdbRefusal};
 use odb_value::{Item, Value};
 use std::alloc::Global;
@@ -64,18 +65,14 @@ fn create_at<R: Wait, P: DatabasePort>(
     kind: NewKey,
 ) -> Result<CommandReply, NoMemory>
     requires main { (P.access port.old).caller ≡ main_caller }
-    ensures did { IfOk result (Answers (P.access port.old) (P.access port.new)
-        (CreatesKey kind path)) }
-    ensures interrupted { OnErr result (CutsAnswer (P.access port.old) (P.access port.new)
-        (CreatesKey kind path)) }
-    ensures same { IsSamePort (P.access port.old) (P.access port.new) }
+    ensures { EndsCommand (P.access port.old) (P.access port.new) (CreatesKey kind path) result }
 {
     let reply = settled(port.create(rt, alloc, path, kind))?;
     Ok(done_or(reply))
 }
 
 /// The command `create`: makes a key or a directory at the path of this text.
-pub fn create<R: Wait, P: DatabasePort>(
+fn create<R: Wait, P: DatabasePort>(
     rt: &R,
     alloc: Global,
     port: &mut P,
@@ -83,11 +80,8 @@ pub fn create<R: Wait, P: DatabasePort>(
     kind: NewKey,
 ) -> Result<CommandReply, NoMemory>
     requires main { (P.access port.old).caller ≡ main_caller }
-    ensures did { IfOk result (Answers (P.access port.old) (P.access port.new)
-        (AtPath (path_reply path.now) (CreatesKey kind))) }
-    ensures interrupted { OnErr result (CutsAnswer (P.access port.old) (P.access port.new)
-        (AtPath (path_reply path.now) (CreatesKey kind))) }
-    ensures same { IsSamePort (P.access port.old) (P.access port.new) }
+    ensures { EndsCommand (P.access port.old) (P.access port.new)
+        (AtPath (path_reply path.now) (CreatesKey kind)) result }
 {
     match read_path(alloc, path)? {
         Err(why) => Ok(no_path(why)),
@@ -104,11 +98,7 @@ fn set_item<R: Wait, P: DatabasePort>(
     index: u32,
     item: Result<Item, CommandRefusal>,
 ) -> Result<CommandReply, NoMemory>
-    ensures did { IfOk result (Answers (P.access port.old) (P.access port.new)
-        (SetsItem path index item)) }
-    ensures interrupted { OnErr result (CutsAnswer (P.access port.old) (P.access port.new)
-        (SetsItem path index item)) }
-    ensures same { IsSamePort (P.access port.old) (P.access port.new) }
+    ensures { EndsCommand (P.access port.old) (P.access port.new) (SetsItem path index item) result }
 {
     match item {
         Err(why) => Ok(CommandReply::Refused { why }),
@@ -129,11 +119,8 @@ fn set_in<R: Wait, P: DatabasePort>(
     text: &[u8],
     got: Result<Value, OdbRefusal>,
 ) -> Result<CommandReply, NoMemory>
-    ensures did { IfOk result (Answers (P.access port.old) (P.access port.new)
-        (SetsIn path index text.now got)) }
-    ensures interrupted { OnErr result (CutsAnswer (P.access port.old) (P.access port.new)
-        (SetsIn path index text.now got)) }
-    ensures same { IsSamePort (P.access port.old) (P.access port.new) }
+    ensures { EndsCommand (P.access port.old) (P.access port.new) (SetsIn path index text.now got)
+        result }
 {
     match got {
         Err(why) => Ok(refused_by(why)),
@@ -153,11 +140,7 @@ fn set_at<R: Wait, P: DatabasePort>(
     index: u32,
     text: &[u8],
 ) -> Result<CommandReply, NoMemory>
-    ensures did { IfOk result (Answers (P.access port.old) (P.access port.new)
-        (Sets index text.now path)) }
-    ensures interrupted { OnErr result (CutsAnswer (P.access port.old) (P.access port.new)
-        (Sets index text.now path)) }
-    ensures same { IsSamePort (P.access port.old) (P.access port.new) }
+    ensures { EndsCommand (P.access port.old) (P.access port.new) (Sets index text.now path) result }
 {
     let copy = path.try_clone(alloc)?;
     let got = settled(port.get(rt, alloc, copy))?;
@@ -165,7 +148,7 @@ fn set_at<R: Wait, P: DatabasePort>(
 }
 
 /// The command `set`: sets an item of the key at the path of this text, as the other text spells it.
-pub fn set<R: Wait, P: DatabasePort>(
+fn set<R: Wait, P: DatabasePort>(
     rt: &R,
     alloc: Global,
     port: &mut P,
@@ -173,11 +156,8 @@ pub fn set<R: Wait, P: DatabasePort>(
     index: u32,
     text: &[u8],
 ) -> Result<CommandReply, NoMemory>
-    ensures did { IfOk result (Answers (P.access port.old) (P.access port.new)
-        (AtPath (path_reply path.now) (Sets index text.now))) }
-    ensures interrupted { OnErr result (CutsAnswer (P.access port.old) (P.access port.new)
-        (AtPath (path_reply path.now) (Sets index text.now))) }
-    ensures same { IsSamePort (P.access port.old) (P.access port.new) }
+    ensures { EndsCommand (P.access port.old) (P.access port.new)
+        (AtPath (path_reply path.now) (Sets index text.now)) result }
 {
     match read_path(alloc, path)? {
         Err(why) => Ok(no_path(why)),
@@ -193,11 +173,7 @@ fn key_named<R: Wait, P: DatabasePort>(
     value: Value,
     row: u32,
 ) -> Result<CommandReply, NoMemory>
-    ensures did { IfOk result (Answers (P.access port.old) (P.access port.new)
-        (Names value row)) }
-    ensures interrupted { OnErr result (CutsAnswer (P.access port.old) (P.access port.new)
-        (Names value row)) }
-    ensures same { IsSamePort (P.access port.old) (P.access port.new) }
+    ensures { EndsCommand (P.access port.old) (P.access port.new) (Names value row) result }
 {
     let path = port.path_of(rt, alloc, row)?;
     let path = path.unwrap_or(Path::root(alloc));
@@ -212,11 +188,7 @@ fn key_found<R: Wait, P: DatabasePort>(
     value: Value,
     found: Result<u32, OdbRefusal>,
 ) -> Result<CommandReply, NoMemory>
-    ensures did { IfOk result (Answers (P.access port.old) (P.access port.new)
-        (NamesFound value found)) }
-    ensures interrupted { OnErr result (CutsAnswer (P.access port.old) (P.access port.new)
-        (NamesFound value found)) }
-    ensures same { IsSamePort (P.access port.old) (P.access port.new) }
+    ensures { EndsCommand (P.access port.old) (P.access port.new) (NamesFound value found) result }
 {
     match found {
         Err(why) => Ok(refused_by(why)),
@@ -233,11 +205,7 @@ fn shown<R: Wait, P: DatabasePort>(
     index: Option<u32>,
     value: Value,
 ) -> Result<CommandReply, NoMemory>
-    ensures did { IfOk result (Answers (P.access port.old) (P.access port.new)
-        (Shows path index value)) }
-    ensures interrupted { OnErr result (CutsAnswer (P.access port.old) (P.access port.new)
-        (Shows path index value)) }
-    ensures same { IsSamePort (P.access port.old) (P.access port.new) }
+    ensures { EndsCommand (P.access port.old) (P.access port.new) (Shows path index value) result }
 {
     match index {
         Some(index) => one_of(alloc, &value, index),
@@ -257,11 +225,7 @@ fn get_in<R: Wait, P: DatabasePort>(
     index: Option<u32>,
     got: Result<Value, OdbRefusal>,
 ) -> Result<CommandReply, NoMemory>
-    ensures did { IfOk result (Answers (P.access port.old) (P.access port.new)
-        (GetsIn path index got)) }
-    ensures interrupted { OnErr result (CutsAnswer (P.access port.old) (P.access port.new)
-        (GetsIn path index got)) }
-    ensures same { IsSamePort (P.access port.old) (P.access port.new) }
+    ensures { EndsCommand (P.access port.old) (P.access port.new) (GetsIn path index got) result }
 {
     match got {
         Err(why) => Ok(refused_by(why)),
@@ -277,11 +241,7 @@ fn get_at<R: Wait, P: DatabasePort>(
     path: Path,
     index: Option<u32>,
 ) -> Result<CommandReply, NoMemory>
-    ensures did { IfOk result (Answers (P.access port.old) (P.access port.new)
-        (Gets index path)) }
-    ensures interrupted { OnErr result (CutsAnswer (P.access port.old) (P.access port.new)
-        (Gets index path)) }
-    ensures same { IsSamePort (P.access port.old) (P.access port.new) }
+    ensures { EndsCommand (P.access port.old) (P.access port.new) (Gets index path) result }
 {
     let copy = path.try_clone(alloc)?;
     let got = settled(port.get(rt, alloc, copy))?;
@@ -289,18 +249,15 @@ fn get_at<R: Wait, P: DatabasePort>(
 }
 
 /// The command `get`: the value of the key at the path of this text, or one item of it.
-pub fn get<R: Wait, P: DatabasePort>(
+fn get<R: Wait, P: DatabasePort>(
     rt: &R,
     alloc: Global,
     port: &mut P,
     path: &[u8],
     index: Option<u32>,
 ) -> Result<CommandReply, NoMemory>
-    ensures did { IfOk result (Answers (P.access port.old) (P.access port.new)
-        (AtPath (path_reply path.now) (Gets index))) }
-    ensures interrupted { OnErr result (CutsAnswer (P.access port.old) (P.access port.new)
-        (AtPath (path_reply path.now) (Gets index))) }
-    ensures same { IsSamePort (P.access port.old) (P.access port.new) }
+    ensures { EndsCommand (P.access port.old) (P.access port.new)
+        (AtPath (path_reply path.now) (Gets index)) result }
 {
     match read_path(alloc, path)? {
         Err(why) => Ok(no_path(why)),
@@ -315,28 +272,21 @@ fn list_at<R: Wait, P: DatabasePort>(
     port: &mut P,
     path: Path,
 ) -> Result<CommandReply, NoMemory>
-    ensures did { IfOk result (Answers (P.access port.old) (P.access port.new)
-        (Lists path)) }
-    ensures interrupted { OnErr result (CutsAnswer (P.access port.old) (P.access port.new)
-        (Lists path)) }
-    ensures same { IsSamePort (P.access port.old) (P.access port.new) }
+    ensures { EndsCommand (P.access port.old) (P.access port.new) (Lists path) result }
 {
     let children = settled(port.list(rt, alloc, path))?;
     Ok(listed_or(children))
 }
 
 /// The command `ls`: what stands in the directory at the path of this text.
-pub fn list<R: Wait, P: DatabasePort>(
+fn list<R: Wait, P: DatabasePort>(
     rt: &R,
     alloc: Global,
     port: &mut P,
     path: &[u8],
 ) -> Result<CommandReply, NoMemory>
-    ensures did { IfOk result (Answers (P.access port.old) (P.access port.new)
-        (AtPath (path_reply path.now) Lists)) }
-    ensures interrupted { OnErr result (CutsAnswer (P.access port.old) (P.access port.new)
-        (AtPath (path_reply path.now) Lists)) }
-    ensures same { IsSamePort (P.access port.old) (P.access port.new) }
+    ensures { EndsCommand (P.access port.old) (P.access port.new)
+        (AtPath (path_reply path.now) Lists) result }
 {
     match read_path(alloc, path)? {
         Err(why) => Ok(no_path(why)),
@@ -347,8 +297,7 @@ pub fn list<R: Wait, P: DatabasePort>(
 /// The command at this path.
 fn remove_at<R: Wait, P: DatabasePort>(rt: &R, port: &mut P, path: Path) -> CommandReply
     requires main { (P.access port.old).caller ≡ main_caller }
-    ensures did { Answers (P.access port.old) (P.access port.new) (RemovesKey path) result }
-    ensures same { IsSamePort (P.access port.old) (P.access port.new) }
+    ensures { Answers (P.access port.old) (P.access port.new) (RemovesKey path) result }
 {
     if is_protected(path.names()) {
         return CommandReply::Refused {
@@ -359,18 +308,15 @@ fn remove_at<R: Wait, P: DatabasePort>(rt: &R, port: &mut P, path: Path) -> Comm
 }
 
 /// The command `rm`: removes the row at the path of this text and all below it, unless it is protected.
-pub fn remove<R: Wait, P: DatabasePort>(
+fn remove<R: Wait, P: DatabasePort>(
     rt: &R,
     alloc: Global,
     port: &mut P,
     path: &[u8],
 ) -> Result<CommandReply, NoMemory>
     requires main { (P.access port.old).caller ≡ main_caller }
-    ensures did { IfOk result (Answers (P.access port.old) (P.access port.new)
-        (AtPath (path_reply path.now) RemovesKey)) }
-    ensures interrupted { OnErr result (CutsAnswer (P.access port.old) (P.access port.new)
-        (AtPath (path_reply path.now) RemovesKey)) }
-    ensures same { IsSamePort (P.access port.old) (P.access port.new) }
+    ensures { EndsCommand (P.access port.old) (P.access port.new)
+        (AtPath (path_reply path.now) RemovesKey) result }
 {
     match read_path(alloc, path)? {
         Err(why) => Ok(no_path(why)),
@@ -378,74 +324,48 @@ pub fn remove<R: Wait, P: DatabasePort>(
     }
 }
 
-/// The answer to a command of the database; None for any other command.
+/// The command, by its case.
 fn answer<R: Wait, P: DatabasePort>(
     rt: &R,
     alloc: Global,
     port: &mut P,
-    command: &Command<'_>,
-) -> Option<Result<CommandReply, NoMemory>>
+    command: &RowCommand<'_>,
+) -> Result<CommandReply, NoMemory>
     requires main { (P.access port.old).caller ≡ main_caller }
-    ensures ends { IfSome result (EndsCommand (P.access port.old) (P.access port.new)
-        (Performs command.now)) }
-    ensures no_call { IfNone result (P.access port.new ≡ P.access port.old) }
-    ensures other { IfNone result (IsFalse (calls_database command.now)) }
-    ensures same { IsSamePort (P.access port.old) (P.access port.new) }
+    ensures { EndsCommand (P.access port.old) (P.access port.new) (Performs command.now) result }
 {
     match command {
-        Command::Create { tid, path, len } => {
+        RowCommand::Create { tid, path, len } => {
             let kind = NewKey::Keys {
                 tid: *tid,
                 len: *len,
             };
-            Some(create(rt, alloc, port, path.as_slice(), kind))
+            create(rt, alloc, port, path.as_slice(), kind)
         }
-        Command::CreateDir { path } => {
-            Some(create(rt, alloc, port, path.as_slice(), NewKey::Dir))
+        RowCommand::CreateDir { path } => create(rt, alloc, port, path.as_slice(), NewKey::Dir),
+        RowCommand::Set { path, index, value } => {
+            set(rt, alloc, port, path.as_slice(), *index, value.as_slice())
         }
-        Command::Set { path, index, value } => {
-            let text = value.as_slice();
-            Some(set(rt, alloc, port, path.as_slice(), *index, text))
-        }
-        Command::Get { path, index } => Some(get(rt, alloc, port, path.as_slice(), *index)),
-        Command::List { path } => Some(list(rt, alloc, port, path.as_slice())),
-        Command::Remove { path } => Some(remove(rt, alloc, port, path.as_slice())),
-        Command::Nothing
-        | Command::Buffer { .. }
-        | Command::Equip { .. }
-        | Command::Channel { .. }
-        | Command::Analyzer { .. }
-        | Command::Events { .. }
-        | Command::Start
-        | Command::Stop
-        | Command::Pause
-        | Command::Resume
-        | Command::Load { .. }
-        | Command::Save { .. }
-        | Command::Watch { .. }
-        | Command::Notes { .. }
-        | Command::Unwatch { .. }
-        | Command::Exit => None,
+        RowCommand::Get { path, index } => get(rt, alloc, port, path.as_slice(), *index),
+        RowCommand::List { path } => list(rt, alloc, port, path.as_slice()),
+        RowCommand::Remove { path } => remove(rt, alloc, port, path.as_slice()),
     }
 }
 
-/// Answers a command of the database, by the main thread: makes its calls, each once and in order, and gives the reply. None
-/// for any other command. Where memory ends, the first of its calls were made, the last of them maybe with that reply, and all
-/// of them only where its own reply takes memory behind them.
+/// Answers a command on the rows of the database, by the main thread: makes its calls, each once and in order, and gives the
+/// reply. Where memory ends, the first of its calls were made, the last of them maybe with that reply, and all of them only
+/// where its own reply takes memory behind them.
 pub fn run_command<R: Wait, P: DatabasePort>(
     rt: &R,
     alloc: Global,
     port: &mut P,
-    command: &Command<'_>,
-) -> Result<Option<CommandReply>, NoMemory>
+    command: &RowCommand<'_>,
+) -> Result<CommandReply, NoMemory>
     requires main { (P.access port.old).caller ≡ main_caller }
-    ensures did { IfOk result (AnswersIf (P.access port.old) (P.access port.new) command.now) }
-    ensures interrupted { OnErr result (CutsAnswer (P.access port.old) (P.access port.new)
-        (Performs command.now)) }
+    ensures ends { EndsCommand (P.access port.old) (P.access port.new) (Performs command.now)
+        result }
     ensures same { IsSamePort (P.access port.old) (P.access port.new) }
 {
-    match answer(rt, alloc, port, command) {
-        Some(reply) => Ok(Some(reply?)),
-        None => Ok(None),
-    }
+    calls_add_up();
+    answer(rt, alloc, port, command)
 }

@@ -8,7 +8,7 @@ mod reading;
 mod replies;
 mod texts;
 
-pub use commands::{create, get, list, remove, run_command, set};
+pub use commands::run_command;
 pub use reading::{read_path, settled};
 pub use replies::{CommandRefusal, CommandReply};
 pub use texts::begin_refusal;

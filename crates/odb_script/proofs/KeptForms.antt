@@ -7,7 +7,7 @@ use Rattle.std.proofs.Math.Logic.{⊎_elim}
 use Rattle.odb_script.specs.Lines.{kept, kept_limit}
 use Rattle.odb_script.specs.LineWords.{line_words}
 use Rattle.odb_script.specs.Forms.{command_of}
-use Rattle.odb_script.specs.declared.forms.Command.TheVariants.{Nothing}
+use Rattle.odb_script.specs.declared.commands.Command.TheVariants.{Nothing}
 use Rattle.odb_script.specs.declared.refusals.LineRefusal.TheVariants.{BadCommand}
 
 command_of-long : (line : List ℕ) → 4096 < length line → command_of line ≡ Err (BadCommand 4096)

@@ -9,9 +9,14 @@ use Rattle.odb_script.specs.LineWords.{LineWords, word, ended, faulty, line_word
 use Rattle.daq_text.specs.Numbers.{whole_number}
 use Rattle.odb_script.specs.Numbers.{most_number, most_small}
 use Rattle.odb_script.specs.TypeNames.{is_text, type_named, kind_named}
-use Rattle.odb_script.specs.declared.forms.Command.{Command}
-use Rattle.odb_script.specs.declared.forms.Command.TheVariants.{Nothing, Buffer, Equip, Channel, Analyzer, Events, Start, Stop, Pause, Resume, Create, CreateDir, Set, Get, List as Ls, Remove, Load, Save, Watch, Notes, Unwatch, Exit}
-use Rattle.odb_script.specs.Forms.{Read, ◌>>=◌, next_text, words_behind, line_end, next_number, next_kind, last_number, only, with_text, with_number, buffer_form, equip_end, equip_form, channel_end, channel_form, analyzer_end, analyzer_form, value_form, create_form, set_end, set_form, get_form, watching_form, key_form, declaring_form, named_form, words_form, command_of}
+use Rattle.odb_script.specs.declared.commands.Command.{Command}
+use Rattle.odb_script.specs.declared.commands.Command.TheVariants.{Nothing, Exit, Declare, Run, Database}
+use Rattle.odb_script.specs.declared.commands.Declaration.TheVariants.{Buffer, Equip, Channel, Analyzer}
+use Rattle.odb_script.specs.declared.commands.RunCommand.TheVariants.{Events, Start, Stop, Pause, Resume}
+use Rattle.odb_script.specs.declared.commands.DatabaseCommand.TheVariants.{Rows, Watches}
+use Rattle.odb_script.specs.declared.commands.RowCommand.TheVariants.{Create, CreateDir, Set, Get, List as Ls, Remove}
+use Rattle.odb_script.specs.declared.commands.WatchCommand.TheVariants.{Load, Save, Watch, Notes, Unwatch}
+use Rattle.odb_script.specs.Forms.{Read, ◌>>=◌, next_text, words_behind, line_end, next_number, next_kind, last_number, on_rows, on_watches, only, with_text, with_number, buffer_form, equip_end, equip_form, channel_end, channel_form, analyzer_end, analyzer_form, value_form, create_form, set_end, set_form, get_form, watching_form, key_form, declaring_form, named_form, words_form, command_of}
 use Rattle.odb_script.specs.Spelled.{texts_of, Spells, Spelled}
 use Rattle.odb_script.proofs.TableLaws.{number_cases, type_cases, kind_cases, text_cases, no_directory_type}
 
@@ -85,8 +90,8 @@ text_number_ends front make none some ws =
 
 buffer : (ws : LineWords) → Reads (codes "buffer" ∷ []) ws (buffer_form ws)
 buffer ws =
-    text_goes_on (codes "buffer" ∷ []) (λ name. with_number (Buffer name))
-    (λ name. number_ends (codes "buffer" ∷ name ∷ []) (Buffer name) (λ text n number. (text, refl, number))) ws
+    text_goes_on (codes "buffer" ∷ []) (λ name. with_number (λ size. Declare (Buffer name size)))
+    (λ name. number_ends (codes "buffer" ∷ name ∷ []) (λ size. Declare (Buffer name size)) (λ text n number. (text, refl, number))) ws
 
 equip : (ws : LineWords) → Reads (codes "equip" ∷ []) ws (equip_form ws)
 equip ws =
@@ -95,7 +100,7 @@ equip ws =
     (λ name. number_goes_on (codes "equip" ∷ name ∷ []) most_number
     (λ id behind. next_number most_small behind >>= (λ mask. equip_end name id mask (words_behind behind)))
     (λ i id is_id. number_goes_on (codes "equip" ∷ name ∷ i ∷ []) most_small (equip_end name id)
-    (λ m mask is_mask. text_number_ends (codes "equip" ∷ name ∷ i ∷ m ∷ []) (λ into limit. Equip name id mask into (unwrap_or limit most_number))
+    (λ m mask is_mask. text_number_ends (codes "equip" ∷ name ∷ i ∷ m ∷ []) (λ into limit. Declare (Equip name id mask into (unwrap_or limit most_number)))
     (λ into. (i, m, is_id, is_mask, inl (refl, refl)))
     (λ into number n is_number. (i, m, is_id, is_mask, inr (number, refl, is_number))))))
     ws
@@ -108,9 +113,9 @@ channel ws =
     (λ pattern behind. next_text behind >>= (λ into. channel_end number pattern into (words_behind behind)))
     (λ pattern. text_goes_on (codes "channel" ∷ t ∷ pattern ∷ []) (channel_end number pattern)
     (λ into. number_goes_on (codes "channel" ∷ t ∷ pattern ∷ into ∷ []) most_small
-    (λ id behind. next_number most_small behind >>= (λ mask. only (Channel number pattern into id mask) (words_behind behind)))
-    (λ i id is_id. number_goes_on (codes "channel" ∷ t ∷ pattern ∷ into ∷ i ∷ []) most_small (λ mask. only (Channel number pattern into id mask))
-    (λ m mask is_mask rest. ends (codes "channel" ∷ t ∷ pattern ∷ into ∷ i ∷ m ∷ []) (Channel number pattern into id mask) rest
+    (λ id behind. next_number most_small behind >>= (λ mask. only (Declare (Channel number pattern into id mask)) (words_behind behind)))
+    (λ i id is_id. number_goes_on (codes "channel" ∷ t ∷ pattern ∷ into ∷ i ∷ []) most_small (λ mask. only (Declare (Channel number pattern into id mask)))
+    (λ m mask is_mask rest. ends (codes "channel" ∷ t ∷ pattern ∷ into ∷ i ∷ m ∷ []) (Declare (Channel number pattern into id mask)) rest
     (t, i, m, refl, is_number, is_id, is_mask))))))
     ws
 
@@ -128,22 +133,22 @@ analyzer ws =
     (λ name behind. next_text behind >>= (λ into. analyzer_end name into (words_behind behind)))
     (λ name. text_goes_on (codes "analyzer" ∷ name ∷ []) (analyzer_end name)
     (λ into. number_goes_on (codes "analyzer" ∷ name ∷ into ∷ []) most_small
-    (λ id behind. next_number most_small behind >>= (λ mask. next_kind (words_behind behind) >>= (λ kind. only (Analyzer name into id mask kind) (words_behind (words_behind behind)))))
+    (λ id behind. next_number most_small behind >>= (λ mask. next_kind (words_behind behind) >>= (λ kind. only (Declare (Analyzer name into id mask kind)) (words_behind (words_behind behind)))))
     (λ i id is_id. number_goes_on (codes "analyzer" ∷ name ∷ into ∷ i ∷ []) most_small
-    (λ mask behind. next_kind behind >>= (λ kind. only (Analyzer name into id mask kind) (words_behind behind)))
-    (λ m mask is_mask. kind_ends (codes "analyzer" ∷ name ∷ into ∷ i ∷ m ∷ []) (Analyzer name into id mask)
+    (λ mask behind. next_kind behind >>= (λ kind. only (Declare (Analyzer name into id mask kind)) (words_behind behind)))
+    (λ m mask is_mask. kind_ends (codes "analyzer" ∷ name ∷ into ∷ i ∷ m ∷ []) (λ kind. Declare (Analyzer name into id mask kind))
     (λ k kind is_kind. (i, m, k, refl, is_id, is_mask, is_kind))))))
     ws
 
 create : (ws : LineWords) → Reads (codes "create" ∷ []) ws (create_form ws)
 create (word at kind ws) = text_cases kind (codes "DIR")
     (λ same. subst (λ text. Reads (codes "create" ∷ []) (word at text ws) (create_form (word at text ws))) same
-    (step (codes "create" ∷ []) at (codes "DIR") ws (with_text CreateDir ws)
-    (text_ends (codes "create" ∷ codes "DIR" ∷ []) CreateDir (λ path. refl) ws)))
+    (step (codes "create" ∷ []) at (codes "DIR") ws (with_text (λ path. on_rows (CreateDir path)) ws)
+    (text_ends (codes "create" ∷ codes "DIR" ∷ []) (λ path. on_rows (CreateDir path)) (λ path. refl) ws)))
     (λ other. type_cases kind
     (λ e. rw (other, e) tt)
     (λ t e. rw (other, e) (step (codes "create" ∷ []) at kind ws (value_form at (Some t) ws)
-    (text_number_ends (codes "create" ∷ kind ∷ []) (λ path len. Create t path (unwrap_or len 1))
+    (text_number_ends (codes "create" ∷ kind ∷ []) (λ path len. on_rows (Create t path (unwrap_or len 1)))
     (λ path. (kind, e, inl (refl, refl)))
     (λ path text n number. (kind, e, inr (text, refl, number)))
     ws))))
@@ -157,8 +162,8 @@ set_without_index path first (faulty at) = tt
 
 set_with_index : (path first : List ℕ) (n : ℕ) → whole_number most_number first ≡ Some n → (ws : LineWords) → Reads (codes "set" ∷ path ∷ first ∷ []) ws (set_end path first (Some n) ws)
 set_with_index path first n number (word at value ws) =
-    step (codes "set" ∷ path ∷ first ∷ []) at value ws (only (Set path n value) ws)
-    (ends (codes "set" ∷ path ∷ first ∷ value ∷ []) (Set path n value) ws (inr (first, refl, number)))
+    step (codes "set" ∷ path ∷ first ∷ []) at value ws (only (on_rows (Set path n value)) ws)
+    (ends (codes "set" ∷ path ∷ first ∷ value ∷ []) (on_rows (Set path n value)) ws (inr (first, refl, number)))
 set_with_index path first n number (ended at) = ([], refl, inl (refl, refl))
 set_with_index path first n number (faulty at) = tt
 
@@ -175,7 +180,7 @@ set (ended at) = tt
 set (faulty at) = tt
 
 get : (ws : LineWords) → Reads (codes "get" ∷ []) ws (get_form ws)
-get ws = text_number_ends (codes "get" ∷ []) Get (λ path. refl) (λ path text n number. (text, refl, number)) ws
+get ws = text_number_ends (codes "get" ∷ []) (λ path index. on_rows (Get path index)) (λ path. refl) (λ path text n number. (text, refl, number)) ws
 
 -- the forms that begin with a name
 abbrev Named : ℕ → LineWords → List ℕ → Type 0
@@ -188,11 +193,11 @@ form at name ws read h = step [] at name ws read h
 named : (at : ℕ) (name : List ℕ) (ws : LineWords) → Named at ws name
 unfolding named_form declaring_form key_form watching_form
 named at name ws =
-    text_cases name (codes "events") (λ e. subst (Named at ws) e (form at (codes "events") ws (with_number Events ws) (number_ends (codes "events" ∷ []) Events (λ text n number. (text, refl, number)) ws))) (λ no_events.
-    text_cases name (codes "start") (λ e. subst (Named at ws) e (form at (codes "start") ws (only Start ws) (ends (codes "start" ∷ []) Start ws refl))) (λ no_start.
-    text_cases name (codes "stop") (λ e. subst (Named at ws) e (form at (codes "stop") ws (only Stop ws) (ends (codes "stop" ∷ []) Stop ws refl))) (λ no_stop.
-    text_cases name (codes "pause") (λ e. subst (Named at ws) e (form at (codes "pause") ws (only Pause ws) (ends (codes "pause" ∷ []) Pause ws refl))) (λ no_pause.
-    text_cases name (codes "resume") (λ e. subst (Named at ws) e (form at (codes "resume") ws (only Resume ws) (ends (codes "resume" ∷ []) Resume ws refl))) (λ no_resume.
+    text_cases name (codes "events") (λ e. subst (Named at ws) e (form at (codes "events") ws (with_number (λ count. Run (Events count)) ws) (number_ends (codes "events" ∷ []) (λ count. Run (Events count)) (λ text n number. (text, refl, number)) ws))) (λ no_events.
+    text_cases name (codes "start") (λ e. subst (Named at ws) e (form at (codes "start") ws (only (Run Start) ws) (ends (codes "start" ∷ []) (Run Start) ws refl))) (λ no_start.
+    text_cases name (codes "stop") (λ e. subst (Named at ws) e (form at (codes "stop") ws (only (Run Stop) ws) (ends (codes "stop" ∷ []) (Run Stop) ws refl))) (λ no_stop.
+    text_cases name (codes "pause") (λ e. subst (Named at ws) e (form at (codes "pause") ws (only (Run Pause) ws) (ends (codes "pause" ∷ []) (Run Pause) ws refl))) (λ no_pause.
+    text_cases name (codes "resume") (λ e. subst (Named at ws) e (form at (codes "resume") ws (only (Run Resume) ws) (ends (codes "resume" ∷ []) (Run Resume) ws refl))) (λ no_resume.
     text_cases name (codes "exit") (λ e. subst (Named at ws) e (form at (codes "exit") ws (only Exit ws) (ends (codes "exit" ∷ []) Exit ws refl))) (λ no_exit.
     text_cases name (codes "buffer") (λ e. subst (Named at ws) e (form at (codes "buffer") ws (buffer_form ws) (buffer ws))) (λ no_buffer.
     text_cases name (codes "equip") (λ e. subst (Named at ws) e (form at (codes "equip") ws (equip_form ws) (equip ws))) (λ no_equip.
@@ -201,13 +206,13 @@ named at name ws =
     text_cases name (codes "create") (λ e. subst (Named at ws) e (form at (codes "create") ws (create_form ws) (create ws))) (λ no_create.
     text_cases name (codes "set") (λ e. subst (Named at ws) e (form at (codes "set") ws (set_form ws) (set ws))) (λ no_set.
     text_cases name (codes "get") (λ e. subst (Named at ws) e (form at (codes "get") ws (get_form ws) (get ws))) (λ no_get.
-    text_cases name (codes "ls") (λ e. subst (Named at ws) e (form at (codes "ls") ws (with_text Ls ws) (text_ends (codes "ls" ∷ []) Ls (λ text. refl) ws))) (λ no_ls.
-    text_cases name (codes "rm") (λ e. subst (Named at ws) e (form at (codes "rm") ws (with_text Remove ws) (text_ends (codes "rm" ∷ []) Remove (λ text. refl) ws))) (λ no_rm.
-    text_cases name (codes "load") (λ e. subst (Named at ws) e (form at (codes "load") ws (with_text Load ws) (text_ends (codes "load" ∷ []) Load (λ text. refl) ws))) (λ no_load.
-    text_cases name (codes "save") (λ e. subst (Named at ws) e (form at (codes "save") ws (with_text Save ws) (text_ends (codes "save" ∷ []) Save (λ text. refl) ws))) (λ no_save.
-    text_cases name (codes "watch") (λ e. subst (Named at ws) e (form at (codes "watch") ws (with_text Watch ws) (text_ends (codes "watch" ∷ []) Watch (λ text. refl) ws))) (λ no_watch.
-    text_cases name (codes "notes") (λ e. subst (Named at ws) e (form at (codes "notes") ws (with_number Notes ws) (number_ends (codes "notes" ∷ []) Notes (λ text n number. (text, refl, number)) ws))) (λ no_notes.
-    text_cases name (codes "unwatch") (λ e. subst (Named at ws) e (form at (codes "unwatch") ws (with_number Unwatch ws) (number_ends (codes "unwatch" ∷ []) Unwatch (λ text n number. (text, refl, number)) ws))) (λ no_unwatch.
+    text_cases name (codes "ls") (λ e. subst (Named at ws) e (form at (codes "ls") ws (with_text (λ path. on_rows (Ls path)) ws) (text_ends (codes "ls" ∷ []) (λ path. on_rows (Ls path)) (λ text. refl) ws))) (λ no_ls.
+    text_cases name (codes "rm") (λ e. subst (Named at ws) e (form at (codes "rm") ws (with_text (λ path. on_rows (Remove path)) ws) (text_ends (codes "rm" ∷ []) (λ path. on_rows (Remove path)) (λ text. refl) ws))) (λ no_rm.
+    text_cases name (codes "load") (λ e. subst (Named at ws) e (form at (codes "load") ws (with_text (λ file. on_watches (Load file)) ws) (text_ends (codes "load" ∷ []) (λ file. on_watches (Load file)) (λ text. refl) ws))) (λ no_load.
+    text_cases name (codes "save") (λ e. subst (Named at ws) e (form at (codes "save") ws (with_text (λ file. on_watches (Save file)) ws) (text_ends (codes "save" ∷ []) (λ file. on_watches (Save file)) (λ text. refl) ws))) (λ no_save.
+    text_cases name (codes "watch") (λ e. subst (Named at ws) e (form at (codes "watch") ws (with_text (λ path. on_watches (Watch path)) ws) (text_ends (codes "watch" ∷ []) (λ path. on_watches (Watch path)) (λ text. refl) ws))) (λ no_watch.
+    text_cases name (codes "notes") (λ e. subst (Named at ws) e (form at (codes "notes") ws (with_number (λ watch. on_watches (Notes watch)) ws) (number_ends (codes "notes" ∷ []) (λ watch. on_watches (Notes watch)) (λ text n number. (text, refl, number)) ws))) (λ no_notes.
+    text_cases name (codes "unwatch") (λ e. subst (Named at ws) e (form at (codes "unwatch") ws (with_number (λ watch. on_watches (Unwatch watch)) ws) (number_ends (codes "unwatch" ∷ []) (λ watch. on_watches (Unwatch watch)) (λ text n number. (text, refl, number)) ws))) (λ no_unwatch.
     rw (no_events, no_start, no_stop, no_pause, no_resume, no_exit, no_buffer, no_equip, no_channel, no_analyzer, no_create, no_set, no_get, no_ls, no_rm, no_load, no_save, no_watch, no_notes, no_unwatch) tt))))))))))))))))))))
 
 reads : (ws : LineWords) → Reads [] ws (words_form ws)
@@ -270,43 +275,43 @@ no_type type t named = text_cases type (codes "DIR")
 spelled : (ws : LineWords) (texts : List (List ℕ)) (command : Command) → texts_of ws ≡ Some texts → Spells texts command → AreOf command ws
 unfolding named_form declaring_form key_form watching_form
 spelled ws texts Nothing h is = on_none (AreOf Nothing) ws (h ∙ ap Some is) (λ i. refl)
-spelled ws texts (Buffer name size) h is = on_three (AreOf (Buffer name size)) ws (codes "buffer") name is.0 (h ∙ ap Some is.1) (λ i j k l. rw is.2 refl)
-spelled ws texts (Equip name id mask buffer limit) h is = elim is.4 [
-  | inl whole ↦ on_five (AreOf (Equip name id mask buffer limit)) ws (codes "equip") name is.0 is.1 buffer (h ∙ ap Some whole.0)
-      (λ i j k l m n. rw (is.2, is.3) (ap (λ most. Ok (Equip name id mask buffer most)) (sym whole.1)))
-  | inr whole ↦ on_six (AreOf (Equip name id mask buffer limit)) ws (codes "equip") name is.0 is.1 buffer whole.0 (h ∙ ap Some whole.1)
+spelled ws texts (Declare (Buffer name size)) h is = on_three (AreOf (Declare (Buffer name size))) ws (codes "buffer") name is.0 (h ∙ ap Some is.1) (λ i j k l. rw is.2 refl)
+spelled ws texts (Declare (Equip name id mask buffer limit)) h is = elim is.4 [
+  | inl whole ↦ on_five (AreOf (Declare (Equip name id mask buffer limit))) ws (codes "equip") name is.0 is.1 buffer (h ∙ ap Some whole.0)
+      (λ i j k l m n. rw (is.2, is.3) (ap (λ most. Ok (Declare (Equip name id mask buffer most))) (sym whole.1)))
+  | inr whole ↦ on_six (AreOf (Declare (Equip name id mask buffer limit))) ws (codes "equip") name is.0 is.1 buffer whole.0 (h ∙ ap Some whole.1)
       (λ i j k l m n o. rw (is.2, is.3, whole.2) refl)
 ]
-spelled ws texts (Channel number pattern buffer id mask) h is =
-    on_six (AreOf (Channel number pattern buffer id mask)) ws (codes "channel") is.0 pattern buffer is.1 is.2 (h ∙ ap Some is.3) (λ i j k l m n o. rw (is.4, is.5, is.6) refl)
-spelled ws texts (Analyzer name buffer id mask kind) h is =
-    on_six (AreOf (Analyzer name buffer id mask kind)) ws (codes "analyzer") name buffer is.0 is.1 is.2 (h ∙ ap Some is.3) (λ i j k l m n o. rw (is.4, is.5, is.6) refl)
-spelled ws texts (Events count) h is = on_two (AreOf (Events count)) ws (codes "events") is.0 (h ∙ ap Some is.1) (λ i j k. rw is.2 refl)
-spelled ws texts Start h is = on_one (AreOf Start) ws (codes "start") (h ∙ ap Some is) (λ i j. refl)
-spelled ws texts Stop h is = on_one (AreOf Stop) ws (codes "stop") (h ∙ ap Some is) (λ i j. refl)
-spelled ws texts Pause h is = on_one (AreOf Pause) ws (codes "pause") (h ∙ ap Some is) (λ i j. refl)
-spelled ws texts Resume h is = on_one (AreOf Resume) ws (codes "resume") (h ∙ ap Some is) (λ i j. refl)
-spelled ws texts (Create tid path len) h is = elim is.2 [
-  | inl whole ↦ on_three (AreOf (Create tid path len)) ws (codes "create") is.0 path (h ∙ ap Some whole.0)
-      (λ i j k l. rw (no_type is.0 tid is.1, is.1) (ap (λ n. Ok (Create tid path n)) (sym whole.1)))
-  | inr whole ↦ on_four (AreOf (Create tid path len)) ws (codes "create") is.0 path whole.0 (h ∙ ap Some whole.1)
+spelled ws texts (Declare (Channel number pattern buffer id mask)) h is =
+    on_six (AreOf (Declare (Channel number pattern buffer id mask))) ws (codes "channel") is.0 pattern buffer is.1 is.2 (h ∙ ap Some is.3) (λ i j k l m n o. rw (is.4, is.5, is.6) refl)
+spelled ws texts (Declare (Analyzer name buffer id mask kind)) h is =
+    on_six (AreOf (Declare (Analyzer name buffer id mask kind))) ws (codes "analyzer") name buffer is.0 is.1 is.2 (h ∙ ap Some is.3) (λ i j k l m n o. rw (is.4, is.5, is.6) refl)
+spelled ws texts (Run (Events count)) h is = on_two (AreOf (Run (Events count))) ws (codes "events") is.0 (h ∙ ap Some is.1) (λ i j k. rw is.2 refl)
+spelled ws texts (Run Start) h is = on_one (AreOf (Run Start)) ws (codes "start") (h ∙ ap Some is) (λ i j. refl)
+spelled ws texts (Run Stop) h is = on_one (AreOf (Run Stop)) ws (codes "stop") (h ∙ ap Some is) (λ i j. refl)
+spelled ws texts (Run Pause) h is = on_one (AreOf (Run Pause)) ws (codes "pause") (h ∙ ap Some is) (λ i j. refl)
+spelled ws texts (Run Resume) h is = on_one (AreOf (Run Resume)) ws (codes "resume") (h ∙ ap Some is) (λ i j. refl)
+spelled ws texts (Database (Rows (Create tid path len))) h is = elim is.2 [
+  | inl whole ↦ on_three (AreOf (Database (Rows (Create tid path len)))) ws (codes "create") is.0 path (h ∙ ap Some whole.0)
+      (λ i j k l. rw (no_type is.0 tid is.1, is.1) (ap (λ n. Ok (Database (Rows (Create tid path n)))) (sym whole.1)))
+  | inr whole ↦ on_four (AreOf (Database (Rows (Create tid path len)))) ws (codes "create") is.0 path whole.0 (h ∙ ap Some whole.1)
       (λ i j k l m. rw (no_type is.0 tid is.1, is.1, whole.2) refl)
 ]
-spelled ws texts (CreateDir path) h is = on_three (AreOf (CreateDir path)) ws (codes "create") (codes "DIR") path (h ∙ ap Some is) (λ i j k l. refl)
-spelled ws texts (Set path index value) h is = elim is [
-  | inl whole ↦ on_three (AreOf (Set path index value)) ws (codes "set") path value (h ∙ ap Some whole.0)
-      (λ i j k l. ap (λ n. Ok (Set path n value)) (sym whole.1))
-  | inr whole ↦ on_four (AreOf (Set path index value)) ws (codes "set") path whole.0 value (h ∙ ap Some whole.1) (λ i j k l m. rw whole.2 refl)
+spelled ws texts (Database (Rows (CreateDir path))) h is = on_three (AreOf (Database (Rows (CreateDir path)))) ws (codes "create") (codes "DIR") path (h ∙ ap Some is) (λ i j k l. refl)
+spelled ws texts (Database (Rows (Set path index value))) h is = elim is [
+  | inl whole ↦ on_three (AreOf (Database (Rows (Set path index value)))) ws (codes "set") path value (h ∙ ap Some whole.0)
+      (λ i j k l. ap (λ n. Ok (Database (Rows (Set path n value)))) (sym whole.1))
+  | inr whole ↦ on_four (AreOf (Database (Rows (Set path index value)))) ws (codes "set") path whole.0 value (h ∙ ap Some whole.1) (λ i j k l m. rw whole.2 refl)
 ]
-spelled ws texts (Get path None) h is = on_two (AreOf (Get path None)) ws (codes "get") path (h ∙ ap Some is) (λ i j k. refl)
-spelled ws texts (Get path (Some index)) h is = on_three (AreOf (Get path (Some index))) ws (codes "get") path is.0 (h ∙ ap Some is.1) (λ i j k l. rw is.2 refl)
-spelled ws texts (Ls path) h is = on_two (AreOf (Ls path)) ws (codes "ls") path (h ∙ ap Some is) (λ i j k. refl)
-spelled ws texts (Remove path) h is = on_two (AreOf (Remove path)) ws (codes "rm") path (h ∙ ap Some is) (λ i j k. refl)
-spelled ws texts (Load file) h is = on_two (AreOf (Load file)) ws (codes "load") file (h ∙ ap Some is) (λ i j k. refl)
-spelled ws texts (Save file) h is = on_two (AreOf (Save file)) ws (codes "save") file (h ∙ ap Some is) (λ i j k. refl)
-spelled ws texts (Watch path) h is = on_two (AreOf (Watch path)) ws (codes "watch") path (h ∙ ap Some is) (λ i j k. refl)
-spelled ws texts (Notes watch) h is = on_two (AreOf (Notes watch)) ws (codes "notes") is.0 (h ∙ ap Some is.1) (λ i j k. rw is.2 refl)
-spelled ws texts (Unwatch watch) h is = on_two (AreOf (Unwatch watch)) ws (codes "unwatch") is.0 (h ∙ ap Some is.1) (λ i j k. rw is.2 refl)
+spelled ws texts (Database (Rows (Get path None))) h is = on_two (AreOf (Database (Rows (Get path None)))) ws (codes "get") path (h ∙ ap Some is) (λ i j k. refl)
+spelled ws texts (Database (Rows (Get path (Some index)))) h is = on_three (AreOf (Database (Rows (Get path (Some index))))) ws (codes "get") path is.0 (h ∙ ap Some is.1) (λ i j k l. rw is.2 refl)
+spelled ws texts (Database (Rows (Ls path))) h is = on_two (AreOf (Database (Rows (Ls path)))) ws (codes "ls") path (h ∙ ap Some is) (λ i j k. refl)
+spelled ws texts (Database (Rows (Remove path))) h is = on_two (AreOf (Database (Rows (Remove path)))) ws (codes "rm") path (h ∙ ap Some is) (λ i j k. refl)
+spelled ws texts (Database (Watches (Load file))) h is = on_two (AreOf (Database (Watches (Load file)))) ws (codes "load") file (h ∙ ap Some is) (λ i j k. refl)
+spelled ws texts (Database (Watches (Save file))) h is = on_two (AreOf (Database (Watches (Save file)))) ws (codes "save") file (h ∙ ap Some is) (λ i j k. refl)
+spelled ws texts (Database (Watches (Watch path))) h is = on_two (AreOf (Database (Watches (Watch path)))) ws (codes "watch") path (h ∙ ap Some is) (λ i j k. refl)
+spelled ws texts (Database (Watches (Notes watch))) h is = on_two (AreOf (Database (Watches (Notes watch)))) ws (codes "notes") is.0 (h ∙ ap Some is.1) (λ i j k. rw is.2 refl)
+spelled ws texts (Database (Watches (Unwatch watch))) h is = on_two (AreOf (Database (Watches (Unwatch watch)))) ws (codes "unwatch") is.0 (h ∙ ap Some is.1) (λ i j k. rw is.2 refl)
 spelled ws texts Exit h is = on_one (AreOf Exit) ws (codes "exit") (h ∙ ap Some is) (λ i j. refl)
 
 -- Whole lines.

@@ -11,10 +11,14 @@ use Rattle.odb_script.specs.LineWords.{LineWords, word, ended, faulty, line_word
 use Rattle.daq_text.specs.Numbers.{whole_number}
 use Rattle.odb_script.specs.Numbers.{most_number, most_small}
 use Rattle.odb_script.specs.TypeNames.{is_text, type_named, kind_named}
-use Rattle.odb_script.specs.declared.forms.Command.{Command}
-use Rattle.odb_script.specs.declared.forms.Command.TheVariants.{Nothing, Buffer, Equip, Channel, Analyzer, Events, Start, Stop, Pause, Resume, Create, CreateDir, Set, Get, List as Ls, Remove, Load, Save, Watch, Notes, Unwatch, Exit}
+use Rattle.odb_script.specs.declared.commands.Command.{Command}
+use Rattle.odb_script.specs.declared.commands.Command.TheVariants.{Nothing, Exit, Declare, Run}
+use Rattle.odb_script.specs.declared.commands.Declaration.TheVariants.{Buffer, Equip, Channel, Analyzer}
+use Rattle.odb_script.specs.declared.commands.RunCommand.TheVariants.{Events, Start, Stop, Pause, Resume}
+use Rattle.odb_script.specs.declared.commands.RowCommand.TheVariants.{Create, CreateDir, Set, Get, List as Ls, Remove}
+use Rattle.odb_script.specs.declared.commands.WatchCommand.TheVariants.{Load, Save, Watch, Notes, Unwatch}
 use Rattle.odb_script.specs.declared.refusals.LineRefusal.TheVariants.{BadCommand}
-use Rattle.odb_script.specs.Forms.{Read, ◌>>=◌, next_text, words_behind, next_number, next_kind, last_number, only, with_text, with_number, buffer_form, equip_end, equip_form, channel_end, channel_form, analyzer_end, analyzer_form, create_form, set_end, set_form, watching_form, key_form, declaring_form, named_form, words_form, command_of}
+use Rattle.odb_script.specs.Forms.{Read, ◌>>=◌, next_text, words_behind, next_number, next_kind, last_number, on_rows, on_watches, only, with_text, with_number, buffer_form, equip_end, equip_form, channel_end, channel_form, analyzer_end, analyzer_form, create_form, set_end, set_form, watching_form, key_form, declaring_form, named_form, words_form, command_of}
 use Rattle.odb_script.specs.FormTable.{Piece, exactly, any_text, number_to, a_number, a_small_number, a_type, fits, LineForm, forms, forms_going_on, form_ended, first_misfit, place_of}
 
 -- What is known of a text: whether it is a number, the name of a type, or one text alone.
@@ -105,7 +109,7 @@ text_number_ends make ws = text_goes_on [] ((a_number ∷ []) ∷ []) (λ text r
 -- The forms behind their names.
 
 buffer : (ws : LineWords) → place_of (buffer_form ws) ≡ first_misfit ((any_text ∷ a_number ∷ []) ∷ []) ws
-buffer ws = text_goes_on (a_number ∷ []) [] (λ name. with_number (Buffer name)) (λ name. number_ends (Buffer name)) ws
+buffer ws = text_goes_on (a_number ∷ []) [] (λ name. with_number (λ size. Declare (Buffer name size))) (λ name. number_ends (λ size. Declare (Buffer name size))) ws
 
 equip : (ws : LineWords) → place_of (equip_form ws)
     ≡ first_misfit ((any_text ∷ a_number ∷ a_small_number ∷ any_text ∷ []) ∷ (any_text ∷ a_number ∷ a_small_number ∷ any_text ∷ a_number ∷ []) ∷ []) ws
@@ -115,13 +119,13 @@ equip ws =
     (λ name. number_goes_on most_number (a_small_number ∷ any_text ∷ []) ((a_small_number ∷ any_text ∷ a_number ∷ []) ∷ [])
     (λ id behind. next_number most_small behind >>= (λ mask. equip_end name id mask (words_behind behind)))
     (λ id. number_goes_on most_small (any_text ∷ []) ((any_text ∷ a_number ∷ []) ∷ []) (equip_end name id)
-    (λ mask. text_number_ends (λ into limit. Equip name id mask into (unwrap_or limit most_number)))))
+    (λ mask. text_number_ends (λ into limit. Declare (Equip name id mask into (unwrap_or limit most_number))))))
     ws
 
 channel_back : (number : ℕ) (pattern into : List ℕ) (ws : LineWords) → place_of (channel_end number pattern into ws) ≡ first_misfit ((a_small_number ∷ a_small_number ∷ []) ∷ []) ws
 channel_back number pattern into ws =
-    number_goes_on most_small (a_small_number ∷ []) [] (λ id behind. next_number most_small behind >>= (λ mask. only (Channel number pattern into id mask) (words_behind behind)))
-    (λ id. number_goes_on most_small [] [] (λ mask. only (Channel number pattern into id mask)) (λ mask. ends (Channel number pattern into id mask)))
+    number_goes_on most_small (a_small_number ∷ []) [] (λ id behind. next_number most_small behind >>= (λ mask. only (Declare (Channel number pattern into id mask)) (words_behind behind)))
+    (λ id. number_goes_on most_small [] [] (λ mask. only (Declare (Channel number pattern into id mask))) (λ mask. ends (Declare (Channel number pattern into id mask))))
     ws
 
 channel : (ws : LineWords) → place_of (channel_form ws) ≡ first_misfit ((a_number ∷ any_text ∷ any_text ∷ a_small_number ∷ a_small_number ∷ []) ∷ []) ws
@@ -151,10 +155,10 @@ analyzer_back : (name into : List ℕ) (ws : LineWords) → place_of (analyzer_e
     ≡ first_misfit ((a_small_number ∷ a_small_number ∷ exactly (codes "all") ∷ []) ∷ (a_small_number ∷ a_small_number ∷ exactly (codes "some") ∷ []) ∷ []) ws
 analyzer_back name into ws =
     number_goes_on most_small (a_small_number ∷ exactly (codes "all") ∷ []) ((a_small_number ∷ exactly (codes "some") ∷ []) ∷ [])
-    (λ id behind. next_number most_small behind >>= (λ mask. next_kind (words_behind behind) >>= (λ kind. only (Analyzer name into id mask kind) (words_behind (words_behind behind)))))
+    (λ id behind. next_number most_small behind >>= (λ mask. next_kind (words_behind behind) >>= (λ kind. only (Declare (Analyzer name into id mask kind)) (words_behind (words_behind behind)))))
     (λ id. number_goes_on most_small (exactly (codes "all") ∷ []) ((exactly (codes "some") ∷ []) ∷ [])
-    (λ mask behind. next_kind behind >>= (λ kind. only (Analyzer name into id mask kind) (words_behind behind)))
-    (λ mask. kind_ends (Analyzer name into id mask)))
+    (λ mask behind. next_kind behind >>= (λ kind. only (Declare (Analyzer name into id mask kind)) (words_behind behind)))
+    (λ mask. kind_ends (λ kind. Declare (Analyzer name into id mask kind))))
     ws
 
 analyzer : (ws : LineWords) → place_of (analyzer_form ws)
@@ -176,8 +180,8 @@ create_forms = (exactly (codes "DIR") ∷ any_text ∷ []) ∷ (a_type ∷ any_t
 
 create : (ws : LineWords) → place_of (create_form ws) ≡ first_misfit create_forms ws
 create (word at kind ws) = text_cases kind (codes "DIR")
-    (λ same. subst (λ text. place_of (create_form (word at text ws)) ≡ first_misfit create_forms (word at text ws)) same (rw no_directory_type (text_ends CreateDir ws)))
-    (λ other. type_cases kind (λ e. rw (other, e) refl) (λ t e. rw (other, e) (text_number_ends (λ path len. Create t path (unwrap_or len 1)) ws)))
+    (λ same. subst (λ text. place_of (create_form (word at text ws)) ≡ first_misfit create_forms (word at text ws)) same (rw no_directory_type (text_ends (λ path. on_rows (CreateDir path)) ws)))
+    (λ other. type_cases kind (λ e. rw (other, e) refl) (λ t e. rw (other, e) (text_number_ends (λ path len. on_rows (Create t path (unwrap_or len 1))) ws)))
 create (ended at) = refl
 create (faulty at) = refl
 
@@ -187,7 +191,7 @@ set_without_index path first (ended at) = refl
 set_without_index path first (faulty at) = refl
 
 set_with_index : (path first : List ℕ) (n : ℕ) (ws : LineWords) → place_of (set_end path first (Some n) ws) ≡ first_misfit ([] ∷ (any_text ∷ []) ∷ []) ws
-set_with_index path first n (word at value ws) = ends (Set path n value) ws
+set_with_index path first n (word at value ws) = ends (on_rows (Set path n value)) ws
 set_with_index path first n (ended at) = refl
 set_with_index path first n (faulty at) = refl
 
@@ -227,11 +231,11 @@ refused_by_all at name ws none refused = ap place_of refused ∙ sym (misfit_at_
 named : (at : ℕ) (name : List ℕ) (ws : LineWords) → Named at ws name
 unfolding named_form declaring_form key_form watching_form
 named at name ws =
-    text_cases name (codes "events") (λ e. subst (Named at ws) e (number_ends Events ws)) (λ no_events.
-    text_cases name (codes "start") (λ e. subst (Named at ws) e (ends Start ws)) (λ no_start.
-    text_cases name (codes "stop") (λ e. subst (Named at ws) e (ends Stop ws)) (λ no_stop.
-    text_cases name (codes "pause") (λ e. subst (Named at ws) e (ends Pause ws)) (λ no_pause.
-    text_cases name (codes "resume") (λ e. subst (Named at ws) e (ends Resume ws)) (λ no_resume.
+    text_cases name (codes "events") (λ e. subst (Named at ws) e (number_ends (λ count. Run (Events count)) ws)) (λ no_events.
+    text_cases name (codes "start") (λ e. subst (Named at ws) e (ends (Run Start) ws)) (λ no_start.
+    text_cases name (codes "stop") (λ e. subst (Named at ws) e (ends (Run Stop) ws)) (λ no_stop.
+    text_cases name (codes "pause") (λ e. subst (Named at ws) e (ends (Run Pause) ws)) (λ no_pause.
+    text_cases name (codes "resume") (λ e. subst (Named at ws) e (ends (Run Resume) ws)) (λ no_resume.
     text_cases name (codes "exit") (λ e. subst (Named at ws) e (ends Exit ws)) (λ no_exit.
     text_cases name (codes "buffer") (λ e. subst (Named at ws) e (buffer ws)) (λ no_buffer.
     text_cases name (codes "equip") (λ e. subst (Named at ws) e (equip ws)) (λ no_equip.
@@ -239,14 +243,14 @@ named at name ws =
     text_cases name (codes "analyzer") (λ e. subst (Named at ws) e (analyzer ws)) (λ no_analyzer.
     text_cases name (codes "create") (λ e. subst (Named at ws) e (create ws)) (λ no_create.
     text_cases name (codes "set") (λ e. subst (Named at ws) e (set ws)) (λ no_set.
-    text_cases name (codes "get") (λ e. subst (Named at ws) e (text_number_ends Get ws)) (λ no_get.
-    text_cases name (codes "ls") (λ e. subst (Named at ws) e (text_ends Ls ws)) (λ no_ls.
-    text_cases name (codes "rm") (λ e. subst (Named at ws) e (text_ends Remove ws)) (λ no_rm.
-    text_cases name (codes "load") (λ e. subst (Named at ws) e (text_ends Load ws)) (λ no_load.
-    text_cases name (codes "save") (λ e. subst (Named at ws) e (text_ends Save ws)) (λ no_save.
-    text_cases name (codes "watch") (λ e. subst (Named at ws) e (text_ends Watch ws)) (λ no_watch.
-    text_cases name (codes "notes") (λ e. subst (Named at ws) e (number_ends Notes ws)) (λ no_notes.
-    text_cases name (codes "unwatch") (λ e. subst (Named at ws) e (number_ends Unwatch ws)) (λ no_unwatch.
+    text_cases name (codes "get") (λ e. subst (Named at ws) e (text_number_ends (λ path index. on_rows (Get path index)) ws)) (λ no_get.
+    text_cases name (codes "ls") (λ e. subst (Named at ws) e (text_ends (λ path. on_rows (Ls path)) ws)) (λ no_ls.
+    text_cases name (codes "rm") (λ e. subst (Named at ws) e (text_ends (λ path. on_rows (Remove path)) ws)) (λ no_rm.
+    text_cases name (codes "load") (λ e. subst (Named at ws) e (text_ends (λ file. on_watches (Load file)) ws)) (λ no_load.
+    text_cases name (codes "save") (λ e. subst (Named at ws) e (text_ends (λ file. on_watches (Save file)) ws)) (λ no_save.
+    text_cases name (codes "watch") (λ e. subst (Named at ws) e (text_ends (λ path. on_watches (Watch path)) ws)) (λ no_watch.
+    text_cases name (codes "notes") (λ e. subst (Named at ws) e (number_ends (λ watch. on_watches (Notes watch)) ws)) (λ no_notes.
+    text_cases name (codes "unwatch") (λ e. subst (Named at ws) e (number_ends (λ watch. on_watches (Unwatch watch)) ws)) (λ no_unwatch.
     refused_by_all at name ws (rw (no_events, no_start, no_stop, no_pause, no_resume, no_exit, no_buffer, no_equip, no_channel, no_analyzer, no_create, no_set, no_get, no_ls, no_rm, no_load, no_save, no_watch, no_notes, no_unwatch) refl) (rw (no_events, no_start, no_stop, no_pause, no_resume, no_exit, no_buffer, no_equip, no_channel, no_analyzer, no_create, no_set, no_get, no_ls, no_rm, no_load, no_save, no_watch, no_notes, no_unwatch) refl)))))))))))))))))))))
 
 first_named : (ws : LineWords) → place_of (words_form ws) ≡ first_misfit forms ws

@@ -1,7 +1,7 @@
 -- The lines of a script up to its `exit`.
 use Rattle.std.specs.Prelude.{◌≡◌, ℕ, Bool, true, false, if◌then◌else◌, List, [], ◌∷◌, ◌++◌, All, Ok}
-use Rattle.odb_script.specs.declared.forms.Command.{Command}
-use Rattle.odb_script.specs.declared.forms.Command.TheVariants.{Exit}
+use Rattle.odb_script.specs.declared.commands.Command.{Command}
+use Rattle.odb_script.specs.declared.commands.Command.TheVariants.{Exit}
 use Rattle.odb_script.specs.Forms.{Read, command_of}
 
 -- the command ends the script

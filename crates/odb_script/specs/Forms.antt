@@ -7,8 +7,15 @@ use Rattle.odb_script.specs.LineWords.{LineWords, word, ended, faulty, line_word
 use Rattle.daq_text.specs.Numbers.{whole_number}
 use Rattle.odb_script.specs.Numbers.{most_number, most_small}
 use Rattle.odb_script.specs.TypeNames.{is_text, type_named, kind_named}
-use Rattle.odb_script.specs.declared.forms.Command.{Command}
-use Rattle.odb_script.specs.declared.forms.Command.TheVariants.{Nothing, Buffer, Equip, Channel, Analyzer, Events, Start, Stop, Pause, Resume, Create, CreateDir, Set, Get, List as Ls, Remove, Load, Save, Watch, Notes, Unwatch, Exit}
+use Rattle.odb_script.specs.declared.commands.Command.{Command}
+use Rattle.odb_script.specs.declared.commands.Command.TheVariants.{Nothing, Exit, Declare, Run, Database}
+use Rattle.odb_script.specs.declared.commands.Declaration.TheVariants.{Buffer, Equip, Channel, Analyzer}
+use Rattle.odb_script.specs.declared.commands.RunCommand.TheVariants.{Events, Start, Stop, Pause, Resume}
+use Rattle.odb_script.specs.declared.commands.DatabaseCommand.TheVariants.{Rows, Watches}
+use Rattle.odb_script.specs.declared.commands.RowCommand.{RowCommand}
+use Rattle.odb_script.specs.declared.commands.RowCommand.TheVariants.{Create, CreateDir, Set, Get, List as Ls, Remove}
+use Rattle.odb_script.specs.declared.commands.WatchCommand.{WatchCommand}
+use Rattle.odb_script.specs.declared.commands.WatchCommand.TheVariants.{Load, Save, Watch, Notes, Unwatch}
 use Rattle.odb_script.specs.declared.refusals.LineRefusal.{LineRefusal}
 use Rattle.odb_script.specs.declared.refusals.LineRefusal.TheVariants.{BadCommand}
 
@@ -84,6 +91,14 @@ only_number ws = do
   _ ← line_end (words_behind ws)
   Ok n
 
+-- a command on the rows of the database, and one for its watches or dumps
+
+abbrev pub on_rows : RowCommand → Command
+on_rows command = Database (Rows command)
+
+abbrev pub on_watches : WatchCommand → Command
+on_watches command = Database (Watches command)
+
 -- a command of one word
 abbrev pub only : Command → LineWords → Read Command
 only command ws = do
@@ -106,14 +121,14 @@ with_number make ws = do
 abbrev pub buffer_form : LineWords → Read Command
 buffer_form ws = do
   name ← next_text ws
-  with_number (Buffer name) (words_behind ws)
+  with_number (λ size. Declare (Buffer name size)) (words_behind ws)
 
 -- what stands behind `equip NAME ID MASK`: a buffer's name and maybe LIMIT, which is else the greatest number
 abbrev pub equip_end : (name : List ℕ) (id mask : ℕ) → LineWords → Read Command
 equip_end name id mask ws = do
   buffer ← next_text ws
   limit ← last_number (words_behind ws)
-  Ok (Equip name id mask buffer (unwrap_or limit most_number))
+  Ok (Declare (Equip name id mask buffer (unwrap_or limit most_number)))
 
 -- `equip NAME ID MASK BUFFER [LIMIT]`
 abbrev pub equip_form : LineWords → Read Command
@@ -128,7 +143,7 @@ abbrev pub channel_end : (number : ℕ) (pattern buffer : List ℕ) → LineWord
 channel_end number pattern buffer ws = do
   id ← next_number most_small ws
   mask ← next_number most_small (words_behind ws)
-  only (Channel number pattern buffer id mask) (words_behind (words_behind ws))
+  only (Declare (Channel number pattern buffer id mask)) (words_behind (words_behind ws))
 
 -- `channel N PATTERN BUFFER ID MASK`
 abbrev pub channel_form : LineWords → Read Command
@@ -144,7 +159,7 @@ analyzer_end name buffer ws = do
   id ← next_number most_small ws
   mask ← next_number most_small (words_behind ws)
   kind ← next_kind (words_behind (words_behind ws))
-  only (Analyzer name buffer id mask kind) (words_behind (words_behind (words_behind ws)))
+  only (Declare (Analyzer name buffer id mask kind)) (words_behind (words_behind (words_behind ws)))
 
 -- `analyzer NAME BUFFER ID MASK all`, or `some` in the place of `all`
 abbrev pub analyzer_form : LineWords → Read Command
@@ -155,7 +170,7 @@ analyzer_form ws = do
 
 -- `create DIR PATH`
 abbrev pub directory_form : LineWords → Read Command
-directory_form = with_text CreateDir
+directory_form = with_text (λ path. on_rows (CreateDir path))
 
 -- `create TYPE PATH` and maybe LEN, which is else 1
 abbrev pub value_form : ℕ → Option Tid → LineWords → Read Command
@@ -163,7 +178,7 @@ value_form at None ws = Err (BadCommand at)
 value_form at (Some tid) ws = do
   path ← next_text ws
   len ← last_number (words_behind ws)
-  Ok (Create tid path (unwrap_or len 1))
+  Ok (on_rows (Create tid path (unwrap_or len 1)))
 
 abbrev pub create_form : LineWords → Read Command
 create_form (word at kind ws) = if is_text kind (codes "DIR") then directory_form ws else value_form at (type_named kind) ws
@@ -173,10 +188,10 @@ create_form (faulty at) = Err (BadCommand at)
 -- What stands behind `set PATH` and one more word, which is the value where the line ends. Else it is the index, and
 -- the next word the value; no form goes on there if it is no number.
 abbrev pub set_end : List ℕ → List ℕ → Option ℕ → LineWords → Read Command
-set_end path first index (ended at) = Ok (Set path 0 first)
+set_end path first index (ended at) = Ok (on_rows (Set path 0 first))
 set_end path first index (faulty at) = Err (BadCommand at)
 set_end path first None (word at value ws) = Err (BadCommand at)
-set_end path first (Some index) (word at value ws) = only (Set path index value) ws
+set_end path first (Some index) (word at value ws) = only (on_rows (Set path index value)) ws
 
 -- `set PATH VALUE` or `set PATH INDEX VALUE`
 abbrev pub set_form : LineWords → Read Command
@@ -190,18 +205,18 @@ abbrev pub get_form : LineWords → Read Command
 get_form ws = do
   path ← next_text ws
   index ← last_number (words_behind ws)
-  Ok (Get path index)
+  Ok (on_rows (Get path index))
 
 -- The form that begins with a name, which stands at a place, with what is behind it.
 
 -- a dump's or a watch's; none begins with another name
 unfoldable pub watching_form : ℕ → List ℕ → LineWords → Read Command
 watching_form at name ws =
-    if is_text name (codes "load") then with_text Load ws
-    else if is_text name (codes "save") then with_text Save ws
-    else if is_text name (codes "watch") then with_text Watch ws
-    else if is_text name (codes "notes") then with_number Notes ws
-    else if is_text name (codes "unwatch") then with_number Unwatch ws
+    if is_text name (codes "load") then with_text (λ file. on_watches (Load file)) ws
+    else if is_text name (codes "save") then with_text (λ file. on_watches (Save file)) ws
+    else if is_text name (codes "watch") then with_text (λ path. on_watches (Watch path)) ws
+    else if is_text name (codes "notes") then with_number (λ watch. on_watches (Notes watch)) ws
+    else if is_text name (codes "unwatch") then with_number (λ watch. on_watches (Unwatch watch)) ws
     else Err (BadCommand at)
 
 -- a key's, or one of those
@@ -210,8 +225,8 @@ key_form at name ws =
     if is_text name (codes "create") then create_form ws
     else if is_text name (codes "set") then set_form ws
     else if is_text name (codes "get") then get_form ws
-    else if is_text name (codes "ls") then with_text Ls ws
-    else if is_text name (codes "rm") then with_text Remove ws
+    else if is_text name (codes "ls") then with_text (λ path. on_rows (Ls path)) ws
+    else if is_text name (codes "rm") then with_text (λ path. on_rows (Remove path)) ws
     else watching_form at name ws
 
 -- a declaration's, or one of those
@@ -226,11 +241,11 @@ declaring_form at name ws =
 -- a run's, that of `exit`, or one of those
 unfoldable pub named_form : ℕ → List ℕ → LineWords → Read Command
 named_form at name ws =
-    if is_text name (codes "events") then with_number Events ws
-    else if is_text name (codes "start") then only Start ws
-    else if is_text name (codes "stop") then only Stop ws
-    else if is_text name (codes "pause") then only Pause ws
-    else if is_text name (codes "resume") then only Resume ws
+    if is_text name (codes "events") then with_number (λ count. Run (Events count)) ws
+    else if is_text name (codes "start") then only (Run Start) ws
+    else if is_text name (codes "stop") then only (Run Stop) ws
+    else if is_text name (codes "pause") then only (Run Pause) ws
+    else if is_text name (codes "resume") then only (Run Resume) ws
     else if is_text name (codes "exit") then only Exit ws
     else declaring_form at name ws
 

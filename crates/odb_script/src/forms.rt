@@ -1,118 +1,17 @@
 //! The command of a line, by the name in front and the form that it begins.
-ghost use Rattle.std.specs.Prelude.{◌≡◌, Ok};
-ghost use Rattle.odb_script.specs.Exits.{is_exit};
+ghost use Rattle.std.specs.Prelude.{◌≡◌};
+ghost use Rattle.odb_script.specs.declared.commands.Command.TheVariants.{Run};
 ghost use Rattle.odb_script.specs.Forms.{buffer_form, equip_form, channel_form, analyzer_form, only, named_form, declaring_form, key_form, watching_form, command_of};
 
+use crate::commands::{
+    Command, Declaration, RowCommand, RunCommand, WatchCommand, on_rows, on_watches,
+};
 use crate::key_forms::{read_create, read_get, read_set};
-use crate::line_text::LineText;
 use crate::pieces::{
     end, is_name, last_number, next_kind, next_number, next_small, only_number, only_text, text,
 };
 use crate::refusals::{LINE_BYTES, LineRefusal};
 use crate::words::{NextWord, WordReader};
-use daq_types::{Kind, Tid};
-
-/// A command of the script. Its texts are words of the line, without quotes; paths and values are read later, by the
-/// database.
-#[derive(Drop)]
-pub enum Command<'a> {
-    /// An empty line, a line of blanks or a comment, which is passed over but counted.
-    Nothing,
-    /// `buffer NAME SIZE`: adds an event buffer of so many bytes, or sets the size of SYSTEM.
-    Buffer {
-        name: LineText<'a>,
-        size: u32,
-    },
-    /// `equip NAME ID MASK BUFFER [LIMIT]`: adds a front-end, which sends at most so many events in a run, 4,294,967,295
-    /// if not given.
-    Equip {
-        name: LineText<'a>,
-        id: u32,
-        mask: u16,
-        buffer: LineText<'a>,
-        limit: u32,
-    },
-    /// `channel N PATTERN BUFFER ID MASK`: adds a channel of the logger.
-    Channel {
-        number: u32,
-        pattern: LineText<'a>,
-        buffer: LineText<'a>,
-        id: u16,
-        mask: u16,
-    },
-    /// `analyzer NAME BUFFER ID MASK all`: adds an analyzer, for which senders wait; or `some` in the place of `all`, for
-    /// which they do not.
-    Analyzer {
-        name: LineText<'a>,
-        buffer: LineText<'a>,
-        id: u16,
-        mask: u16,
-        kind: Kind,
-    },
-    /// `events N`: how many events each front-end sends in the runs that are started from here on.
-    Events {
-        count: u32,
-    },
-    /// `start`: begins a run.
-    Start,
-    /// `stop`: ends the run.
-    Stop,
-    /// `pause`: stops the front-ends of the run, which goes on.
-    Pause,
-    /// `resume`: lets the front-ends of a paused run go on.
-    Resume,
-    /// `create TYPE PATH [LEN]`: makes a key of the database with so many items, 1 if not given.
-    Create {
-        tid: Tid,
-        path: LineText<'a>,
-        len: u32,
-    },
-    /// `create DIR PATH`: makes a directory of the database.
-    CreateDir {
-        path: LineText<'a>,
-    },
-    /// `set PATH [INDEX] VALUE`: sets an item of a key, item 0 if not given.
-    Set {
-        path: LineText<'a>,
-        index: u32,
-        value: LineText<'a>,
-    },
-    /// `get PATH [INDEX]`: prints a key, or one item of it.
-    Get {
-        path: LineText<'a>,
-        index: Option<u32>,
-    },
-    /// `ls PATH`: lists a directory.
-    List {
-        path: LineText<'a>,
-    },
-    /// `rm PATH`: deletes a key or a directory.
-    Remove {
-        path: LineText<'a>,
-    },
-    /// `load FILE`: reads a dump of the database from a file.
-    Load {
-        file: LineText<'a>,
-    },
-    /// `save FILE`: writes a dump of the database into a new file.
-    Save {
-        file: LineText<'a>,
-    },
-    /// `watch PATH`: begins a watch of a key or a directory of the database.
-    Watch {
-        path: LineText<'a>,
-    },
-    /// `notes W`: prints what the watch of this number noted.
-    Notes {
-        watch: u32,
-    },
-    /// `unwatch W`: ends the watch of this number.
-    Unwatch {
-        watch: u32,
-    },
-    /// `exit`: ends the script.
-    Exit,
-}
 
 /// `buffer NAME SIZE`
 fn read_buffer<'a>(words: &mut WordReader<'a>) -> Result<Command<'a>, LineRefusal>
@@ -120,7 +19,8 @@ fn read_buffer<'a>(words: &mut WordReader<'a>) -> Result<Command<'a>, LineRefusa
 {
     let name = text(words)?;
     let size = only_number(words)?;
-    Ok(Command::Buffer { name, size })
+    let declaration = Declaration::Buffer { name, size };
+    Ok(Command::Declare { declaration })
 }
 
 /// `equip NAME ID MASK BUFFER [LIMIT]`
@@ -132,13 +32,14 @@ fn read_equip<'a>(words: &mut WordReader<'a>) -> Result<Command<'a>, LineRefusal
     let mask = next_small(words)?;
     let buffer = text(words)?;
     let limit = last_number(words)?.unwrap_or(u32::MAX);
-    Ok(Command::Equip {
+    let declaration = Declaration::Equip {
         name,
         id,
         mask,
         buffer,
         limit,
-    })
+    };
+    Ok(Command::Declare { declaration })
 }
 
 /// `channel N PATTERN BUFFER ID MASK`
@@ -151,13 +52,14 @@ fn read_channel<'a>(words: &mut WordReader<'a>) -> Result<Command<'a>, LineRefus
     let id = next_small(words)?;
     let mask = next_small(words)?;
     end(words)?;
-    Ok(Command::Channel {
+    let declaration = Declaration::Channel {
         number,
         pattern,
         buffer,
         id,
         mask,
-    })
+    };
+    Ok(Command::Declare { declaration })
 }
 
 /// `analyzer NAME BUFFER ID MASK all` or `some`
@@ -170,13 +72,14 @@ fn read_analyzer<'a>(words: &mut WordReader<'a>) -> Result<Command<'a>, LineRefu
     let mask = next_small(words)?;
     let kind = next_kind(words)?;
     end(words)?;
-    Ok(Command::Analyzer {
+    let declaration = Declaration::Analyzer {
         name,
         buffer,
         id,
         mask,
         kind,
-    })
+    };
+    Ok(Command::Declare { declaration })
 }
 
 /// A command of one word.
@@ -188,6 +91,13 @@ fn read_only<'a>(
 {
     end(words)?;
     Ok(command)
+}
+
+/// A command for runs of one word.
+fn read_run<'a>(command: RunCommand, words: &mut WordReader<'a>) -> Result<Command<'a>, LineRefusal>
+    ensures { result ≡ only (Run command) words.old }
+{
+    read_only(Command::Run { command }, words)
 }
 
 /// The form that begins with this name, which stands at this place: that of a dump or of a watch. None begins with
@@ -202,23 +112,23 @@ fn read_watching<'a>(
 {
     if is_name(name, "load") {
         let file = only_text(words)?;
-        return Ok(Command::Load { file });
+        return Ok(on_watches(WatchCommand::Load { file }));
     }
     if is_name(name, "save") {
         let file = only_text(words)?;
-        return Ok(Command::Save { file });
+        return Ok(on_watches(WatchCommand::Save { file }));
     }
     if is_name(name, "watch") {
         let path = only_text(words)?;
-        return Ok(Command::Watch { path });
+        return Ok(on_watches(WatchCommand::Watch { path }));
     }
     if is_name(name, "notes") {
         let watch = only_number(words)?;
-        return Ok(Command::Notes { watch });
+        return Ok(on_watches(WatchCommand::Notes { watch }));
     }
     if is_name(name, "unwatch") {
         let watch = only_number(words)?;
-        return Ok(Command::Unwatch { watch });
+        return Ok(on_watches(WatchCommand::Unwatch { watch }));
     }
     Err(LineRefusal::BadCommand { at })
 }
@@ -243,11 +153,11 @@ fn read_key<'a>(
     }
     if is_name(name, "ls") {
         let path = only_text(words)?;
-        return Ok(Command::List { path });
+        return Ok(on_rows(RowCommand::List { path }));
     }
     if is_name(name, "rm") {
         let path = only_text(words)?;
-        return Ok(Command::Remove { path });
+        return Ok(on_rows(RowCommand::Remove { path }));
     }
     read_watching(at, name, words)
 }
@@ -288,19 +198,20 @@ fn read_form<'a>(
 {
     if is_name(name, "events") {
         let count = only_number(words)?;
-        return Ok(Command::Events { count });
+        let command = RunCommand::Events { count };
+        return Ok(Command::Run { command });
     }
     if is_name(name, "start") {
-        return read_only(Command::Start, words);
+        return read_run(RunCommand::Start, words);
     }
     if is_name(name, "stop") {
-        return read_only(Command::Stop, words);
+        return read_run(RunCommand::Stop, words);
     }
     if is_name(name, "pause") {
-        return read_only(Command::Pause, words);
+        return read_run(RunCommand::Pause, words);
     }
     if is_name(name, "resume") {
-        return read_only(Command::Resume, words);
+        return read_run(RunCommand::Resume, words);
     }
     if is_name(name, "exit") {
         return read_only(Command::Exit, words);
@@ -309,13 +220,6 @@ fn read_form<'a>(
 }
 
 impl<'a> Command<'a> {
-    /// Whether the command ends the script: it is `exit`.
-    pub fn is_exit(&self) -> bool
-        ensures { result ≡ is_exit (Ok self.now) }
-    {
-        matches!(self, Command::Exit)
-    }
-
     /// The command of a line, given without its end; else the place of the first word with which no form goes on, or
     /// the line's length where the line ends too early or a quote is not closed. A line of more than 4,096 bytes is
     /// refused at 4096.

@@ -2,7 +2,7 @@
 ghost use Rattle.std.specs.Prelude.{◌≡◌};
 ghost use Rattle.odb_script.specs.Forms.{directory_form, value_form, create_form, set_end, set_form, get_form};
 
-use crate::forms::Command;
+use crate::commands::{Command, RowCommand, on_rows};
 use crate::line_text::LineText;
 use crate::pieces::{end, is_name, last_number, only_text, text, type_of, word_number};
 use crate::refusals::LineRefusal;
@@ -14,7 +14,7 @@ fn read_directory<'a>(words: &mut WordReader<'a>) -> Result<Command<'a>, LineRef
     ensures { result ≡ directory_form words.old }
 {
     let path = only_text(words)?;
-    Ok(Command::CreateDir { path })
+    Ok(on_rows(RowCommand::CreateDir { path }))
 }
 
 /// `create TYPE PATH [LEN]`, where the type's name stands at this place.
@@ -30,7 +30,7 @@ fn read_value<'a>(
     };
     let path = text(words)?;
     let len = last_number(words)?.unwrap_or(1);
-    Ok(Command::Create { tid, path, len })
+    Ok(on_rows(RowCommand::Create { tid, path, len }))
 }
 
 /// `create DIR PATH` or `create TYPE PATH [LEN]`
@@ -59,21 +59,21 @@ fn read_set_end<'a>(
     ensures { result ≡ set_end path.entry first.entry index words.old }
 {
     match words.next() {
-        NextWord::End { .. } => Ok(Command::Set {
+        NextWord::End { .. } => Ok(on_rows(RowCommand::Set {
             path,
             index: 0,
             value: first,
-        }),
+        })),
         NextWord::Faulty { at } => Err(LineRefusal::BadCommand { at }),
         NextWord::Word { at, text } => match index {
             None => Err(LineRefusal::BadCommand { at }),
             Some(index) => {
                 end(words)?;
-                Ok(Command::Set {
+                Ok(on_rows(RowCommand::Set {
                     path,
                     index,
                     value: text,
-                })
+                }))
             }
         },
     }
@@ -95,5 +95,5 @@ pub(crate) fn read_get<'a>(words: &mut WordReader<'a>) -> Result<Command<'a>, Li
 {
     let path = text(words)?;
     let index = last_number(words)?;
-    Ok(Command::Get { path, index })
+    Ok(on_rows(RowCommand::Get { path, index }))
 }

@@ -5,8 +5,8 @@ ghost use Rattle.odb_script.specs.LineWords.{line_words};
 ghost use Rattle.odb_script.specs.Forms.{command_of};
 ghost use Rattle.odb_script.specs.Spelled.{Spelled};
 ghost use Rattle.odb_script.specs.FormTable.{forms, first_misfit, place_of};
-ghost use Rattle.odb_script.specs.declared.forms.Command.{Command};
-ghost use Rattle.odb_script.specs.declared.forms.Command.TheVariants.{Nothing};
+ghost use Rattle.odb_script.specs.declared.commands.Command.{Command};
+ghost use Rattle.odb_script.specs.declared.commands.Command.TheVariants.{Nothing};
 ghost use Rattle.odb_script.specs.declared.refusals.LineRefusal.TheVariants.{BadCommand};
 
 /// A line of at most 4,096 bytes that is no comment is refused exactly at the first word with which no form of the

@@ -1,7 +1,7 @@
 -- What a whole script keeps, where each of its lines does.
 use Rattle.std.proofs.Common.{◌≡◌, ℕ, ◌+◌, List, [], ◌∷◌, Option, Some, None, length, sym, subst, inl, inr}
 use Rattle.std.proofs.Math.Logic.{⊎_elim}
-use Rattle.odb_script.specs.declared.forms.Command.{Command}
+use Rattle.odb_script.specs.declared.commands.Command.{Command}
 use Rattle.odb_script.specs.Forms.{Read, command_of}
 use Rattle.script_desk.specs.declared.endings.Ending.{Ending}
 use Rattle.script_desk.specs.declared.endings.Ending.TheVariants.{End, TooLong, SourceFault, Halted}

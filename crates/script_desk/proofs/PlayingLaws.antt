@@ -5,7 +5,7 @@ use Rattle.std.proofs.lemmas.List.{take_all}
 use Rattle.std.specs.Io.KnownBytes.{Appends, Keeps}
 use Rattle.daq_io.specs.Streams.{AppendsPart}
 use Rattle.daq_io.proofs.StreamsLaws.{Appends-nil, Appends-trans}
-use Rattle.odb_script.specs.declared.forms.Command.{Command}
+use Rattle.odb_script.specs.declared.commands.Command.{Command}
 use Rattle.odb_script.specs.Forms.{Read, command_of}
 use Rattle.odb_script.specs.Lines.{Reading, kept, no_line_read, ReadsLine}
 use Rattle.odb_script.proofs.KeptForms.{command_of-kept}

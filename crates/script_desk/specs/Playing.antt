@@ -3,7 +3,7 @@
 use Rattle.std.specs.Prelude.{◌≡◌, ℕ, ◌+◌, ◌<◌, ◌≤◌, Bool, true, false, List, [], ◌∷◌, ◌++◌, length, take, Option, Some, None, Result, Ok, Err, ◌⊎◌, ⊤}
 use Rattle.std.specs.Io.KnownBytes.{Appends, Keeps}
 use Rattle.daq_io.specs.Streams.{AppendsPart}
-use Rattle.odb_script.specs.declared.forms.Command.{Command}
+use Rattle.odb_script.specs.declared.commands.Command.{Command}
 use Rattle.odb_script.specs.Forms.{Read, command_of}
 use Rattle.odb_script.specs.Lines.{Reading, lines_of, script_limit}
 use Rattle.odb_script.specs.ReadLines.{AreGivenLines, HasReadLines}

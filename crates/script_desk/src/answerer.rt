@@ -1,5 +1,5 @@
 ghost use Rattle.std.specs.Prelude.{◌≡◌, ℕ, Bool, Option, false, IfOk, OnErr};
-ghost use Rattle.odb_script.specs.declared.forms.Command.{Command};
+ghost use Rattle.odb_script.specs.declared.commands.Command.{Command};
 ghost use Rattle.odb_script.specs.Forms.{Read};
 ghost use Rattle.session_replies.specs.declared.replies.Reply.{Reply};
 

@@ -1,5 +1,5 @@
 ghost use Rattle.std.specs.Prelude.{◌≡◌, ◌≤◌, ◌+◌, ℕ, List, Option, false};
-ghost use Rattle.odb_script.specs.declared.forms.Command.{Command};
+ghost use Rattle.odb_script.specs.declared.commands.Command.{Command};
 ghost use Rattle.odb_script.specs.Forms.{Read};
 ghost use Rattle.script_desk.specs.Playing.{HasLine};
 ghost use Rattle.script_desk.specs.Closing.{EndCounts, Finished, Finishes, MayFail, SinkBehind};

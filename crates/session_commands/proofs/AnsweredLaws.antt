@@ -1,7 +1,7 @@
 -- A script for which memory was not wanting: each of its lines was answered, and so was what is done behind them.
 use Rattle.std.proofs.Common.{◌≡◌, ◌≢◌, ℕ, List, Option, Some, None, refl, ap, sym, ◌∙◌, subst}
 use Rattle.std.proofs.Math.Logic.{⊎_elim}
-use Rattle.odb_script.specs.declared.forms.Command.{Command}
+use Rattle.odb_script.specs.declared.commands.Command.{Command}
 use Rattle.odb_script.specs.Forms.{Read}
 use Rattle.session_replies.specs.declared.replies.Reply.{Reply}
 use Rattle.session_replies.specs.declared.refusals.Refusals.{Refusals}

@@ -10,14 +10,18 @@ use Rattle.database_files.specs.WholeFiles.{WritesFile}
 use Rattle.odb_watch.specs.declared.entry.WatchEntry.{WatchEntry}
 use Rattle.watch_commands.specs.declared.replies.WatchAnswer.{WatchAnswer}
 use Rattle.watch_commands.specs.WatchPerforms.{PerformsWatch}
-use Rattle.odb_script.specs.declared.forms.Command.{Command}
-use Rattle.odb_script.specs.declared.forms.Command.TheVariants.{Load, Save, Watch, Notes, Unwatch}
-use Rattle.odb_script.specs.Forms.{Read, command_of}
+use Rattle.odb_script.specs.declared.commands.Command.{Command}
+use Rattle.odb_script.specs.declared.commands.Command.TheVariants.{Database}
+use Rattle.odb_script.specs.declared.commands.DatabaseCommand.{DatabaseCommand}
+use Rattle.odb_script.specs.declared.commands.DatabaseCommand.TheVariants.{Rows, Watches}
+use Rattle.odb_script.specs.declared.commands.WatchCommand.{WatchCommand}
+use Rattle.odb_script.specs.declared.commands.WatchCommand.TheVariants.{Load, Save, Watch, Notes, Unwatch}
+use Rattle.odb_script.specs.Forms.{Read, command_of, on_watches}
 use Rattle.session_replies.specs.declared.replies.Reply.{Reply}
 use Rattle.session_replies.specs.declared.refusals.Refusals.{Refusals}
 use Rattle.session_runs.specs.KeptRuns.{RunsSeen}
 use Rattle.database_desk.specs.DatabaseStages.{DatabaseStage, DumpFiles}
-use Rattle.database_desk.specs.DatabaseLines.{BreaksDatabase, CutsDump, CutsRows, DoesDatabase, PerformsDump, PerformsRows}
+use Rattle.database_desk.specs.DatabaseLines.{BreaksDatabase, CutsDump, DoesDatabase}
 use Rattle.session_lines.specs.Stages.{SessionStage}
 use Rattle.session_lines.specs.RunLines.{BreaksStart, BreaksStop, ClosesRun, CutsOpening, DoesPause, DoesResume, DoesStart, DoesStop}
 use Rattle.session_lines.specs.ScriptLines.{BreaksScriptLine, CallsDatabase, ClosesScript, DoesScriptLine, GivesUp}
@@ -74,32 +78,29 @@ written_step Saved old new saved text Fault is writes = ⊎_elim
 written_step Saved old new saved text too_large is writes = absurd writes
 
 -- the command saves the database into a file of this name
-abbrev Saves : Command → List ℕ → Type 0
-Saves command name = command ≡ Save name
+abbrev Saves : DatabaseCommand → List ℕ → Type 0
+Saves command name = command ≡ Watches (Save name)
 
-performed_step : (command : Command) (old new : Seen) (calls : List WatchEntry) (answer : WatchAnswer) → PerformsWatch command old new calls answer → StepsFiles (Saves command) old new
+performed_step : (command : WatchCommand) (old new : Seen) (calls : List WatchEntry) (answer : WatchAnswer) → PerformsWatch command old new calls answer → StepsFiles (Saves (Watches command)) old new
 performed_step (Load name) old new calls answer does = ⊎_elim
-    (λ none. same_step (Saves (Load name)) old new none.1)
-    (λ loads. kept_step (Saves (Load name)) old new loads.1.1.files)
+    (λ none. same_step (Saves (Watches (Load name))) old new none.1)
+    (λ loads. kept_step (Saves (Watches (Load name))) old new loads.1.1.files)
     does
 performed_step (Save name) old new calls answer does = ⊎_elim
-    (λ none. same_step (Saves (Save name)) old new none.1)
-    (λ saves. written_step (Saves (Save name)) old new name saves.1.0 saves.1.1 refl saves.1.3)
+    (λ none. same_step (Saves (Watches (Save name))) old new none.1)
+    (λ saves. written_step (Saves (Watches (Save name))) old new name saves.1.0 saves.1.1 refl saves.1.3)
     does
-performed_step (Watch path) old new calls answer does = same_step (Saves (Watch path)) old new does.0
-performed_step (Notes watch) old new calls answer does = same_step (Saves (Notes watch)) old new does.0
-performed_step (Unwatch watch) old new calls answer does = same_step (Saves (Unwatch watch)) old new does.0
-performed_step command old new calls answer does = absurd does
+performed_step (Watch path) old new calls answer does = same_step (Saves (Watches (Watch path))) old new does.0
+performed_step (Notes watch) old new calls answer does = same_step (Saves (Watches (Notes watch))) old new does.0
+performed_step (Unwatch watch) old new calls answer does = same_step (Saves (Watches (Unwatch watch))) old new does.0
 
 -- what the files of the dumps tell in a stage
 abbrev files_seen : SessionStage → Seen
 files_seen s = s.database.files.seen
 
-database_step : (number : ℕ) (command : Command) (old : DatabaseStage) (reply : Reply) (new : DatabaseStage) → DoesDatabase number command old reply new → StepsFiles (Saves command) old.files.seen new.files.seen
-database_step number command old reply new does = ⊎_elim
-    (λ (rows : PerformsRows command old reply new). same_step (Saves command) old.files.seen new.files.seen (ap (λ (f : DumpFiles). f.seen) rows.files))
-    (λ (dump : PerformsDump number command old reply new). performed_step command old.files.seen new.files.seen dump.answers.calls dump.answer dump.answers.does)
-    does
+database_step : (number : ℕ) (command : DatabaseCommand) (old : DatabaseStage) (reply : Reply) (new : DatabaseStage) → DoesDatabase number command old reply new → StepsFiles (Saves command) old.files.seen new.files.seen
+database_step number (Rows command) old reply new does = same_step (Saves (Rows command)) old.files.seen new.files.seen (ap (λ (f : DumpFiles). f.seen) does.files)
+database_step number (Watches command) old reply new does = performed_step command old.files.seen new.files.seen does.answers.calls does.answer does.answers.does
 
 stage_step : (Saved : List ℕ → Type 0) (old new : SessionStage) → new.database.files ≡ old.database.files → StepsFiles Saved (files_seen old) (files_seen new)
 stage_step Saved old new same = same_step Saved (files_seen old) (files_seen new) (ap (λ (f : DumpFiles). f.seen) same)
@@ -122,9 +123,9 @@ resume_files (Some runs) old reply new does = does.files
 
 -- the line was read as a `save` of this name
 abbrev SavesLine : Read Command → List ℕ → Type 0
-SavesLine line name = line ≡ Ok (Save name)
+SavesLine line name = line ≡ Ok (on_watches (Save name))
 
-calls_step : (number : ℕ) (line : Read Command) (command : Command) (old : SessionStage) (reply : Reply) (new : SessionStage) → line ≡ Ok command → CallsDatabase number command old reply new → StepsFiles (SavesLine line) (files_seen old) (files_seen new)
+calls_step : (number : ℕ) (line : Read Command) (command : DatabaseCommand) (old : SessionStage) (reply : Reply) (new : SessionStage) → line ≡ Ok (Database command) → CallsDatabase number command old reply new → StepsFiles (SavesLine line) (files_seen old) (files_seen new)
 calls_step number line command old reply new is does =
     let step = database_step number command old.database reply new.database does.0 in
     record {
@@ -132,7 +133,7 @@ calls_step number line command old reply new is does =
       stay = step.stay;
       added = λ tells name file at. ⊎_elim
           (λ (there : (files_seen old).at name ≡ Some file). inl there)
-          (λ (saves : command ≡ Save name). inr (is ∙ ap (λ (c : Command). Ok c) saves))
+          (λ (saves : command ≡ Watches (Save name)). inr (is ∙ ap (λ (c : DatabaseCommand). Ok (Database c)) saves))
           (step.added tells name file at);
     }
 
@@ -171,7 +172,7 @@ one_more line lines old between new step keeps = record {
   added = λ tells name file at. ⊎_elim
       (λ (there : between.at name ≡ Some file). ⊎_elim
       (λ (was : old.at name ≡ Some file). inl was)
-      (λ (saves : command_of line ≡ Ok (Save name)). inr (line, first_contained line lines, saves))
+      (λ (saves : command_of line ≡ Ok (on_watches (Save name))). inr (line, first_contained line lines, saves))
       (step.added tells name file there))
       (λ (saved : IsSavedBy lines name). inr (saved.0, later_contained line lines saved.0 saved.1, saved.2))
       (keeps.added (subst IsTrue (sym step.tells) tells) name file at);
@@ -190,13 +191,11 @@ lines_keep number (line ∷ lines) (reply ∷ replies) old new plays =
 same_files : (old new : SessionStage) → new.database.files ≡ old.database.files → KeepsFiles (files_seen old) (files_seen new)
 same_files old new same = record { tells = ap (λ (f : DumpFiles). f.seen.tells) same; at = λ name. ap (λ (f : DumpFiles). f.seen.at name) same }
 
-database_cut : (command : Command) (old new : DatabaseStage) → BreaksDatabase command old new → KeepsFiles old.files.seen new.files.seen
-database_cut command old new broke = ⊎_elim
+database_cut : (command : DatabaseCommand) (old new : DatabaseStage) → BreaksDatabase command old new → KeepsFiles old.files.seen new.files.seen
+database_cut (Rows command) old new broke = record { tells = ap (λ (f : DumpFiles). f.seen.tells) broke.files; at = λ name. ap (λ (f : DumpFiles). f.seen.at name) broke.files }
+database_cut (Watches command) old new broke = ⊎_elim
     (λ (same : new ≡ old). record { tells = ap (λ (d : DatabaseStage). d.files.seen.tells) same; at = λ name. ap (λ (d : DatabaseStage). d.files.seen.at name) same })
-    (λ (cut : CutsRows command old new ⊎ CutsDump command old new). ⊎_elim
-    (λ (rows : CutsRows command old new). record { tells = ap (λ (f : DumpFiles). f.seen.tells) rows.files; at = λ name. ap (λ (f : DumpFiles). f.seen.at name) rows.files })
-    (λ (dump : CutsDump command old new). dump.kept.files)
-    cut)
+    (λ (cut : CutsDump command old new). cut.kept.files)
     broke
 
 start_cut : (runs : Option RunsSeen) (old new : SessionStage) → BreaksStart runs old new → new.database.files ≡ old.database.files

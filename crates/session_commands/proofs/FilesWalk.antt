@@ -5,13 +5,15 @@ use Rattle.std.specs.Prelude.{◌++◌, ◌⊎◌}
 use Rattle.std.proofs.Math.Logic.{⊎_elim}
 use Rattle.database_files.specs.declared.replies.FileReply.{FileReply}
 use Rattle.watch_commands.specs.WatchCalls.{ClashesIf, FaultsIf}
-use Rattle.odb_script.specs.declared.forms.Command.{Command}
+use Rattle.odb_script.specs.declared.commands.Command.{Command}
+use Rattle.odb_script.specs.declared.commands.DatabaseCommand.{DatabaseCommand}
+use Rattle.odb_script.specs.declared.commands.DatabaseCommand.TheVariants.{Rows, Watches}
 use Rattle.odb_script.specs.Forms.{Read}
 use Rattle.session_replies.specs.declared.replies.Reply.{Reply}
 use Rattle.session_runs.specs.declared.replies.RunReply.{RunReply}
 use Rattle.session_runs.specs.KeptRuns.{RunsSeen}
 use Rattle.database_desk.specs.DatabaseStages.{DatabaseStage, DumpFiles}
-use Rattle.database_desk.specs.DatabaseLines.{BreaksDatabase, CutsDump, CutsRows, DoesDatabase, PerformsDump, PerformsRows, file_replied}
+use Rattle.database_desk.specs.DatabaseLines.{BreaksDatabase, CutsDump, DoesDatabase, file_replied}
 use Rattle.session_lines.specs.Stages.{SessionStage}
 use Rattle.session_lines.specs.RunLines.{BreaksStart, BreaksStop, ClosesRun, CutsOpening, DoesPause, DoesResume, DoesStart, DoesStop, PausesBy, ResumesBy, RunsCommand, StartsBy, StopsBy}
 use Rattle.session_lines.specs.ScriptLines.{BreaksScriptLine, ClosesScript, DoesScriptLine, GivesUp}
@@ -75,12 +77,10 @@ module _ (Kept : List (ℕ × FileReply) → DumpFiles → Type 0) where
   -- Lines.
 
   module _ (more : KeptByLine) where
-    database_kept : (number : ℕ) (command : Command) (old : DatabaseStage) (reply : Reply) (new : DatabaseStage) → DoesDatabase number command old reply new → Kept old.replies old.files → Kept new.replies new.files
-    database_kept number command old reply new does kept = ⊎_elim
-        (λ (rows : PerformsRows command old reply new). same_kept old new rows.files rows.replies kept)
-        (λ (dump : PerformsDump number command old reply new).
-        subst (λ (came : List (ℕ × FileReply)). Kept came new.files) (sym dump.replies) (more dump.answer.file number old.replies old.files new.files dump.faults dump.clashes kept))
-        does
+    database_kept : (number : ℕ) (command : DatabaseCommand) (old : DatabaseStage) (reply : Reply) (new : DatabaseStage) → DoesDatabase number command old reply new → Kept old.replies old.files → Kept new.replies new.files
+    database_kept number (Rows command) old reply new does kept = same_kept old new does.files does.replies kept
+    database_kept number (Watches command) old reply new does kept =
+        subst (λ (came : List (ℕ × FileReply)). Kept came new.files) (sym does.replies) (more does.answer.file number old.replies old.files new.files does.faults does.clashes kept)
 
     kind_kept : (number : ℕ) (line : Read Command) (old : SessionStage) (reply : Reply) (new : SessionStage) → LineKind number line old reply new → FilesKept old → FilesKept new
     kind_kept number line old reply new (IsStill same) kept = subst FilesKept (sym same) kept
@@ -98,14 +98,12 @@ module _ (Kept : List (ℕ × FileReply) → DumpFiles → Type 0) where
   -- Where memory ended.
 
   module _ (cut : KeptByCut) where
-    database_cut : (command : Command) (old new : DatabaseStage) → BreaksDatabase command old new → Kept old.replies old.files → Kept new.replies new.files
-    database_cut command old new broke kept = ⊎_elim
+    database_cut : (command : DatabaseCommand) (old new : DatabaseStage) → BreaksDatabase command old new → Kept old.replies old.files → Kept new.replies new.files
+    database_cut (Rows command) old new broke kept = same_kept old new broke.files broke.replies kept
+    database_cut (Watches command) old new broke kept = ⊎_elim
         (λ (same : new ≡ old). subst (λ (d : DatabaseStage). Kept d.replies d.files) (sym same) kept)
-        (λ (made : CutsRows command old new ⊎ CutsDump command old new). ⊎_elim
-        (λ (rows : CutsRows command old new). same_kept old new rows.files rows.replies kept)
         (λ (dump : CutsDump command old new).
         subst (λ (came : List (ℕ × FileReply)). Kept came new.files) (sym dump.replies) (cut old.replies old.files new.files dump.faults dump.clashes kept))
-        made)
         broke
 
     start_cut : (runs : Option RunsSeen) (old new : SessionStage) → BreaksStart runs old new → FilesKept old → FilesKept new

@@ -2,8 +2,9 @@
 use Rattle.std.proofs.Common.{◌≡◌, ℕ, Option, Some, None, true, refl, sym, subst, ap, ◌∙◌}
 use Rattle.std.specs.Prelude.{Result, Ok, Err, ◌⊎◌, IfOk, OnErr, is_some}
 use Rattle.std.proofs.Math.Logic.{⊎_elim}
-use Rattle.odb_script.specs.declared.forms.Command.{Command}
-use Rattle.odb_script.specs.declared.forms.Command.TheVariants.{Start, Stop, Pause, Resume}
+use Rattle.odb_script.specs.declared.commands.Command.{Command}
+use Rattle.odb_script.specs.declared.commands.Command.TheVariants.{Run}
+use Rattle.odb_script.specs.declared.commands.RunCommand.TheVariants.{Start, Stop, Pause, Resume}
 use Rattle.odb_script.specs.Forms.{Read}
 use Rattle.odb_port.specs.DatabasePorts.{DatabaseAccess}
 use Rattle.session_engine.specs.MadeTransitions.{HadRounds}
@@ -52,15 +53,15 @@ module _ (d : Declared) (db : DatabaseStage) (a : DatabaseAccess) (k l : ClockTo
   pub stop_command : (reply : Reply) (said : RunReply) → AnswersStop NothingSaid said k l (own_point runs db.access) (own_point later a) → reply ≡ reply_for later said → later.quota ≡ runs.quota → RunsCommand StopsBy runs (open_stage d db k runs) reply (open_stage d (record db { access = a }) l later)
   stop_command reply said does is quota = record { after = later; answer = said; does = does; reply_is = is; runs = refl; quota = quota; declared = refl; files = refl; replies = refl }
 
-  pub start_line : (number : ℕ) (line : Read Command) → line ≡ Ok Start → (reply : Reply) (said : RunReply) → AnswersStart NothingSaid said k l (own_point runs db.access) (own_point later a) → reply ≡ reply_for later said → later.quota ≡ runs.quota
+  pub start_line : (number : ℕ) (line : Read Command) → line ≡ Ok (Run Start) → (reply : Reply) (said : RunReply) → AnswersStart NothingSaid said k l (own_point runs db.access) (own_point later a) → reply ≡ reply_for later said → later.quota ≡ runs.quota
       → DoesScriptLine number line (open_stage d db k runs) reply (open_stage d (record db { access = a }) l later)
   start_line number line at reply said does is quota = subst (λ (x : Read Command). DoesScriptLine number x old_stage reply new_stage) (sym at) (start_command reply said does is quota)
 
-  pub stop_line : (number : ℕ) (line : Read Command) → line ≡ Ok Stop → (reply : Reply) (said : RunReply) → AnswersStop NothingSaid said k l (own_point runs db.access) (own_point later a) → reply ≡ reply_for later said → later.quota ≡ runs.quota
+  pub stop_line : (number : ℕ) (line : Read Command) → line ≡ Ok (Run Stop) → (reply : Reply) (said : RunReply) → AnswersStop NothingSaid said k l (own_point runs db.access) (own_point later a) → reply ≡ reply_for later said → later.quota ≡ runs.quota
       → DoesScriptLine number line (open_stage d db k runs) reply (open_stage d (record db { access = a }) l later)
   stop_line number line at reply said does is quota = subst (λ (x : Read Command). DoesScriptLine number x old_stage reply new_stage) (sym at) (stop_command reply said does is quota)
 
-  pub start_cut : (number : ℕ) (line : Read Command) → line ≡ Ok Start → CutsStart k l (own_point runs db.access) (own_point later a) → later ≡ runs → BreaksScriptLine number line (open_stage d db k runs) (open_stage d (record db { access = a }) l later)
+  pub start_cut : (number : ℕ) (line : Read Command) → line ≡ Ok (Run Start) → CutsStart k l (own_point runs db.access) (own_point later a) → later ≡ runs → BreaksScriptLine number line (open_stage d db k runs) (open_stage d (record db { access = a }) l later)
   start_cut number line at cut same = subst (λ (x : Read Command). BreaksScriptLine number x old_stage new_stage) (sym at) (record {
     cut = subst (λ (r : RunsSeen). CutsStart k l (own_point runs db.access) (own_point r a)) same cut;
     same = ap (λ (r : RunsSeen). open_stage d (record db { access = a }) l r) same;
@@ -73,17 +74,17 @@ module _ (d : Declared) (db : DatabaseStage) (a : DatabaseAccess) (k l : ClockTo
       → BreaksStop (Some runs) (open_stage d db k runs) (open_stage d (record db { access = a }) l later)
   stop_broken cut quota = (later, behind_same quota, cut)
 
-  pub stop_cut : (number : ℕ) (line : Read Command) → line ≡ Ok Stop → ((run : ℕ) × AnswersStop NothingSaid (answer.Stopped run) k l (own_point runs db.access) (own_point later a)) ⊎ StopsUnsaved NothingSaid k l (own_point runs db.access) (own_point later a) → later.quota ≡ runs.quota
+  pub stop_cut : (number : ℕ) (line : Read Command) → line ≡ Ok (Run Stop) → ((run : ℕ) × AnswersStop NothingSaid (answer.Stopped run) k l (own_point runs db.access) (own_point later a)) ⊎ StopsUnsaved NothingSaid k l (own_point runs db.access) (own_point later a) → later.quota ≡ runs.quota
       → BreaksScriptLine number line (open_stage d db k runs) (open_stage d (record db { access = a }) l later)
   stop_cut number line at cut quota = subst (λ (x : Read Command). BreaksScriptLine number x old_stage new_stage) (sym at) (stop_broken cut quota)
 
 module _ (d : Declared) (db : DatabaseStage) (a : DatabaseAccess) (k : ClockTold) (runs later : RunsSeen) where
-  pub pause_line : (number : ℕ) (line : Read Command) → line ≡ Ok Pause → (reply : Reply) (said : RunReply) → AnswersPause NothingSaid said (own_point runs db.access) (own_point later a) → reply ≡ reply_for later said → later.quota ≡ runs.quota
+  pub pause_line : (number : ℕ) (line : Read Command) → line ≡ Ok (Run Pause) → (reply : Reply) (said : RunReply) → AnswersPause NothingSaid said (own_point runs db.access) (own_point later a) → reply ≡ reply_for later said → later.quota ≡ runs.quota
       → DoesScriptLine number line (open_stage d db k runs) reply (open_stage d (record db { access = a }) k later)
   pause_line number line at reply said does is quota = subst (λ (x : Read Command). DoesScriptLine number x (open_stage d db k runs) reply (open_stage d (record db { access = a }) k later)) (sym at)
       (record { after = later; answer = said; does = (does, refl); reply_is = is; runs = refl; quota = quota; declared = refl; files = refl; replies = refl })
 
-  pub resume_line : (number : ℕ) (line : Read Command) → line ≡ Ok Resume → (reply : Reply) (said : RunReply) → AnswersResume NothingSaid said (own_point runs db.access) (own_point later a) → reply ≡ reply_for later said → later.quota ≡ runs.quota
+  pub resume_line : (number : ℕ) (line : Read Command) → line ≡ Ok (Run Resume) → (reply : Reply) (said : RunReply) → AnswersResume NothingSaid said (own_point runs db.access) (own_point later a) → reply ≡ reply_for later said → later.quota ≡ runs.quota
       → DoesScriptLine number line (open_stage d db k runs) reply (open_stage d (record db { access = a }) k later)
   resume_line number line at reply said does is quota = subst (λ (x : Read Command). DoesScriptLine number x (open_stage d db k runs) reply (open_stage d (record db { access = a }) k later)) (sym at)
       (record { after = later; answer = said; does = (does, refl); reply_is = is; runs = refl; quota = quota; declared = refl; files = refl; replies = refl })

@@ -1,8 +1,9 @@
 -- The first start of a script, whose session is opened before it.
 use Rattle.std.proofs.Common.{◌≡◌, ℕ, true, Option, None, Ok, refl, sym, subst, ◌∙◌, ap, inl, inr}
-use Rattle.odb_script.specs.declared.forms.Command.TheVariants.{Start}
+use Rattle.odb_script.specs.declared.commands.Command.TheVariants.{Run}
+use Rattle.odb_script.specs.declared.commands.RunCommand.TheVariants.{Start}
 use Rattle.odb_script.specs.Forms.{Read}
-use Rattle.odb_script.specs.declared.forms.Command.{Command}
+use Rattle.odb_script.specs.declared.commands.Command.{Command}
 use Rattle.session_replies.specs.declared.replies.Reply.{Reply}
 use Rattle.session_runs.specs.KeptRuns.{RunsSeen}
 use Rattle.session_lines.specs.Stages.{SessionStage}
@@ -10,8 +11,8 @@ use Rattle.session_lines.specs.RunLines.{BreaksStart, ClosesRun, CutsOpening, Do
 use Rattle.session_lines.specs.ScriptLines.{BreaksScriptLine, ClosesScript, DoesScriptLine, opens_session}
 
 -- only a start opens a session
-pub opens_start : (line : Read Command) → opens_session line ≡ true → line ≡ Ok Start
-opens_start (Ok Start) is = refl
+pub opens_start : (line : Read Command) → opens_session line ≡ true → line ≡ Ok (Run Start)
+opens_start (Ok (Run Start)) is = refl
 opens_start _ is = absurd (cc is)
 
 -- what the start does where its session is open it does from before its opening

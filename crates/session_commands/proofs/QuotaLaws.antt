@@ -10,8 +10,13 @@ use Rattle.daq_types.specs.declared.runs.StartOutcome.{StartOutcome}
 use Rattle.daq_types.specs.declared.runs.StartOutcome.TheVariants.{Completed, Refused}
 use Rattle.daq_types.specs.declared.runs.Transition.{Transition}
 use Rattle.daq_types.specs.declared.runs.Transition.TheVariants.{Start as start_of_run, Stop as stop_of_run, Pause as pause_of_run, Resume as resume_of_run}
-use Rattle.odb_script.specs.declared.forms.Command.{Command}
-use Rattle.odb_script.specs.declared.forms.Command.TheVariants.{Nothing, Buffer, Equip, Channel, Analyzer, Events, Start, Stop, Pause, Resume, Exit}
+use Rattle.odb_script.specs.declared.commands.Command.{Command}
+use Rattle.odb_script.specs.declared.commands.Command.TheVariants.{Nothing, Exit, Declare, Run, Database}
+use Rattle.odb_script.specs.declared.commands.Declaration.{Declaration}
+use Rattle.odb_script.specs.declared.commands.Declaration.TheVariants.{Buffer, Equip, Channel, Analyzer}
+use Rattle.odb_script.specs.declared.commands.RunCommand.TheVariants.{Events, Start, Stop, Pause, Resume}
+use Rattle.odb_script.specs.declared.commands.DatabaseCommand.{DatabaseCommand}
+use Rattle.odb_script.specs.declared.commands.DatabaseCommand.TheVariants.{Rows, Watches}
 use Rattle.odb_script.specs.declared.refusals.LineRefusal.TheVariants.{BadCommand as no_command}
 use Rattle.odb_script.specs.Forms.{Read, command_of}
 use Rattle.transitions.specs.declared.answers.ClientTally.{ClientTally}
@@ -31,11 +36,11 @@ use Rattle.session_runs.specs.declared.replies.RunReply.{RunReply}
 use Rattle.session_runs.specs.declared.replies.RunReply.TheVariants as answer
 use Rattle.session_runs.specs.KeptRuns.{RunsSeen, behind_start}
 use Rattle.session_runs.specs.RunAnswers.{AnswersPause, AnswersResume, AnswersStart, AnswersStop, BeginsRun, ClockTold, CommandPoint, MakesChange, MakesStart, MakesStop, StopsUnsaved}
-use Rattle.database_desk.specs.DatabaseLines.{DoesDatabase, PerformsDump, PerformsRows}
+use Rattle.database_desk.specs.DatabaseLines.{DoesDatabase}
 use Rattle.session_lines.specs.declared.passed_over.PassedOver.{PassedOver}
 use Rattle.session_lines.specs.NothingSaid.{NothingSaid, own_point}
 use Rattle.session_lines.specs.Stages.{SessionStage, members_declared, runs_with_quota, with_quota}
-use Rattle.session_lines.specs.SetupReplies.{SetupUnless, TakesChannel, TakesSetup}
+use Rattle.session_lines.specs.SetupReplies.{SetupUnless, TakesChannel, TakesDeclaration, TakesSetup}
 use Rattle.session_lines.specs.RunLines.{BreaksStart, BreaksStop, ClosesRun, CutsOpening, CutsRun, DoesPause, DoesResume, DoesStart, DoesStop, OpensSession, PausesBy, ResumesBy, RunsCommand, StartsBy, StopsBy, reply_for}
 use Rattle.session_lines.specs.ScriptLines.{BreaksScriptLine, CallsDatabase, ClosesScript, DoesCommand, DoesScriptLine, GivesUp}
 use Rattle.script_desk.specs.declared.endings.Ending.{Ending}
@@ -226,7 +231,7 @@ quota_set : (count : ℕ) (runs : Option RunsSeen) → MayAsk count (option_map 
 quota_set count None = tt
 quota_set count (Some runs) = refl
 
-events_line : (count : ℕ) (old : SessionStage) (said : Reply) (new : SessionStage) → said ≡ reply.Silent → new ≡ with_quota count old → LineAsks (Ok (Events count)) old said new
+events_line : (count : ℕ) (old : SessionStage) (said : Reply) (new : SessionStage) → said ≡ reply.Silent → new ≡ with_quota count old → LineAsks (Ok (Run (Events count))) old said new
 events_line count old said new is same = record {
   quota = ap (λ (s : SessionStage). s.quota) same;
   begun = λ asks. ap (λ (s : SessionStage). quotas_so_far s.runs) same
@@ -261,7 +266,7 @@ opens_none old ready opens = (
   subst (MayAsk ready.quota) (sym opens.runs) (sym opens.quota),
 )
 
-first_line : (old ready : SessionStage) (said : Reply) (new : SessionStage) → old.runs ≡ None → OpensSession old ready → LineAsks (Ok Start) ready said new → LineAsks (Ok Start) old said new
+first_line : (old ready : SessionStage) (said : Reply) (new : SessionStage) → old.runs ≡ None → OpensSession old ready → LineAsks (Ok (Run Start)) ready said new → LineAsks (Ok (Run Start)) old said new
 first_line old ready said new closed opens line = record {
   quota = line.quota ∙ opens.quota;
   begun = λ asks. line.begun (opens_none old ready opens).1
@@ -271,53 +276,54 @@ first_line old ready said new closed opens line = record {
   asks = λ asks. line.asks (opens_none old ready opens).1;
 }
 
-start_line : (runs : Option RunsSeen) (old : SessionStage) (said : Reply) (new : SessionStage) → old.runs ≡ runs → DoesStart runs old said new → LineAsks (Ok Start) old said new
+start_line : (runs : Option RunsSeen) (old : SessionStage) (said : Reply) (new : SessionStage) → old.runs ≡ runs → DoesStart runs old said new → LineAsks (Ok (Run Start)) old said new
 start_line None old said new closed does = first_line old does.0 said new closed does.3
-    (run_line (Ok Start) StartsBy does.1 does.0 said new (λ q. refl) does.2 does.4
+    (run_line (Ok (Run Start)) StartsBy does.1 does.0 said new (λ q. refl) does.2 does.4
     (start_asks does.4.answer does.0.clock new.clock (own_point does.1 does.0.database.access) (own_point does.4.after new.database.access) does.4.does))
-start_line (Some runs) old said new there does = run_line (Ok Start) StartsBy runs old said new (λ q. refl) there does
+start_line (Some runs) old said new there does = run_line (Ok (Run Start)) StartsBy runs old said new (λ q. refl) there does
     (start_asks does.answer old.clock new.clock (own_point runs old.database.access) (own_point does.after new.database.access) does.does)
 
-stop_line : (runs : Option RunsSeen) (old : SessionStage) (said : Reply) (new : SessionStage) → old.runs ≡ runs → DoesStop runs old said new → LineAsks (Ok Stop) old said new
-stop_line None old said new closed does = stopped_line (Ok Stop) old said new (λ q. refl) does.0 does.1
-stop_line (Some runs) old said new there does = run_line (Ok Stop) StopsBy runs old said new (λ q. refl) there does
+stop_line : (runs : Option RunsSeen) (old : SessionStage) (said : Reply) (new : SessionStage) → old.runs ≡ runs → DoesStop runs old said new → LineAsks (Ok (Run Stop)) old said new
+stop_line None old said new closed does = stopped_line (Ok (Run Stop)) old said new (λ q. refl) does.0 does.1
+stop_line (Some runs) old said new there does = run_line (Ok (Run Stop)) StopsBy runs old said new (λ q. refl) there does
     (stop_asks does.answer old.clock new.clock (own_point runs old.database.access) (own_point does.after new.database.access) does.does)
 
-pause_line : (runs : Option RunsSeen) (old : SessionStage) (said : Reply) (new : SessionStage) → old.runs ≡ runs → DoesPause runs old said new → LineAsks (Ok Pause) old said new
-pause_line None old said new closed does = stopped_line (Ok Pause) old said new (λ q. refl) does.0 does.1
-pause_line (Some runs) old said new there does = run_line (Ok Pause) PausesBy runs old said new (λ q. refl) there does
+pause_line : (runs : Option RunsSeen) (old : SessionStage) (said : Reply) (new : SessionStage) → old.runs ≡ runs → DoesPause runs old said new → LineAsks (Ok (Run Pause)) old said new
+pause_line None old said new closed does = stopped_line (Ok (Run Pause)) old said new (λ q. refl) does.0 does.1
+pause_line (Some runs) old said new there does = run_line (Ok (Run Pause)) PausesBy runs old said new (λ q. refl) there does
     (pause_asks does.answer (own_point runs old.database.access) (own_point does.after new.database.access) does.does.0)
 
-resume_line : (runs : Option RunsSeen) (old : SessionStage) (said : Reply) (new : SessionStage) → old.runs ≡ runs → DoesResume runs old said new → LineAsks (Ok Resume) old said new
-resume_line None old said new closed does = stopped_line (Ok Resume) old said new (λ q. refl) does.0 does.1
-resume_line (Some runs) old said new there does = run_line (Ok Resume) ResumesBy runs old said new (λ q. refl) there does
+resume_line : (runs : Option RunsSeen) (old : SessionStage) (said : Reply) (new : SessionStage) → old.runs ≡ runs → DoesResume runs old said new → LineAsks (Ok (Run Resume)) old said new
+resume_line None old said new closed does = stopped_line (Ok (Run Resume)) old said new (λ q. refl) does.0 does.1
+resume_line (Some runs) old said new there does = run_line (Ok (Run Resume)) ResumesBy runs old said new (λ q. refl) there does
     (resume_asks does.answer (own_point runs old.database.access) (own_point does.after new.database.access) does.does.0)
 
 -- commands of the online database
 
-database_none : (number : ℕ) (command : Command) (old : SessionStage) (said : Reply) (new : SessionStage) → DoesDatabase number command old.database said new.database → (q : ℕ) → quota_told said q ≡ []
-database_none number command old said new does q = ⊎_elim
-    (λ (rows : PerformsRows command old.database said new.database). as_said said (reply.Database rows.answer) rows.reply_is (λ n. refl) q)
-    (λ (dump : PerformsDump number command old.database said new.database). as_said said (reply.Watch dump.answer.reply) dump.reply_is (λ n. refl) q)
-    does
+database_none : (number : ℕ) (command : DatabaseCommand) (old : SessionStage) (said : Reply) (new : SessionStage) → DoesDatabase number command old.database said new.database → (q : ℕ) → quota_told said q ≡ []
+database_none number (Rows command) old said new does q = as_said said (reply.Database does.answer) does.reply_is (λ n. refl) q
+database_none number (Watches command) old said new does q = as_said said (reply.Watch does.answer.reply) does.reply_is (λ n. refl) q
 
-calls_line : (number : ℕ) (command : Command) (old : SessionStage) (said : Reply) (new : SessionStage) → ((q : ℕ) → quota_behind (Ok command) q ≡ q) → CallsDatabase number command old said new → LineAsks (Ok command) old said new
-calls_line number command old said new stays does = other_line (Ok command) old said new stays (database_none number command old said new does.0)
+calls_line : (number : ℕ) (command : DatabaseCommand) (old : SessionStage) (said : Reply) (new : SessionStage) → CallsDatabase number command old said new → LineAsks (Ok (Database command)) old said new
+calls_line number command old said new does = other_line (Ok (Database command)) old said new (λ q. refl) (database_none number command old said new does.0)
     (ap (λ (s : SessionStage). s.quota) does.1) (ap (λ (s : SessionStage). s.runs) does.1)
+
+declared_none : (declaration : Declaration) (old : Declared) (said : Reply) (new : Declared) → TakesDeclaration declaration old said new → (q : ℕ) → quota_told said q ≡ []
+declared_none (Buffer name size) old said new does q = taken_none _ _ old said new does.2 q
+declared_none (Equip name id mask buffer limit) old said new does q = taken_none _ _ old said new does.2 q
+declared_none (Channel n pattern buffer id mask) old said new does q = channel_none _ n pattern buffer id mask old said new does.2 q
+declared_none (Analyzer name buffer id mask kind) old said new does q = taken_none _ _ old said new does.2 q
 
 command_asks : (number : ℕ) (command : Command) (old : SessionStage) (said : Reply) (new : SessionStage) → DoesCommand number command old said new → LineAsks (Ok command) old said new
 command_asks number Nothing old said new does = still_line (Ok Nothing) old said new (λ q. refl) (as_said said reply.Silent does.0 (λ n. refl)) does.1
 command_asks number Exit old said new does = still_line (Ok Exit) old said new (λ q. refl) (as_said said reply.Silent does.0 (λ n. refl)) does.1
-command_asks number (Buffer name size) old said new does = setup_line (Ok (Buffer name size)) old said new (λ q. refl) (setup_none old.declared.opened _ old.declared said new.declared does.0 (λ d. taken_none _ _ old.declared said new.declared d.2)) does.1
-command_asks number (Equip name id mask buffer limit) old said new does = setup_line (Ok (Equip name id mask buffer limit)) old said new (λ q. refl) (setup_none old.declared.opened _ old.declared said new.declared does.0 (λ d. taken_none _ _ old.declared said new.declared d.2)) does.1
-command_asks number (Channel n pattern buffer id mask) old said new does = setup_line (Ok (Channel n pattern buffer id mask)) old said new (λ q. refl) (setup_none old.declared.opened _ old.declared said new.declared does.0 (λ d. channel_none _ n pattern buffer id mask old.declared said new.declared d.2)) does.1
-command_asks number (Analyzer name buffer id mask kind) old said new does = setup_line (Ok (Analyzer name buffer id mask kind)) old said new (λ q. refl) (setup_none old.declared.opened _ old.declared said new.declared does.0 (λ d. taken_none _ _ old.declared said new.declared d.2)) does.1
-command_asks number (Events count) old said new does = events_line count old said new does.0 does.1
-command_asks number Start old said new does = start_line old.runs old said new refl does
-command_asks number Stop old said new does = stop_line old.runs old said new refl does
-command_asks number Pause old said new does = pause_line old.runs old said new refl does
-command_asks number Resume old said new does = resume_line old.runs old said new refl does
-command_asks number command old said new does = calls_line number command old said new (λ q. refl) does
+command_asks number (Declare declaration) old said new does = setup_line (Ok (Declare declaration)) old said new (λ q. refl) (setup_none old.declared.opened _ old.declared said new.declared does.0 (declared_none declaration old.declared said new.declared)) does.1
+command_asks number (Run (Events count)) old said new does = events_line count old said new does.0 does.1
+command_asks number (Run Start) old said new does = start_line old.runs old said new refl does
+command_asks number (Run Stop) old said new does = stop_line old.runs old said new refl does
+command_asks number (Run Pause) old said new does = pause_line old.runs old said new refl does
+command_asks number (Run Resume) old said new does = resume_line old.runs old said new refl does
+command_asks number (Database command) old said new does = calls_line number command old said new does
 
 line_asks : (number : ℕ) (line : Read Command) (old : SessionStage) (said : Reply) (new : SessionStage) → DoesScriptLine number line old said new → LineAsks line old said new
 line_asks number (Err (no_command at)) old said new does = still_line (Err (no_command at)) old said new (λ q. refl) (as_said said (reply.BadCommand at) does.0 (λ n. refl)) does.1

@@ -1,14 +1,15 @@
 -- Calls of which each that asks for the text of the database gets it.
 use Rattle.std.proofs.Common.{◌≡◌, ℕ, List, [], ◌∷◌, ◌++◌, map, refl, sym, subst, inl, inr}
 use Rattle.std.specs.Prelude.{Result, Ok, Err}
-use Rattle.std.proofs.Math.Logic.{⊎_elim}
 use Rattle.daq_io.specs.Seen.{Seen}
 use Rattle.daq_types.specs.declared.runs.RunState.{RunState}
 use Rattle.daq_types.specs.declared.runs.StartOutcome.{StartOutcome}
 use Rattle.odb_path.specs.declared.refusals.PathRefusal.{PathRefusal}
 use Rattle.odb_path.specs.PathText.{path_reply}
-use Rattle.odb_script.specs.declared.forms.Command.{Command}
-use Rattle.odb_script.specs.declared.forms.Command.TheVariants as command
+use Rattle.odb_script.specs.declared.commands.DatabaseCommand.{DatabaseCommand}
+use Rattle.odb_script.specs.declared.commands.DatabaseCommand.TheVariants.{Rows, Watches}
+use Rattle.odb_script.specs.declared.commands.WatchCommand.{WatchCommand}
+use Rattle.odb_script.specs.declared.commands.WatchCommand.TheVariants as command
 use Rattle.odb_tree.specs.declared.entry.DatabaseEntry.{DatabaseEntry}
 use Rattle.odb_tree.specs.declared.notes.Note.{Note}
 use Rattle.odb_tree.specs.declared.refusals.OdbRefusal.{OdbRefusal}
@@ -26,7 +27,7 @@ use Rattle.watch_commands.specs.WatchPerforms.{PerformsWatch}
 use Rattle.session_replies.specs.declared.replies.Reply.{Reply}
 use Rattle.session_runs.specs.RunEntries.{BeginCalls, StopCalls}
 use Rattle.database_desk.specs.DatabaseStages.{DatabaseStage}
-use Rattle.database_desk.specs.DatabaseLines.{DoesDatabase, PerformsDump, PerformsRows}
+use Rattle.database_desk.specs.DatabaseLines.{DoesDatabase}
 use Rattle.session_lines.specs.RunLines.{KeysMade}
 use Rattle.session_commands.specs.Keeping.{AllSaved, SavesDump}
 use Rattle.session_commands.proofs.CallsOn.{CallsOn, all_both}
@@ -93,7 +94,7 @@ read_saved was.Missing calls answer does = subst AllSaved (sym does.0) tt
 read_saved was.Fault calls answer does = subst AllSaved (sym does.0) tt
 read_saved was.TooLong calls answer does = subst AllSaved (sym does.0) tt
 
-performs_saved : (c : Command) (old new : Seen) (calls : List WatchEntry) (answer : WatchAnswer) → PerformsWatch c old new calls answer → AllSaved calls
+performs_saved : (c : WatchCommand) (old new : Seen) (calls : List WatchEntry) (answer : WatchAnswer) → PerformsWatch c old new calls answer → AllSaved calls
 performs_saved (command.Load name) old new calls answer (inl refused) = subst AllSaved (sym refused.2.0) tt
 performs_saved (command.Load name) old new calls answer (inr does) = read_saved does.1.0 calls answer does.1.3
 performs_saved (command.Save name) old new calls answer (inl refused) = subst AllSaved (sym refused.2.0) tt
@@ -101,11 +102,8 @@ performs_saved (command.Save name) old new calls answer (inr does) = subst AllSa
 performs_saved (command.Watch path) old new calls answer does = path_saved (path_reply path) calls answer does.1
 performs_saved (command.Notes w) old new calls answer does = subst AllSaved (sym does.1.2) (tt, taken_saved does.1.0 does.1.1 answer does.1.3)
 performs_saved (command.Unwatch w) old new calls answer does = subst AllSaved (sym does.1.1) (tt, tt)
-performs_saved _ old new calls answer does = absurd does
 
-pub database_saved : SpareLaws → (number : ℕ) (c : Command) (old : DatabaseStage) (reply : Reply) (new : DatabaseStage) → DoesDatabase number c old reply new → SavedOn old.access new.access
-database_saved laws number c old reply new does = ⊎_elim
-    (λ (rows : PerformsRows c old reply new). calls_saved laws old.access new.access rows.answers.calls rows.answers.made)
-    (λ (dump : PerformsDump number c old reply new). entries_saved laws old.access new.access dump.answers.calls dump.answers.made
-    (performs_saved c old.files.seen new.files.seen dump.answers.calls dump.answer dump.answers.does))
-    does
+pub database_saved : SpareLaws → (number : ℕ) (c : DatabaseCommand) (old : DatabaseStage) (reply : Reply) (new : DatabaseStage) → DoesDatabase number c old reply new → SavedOn old.access new.access
+database_saved laws number (Rows c) old reply new does = calls_saved laws old.access new.access does.answers.calls does.answers.made
+database_saved laws number (Watches c) old reply new does = entries_saved laws old.access new.access does.answers.calls does.answers.made
+    (performs_saved c old.files.seen new.files.seen does.answers.calls does.answer does.answers.does)

@@ -1,13 +1,16 @@
 -- Calls that remove nothing of `/Runinfo`, so that the run number is always there.
 use Rattle.std.proofs.Common.{◌≡◌, ℕ, List, [], ◌∷◌, ◌++◌, refl, ap, sym, subst}
-use Rattle.std.specs.Prelude.{Result, Ok, Err, ◌⊎◌}
+use Rattle.std.specs.Prelude.{Result, Ok, Err}
 use Rattle.std.proofs.Math.Logic.{⊎_elim}
 use Rattle.daq_io.specs.Seen.{Seen}
 use Rattle.daq_types.specs.declared.memory.NoMemory.{NoMemory}
 use Rattle.daq_types.specs.declared.runs.RunState.{RunState}
 use Rattle.daq_types.specs.declared.runs.RunState.TheVariants.{Stopped}
 use Rattle.daq_types.specs.declared.runs.StartOutcome.{StartOutcome}
-use Rattle.odb_script.specs.declared.forms.Command.{Command}
+use Rattle.odb_script.specs.declared.commands.DatabaseCommand.{DatabaseCommand}
+use Rattle.odb_script.specs.declared.commands.DatabaseCommand.TheVariants.{Rows, Watches}
+use Rattle.odb_script.specs.declared.commands.RowCommand.{RowCommand}
+use Rattle.odb_script.specs.declared.commands.WatchCommand.{WatchCommand}
 use Rattle.odb_tree.specs.declared.entry.DatabaseEntry.{DatabaseEntry}
 use Rattle.odb_tree.specs.declared.entry.DatabaseEntry.TheVariants as row
 use Rattle.odb_watch.specs.declared.entry.WatchEntry.{WatchEntry}
@@ -26,7 +29,7 @@ use Rattle.session_replies.specs.declared.replies.Reply.{Reply}
 use Rattle.session_runs.specs.RunAnswers.{ClockTold, CommandPoint, CutsBegin, CutsStart}
 use Rattle.session_runs.specs.RunEntries.{BeginCalls, StopCalls, outcome_sets}
 use Rattle.database_desk.specs.DatabaseStages.{DatabaseStage}
-use Rattle.database_desk.specs.DatabaseLines.{BreaksDatabase, CutsDump, CutsRows, DoesDatabase, PerformsDump, PerformsRows}
+use Rattle.database_desk.specs.DatabaseLines.{BreaksDatabase, CutsDump, DoesDatabase}
 use Rattle.session_lines.specs.declared.passed_over.PassedOver.{PassedOver}
 use Rattle.session_lines.specs.RunLines.{CutsKeys, KeysMade, MakesKeys}
 use Rattle.session_commands.specs.Keeping.{AllSpare}
@@ -34,8 +37,8 @@ use Rattle.session_commands.proofs.CallsOn.{CallsOn, all_both, both_on, none_on}
 
 -- What is known of the calls of commands, and of a port's calls.
 pub record SpareLaws : Type 0 where
-  pub rows : (command : Command) (calls : List DatabaseEntry) (reply : CommandReply) → Performs command calls reply → Spares calls
-  pub dumps : (command : Command) (old new : Seen) (calls : List WatchEntry) (answer : WatchAnswer) → PerformsWatch command old new calls answer → AllSpare calls
+  pub rows : (command : RowCommand) (calls : List DatabaseEntry) (reply : CommandReply) → Performs command calls reply → Spares calls
+  pub dumps : (command : WatchCommand) (old new : Seen) (calls : List WatchEntry) (answer : WatchAnswer) → PerformsWatch command old new calls answer → AllSpare calls
   pub sets : (caller : ℕ) (sets : List Assignment) (calls : List DatabaseEntry) → AreSets sets calls → AllSpareRuninfo (calls_by caller calls)
   pub entries : (a b : DatabaseAccess) → (entries : List WatchEntry) → AddsEntries a b entries → own_watched b ≡ own_watched a ++ entries
   pub calls : (a b : DatabaseAccess) → (calls : List DatabaseEntry) → AddsCalls a b calls → own_watched b ≡ own_watched a ++ row_calls calls
@@ -111,23 +114,19 @@ may_on laws a b entry may spare = ⊎_elim
 
 -- The commands of the online database.
 
-pub database_on : SpareLaws → (number : ℕ) (command : Command) (old : DatabaseStage) (reply : Reply) (new : DatabaseStage) → DoesDatabase number command old reply new → SparesOn old.access new.access
-database_on laws number command old reply new does = ⊎_elim
-    (λ (rows : PerformsRows command old reply new). rows_on laws old.access new.access rows.answers.calls rows.answers.made
-    (rows_spare 0 rows.answers.calls (laws.rows command rows.answers.calls rows.answer rows.answers.does)))
-    (λ (dump : PerformsDump number command old reply new). entries_on laws old.access new.access dump.answers.calls dump.answers.made
-    (laws.dumps command old.files.seen new.files.seen dump.answers.calls dump.answer dump.answers.does))
-    does
+pub database_on : SpareLaws → (number : ℕ) (command : DatabaseCommand) (old : DatabaseStage) (reply : Reply) (new : DatabaseStage) → DoesDatabase number command old reply new → SparesOn old.access new.access
+database_on laws number (Rows command) old reply new does = rows_on laws old.access new.access does.answers.calls does.answers.made
+    (rows_spare 0 does.answers.calls (laws.rows command does.answers.calls does.answer does.answers.does))
+database_on laws number (Watches command) old reply new does = entries_on laws old.access new.access does.answers.calls does.answers.made
+    (laws.dumps command old.files.seen new.files.seen does.answers.calls does.answer does.answers.does)
 
-pub broken_on : SpareLaws → (command : Command) (old new : DatabaseStage) → BreaksDatabase command old new → SparesOn old.access new.access
-broken_on laws command old new broke = ⊎_elim
+pub broken_on : SpareLaws → (command : DatabaseCommand) (old new : DatabaseStage) → BreaksDatabase command old new → SparesOn old.access new.access
+broken_on laws (Rows command) old new broke = rows_on laws old.access new.access broke.cut.made broke.cut.adds
+    (short_spare broke.cut.calls broke.cut.made (laws.rows command broke.cut.calls broke.cut.reply broke.cut.does) broke.cut.short)
+broken_on laws (Watches command) old new broke = ⊎_elim
     (λ (same : new ≡ old). same_on old.access new.access (ap (λ (d : DatabaseStage). d.access) same))
-    (λ (cut : CutsRows command old new ⊎ CutsDump command old new). ⊎_elim
-    (λ (rows : CutsRows command old new). rows_on laws old.access new.access rows.cut.made rows.cut.adds
-    (short_spare rows.cut.calls rows.cut.made (laws.rows command rows.cut.calls rows.cut.reply rows.cut.does) rows.cut.short))
     (λ (dump : CutsDump command old new). entries_on laws old.access new.access dump.cut.made dump.cut.adds
     (broken_spare dump.cut.calls dump.cut.made (laws.dumps command old.files.seen new.files.seen dump.cut.calls dump.cut.answer dump.cut.does) dump.cut.short))
-    cut)
     broke
 
 -- The calls of the commands of runs.

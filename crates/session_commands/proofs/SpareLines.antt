@@ -1,7 +1,8 @@
 -- No line of a script removes anything of `/Runinfo`, and each that is answered gets the text of the database where it asks for it.
 use Rattle.std.proofs.Common.{◌≡◌, ◌≢◌, ℕ, List, Option, Some, None, ap, sym, subst}
 use Rattle.std.proofs.Math.Logic.{⊎_elim}
-use Rattle.odb_script.specs.declared.forms.Command.{Command}
+use Rattle.odb_script.specs.declared.commands.Command.{Command}
+use Rattle.odb_script.specs.declared.commands.DatabaseCommand.{DatabaseCommand}
 use Rattle.odb_script.specs.Forms.{Read}
 use Rattle.watch_commands.specs.WatchSpares.{SparesWatched}
 use Rattle.session_replies.specs.declared.replies.Reply.{Reply}
@@ -57,7 +58,7 @@ resume_line : SpareLaws → (runs : Option RunsSeen) (old : SessionStage) (reply
 resume_line laws None old reply new does = same_stage old new does.1
 resume_line laws (Some runs) old reply new does = (resume_moves laws NothingSaid does.answer (own_point runs old.database.access) (own_point does.after new.database.access) does.does.0).database
 
-calls_line : SpareLaws → (number : ℕ) (command : Command) (old : SessionStage) (reply : Reply) (new : SessionStage) → CallsDatabase number command old reply new → AnsweredOn old.database.access new.database.access
+calls_line : SpareLaws → (number : ℕ) (command : DatabaseCommand) (old : SessionStage) (reply : Reply) (new : SessionStage) → CallsDatabase number command old reply new → AnsweredOn old.database.access new.database.access
 calls_line laws number command old reply new does = record {
   spares = database_on laws number command old.database reply new.database does.0;
   saved = database_saved laws number command old.database reply new.database does.0;

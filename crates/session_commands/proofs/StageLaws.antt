@@ -3,7 +3,8 @@ use Rattle.std.proofs.Common.{◌≡◌, ℕ, true, List, [], ◌++◌, Option, 
 use Rattle.std.specs.Option.{option_map}
 use Rattle.std.proofs.lemmas.List.{append-nil}
 use Rattle.std.proofs.Math.Logic.{⊎_elim}
-use Rattle.odb_script.specs.declared.forms.Command.{Command}
+use Rattle.odb_script.specs.declared.commands.Command.{Command}
+use Rattle.odb_script.specs.declared.commands.DatabaseCommand.{DatabaseCommand}
 use Rattle.odb_script.specs.Forms.{Read}
 use Rattle.odb_watch.specs.declared.entry.WatchEntry.{WatchEntry}
 use Rattle.odb_port.specs.DatabasePorts.{DatabaseAccess, own_watched}
@@ -180,7 +181,7 @@ quota_runs count d own (Some runs) kept = record {
 quota_kept : (count : ℕ) (old new : SessionStage) → new ≡ with_quota count old → StageKept old → StageKept new
 quota_kept count old new is kept = subst StageKept (sym is) (quota_runs count old.declared (own_watched old.database.access) old.runs kept)
 
-calls_kept : FitLaws → (number : ℕ) (command : Command) (old : SessionStage) (reply : Reply) (new : SessionStage) → CallsDatabase number command old reply new → StageKept old → StageKept new
+calls_kept : FitLaws → (number : ℕ) (command : DatabaseCommand) (old : SessionStage) (reply : Reply) (new : SessionStage) → CallsDatabase number command old reply new → StageKept old → StageKept new
 calls_kept laws number command old reply new does kept =
     moved_kept laws old (record old { database = new.database }) new does.1 refl refl (forget old.database.access new.database.access (database_on laws.spares number command old.database reply new.database does.0)) kept
 
@@ -227,7 +228,7 @@ stop_breaks laws (Some runs) old new is broke kept =
     (unsaved_moves laws.spares NothingSaid old.clock new.clock a b unsaved).steers (laws.unsaved old.clock new.clock a b unsaved shown.fit) shown)
     broke.2)
 
-other_breaks : FitLaws → (command : Command) (old new : SessionStage) → BreaksDatabase command old.database new.database → new ≡ record old { database = new.database } → StageKept old → StageKept new
+other_breaks : FitLaws → (command : DatabaseCommand) (old new : SessionStage) → BreaksDatabase command old.database new.database → new ≡ record old { database = new.database } → StageKept old → StageKept new
 other_breaks laws command old new broke same kept = moved_kept laws old (record old { database = new.database }) new same refl refl (forget old.database.access new.database.access (broken_on laws.spares command old.database new.database broke)) kept
 
 cut_keeps : FitLaws → (old new : SessionStage) → LineCut old new → StageKept old → StageKept new

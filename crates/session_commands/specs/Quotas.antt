@@ -1,8 +1,9 @@
 -- The quotas with which the starts of a script were begun.
 use Rattle.std.specs.Prelude.{ℕ, Bool, true, false, if◌then◌else◌, List, [], ◌∷◌, ◌++◌, Option, Some, None, Ok}
 use Rattle.daq_types.specs.declared.runs.Transition.TheVariants.{Start}
-use Rattle.odb_script.specs.declared.forms.Command.{Command}
-use Rattle.odb_script.specs.declared.forms.Command.TheVariants.{Events}
+use Rattle.odb_script.specs.declared.commands.Command.{Command}
+use Rattle.odb_script.specs.declared.commands.Command.TheVariants.{Run}
+use Rattle.odb_script.specs.declared.commands.RunCommand.TheVariants.{Events}
 use Rattle.odb_script.specs.Forms.{Read, command_of}
 use Rattle.transitions.specs.declared.entry.EngineEntry.{EngineEntry}
 use Rattle.transitions.specs.declared.entry.EngineEntry.TheVariants.{Begin}
@@ -12,7 +13,7 @@ use Rattle.session_runs.specs.KeptRuns.{RunsSeen}
 
 -- the quota of the runs that are started behind this line, where it was so before the line
 abbrev pub quota_behind : Read Command → (quota : ℕ) → ℕ
-quota_behind (Ok (Events count)) quota = count
+quota_behind (Ok (Run (Events count))) quota = count
 quota_behind line quota = quota
 
 -- whether the reply tells of a start that was begun

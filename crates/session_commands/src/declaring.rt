@@ -1,13 +1,13 @@
-// The lines that declare something, in a session that is not open.
+// Declarations, in a session that is not open.
 ghost use Rattle.std.specs.Prelude.{◌≡◌, false};
-ghost use Rattle.session_lines.specs.SetupReplies.{DeclaresAnalyzer, DeclaresBuffer, DeclaresChannel, DeclaresFront, setup_reply};
+ghost use Rattle.session_lines.specs.SetupReplies.{DeclaresAnalyzer, DeclaresBuffer, DeclaresChannel, DeclaresFront, DoesDeclaration, setup_reply};
 
 use daq_types::Kind;
-use odb_script::LineText;
+use odb_script::{Declaration, LineText};
 use session_replies::Reply;
 use session_setup::{Declarations, SetupRefusal};
 
-/// The reply to a line that declares something.
+/// The reply to a declaration.
 fn setup_reply(taken: Result<(), SetupRefusal>) -> Reply
     ensures { result ≡ setup_reply taken }
 {
@@ -18,7 +18,7 @@ fn setup_reply(taken: Result<(), SetupRefusal>) -> Reply
 }
 
 /// Answers `buffer NAME SIZE`.
-pub fn declare_buffer(declarations: &mut Declarations, name: LineText<'_>, size: u32) -> Reply
+fn declare_buffer(declarations: &mut Declarations, name: LineText<'_>, size: u32) -> Reply
     requires { declarations.old.opened ≡ false }
     ensures did { DeclaresBuffer name.entry size declarations.old result declarations.new }
     ensures closed { declarations.new.opened ≡ false }
@@ -27,7 +27,7 @@ pub fn declare_buffer(declarations: &mut Declarations, name: LineText<'_>, size:
 }
 
 /// Answers `equip NAME ID MASK BUFFER LIMIT`.
-pub fn declare_front(
+fn declare_front(
     declarations: &mut Declarations,
     name: LineText<'_>,
     id: u32,
@@ -44,7 +44,7 @@ pub fn declare_front(
 }
 
 /// Answers `channel N PATTERN BUFFER ID MASK`.
-pub fn declare_channel(
+fn declare_channel(
     declarations: &mut Declarations,
     number: u32,
     pattern: LineText<'_>,
@@ -61,7 +61,7 @@ pub fn declare_channel(
 }
 
 /// Answers `analyzer NAME BUFFER ID MASK all` or `some`.
-pub fn declare_analyzer(
+fn declare_analyzer(
     declarations: &mut Declarations,
     name: LineText<'_>,
     buffer: LineText<'_>,
@@ -75,4 +75,36 @@ pub fn declare_analyzer(
     ensures closed { declarations.new.opened ≡ false }
 {
     setup_reply(declarations.analyzer(name.as_slice(), buffer.as_slice(), id, mask, kind))
+}
+
+/// Answers a declaration.
+pub fn declare(declarations: &mut Declarations, declaration: Declaration<'_>) -> Reply
+    requires { declarations.old.opened ≡ false }
+    ensures did { DoesDeclaration declaration.entry declarations.old result declarations.new }
+    ensures closed { declarations.new.opened ≡ false }
+{
+    match declaration {
+        Declaration::Buffer { name, size } => declare_buffer(declarations, name, size),
+        Declaration::Equip {
+            name,
+            id,
+            mask,
+            buffer,
+            limit,
+        } => declare_front(declarations, name, id, mask, buffer, limit),
+        Declaration::Channel {
+            number,
+            pattern,
+            buffer,
+            id,
+            mask,
+        } => declare_channel(declarations, number, pattern, buffer, id, mask),
+        Declaration::Analyzer {
+            name,
+            buffer,
+            id,
+            mask,
+            kind,
+        } => declare_analyzer(declarations, name, buffer, id, mask, kind),
+    }
 }

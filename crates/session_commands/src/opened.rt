@@ -7,7 +7,7 @@ use crate::side::MainSide;
 use daq_io::{Clock, Files};
 use daq_types::NoMemory;
 use odb_port::WatchPort;
-use odb_script::{Command, LineRefusal};
+use odb_script::{Command, LineRefusal, RunCommand};
 use script_desk::Answerer;
 use session_engine::Rounds;
 use session_lines::laws::{commands_keep, members_passed_over};
@@ -96,21 +96,30 @@ impl<'a, D: WatchPort, M: Rounds, E: Files, C: Clock> Answerer for Opened<'a, D,
         let access = &mut self.side.database.access;
         match command {
             Command::Nothing | Command::Exit => Ok(Reply::Silent),
-            Command::Buffer { .. }
-            | Command::Equip { .. }
-            | Command::Channel { .. }
-            | Command::Analyzer { .. } => Ok(Reply::Setup {
+            Command::Declare { .. } => Ok(Reply::Setup {
                 refusal: SetupRefusal::Opened,
             }),
-            Command::Events { count } => {
+            Command::Run {
+                command: RunCommand::Events { count },
+            } => {
                 runs.set_quota(count);
                 Ok(Reply::Silent)
             }
-            Command::Start => answer_start(rt, alloc, runs, access, crew, &mut self.side.clock),
-            Command::Stop => answer_stop(rt, alloc, runs, access, crew, &mut self.side.clock),
-            Command::Pause => Ok(answer_pause(rt, alloc, runs, access, crew)),
-            Command::Resume => Ok(answer_resume(rt, alloc, runs, access, crew)),
-            command => self.side.database.answer(rt, alloc, number, &command),
+            Command::Run {
+                command: RunCommand::Start,
+            } => answer_start(rt, alloc, runs, access, crew, &mut self.side.clock),
+            Command::Run {
+                command: RunCommand::Stop,
+            } => answer_stop(rt, alloc, runs, access, crew, &mut self.side.clock),
+            Command::Run {
+                command: RunCommand::Pause,
+            } => Ok(answer_pause(rt, alloc, runs, access, crew)),
+            Command::Run {
+                command: RunCommand::Resume,
+            } => Ok(answer_resume(rt, alloc, runs, access, crew)),
+            Command::Database { command } => {
+                self.side.database.answer(rt, alloc, number, &command)
+            }
         }
     }
 

@@ -1,12 +1,12 @@
 // A session that no start opened yet.
 ghost use Rattle.std.specs.Prelude.{◌≡◌, false, None};
 
-use crate::declaring::{declare_analyzer, declare_buffer, declare_channel, declare_front};
+use crate::declaring::declare;
 use crate::side::MainSide;
 use daq_io::{Clock, Files};
 use daq_types::{NoMemory, RunState};
 use odb_port::WatchPort;
-use odb_script::{Command, LineRefusal};
+use odb_script::{Command, LineRefusal, RunCommand};
 use script_desk::Answerer;
 use session_replies::Reply;
 use session_setup::Declarations;
@@ -54,7 +54,12 @@ impl<D: WatchPort, E: Files, C: Clock> Answerer for Unopened<D, E, C> {
 
     /// The first start is left to the session that it opens.
     fn is_left(&self, line: &Result<Command<'_>, LineRefusal>) -> bool {
-        matches!(line, Ok(Command::Start))
+        matches!(
+            line,
+            Ok(Command::Run {
+                command: RunCommand::Start
+            })
+        )
     }
 
     fn answer<R: Wait>(
@@ -68,40 +73,32 @@ impl<D: WatchPort, E: Files, C: Clock> Answerer for Unopened<D, E, C> {
             Ok(command) => command,
             Err(LineRefusal::BadCommand { at }) => return Ok(Reply::BadCommand { at }),
         };
-        let declared = &mut self.declarations;
         match command {
             Command::Nothing | Command::Exit => Ok(Reply::Silent),
-            Command::Buffer { name, size } => Ok(declare_buffer(declared, name, size)),
-            Command::Equip {
-                name,
-                id,
-                mask,
-                buffer,
-                limit,
-            } => Ok(declare_front(declared, name, id, mask, buffer, limit)),
-            Command::Channel {
-                number,
-                pattern,
-                buffer,
-                id,
-                mask,
-            } => Ok(declare_channel(declared, number, pattern, buffer, id, mask)),
-            Command::Analyzer {
-                name,
-                buffer,
-                id,
-                mask,
-                kind,
-            } => Ok(declare_analyzer(declared, name, buffer, id, mask, kind)),
-            Command::Events { count } => {
+            Command::Declare { declaration } => { Ok(declare(&mut self.declarations, declaration)) }
+            Command::Run {
+                command: RunCommand::Events { count },
+            } => {
                 self.quota = count;
                 Ok(Reply::Silent)
             }
-            Command::Start => unreachable!(),
-            Command::Stop | Command::Pause | Command::Resume => Ok(Reply::WrongState {
+            Command::Run {
+                command: RunCommand::Start,
+            } => unreachable!(),
+            Command::Run {
+                command: RunCommand::Stop,
+            }
+            | Command::Run {
+                command: RunCommand::Pause,
+            }
+            | Command::Run {
+                command: RunCommand::Resume,
+            } => Ok(Reply::WrongState {
                 state: RunState::Stopped,
             }),
-            command => self.side.database.answer(rt, alloc, number, &command),
+            Command::Database { command } => {
+                self.side.database.answer(rt, alloc, number, &command)
+            }
         }
     }
 

@@ -1,7 +1,9 @@
--- What the lines that declare something do, and what they are answered.
+-- What declarations do, and what they are answered.
 use Rattle.std.specs.Prelude.{◌≡◌, ℕ, Bool, true, false, List, Option, Some, None, Result, Ok, Err}
 use Rattle.daq_types.specs.declared.runs.Kind.{Kind}
 use Rattle.mid_logger.specs.Patterns.{NamePattern}
+use Rattle.odb_script.specs.declared.commands.Declaration.{Declaration}
+use Rattle.odb_script.specs.declared.commands.Declaration.TheVariants.{Buffer, Equip, Channel, Analyzer}
 use Rattle.session_setup.specs.declared.refusals.SetupRefusal.{SetupRefusal}
 use Rattle.session_setup.specs.declared.refusals.SetupRefusal.TheVariants.{Opened}
 use Rattle.session_setup.specs.Setup.{Declared}
@@ -20,22 +22,14 @@ abbrev pub TakesSetup : Option SetupRefusal → (taken : Declared) → (old : De
 TakesSetup None taken old reply new = (reply ≡ Silent) × (new ≡ taken)
 TakesSetup (Some refusal) taken old reply new = (reply ≡ Setup refusal) × (new ≡ old)
 
--- from the opening on every line that declares something is refused for that
-abbrev pub SetupUnless : (opened : Bool) → Type 0 → (old : Declared) → Reply → (new : Declared) → Type 0
-SetupUnless true Then old reply new = (reply ≡ Setup Opened) × (new ≡ old)
-SetupUnless false Then old reply new = Then
-
 -- `buffer NAME SIZE`
 abbrev pub DeclaresBuffer : (name : List ℕ) → (size : ℕ) → (old : Declared) → Reply → (new : Declared) → Type 0
-DeclaresBuffer name size old reply new = SetupUnless old.opened
-    ((read : NameRead) × IsNameRead name read × TakesSetup (buffer_refusal old read name size) (with_buffer old name size) old reply new)
-    old reply new
+DeclaresBuffer name size old reply new = (read : NameRead) × IsNameRead name read × TakesSetup (buffer_refusal old read name size) (with_buffer old name size) old reply new
 
 -- `equip NAME ID MASK BUFFER LIMIT`
 abbrev pub DeclaresFront : (name : List ℕ) → (id mask : ℕ) → (buffer : List ℕ) → (limit : ℕ) → (old : Declared) → Reply → (new : Declared) → Type 0
-DeclaresFront name id mask buffer limit old reply new = SetupUnless old.opened
-    ((read : NameRead) × IsNameRead name read × TakesSetup (equip_refusal old read name id buffer) (with_front old name id mask buffer limit) old reply new)
-    old reply new
+DeclaresFront name id mask buffer limit old reply new =
+    (read : NameRead) × IsNameRead name read × TakesSetup (equip_refusal old read name id buffer) (with_front old name id mask buffer limit) old reply new
 
 -- `channel N PATTERN BUFFER ID MASK`
 abbrev pub TakesChannel : Option SetupRefusal → (number : ℕ) → (text buffer : List ℕ) → (id mask : ℕ) → (old : Declared) → Reply → (new : Declared) → Type 0
@@ -44,12 +38,25 @@ TakesChannel None number text buffer id mask old reply new =
 TakesChannel (Some refusal) number text buffer id mask old reply new = (reply ≡ Setup refusal) × (new ≡ old)
 
 abbrev pub DeclaresChannel : (number : ℕ) → (text buffer : List ℕ) → (id mask : ℕ) → (old : Declared) → Reply → (new : Declared) → Type 0
-DeclaresChannel number text buffer id mask old reply new = SetupUnless old.opened
-    ((read : Option NamePattern) × IsPatternRead text read × TakesChannel (channel_refusal old number read text buffer) number text buffer id mask old reply new)
-    old reply new
+DeclaresChannel number text buffer id mask old reply new =
+    (read : Option NamePattern) × IsPatternRead text read × TakesChannel (channel_refusal old number read text buffer) number text buffer id mask old reply new
 
 -- `analyzer NAME BUFFER ID MASK KIND`
 abbrev pub DeclaresAnalyzer : (name buffer : List ℕ) → (id mask : ℕ) → Kind → (old : Declared) → Reply → (new : Declared) → Type 0
-DeclaresAnalyzer name buffer id mask kind old reply new = SetupUnless old.opened
-    ((read : NameRead) × IsNameRead name read × TakesSetup (analyzer_refusal old read name buffer) (with_analyzer old name buffer id mask kind) old reply new)
-    old reply new
+DeclaresAnalyzer name buffer id mask kind old reply new =
+    (read : NameRead) × IsNameRead name read × TakesSetup (analyzer_refusal old read name buffer) (with_analyzer old name buffer id mask kind) old reply new
+
+-- what a declaration does before the opening
+abbrev pub TakesDeclaration : Declaration → (old : Declared) → Reply → (new : Declared) → Type 0
+TakesDeclaration (Buffer name size) old reply new = DeclaresBuffer name size old reply new
+TakesDeclaration (Equip name id mask buffer limit) old reply new = DeclaresFront name id mask buffer limit old reply new
+TakesDeclaration (Channel number pattern buffer id mask) old reply new = DeclaresChannel number pattern buffer id mask old reply new
+TakesDeclaration (Analyzer name buffer id mask kind) old reply new = DeclaresAnalyzer name buffer id mask kind old reply new
+
+-- from the opening on every declaration is refused for that
+abbrev pub SetupUnless : (opened : Bool) → Type 0 → (old : Declared) → Reply → (new : Declared) → Type 0
+SetupUnless true Then old reply new = (reply ≡ Setup Opened) × (new ≡ old)
+SetupUnless false Then old reply new = Then
+
+abbrev pub DoesDeclaration : Declaration → (old : Declared) → Reply → (new : Declared) → Type 0
+DoesDeclaration declaration old reply new = SetupUnless old.opened (TakesDeclaration declaration old reply new) old reply new

@@ -1,7 +1,6 @@
 -- What a command for watches or dumps tells by its answer.
 use Rattle.std.proofs.Common.{◌≡◌, ◌≢◌, ℕ, ◌<◌, true, IsTrue, List, [], ◌∷◌, length, Option, Some, None, Result, Ok, Err, refl, ap, sym, subst, ◌∙◌, inl, inr}
 use Rattle.std.specs.Prelude.{IsSome}
-use Rattle.std.proofs.lemmas.Bool.{false≢true}
 use Rattle.daq_types.specs.Names.{IsFileName}
 use Rattle.daq_io.specs.Seen.{Seen, Stored, Same, Stores}
 use Rattle.daq_io.proofs.SeenLaws.{Same-refl}
@@ -10,8 +9,8 @@ use Rattle.odb_ascii.specs.declared.acts.Loaded.{Loaded}
 use Rattle.odb_ascii.specs.declared.acts.LoadRefusal.{LoadRefusal}
 use Rattle.odb_watch.specs.declared.entry.WatchEntry.{WatchEntry}
 use Rattle.odb_watch.specs.declared.entry.WatchEntry.TheVariants as call
-use Rattle.odb_script.specs.declared.forms.Command.{Command}
-use Rattle.odb_script.specs.declared.forms.Command.TheVariants as command
+use Rattle.odb_script.specs.declared.commands.WatchCommand.{WatchCommand}
+use Rattle.odb_script.specs.declared.commands.WatchCommand.TheVariants as command
 use Rattle.database_files.specs.declared.replies.FileReply.{FileReply}
 use Rattle.database_files.specs.declared.replies.FileReply.TheVariants as file
 use Rattle.database_files.specs.declared.replies.FileRead.{FileRead}
@@ -21,22 +20,21 @@ use Rattle.database_files.specs.WholeFiles.{ReadsFile, WritesFile, file_limit}
 use Rattle.watch_commands.specs.declared.replies.WatchAnswer.{WatchAnswer}
 use Rattle.watch_commands.specs.WatchAnswers.{loaded_or, saved_or}
 use Rattle.watch_commands.specs.WatchCalls.{LoadsRead, LoadsFile, SavesFile}
-use Rattle.watch_commands.specs.WatchPerforms.{PerformsWatch, performs_watches, LoadsTextOf}
+use Rattle.watch_commands.specs.WatchPerforms.{PerformsWatch, LoadsTextOf}
 use Rattle.watch_commands.proofs.WatchMade.{some_on_path, some_notes, some_unwatch}
 use Rattle.watch_commands.proofs.DumpMade.{some_name, some_loads, some_saves}
 
 -- Some calls and an answer do what a command asks for.
 
-abbrev Answered : Command → Seen → Type 0
+abbrev Answered : WatchCommand → Seen → Type 0
 Answered c seen = (calls : List WatchEntry) × (answer : WatchAnswer) × PerformsWatch c seen seen calls answer
 
-pub answered : (c : Command) (seen : Seen) → performs_watches c ≡ true → Answered c seen
-answered (command.Load name) seen is = some_name name seen (LoadsFile seen seen) (some_loads seen seen name (Same-refl seen))
-answered (command.Save name) seen is = some_name name seen (SavesFile seen seen) (some_saves seen name)
-answered (command.Watch path) seen is = let some = some_on_path (path_reply path) in (some.0, some.1, (refl, some.2))
-answered (command.Notes w) seen is = let some = some_notes w in (some.0, some.1, (refl, some.2))
-answered (command.Unwatch w) seen is = let some = some_unwatch w in (some.0, some.1, (refl, some.2))
-answered _ seen is = absurd (false≢true is)
+pub answered : (c : WatchCommand) (seen : Seen) → Answered c seen
+answered (command.Load name) seen = some_name name seen (LoadsFile seen seen) (some_loads seen seen name (Same-refl seen))
+answered (command.Save name) seen = some_name name seen (SavesFile seen seen) (some_saves seen name)
+answered (command.Watch path) seen = let some = some_on_path (path_reply path) in (some.0, some.1, (refl, some.2))
+answered (command.Notes w) seen = let some = some_notes w in (some.0, some.1, (refl, some.2))
+answered (command.Unwatch w) seen = let some = some_unwatch w in (some.0, some.1, (refl, some.2))
 
 -- What the answer tells of the calls on the files.
 

@@ -23,8 +23,8 @@ use Rattle.watch_commands.specs.declared.replies.WatchCommandRefusal.TheVariants
 use Rattle.watch_commands.specs.declared.replies.WatchReply.TheVariants.{Refused}
 use Rattle.watch_commands.specs.declared.replies.WatchAnswer.{WatchAnswer}
 use Rattle.watch_commands.specs.WatchAnswers.{refused_for, said_with, loaded_or, saved_or}
-use Rattle.watch_commands.specs.WatchCalls.{OnFileName, IsLoadSettled, LoadsWhole, LoadsRead, LoadsFile, SavesFile, AnswersWatch, CutsWatch, FaultsIf, ClashesIf, NamesFaultIf, IsLoadable}
-use Rattle.watch_commands.proofs.WatchMade.{Some_does, Some_cut, cut_at_first}
+use Rattle.watch_commands.specs.WatchCalls.{OnFileName, IsLoadSettled, LoadsWhole, LoadsRead, LoadsFile, SavesFile, AnswersWatch, CutsWatch, EndsWatchCommand, FaultsIf, ClashesIf, NamesFaultIf, IsLoadable}
+use Rattle.watch_commands.proofs.WatchMade.{Some_does, Some_cut, cut_at_first, ends_so}
 
 -- A text is loaded.
 
@@ -39,10 +39,10 @@ whole_loaded a b text given got answer called same settled is = record {
   does = (got, refl, settled, is);
 }
 
-pub whole_cut : {T E : Type 0} (result : Result T E) (a b : DatabaseAccess) (text : List ℕ) (got : Result Loaded LoadRefusal) → AddsEntry a b (call.Load text got) → got ≡ Err load.NoMemory → OnErr result (CutsWatch a b (LoadsWhole text))
-whole_cut result a b text got called wanting =
-    cut_at_first result a b (LoadsWhole text) (call.Load text got) (call.Load text (Err (load.BadLine 0))) (loaded_or (Err (load.BadLine 0))) (Err (load.BadLine 0), refl, not_for_memory, refl)
-    (inr (ap (λ (r : Result Loaded LoadRefusal). call.Load text r) wanting, refl)) (λ same. cc) called
+pub whole_cut : (a b : DatabaseAccess) (text : List ℕ) (got : Result Loaded LoadRefusal) → AddsEntry a b (call.Load text got) → got ≡ Err load.NoMemory → CutsWatch a b (LoadsWhole text)
+whole_cut a b text got called wanting =
+    cut_at_first a b (LoadsWhole text) (call.Load text got) (call.Load text (Err (load.BadLine 0))) (loaded_or (Err (load.BadLine 0))) (Err (load.BadLine 0), refl, not_for_memory, refl)
+    (ap (λ (r : Result Loaded LoadRefusal). call.Load text r) wanting) (λ same. cc) called
 
 -- A file is read, and its text loaded.
 
@@ -52,24 +52,9 @@ loadable seen name was.Missing reads = tt
 loadable seen name was.Fault reads = tt
 loadable seen name was.TooLong reads = tt
 
-pub file_loaded_if : (old new : Seen) (name : List ℕ) (read : FileRead) (result : Result WatchAnswer NoMemory) (a b : DatabaseAccess) → Same old new → ReadsFile old name read → IfOk result (AnswersWatch a b (LoadsRead read))
-    → IfOk result (AnswersWatch a b (LoadsFile old new name))
-file_loaded_if old new name read result a b same reads did =
-    IfOk-weaker result (AnswersWatch a b (LoadsRead read)) (AnswersWatch a b (LoadsFile old new name))
-    (λ answer some. record { calls = some.calls; made = some.made; does = (read, same, reads, some.does) }) did
-
-pub file_cut_if : {T E : Type 0} (old new : Seen) (name : List ℕ) (read : FileRead) (result : Result T E) (a b : DatabaseAccess) → Same old new → ReadsFile old name read → OnErr result (CutsWatch a b (LoadsRead read))
-    → OnErr result (CutsWatch a b (LoadsFile old new name))
-file_cut_if old new name read result a b same reads cut =
-    on_err_weaker result (λ (some : CutsWatch a b (LoadsRead read)). record {
-      calls = some.calls;
-      answer = some.answer;
-      does = (read, same, reads, some.does);
-      made = some.made;
-      short = some.short;
-      rest = some.rest;
-      adds = some.adds;
-    }) cut
+pub file_loaded : (old new : Seen) (name : List ℕ) (read : FileRead) (result : Result WatchAnswer NoMemory) (a b : DatabaseAccess) → Same old new → ReadsFile old name read → EndsWatchCommand a b (LoadsRead read) result
+    → EndsWatchCommand a b (LoadsFile old new name) result
+file_loaded old new name read result a b same reads ends = ends_so a b (LoadsRead read) (LoadsFile old new name) result (λ calls answer does. (read, same, reads, does)) ends
 
 -- what a file may be read as, whatever is told
 some_read : (seen : Seen) (name : List ℕ) (tells : Bool) (at : Option Stored) → seen.tells ≡ tells → seen.at name ≡ at → (read : FileRead) × ReadsFile seen name read × Some_does (LoadsRead read)
@@ -130,37 +115,26 @@ some_saves seen name =
     let some : (came : FileReply) × WritesFile seen seen name [] came = some_written seen name seen.tells (seen.at name) refl refl in
     (call.Save (Ok []) ∷ [], saved_or 0 some.0, ([], some.0, refl, some.1, refl))
 
-pub save_cut : {T E : Type 0} (result : Result T E) (seen : Seen) (name : List ℕ) (a b : DatabaseAccess) (got : Result (List ℕ) NoMemory) (memory : NoMemory) → AddsEntry a b (call.Save got) → got ≡ Err memory
-    → OnErr result (CutsWatch a b (SavesFile seen seen name))
-save_cut result seen name a b got memory called wanting =
+pub save_cut : (seen : Seen) (name : List ℕ) (a b : DatabaseAccess) (got : Result (List ℕ) NoMemory) (memory : NoMemory) → AddsEntry a b (call.Save got) → got ≡ Err memory → CutsWatch a b (SavesFile seen seen name)
+save_cut seen name a b got memory called wanting =
     let some : (came : FileReply) × WritesFile seen seen name [] came = some_written seen name seen.tells (seen.at name) refl refl in
-    cut_at_first result a b (SavesFile seen seen name) (call.Save got) (call.Save (Ok [])) (saved_or 0 some.0) ([], some.0, refl, some.1, refl)
-    (inr (ap (λ (r : Result (List ℕ) NoMemory). call.Save r) wanting, refl)) (λ same. cc) called
+    cut_at_first a b (SavesFile seen seen name) (call.Save got) (call.Save (Ok [])) (saved_or 0 some.0) ([], some.0, refl, some.1, refl)
+    (ap (λ (r : Result (List ℕ) NoMemory). call.Save r) wanting) (λ same. cc) called
 
 -- The name of a file is read.
 
-pub on_name_if : (text name : List ℕ) (old new : Seen) (D : List ℕ → List WatchEntry → WatchAnswer → Type 0) (result : Result WatchAnswer NoMemory) (a b : DatabaseAccess) → IsFileName text → name ≡ text → IfOk result (AnswersWatch a b (D name))
-    → IfOk result (AnswersWatch a b (OnFileName text old new D))
-on_name_if text name old new D result a b good same did =
-    IfOk-weaker result (AnswersWatch a b (D name)) (AnswersWatch a b (OnFileName text old new D))
-    (λ answer some. record { calls = some.calls; made = some.made; does = inr (good, subst (λ (n : List ℕ). D n some.calls answer) same some.does) }) did
-
-pub on_name_cut_if : {T E : Type 0} (text name : List ℕ) (old new : Seen) (D : List ℕ → List WatchEntry → WatchAnswer → Type 0) (result : Result T E) (a b : DatabaseAccess) → IsFileName text → name ≡ text → OnErr result (CutsWatch a b (D name))
-    → OnErr result (CutsWatch a b (OnFileName text old new D))
-on_name_cut_if text name old new D result a b good same cut =
-    on_err_weaker result (λ (some : CutsWatch a b (D name)). record {
-      calls = some.calls;
-      answer = some.answer;
-      does = inr (good, subst (λ (n : List ℕ). D n some.calls some.answer) same some.does);
-      made = some.made;
-      short = some.short;
-      rest = some.rest;
-      adds = some.adds;
-    }) cut
+pub on_name : (text name : List ℕ) (old new : Seen) (D : List ℕ → List WatchEntry → WatchAnswer → Type 0) (result : Result WatchAnswer NoMemory) (a b : DatabaseAccess) → IsFileName text → name ≡ text → EndsWatchCommand a b (D name) result
+    → EndsWatchCommand a b (OnFileName text old new D) result
+on_name text name old new D result a b good same ends =
+    ends_so a b (D name) (OnFileName text old new D) result (λ calls answer does. inr (good, subst (λ (n : List ℕ). D n calls answer) same does)) ends
 
 pub no_name : (text : List ℕ) (seen : Seen) (D : List ℕ → List WatchEntry → WatchAnswer → Type 0) (a : DatabaseAccess) (answer : WatchAnswer) → (IsFileName text → ⊥) → answer ≡ refused_for BadFileName
     → AnswersWatch a a (OnFileName text seen seen D) answer
 no_name text seen D a answer bad is = record { calls = []; made = refl; does = inl (bad, refl, (refl, is)) }
+
+pub named_as : (text name : List ℕ) (old new : Seen) (D : List ℕ → List WatchEntry → WatchAnswer → Type 0) (result : Result WatchAnswer NoMemory) (a b : DatabaseAccess) → text ≡ name → EndsWatchCommand a b (OnFileName text old new D) result
+    → EndsWatchCommand a b (OnFileName name old new D) result
+named_as text name old new D result a b same ends = subst (λ (n : List ℕ). EndsWatchCommand a b (OnFileName n old new D) result) same ends
 
 -- A text is the name of a file or is not.
 

@@ -8,8 +8,8 @@ use Rattle.odb_tree.specs.declared.notes.Note.{Note}
 use Rattle.odb_tree.specs.declared.refusals.OdbRefusal.{OdbRefusal}
 use Rattle.odb_watch.specs.declared.notes.NoWatch.{NoWatch as no_watch}
 use Rattle.odb_watch.specs.declared.entry.WatchEntry.{WatchEntry}
-use Rattle.odb_script.specs.declared.forms.Command.{Command}
-use Rattle.odb_script.specs.declared.forms.Command.TheVariants as command
+use Rattle.odb_script.specs.declared.commands.WatchCommand.{WatchCommand}
+use Rattle.odb_script.specs.declared.commands.WatchCommand.TheVariants as command
 use Rattle.database_files.specs.declared.replies.FileRead.{FileRead}
 use Rattle.database_files.specs.declared.replies.FileRead.TheVariants as was
 use Rattle.watch_commands.specs.declared.replies.ToldNote.{ToldNote}
@@ -47,7 +47,7 @@ read_spares was.Missing calls answer does = subst Spare (sym does.0) tt
 read_spares was.Fault calls answer does = subst Spare (sym does.0) tt
 read_spares was.TooLong calls answer does = subst Spare (sym does.0) tt
 
-pub performs_spares : (c : Command) (old new : Seen) (calls : List WatchEntry) (answer : WatchAnswer) → PerformsWatch c old new calls answer → Spare calls
+pub performs_spares : (c : WatchCommand) (old new : Seen) (calls : List WatchEntry) (answer : WatchAnswer) → PerformsWatch c old new calls answer → Spare calls
 performs_spares (command.Load name) old new calls answer (inl refused) = subst Spare (sym refused.2.0) tt
 performs_spares (command.Load name) old new calls answer (inr does) = read_spares does.1.0 calls answer does.1.3
 performs_spares (command.Save name) old new calls answer (inl refused) = subst Spare (sym refused.2.0) tt
@@ -55,4 +55,3 @@ performs_spares (command.Save name) old new calls answer (inr does) = subst Spar
 performs_spares (command.Watch path) old new calls answer does = on_path_spares (path_reply path) calls answer does.1
 performs_spares (command.Notes w) old new calls answer does = subst Spare (sym does.1.2) (tt, taken_spares does.1.0 does.1.1 answer does.1.3)
 performs_spares (command.Unwatch w) old new calls answer does = subst Spare (sym does.1.1) (tt, tt)
-performs_spares _ old new calls answer does = absurd does

@@ -1,7 +1,8 @@
 -- Calls that a command for watches made, and where memory cut them short.
 use Rattle.std.proofs.Common.{◌≡◌, ◌≢◌, ℕ, zero, suc, ◌+◌, ◌<◌, List, [], ◌∷◌, ◌++◌, length, map, take, drop, get_or, Option, None, Result, Ok, Err, refl, ap, sym, subst, ◌∙◌, inl, inr, arith}
-use Rattle.std.specs.Prelude.{IfOk, IsTrue, OnErr}
-use Rattle.std.proofs.lemmas.Result.{IfOk-weaker, on_err_weaker}
+use Rattle.std.specs.Prelude.{IsTrue}
+use Rattle.std.specs.Result.{IsErr}
+use Rattle.std.proofs.lemmas.Bool.{false≢true}
 use Rattle.daq_types.specs.declared.memory.NoMemory.{NoMemory}
 use Rattle.odb_path.specs.declared.refusals.PathRefusal.{PathRefusal}
 use Rattle.odb_tree.specs.declared.notes.Note.{Note}
@@ -20,49 +21,60 @@ use Rattle.watch_commands.specs.declared.replies.WatchCommandRefusal.TheVariants
 use Rattle.watch_commands.specs.declared.replies.WatchReply.TheVariants.{Told}
 use Rattle.watch_commands.specs.declared.replies.WatchAnswer.{WatchAnswer}
 use Rattle.watch_commands.specs.WatchAnswers.{said, refused_for, watching_or, ended_or, note_told, path_asked}
-use Rattle.watch_commands.specs.WatchCalls.{OnPath, IsWatchSettled, WatchesRow, WatchesFound, WatchesPath, TellsNotes, TellsTaken, TakesNotes, EndsWatch, AnswersWatch, BreaksOffCalls, CutsWatch, watch_reply_takes_memory}
+use Rattle.watch_commands.specs.WatchCalls.{OnPath, IsWatchSettled, WatchesRow, WatchesFound, WatchesPath, TellsNotes, TellsTaken, TakesNotes, EndsWatch, AnswersWatch, BreaksOffCalls, CutsWatch, EndsWatchCommand, watch_reply_takes_memory, without_memory}
 
 -- there is something that the command can do
 abbrev pub Some_does : (List WatchEntry → WatchAnswer → Type 0) → Type 0
 Some_does D = (calls : List WatchEntry) × (answer : WatchAnswer) × D calls answer
-
-on_err : {T E : Type 0} (P : Type 0) (result : Result T E) → P → OnErr result P
-on_err P (Ok x) holds = tt
-on_err P (Err why) holds = holds
 
 -- so there is, and without any call only where the reply takes memory
 abbrev pub Some_cut : (List WatchEntry → WatchAnswer → Type 0) → Type 0
 Some_cut D = (some : Some_does D) × ([] ≡ some.0 → IsTrue (watch_reply_takes_memory some.1.reply))
 
 -- memory ended before any call
-pub not_begun_at : (a : DatabaseAccess) (D : List WatchEntry → WatchAnswer → Type 0) → Some_cut D → CutsWatch a a D
-not_begun_at a D some = record { calls = some.0.0; answer = some.0.1; does = some.0.2; made = []; short = tt; rest = some.1; adds = refl }
-
-pub not_begun : {T E : Type 0} (result : Result T E) (a : DatabaseAccess) (D : List WatchEntry → WatchAnswer → Type 0) → Some_cut D → OnErr result (CutsWatch a a D)
-not_begun result a D some = on_err (CutsWatch a a D) result (not_begun_at a D some)
+pub not_begun : (a : DatabaseAccess) (D : List WatchEntry → WatchAnswer → Type 0) → Some_cut D → CutsWatch a a D
+not_begun a D some = record { calls = some.0.0; answer = some.0.1; does = some.0.2; made = []; short = tt; rest = some.1; adds = refl }
 
 -- it ended at the first call
-pub cut_at_first : {T E : Type 0} (result : Result T E) (a b : DatabaseAccess) (D : List WatchEntry → WatchAnswer → Type 0) (entry wanted : WatchEntry) (answer : WatchAnswer) → D (wanted ∷ []) answer → BreaksOffCalls (wanted ∷ []) (entry ∷ [])
-    → entry ∷ [] ≢ wanted ∷ [] → AddsEntry a b entry → OnErr result (CutsWatch a b D)
-cut_at_first result a b D entry wanted answer does short other called =
-    on_err (CutsWatch a b D) result (record { calls = wanted ∷ []; answer = answer; does = does; made = entry ∷ []; short = short; rest = λ same. absurd (other same); adds = (b, called, refl) })
+pub cut_at_first : (a b : DatabaseAccess) (D : List WatchEntry → WatchAnswer → Type 0) (entry wanted : WatchEntry) (answer : WatchAnswer) → D (wanted ∷ []) answer → entry ≡ without_memory wanted
+    → entry ∷ [] ≢ wanted ∷ [] → AddsEntry a b entry → CutsWatch a b D
+cut_at_first a b D entry wanted answer does is other called =
+    record { calls = wanted ∷ []; answer = answer; does = does; made = entry ∷ []; short = inr (is, refl); rest = λ same. absurd (other same); adds = (b, called, refl) }
 
 abbrev behind_first : List WatchEntry → List WatchEntry
 behind_first [] = []
 behind_first (e ∷ es) = es
 
--- The same with what the files of the database tell, which stay.
+-- what a command came to where memory ended
+pub ends_cut : (a b : DatabaseAccess) (D : List WatchEntry → WatchAnswer → Type 0) (result : Result WatchAnswer NoMemory) → IsErr result → CutsWatch a b D → EndsWatchCommand a b D result
+ends_cut a b D (Ok answer) wanting cut = absurd (false≢true wanting)
+ends_cut a b D (Err why) wanting cut = cut
 
-pub files_stay : {S E : Type 0} (s : S) (result : Result WatchAnswer E) (a b : DatabaseAccess) (D : List WatchEntry → WatchAnswer → Type 0) → IfOk result (AnswersWatch a b D)
-    → IfOk result (AnswersWatch a b (λ calls answer. (s ≡ s) × D calls answer))
-files_stay s result a b D did =
-    IfOk-weaker result (AnswersWatch a b D) (AnswersWatch a b (λ calls answer. (s ≡ s) × D calls answer))
-    (λ answer some. record { calls = some.calls; made = some.made; does = (refl, some.does) }) did
+-- what does one thing does another that follows from it
+pub ends_so : (a b : DatabaseAccess) (D Then : List WatchEntry → WatchAnswer → Type 0) (result : Result WatchAnswer NoMemory) → ((calls : List WatchEntry) (answer : WatchAnswer) → D calls answer → Then calls answer)
+    → EndsWatchCommand a b D result → EndsWatchCommand a b Then result
+ends_so a b D Then (Ok answer) so ends = record { calls = ends.calls; made = ends.made; does = so ends.calls answer ends.does }
+ends_so a b D Then (Err why) so ends = record { calls = ends.calls; answer = ends.answer; does = so ends.calls ends.answer ends.does; made = ends.made; short = ends.short; rest = ends.rest; adds = ends.adds }
 
-pub files_stay_cut : {S T E : Type 0} (s : S) (result : Result T E) (a b : DatabaseAccess) (D : List WatchEntry → WatchAnswer → Type 0) → OnErr result (CutsWatch a b D)
-    → OnErr result (CutsWatch a b (λ calls answer. (s ≡ s) × D calls answer))
-files_stay_cut s result a b D cut =
-    on_err_weaker result (λ (some : CutsWatch a b D). record { calls = some.calls; answer = some.answer; does = (refl, some.does); made = some.made; short = some.short; rest = some.rest; adds = some.adds }) cut
+-- a call, and behind it the rest: what that came to, the command came to
+pub first_then : (a b c : DatabaseAccess) (Rest D : List WatchEntry → WatchAnswer → Type 0) (entry : WatchEntry) (result : Result WatchAnswer NoMemory) → AddsEntry a b entry
+    → ((calls : List WatchEntry) (answer : WatchAnswer) → Rest calls answer → D (entry ∷ calls) answer) → EndsWatchCommand b c Rest result → EndsWatchCommand a c D result
+first_then a b c Rest D entry (Ok answer) called whole ends = record { calls = entry ∷ ends.calls; made = (b, called, ends.made); does = whole ends.calls answer ends.does }
+first_then a b c Rest D entry (Err why) called whole ends = record {
+  calls = entry ∷ ends.calls;
+  answer = ends.answer;
+  does = whole ends.calls ends.answer ends.does;
+  made = entry ∷ ends.made;
+  short = inl (refl, ends.short);
+  rest = λ same. ends.rest (ap behind_first same);
+  adds = (b, called, ends.adds);
+}
+
+-- the port stays, by what its calls tell
+pub port_stays : ((a b : DatabaseAccess) (entries : List WatchEntry) → AddsEntries a b entries → IsSamePort a b) → (a b : DatabaseAccess) (D : List WatchEntry → WatchAnswer → Type 0) (result : Result WatchAnswer NoMemory)
+    → EndsWatchCommand a b D result → IsSamePort a b
+port_stays law a b D (Ok answer) ends = law a b ends.calls ends.made
+port_stays law a b D (Err why) ends = law a b ends.made ends.adds
 
 -- `watch`.
 
@@ -80,42 +92,19 @@ row_watched a b row given got answer called same settled is = record {
   does = (got, refl, settled, is);
 }
 
-pub row_cut : {T E : Type 0} (result : Result T E) (a b : DatabaseAccess) (row : ℕ) (got : Result ℕ WatchRefusal) → AddsEntry a b (call.Watch row got) → got ≡ Err watch.NoMemory → OnErr result (CutsWatch a b (WatchesRow row))
-row_cut result a b row got called wanting =
-    cut_at_first result a b (WatchesRow row) (call.Watch row got) (call.Watch row (Err watch.NoWatchSlot)) (watching_or (Err watch.NoWatchSlot)) (Err watch.NoWatchSlot, refl, no_slot, refl)
-    (inr (ap (λ (r : Result ℕ WatchRefusal). call.Watch row r) wanting, refl)) (λ same. cc) called
+pub row_cut : (a b : DatabaseAccess) (row : ℕ) (got : Result ℕ WatchRefusal) → AddsEntry a b (call.Watch row got) → got ≡ Err watch.NoMemory → CutsWatch a b (WatchesRow row)
+row_cut a b row got called wanting =
+    cut_at_first a b (WatchesRow row) (call.Watch row got) (call.Watch row (Err watch.NoWatchSlot)) (watching_or (Err watch.NoWatchSlot)) (Err watch.NoWatchSlot, refl, no_slot, refl)
+    (ap (λ (r : Result ℕ WatchRefusal). call.Watch row r) wanting) (λ same. cc) called
 
 settled_by : {X : Type 0} (got : Result X OdbRefusal) → got ≢ Err odb.NoMemory → IsSettled got
 settled_by (Ok x) found = tt
 settled_by (Err refusal) found = λ is. found (ap (λ (r : OdbRefusal). Err r) is)
 
-path_watched : (a b c : DatabaseAccess) (p : List (List ℕ)) (found : Result ℕ OdbRefusal) (answer : WatchAnswer) → AddsEntry a b (call.Call (Find p found)) → found ≢ Err odb.NoMemory → AnswersWatch b c (WatchesFound found) answer
-    → AnswersWatch a c (WatchesPath p) answer
-path_watched a b c p found answer called settled rest = record {
-  calls = call.Call (Find p found) ∷ rest.calls;
-  made = (b, called, rest.made);
-  does = (found, rest.calls, refl, settled_by found settled, rest.does);
-}
-
-pub path_watched_if : (a b c : DatabaseAccess) (p : List (List ℕ)) (found : Result ℕ OdbRefusal) (result : Result WatchAnswer NoMemory) → AddsEntry a b (call.Call (Find p found)) → found ≢ Err odb.NoMemory → IfOk result (AnswersWatch b c (WatchesFound found))
-    → IfOk result (AnswersWatch a c (WatchesPath p))
-path_watched_if a b c p found result called settled rest =
-    IfOk-weaker result (AnswersWatch b c (WatchesFound found)) (AnswersWatch a c (WatchesPath p)) (λ answer some. path_watched a b c p found answer called settled some) rest
-
-path_cut : (a b c : DatabaseAccess) (p : List (List ℕ)) (found : Result ℕ OdbRefusal) → AddsEntry a b (call.Call (Find p found)) → found ≢ Err odb.NoMemory → CutsWatch b c (WatchesFound found) → CutsWatch a c (WatchesPath p)
-path_cut a b c p found called settled rest = record {
-  calls = call.Call (Find p found) ∷ rest.calls;
-  answer = rest.answer;
-  does = (found, rest.calls, refl, settled_by found settled, rest.does);
-  made = call.Call (Find p found) ∷ rest.made;
-  short = inl (refl, rest.short);
-  rest = λ same. rest.rest (ap behind_first same);
-  adds = (b, called, rest.adds);
-}
-
-pub path_cut_if : (a b c : DatabaseAccess) (p : List (List ℕ)) (found : Result ℕ OdbRefusal) (result : Result WatchAnswer NoMemory) → AddsEntry a b (call.Call (Find p found)) → found ≢ Err odb.NoMemory → OnErr result (CutsWatch b c (WatchesFound found))
-    → OnErr result (CutsWatch a c (WatchesPath p))
-path_cut_if a b c p found result called settled rest = on_err_weaker result (path_cut a b c p found called settled) rest
+pub path_watched : (a b c : DatabaseAccess) (p : List (List ℕ)) (found : Result ℕ OdbRefusal) (result : Result WatchAnswer NoMemory) → AddsEntry a b (call.Call (Find p found)) → found ≢ Err odb.NoMemory
+    → EndsWatchCommand b c (WatchesFound found) result → EndsWatchCommand a c (WatchesPath p) result
+path_watched a b c p found result called settled rest =
+    first_then a b c (WatchesFound found) (WatchesPath p) (call.Call (Find p found)) result called (λ calls answer does. (found, calls, refl, settled_by found settled, does)) rest
 
 abbrev pub some_watch : (p : List (List ℕ)) → Some_does (WatchesPath p)
 some_watch p = (call.Call (Find p (Err odb.NoKey)) ∷ [], refused_for (Database odb.NoKey), (Err odb.NoKey, [], refl, no_key, (refl, refl)))
@@ -136,43 +125,17 @@ some_notes w = (call.Notes w (Err (record {})) ∷ [], refused_for NoWatch, (Err
 pub cut_notes : (w : ℕ) → Some_cut (TakesNotes w)
 cut_notes w = (some_notes w, λ h. absurd (cc))
 
-notes_taken : (a b c : DatabaseAccess) (w : ℕ) (got : Result (List Note × ℕ) no_watch) (answer : WatchAnswer) → AddsEntry a b (call.Notes w got) → AnswersWatch b c (TellsTaken got) answer → AnswersWatch a c (TakesNotes w) answer
-notes_taken a b c w got answer called rest = record {
-  calls = call.Notes w got ∷ rest.calls;
-  made = (b, called, rest.made);
-  does = (got, rest.calls, refl, rest.does);
-}
-
 -- the notes that a watch gave are told as they stand in a slice
 told_as : (w : ℕ) (kept slice : List Note) (taken : Result ℕ no_watch) (a b : DatabaseAccess) → slice ≡ kept → AddsEntry a b (call.Notes w (moved_out kept taken)) → AddsEntry a b (call.Notes w (moved_out slice taken))
 told_as w kept slice taken a b same called = subst (λ (n : List Note). AddsEntry a b (call.Notes w (moved_out n taken))) (sym same) called
 
-pub notes_taken_if : (a b c : DatabaseAccess) (w : ℕ) (kept slice : List Note) (taken : Result ℕ no_watch) (result : Result WatchAnswer NoMemory) → AddsEntry a b (call.Notes w (moved_out kept taken)) → slice ≡ kept
-    → IfOk result (AnswersWatch b c (TellsTaken (moved_out slice taken))) → IfOk result (AnswersWatch a c (TakesNotes w))
-notes_taken_if a b c w kept slice taken result called same rest =
-    IfOk-weaker result (AnswersWatch b c (TellsTaken (moved_out slice taken))) (AnswersWatch a c (TakesNotes w))
-    (λ answer some. notes_taken a b c w (moved_out slice taken) answer (told_as w kept slice taken a b same called) some) rest
-
-notes_cut : (a b c : DatabaseAccess) (w : ℕ) (got : Result (List Note × ℕ) no_watch) → AddsEntry a b (call.Notes w got) → CutsWatch b c (TellsTaken got) → CutsWatch a c (TakesNotes w)
-notes_cut a b c w got called rest = record {
-  calls = call.Notes w got ∷ rest.calls;
-  answer = rest.answer;
-  does = (got, rest.calls, refl, rest.does);
-  made = call.Notes w got ∷ rest.made;
-  short = inl (refl, rest.short);
-  rest = λ same. rest.rest (ap behind_first same);
-  adds = (b, called, rest.adds);
-}
-
-pub notes_cut_if : {T E : Type 0} (a b c : DatabaseAccess) (w : ℕ) (kept slice : List Note) (taken : Result ℕ no_watch) (result : Result T E) → AddsEntry a b (call.Notes w (moved_out kept taken)) → slice ≡ kept
-    → OnErr result (CutsWatch b c (TellsTaken (moved_out slice taken))) → OnErr result (CutsWatch a c (TakesNotes w))
-notes_cut_if a b c w kept slice taken result called same rest =
-    on_err_weaker result (notes_cut a b c w (moved_out slice taken) (told_as w kept slice taken a b same called)) rest
+pub notes_taken : (a b c : DatabaseAccess) (w : ℕ) (kept slice : List Note) (taken : Result ℕ no_watch) (result : Result WatchAnswer NoMemory) → AddsEntry a b (call.Notes w (moved_out kept taken)) → slice ≡ kept
+    → EndsWatchCommand b c (TellsTaken (moved_out slice taken)) result → EndsWatchCommand a c (TakesNotes w) result
+notes_taken a b c w kept slice taken result called same rest =
+    first_then a b c (TellsTaken (moved_out slice taken)) (TakesNotes w) (call.Notes w (moved_out slice taken)) result (told_as w kept slice taken a b same called)
+    (λ calls answer does. (moved_out slice taken, calls, refl, does)) rest
 
 -- The paths of the notes are asked for, one after the other.
-
-same_on : (a b c : DatabaseAccess) → IsSamePort a b → IsSamePort b c → IsSamePort a c
-same_on a b c p q = record { database = q.database ∙ p.database; caller = q.caller ∙ p.caller }
 
 adds_more : (a b c : DatabaseAccess) (calls : List WatchEntry) (entry : WatchEntry) → AddsEntries a b calls → AddsEntry b c entry → AddsEntries a c (calls ++ entry ∷ [])
 adds_more a b c [] entry before more = (c, subst (λ (x : DatabaseAccess). AddsEntry x c entry) before more, refl)
@@ -182,7 +145,6 @@ adds_more a b c (e ∷ es) entry before more = (before.0, before.1, adds_more be
 pub record IsTelling (a b : DatabaseAccess) (notes : List Note) (told : List ToldNote) (i : ℕ) : Type 0 where
   pub are : map note_told told ≡ take i notes
   pub adds : AddsEntries a b (map path_asked told)
-  pub same : IsSamePort a b
 
 map_more : {X Y : Type 0} (f : X → Y) (xs : List X) (x : X) → map f (xs ++ x ∷ []) ≡ map f xs ++ f x ∷ []
 map_more f [] x = refl
@@ -202,7 +164,6 @@ telling_more a b c notes told after i d path got before within called is more =
     subst (λ (t : List ToldNote). IsTelling a c notes t (i + 1)) (sym more) (record {
       are = map_more note_told told new ∙ (ap (λ (l : List Note). l ++ note ∷ []) before.are ∙ (sym (take_one_more notes i d within) ∙ ap (λ (n : ℕ). take n notes) {x = suc i} {y = i + 1} (omega arith)));
       adds = subst (AddsEntries a c) (sym (map_more path_asked told new)) (adds_more a b c (map path_asked told) (path_asked new) before.adds asked);
-      same = same_on a b c before.same asked.same;
     }))
 
 -- Memory ended while they were asked for.
@@ -232,10 +193,10 @@ behind_front : (front xs ys : List WatchEntry) → front ++ xs ≡ front ++ ys �
 behind_front [] xs ys h = h
 behind_front (e ∷ front) xs ys h = behind_front front xs ys (ap behind_first h)
 
-telling_cut_at : (a b c : DatabaseAccess) (notes : List Note) (lost : ℕ) (told : List ToldNote) (i : ℕ) (d : Note) (got : Result (Option (List (List ℕ))) NoMemory) (memory : NoMemory) → IsTelling a b notes told i → i < length notes
+pub telling_cut : (a b c : DatabaseAccess) (notes : List Note) (lost : ℕ) (told : List ToldNote) (i : ℕ) (d : Note) (got : Result (Option (List (List ℕ))) NoMemory) (memory : NoMemory) → IsTelling a b notes told i → i < length notes
     → AddsEntry b c (call.Call (PathOf (get_or notes i d).row got)) → got ≡ Err memory → CutsWatch a c (TellsNotes notes lost)
 unfolding untold
-telling_cut_at a b c notes lost told i d got memory now within called wanting =
+telling_cut a b c notes lost told i d got memory now within called wanting =
     let note : Note = get_or notes i d in
     let rest : List ToldNote = untold note ∷ map untold (drop (suc i) notes) in
     let failed : WatchEntry = call.Call (PathOf note.row got) in
@@ -253,11 +214,6 @@ telling_cut_at a b c notes lost told i d got memory now within called wanting =
       rest = λ same. (let other : failed ∷ [] ≡ map path_asked rest = behind_front (map path_asked told) (failed ∷ []) (map path_asked rest) (same ∙ map_both path_asked told rest) in absurd (cc));
       adds = adds_more a b c (map path_asked told) failed now.adds called;
     }
-
-pub telling_cut : {T E : Type 0} (result : Result T E) (a b c : DatabaseAccess) (notes : List Note) (lost : ℕ) (told : List ToldNote) (i : ℕ) (d : Note) (got : Result (Option (List (List ℕ))) NoMemory) (memory : NoMemory) → IsTelling a b notes told i
-    → i < length notes → AddsEntry b c (call.Call (PathOf (get_or notes i d).row got)) → got ≡ Err memory → OnErr result (CutsWatch a c (TellsNotes notes lost))
-telling_cut result a b c notes lost told i d got memory now within called wanting =
-    on_err (CutsWatch a c (TellsNotes notes lost)) result (telling_cut_at a b c notes lost told i d got memory now within called wanting)
 
 -- `unwatch`.
 

@@ -1,6 +1,7 @@
 -- What a command for watches or dumps does: the calls on the database that it makes, in order, each with the reply that it
 -- got, whatever that is; what it does to the files of the database; and what it is answered, by its line and by these alone.
 use Rattle.std.specs.Prelude.{◌≡◌, ◌≢◌, ◌⊎◌, ℕ, ◌≤◌, Bool, true, false, IsTrue, List, [], ◌∷◌, length, map, Option, Some, None, Result, Ok, Err}
+use Rattle.daq_types.specs.declared.memory.NoMemory.{NoMemory}
 use Rattle.daq_types.specs.Names.{IsFileName}
 use Rattle.daq_io.specs.Seen.{Seen, Same}
 use Rattle.odb_path.specs.declared.refusals.PathRefusal.{PathRefusal}
@@ -148,6 +149,11 @@ pub record CutsWatch (a b : DatabaseAccess) (Does : List WatchEntry → WatchAns
   pub short : BreaksOffCalls calls made
   pub rest : made ≡ calls → IsTrue (watch_reply_takes_memory answer.reply)
   pub adds : AddsEntries a b made
+
+-- what a command that does this came to: its answer, or memory ended before that
+abbrev pub EndsWatchCommand : (a b : DatabaseAccess) → (Does : List WatchEntry → WatchAnswer → Type 0) → Result WatchAnswer NoMemory → Type 0
+EndsWatchCommand a b Does (Ok answer) = AnswersWatch a b Does answer
+EndsWatchCommand a b Does (Err wanting) = CutsWatch a b Does
 
 -- What the files of the database count of a command, by what its calls on them came to. One that makes none leaves the
 -- counts.

@@ -3,10 +3,9 @@ ghost use Rattle.daq_types.specs.Callers.{main_caller};
 ghost use Rattle.daq_io.specs.Seen.{Same};
 ghost use Rattle.odb_ascii.specs.declared.acts.LoadRefusal.TheVariants.{NoMemory as no_memory};
 ghost use Rattle.odb_ascii.specs.Dumps.{dump_limit};
-ghost use Rattle.odb_port.specs.DatabasePorts.{IsSamePort};
 ghost use Rattle.database_files.specs.FileReplies.{reply_of};
 ghost use Rattle.watch_commands.specs.WatchAnswers.{said_with as reply_said_with, loaded_or as loaded_of, saved_or as saved_of};
-ghost use Rattle.watch_commands.specs.WatchCalls.{AnswersWatch, CutsWatch, OnFileName, IsLoadSettled, IsLoadable, LoadsWhole, LoadsRead, LoadsFile, SavesFile, FaultsIf, ClashesIf, NamesFaultIf};
+ghost use Rattle.watch_commands.specs.WatchCalls.{EndsWatchCommand, OnFileName, IsLoadSettled, IsLoadable, LoadsWhole, LoadsRead, LoadsFile, SavesFile, FaultsIf, ClashesIf, NamesFaultIf};
 
 use crate::replies::{WatchAnswer, WatchCommandRefusal, WatchReply};
 use crate::watches::refused_for;
@@ -68,12 +67,9 @@ fn load_whole<R: Wait, P: WatchPort>(
 ) -> Result<WatchAnswer, NoMemory>
     requires main { (P.access port.old).caller ≡ main_caller }
     requires small { length text.now ≤ dump_limit }
-    ensures did { IfOk result (AnswersWatch (P.access port.old) (P.access port.new)
-        (LoadsWhole text.now)) }
-    ensures interrupted { OnErr result (CutsWatch (P.access port.old) (P.access port.new)
-        (LoadsWhole text.now)) }
+    ensures ends { EndsWatchCommand (P.access port.old) (P.access port.new)
+        (LoadsWhole text.now) result }
     ensures file { IfOk result (λ answer. answer.file ≡ Some FileReply.Done) }
-    ensures same { IsSamePort (P.access port.old) (P.access port.new) }
 {
     let reply = load_settled(port.load(rt, alloc, text))?;
     Ok(loaded_or(reply))
@@ -88,13 +84,10 @@ fn load_read<R: Wait, P: WatchPort>(
 ) -> Result<WatchAnswer, NoMemory>
     requires main { (P.access port.old).caller ≡ main_caller }
     requires small { IsLoadable read }
-    ensures did { IfOk result (AnswersWatch (P.access port.old) (P.access port.new)
-        (LoadsRead read)) }
-    ensures interrupted { OnErr result (CutsWatch (P.access port.old) (P.access port.new)
-        (LoadsRead read)) }
+    ensures ends { EndsWatchCommand (P.access port.old) (P.access port.new)
+        (LoadsRead read) result }
     ensures file { IfOk result (λ answer. answer.file ≡ Some (reply_of read)) }
     ensures whole { OnErr result (reply_of read ≡ FileReply.Done) }
-    ensures same { IsSamePort (P.access port.old) (P.access port.new) }
 {
     let came = read.reply();
     match read {
@@ -114,10 +107,8 @@ fn load_at<R: Wait, P: WatchPort, E: Files>(
     name: &FileName,
 ) -> Result<WatchAnswer, NoMemory>
     requires { (P.access port.old).caller ≡ main_caller }
-    ensures did { IfOk result (AnswersWatch (P.access port.old) (P.access port.new)
-        (LoadsFile (E.seen files.old) (E.seen files.new) name.now)) }
-    ensures interrupted { OnErr result (CutsWatch (P.access port.old) (P.access port.new)
-        (LoadsFile (E.seen files.old) (E.seen files.new) name.now)) }
+    ensures ends { EndsWatchCommand (P.access port.old) (P.access port.new)
+        (LoadsFile (E.seen files.old) (E.seen files.new) name.now) result }
     ensures kept { Same (E.seen files.old) (E.seen files.new) }
     ensures faults { IfOk result (λ answer. FaultsIf answer.file (E.faults files.old)
         (E.faults files.new)) }
@@ -129,14 +120,13 @@ fn load_at<R: Wait, P: WatchPort, E: Files>(
     ensures faultless { OnErr result (E.faults files.new ≡ E.faults files.old) }
     ensures nameless { OnErr result (E.first files.new ≡ E.first files.old) }
     ensures unclashed { OnErr result (E.clashes files.new ≡ E.clashes files.old) }
-    ensures same { IsSamePort (P.access port.old) (P.access port.new) }
 {
     let read = read_file(alloc, files, name)?;
     load_read(rt, alloc, port, read)
 }
 
 /// The command `load`, by the main thread: reads the file of this name and loads the dump in it. Changes no file.
-pub fn load<R: Wait, P: WatchPort, E: Files>(
+pub(crate) fn load<R: Wait, P: WatchPort, E: Files>(
     rt: &R,
     alloc: Global,
     port: &mut P,
@@ -144,12 +134,9 @@ pub fn load<R: Wait, P: WatchPort, E: Files>(
     file: &[u8],
 ) -> Result<WatchAnswer, NoMemory>
     requires { (P.access port.old).caller ≡ main_caller }
-    ensures did { IfOk result (AnswersWatch (P.access port.old) (P.access port.new)
+    ensures ends { EndsWatchCommand (P.access port.old) (P.access port.new)
         (OnFileName file.now (E.seen files.old) (E.seen files.new)
-        (LoadsFile (E.seen files.old) (E.seen files.new)))) }
-    ensures interrupted { OnErr result (CutsWatch (P.access port.old) (P.access port.new)
-        (OnFileName file.now (E.seen files.old) (E.seen files.new)
-        (LoadsFile (E.seen files.old) (E.seen files.new)))) }
+        (LoadsFile (E.seen files.old) (E.seen files.new))) result }
     ensures kept { Same (E.seen files.old) (E.seen files.new) }
     ensures faults { IfOk result (λ answer. FaultsIf answer.file (E.faults files.old)
         (E.faults files.new)) }
@@ -161,7 +148,6 @@ pub fn load<R: Wait, P: WatchPort, E: Files>(
     ensures faultless { OnErr result (E.faults files.new ≡ E.faults files.old) }
     ensures nameless { OnErr result (E.first files.new ≡ E.first files.old) }
     ensures unclashed { OnErr result (E.clashes files.new ≡ E.clashes files.old) }
-    ensures same { IsSamePort (P.access port.old) (P.access port.new) }
 {
     match FileName::from_bytes(file) {
         Err(_) => Ok(refused_for(WatchCommandRefusal::BadFileName)),
@@ -190,10 +176,8 @@ fn save_at<R: Wait, P: WatchPort, E: Files>(
     files: &mut E,
     name: &FileName,
 ) -> Result<WatchAnswer, NoMemory>
-    ensures did { IfOk result (AnswersWatch (P.access port.old) (P.access port.new)
-        (SavesFile (E.seen files.old) (E.seen files.new) name.now)) }
-    ensures interrupted { OnErr result (CutsWatch (P.access port.old) (P.access port.new)
-        (SavesFile (E.seen files.old) (E.seen files.new) name.now)) }
+    ensures ends { EndsWatchCommand (P.access port.old) (P.access port.new)
+        (SavesFile (E.seen files.old) (E.seen files.new) name.now) result }
     ensures kept { OnErr result (Same (E.seen files.old) (E.seen files.new)) }
     ensures faults { IfOk result (λ answer. FaultsIf answer.file (E.faults files.old)
         (E.faults files.new)) }
@@ -205,7 +189,6 @@ fn save_at<R: Wait, P: WatchPort, E: Files>(
     ensures faultless { OnErr result (E.faults files.new ≡ E.faults files.old) }
     ensures nameless { OnErr result (E.first files.new ≡ E.first files.old) }
     ensures unclashed { OnErr result (E.clashes files.new ≡ E.clashes files.old) }
-    ensures same { IsSamePort (P.access port.old) (P.access port.new) }
 {
     let dump = port.save(rt, alloc)?;
     let text = dump.as_slice();
@@ -215,19 +198,16 @@ fn save_at<R: Wait, P: WatchPort, E: Files>(
 
 /// The command `save`: writes a dump of the database to a new file of this name. Where it cannot be written whole, the file
 /// is left closed with a first part of it. A file that is there stays as it is.
-pub fn save<R: Wait, P: WatchPort, E: Files>(
+pub(crate) fn save<R: Wait, P: WatchPort, E: Files>(
     rt: &R,
     alloc: Global,
     port: &mut P,
     files: &mut E,
     file: &[u8],
 ) -> Result<WatchAnswer, NoMemory>
-    ensures did { IfOk result (AnswersWatch (P.access port.old) (P.access port.new)
+    ensures ends { EndsWatchCommand (P.access port.old) (P.access port.new)
         (OnFileName file.now (E.seen files.old) (E.seen files.new)
-        (SavesFile (E.seen files.old) (E.seen files.new)))) }
-    ensures interrupted { OnErr result (CutsWatch (P.access port.old) (P.access port.new)
-        (OnFileName file.now (E.seen files.old) (E.seen files.new)
-        (SavesFile (E.seen files.old) (E.seen files.new)))) }
+        (SavesFile (E.seen files.old) (E.seen files.new))) result }
     ensures kept { OnErr result (Same (E.seen files.old) (E.seen files.new)) }
     ensures faults { IfOk result (λ answer. FaultsIf answer.file (E.faults files.old)
         (E.faults files.new)) }
@@ -239,7 +219,6 @@ pub fn save<R: Wait, P: WatchPort, E: Files>(
     ensures faultless { OnErr result (E.faults files.new ≡ E.faults files.old) }
     ensures nameless { OnErr result (E.first files.new ≡ E.first files.old) }
     ensures unclashed { OnErr result (E.clashes files.new ≡ E.clashes files.old) }
-    ensures same { IsSamePort (P.access port.old) (P.access port.new) }
 {
     match FileName::from_bytes(file) {
         Err(_) => Ok(refused_for(WatchCommandRefusal::BadFileName)),

@@ -1,5 +1,5 @@
 //! What a command for watches or dumps tells by its answer.
-ghost use Rattle.std.specs.Prelude.{◌≡◌, ◌≢◌, ◌<◌, ℕ, List, [], ◌∷◌, length, true, IsTrue, IsSome, Some, None, Ok};
+ghost use Rattle.std.specs.Prelude.{◌≡◌, ◌≢◌, ◌<◌, ℕ, List, [], ◌∷◌, length, IsTrue, IsSome, Some, None, Ok};
 ghost use Rattle.std.specs.List.{AllByRecursion};
 ghost use Rattle.daq_types.specs.Names.{IsFileName};
 ghost use Rattle.daq_io.specs.Seen.{Seen, Stored, Same, Stores};
@@ -8,12 +8,12 @@ ghost use Rattle.odb_watch.specs.declared.entry.WatchEntry.TheVariants.{Save as 
 ghost use Rattle.odb_watch.specs.Steps.{LeadsDatabase};
 ghost use Rattle.odb_tree.specs.Noting.{Watched};
 ghost use Rattle.odb_runinfo.specs.RunNumberKept.{HasRunNumber};
-ghost use Rattle.odb_script.specs.declared.forms.Command.{Command};
-ghost use Rattle.odb_script.specs.declared.forms.Command.TheVariants.{Load, Save};
+ghost use Rattle.odb_script.specs.declared.commands.WatchCommand.{WatchCommand};
+ghost use Rattle.odb_script.specs.declared.commands.WatchCommand.TheVariants.{Load, Save};
 ghost use Rattle.database_files.specs.declared.replies.FileReply.TheVariants.{Done, Clash, TooLong};
 ghost use Rattle.database_files.specs.WholeFiles.{file_limit};
 ghost use Rattle.watch_commands.specs.declared.replies.WatchAnswer.{WatchAnswer};
-ghost use Rattle.watch_commands.specs.WatchPerforms.{PerformsWatch, performs_watches, LoadsTextOf};
+ghost use Rattle.watch_commands.specs.WatchPerforms.{PerformsWatch, LoadsTextOf};
 ghost use Rattle.watch_commands.specs.WatchSpares.{SparesWatched, AllSpareWatched};
 
 use odb_ascii::laws::texts_are_calls;
@@ -21,9 +21,8 @@ use odb_runinfo::laws::run_number_stays;
 
 /// Some calls and an answer do what a command for watches or dumps asks for, whatever the files tell.
 pub fn watch_commands_are_answered()
-    ensures { (command : Command) (seen : Seen) → performs_watches command ≡ true
-        → (calls : List WatchEntry) × (answer : WatchAnswer)
-        × PerformsWatch command seen seen calls answer }
+    ensures { (command : WatchCommand) (seen : Seen) → (calls : List WatchEntry)
+        × (answer : WatchAnswer) × PerformsWatch command seen seen calls answer }
 {}
 
 /// What a `load` did, by what its calls on the files came to. Where they are done, the file was read to its end, and its text
@@ -75,6 +74,6 @@ pub fn run_number_stays_watched()
 
 /// No command for watches or dumps removes anything below `/Runinfo`, whatever its calls are answered.
 pub fn watch_commands_spare_runinfo()
-    ensures { (command : Command) (old new : Seen) (calls : List WatchEntry) (answer : WatchAnswer)
+    ensures { (command : WatchCommand) (old new : Seen) (calls : List WatchEntry) (answer : WatchAnswer)
         → PerformsWatch command old new calls answer → AllByRecursion SparesWatched calls }
 {}

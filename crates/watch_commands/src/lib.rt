@@ -10,6 +10,4 @@ mod texts;
 mod watches;
 
 pub use commands::run_watch_command;
-pub use dumps::{load, save};
 pub use replies::{ToldNote, ToldNotes, WatchAnswer, WatchCommandRefusal, WatchReply};
-pub use watches::{notes, unwatch, watch};

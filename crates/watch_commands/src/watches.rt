@@ -3,9 +3,8 @@ ghost use Rattle.odb_path.specs.PathText.{path_reply};
 ghost use Rattle.odb_tree.specs.Noting.{notes_limit};
 ghost use Rattle.odb_watch.specs.declared.notes.WatchRefusal.TheVariants.{NoMemory as no_memory};
 ghost use Rattle.odb_watch.specs.Steps.{moved_out};
-ghost use Rattle.odb_port.specs.DatabasePorts.{IsSamePort};
 ghost use Rattle.watch_commands.specs.WatchAnswers.{said as reply_said, refused_for as refusal_for, watching_or as watching_of, ended_or as ended_of};
-ghost use Rattle.watch_commands.specs.WatchCalls.{AnswersWatch, CutsWatch, OnPath, IsWatchSettled, WatchesRow, WatchesFound, WatchesPath, TellsNotes, TellsTaken, TakesNotes, EndsWatch};
+ghost use Rattle.watch_commands.specs.WatchCalls.{AnswersWatch, EndsWatchCommand, OnPath, IsWatchSettled, WatchesRow, WatchesFound, WatchesPath, TellsNotes, TellsTaken, TakesNotes, EndsWatch};
 
 use crate::replies::{ToldNote, ToldNotes, WatchAnswer, WatchCommandRefusal, WatchReply};
 use daq_types::NoMemory;
@@ -61,11 +60,8 @@ fn watch_row<R: Wait, P: WatchPort>(
     port: &mut P,
     row: u32,
 ) -> Result<WatchAnswer, NoMemory>
-    ensures did { IfOk result (AnswersWatch (P.access port.old) (P.access port.new)
-        (WatchesRow row)) }
-    ensures interrupted { OnErr result (CutsWatch (P.access port.old) (P.access port.new)
-        (WatchesRow row)) }
-    ensures same { IsSamePort (P.access port.old) (P.access port.new) }
+    ensures { EndsWatchCommand (P.access port.old) (P.access port.new)
+        (WatchesRow row) result }
 {
     let reply = watch_settled(port.watch(rt, alloc, row))?;
     Ok(watching_or(reply))
@@ -78,11 +74,8 @@ fn watch_found<R: Wait, P: WatchPort>(
     port: &mut P,
     found: Result<u32, OdbRefusal>,
 ) -> Result<WatchAnswer, NoMemory>
-    ensures did { IfOk result (AnswersWatch (P.access port.old) (P.access port.new)
-        (WatchesFound found)) }
-    ensures interrupted { OnErr result (CutsWatch (P.access port.old) (P.access port.new)
-        (WatchesFound found)) }
-    ensures same { IsSamePort (P.access port.old) (P.access port.new) }
+    ensures { EndsWatchCommand (P.access port.old) (P.access port.new)
+        (WatchesFound found) result }
 {
     match found {
         Err(why) => Ok(refused_for(WatchCommandRefusal::Database { why })),
@@ -97,28 +90,22 @@ fn watch_at<R: Wait, P: WatchPort>(
     port: &mut P,
     path: Path,
 ) -> Result<WatchAnswer, NoMemory>
-    ensures did { IfOk result (AnswersWatch (P.access port.old) (P.access port.new)
-        (WatchesPath path)) }
-    ensures interrupted { OnErr result (CutsWatch (P.access port.old) (P.access port.new)
-        (WatchesPath path)) }
-    ensures same { IsSamePort (P.access port.old) (P.access port.new) }
+    ensures { EndsWatchCommand (P.access port.old) (P.access port.new)
+        (WatchesPath path) result }
 {
     let found = port.find(rt, path);
     watch_found(rt, alloc, port, found)
 }
 
 /// The command `watch`: begins to watch the row at the path of this text and what is below it.
-pub fn watch<R: Wait, P: WatchPort>(
+pub(crate) fn watch<R: Wait, P: WatchPort>(
     rt: &R,
     alloc: Global,
     port: &mut P,
     path: &[u8],
 ) -> Result<WatchAnswer, NoMemory>
-    ensures did { IfOk result (AnswersWatch (P.access port.old) (P.access port.new)
-        (OnPath (path_reply path.now) WatchesPath)) }
-    ensures interrupted { OnErr result (CutsWatch (P.access port.old) (P.access port.new)
-        (OnPath (path_reply path.now) WatchesPath)) }
-    ensures same { IsSamePort (P.access port.old) (P.access port.new) }
+    ensures { EndsWatchCommand (P.access port.old) (P.access port.new)
+        (OnPath (path_reply path.now) WatchesPath) result }
 {
     match read_path(alloc, path)? {
         Err(why) => Ok(refused_for(WatchCommandRefusal::Path { why })),
@@ -137,11 +124,8 @@ fn tell_notes<R: Wait, P: WatchPort>(
 ) -> Result<WatchAnswer, NoMemory>
     requires empty { told ≡ [] }
     requires few { length notes.now ≤ notes_limit }
-    ensures did { IfOk result (AnswersWatch (P.access port.old) (P.access port.new)
-        (TellsNotes notes.now lost)) }
-    ensures interrupted { OnErr result (CutsWatch (P.access port.old) (P.access port.new)
-        (TellsNotes notes.now lost)) }
-    ensures same { IsSamePort (P.access port.old) (P.access port.new) }
+    ensures { EndsWatchCommand (P.access port.old) (P.access port.new)
+        (TellsNotes notes.now lost) result }
 {
     for note in notes {
         let path = port.path_of(rt, alloc, note.row)?;
@@ -161,11 +145,8 @@ fn tell_taken<R: Wait, P: WatchPort>(
 ) -> Result<WatchAnswer, NoMemory>
     requires empty { told ≡ [] }
     requires few { OnOk taken (length notes.now ≤ notes_limit) }
-    ensures did { IfOk result (AnswersWatch (P.access port.old) (P.access port.new)
-        (TellsTaken (moved_out notes.now taken))) }
-    ensures interrupted { OnErr result (CutsWatch (P.access port.old) (P.access port.new)
-        (TellsTaken (moved_out notes.now taken))) }
-    ensures same { IsSamePort (P.access port.old) (P.access port.new) }
+    ensures { EndsWatchCommand (P.access port.old) (P.access port.new)
+        (TellsTaken (moved_out notes.now taken)) result }
 {
     match taken {
         Err(_) => Ok(refused_for(WatchCommandRefusal::NoWatch)),
@@ -174,17 +155,14 @@ fn tell_taken<R: Wait, P: WatchPort>(
 }
 
 /// The command `notes`: takes the notes that the watch of this number has kept, and asks for the path of each note's row.
-pub fn notes<R: Wait, P: WatchPort>(
+pub(crate) fn notes<R: Wait, P: WatchPort>(
     rt: &R,
     alloc: Global,
     port: &mut P,
     watch: u32,
 ) -> Result<WatchAnswer, NoMemory>
-    ensures did { IfOk result (AnswersWatch (P.access port.old) (P.access port.new)
-        (TakesNotes watch)) }
-    ensures interrupted { OnErr result (CutsWatch (P.access port.old) (P.access port.new)
-        (TakesNotes watch)) }
-    ensures same { IsSamePort (P.access port.old) (P.access port.new) }
+    ensures { EndsWatchCommand (P.access port.old) (P.access port.new)
+        (TakesNotes watch) result }
 {
     let mut notes = Notes::new(alloc)?;
     let told = ToldNotes::new(alloc)?;
@@ -203,9 +181,8 @@ fn ended_or(reply: Result<(), NoWatch>) -> WatchAnswer
 }
 
 /// The command `unwatch`: ends the watch of this number.
-pub fn unwatch<R: Wait, P: WatchPort>(rt: &R, port: &mut P, watch: u32) -> WatchAnswer
-    ensures did { AnswersWatch (P.access port.old) (P.access port.new) (EndsWatch watch) result }
-    ensures same { IsSamePort (P.access port.old) (P.access port.new) }
+pub(crate) fn unwatch<R: Wait, P: WatchPort>(rt: &R, port: &mut P, watch: u32) -> WatchAnswer
+    ensures { AnswersWatch (P.access port.old) (P.access port.new) (EndsWatch watch) result }
 {
     ended_or(port.unwatch(rt, watch))
 }

@@ -12,7 +12,7 @@ use odb_ascii::load;
 use odb_commands::run_command;
 use odb_lock::{OdbPass, OdbPasses, SharedAccess, SharedOdb};
 use odb_port::WatchPort;
-use odb_script::Command;
+use odb_script::{Command, DatabaseCommand};
 use odb_tree::{Database, PlainTree};
 use std::alloc::Global;
 use std::process::Abort;
@@ -56,25 +56,28 @@ fn new_session(alloc: Global) -> Result<(SharedOdb<PlainTree>, OdbPasses<PlainTr
 /// A line, and what it prints.
 type Line<'a> = (&'a str, &'a [u8]);
 
-/// Performs a command of the main thread's, and adds what it prints.
+/// Performs a command of the main thread's on the database, and adds what it prints.
 fn perform<R: Wait, P: WatchPort>(
     rt: &R,
     alloc: Global,
     port: &mut P,
     files: &mut MemFiles,
     number: u64,
-    command: &Command<'_>,
+    command: &DatabaseCommand<'_>,
     text: &mut TextBuffer,
 ) -> Result<(), NoMemory>
     requires main { (P.access port.old).caller ≡ main_caller }
     ensures main { (P.access port.new).caller ≡ main_caller }
 {
-    if let Some(answer) = run_watch_command(rt, alloc, port, files, command)? {
-        return answer.reply.print(number, text);
-    }
-    match run_command(rt, alloc, port, command)? {
-        Some(reply) => reply.print(number, text),
-        None => Ok(()),
+    match command {
+        DatabaseCommand::Rows { command } => {
+            run_command(rt, alloc, port, command)?.print(number, text)
+        }
+        DatabaseCommand::Watches { command } => {
+            run_watch_command(rt, alloc, port, files, command)?
+                .reply
+                .print(number, text)
+        }
     }
 }
 
@@ -92,7 +95,7 @@ fn prints<R: Wait, P: WatchPort>(
     ensures main { (P.access port.new).caller ≡ main_caller }
 {
     let mut text = TextBuffer::new(alloc);
-    if let Ok(command) = Command::read(line.0.as_bytes()) {
+    if let Ok(Command::Database { command }) = Command::read(line.0.as_bytes()) {
         perform(rt, alloc, port, files, number, &command, &mut text)?;
     }
     Ok(text.as_slice() == line.1)

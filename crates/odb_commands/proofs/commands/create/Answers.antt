@@ -1,7 +1,7 @@
 use Rattle.odb_path.specs.PathText.{path_reply}
 use Rattle.odb_commands.specs.CommandCalls.{CreatesKey}
-use Rattle.odb_commands.proofs.Made.{not_begun, cut_at_path, cut_create}
+use Rattle.odb_commands.proofs.Made.{ends_cut, not_begun, cut_at_path, cut_create}
 use Rattle.odb_commands.proofs.commands.create.Goals as goal
 
-pub returns-in_err-why-clause-interrupted : goal.returns-in_err-why-clause-interrupted
-returns-in_err-why-clause-interrupted g c = not_begun _ _ _ (cut_at_path (path_reply c.args.path.now) (CreatesKey c.args.kind) (cut_create c.args.kind))
+pub returns-in_err-why : goal.returns-in_err-why
+returns-in_err-why g c = ends_cut _ _ _ _ c.from_residual.ensures.0 (not_begun _ _ (cut_at_path (path_reply c.args.path.now) (CreatesKey c.args.kind) (cut_create c.args.kind)))

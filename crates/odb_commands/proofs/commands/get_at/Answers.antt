@@ -1,14 +1,11 @@
-use Rattle.odb_commands.proofs.Made.{not_begun, cut_get, gets_behind_if, get_cut, get_cut_behind_if}
+use Rattle.odb_commands.proofs.Made.{ends_cut, not_begun, cut_get, gets_behind, get_cut}
 use Rattle.odb_commands.proofs.commands.get_at.Goals as goal
 
-pub returns-in_err-copy-clause-interrupted : goal.returns-in_err-copy-clause-interrupted
-returns-in_err-copy-clause-interrupted g c = not_begun _ _ _ (cut_get c.args.index c.args.path)
+pub returns-in_err-copy : goal.returns-in_err-copy
+returns-in_err-copy g c = ends_cut _ _ _ _ c.from_residual.ensures.0 (not_begun _ _ (cut_get c.args.index c.args.path))
 
-pub returns-in_err-got-clause-interrupted : goal.returns-in_err-got-clause-interrupted
-returns-in_err-got-clause-interrupted g c = get_cut _ _ _ _ _ _ _ c.get.ensures c.in_ok-copy.ensures c.in_err-got.ensures.memory
+pub returns-in_err-got : goal.returns-in_err-got
+returns-in_err-got g c = ends_cut _ _ _ _ c.from_residual-in_err-got.ensures.0 (get_cut _ _ _ _ _ _ c.get.ensures c.in_ok-copy.ensures c.in_err-got.ensures.memory)
 
-pub returns-clause-did : goal.returns-clause-did
-returns-clause-did g c = gets_behind_if _ _ _ _ _ _ _ _ _ c.get.ensures c.in_ok-copy.ensures c.in_ok-got.ensures.same c.in_ok-got.ensures.wanted c.get_in.ensures.did
-
-pub returns-clause-interrupted : goal.returns-clause-interrupted
-returns-clause-interrupted g c = get_cut_behind_if _ _ _ _ _ _ _ _ _ c.get.ensures c.in_ok-copy.ensures c.in_ok-got.ensures.same c.in_ok-got.ensures.wanted c.get_in.ensures.interrupted
+pub returns : goal.returns
+returns g c = gets_behind _ _ _ _ _ _ _ _ _ c.get.ensures c.in_ok-copy.ensures c.in_ok-got.ensures.same c.in_ok-got.ensures.wanted c.get_in.ensures

@@ -1,18 +1,15 @@
-use Rattle.watch_commands.proofs.WatchMade.{not_begun}
-use Rattle.watch_commands.proofs.DumpMade.{loadable, cut_loads, file_loaded_if, file_cut_if, faults_if, clashes_if, names_fault_if, unclashed_if, faultless_if, nameless_if}
+use Rattle.watch_commands.proofs.WatchMade.{ends_cut, not_begun}
+use Rattle.watch_commands.proofs.DumpMade.{loadable, cut_loads, file_loaded, faults_if, clashes_if, names_fault_if, unclashed_if, faultless_if, nameless_if}
 use Rattle.watch_commands.proofs.dumps.load_at.Goals as goal
 
 pub load_read-requires-clause-small : goal.load_read-requires-clause-small
 load_read-requires-clause-small g c = loadable _ _ _ c.in_ok-read.ensures.read
 
-pub returns-in_err-read-clause-interrupted : goal.returns-in_err-read-clause-interrupted
-returns-in_err-read-clause-interrupted g c = not_begun _ _ _ (cut_loads _ _ _ c.read_file.ensures.same c.in_err-read.ensures.there)
+pub returns-in_err-read-clause-ends : goal.returns-in_err-read-clause-ends
+returns-in_err-read-clause-ends g c = ends_cut _ _ _ _ c.from_residual.ensures.0 (not_begun _ _ (cut_loads _ _ _ c.read_file.ensures.same c.in_err-read.ensures.there))
 
-pub returns-clause-did : goal.returns-clause-did
-returns-clause-did g c = file_loaded_if _ _ _ _ _ _ _ c.read_file.ensures.same c.in_ok-read.ensures.read c.load_read.ensures.did
-
-pub returns-clause-interrupted : goal.returns-clause-interrupted
-returns-clause-interrupted g c = file_cut_if _ _ _ _ _ _ _ c.read_file.ensures.same c.in_ok-read.ensures.read c.load_read.ensures.interrupted
+pub returns-clause-ends : goal.returns-clause-ends
+returns-clause-ends g c = file_loaded _ _ _ _ _ _ _ c.read_file.ensures.same c.in_ok-read.ensures.read c.load_read.ensures.ends
 
 pub returns-clause-faults : goal.returns-clause-faults
 returns-clause-faults g c = faults_if _ _ _ _ c.load_read.ensures.file c.in_ok-read.ensures.faults

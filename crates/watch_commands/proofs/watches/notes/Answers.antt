@@ -1,14 +1,11 @@
-use Rattle.watch_commands.proofs.WatchMade.{not_begun, cut_notes, notes_taken_if, notes_cut_if}
+use Rattle.watch_commands.proofs.WatchMade.{ends_cut, not_begun, cut_notes, notes_taken}
 use Rattle.watch_commands.proofs.watches.notes.Goals as goal
 
-pub returns-in_err-notes-clause-interrupted : goal.returns-in_err-notes-clause-interrupted
-returns-in_err-notes-clause-interrupted g c = not_begun _ _ _ (cut_notes c.args.watch)
+pub returns-in_err-notes : goal.returns-in_err-notes
+returns-in_err-notes g c = ends_cut _ _ _ _ c.from_residual.ensures.0 (not_begun _ _ (cut_notes c.args.watch))
 
-pub returns-in_err-told-clause-interrupted : goal.returns-in_err-told-clause-interrupted
-returns-in_err-told-clause-interrupted g c = not_begun _ _ _ (cut_notes c.args.watch)
+pub returns-in_err-told : goal.returns-in_err-told
+returns-in_err-told g c = ends_cut _ _ _ _ c.from_residual-in_err-told.ensures.0 (not_begun _ _ (cut_notes c.args.watch))
 
-pub returns-clause-did : goal.returns-clause-did
-returns-clause-did g c = notes_taken_if _ _ _ _ _ _ _ _ c.notes-taken.ensures.called c.as_slice.ensures c.tell_taken.ensures.did
-
-pub returns-clause-interrupted : goal.returns-clause-interrupted
-returns-clause-interrupted g c = notes_cut_if _ _ _ _ _ _ _ _ c.notes-taken.ensures.called c.as_slice.ensures c.tell_taken.ensures.interrupted
+pub returns : goal.returns
+returns g c = notes_taken _ _ _ _ _ _ _ _ c.notes-taken.ensures.called c.as_slice.ensures c.tell_taken.ensures

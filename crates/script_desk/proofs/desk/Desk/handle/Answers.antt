@@ -1,5 +1,5 @@
 use Rattle.std.proofs.Common.{◌≡◌, ◌+◌, ap, subst, ◌∙◌}
-use Rattle.odb_script.specs.declared.forms.Command.{Command}
+use Rattle.odb_script.specs.declared.commands.Command.{Command}
 use Rattle.odb_script.specs.Forms.{Read, command_of}
 use Rattle.script_desk.specs.Playing.{GoesBehind}
 use Rattle.script_desk.proofs.PlayingLaws.{goes_line}
