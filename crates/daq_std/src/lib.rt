@@ -2,8 +2,10 @@
 //! what the system gives.
 #![tactic(auto)]
 
+mod again;
 mod ahead;
 mod blocks;
+mod calls;
 mod choices;
 mod faults;
 mod files;

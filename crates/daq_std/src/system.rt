@@ -1,29 +1,27 @@
-//! The calls of the system on files, each in a function of its own. What they hand out says what the system did, and there
-//! is no other way to have it than to ask the system. A fault is made here alone, also where no number is free.
-ghost use Rattle.std.specs.Prelude.{◌≡◌, ◌≢◌, ◌<◌, ◌↔◌, IfErr, IfOk, IsErrAnd, IsOk, Ok, OnErr, OnOk, length, string_bytes};
+//! What the system told where a call failed. A fault is made here alone: of an error that the system told, of what is no file,
+//! of a write that took no byte, of too many interruptions, and where no number is free. Each says so by its clauses.
+ghost use Rattle.std.specs.Prelude.{◌≡◌, ◌≢◌, ◌<◌, ◌+◌, ◌-◌, ◌^◌, ◌↔◌, IfErr, IfOk, IsErrAnd, IsOk, Err, Ok, OnErr, OnOk, length};
 ghost use Rattle.std.specs.Fs.{IsFile, file_type};
-ghost use Rattle.std.specs.Io.{ReadsAtMost, WritesAtMost};
-ghost use Rattle.std.specs.Io.KnownBytes.{Appends, ReadConsumes, WriteAppends};
 ghost use Rattle.std.specs.IoError.{error_kind};
 ghost use Rattle.daq_io.specs.Uses.{free_numbers, use_at};
 ghost use Rattle.daq_io.specs.declared.uses.Usage.TheVariants.{Free};
-ghost use Rattle.daq_std.specs.SystemCalls.{TellsKind, new_to_write, reason_of, to_read};
+ghost use Rattle.daq_std.specs.SystemCalls.{TellsKind, reason_of};
 
 use daq_io::UseTable;
-use std::fs::{Metadata, OpenFile, OpenOptions};
-use std::io::{self, ErrorKind, Read, Write};
+use std::fs::Metadata;
+use std::io::{self, ErrorKind};
 use std::marker::Model;
-use std::rt;
-use std::snapshot::Snapshot;
 
-/// What a fault says of the name that a call was on.
+/// What a fault says of the call, and of the name that it was on.
 #[derive(Clone, Copy)]
 pub enum Reason {
     /// There is something of that name.
     Taken,
     /// There is nothing of that name.
     Absent,
-    /// Neither: the system told another error, or no number was free, or what bears the name is no file.
+    /// A signal interrupted the call.
+    Interrupted,
+    /// None of these: the system told another error, or no number was free, or what bears the name is no file.
     Other,
 }
 
@@ -33,23 +31,16 @@ pub struct Fault {
     reason: Reason,
 }
 
-impl Fault {
-    /// What it says of the name.
-    pub fn reason(&self) -> Reason
-        ensures { result ≡ reason_of self.now }
-    {
-        self.reason
-    }
-}
-
-/// What an error of this kind says of the name.
+/// What an error of this kind says.
 fn reason_for(kind: ErrorKind) -> Reason
     ensures taken { (result ≡ Reason.Taken) ↔ (kind ≡ ErrorKind.AlreadyExists) }
     ensures absent { (result ≡ Reason.Absent) ↔ (kind ≡ ErrorKind.NotFound) }
+    ensures interrupted { (result ≡ Reason.Interrupted) ↔ (kind ≡ ErrorKind.Interrupted) }
 {
     match kind {
         ErrorKind::AlreadyExists => Reason::Taken,
         ErrorKind::NotFound => Reason::Absent,
+        ErrorKind::Interrupted => Reason::Interrupted,
         _ => Reason::Other,
     }
 }
@@ -63,87 +54,43 @@ fn fault_of(kind: ErrorKind) -> Fault
     }
 }
 
-/// The system removed the file under this path, or told that there is none.
-#[derive(Drop)]
-pub struct Removed {
-    path: Snapshot<String>,
-}
+impl Fault {
+    /// The fault that this error of the system is.
+    pub fn of(error: &io::Error) -> Fault
+        ensures { TellsKind (error_kind error.now) result }
+    {
+        fault_of(error.kind())
+    }
 
-impl Model for Removed {
-    ghost use Rattle.std.specs.Prelude.{List, string_bytes, ℕ};
+    /// The fault that a write took no byte, where there is one.
+    pub fn of_no_byte(_count: usize, _bytes: &[u8]) -> Fault
+        requires none { _count ≡ 0 }
+        requires some { 0 < length _bytes.now }
+    {
+        fault_of(ErrorKind::WriteZero)
+    }
 
-    ghost Value = { List ℕ };
-
-    ghost view = { λ r. string_bytes r.path.value };
-}
-
-/// The system put the names of the folder under a path on the disk, or told that it cannot do so for a folder; and before that
-/// the file that was opened under another.
-#[derive(Drop)]
-pub struct NameOnDisk {
-    folder: Snapshot<String>,
-    file: Snapshot<String>,
-}
-
-impl Model for NameOnDisk {
-    ghost use Rattle.std.specs.Prelude.{string_bytes};
-    ghost use Rattle.daq_std.specs.SystemCalls.{KeptName};
-
-    ghost Value = { KeptName };
-
-    ghost view = { λ n. record {
-      folder = string_bytes n.folder.value;
-      file = string_bytes n.file.value;
-    } };
-}
-
-/// A file of the system, which opened it so, under this path.
-#[derive(Drop)]
-pub struct SystemFile<F> {
-    file: F,
-    how: Snapshot<OpenOptions>,
-    path: Snapshot<String>,
-}
-
-impl<F> Model for SystemFile<F> {
-    ghost use Rattle.std.specs.Prelude.{string_bytes};
-    ghost use Rattle.daq_std.specs.SystemCalls.{OpenedFile};
-
-    ghost Value = { OpenedFile F };
-
-    ghost view = { λ f. record {
-      file = f.file;
-      opening = record { how = f.how.value; path = string_bytes f.path.value };
-    } };
-}
-
-/// A file that the system has put on the disk.
-#[derive(Drop)]
-pub struct OnDisk<F> {
-    file: SystemFile<F>,
-}
-
-impl<F> Model for OnDisk<F> {
-    ghost use Rattle.daq_std.specs.SystemCalls.{OpenedFile};
-
-    ghost Value = { OpenedFile F };
-
-    ghost view = { λ d. d.file };
+    /// What it says.
+    pub fn reason(&self) -> Reason
+        ensures { result ≡ reason_of self.now }
+    {
+        self.reason
+    }
 }
 
 /// What the system answered, where its error is a fault of that kind.
-fn told<T>(answer: io::Result<T>) -> Result<T, Fault>
+pub fn told<T>(answer: io::Result<T>) -> Result<T, Fault>
     ensures done { IfOk answer (λ value. result ≡ Ok value) }
     ensures fault { IfErr answer (λ error. IsErrAnd result (TellsKind (error_kind error))) }
 {
     match answer {
         Ok(value) => Ok(value),
-        Err(error) => Err(fault_of(error.kind())),
+        Err(error) => Err(Fault::of(&error)),
     }
 }
 
 /// What the system answered, where its error is a fault of that kind, but for one that is as good as done.
-fn told_unless(good: ErrorKind, answer: io::Result<()>) -> Result<(), Fault>
+pub fn told_unless(good: ErrorKind, answer: io::Result<()>) -> Result<(), Fault>
     ensures done { OnOk answer (IsOk result) }
     ensures good { IfErr answer (λ error. error_kind error ≡ good → IsOk result) }
     ensures fault { IfErr answer (λ error. error_kind error ≢ good → IsErrAnd result
@@ -155,13 +102,13 @@ fn told_unless(good: ErrorKind, answer: io::Result<()>) -> Result<(), Fault>
             if error.kind() == good {
                 return Ok(());
             }
-            Err(fault_of(error.kind()))
+            Err(Fault::of(&error))
         }
     }
 }
 
 /// Refuses what is no file, such as a folder or a pipe.
-fn regular(found: io::Result<Metadata>) -> Result<(), Fault>
+pub fn regular(found: io::Result<Metadata>) -> Result<(), Fault>
     ensures file { IfOk found (λ metadata. IsOk result ↔ IsFile (file_type metadata)) }
     ensures fault { IfErr found (λ error. IsErrAnd result (TellsKind (error_kind error))) }
 {
@@ -171,155 +118,48 @@ fn regular(found: io::Result<Metadata>) -> Result<(), Fault>
     Err(fault_of(ErrorKind::InvalidInput))
 }
 
-/// Opens a file so.
-fn open_as<R: rt::Files>(
-    system: &R,
-    how: &OpenOptions,
-    path: &String,
-) -> Result<SystemFile<R::File>, Fault>
-    ensures { IfOk result (λ opened. opened.opening
-        ≡ record { how = how.now; path = string_bytes path.now }) }
-{
-    Ok(SystemFile {
-        file: told(how.open(system, path.as_str()))?,
-        how: Snapshot::of(how),
-        path: Snapshot::of(path),
-    })
+/// How often in a row a signal has interrupted a call that is made again.
+#[derive(Drop)]
+pub struct Interruptions {
+    count: u64,
 }
 
-/// Makes a file, where there is nothing of that name.
-pub fn make_file<R: rt::Files>(system: &R, path: &String) -> Result<SystemFile<R::File>, Fault>
-    ensures { IfOk result (λ made. made.opening
-        ≡ record { how = new_to_write; path = string_bytes path.now }) }
-{
-    let mut how = OpenOptions::new();
-    how.read(true).write(true).create_new(true);
-    open_as(system, &how, path)
+impl Model for Interruptions {
+    ghost use Rattle.std.specs.Prelude.{ℕ};
+
+    ghost Value = { ℕ };
+
+    ghost view = { λ i. i.count };
 }
 
-/// Opens what is there, to read it.
-fn open_to_read<R: rt::Files>(system: &R, path: &String) -> Result<SystemFile<R::File>, Fault>
-    ensures { IfOk result (λ opened. opened.opening
-        ≡ record { how = to_read; path = string_bytes path.now }) }
-{
-    let mut how = OpenOptions::new();
-    how.read(true);
-    open_as(system, &how, path)
-}
+impl Interruptions {
+    /// None.
+    pub fn new() -> Interruptions
+        ensures { result ≡ 0 }
+    {
+        Interruptions { count: 0 }
+    }
 
-/// Opens the file that is there, to read it. What is no file is not opened, since the system may wait for the other end of
-/// a pipe; and it is looked at again once it is open.
-pub fn open_file<R: rt::Files>(system: &R, path: &String) -> Result<SystemFile<R::File>, Fault>
-    ensures { IfOk result (λ opened. opened.opening
-        ≡ record { how = to_read; path = string_bytes path.now }) }
-{
-    regular(system.metadata(path.as_str()))?;
-    let opened = open_to_read(system, path)?;
-    regular(opened.file.metadata())?;
-    Ok(opened)
-}
-
-/// Removes the file. That there is none is as good.
-pub fn remove_file<R: rt::Files>(system: &R, path: &String) -> Result<Removed, Fault>
-    ensures { IfOk result (λ removed. removed ≡ string_bytes path.now) }
-{
-    told_unless(ErrorKind::NotFound, system.remove_file(path.as_str()))?;
-    Ok(Removed {
-        path: Snapshot::of(path),
-    })
-}
-
-/// Has the system put the names of a folder on the disk, behind a file. That it cannot do so for a folder is as good.
-pub fn sync_folder<R: rt::Files>(
-    system: &R,
-    path: &String,
-    file: OnDisk<R::File>,
-) -> Result<NameOnDisk, Fault>
-    ensures { IfOk result (λ kept. kept
-        ≡ record { folder = string_bytes path.now; file = file.opening.path }) }
-{
-    let folder = open_to_read(system, path)?;
-    told_unless(ErrorKind::InvalidInput, folder.file.sync_all())?;
-    Ok(NameOnDisk {
-        folder: Snapshot::of(path),
-        file: file.file.path,
-    })
-}
-
-/// Reads once, and again as often as a signal interrupts that.
-pub fn read_once<R: Read>(reader: &mut R, into: &mut [u8]) -> Result<usize, Fault>
-    ensures within { ReadsAtMost result into.new }
-    ensures bytes { ReadConsumes (R.remaining reader.old) (R.remaining reader.new) result
-        into.new }
-{
-    for _ in 0..u64::MAX {
-        match reader.read(into) {
-            Ok(count) => return Ok(count),
-            Err(error) => {
-                if error.kind() != ErrorKind::Interrupted {
-                    return Err(fault_of(error.kind()));
+    /// Counts this fault, where it is an interruption; the call is then to be made again. Any other is handed back. Behind
+    /// 2^64 - 1 interruptions one more is a fault that is none.
+    pub fn count(&mut self, fault: Fault) -> Result<(), Fault>
+        ensures counted { OnOk result (self.new ≡ self.old + 1) }
+        ensures interrupted { OnOk result (reason_of fault ≡ Reason.Interrupted) }
+        ensures again { reason_of fault ≡ Reason.Interrupted → self.old < 2 ^ 64 - 1 → IsOk result }
+        ensures other { reason_of fault ≢ Reason.Interrupted → result ≡ Err fault }
+        ensures no_longer { IfErr result (λ left. reason_of left ≢ Reason.Interrupted) }
+        ensures bounded { OnOk result (self.new < 2 ^ 64) }
+    {
+        match fault.reason {
+            Reason::Interrupted => match self.count.checked_add(1) {
+                Some(count) => {
+                    self.count = count;
+                    Ok(())
                 }
-            }
+                None => Err(fault_of(ErrorKind::TimedOut)),
+            },
+            Reason::Taken | Reason::Absent | Reason::Other => Err(fault),
         }
-    }
-    Err(fault_of(ErrorKind::Interrupted))
-}
-
-/// Writes once, and again as often as a signal interrupts that. That no byte is taken, where there is one, is a fault.
-pub fn write_once<W: Write>(writer: &mut W, bytes: &[u8]) -> Result<usize, Fault>
-    ensures within { WritesAtMost result bytes.now }
-    ensures some { IfOk result (λ count. 0 < length bytes.now → 0 < count) }
-    ensures bytes { WriteAppends (W.contents writer.old) (W.contents writer.new) result
-        bytes.now }
-{
-    for _ in 0..u64::MAX {
-        match writer.write(bytes) {
-            Ok(count) => {
-                if count == 0 && !bytes.is_empty() {
-                    return Err(fault_of(ErrorKind::WriteZero));
-                }
-                return Ok(count);
-            }
-            Err(error) => {
-                if error.kind() != ErrorKind::Interrupted {
-                    return Err(fault_of(error.kind()));
-                }
-            }
-        }
-    }
-    Err(fault_of(ErrorKind::Interrupted))
-}
-
-impl<F: Read> SystemFile<F> {
-    /// Reads from the file.
-    pub fn read(&mut self, into: &mut [u8]) -> Result<usize, Fault>
-        ensures within { ReadsAtMost result into.new }
-        ensures bytes { ReadConsumes (F.remaining self.old.file) (F.remaining self.new.file) result
-            into.new }
-        ensures opening { self.new.opening ≡ self.old.opening }
-    {
-        read_once(&mut self.file, into)
-    }
-}
-
-impl<F: Write> SystemFile<F> {
-    /// Writes all of the bytes to the file.
-    pub fn write_all(&mut self, bytes: &[u8]) -> Result<(), Fault>
-        ensures bytes { OnOk result (Appends (F.contents self.old.file) (F.contents self.new.file)
-            bytes.now) }
-        ensures opening { self.new.opening ≡ self.old.opening }
-    {
-        told(self.file.write_all(bytes))
-    }
-}
-
-impl<F: OpenFile + Drop> SystemFile<F> {
-    /// Has the system put all of the file on the disk. Where it does not, the file is let go.
-    pub fn sync(self) -> Result<OnDisk<F>, Fault>
-        ensures { IfOk result (λ synced. synced ≡ self) }
-    {
-        told(self.file.sync_all())?;
-        Ok(OnDisk { file: self })
     }
 }
 
