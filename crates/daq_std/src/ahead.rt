@@ -2,8 +2,7 @@ ghost use Rattle.std.specs.Prelude.{◌≡◌, ◌++◌, ◌↔◌, [], length, 
 ghost use Rattle.std.specs.Io.KnownBytes.{Consumes, IsAtEnd, Keeps};
 
 use crate::blocks::BLOCK_BYTES;
-use crate::calls::SystemFile;
-use crate::system::Fault;
+use crate::system::{Fault, SystemFile};
 use daq_io::copy_front;
 use daq_types::NoMemory;
 use std::alloc::Global;

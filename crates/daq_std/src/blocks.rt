@@ -5,8 +5,7 @@ ghost use Rattle.daq_std.specs.Blocks.{bytes_given, opening_of};
 ghost use Rattle.daq_std.specs.BlockTables.{IsOpened, given_to, left_in};
 
 use crate::ahead::ReadAhead;
-use crate::calls::{OnDisk, SystemFile};
-use crate::system::Fault;
+use crate::system::{Fault, OnDisk, SystemFile};
 use daq_io::ByteRoom;
 use daq_types::NoMemory;
 use std::alloc::Global;

@@ -5,12 +5,12 @@
 mod again;
 mod ahead;
 mod blocks;
-mod calls;
 mod choices;
 mod faults;
 mod files;
 mod folder;
 pub mod laws;
+mod opening;
 mod standard;
 mod streams;
 mod system;

@@ -1,16 +1,23 @@
-//! What the system told where a call failed. A fault is made here alone: of an error that the system told, of what is no file,
-//! of a write that took no byte, of too many interruptions, and where no number is free. Each says so by its clauses.
-ghost use Rattle.std.specs.Prelude.{◌≡◌, ◌≢◌, ◌<◌, ◌+◌, ◌-◌, ◌^◌, ◌↔◌, IfErr, IfOk, IsErrAnd, IsOk, Err, Ok, OnErr, OnOk, length};
+//! The calls of the system on files and streams, one in each function. What they hand out says what the system did, and there is
+//! no other way to have it than to ask the system. A fault is made here alone: of an error that the system told, of what is no
+//! file, of a write that took no byte, of too many interruptions, and where no number is free.
+ghost use Rattle.std.specs.Prelude.{◌≡◌, ◌≢◌, ◌<◌, ◌+◌, ◌-◌, ◌^◌, ◌↔◌, IfErr, IfOk, IsErrAnd, IsOk, Err, Ok, OnErr, OnOk, length, string_bytes};
 ghost use Rattle.std.specs.Fs.{IsFile, file_type};
+ghost use Rattle.std.specs.Io.{ReadsAtMost, WritesAtMost};
+ghost use Rattle.std.specs.Io.KnownBytes.{Appends, ReadConsumes, WriteAppends};
 ghost use Rattle.std.specs.IoError.{error_kind};
 ghost use Rattle.daq_io.specs.Uses.{free_numbers, use_at};
 ghost use Rattle.daq_io.specs.declared.uses.Usage.TheVariants.{Free};
 ghost use Rattle.daq_std.specs.SystemCalls.{TellsKind, reason_of};
 
+use crate::again::read_once;
+use crate::opening::open_to_read;
 use daq_io::UseTable;
-use std::fs::Metadata;
-use std::io::{self, ErrorKind};
+use std::fs::{Metadata, OpenFile, OpenOptions};
+use std::io::{self, ErrorKind, Read, Write};
 use std::marker::Model;
+use std::rt;
+use std::snapshot::Snapshot;
 
 /// What a fault says of the call, and of the name that it was on.
 #[derive(Clone, Copy)]
@@ -55,21 +62,6 @@ fn fault_of(kind: ErrorKind) -> Fault
 }
 
 impl Fault {
-    /// The fault that this error of the system is.
-    pub fn of(error: &io::Error) -> Fault
-        ensures { TellsKind (error_kind error.now) result }
-    {
-        fault_of(error.kind())
-    }
-
-    /// The fault that a write took no byte, where there is one.
-    pub fn of_no_byte(_count: usize, _bytes: &[u8]) -> Fault
-        requires none { _count ≡ 0 }
-        requires some { 0 < length _bytes.now }
-    {
-        fault_of(ErrorKind::WriteZero)
-    }
-
     /// What it says.
     pub fn reason(&self) -> Reason
         ensures { result ≡ reason_of self.now }
@@ -78,19 +70,87 @@ impl Fault {
     }
 }
 
+/// The system removed the file under this path, or told that there is none.
+#[derive(Drop)]
+pub struct Removed {
+    path: Snapshot<String>,
+}
+
+impl Model for Removed {
+    ghost use Rattle.std.specs.Prelude.{List, string_bytes, ℕ};
+
+    ghost Value = { List ℕ };
+
+    ghost view = { λ r. string_bytes r.path.value };
+}
+
+/// The system put the names of the folder under a path on the disk, or told that it cannot do so for a folder; and before that
+/// the file that was opened under another.
+#[derive(Drop)]
+pub struct NameOnDisk {
+    folder: Snapshot<String>,
+    file: Snapshot<String>,
+}
+
+impl Model for NameOnDisk {
+    ghost use Rattle.std.specs.Prelude.{string_bytes};
+    ghost use Rattle.daq_std.specs.SystemCalls.{KeptName};
+
+    ghost Value = { KeptName };
+
+    ghost view = { λ n. record {
+      folder = string_bytes n.folder.value;
+      file = string_bytes n.file.value;
+    } };
+}
+
+/// A file of the system, which opened it so, under this path.
+#[derive(Drop)]
+pub struct SystemFile<F> {
+    file: F,
+    how: Snapshot<OpenOptions>,
+    path: Snapshot<String>,
+}
+
+impl<F> Model for SystemFile<F> {
+    ghost use Rattle.std.specs.Prelude.{string_bytes};
+    ghost use Rattle.daq_std.specs.SystemCalls.{OpenedFile};
+
+    ghost Value = { OpenedFile F };
+
+    ghost view = { λ f. record {
+      file = f.file;
+      opening = record { how = f.how.value; path = string_bytes f.path.value };
+    } };
+}
+
+/// A file that the system has put on the disk.
+#[derive(Drop)]
+pub struct OnDisk<F> {
+    file: SystemFile<F>,
+}
+
+impl<F> Model for OnDisk<F> {
+    ghost use Rattle.daq_std.specs.SystemCalls.{OpenedFile};
+
+    ghost Value = { OpenedFile F };
+
+    ghost view = { λ d. d.file };
+}
+
 /// What the system answered, where its error is a fault of that kind.
-pub fn told<T>(answer: io::Result<T>) -> Result<T, Fault>
+fn told<T>(answer: io::Result<T>) -> Result<T, Fault>
     ensures done { IfOk answer (λ value. result ≡ Ok value) }
     ensures fault { IfErr answer (λ error. IsErrAnd result (TellsKind (error_kind error))) }
 {
     match answer {
         Ok(value) => Ok(value),
-        Err(error) => Err(Fault::of(&error)),
+        Err(error) => Err(fault_of(error.kind())),
     }
 }
 
 /// What the system answered, where its error is a fault of that kind, but for one that is as good as done.
-pub fn told_unless(good: ErrorKind, answer: io::Result<()>) -> Result<(), Fault>
+fn told_unless(good: ErrorKind, answer: io::Result<()>) -> Result<(), Fault>
     ensures done { OnOk answer (IsOk result) }
     ensures good { IfErr answer (λ error. error_kind error ≡ good → IsOk result) }
     ensures fault { IfErr answer (λ error. error_kind error ≢ good → IsErrAnd result
@@ -102,13 +162,13 @@ pub fn told_unless(good: ErrorKind, answer: io::Result<()>) -> Result<(), Fault>
             if error.kind() == good {
                 return Ok(());
             }
-            Err(Fault::of(&error))
+            Err(fault_of(error.kind()))
         }
     }
 }
 
 /// Refuses what is no file, such as a folder or a pipe.
-pub fn regular(found: io::Result<Metadata>) -> Result<(), Fault>
+fn regular(found: io::Result<Metadata>) -> Result<(), Fault>
     ensures file { IfOk found (λ metadata. IsOk result ↔ IsFile (file_type metadata)) }
     ensures fault { IfErr found (λ error. IsErrAnd result (TellsKind (error_kind error))) }
 {
@@ -116,6 +176,119 @@ pub fn regular(found: io::Result<Metadata>) -> Result<(), Fault>
         return Ok(());
     }
     Err(fault_of(ErrorKind::InvalidInput))
+}
+
+/// Opens a file so.
+pub fn open_as<R: rt::Files>(
+    system: &R,
+    how: &OpenOptions,
+    path: &String,
+) -> Result<SystemFile<R::File>, Fault>
+    ensures { IfOk result (λ opened. opened.opening
+        ≡ record { how = how.now; path = string_bytes path.now }) }
+{
+    Ok(SystemFile {
+        file: told(how.open(system, path.as_str()))?,
+        how: Snapshot::of(how),
+        path: Snapshot::of(path),
+    })
+}
+
+/// Refuses what is no file under this path.
+pub fn look_at<R: rt::Files>(system: &R, path: &String) -> Result<(), Fault> {
+    regular(system.metadata(path.as_str()))
+}
+
+/// Removes the file. That there is none is as good.
+pub fn remove_file<R: rt::Files>(system: &R, path: &String) -> Result<Removed, Fault>
+    ensures { IfOk result (λ removed. removed ≡ string_bytes path.now) }
+{
+    told_unless(ErrorKind::NotFound, system.remove_file(path.as_str()))?;
+    Ok(Removed {
+        path: Snapshot::of(path),
+    })
+}
+
+/// Has the system put the names of a folder on the disk, behind a file. That it cannot do so for a folder is as good.
+pub fn sync_folder<R: rt::Files>(
+    system: &R,
+    path: &String,
+    file: OnDisk<R::File>,
+) -> Result<NameOnDisk, Fault>
+    ensures { IfOk result (λ kept. kept
+        ≡ record { folder = string_bytes path.now; file = file.opening.path }) }
+{
+    let folder = open_to_read(system, path)?;
+    told_unless(ErrorKind::InvalidInput, folder.file.sync_all())?;
+    Ok(NameOnDisk {
+        folder: Snapshot::of(path),
+        file: file.file.path,
+    })
+}
+
+/// Reads, by one call.
+pub fn read_from<R: Read>(reader: &mut R, into: &mut [u8]) -> Result<usize, Fault>
+    ensures within { ReadsAtMost result into.new }
+    ensures bytes { ReadConsumes (R.remaining reader.old) (R.remaining reader.new) result
+        into.new }
+{
+    told(reader.read(into))
+}
+
+/// Writes, by one call. That no byte is taken, where there is one, is a fault.
+pub fn write_to<W: Write>(writer: &mut W, bytes: &[u8]) -> Result<usize, Fault>
+    ensures within { WritesAtMost result bytes.now }
+    ensures some { IfOk result (λ count. 0 < length bytes.now → 0 < count) }
+    ensures bytes { WriteAppends (W.contents writer.old) (W.contents writer.new) result
+        bytes.now }
+{
+    match writer.write(bytes) {
+        Ok(count) => {
+            if count == 0 && !bytes.is_empty() {
+                return Err(fault_of(ErrorKind::WriteZero));
+            }
+            Ok(count)
+        }
+        Err(error) => Err(fault_of(error.kind())),
+    }
+}
+
+impl<F: Read> SystemFile<F> {
+    /// Reads from the file.
+    pub fn read(&mut self, into: &mut [u8]) -> Result<usize, Fault>
+        ensures within { ReadsAtMost result into.new }
+        ensures bytes { ReadConsumes (F.remaining self.old.file) (F.remaining self.new.file) result
+            into.new }
+        ensures opening { self.new.opening ≡ self.old.opening }
+    {
+        read_once(&mut self.file, into)
+    }
+}
+
+impl<F: Write> SystemFile<F> {
+    /// Writes all of the bytes to the file.
+    pub fn write_all(&mut self, bytes: &[u8]) -> Result<(), Fault>
+        ensures bytes { OnOk result (Appends (F.contents self.old.file) (F.contents self.new.file)
+            bytes.now) }
+        ensures opening { self.new.opening ≡ self.old.opening }
+    {
+        told(self.file.write_all(bytes))
+    }
+}
+
+impl<F: OpenFile + Drop> SystemFile<F> {
+    /// Refuses what is no file.
+    pub fn look(&self) -> Result<(), Fault> {
+        regular(self.file.metadata())
+    }
+
+    /// Has the system put all of the file on the disk. Where it does not, the file is let go.
+    pub fn sync(self) -> Result<OnDisk<F>, Fault>
+        ensures { IfOk result (λ synced. synced ≡ self) }
+    {
+        told(self.file.sync_all())?;
+        Ok(OnDisk { file: self })
+    }
 }
 
 /// How often in a row a signal has interrupted a call that is made again.

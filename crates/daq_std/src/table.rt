@@ -4,8 +4,7 @@ ghost use Rattle.std.specs.Io.KnownBytes.{Keeps, ReadConsumes};
 ghost use Rattle.daq_std.specs.BlockTables.{GrowsBlock, LeavesBlock, OpensBlock, UsesBlock, ahead_at, bytes_given_at, opening_at, is_broken_at};
 
 use crate::blocks::BlockFile;
-use crate::calls::{OnDisk, SystemFile};
-use crate::system::Fault;
+use crate::system::{Fault, OnDisk, SystemFile};
 use daq_types::NoMemory;
 use std::alloc::Global;
 use std::fs::OpenFile;
