@@ -3,19 +3,21 @@ use Rattle.std.specs.Prelude.{◌≡◌, ◌↔◌, ℕ, List, true}
 use Rattle.std.specs.Fs.{new_options, with_create_new, with_read, with_write}
 use Rattle.std.specs.declared.fs.OpenOptions.{OpenOptions}
 use Rattle.std.specs.declared.io.ErrorKind.{ErrorKind}
-use Rattle.std.specs.declared.io.ErrorKind.TheVariants.{AlreadyExists, NotFound}
+use Rattle.std.specs.declared.io.ErrorKind.TheVariants.{AlreadyExists, NotFound, Interrupted as interrupted_kind}
 use Rattle.daq_std.specs.declared.system.Fault.{Fault}
 use Rattle.daq_std.specs.declared.system.Reason.{Reason}
-use Rattle.daq_std.specs.declared.system.Reason.TheVariants.{Absent, Taken}
+use Rattle.daq_std.specs.declared.system.Reason.TheVariants.{Absent, Interrupted, Taken}
 
--- what a fault says of the name that a call was on
+-- what a fault says of the call, and of the name that it was on
 abbrev pub reason_of : Fault → Reason
 reason_of fault = fault.reason
 
--- A fault tells that the name is taken just where the system's error is of that kind, and so that it is absent.
+-- A fault tells that the name is taken just where the system's error is of that kind, and so that it is absent, and that a signal
+-- interrupted the call.
 pub record TellsKind (kind : ErrorKind) (fault : Fault) : Type 0 where
   pub taken : (reason_of fault ≡ Taken) ↔ (kind ≡ AlreadyExists)
   pub absent : (reason_of fault ≡ Absent) ↔ (kind ≡ NotFound)
+  pub interrupted : (reason_of fault ≡ Interrupted) ↔ (kind ≡ interrupted_kind)
 
 -- how a file is made: only where there is nothing of that name, to be read and written
 abbrev pub new_to_write : OpenOptions

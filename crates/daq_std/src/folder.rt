@@ -3,9 +3,8 @@ ghost use Rattle.daq_types.specs.Names.{is_file_byte};
 ghost use Rattle.daq_std.specs.Paths.{IsFolderPart, KeepsName, is_rooted, path_in};
 ghost use Rattle.daq_std.specs.SystemCalls.{new_to_write, to_read};
 
-use crate::system::{
-    Fault, NameOnDisk, OnDisk, Removed, SystemFile, make_file, open_file, remove_file, sync_folder,
-};
+use crate::opening::{make_file, open_file};
+use crate::system::{Fault, NameOnDisk, OnDisk, Removed, SystemFile, remove_file, sync_folder};
 use daq_types::{FileName, NoMemory};
 use std::alloc::Global;
 use std::marker::Model;

@@ -2,6 +2,7 @@
 //! what the system gives.
 #![tactic(auto)]
 
+mod again;
 mod ahead;
 mod blocks;
 mod choices;
@@ -9,6 +10,7 @@ mod faults;
 mod files;
 mod folder;
 pub mod laws;
+mod opening;
 mod standard;
 mod streams;
 mod system;

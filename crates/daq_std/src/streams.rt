@@ -1,8 +1,8 @@
 ghost use Rattle.std.specs.Prelude.{◌≡◌, None, IfOk};
 ghost use Rattle.std.specs.Io.Buffered.{reader_remaining};
 
+use crate::again::{read_once, write_once};
 use crate::faults::FaultCount;
-use crate::system::{read_once, write_once};
 use daq_io::{Failed, Sink, Source};
 use daq_types::NoMemory;
 use std::alloc::Global;

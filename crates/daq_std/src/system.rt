@@ -1,14 +1,17 @@
-//! The calls of the system on files, each in a function of its own. What they hand out says what the system did, and there
-//! is no other way to have it than to ask the system. A fault is made here alone, also where no number is free.
-ghost use Rattle.std.specs.Prelude.{◌≡◌, ◌≢◌, ◌<◌, ◌↔◌, IfErr, IfOk, IsErrAnd, IsOk, Ok, OnErr, OnOk, length, string_bytes};
+//! The calls of the system on files and streams, one in each function. What they hand out says what the system did, and there is
+//! no other way to have it than to ask the system. A fault is made here alone: of an error that the system told, of what is no
+//! file, of a write that took no byte, of too many interruptions, and where no number is free.
+ghost use Rattle.std.specs.Prelude.{◌≡◌, ◌≢◌, ◌<◌, ◌+◌, ◌-◌, ◌^◌, ◌↔◌, IfErr, IfOk, IsErrAnd, IsOk, Err, Ok, OnErr, OnOk, length, string_bytes};
 ghost use Rattle.std.specs.Fs.{IsFile, file_type};
 ghost use Rattle.std.specs.Io.{ReadsAtMost, WritesAtMost};
 ghost use Rattle.std.specs.Io.KnownBytes.{Appends, ReadConsumes, WriteAppends};
 ghost use Rattle.std.specs.IoError.{error_kind};
 ghost use Rattle.daq_io.specs.Uses.{free_numbers, use_at};
 ghost use Rattle.daq_io.specs.declared.uses.Usage.TheVariants.{Free};
-ghost use Rattle.daq_std.specs.SystemCalls.{TellsKind, new_to_write, reason_of, to_read};
+ghost use Rattle.daq_std.specs.SystemCalls.{TellsKind, reason_of};
 
+use crate::again::read_once;
+use crate::opening::open_to_read;
 use daq_io::UseTable;
 use std::fs::{Metadata, OpenFile, OpenOptions};
 use std::io::{self, ErrorKind, Read, Write};
@@ -16,14 +19,16 @@ use std::marker::Model;
 use std::rt;
 use std::snapshot::Snapshot;
 
-/// What a fault says of the name that a call was on.
+/// What a fault says of the call, and of the name that it was on.
 #[derive(Clone, Copy)]
 pub enum Reason {
     /// There is something of that name.
     Taken,
     /// There is nothing of that name.
     Absent,
-    /// Neither: the system told another error, or no number was free, or what bears the name is no file.
+    /// A signal interrupted the call.
+    Interrupted,
+    /// None of these: the system told another error, or no number was free, or what bears the name is no file.
     Other,
 }
 
@@ -33,23 +38,16 @@ pub struct Fault {
     reason: Reason,
 }
 
-impl Fault {
-    /// What it says of the name.
-    pub fn reason(&self) -> Reason
-        ensures { result ≡ reason_of self.now }
-    {
-        self.reason
-    }
-}
-
-/// What an error of this kind says of the name.
+/// What an error of this kind says.
 fn reason_for(kind: ErrorKind) -> Reason
     ensures taken { (result ≡ Reason.Taken) ↔ (kind ≡ ErrorKind.AlreadyExists) }
     ensures absent { (result ≡ Reason.Absent) ↔ (kind ≡ ErrorKind.NotFound) }
+    ensures interrupted { (result ≡ Reason.Interrupted) ↔ (kind ≡ ErrorKind.Interrupted) }
 {
     match kind {
         ErrorKind::AlreadyExists => Reason::Taken,
         ErrorKind::NotFound => Reason::Absent,
+        ErrorKind::Interrupted => Reason::Interrupted,
         _ => Reason::Other,
     }
 }
@@ -60,6 +58,15 @@ fn fault_of(kind: ErrorKind) -> Fault
 {
     Fault {
         reason: reason_for(kind),
+    }
+}
+
+impl Fault {
+    /// What it says.
+    pub fn reason(&self) -> Reason
+        ensures { result ≡ reason_of self.now }
+    {
+        self.reason
     }
 }
 
@@ -172,7 +179,7 @@ fn regular(found: io::Result<Metadata>) -> Result<(), Fault>
 }
 
 /// Opens a file so.
-fn open_as<R: rt::Files>(
+pub fn open_as<R: rt::Files>(
     system: &R,
     how: &OpenOptions,
     path: &String,
@@ -187,36 +194,9 @@ fn open_as<R: rt::Files>(
     })
 }
 
-/// Makes a file, where there is nothing of that name.
-pub fn make_file<R: rt::Files>(system: &R, path: &String) -> Result<SystemFile<R::File>, Fault>
-    ensures { IfOk result (λ made. made.opening
-        ≡ record { how = new_to_write; path = string_bytes path.now }) }
-{
-    let mut how = OpenOptions::new();
-    how.read(true).write(true).create_new(true);
-    open_as(system, &how, path)
-}
-
-/// Opens what is there, to read it.
-fn open_to_read<R: rt::Files>(system: &R, path: &String) -> Result<SystemFile<R::File>, Fault>
-    ensures { IfOk result (λ opened. opened.opening
-        ≡ record { how = to_read; path = string_bytes path.now }) }
-{
-    let mut how = OpenOptions::new();
-    how.read(true);
-    open_as(system, &how, path)
-}
-
-/// Opens the file that is there, to read it. What is no file is not opened, since the system may wait for the other end of
-/// a pipe; and it is looked at again once it is open.
-pub fn open_file<R: rt::Files>(system: &R, path: &String) -> Result<SystemFile<R::File>, Fault>
-    ensures { IfOk result (λ opened. opened.opening
-        ≡ record { how = to_read; path = string_bytes path.now }) }
-{
-    regular(system.metadata(path.as_str()))?;
-    let opened = open_to_read(system, path)?;
-    regular(opened.file.metadata())?;
-    Ok(opened)
+/// Refuses what is no file under this path.
+pub fn look_at<R: rt::Files>(system: &R, path: &String) -> Result<(), Fault> {
+    regular(system.metadata(path.as_str()))
 }
 
 /// Removes the file. That there is none is as good.
@@ -246,48 +226,31 @@ pub fn sync_folder<R: rt::Files>(
     })
 }
 
-/// Reads once, and again as often as a signal interrupts that.
-pub fn read_once<R: Read>(reader: &mut R, into: &mut [u8]) -> Result<usize, Fault>
+/// Reads, by one call.
+pub fn read_from<R: Read>(reader: &mut R, into: &mut [u8]) -> Result<usize, Fault>
     ensures within { ReadsAtMost result into.new }
     ensures bytes { ReadConsumes (R.remaining reader.old) (R.remaining reader.new) result
         into.new }
 {
-    for _ in 0..u64::MAX {
-        match reader.read(into) {
-            Ok(count) => return Ok(count),
-            Err(error) => {
-                if error.kind() != ErrorKind::Interrupted {
-                    return Err(fault_of(error.kind()));
-                }
-            }
-        }
-    }
-    Err(fault_of(ErrorKind::Interrupted))
+    told(reader.read(into))
 }
 
-/// Writes once, and again as often as a signal interrupts that. That no byte is taken, where there is one, is a fault.
-pub fn write_once<W: Write>(writer: &mut W, bytes: &[u8]) -> Result<usize, Fault>
+/// Writes, by one call. That no byte is taken, where there is one, is a fault.
+pub fn write_to<W: Write>(writer: &mut W, bytes: &[u8]) -> Result<usize, Fault>
     ensures within { WritesAtMost result bytes.now }
     ensures some { IfOk result (λ count. 0 < length bytes.now → 0 < count) }
     ensures bytes { WriteAppends (W.contents writer.old) (W.contents writer.new) result
         bytes.now }
 {
-    for _ in 0..u64::MAX {
-        match writer.write(bytes) {
-            Ok(count) => {
-                if count == 0 && !bytes.is_empty() {
-                    return Err(fault_of(ErrorKind::WriteZero));
-                }
-                return Ok(count);
+    match writer.write(bytes) {
+        Ok(count) => {
+            if count == 0 && !bytes.is_empty() {
+                return Err(fault_of(ErrorKind::WriteZero));
             }
-            Err(error) => {
-                if error.kind() != ErrorKind::Interrupted {
-                    return Err(fault_of(error.kind()));
-                }
-            }
+            Ok(count)
         }
+        Err(error) => Err(fault_of(error.kind())),
     }
-    Err(fault_of(ErrorKind::Interrupted))
 }
 
 impl<F: Read> SystemFile<F> {
@@ -314,12 +277,62 @@ impl<F: Write> SystemFile<F> {
 }
 
 impl<F: OpenFile + Drop> SystemFile<F> {
+    /// Refuses what is no file.
+    pub fn look(&self) -> Result<(), Fault> {
+        regular(self.file.metadata())
+    }
+
     /// Has the system put all of the file on the disk. Where it does not, the file is let go.
     pub fn sync(self) -> Result<OnDisk<F>, Fault>
         ensures { IfOk result (λ synced. synced ≡ self) }
     {
         told(self.file.sync_all())?;
         Ok(OnDisk { file: self })
+    }
+}
+
+/// How often in a row a signal has interrupted a call that is made again.
+#[derive(Drop)]
+pub struct Interruptions {
+    count: u64,
+}
+
+impl Model for Interruptions {
+    ghost use Rattle.std.specs.Prelude.{ℕ};
+
+    ghost Value = { ℕ };
+
+    ghost view = { λ i. i.count };
+}
+
+impl Interruptions {
+    /// None.
+    pub fn new() -> Interruptions
+        ensures { result ≡ 0 }
+    {
+        Interruptions { count: 0 }
+    }
+
+    /// Counts this fault, where it is an interruption; the call is then to be made again. Any other is handed back. Behind
+    /// 2^64 - 1 interruptions one more is a fault that is none.
+    pub fn count(&mut self, fault: Fault) -> Result<(), Fault>
+        ensures counted { OnOk result (self.new ≡ self.old + 1) }
+        ensures interrupted { OnOk result (reason_of fault ≡ Reason.Interrupted) }
+        ensures again { reason_of fault ≡ Reason.Interrupted → self.old < 2 ^ 64 - 1 → IsOk result }
+        ensures other { reason_of fault ≢ Reason.Interrupted → result ≡ Err fault }
+        ensures no_longer { IfErr result (λ left. reason_of left ≢ Reason.Interrupted) }
+        ensures bounded { OnOk result (self.new < 2 ^ 64) }
+    {
+        match fault.reason {
+            Reason::Interrupted => match self.count.checked_add(1) {
+                Some(count) => {
+                    self.count = count;
+                    Ok(())
+                }
+                None => Err(fault_of(ErrorKind::TimedOut)),
+            },
+            Reason::Taken | Reason::Absent | Reason::Other => Err(fault),
+        }
     }
 }
 

@@ -1,4 +1,4 @@
-ghost use Rattle.std.specs.Prelude.{◌≡◌, ◌≤◌, ◌<◌, ◌+◌, ◌++◌, ◌∷◌, [], length, slice_get, IsSome, ◌↔◌, IfOk, IfNone, OnOk};
+ghost use Rattle.std.specs.Prelude.{◌≡◌, ◌≤◌, ◌<◌, ◌+◌, ◌++◌, ◌∷◌, [], length, max, slice_get, IsSome, ◌↔◌, IfOk, IfNone, OnOk};
 ghost use Rattle.std.specs.List.{IsItemAtMut};
 ghost use Rattle.std.specs.Borrow.{sem};
 ghost use Rattle.std.specs.Option.{option_copied, option_to_list};
@@ -7,6 +7,9 @@ use crate::replies::FileReply;
 use daq_types::NoMemory;
 use std::alloc::Global;
 use std::marker::Model;
+
+/// For how many entries room is taken, at least, where there is none.
+const LEAST_ROOM: usize = 4;
 
 /// What came of the lines of a script that called the database files, in order: each one's number, and its reply. Room
 /// for a line's entry is taken before the line's first call.
@@ -43,19 +46,27 @@ impl FileReplies {
     /// No entries, and room for so many.
     pub fn new(alloc: Global, room: u32) -> Result<FileReplies, NoMemory>
         ensures empty { IfOk result (λ made. made.replies ≡ []) }
-        ensures room { IfOk result (λ made. room ≤ made.room) }
+        ensures room { IfOk result (λ made. made.room ≡ room) }
     {
         let entries = Vec::with_capacity(alloc, room as usize)?;
         Ok(FileReplies { entries })
     }
 
-    /// Room for so many entries more.
+    /// Room for so many entries more. Where there is less, it is taken for so many, for as many as there are or for four,
+    /// whichever is the most.
     pub fn reserve(&mut self, more: u32) -> Result<(), NoMemory>
         ensures same { self.new.replies ≡ self.old.replies }
         ensures room { OnOk result (more ≤ self.new.room) }
         ensures kept { self.old.room ≤ self.new.room }
+        ensures bounded { self.new.room
+            ≤ max self.old.room (max more (max (length self.old.replies) 4)) }
     {
-        self.entries.reserve(more as usize)?;
+        let count = self.entries.len();
+        if more as usize <= self.entries.capacity() - count {
+            return Ok(());
+        }
+        self.entries
+            .reserve_exact(count.max(LEAST_ROOM).max(more as usize))?;
         Ok(())
     }
 
@@ -63,7 +74,7 @@ impl FileReplies {
     pub fn push(&mut self, line: u64, reply: FileReply)
         requires { 1 ≤ self.old.room }
         ensures noted { self.new.replies ≡ self.old.replies ++ (line, reply) ∷ [] }
-        ensures room { self.old.room ≤ self.new.room + 1 }
+        ensures room { self.new.room + 1 ≡ self.old.room }
     {
         self.entries.push_reserved((line, reply));
     }
@@ -72,7 +83,7 @@ impl FileReplies {
     pub fn pop(&mut self) -> Option<(u64, FileReply)>
         ensures last { self.old.replies ≡ self.new.replies ++ option_to_list result }
         ensures none { IfNone result (self.old.replies ≡ []) }
-        ensures room { self.old.room + length (option_to_list result) ≤ self.new.room }
+        ensures room { self.new.room ≡ self.old.room + length (option_to_list result) }
     {
         self.entries.pop()
     }

@@ -1,7 +1,10 @@
-ghost use Rattle.std.specs.Prelude.{◌≡◌, ◌≤◌, ◌↔◌, ◌∷◌, [], IfOk};
+ghost use Rattle.std.specs.Prelude.{◌≡◌, ◌≢◌, ◌≤◌, ◌↔◌, ◌∷◌, [], IfErr, IfOk, IsErr, None, OnErr, string_bytes};
+ghost use Rattle.std.specs.IoError.{error_kind};
 ghost use Rattle.std.specs.Process.{exit_status};
-ghost use Rattle.command_words.specs.CommandLine.{HasForm};
+ghost use Rattle.std.specs.Vec.Iter.{into_iter_steps};
+ghost use Rattle.command_words.specs.CommandLine.{HasForm, IsRunWords};
 ghost use Rattle.daq_io.specs.Uses.{free_numbers};
+ghost use Rattle.daq_std.specs.GivenWords.{IsBehindName};
 ghost use Rattle.midas_cli.specs.Outcomes.{status_of};
 
 use crate::causes::Cause;
@@ -13,8 +16,8 @@ use daq_std::{
 };
 use daq_types::{NoMemory, Words};
 use std::alloc::Global;
-use std::env;
-use std::io::{Stdin, Stdout};
+use std::env::{self, Args};
+use std::io::{self, ErrorKind, Stdin, Stdout};
 use std::process::ExitCode;
 use std::sync::Wait;
 use std::thread::Threads;
@@ -52,31 +55,69 @@ fn real_outside(rt: HostRuntime, taken: &StandardTaken) -> Result<RealOutside, N
     })
 }
 
-/// Calls the program with these words and these objects, and answers what that came to.
+/// The words that the program was called with, and what that came to.
+#[derive(Drop)]
+struct Called {
+    words: Words,
+    summary: Summary,
+}
+
+/// Calls the program with these words and these objects, and answers what that came to. More of it than the clauses have is
+/// what `midas` says of these words. It cannot be said here: nothing is told of the bytes of the real objects, so that all
+/// that `midas` says of what they held, and of what they have behind the call, holds of any bytes; and no contract can say that
+/// another function was called, so that a body which answers a cause that `midas` might have answered meets each clause too.
 fn call<R: Threads + Wait + Sync>(
     threads: &R,
     alloc: Global,
-    words: &Words,
+    words: Words,
     outside: RealOutside,
-) -> Summary
-    ensures status { result.status ≡ status_of result.cause }
-    ensures usage { (result.cause ≡ Cause.Usage) ↔ ¬ HasForm words.now }
+) -> Called
+    ensures words { result.words ≡ words }
+    ensures status { result.summary.status ≡ status_of result.summary.cause }
+    ensures usage { (result.summary.cause ≡ Cause.Usage) ↔ ¬ HasForm words }
+    ensures session { ¬ IsRunWords words → result.summary.runs ≡ None }
+    ensures file_replies { ¬ IsRunWords words → result.summary.file_replies.replies ≡ [] }
 {
-    let (outcome, _outside) = midas(threads, alloc, words, outside, &NoGate);
-    outcome.into_summary()
+    let (outcome, _outside) = midas(threads, alloc, &words, outside, &NoGate);
+    Called {
+        words,
+        summary: outcome.into_summary(),
+    }
 }
 
-/// Calls the program with the words of the command line and the real objects.
+/// Calls the program with the words that the system gave and the real objects. Where a word is no UTF-8 the program is called
+/// with none, so that the line has no form; where the system gave none for another reason, it is not called.
 fn call_given<R: Threads + Wait + Sync>(
     threads: &R,
     rt: HostRuntime,
     taken: &StandardTaken,
-) -> Result<Summary, NoMemory>
-    ensures { IfOk result (λ made. made.status ≡ status_of made.cause) }
+    given: io::Result<Args>,
+) -> Result<Called, NoMemory>
+    ensures words { IfOk given (λ args. IfOk result (λ made. IsBehindName into_iter_steps
+        string_bytes args made.words)) }
+    ensures no_text { IfErr given (λ error. error_kind error ≡ ErrorKind.InvalidData
+        → IfOk result (λ made. made.words ≡ [])) }
+    ensures none { IfErr given (λ error. error_kind error ≢ ErrorKind.InvalidData
+        → IsErr result) }
+    ensures status { IfOk result (λ made. made.summary.status
+        ≡ status_of made.summary.cause) }
+    ensures usage { IfOk result (λ made. (made.summary.cause ≡ Cause.Usage)
+        ↔ ¬ HasForm made.words) }
 {
-    let words = given_words(rt.alloc(), env::args(&rt))?;
+    let words = given_words(rt.alloc(), given)?;
     let outside = real_outside(rt, taken)?;
-    Ok(call(threads, rt.alloc(), &words, outside))
+    Ok(call(threads, rt.alloc(), words, outside))
+}
+
+/// The status with which the program ends: that of the cause, and that of want of memory where it was not called.
+fn exit_code(called: &Result<Called, NoMemory>) -> ExitCode
+    ensures called { IfOk called.now (λ made. exit_status result ≡ made.summary.status) }
+    ensures none { OnErr called.now (exit_status result ≡ status_of Cause.NoMemory) }
+{
+    match called {
+        Ok(made) => ExitCode::from(made.summary.status),
+        Err(NoMemory) => ExitCode::from(status(&Cause::NoMemory)),
+    }
 }
 
 /// The whole program: it gives the words of the command line and the real objects to `midas`, and its status is that of
@@ -88,8 +129,5 @@ pub fn run_program<R: Threads + Wait + Sync>(threads: &R, rt: HostRuntime) -> Ex
     let Some(taken) = StandardTaken::take(&rt) else {
         return ExitCode::from(status(&Cause::SinkFault));
     };
-    match call_given(threads, rt, &taken) {
-        Ok(summary) => ExitCode::from(summary.status),
-        Err(NoMemory) => ExitCode::from(status(&Cause::NoMemory)),
-    }
+    exit_code(&call_given(threads, rt, &taken, env::args(&rt)))
 }

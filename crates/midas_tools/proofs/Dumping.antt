@@ -8,6 +8,7 @@ use Rattle.std.proofs.KnownBytes.{prepend_known-nil}
 use Rattle.daq_types.specs.declared.events.Event.{Event}
 use Rattle.daq_model.specs.Events.{encoding, all_encoded}
 use Rattle.daq_model.specs.RunFile.{begin_record, end_record, IsFileEvent}
+use Rattle.daq_io.specs.Counts.{RoseBy}
 use Rattle.daq_io.specs.Streams.{AppendsPart}
 use Rattle.daq_io.specs.declared.faults.Failed.{Failed}
 use Rattle.event_header.specs.Headers.{event_of, fields_of}
@@ -15,7 +16,7 @@ use Rattle.event_header.specs.declared.head.Header.{Header}
 use Rattle.mid_format.specs.AtHand.{StandsWhole, event_at_front}
 use Rattle.mid_format.specs.Faults.{OfBytes, OfSource}
 use Rattle.mid_format.specs.HasRead.{IsStorable, IsBegunFile, IsReadSoFar, StandsBehind, HasRead, nothing_read}
-use Rattle.mid_format.specs.Parts.{CountedBy}
+use Rattle.mid_format.specs.Parts.{CountedBy, CountsReads}
 use Rattle.mid_format.specs.Opened.{ReadsOn, events_after, CountsNext}
 use Rattle.mid_format.proofs.ReadLaws.{has_read_none}
 use Rattle.mid_format.specs.declared.faults.MidFault.{MidFault}
@@ -459,6 +460,17 @@ end_counts ReadFault old new c = c
 end_counts (BadRecord at) old new c = c
 end_counts (TooLong at) old new c = c
 
+-- at a fault it did not fall
+fault_by_none : (f : MidFault) (old new : ℕ) → CountedBy f old new → RoseBy 0 old new
+fault_by_none (Truncated at) old new c = omega (arith, c)
+fault_by_none (NoBegin at) old new c = omega (arith, c)
+fault_by_none (NoEnd at) old new c = omega (arith, c)
+fault_by_none (AfterEnd at) old new c = omega (arith, c)
+fault_by_none (TooBig at size) old new c = omega (arith, c)
+fault_by_none ReadFault old new c = omega (arith, c)
+fault_by_none (BadRecord at) old new c = omega (arith, c)
+fault_by_none (TooLong at) old new c = omega (arith, c)
+
 end_hand : (f : MidFault) (at_hand : List ℕ) → OfSource f (at_hand ≡ []) → HandEnds (end_of (Some f)) at_hand
 end_hand (Truncated at) at_hand h = tt
 end_hand (NoBegin at) at_hand h = tt
@@ -472,11 +484,11 @@ end_hand (TooLong at) at_hand h = tt
 module _ (now new : Option (List ℕ)) (text : List ℕ) (result : ToolEnd) where
   pub counts_good : (old new_count : ℕ) → EndsText None now new text result → new_count ≡ old → ReadCounts result old new_count
   counts_good old new_count (inl e) same = subst (λ (r : ToolEnd). ReadCounts r old new_count) (sym e.0) same
-  counts_good old new_count (inr e) same = subst (λ (r : ToolEnd). ReadCounts r old new_count) (sym e.0) tt
+  counts_good old new_count (inr e) same = let none : RoseBy 0 old new_count = omega (arith, same) in subst (λ (r : ToolEnd). ReadCounts r old new_count) (sym e.0) none
 
   pub counts_fault : (f : MidFault) (old new_count : ℕ) → EndsText (Some f) now new text result → CountedBy f old new_count → ReadCounts result old new_count
   counts_fault f old new_count (inl e) c = subst (λ (r : ToolEnd). ReadCounts r old new_count) (sym e.0) (end_counts f old new_count c)
-  counts_fault f old new_count (inr e) c = subst (λ (r : ToolEnd). ReadCounts r old new_count) (sym e.0) tt
+  counts_fault f old new_count (inr e) c = subst (λ (r : ToolEnd). ReadCounts r old new_count) (sym e.0) (fault_by_none f old new_count c)
 
   pub hand_good : (at_hand : List ℕ) → EndsText None now new text result → HandEnds result at_hand
   hand_good at_hand (inl e) = subst (λ (r : ToolEnd). HandEnds r at_hand) (sym e.0) tt
@@ -506,6 +518,15 @@ pub counts_ok : (fault : Option MidFault) (old new : ℕ) (r : Result (Option (U
 counts_ok fault old new r x none c is =
     let d : CountsNext None old new (Ok x) = subst (λ (o : Option MidFault). CountsNext o old new (Ok x)) none (subst (λ (q : Result (Option (Unit {0})) MidFault). CountsNext fault old new q) is c) in
     d.done
+
+-- whatever the answer, the source's count did not fall
+answer_by_none : (r : Result (Option (Unit {0})) MidFault) (old new : ℕ) → CountsReads old new r → RoseBy 0 old new
+answer_by_none (Ok given) old new c = omega (arith, c.done)
+answer_by_none (Err f) old new c = fault_by_none f old new c.fault
+
+pub next_by_none : (fault : Option MidFault) (first old new : ℕ) (r : Result (Option (Unit {0})) MidFault) → CountsNext fault old new r → old ≡ first → RoseBy 0 first new
+next_by_none None first old new r c same = subst (λ (n : ℕ). RoseBy 0 n new) same (answer_by_none r old new c)
+next_by_none (Some f) first old new r c same = subst (λ (n : ℕ). RoseBy 0 n new) same (omega (arith, c))
 
 pub not_ended : (r : Result (Option (Unit {0})) MidFault) (one : Unit {0}) (last : Option Header) → r ≡ Ok (Some one) → IfOk r (λ given. IsNone given ↔ IsSome last) → last ≡ None
 not_ended r one last is e =

@@ -1,6 +1,6 @@
 -- What the end of a tool says of the counts of faults and of clashes.
 use Rattle.std.proofs.Common.{◌≡◌, ◌∙◌, ℕ, ◌≤◌, List, Option, inl, inr, sym, subst, arith}
-use Rattle.daq_io.specs.Counts.{Rose}
+use Rattle.daq_io.specs.Counts.{Rose, RoseBy}
 use Rattle.daq_io.specs.Seen.{Seen}
 use Rattle.mid_format.specs.declared.faults.MidFault.{MidFault}
 use Rattle.midas_tools.specs.Dumps.{DumpsTo, ReadCounts}
@@ -16,6 +16,13 @@ rose_later first old new rose later = omega (arith, rose, later)
 
 rose_from : (first old new : ℕ) → old ≡ first → Rose old new → Rose first new
 rose_from first old new same rose = subst (λ (n : ℕ). Rose n new) same rose
+
+-- a count that is as it was, or no less, rose by none or more
+pub stays_by_none : (old new : ℕ) → new ≡ old → RoseBy 0 old new
+stays_by_none old new same = omega (arith, same)
+
+later_by_none : (first old new : ℕ) → RoseBy 0 first old → old ≤ new → RoseBy 0 first new
+later_by_none first old new rose later = omega (arith, rose, later)
 
 -- The sink's count
 
@@ -64,27 +71,27 @@ module _ (first new : ℕ) where
   by_files : (end result : ToolEnd) → result ≡ end → FilesByEnd end first new → FilesByEnd result first new
   by_files end result is counts = subst (λ (e : ToolEnd). FilesByEnd e first new) (sym is) counts
 
-  printed_files : (text : List ℕ) (told_old told_new : Option (List ℕ)) (sink_old sink_new : ℕ) (end result : ToolEnd) → FilesByEnd end first new → Printed text told_old told_new sink_old sink_new end result → FilesByEnd result first new
-  printed_files text told_old told_new sink_old sink_new end result counts (inl whole) = by_files end result whole.0 counts
-  printed_files text told_old told_new sink_old sink_new end result counts (inr part) = by_files SinkFault result part.0 tt
+  printed_files : (text : List ℕ) (told_old told_new : Option (List ℕ)) (sink_old sink_new : ℕ) (end result : ToolEnd) → new ≡ first → (new ≡ first → FilesByEnd end first new) → Printed text told_old told_new sink_old sink_new end result → FilesByEnd result first new
+  printed_files text told_old told_new sink_old sink_new end result same counts (inl whole) = by_files end result whole.0 (counts same)
+  printed_files text told_old told_new sink_old sink_new end result same counts (inr part) = by_files SinkFault result part.0 (stays_by_none first new same)
 
   pub refused_files : (seen : Seen) (name : List ℕ) (clashes_old clashes_new : ℕ) (told_old told_new : Option (List ℕ)) (sink_old sink_new : ℕ) (refused : Refused) (result : ToolEnd)
       → RefusesFile seen name first new clashes_old clashes_new refused → SaysWhy refused told_old told_new sink_old sink_new result → FilesByEnd result first new
-  refused_files seen name clashes_old clashes_new told_old told_new sink_old sink_new NameCompressed result r s = printed_files _ told_old told_new sink_old sink_new (Input Compressed) result r.1 s
-  refused_files seen name clashes_old clashes_new told_old told_new sink_old sink_new NameMissing result r s = printed_files _ told_old told_new sink_old sink_new (Input Missing) result r.2 s
+  refused_files seen name clashes_old clashes_new told_old told_new sink_old sink_new NameCompressed result r s = printed_files _ told_old told_new sink_old sink_new (Input Compressed) result r.1 (λ same. same) s
+  refused_files seen name clashes_old clashes_new told_old told_new sink_old sink_new NameMissing result r s = printed_files _ told_old told_new sink_old sink_new (Input Missing) result r.2 (λ same. same) s
   refused_files seen name clashes_old clashes_new told_old told_new sink_old sink_new OpenFailed result r s = by_files FileFault result s.0 r.1
 
   module _ (old : ℕ) where
     module _ (page : List ℕ) (told_old told_new : Option (List ℕ)) (sink_old sink_new : ℕ) where
       finished_counts : (end result : ToolEnd) → old ≡ first → (new ≡ first → FilesByEnd end first new) → PrintsClosed page told_old told_new sink_old sink_new old new end result → FilesByEnd result first new
-      finished_counts end result same counts (inl printed) = printed_files page told_old told_new sink_old sink_new end result (counts (printed.1 ∙ same)) printed.0
+      finished_counts end result same counts (inl printed) = printed_files page told_old told_new sink_old sink_new end result (printed.1 ∙ same) counts printed.0
       finished_counts end result same counts (inr failed) = by_files FileFault result failed.0.0 (rose_from first old new same failed.1)
 
       pub finished_files : (end result : ToolEnd) → SourceByEnd end first old → FinishesFile page told_old told_new sink_old sink_new old new end result → FilesByEnd result first new
       finished_files Done result s f = finished_counts Done result s (λ same. same) f
       finished_files (Input fault) result s f = finished_counts (Input fault) result s (λ same. same) f
       finished_files FileFault result s f = by_files FileFault result f.0.0 (rose_later first old new s f.1)
-      finished_files SinkFault result s f = by_files SinkFault result f.0.0 tt
+      finished_files SinkFault result s f = by_files SinkFault result f.0.0 (later_by_none first old new (stays_by_none first old s) f.1)
       finished_files NoMemory result s f = by_files NoMemory result f.0.0 (subst (λ (n : ℕ). n ≤ new) s f.1)
 
     closed_counts : (end result : ToolEnd) → old ≡ first → (new ≡ first → FilesByEnd end first new) → ClosesWell old new end result → FilesByEnd result first new
@@ -95,7 +102,7 @@ module _ (first new : ℕ) where
     closed_files Done result s c = closed_counts Done result s (λ same. same) c
     closed_files (Input fault) result s c = closed_counts (Input fault) result s (λ same. same) c
     closed_files FileFault result s c = by_files FileFault result c.0 (rose_later first old new s c.1)
-    closed_files SinkFault result s c = by_files SinkFault result c.0 tt
+    closed_files SinkFault result s c = by_files SinkFault result c.0 (later_by_none first old new s c.1)
     closed_files NoMemory result s c = absurd s
 
 -- The count of clashes

@@ -3,7 +3,7 @@ use Rattle.std.specs.Prelude.{◌≡◌, ◌≢◌, ◌≤◌, ◌^◌, ℕ, fal
 use Rattle.std.specs.Io.KnownBytes.{Appends, Keeps}
 use Rattle.daq_types.specs.Names.{is_compressed}
 use Rattle.daq_types.specs.declared.events.Event.{Event}
-use Rattle.daq_io.specs.Counts.{Rose, RoseJustBy}
+use Rattle.daq_io.specs.Counts.{Rose, RoseBy, RoseJustBy}
 use Rattle.daq_io.specs.Seen.{Seen}
 use Rattle.daq_io.specs.Streams.{AppendsPart}
 use Rattle.daq_io.specs.declared.faults.Failed.{Failed}
@@ -187,7 +187,7 @@ PrintsOn first now progress told_first told_now page (Err failed) = PrintsSome f
 abbrev pub SourceHalts : Result (Unit {0}) Halt → (old new : ℕ) → Type 0
 SourceHalts (Ok done) old new = new ≡ old
 SourceHalts (Err (Bad fault)) old new = CountedBy fault old new
-SourceHalts (Err SinkFailed) old new = ⊤
+SourceHalts (Err SinkFailed) old new = RoseBy 0 old new
 
 abbrev pub HandHalts : Result (Unit {0}) Halt → (at_hand : List ℕ) → Type 0
 HandHalts (Ok done) at_hand = ⊤
@@ -204,7 +204,7 @@ abbrev pub ReadCounts : ToolEnd → (old new : ℕ) → Type 0
 ReadCounts Done old new = new ≡ old
 ReadCounts (Input fault) old new = new ≡ old
 ReadCounts FileFault old new = Rose old new
-ReadCounts SinkFault old new = ⊤
+ReadCounts SinkFault old new = RoseBy 0 old new
 ReadCounts NoMemory old new = ⊥
 
 -- the text with the lines of the end record and of the fault

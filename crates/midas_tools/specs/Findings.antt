@@ -2,7 +2,7 @@
 use Rattle.std.specs.Prelude.{◌≡◌, ◌≢◌, ◌≤◌, ℕ, false, List, [], ◌++◌, Option, Some, None, IsTrue, IsSome, IsNone, IfSome, ◌⊎◌, ⊤}
 use Rattle.std.specs.Io.KnownBytes.{Appends, Keeps}
 use Rattle.daq_types.specs.Names.{is_compressed}
-use Rattle.daq_io.specs.Counts.{Rose}
+use Rattle.daq_io.specs.Counts.{Rose, RoseBy}
 use Rattle.daq_io.specs.Seen.{Stored, Seen, Opens}
 use Rattle.daq_io.specs.Streams.{AppendsPart}
 use Rattle.daq_types.specs.declared.events.Event.{Event}
@@ -86,12 +86,12 @@ SinkByEnd SinkFault old new = Rose old new
 SinkByEnd NoMemory old new = new ≡ old
 
 -- the files' count: it rose exactly where a call on them failed, unless the sink failed or memory was wanting, which are
--- earlier causes: a close that fails behind one of these does not turn it
+-- earlier causes: a call that fails before or behind one of these does not turn it, and the count does not fall
 abbrev pub FilesByEnd : ToolEnd → (old new : ℕ) → Type 0
 FilesByEnd Done old new = new ≡ old
 FilesByEnd (Input fault) old new = new ≡ old
 FilesByEnd FileFault old new = Rose old new
-FilesByEnd SinkFault old new = ⊤
+FilesByEnd SinkFault old new = RoseBy 0 old new
 FilesByEnd NoMemory old new = old ≤ new
 
 -- a missing name is counted as a clash

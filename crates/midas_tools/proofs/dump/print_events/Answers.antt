@@ -1,14 +1,15 @@
-use Rattle.std.proofs.Common.{◌≡◌, ◌∙◌, Option, Some, None, Result, Ok, Err, refl, ap, subst, rules}
+use Rattle.std.proofs.Common.{◌≡◌, ◌∙◌, ℕ, Option, Some, None, Result, Ok, Err, refl, ap, sym, subst, rules}
 use Rattle.std.specs.Prelude.{is_some}
 use Rattle.std.proofs.lemmas.Result.{err_from_is_err_and}
 use Rattle.daq_types.specs.declared.events.Event.{Event}
+use Rattle.daq_io.specs.Counts.{RoseBy}
 use Rattle.event_header.specs.declared.head.Header.{Header}
 use Rattle.mid_format.specs.Opened.{fault_of}
 use Rattle.mid_format.specs.declared.faults.MidFault.{MidFault}
 use Rattle.midas_tools.specs.Areas.{AreEventLines, PassesLines}
 use Rattle.midas_tools.specs.Dumps.{new_begin}
 use Rattle.midas_tools.specs.Printing.{PassesText}
-use Rattle.midas_tools.proofs.Dumping.{Stepped, printing_none, stepped, begin_cut, one_more, one_cut, up_to_end, up_to_fault, counts_ok, not_ended, ended_at, event_again}
+use Rattle.midas_tools.proofs.Dumping.{Stepped, printing_none, stepped, begin_cut, one_more, one_cut, up_to_end, up_to_fault, counts_ok, next_by_none, not_ended, ended_at, event_again}
 use Rattle.midas_tools.proofs.dump.print_events.Goals as goal
 
 pub events-init : goal.events-init
@@ -21,6 +22,23 @@ returns-in_err-print_begin-clause-lists g c =
     c.next-given.result c.next-given.new.into.event c.in_err-print_begin.field-0.0 c.events.invariant.printing c.next-given.ensures.reads (c.is_some-begun.ensures ∙ ap (is_some {T = Header}) c.begin.ensures)
     (subst (λ (o : Option Header). PassesText (g.K.Sink.written c.events.out) (g.K.Sink.written c.print_begin.new.out) c.events.page c.print_begin.new.page (new_begin c.is_some-begun.result o) (Err c.in_err-print_begin.field-0.0))
     c.begin-in-events.ensures c.in_err-print_begin.ensures.passes))
+
+pub returns-in_err-print_begin-clause-source : goal.returns-in_err-print_begin-clause-source
+returns-in_err-print_begin-clause-source g c =
+    let p = err_from_is_err_and c.from_residual.result c.from_residual.ensures.1 in
+    rw (p.1, p.2) (next_by_none _ _ _ _ c.next-given.result c.next-given.ensures.counted c.events.invariant.source)
+
+pub returns-in_err-print_event-in-Ok-Some-clause-source : goal.returns-in_err-print_event-in-Ok-Some-clause-source
+returns-in_err-print_event-in-Ok-Some-clause-source g c =
+    let p = err_from_is_err_and c.from_residual-in_err-print_event-in-Ok-Some.result c.from_residual-in_err-print_event-in-Ok-Some.ensures.1 in
+    rw (p.1, p.2) (next_by_none _ _ _ _ c.next-given.result c.next-given.ensures.counted c.events.invariant.source)
+
+pub returns-in_err-print_at_hand-in-Ok-Some-clause-source : goal.returns-in_err-print_at_hand-in-Ok-Some-clause-source
+returns-in_err-print_at_hand-in-Ok-Some-clause-source g c =
+    let p = err_from_is_err_and c.from_residual-in_err-print_at_hand-in-Ok-Some.result c.from_residual-in_err-print_at_hand-in-Ok-Some.ensures.1 in
+    rw (p.1, p.2)
+    (subst (λ (n : ℕ). RoseBy 0 (g.S.Source.faults c.args.reader.now.source) n) (sym c.print_at_hand.ensures.source)
+    (next_by_none _ _ _ _ c.next-given.result c.next-given.ensures.counted c.events.invariant.source))
 
 pub returns-in_err-print_event-in-Ok-Some-clause-lists : goal.returns-in_err-print_event-in-Ok-Some-clause-lists
 returns-in_err-print_event-in-Ok-Some-clause-lists g c =
