@@ -22,7 +22,7 @@ const ANY: u16 = 0xFFFF;
 
 const DATA: [u8; 8] = [7; 8];
 
-fn header(serial_number: u32) -> Header {
+pub(crate) fn header(serial_number: u32) -> Header {
     Header {
         event_id: 1,
         trigger_mask: 1,
@@ -33,7 +33,7 @@ fn header(serial_number: u32) -> Header {
 }
 
 /// Shares a buffer that is as it opened.
-fn share(
+pub(crate) fn share(
     alloc: Global,
     size: u32,
     count: u32,
@@ -53,7 +53,7 @@ fn share(
 }
 
 /// Takes both passes of a buffer with two out of the list, number 0 first.
-fn two_passes(
+pub(crate) fn two_passes(
     _shared: &SharedBuffer<PlainBuffer>,
     passes: &mut BufferPasses<PlainBuffer>,
 ) -> (BufferPass<PlainBuffer>, BufferPass<PlainBuffer>)
@@ -120,7 +120,7 @@ fn send_in_two_threads<R: Threads + Wait + Sync>(
 }
 
 /// Ends the sharing between two passes, which are all there are.
-fn close_two(
+pub(crate) fn close_two(
     shared: SharedBuffer<PlainBuffer>,
     mut passes: BufferPasses<PlainBuffer>,
     first: BufferPass<PlainBuffer>,
