@@ -25,7 +25,7 @@ const ANY: u16 = 0xFFFF;
 
 const DATA: [u8; 8] = [7; 8];
 
-fn header(serial_number: u32) -> Header {
+pub(crate) fn header(serial_number: u32) -> Header {
     Header {
         event_id: 1,
         trigger_mask: 1,
@@ -44,7 +44,7 @@ fn send_of(header: &Header) -> calls::Send<'_> {
 }
 
 /// Shares a buffer that is as it opened.
-fn share(
+pub(crate) fn share(
     alloc: Global,
     size: u32,
     count: u32,
@@ -64,7 +64,7 @@ fn share(
 }
 
 /// Takes both passes of a buffer with two out of the list, number 0 first.
-fn two_passes(
+pub(crate) fn two_passes(
     _shared: &SharedBuffer<PlainBuffer>,
     passes: &mut BufferPasses<PlainBuffer>,
 ) -> (BufferPass<PlainBuffer>, BufferPass<PlainBuffer>)
@@ -132,7 +132,7 @@ fn send_in_two_threads<R: Threads + Wait + Sync>(
 }
 
 /// Ends the sharing between two passes, which are all there are.
-fn close_two(
+pub(crate) fn close_two(
     shared: SharedBuffer<PlainBuffer>,
     mut passes: BufferPasses<PlainBuffer>,
     first: BufferPass<PlainBuffer>,

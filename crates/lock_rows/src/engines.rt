@@ -9,7 +9,9 @@ ghost use Rattle.transition_lock.specs.SharedEngines.{engine_lock_of};
 use daq_types::{Name, NoMemory, StartOutcome, Transition};
 use run_states::Sequences;
 use std::alloc::Global;
+use std::process::Abort;
 use std::sync::Wait;
+use std::thread::{Threads, join};
 use transition_lock::{EngineClosed, EnginePass, EnginePasses, SharedEngine};
 use transitions::{
     Answer, Engine, Polled, Progress, RegisterRefusal, Reports, Sheet, Tallies, Tally,
@@ -60,6 +62,30 @@ fn bare_sheet(alloc: Global) -> Sheet
     }
 }
 
+/// Registers a client that takes part in starts: its number.
+fn register<R: Wait>(
+    shared: &SharedEngine,
+    rt: &R,
+    main: &mut EnginePass,
+    name: Name,
+) -> Result<u32, RegisterRefusal>
+    requires main { number_of main.old ≡ main_caller }
+    requires own { IsOf (engine_lock_of shared.now) main.old }
+    requires idle { held_by main.old ≡ None }
+    ensures own { IsOf (engine_lock_of shared.now) main.new }
+    ensures idle { held_by main.new ≡ None }
+    ensures number { number_of main.new ≡ number_of main.old }
+{
+    let sequences = Sequences {
+        start: Some(500),
+        stop: None,
+        pause: None,
+        resume: None,
+        start_abort: None,
+    };
+    shared.register(rt, main, name, sequences, false, false)
+}
+
 /// Registers a client that takes part in starts, and begins one: the client's number, and whether the start is begun.
 fn begin_start<R: Wait>(
     shared: &SharedEngine,
@@ -75,14 +101,7 @@ fn begin_start<R: Wait>(
     ensures idle { held_by main.new ≡ None }
     ensures number { number_of main.new ≡ number_of main.old }
 {
-    let sequences = Sequences {
-        start: Some(500),
-        stop: None,
-        pause: None,
-        resume: None,
-        start_abort: None,
-    };
-    let client = shared.register(rt, main, name, sequences, false, false);
+    let client = register(shared, rt, main, name);
     let begun = shared.begin(rt, main, Transition::Start, bare_sheet(alloc));
     (client, begun.is_ok())
 }
@@ -213,5 +232,180 @@ fn a_pass_meets_what_another_has_seen(rt: HostRuntime) {
     assert!(rt;
         taken == Ok((true, [true; 2])),
         "the start that was begun is answered by its client"
+    );
+}
+
+/// Polls for a client: whether it has its turn, and the pass that comes back.
+fn poll_by<R: Wait>(
+    shared: &SharedEngine,
+    rt: &R,
+    mut pass: EnginePass,
+    client: u32,
+) -> (bool, EnginePass)
+    requires own { IsOf (engine_lock_of shared.now) pass }
+    requires idle { held_by pass ≡ None }
+    ensures own { IsOf (engine_lock_of shared.now) result.1 }
+    ensures idle { held_by result.1 ≡ None }
+{
+    let has_turn = is_turn(&shared.poll(rt, &mut pass, client));
+    (has_turn, pass)
+}
+
+/// Answers for a client: whether the answer is taken.
+fn answer_by<R: Wait>(shared: &SharedEngine, rt: &R, mut pass: EnginePass, client: u32) -> bool
+    requires own { IsOf (engine_lock_of shared.now) pass }
+    requires idle { held_by pass ≡ None }
+{
+    shared
+        .answer(rt, &mut pass, client, Answer::Yes(Tally::Plain))
+        .is_ok()
+}
+
+/// How far the transition is, by a check of the main thread.
+fn progress<R: Wait>(
+    shared: &SharedEngine,
+    rt: &R,
+    main: &mut EnginePass,
+    alloc: Global,
+) -> Result<Progress, NoMemory>
+    requires main { number_of main.old ≡ main_caller }
+    requires own { IsOf (engine_lock_of shared.now) main.old }
+    requires idle { held_by main.old ≡ None }
+    ensures own { IsOf (engine_lock_of shared.now) main.new }
+    ensures idle { held_by main.new ≡ None }
+    ensures number { number_of main.new ≡ number_of main.old }
+{
+    let mut tallies = Tallies::new(alloc)?;
+    Ok(shared.check(rt, main, &mut tallies))
+}
+
+/// Two threads poll for the clients 0 and 1: whether each has its turn, and the passes that come back.
+fn poll_in_two_threads<R: Threads + Wait + Sync>(
+    shared: &SharedEngine,
+    rt: &R,
+    first: EnginePass,
+    second: EnginePass,
+) -> ([bool; 2], EnginePass, EnginePass)
+    requires own { IsOf (engine_lock_of shared.now) first × IsOf (engine_lock_of shared.now) second }
+    requires idle { (held_by first ≡ None) × (held_by second ≡ None) }
+    ensures own { IsOf (engine_lock_of shared.now) result.1 × IsOf (engine_lock_of shared.now) result.2 }
+    ensures idle { (held_by result.1 ≡ None) × (held_by result.2 ≡ None) }
+{
+    let ((has_first, first), (has_second, second)) = join(
+        rt,
+        move || poll_by(shared, rt, first, 0),
+        move || poll_by(shared, rt, second, 1),
+    );
+    ([has_first, has_second], first, second)
+}
+
+/// Two threads answer for the clients 0 and 1: whether each answer is taken.
+fn answer_in_two_threads<R: Threads + Wait + Sync>(
+    shared: &SharedEngine,
+    rt: &R,
+    first: EnginePass,
+    second: EnginePass,
+) -> [bool; 2]
+    requires own { IsOf (engine_lock_of shared.now) first × IsOf (engine_lock_of shared.now) second }
+    requires idle { (held_by first ≡ None) × (held_by second ≡ None) }
+{
+    let (first, second) = join(
+        rt,
+        move || answer_by(shared, rt, first, 0),
+        move || answer_by(shared, rt, second, 1),
+    );
+    [first, second]
+}
+
+/// Two clients of one sequence number in a start: whether each has its turn while neither has answered, how far the start
+/// is then, whether each answer is taken, and how far the start is behind them.
+type GroupSeen = ([bool; 2], Progress, [bool; 2], Progress);
+
+/// Lets both clients poll, and only then both answer, each pair in two threads.
+fn take_turns_at_once<R: Threads + Wait + Sync>(
+    shared: &SharedEngine,
+    rt: &R,
+    alloc: Global,
+    main: &mut EnginePass,
+    first: EnginePass,
+    second: EnginePass,
+) -> Result<GroupSeen, NoMemory>
+    requires main { number_of main.old ≡ main_caller }
+    requires own_main { IsOf (engine_lock_of shared.now) main.old }
+    requires idle_main { held_by main.old ≡ None }
+    requires own { IsOf (engine_lock_of shared.now) first × IsOf (engine_lock_of shared.now) second }
+    requires idle { (held_by first ≡ None) × (held_by second ≡ None) }
+{
+    let (turns, first, second) = poll_in_two_threads(shared, rt, first, second);
+    let between = progress(shared, rt, main, alloc)?;
+    let taken = answer_in_two_threads(shared, rt, first, second);
+    Ok((turns, between, taken, progress(shared, rt, main, alloc)?))
+}
+
+/// Takes the three passes of an engine out of the list: the main thread's, and the two others.
+fn three_passes(
+    _shared: &SharedEngine,
+    rt: &impl Abort,
+    passes: &mut EnginePasses,
+) -> (EnginePass, EnginePass, EnginePass)
+    requires own { ArePassesOf (engine_lock_of _shared.now) passes.old }
+    requires fresh { AreFresh passes.old }
+    requires numbers { numbers_of passes.old ≡ 0 ∷ 1 ∷ 2 ∷ [] }
+    ensures own { IsOf (engine_lock_of _shared.now) result.0 × IsOf (engine_lock_of _shared.now) result.1
+        × IsOf (engine_lock_of _shared.now) result.2 }
+    ensures idle { (held_by result.0 ≡ None) × (held_by result.1 ≡ None) × (held_by result.2 ≡ None) }
+    ensures main { number_of result.0 ≡ main_caller }
+{
+    let main = passes.take(0);
+    let Some(second) = passes.pop() else {
+        panic!(rt; "a pass")
+    };
+    let Some(first) = passes.pop() else {
+        panic!(rt; "a pass")
+    };
+    (main, first, second)
+}
+
+/// Registers two clients of one sequence number, begins a start, and lets both take their turn at once: whether each is
+/// registered and the start is begun, and what is then seen.
+fn start_two_at_once<R: Abort + Threads + Wait + Sync>(
+    rt: &R,
+    alloc: Global,
+    names: [Name; 2],
+) -> Result<
+    (
+        Result<u32, RegisterRefusal>,
+        (Result<u32, RegisterRefusal>, bool),
+        GroupSeen,
+    ),
+    NoMemory,
+> {
+    let engine = Engine::new(alloc)?;
+    let (shared, mut passes) = SharedEngine::new(alloc, engine, 3)?;
+    let (mut main, first, second) = three_passes(&shared, rt, &mut passes);
+    let client = register(&shared, rt, &mut main, names[0]);
+    let begun = begin_start(&shared, rt, &mut main, alloc, names[1]);
+    let seen = take_turns_at_once(&shared, rt, alloc, &mut main, first, second)?;
+    Ok((client, begun, seen))
+}
+
+#[test]
+fn two_clients_have_their_turn_at_once(rt: HostRuntime) {
+    let names = [
+        Name::new(b"FE1").expect(&rt, "a name"),
+        Name::new(b"FE2").expect(&rt, "a name"),
+    ];
+    let done = Progress::Done {
+        outcome: StartOutcome::Completed,
+    };
+    let started = start_two_at_once(&rt, rt.alloc(), names);
+    assert!(rt;
+        started
+            == Ok((
+                Ok(0),
+                (Ok(1), true),
+                ([true; 2], Progress::Going, [true; 2], done)
+            )),
+        "both have their turn before either answers, both answers are taken, and the start is done"
     );
 }

@@ -8,4 +8,6 @@ mod databases;
 #[cfg(test)]
 mod engines;
 #[cfg(test)]
+mod refused;
+#[cfg(test)]
 mod turns;
