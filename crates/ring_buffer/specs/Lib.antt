@@ -3,6 +3,7 @@ pub mod RingHolds
 pub mod Stored
 pub mod RingViews
 pub mod Walks
+pub mod Sends
 pub mod Reads
 pub mod LifeReads
 pub mod ReadSamples

@@ -1,10 +1,10 @@
-ghost use Rattle.std.specs.Prelude.{◌≡◌, ◌≤◌, ◌+◌, ◌^◌, ℕ, length, drop, sum_by, IfOk, IfErr, OnOk, OnErr, Ok, Err};
+ghost use Rattle.std.specs.Prelude.{◌≡◌, ◌≤◌, ◌+◌, ◌^◌, ℕ, length, IfOk, IfErr, OnOk, OnErr, Ok, Err};
 ghost use Rattle.daq_model.specs.Events.{slot_size, event_limit};
 ghost use Rattle.event_header.specs.Headers.{event_of};
-ghost use Rattle.buffer_core.specs.declared.entry.BufferEntry.TheVariants.{Send};
-ghost use Rattle.buffer_core.specs.Window.{opening, accepted_of, slot_of_sent, IsWindow};
-ghost use Rattle.buffer_core.specs.Calls.{send_reply, after_send, gone_of};
+ghost use Rattle.buffer_core.specs.Window.{opening, accepted_of, IsWindow};
+ghost use Rattle.buffer_core.specs.Calls.{after_send};
 ghost use Rattle.ring_buffer.specs.LifeReads.{ReadsFew};
+ghost use Rattle.ring_buffer.specs.Sends.{send_entry, reply_to_sent, gone_for, level_left};
 
 use crate::search::find_way;
 use crate::slot::{FRONT, front_bytes_of};
@@ -82,14 +82,13 @@ impl RingBuffer {
     /// Where the kept events begin once there is room for this one, or why it is not taken.
     fn way_for(&mut self, header: &Header, body: &[u8]) -> Result<Position, SendRefusal>
         ensures window { self.new.window ≡ self.old.window }
-        ensures taken { OnOk result (send_reply self.old.window header.now.data_size
-            (event_of header.now body.now) ≡ Ok (accepted_of self.old.window)) }
-        ensures refused { IfErr result (λ refusal. send_reply self.old.window header.now.data_size
-            (event_of header.now body.now) ≡ Err refusal) }
+        ensures taken { OnOk result (reply_to_sent self.old.window header.now body.now
+            ≡ Ok (accepted_of self.old.window)) }
+        ensures refused { IfErr result (λ refusal. reply_to_sent self.old.window header.now body.now
+            ≡ Err refusal) }
         ensures place { IfOk result (λ way. way.place ≡ self.old.window.first
-            + gone_of self.old.window (event_of header.now body.now)) }
-        ensures level { IfOk result (λ way. way.off + sum_by slot_of_sent
-            (drop (gone_of self.old.window (event_of header.now body.now)) self.old.window.kept)
+            + gone_for self.old.window header.now body.now) }
+        ensures level { IfOk result (λ way. way.off + level_left self.old.window header.now body.now
             ≡ self.old.window.total) }
         ensures stated { OnOk result (header.now.data_size ≡ length body.now) }
         ensures small { OnOk result (length body.now ≤ event_limit) }
@@ -98,9 +97,9 @@ impl RingBuffer {
         ensures spent { OnOk result (self.old.window.total
             + slot_size (event_of header.now body.now) ≤ 2 ^ 62) }
         ensures reads { (n : ℕ) → OnOk result (ReadsFew self.old self.new
-            (Send header.now.data_size (event_of header.now body.now) (Ok n))) }
+            (send_entry header.now body.now (Ok n))) }
         ensures refused_reads { IfErr result (λ refusal. ReadsFew self.old self.new
-            (Send header.now.data_size (event_of header.now body.now) (Err refusal))) }
+            (send_entry header.now body.now (Err refusal))) }
     {
         let slot = slot_for(header, body, self.ring.size(), self.total)?;
         let from = Position {
@@ -120,10 +119,9 @@ impl RingBuffer {
 
     /// Drops the events in front of this position and takes this one, of the run with this start number.
     fn admit(&mut self, way: Position, start: u32, header: &Header, body: &[u8])
-        requires place { way.place ≡ self.old.window.first + gone_of self.old.window
-            (event_of header.now body.now) }
-        requires level { way.off + sum_by slot_of_sent (drop
-            (gone_of self.old.window (event_of header.now body.now)) self.old.window.kept)
+        requires place { way.place ≡ self.old.window.first
+            + gone_for self.old.window header.now body.now }
+        requires level { way.off + level_left self.old.window header.now body.now
             ≡ self.old.window.total }
         requires stated { header.now.data_size ≡ length body.now }
         requires small { length body.now ≤ event_limit }
@@ -154,16 +152,14 @@ impl RingBuffer {
         header: &Header,
         body: &[u8],
     ) -> Result<u64, SendRefusal>
-        requires window { IsWindow self.old.window → (n : ℕ) → send_reply self.old.window
-            header.now.data_size (event_of header.now body.now) ≡ Ok n
-            → IsWindow (after_send self.old.window start (event_of header.now body.now)) }
-        ensures reply { result ≡ send_reply self.old.window header.now.data_size
-            (event_of header.now body.now) }
+        requires window { IsWindow self.old.window → (n : ℕ) →
+            reply_to_sent self.old.window header.now body.now ≡ Ok n →
+            IsWindow (after_send self.old.window start (event_of header.now body.now)) }
+        ensures reply { result ≡ reply_to_sent self.old.window header.now body.now }
         ensures ok { OnOk result (self.new.window ≡ after_send self.old.window start
             (event_of header.now body.now)) }
         ensures err { OnErr result (self.new.window ≡ self.old.window) }
-        ensures reads { ReadsFew self.old self.new (Send header.now.data_size
-            (event_of header.now body.now) result) }
+        ensures reads { ReadsFew self.old self.new (send_entry header.now body.now result) }
     {
         let place = self.count;
         let way = self.way_for(header, body)?;

@@ -166,11 +166,10 @@ impl Ring {
     /// counts one read of so many bytes.
     pub fn get_data(&mut self, off: u64, header: &Header, into: &mut EventBuf)
         requires fits { header.now.data_size ≤ length self.old.bytes }
-        requires room { header.now.data_size ≤ into.old.room }
-        ensures event { into.new ≡ record into.old {
-          event = event_of header.now
-              (bytes_at self.old.bytes off header.now.data_size);
-        } }
+        requires enough { header.now.data_size ≤ into.old.room }
+        ensures event { into.new.event ≡ event_of header.now
+            (bytes_at self.old.bytes off header.now.data_size) }
+        ensures room { into.new.room ≡ into.old.room }
         ensures same { self.new.bytes ≡ self.old.bytes }
         ensures reads { self.new.reads ≡ (self.old.reads + 1) % 2 ^ 64 }
         ensures bytes_read { self.new.bytes_read

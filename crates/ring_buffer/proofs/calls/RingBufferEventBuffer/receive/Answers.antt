@@ -1,7 +1,6 @@
 use Rattle.std.proofs.Common.{◌≡◌, ◌+◌, ◌≤◌, ℕ, List, length, refl, ap, sym, subst, ◌∙◌, arith}
 use Rattle.daq_model.specs.Events.{slot_of_length}
 use Rattle.event_header.specs.Headers.{event_of}
-use Rattle.event_header.specs.Held.{HeldEvent}
 use Rattle.ring_bytes.specs.Rings.{bytes_at}
 use Rattle.buffer_core.specs.declared.entry.BufferEntry.TheVariants.{Receive}
 use Rattle.buffer_core.specs.declared.replies.Received.TheVariants.{Got, Empty}
@@ -118,7 +117,7 @@ returns-clause-event c =
     let s : Sent = ring_event_at c.self.inside.ring.bytes c.in-Some-find_wanted.found.at.off in
     let got : event_after c.args.into.now.event (window_of c.self.inside) (Got c.in-Some-find_wanted.found.at.place c.in-Some-find_wanted.found.front.start) ≡ s.event =
     event_got (window_of c.self.inside) r.pointer.client c.in-Some-find_wanted.found.at.place c.in-Some-find_wanted.found.front.start s c.args.into.now.event (v.found r.pointer.client (client_is c.self.inside c.args.client r.pointer r.lives)) in
-    ap (λ (h : HeldEvent). h.event) c.get_data.ensures.event
+    c.get_data.ensures.event
     ∙ (ap (λ (bytes : List ℕ). event_of c.in-Some-find_wanted.found.front.header (bytes_at bytes (c.in-Some-find_wanted.found.at.off + 24) c.in-Some-find_wanted.found.front.header.data_size)) c.find_wanted.ensures.same
     ∙ (v.whole ∙ subst (λ (w : Window). s.event ≡ event_after c.args.into.now.event w (Got c.in-Some-find_wanted.found.at.place c.in-Some-find_wanted.found.front.start)) (window_seen c.self.inside c.args.self.now c.self.view_is) (sym got)))
 
