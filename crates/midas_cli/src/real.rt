@@ -1,8 +1,8 @@
-ghost use Rattle.std.specs.Prelude.{◌≡◌, ◌≢◌, ◌≤◌, ◌↔◌, ◌∷◌, [], IfErr, IfOk, IsErr, None, OnErr, string_bytes};
+ghost use Rattle.std.specs.Prelude.{◌≡◌, ◌≢◌, ◌≤◌, ◌↔◌, ◌∷◌, [], IfErr, IfOk, IsErr, OnErr, string_bytes};
 ghost use Rattle.std.specs.IoError.{error_kind};
 ghost use Rattle.std.specs.Process.{exit_status};
 ghost use Rattle.std.specs.Vec.Iter.{into_iter_steps};
-ghost use Rattle.command_words.specs.CommandLine.{HasForm, IsRunWords};
+ghost use Rattle.command_words.specs.CommandLine.{HasForm};
 ghost use Rattle.daq_io.specs.Uses.{free_numbers};
 ghost use Rattle.daq_std.specs.GivenWords.{IsBehindName};
 ghost use Rattle.midas_cli.specs.Outcomes.{status_of};
@@ -75,8 +75,6 @@ fn call<R: Threads + Wait + Sync>(
     ensures words { result.words ≡ words }
     ensures status { result.summary.status ≡ status_of result.summary.cause }
     ensures usage { (result.summary.cause ≡ Cause.Usage) ↔ ¬ HasForm words }
-    ensures session { ¬ IsRunWords words → result.summary.runs ≡ None }
-    ensures file_replies { ¬ IsRunWords words → result.summary.file_replies.replies ≡ [] }
 {
     let (outcome, _outside) = midas(threads, alloc, &words, outside, &NoGate);
     Called {
