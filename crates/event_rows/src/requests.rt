@@ -1,5 +1,8 @@
 //! Requests, and the events that they match.
-use request_match::{ANY, matches};
+use request_match::matches;
+
+/// An event id or a trigger mask in a request that every event matches.
+const ANY: u16 = 0xFFFF;
 
 /// The id and the mask of a request, those of an event, and whether they match.
 const ROWS: &[(u16, u16, u16, u16, bool)] = &[
