@@ -32,6 +32,7 @@ struct AddOne;
 
 impl Call<Counter> for AddOne {
     type Reply = u64;
+
     type Into = ();
 
     ghost entry = { λ _ _ found _. found };
