@@ -6,7 +6,6 @@ use Rattle.odb_script.specs.declared.commands.RunCommand.{RunCommand}
 use Rattle.odb_script.specs.declared.commands.RunCommand.TheVariants.{Events, Start, Stop, Pause, Resume}
 use Rattle.odb_script.specs.declared.commands.Declaration.{Declaration}
 use Rattle.odb_script.specs.declared.commands.DatabaseCommand.{DatabaseCommand}
-use Rattle.odb_script.specs.declared.refusals.LineRefusal.{LineRefusal}
 use Rattle.odb_script.specs.declared.refusals.LineRefusal.TheVariants.{BadCommand as no_command}
 use Rattle.odb_script.specs.Forms.{Read}
 use Rattle.session_replies.specs.declared.replies.Reply.{Reply}

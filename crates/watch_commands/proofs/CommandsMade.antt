@@ -1,5 +1,5 @@
 -- What a command for watches or dumps tells by its answer.
-use Rattle.std.proofs.Common.{◌≡◌, ◌≢◌, ℕ, ◌<◌, true, IsTrue, List, [], ◌∷◌, length, Option, Some, None, Result, Ok, Err, refl, ap, sym, subst, ◌∙◌, inl, inr}
+use Rattle.std.proofs.Common.{◌≡◌, ◌≢◌, ℕ, ◌<◌, IsTrue, List, [], ◌∷◌, length, Option, Some, None, Result, Ok, Err, refl, ap, sym, subst, ◌∙◌, inl, inr}
 use Rattle.std.specs.Prelude.{IsSome}
 use Rattle.daq_types.specs.Names.{IsFileName}
 use Rattle.daq_io.specs.Seen.{Seen, Stored, Same, Stores}

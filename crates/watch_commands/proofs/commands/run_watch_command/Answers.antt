@@ -1,6 +1,5 @@
-use Rattle.std.proofs.Common.{refl}
 use Rattle.watch_commands.specs.WatchCalls.{SavesFile}
-use Rattle.watch_commands.proofs.WatchMade.{ends_so, port_stays}
+use Rattle.watch_commands.proofs.WatchMade.{port_stays}
 use Rattle.watch_commands.proofs.DumpMade.{named_as}
 use Rattle.watch_commands.proofs.commands.run_watch_command.Goals as goal
 
