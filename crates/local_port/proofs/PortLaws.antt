@@ -17,9 +17,9 @@ ported_push start w w' h h' by e legal replayed reply after pushed =
       after ∙ (ap (λ (x : Window). window_after x e) replayed ∙ (sym (replay-push start h by e) ∙ ap (replay start) (sym pushed))),
     )
 
-pub ported_next : (p : Ported) (w' : Window) (h' : List (ℕ × BufferEntry)) (entries bytes : ℕ) (e : BufferEntry) → IsPorted p → IsReply p.window e → w' ≡ window_after p.window e
+pub ported_next : (p : Ported) (w' : Window) (h' : List (ℕ × BufferEntry)) (calls bytes : ℕ) (e : BufferEntry) → IsPorted p → IsReply p.window e → w' ≡ window_after p.window e
     → h' ≡ p.history ++ (p.caller, e) ∷ []
-    → IsPorted (record { start = p.start; window = w'; history = h'; caller = p.caller; entries = entries; bytes = bytes })
-ported_next p w' h' entries bytes e is reply after pushed =
+    → IsPorted (record { start = p.start; window = w'; history = h'; caller = p.caller; calls = calls; bytes = bytes })
+ported_next p w' h' calls bytes e is reply after pushed =
     let both = ported_push p.start p.window w' p.history h' p.caller e is.legal is.replayed reply after pushed in
     record { opens = is.opens; legal = both.0; replayed = both.1 }

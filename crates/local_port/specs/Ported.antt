@@ -1,4 +1,4 @@
--- A port that owns its buffer and keeps the journal of all calls.
+-- A buffer of one thread, with the journal of all calls on it.
 use Rattle.std.specs.Prelude.{◌≡◌, ℕ, ◌+◌, ◌≤◌, List, [], ◌∷◌, ◌++◌}
 use Rattle.buffer_core.specs.declared.entry.BufferEntry.{BufferEntry}
 use Rattle.buffer_core.specs.Window.{Window, IsWindow}
@@ -13,7 +13,7 @@ pub record Ported : Type 0 where
   pub window : Window
   pub history : List (ℕ × BufferEntry)
   pub caller : ℕ
-  pub entries : ℕ
+  pub calls : ℕ
   pub bytes : ℕ
 
 -- the history is one of the buffer, and led to its window
@@ -30,7 +30,7 @@ pub record AppendsCall (p q : Ported) (entry : BufferEntry) : Type 0 where
   pub history : q.history ≡ p.history ++ (p.caller, entry) ∷ []
   pub start : q.start ≡ p.start
   pub caller : q.caller ≡ p.caller
-  pub entries : p.entries ≤ q.entries + 1
+  pub calls : p.calls ≤ q.calls + 1
   pub bytes : p.bytes ≤ q.bytes + data_of entry
 
 -- the same calls, and no less room
@@ -39,5 +39,5 @@ pub record KeepsPort (p q : Ported) : Type 0 where
   pub window : q.window ≡ p.window
   pub history : q.history ≡ p.history
   pub caller : q.caller ≡ p.caller
-  pub entries : p.entries ≤ q.entries
+  pub calls : p.calls ≤ q.calls
   pub bytes : p.bytes ≤ q.bytes

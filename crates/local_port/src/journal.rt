@@ -60,14 +60,14 @@ impl BufferJournal {
     }
 
     /// Room for so many entries more, which hand over so many bytes of data together.
-    pub fn reserve(&mut self, entries: u64, bytes: u64) -> Result<(), NoMemory>
+    pub fn reserve(&mut self, calls: u64, bytes: u64) -> Result<(), NoMemory>
         ensures same { self.new.entries ≡ self.old.entries }
-        ensures room { OnOk result (entries ≤ self.new.room) }
+        ensures room { OnOk result (calls ≤ self.new.room) }
         ensures bytes { OnOk result (bytes ≤ self.new.bytes) }
         ensures keeps_room { self.old.room ≤ self.new.room }
         ensures keeps_bytes { self.old.bytes ≤ self.new.bytes }
     {
-        self.lines.reserve(entries as usize)?;
+        self.lines.reserve(calls as usize)?;
         self.bytes.reserve(bytes as usize)?;
         Ok(())
     }

@@ -37,7 +37,7 @@ impl<B: EventBuffer> Model for LocalPort<B> {
       window = B.window p.buffer;
       history = p.journal.entries;
       caller = p.caller;
-      entries = p.journal.room;
+      calls = p.journal.room;
       bytes = p.journal.bytes;
     } };
 
@@ -46,7 +46,7 @@ impl<B: EventBuffer> Model for LocalPort<B> {
       window = B.window p.buffer;
       history = p.journal.entries;
       caller = p.caller;
-      entries = p.journal.room;
+      calls = p.journal.room;
       bytes = p.journal.bytes;
     }) };
 }
@@ -91,12 +91,12 @@ impl<B: EventBuffer> LocalPort<B> {
     }
 
     /// Room for so many calls more, which hand over so many bytes of data together.
-    pub fn reserve(&mut self, entries: u64, bytes: u64) -> Result<(), NoMemory>
+    pub fn reserve(&mut self, calls: u64, bytes: u64) -> Result<(), NoMemory>
         ensures same { KeepsPort self.old self.new }
-        ensures entries { OnOk result (entries ≤ self.new.entries) }
+        ensures calls { OnOk result (calls ≤ self.new.calls) }
         ensures bytes { OnOk result (bytes ≤ self.new.bytes) }
     {
-        self.journal.reserve(entries, bytes)
+        self.journal.reserve(calls, bytes)
     }
 
     /// The buffer, and the journal of its calls.
@@ -119,7 +119,7 @@ impl<B: EventBuffer> LocalPort<B> {
 
     /// As `EventBuffer::attach`.
     pub fn attach(&mut self, name: Name) -> Result<u32, NoSlot>
-        requires room { 1 ≤ self.old.entries }
+        requires room { 1 ≤ self.old.calls }
         ensures did { AppendsCall self.old self.new (Attach name result) }
     {
         let reply = self.buffer.attach(name);
@@ -130,7 +130,7 @@ impl<B: EventBuffer> LocalPort<B> {
 
     /// As `EventBuffer::detach`.
     pub fn detach(&mut self, client: u32) -> Result<(), NoClient>
-        requires room { 1 ≤ self.old.entries }
+        requires room { 1 ≤ self.old.calls }
         ensures did { AppendsCall self.old self.new (Detach client result) }
     {
         let reply = self.buffer.detach(client);
@@ -147,7 +147,7 @@ impl<B: EventBuffer> LocalPort<B> {
         mask: u16,
         kind: Kind,
     ) -> Result<u32, RequestRefusal>
-        requires room { 1 ≤ self.old.entries }
+        requires room { 1 ≤ self.old.calls }
         ensures did { AppendsCall self.old self.new (Request client id mask kind result) }
     {
         let reply = self.buffer.request(client, id, mask, kind);
@@ -164,7 +164,7 @@ impl<B: EventBuffer> LocalPort<B> {
 
     /// As `EventBuffer::cancel`.
     pub fn cancel(&mut self, client: u32, request: u32) -> Result<(), RequestRefusal>
-        requires room { 1 ≤ self.old.entries }
+        requires room { 1 ≤ self.old.calls }
         ensures did { AppendsCall self.old self.new (Cancel client request result) }
     {
         let reply = self.buffer.cancel(client, request);
@@ -179,7 +179,7 @@ impl<B: EventBuffer> LocalPort<B> {
 
     /// As `EventBuffer::send`.
     pub fn send(&mut self, header: &Header, body: &[u8]) -> Result<u64, SendRefusal>
-        requires room { 1 ≤ self.old.entries }
+        requires room { 1 ≤ self.old.calls }
         requires bytes { length body.now ≤ self.old.bytes }
         ensures did { AppendsCall self.old self.new (Send header.now.data_size
             (event_of header.now body.now) result) }
@@ -201,7 +201,7 @@ impl<B: EventBuffer> LocalPort<B> {
         header: &Header,
         body: &[u8],
     ) -> Result<u64, SendRefusal>
-        requires room { 1 ≤ self.old.entries }
+        requires room { 1 ≤ self.old.calls }
         requires bytes { length body.now ≤ self.old.bytes }
         ensures did { AppendsCall self.old self.new (SendInRun start header.now.data_size
             (event_of header.now body.now) result) }
@@ -219,7 +219,7 @@ impl<B: EventBuffer> LocalPort<B> {
 
     /// As `EventBuffer::receive`.
     pub fn receive(&mut self, client: u32, into: &mut EventBuf) -> Received
-        requires room { 1 ≤ self.old.entries }
+        requires room { 1 ≤ self.old.calls }
         ensures did { AppendsCall self.old self.new (Receive client into.old.room result) }
         ensures event { into.new.event ≡ event_after into.old.event self.old.window result }
         ensures room { into.new.room ≡ into.old.room }
@@ -237,7 +237,7 @@ impl<B: EventBuffer> LocalPort<B> {
 
     /// As `EventBuffer::begin`.
     pub fn begin(&mut self, start: u32) -> Result<u64, MarkRefusal>
-        requires room { 1 ≤ self.old.entries }
+        requires room { 1 ≤ self.old.calls }
         ensures did { AppendsCall self.old self.new (Begin start result) }
     {
         let reply = self.buffer.begin(start);
@@ -248,7 +248,7 @@ impl<B: EventBuffer> LocalPort<B> {
 
     /// As `EventBuffer::pause`.
     pub fn pause(&mut self, start: u32) -> Result<u64, MarkRefusal>
-        requires room { 1 ≤ self.old.entries }
+        requires room { 1 ≤ self.old.calls }
         ensures did { AppendsCall self.old self.new (Pause start result) }
     {
         let reply = self.buffer.pause(start);
@@ -259,7 +259,7 @@ impl<B: EventBuffer> LocalPort<B> {
 
     /// As `EventBuffer::resume`.
     pub fn resume(&mut self, start: u32) -> Result<u64, MarkRefusal>
-        requires room { 1 ≤ self.old.entries }
+        requires room { 1 ≤ self.old.calls }
         ensures did { AppendsCall self.old self.new (Resume start result) }
     {
         let reply = self.buffer.resume(start);
@@ -270,7 +270,7 @@ impl<B: EventBuffer> LocalPort<B> {
 
     /// As `EventBuffer::end`.
     pub fn end(&mut self, start: u32) -> Result<u64, MarkRefusal>
-        requires room { 1 ≤ self.old.entries }
+        requires room { 1 ≤ self.old.calls }
         ensures did { AppendsCall self.old self.new (End start result) }
     {
         let reply = self.buffer.end(start);
@@ -281,7 +281,7 @@ impl<B: EventBuffer> LocalPort<B> {
 
     /// As `EventBuffer::level`.
     pub fn level(&mut self) -> u64
-        requires room { 1 ≤ self.old.entries }
+        requires room { 1 ≤ self.old.calls }
         ensures did { AppendsCall self.old self.new (Level result) }
     {
         let reply = self.buffer.level();
@@ -292,7 +292,7 @@ impl<B: EventBuffer> LocalPort<B> {
 
     /// As `EventBuffer::accepted`.
     pub fn accepted(&mut self) -> u64
-        requires room { 1 ≤ self.old.entries }
+        requires room { 1 ≤ self.old.calls }
         ensures did { AppendsCall self.old self.new (Accepted result) }
     {
         let reply = self.buffer.accepted();
