@@ -3,7 +3,8 @@
 # the session in threads within less memory than it needs; and closes standard input and output. Of each such call it reads:
 #   - the status: 5 where memory was wanting and 4 where a call failed, unless nothing differs from the call where nothing fails;
 #   - the text: where memory or a stream was wanting, a first part of what is printed where nothing fails;
-#   - each file that the text calls Ended or saved: it is the one that is written where nothing fails, but for the times;
+#   - each file that the text calls Ended: `check` says of it what it says where nothing fails, but for the length; each one that
+#     is called saved: it is as long as then;
 #   - each other file: a line tells of its run or of its fault, and where none could be printed it is a whole run file.
 # It prints what it tried and each call in which something else was found, and ends with status 1 where there is one.
 # The failing calls are made by ptrace, on x86-64 alone.

@@ -1,7 +1,7 @@
 //! The calls of the system on files and streams, one in each function. What they hand out says what the system did, and there is
 //! no other way to have it than to ask the system. A fault is made here alone: of an error that the system told, of what is no
 //! file, of a write that took no byte, of too many interruptions, and where no number is free.
-ghost use Rattle.std.specs.Prelude.{◌≡◌, ◌≢◌, ◌<◌, ◌+◌, ◌-◌, ◌^◌, ◌↔◌, IfErr, IfOk, IsErrAnd, IsOk, Err, Ok, OnErr, OnOk, length, string_bytes};
+ghost use Rattle.std.specs.Prelude.{◌≡◌, ◌≢◌, ◌<◌, ◌+◌, ◌-◌, ◌^◌, ◌↔◌, IfErr, IfOk, IsErrAnd, IsOk, IsTrue, Err, Ok, OnErr, OnOk, length, string_bytes};
 ghost use Rattle.std.specs.Fs.{IsFile, file_type};
 ghost use Rattle.std.specs.Io.{ReadsAtMost, WritesAtMost};
 ghost use Rattle.std.specs.Io.KnownBytes.{Appends, ReadConsumes, WriteAppends};
@@ -170,6 +170,8 @@ fn told_unless(good: ErrorKind, answer: io::Result<()>) -> Result<(), Fault>
 /// Refuses what is no file, such as a folder or a pipe.
 fn regular(found: io::Result<Metadata>) -> Result<(), Fault>
     ensures file { IfOk found (λ metadata. IsOk result ↔ IsFile (file_type metadata)) }
+    ensures other { IfOk found (λ metadata. ¬ IsFile (file_type metadata)
+        → IsErrAnd result (TellsKind ErrorKind.InvalidInput)) }
     ensures fault { IfErr found (λ error. IsErrAnd result (TellsKind (error_kind error))) }
 {
     if told(found)?.is_file() {
@@ -235,6 +237,18 @@ pub fn read_from<R: Read>(reader: &mut R, into: &mut [u8]) -> Result<usize, Faul
     told(reader.read(into))
 }
 
+/// How many bytes a write took, by whether there was one to take: that none is taken then is a fault.
+fn taken(count: usize, some: bool) -> Result<usize, Fault>
+    ensures count { IfOk result (λ n. (n ≡ count) × (IsTrue some → 0 < count)) }
+    ensures none { OnErr result (count ≡ 0) }
+    ensures fault { count ≡ 0 → IsTrue some → IsErrAnd result (TellsKind ErrorKind.WriteZero) }
+{
+    if count == 0 && some {
+        return Err(fault_of(ErrorKind::WriteZero));
+    }
+    Ok(count)
+}
+
 /// Writes, by one call. That no byte is taken, where there is one, is a fault.
 pub fn write_to<W: Write>(writer: &mut W, bytes: &[u8]) -> Result<usize, Fault>
     ensures within { WritesAtMost result bytes.now }
@@ -242,15 +256,8 @@ pub fn write_to<W: Write>(writer: &mut W, bytes: &[u8]) -> Result<usize, Fault>
     ensures bytes { WriteAppends (W.contents writer.old) (W.contents writer.new) result
         bytes.now }
 {
-    match writer.write(bytes) {
-        Ok(count) => {
-            if count == 0 && !bytes.is_empty() {
-                return Err(fault_of(ErrorKind::WriteZero));
-            }
-            Ok(count)
-        }
-        Err(error) => Err(fault_of(error.kind())),
-    }
+    let count = told(writer.write(bytes))?;
+    taken(count, !bytes.is_empty())
 }
 
 impl<F: Read> SystemFile<F> {
@@ -341,6 +348,7 @@ pub fn free_number(numbers: &UseTable) -> Result<u32, Fault>
     ensures inside { IfOk result (λ number. number < length numbers.now.uses.items) }
     ensures free { IfOk result (λ number. use_at numbers.now.uses.items number ≡ Free) }
     ensures none { OnErr result (free_numbers numbers.now.uses.items ≡ 0) }
+    ensures other { IfErr result (TellsKind ErrorKind.ResourceBusy) }
 {
     match numbers.free() {
         Some(number) => Ok(number),

@@ -1,5 +1,5 @@
 //! Calls on a shared buffer, by threads and by a port.
-ghost use Rattle.std.specs.Prelude.{◌≡◌, ◌+◌, ◌%◌, ◌<◌, ◌≤◌, [], ◌∷◌, length, None, IfOk};
+ghost use Rattle.std.specs.Prelude.{◌≡◌, ◌+◌, ◌%◌, ◌<◌, ◌≤◌, [], ◌∷◌, length, None, IfOk, OnErr, OnOk};
 ghost use Rattle.daq_types.specs.Callers.{entries_by};
 ghost use Rattle.turn_lock.specs.Passes.{passes_of, number_of, own_entries, held_by, IsOf};
 ghost use Rattle.turn_lock.specs.Closing.{history_of};
@@ -25,7 +25,10 @@ const ANY: u16 = 0xFFFF;
 
 const DATA: [u8; 8] = [7; 8];
 
-pub(crate) fn header(serial_number: u32) -> Header {
+pub(crate) fn header(serial_number: u32) -> Header
+    ensures serial { result.serial_number ≡ serial_number }
+    ensures size { result.data_size ≡ 8 }
+{
     Header {
         event_id: 1,
         trigger_mask: 1,
@@ -562,21 +565,23 @@ fn try_twice<R: Wait>(
     rt: &R,
     first: &mut BufferPass<PlainBuffer>,
     second: &mut BufferPass<PlainBuffer>,
-) -> [Tried; 2]
+) -> (Tried, Tried)
     requires first { IsOf (lock_of shared.now) first.old }
     requires second { IsOf (lock_of shared.now) second.old }
     requires idle { (held_by first.old ≡ None) × (held_by second.old ≡ None) }
+    ensures one { OnErr result.0 (OnOk result.1
+        (length (own_entries second.new) ≡ length (own_entries second.old) + 1)) }
 {
     let header = header(1);
     let held = shared.lock().take(rt, first);
     let refused = shared.try_call(second, send_of(&header), &mut ());
     let count = held.value.buffer.accepted();
     shared.lock().put(first, held, &CountRead { count });
-    [refused, shared.try_call(second, send_of(&header), &mut ())]
+    (refused, shared.try_call(second, send_of(&header), &mut ()))
 }
 
 /// Tries a send by the second of two passes while the first has the turn, and again behind that.
-fn try_on_taken<R: Wait>(rt: &R, alloc: Global) -> Result<[Tried; 2], NoMemory> {
+fn try_on_taken<R: Wait>(rt: &R, alloc: Global) -> Result<(Tried, Tried), NoMemory> {
     let (shared, mut passes) = share(alloc, 256, 2)?;
     let (mut first, mut second) = two_passes(&shared, &mut passes);
     Ok(try_twice(&shared, rt, &mut first, &mut second))
@@ -586,7 +591,7 @@ fn try_on_taken<R: Wait>(rt: &R, alloc: Global) -> Result<[Tried; 2], NoMemory> 
 fn a_try_on_a_taken_buffer_sends_nothing(rt: HostRuntime) {
     let tried = try_on_taken(&rt, rt.alloc());
     assert!(rt;
-        tried == Ok([Err(Taken { holder: 0 }), Ok(Ok(0))]),
+        tried == Ok((Err(Taken { holder: 0 }), Ok(Ok(0)))),
         "pass 0 has the turn, and then the event is the first that is accepted"
     );
 }

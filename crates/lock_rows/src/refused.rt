@@ -19,7 +19,7 @@ const DATA: [u8; 8] = [7; 8];
 /// What two sends were answered, between which a client was detached.
 type Refusals = (Result<u64, SendRefusal>, Result<u64, SendRefusal>);
 
-/// Attaches two clients, which both request all events: whether each call is done.
+/// Attaches two clients, which both request all events of id 1: whether each call is done.
 fn attach_two<R: Wait, P: BufferPort>(rt: &R, port: &mut P, names: [Name; 2]) -> [bool; 4]
     ensures caller { (P.access port.new).caller ≡ (P.access port.old).caller }
     ensures buffer { (P.access port.new).buffer ≡ (P.access port.old).buffer }
@@ -27,8 +27,8 @@ fn attach_two<R: Wait, P: BufferPort>(rt: &R, port: &mut P, names: [Name; 2]) ->
     [
         port.attach(rt, names[0]) == Ok(0),
         port.attach(rt, names[1]) == Ok(1),
-        port.request(rt, 0, ANY, ANY, Kind::All) == Ok(0),
-        port.request(rt, 1, ANY, ANY, Kind::All) == Ok(0),
+        port.request(rt, 0, 1, ANY, Kind::All) == Ok(0),
+        port.request(rt, 1, 1, ANY, Kind::All) == Ok(0),
     ]
 }
 
@@ -59,8 +59,8 @@ fn send_again<R: Wait, P: BufferPort, Q: BufferPort>(
         × ((Q.access second.new).caller ≡ (Q.access second.old).caller) }
     ensures buffers { ((P.access first.new).buffer ≡ (P.access first.old).buffer)
         × ((Q.access second.new).buffer ≡ (Q.access second.old).buffer) }
-    ensures noted { (e : _) × (f : _) × ((Q.access second.new).own
-        ≡ ((Q.access second.old).own ++ Send 8 e result.1.0 ∷ []) ++ Send 8 f result.1.1 ∷ []) }
+    ensures noted { (e : _) × (e.serial ≡ 8) × ((Q.access second.new).own
+        ≡ ((Q.access second.old).own ++ Send 8 e result.1.0 ∷ []) ++ Send 8 e result.1.1 ∷ []) }
 {
     let ninth = header(8);
     let refused = second.send(rt, &ninth, &DATA);
@@ -82,9 +82,9 @@ fn refuse_twice<R: Wait>(
     ),
     NoMemory,
 >
-    ensures history { IfOk result (λ made. (before : _) × (e : _) × (f : _)
+    ensures history { IfOk result (λ made. (before : _) × (e : _) × (e.serial ≡ 8)
         × (entries_by 1 (history_of made.2)
-        ≡ (before ++ Send 8 e made.1.0 ∷ []) ++ Send 8 f made.1.1 ∷ [])) }
+        ≡ (before ++ Send 8 e made.1.0 ∷ []) ++ Send 8 e made.1.1 ∷ [])) }
 {
     let (shared, mut passes) = share(alloc, 256, 2)?;
     let (first, second) = two_passes(&shared, &mut passes);
