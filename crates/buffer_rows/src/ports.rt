@@ -60,7 +60,7 @@ fn is_right(
     step: Step,
     into: &mut EventBuf,
 ) -> bool
-    requires room { 1 ≤ port.old.entries }
+    requires room { 1 ≤ port.old.calls }
     requires bytes { 24 ≤ port.old.bytes }
 {
     match step {
