@@ -1,7 +1,7 @@
 ghost use Rattle.std.specs.Prelude.{◌≡◌, ◌==◌, ◌≤◌, ◌+◌, ◌-◌, ◌^◌, [], ◌∷◌, List, ℕ, Option, Some, None, IfOk, IfSome, codes, length, min};
 ghost use Rattle.buffer_core.specs.declared.entry.BufferEntry.{BufferEntry};
 ghost use Rattle.buffer_core.specs.Ports.{GotEvent};
-ghost use Rattle.daq_model.specs.Events.{event_limit};
+ghost use Rattle.event.specs.Events.{event_limit};
 ghost use Rattle.event_report.specs.Reports.{report_of};
 ghost use Rattle.transitions.specs.declared.answers.Answer.TheVariants.{Yes};
 ghost use Rattle.transitions.specs.declared.answers.Tally.TheVariants.{Plain};
@@ -16,7 +16,7 @@ use crate::analyzer_pull::AnalyzerPull;
 use crate::analyzer_run::{AnalyzerRun, AnalyzerStage, EventRequest};
 use buffer_core::{BufferPort, Received};
 use daq_types::{Kind, Name, NoMemory, Order, Transition, Why};
-use event_header::EventBuf;
+use event::EventBuf;
 use event_report::Report;
 use std::alloc::Global;
 use std::marker::Model;

@@ -1,14 +1,14 @@
 //! What the replies to worked scripts print, and which of their lines are refused.
+use console::{Refusals, Reply};
 use daq_text::TextBuffer;
 use daq_types::{
     BoundedList, Bytes, ChannelState, FileName, Name, NameRefusal, NoMemory, RunState, Why,
 };
 use event_report::Report;
-use run_records::{FileRecord, FileRecords, ReportLine, ReportLines, SentLine, SentLines};
-use session_replies::{Refusals, Reply};
+use odb_commands::{WatchCommandRefusal, WatchReply};
+use session_runs::{FileRecord, FileRecords, ReportLine, ReportLines, SentLine, SentLines};
 use session_setup::SetupRefusal;
 use std::alloc::Global;
-use watch_commands::{WatchCommandRefusal, WatchReply};
 
 /// A reply, as the rows tell it.
 #[derive(Clone, Copy)]

@@ -1,7 +1,7 @@
 //! The script that `gen` writes.
 use daq_mem::MemSink;
 use daq_types::NoMemory;
-use script_generator::write_script;
+use midas_tools::write_script;
 use std::alloc::Global;
 
 /// The script of 0, as it is told to users.

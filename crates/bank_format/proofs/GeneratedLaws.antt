@@ -3,8 +3,8 @@ use Rattle.std.proofs.Common.{◌≡◌, ℕ, ◌+◌, ◌*◌, ◌/◌, ◌%◌
 use Rattle.std.specs.Prelude.{codes}
 use Rattle.std.specs.Int.{to_le_bytes, w16, w32}
 use Rattle.std.proofs.lemmas.List.{append-nil}
-use Rattle.daq_model.specs.Generator.{generated_words, first_state, word_count, generated_body}
-use Rattle.daq_model.proofs.GeneratorLaws.{length-words_from, length-words_encoded}
+use Rattle.event.specs.Generator.{generated_words, first_state, word_count, generated_body}
+use Rattle.event.proofs.GeneratorLaws.{length-words_from, length-words_encoded}
 use Rattle.bank_format.specs.declared.formats.Format.TheVariants.{Bank16}
 use Rattle.bank_format.specs.Formats.{padded, padding_len}
 use Rattle.bank_format.specs.BankAreas.{BankValue, plain_bank, plain_banks}

@@ -2,7 +2,7 @@
 use Rattle.std.proofs.Common.{◌≡◌, ℕ, ◌≤◌, List, [], ◌∷◌, ◌++◌, length, drop, sym, ap, subst, ◌∙◌, vec_len, vec_capacity}
 use Rattle.std.specs.Global.{Vec}
 use Rattle.std.specs.List.{AllByRecursion}
-use Rattle.daq_model.specs.Events.{event_limit}
+use Rattle.event.specs.Events.{event_limit}
 use Rattle.bank_format.specs.declared.formats.Format.{Format}
 use Rattle.bank_format.specs.BankAreas.{BankValue, IsBank, plain_banks}
 use Rattle.bank_format.specs.Places.{banks_in}

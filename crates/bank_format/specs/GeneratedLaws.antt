@@ -1,7 +1,7 @@
 -- The body of a generated event is one plain bank.
 use Rattle.std.proofs.Common.{ℕ}
 use Rattle.std.specs.Prelude.{codes}
-use Rattle.daq_model.specs.Generator.{generated_words, words_encoded, first_state, word_count}
+use Rattle.event.specs.Generator.{generated_words, words_encoded, first_state, word_count}
 use Rattle.bank_format.specs.BankAreas.{BankValue, bank_value}
 
 -- the bank GEN0 of unsigned numbers of 32 bits, which are the words of event k

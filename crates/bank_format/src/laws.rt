@@ -2,7 +2,7 @@
 
 ghost use Rattle.std.specs.Prelude.{◌≡◌, ◌∷◌, [], ◌<◌, ◌^◌, ℕ, List, length};
 ghost use Rattle.std.specs.List.{AllByRecursion};
-ghost use Rattle.daq_model.specs.Generator.{generated_body};
+ghost use Rattle.event.specs.Generator.{generated_body};
 ghost use Rattle.bank_format.specs.declared.formats.Format.{Format};
 ghost use Rattle.bank_format.specs.declared.formats.Format.TheVariants.{Bank16};
 ghost use Rattle.bank_format.specs.declared.faults.BankFault.{BankFault};

@@ -6,7 +6,7 @@ use Rattle.std.proofs.lemmas.Bool.{and_parts, leb-true, cases_lt}
 use Rattle.std.proofs.lemmas.List.{drop-drop}
 use Rattle.std.proofs.lemmas.List.Sums.{sum_by-take-le}
 use Rattle.daq_types.specs.declared.events.Event.{Event}
-use Rattle.daq_model.specs.Events.{slot_size, matches, Matches}
+use Rattle.event.specs.Events.{slot_size, matches, Matches}
 use Rattle.buffer_core.specs.declared.gate.RunGate.{RunGate}
 use Rattle.buffer_core.specs.declared.client.Request.{Request as EventRequest}
 use Rattle.buffer_core.specs.declared.client.Client.{Client}

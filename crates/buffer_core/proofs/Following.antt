@@ -5,7 +5,7 @@ use Rattle.std.proofs.Math.Logic.{⊎_elim}
 use Rattle.std.proofs.lemmas.Bool.{and_from, and_parts, le-leb, leb-true, cases_lt}
 use Rattle.std.proofs.lemmas.List.{take-append-le, length_push}
 use Rattle.daq_types.specs.declared.events.Event.{Event}
-use Rattle.daq_model.specs.Events.{matches, Matches}
+use Rattle.event.specs.Events.{matches, Matches}
 use Rattle.buffer_core.specs.declared.client.Request.{Request as EventRequest}
 use Rattle.buffer_core.specs.declared.client.Client.{Client}
 use Rattle.buffer_core.specs.Slots.{slot_at, some_slot}

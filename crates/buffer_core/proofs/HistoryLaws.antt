@@ -8,7 +8,7 @@ use Rattle.buffer_core.specs.declared.gate.RunGate.{RunGate}
 use Rattle.buffer_core.specs.declared.replies.Received.TheVariants.{Got, SmallBuf}
 use Rattle.buffer_core.specs.declared.entry.BufferEntry.{BufferEntry}
 use Rattle.buffer_core.specs.declared.entry.BufferEntry.TheVariants.{Receive}
-use Rattle.daq_model.specs.Events.{event_limit}
+use Rattle.event.specs.Events.{event_limit}
 use Rattle.buffer_core.specs.Slots.{slot_at}
 use Rattle.buffer_core.specs.Window.{Window, Sent, opening, slot_of_sent, IsWindow, StandsAt}
 use Rattle.buffer_core.specs.Calls.{IsReply, window_after, found_in, found_reply, receive_reply_to}

@@ -3,7 +3,7 @@ use Rattle.std.specs.Prelude.{◌≡◌, ℕ, ◌+◌, ◌-◌, ◌^◌, ◌≤�
 use Rattle.std.specs.Option.{option_map}
 use Rattle.std.proofs.Common.{ap, sym, subst, ◌∙◌, inl, refl, eq-eqb, append-nil, append_assoc}
 use Rattle.daq_types.specs.declared.events.Event.{Event}
-use Rattle.daq_model.specs.Events.{is_reserved, event_limit}
+use Rattle.event.specs.Events.{is_reserved, event_limit}
 use Rattle.daq_types.specs.Callers.{entries_by}
 use Rattle.daq_types.proofs.CallersLaws.{entries_by-own}
 use Rattle.buffer_core.specs.declared.replies.Received.{Received}

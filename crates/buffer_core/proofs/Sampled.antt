@@ -4,7 +4,7 @@ use Rattle.std.specs.Option.{option_map}
 use Rattle.std.proofs.Common.{subst, arith, inl, inr}
 use Rattle.daq_types.specs.declared.events.Event.{Event}
 use Rattle.daq_types.specs.declared.runs.Kind.TheVariants.{All}
-use Rattle.daq_model.specs.Events.{Matches, matches, slot_of_length, slot_size}
+use Rattle.event.specs.Events.{Matches, matches, slot_of_length, slot_size}
 use Rattle.buffer_core.specs.declared.client.Request.{Request as EventRequest}
 use Rattle.buffer_core.specs.declared.entry.BufferEntry.{BufferEntry}
 use Rattle.buffer_core.specs.declared.entry.BufferEntry.TheVariants.{Attach, Request}

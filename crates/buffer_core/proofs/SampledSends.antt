@@ -2,7 +2,7 @@
 use Rattle.std.specs.Prelude.{◌≡◌, ◌≢◌, ℕ, ◌^◌, ◌≤◌, ◌==◌, IsTrue, if◌then◌else◌, List, [], ◌∷◌, Some, None, refl}
 use Rattle.std.proofs.Common.{subst, sym, arith}
 use Rattle.daq_types.specs.declared.runs.Kind.TheVariants.{NonBlocking}
-use Rattle.daq_model.specs.Events.{slot_of_length}
+use Rattle.event.specs.Events.{slot_of_length}
 use Rattle.buffer_core.specs.declared.client.Request.{Request as EventRequest}
 use Rattle.buffer_core.specs.Window.{Sent, any, is_all}
 use Rattle.buffer_core.proofs.SlotLaws.{split}

@@ -6,7 +6,7 @@ use Rattle.std.proofs.lemmas.Bool.{and_parts, leb-true, cases_lt}
 use Rattle.daq_types.specs.declared.events.Event.{Event}
 use Rattle.daq_types.specs.declared.runs.Kind.{Kind}
 use Rattle.daq_types.specs.declared.runs.Kind.TheVariants.{All, NonBlocking}
-use Rattle.daq_model.specs.Events.{matches}
+use Rattle.event.specs.Events.{matches}
 use Rattle.buffer_core.specs.declared.client.Client.{Client}
 use Rattle.buffer_core.specs.Slots.{slot_at, first_slot, some_slot}
 use Rattle.buffer_core.specs.Window.{Sent, slot_of_sent, StandsAt, covers, wants, is_all, holds_back, owes}

@@ -3,7 +3,7 @@ use Rattle.std.specs.Prelude.{◌-◌, slice_get, Option, Some, None, unwrap_or,
 use Rattle.std.specs.Option.{option_map}
 use Rattle.std.proofs.Common.{ap, ◌∙◌, refl, arith, eq-eqb, le-leb, le-ltb, leb-true}
 use Rattle.daq_types.specs.declared.events.Event.{Event}
-use Rattle.daq_model.specs.Events.{slot_size, slot_of_length, is_reserved, event_limit}
+use Rattle.event.specs.Events.{slot_size, slot_of_length, is_reserved, event_limit}
 use Rattle.buffer_core.specs.declared.replies.SendRefusal.TheVariants.{BadSize, ReservedId, TooLarge, Spent}
 use Rattle.buffer_core.specs.declared.client.Client.{Client}
 use Rattle.buffer_core.specs.declared.replies.Received.TheVariants.{Got}

@@ -2,7 +2,7 @@
 use Rattle.std.specs.Prelude.{◌≡◌, ℕ, suc, ◌+◌, ◌^◌, Bool, ◌&&◌, ◌==◌, nat_lt, nat_le, if◌then◌else◌, false, List, [], ◌∷◌, ◌++◌, length, take, drop, sum_by, slice_set, Option, Some, None, Result, Ok, Err, max, unwrap_or, ⊤}
 use Rattle.std.specs.Option.{option_map, ok_or}
 use Rattle.daq_types.specs.declared.events.Event.{Event}
-use Rattle.daq_model.specs.Events.{slot_size, is_reserved, event_limit}
+use Rattle.event.specs.Events.{slot_size, is_reserved, event_limit}
 use Rattle.buffer_core.specs.declared.gate.RunGate.{RunGate}
 use Rattle.buffer_core.specs.declared.gate.RunGate.TheVariants.{Shut, Running, Paused}
 use Rattle.buffer_core.specs.declared.client.Request.{Request as EventRequest}

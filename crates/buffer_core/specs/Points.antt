@@ -3,7 +3,7 @@
 use Rattle.std.specs.Prelude.{◌≡◌, ℕ, ◌+◌, ◌≤◌, ◌==◌, if◌then◌else◌, IsTrue, List, [], ◌∷◌, ◌++◌, length, slice_get, Option, Some, None, Ok, max}
 use Rattle.std.specs.Option.{option_map}
 use Rattle.daq_types.specs.declared.runs.Kind.{Kind}
-use Rattle.daq_model.specs.Events.{Matches}
+use Rattle.event.specs.Events.{Matches}
 use Rattle.buffer_core.specs.declared.client.Request.{Request as EventRequest}
 use Rattle.buffer_core.specs.declared.replies.Received.TheVariants.{Got, Empty}
 use Rattle.buffer_core.specs.declared.entry.BufferEntry.{BufferEntry}

@@ -1,7 +1,7 @@
 -- What a port to a buffer tells of its caller's own calls.
 use Rattle.std.specs.Prelude.{◌≡◌, ℕ, ◌+◌, ◌≤◌, ◌<◌, ◌==◌, ◌&&◌, nat_le, true, false, if◌then◌else◌, List, [], ◌∷◌, ◌++◌, length, slice_get, Contains, Some, Ok, ⊤, ◌⊎◌}
 use Rattle.daq_types.specs.declared.events.Event.{Event}
-use Rattle.daq_model.specs.Events.{slot_size, is_reserved, event_limit}
+use Rattle.event.specs.Events.{slot_size, is_reserved, event_limit}
 use Rattle.buffer_core.specs.declared.replies.SendRefusal.{SendRefusal}
 use Rattle.buffer_core.specs.declared.replies.SendRefusal.TheVariants.{NotRunning, BadSize, ReservedId, TooLarge, Spent, Full}
 use Rattle.buffer_core.specs.declared.replies.Received.{Received}

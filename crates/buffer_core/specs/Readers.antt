@@ -2,7 +2,7 @@
 use Rattle.std.specs.Prelude.{◌≡◌, ◌≢◌, ℕ, ◌≤◌, ◌==◌, List, [], ◌∷◌, ◌++◌, map, filter, reverse, Option, Some, None, Ok, ⊤}
 use Rattle.std.specs.List.{list_any}
 use Rattle.daq_types.specs.declared.runs.Kind.TheVariants.{All}
-use Rattle.daq_model.specs.Events.{matches}
+use Rattle.event.specs.Events.{matches}
 use Rattle.buffer_core.specs.declared.entry.BufferEntry.{BufferEntry}
 use Rattle.buffer_core.specs.declared.entry.BufferEntry.TheVariants.{Request}
 use Rattle.buffer_core.specs.Window.{Sent}

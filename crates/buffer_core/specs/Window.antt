@@ -3,8 +3,8 @@ use Rattle.std.specs.Prelude.{◌≡◌, ℕ, ◌+◌, ◌-◌, ◌*◌, ◌^◌
 use Rattle.daq_types.specs.declared.events.Event.{Event}
 use Rattle.daq_types.specs.declared.runs.Kind.{Kind}
 use Rattle.daq_types.specs.declared.runs.Kind.TheVariants.{All, NonBlocking}
-use Rattle.daq_model.specs.Events.{slot_size, matches, is_reserved, event_limit}
-pub use Rattle.daq_model.specs.Events.{any}
+use Rattle.event.specs.Events.{slot_size, matches, is_reserved, event_limit}
+pub use Rattle.event.specs.Events.{any}
 use Rattle.buffer_core.specs.declared.gate.RunGate.{RunGate}
 use Rattle.buffer_core.specs.declared.gate.RunGate.TheVariants.{Shut, Running, Paused}
 use Rattle.buffer_core.specs.declared.client.Request.{Request}

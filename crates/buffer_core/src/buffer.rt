@@ -1,12 +1,12 @@
 ghost use Rattle.std.specs.Prelude.{◌≡◌};
-ghost use Rattle.event_header.specs.Headers.{event_of};
+ghost use Rattle.event.specs.Headers.{event_of};
 ghost use Rattle.buffer_core.specs.declared.entry.BufferEntry.TheVariants.{Attach, Detach, Request, Cancel, Send, SendInRun, Receive, Begin, Pause, Resume, End, Level, Accepted};
 ghost use Rattle.buffer_core.specs.Window.{IsWindow};
 ghost use Rattle.buffer_core.specs.Calls.{IsReply, window_after, event_after};
 
 use crate::replies::{MarkRefusal, NoClient, NoSlot, Received, RequestRefusal, SendRefusal};
 use daq_types::{Kind, Name};
-use event_header::{EventBuf, Header};
+use event::{EventBuf, Header};
 
 /// An event buffer, seen as a window. Each call replies what `IsReply` says of the window before it, and leaves
 /// `window_after` of that window. No call takes memory.

@@ -1,12 +1,11 @@
 ghost use Rattle.std.specs.Prelude.{◌≡◌, ◌<◌, ◌^◌, [], length, IfSome};
-ghost use Rattle.event_header.specs.Headers.{event_of};
+ghost use Rattle.event.specs.Headers.{event_of};
 ghost use Rattle.buffer_core.specs.Slots.{slot_at, free_slot, some_slot};
 ghost use Rattle.buffer_core.specs.Window.{covers, holds_back, wants, owes};
 ghost use Rattle.buffer_core.specs.Calls.{with_request, going_on};
 
 use daq_types::{Kind, Name};
-use event_header::Header;
-use request_match::matches;
+use event::{Header, matches};
 
 /// How many clients a buffer has room for.
 pub const CLIENTS: usize = 64;

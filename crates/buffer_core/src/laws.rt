@@ -3,7 +3,7 @@
 
 ghost use Rattle.std.specs.Prelude.{◌≡◌, ◌≢◌, ◌+◌, ◌^◌, ◌<◌, ◌++◌, ◌∷◌, ℕ, List, [], length, Some, None, Ok, Err};
 ghost use Rattle.daq_types.specs.declared.events.Event.{Event};
-ghost use Rattle.daq_model.specs.Events.{slot_size};
+ghost use Rattle.event.specs.Events.{slot_size};
 ghost use Rattle.buffer_core.specs.declared.gate.RunGate.{RunGate};
 ghost use Rattle.buffer_core.specs.declared.replies.Received.TheVariants.{Got, Empty};
 ghost use Rattle.buffer_core.specs.declared.entry.BufferEntry.{BufferEntry};

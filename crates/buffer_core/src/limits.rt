@@ -1,11 +1,11 @@
 ghost use Rattle.std.specs.Prelude.{◌≡◌, ◌≤◌, ◌+◌, ◌^◌, false, length, IfOk, IfErr, OnOk, Err};
-ghost use Rattle.daq_model.specs.Events.{slot_size, is_reserved, event_limit};
-ghost use Rattle.event_header.specs.Headers.{event_of};
+ghost use Rattle.event.specs.Events.{slot_size, is_reserved, event_limit};
+ghost use Rattle.event.specs.Headers.{event_of};
 ghost use Rattle.buffer_core.specs.Window.{Window};
 ghost use Rattle.buffer_core.specs.Calls.{send_reply};
 
 use crate::replies::SendRefusal;
-use event_header::{Header, MAX_DATA, slot_len};
+use event::{Header, MAX_DATA, slot_len};
 
 /// The most bytes that all events of a buffer take together, whether still kept or not.
 const MAX_TOTAL: u64 = 1 << 62;

@@ -1,12 +1,12 @@
 ghost use Rattle.std.specs.Prelude.{◌≡◌, ◌-◌, ◌^◌, ◌≤◌, ℕ, map, min, IfOk, IfErr};
-ghost use Rattle.daq_model.specs.Events.{event_limit};
-ghost use Rattle.event_header.specs.Headers.{event_of};
+ghost use Rattle.event.specs.Events.{event_limit};
+ghost use Rattle.event.specs.Headers.{event_of};
 ghost use Rattle.buffer_core.specs.declared.entry.BufferEntry.TheVariants.{Attach, Detach, Request, Cancel, Send, SendInRun, Begin, Pause, Resume, End, Level, Accepted};
 ghost use Rattle.buffer_core.specs.Ports.{Calls, Receives, KeepsUnlessGot, GivesSound, IsSmallBuf, IsSendFault, IsRunSendFault, IsNewNumber, knowing, slots_got, name_of, names_given};
 
 use crate::replies::{MarkRefusal, NoClient, NoSlot, Received, RequestRefusal, SendRefusal};
 use daq_types::{Kind, Name};
-use event_header::{EventBuf, Header};
+use event::{EventBuf, Header};
 use std::sync::Wait;
 
 /// One caller's access to a buffer, by the calls of `EventBuffer`. Each is one call of the caller.

@@ -1,6 +1,6 @@
 //! The calls on a shared buffer, each with its arguments. Each is the call of `EventBuffer` of that name.
 ghost use Rattle.std.specs.Prelude.{◌≡◌};
-ghost use Rattle.event_header.specs.Headers.{event_of};
+ghost use Rattle.event.specs.Headers.{event_of};
 ghost use Rattle.buffer_core.specs.declared.entry.BufferEntry.TheVariants.{Attach as attach_of, Detach as detach_of, Request as request_of, Cancel as cancel_of, Send as send_of, SendInRun as send_in_run_of, Receive as receive_of, Begin as begin_of, Pause as pause_of, Resume as resume_of, End as end_of, Level as level_of, Accepted as accepted_of};
 ghost use Rattle.buffer_core.specs.Calls.{event_after};
 
@@ -9,7 +9,7 @@ use buffer_core::{
     EventBuffer, MarkRefusal, NoClient, NoSlot, Received, RequestRefusal, SendRefusal,
 };
 use daq_types::{Kind, Name};
-use event_header::{EventBuf, Header};
+use event::{EventBuf, Header};
 use turn_lock::Call;
 
 #[derive(Drop)]

@@ -11,7 +11,7 @@ use buffer_core::{
     SendRefusal,
 };
 use daq_types::{Kind, Name};
-use event_header::{EventBuf, Header};
+use event::{EventBuf, Header};
 use std::sync::Wait;
 use turn_lock::Machine;
 use turn_lock::laws::same_lock;

@@ -2,7 +2,7 @@
 ghost use Rattle.std.specs.Prelude.{◌≡◌, ◌≤◌, length};
 
 use daq_types::NoMemory;
-use ring_bytes::Ring;
+use ring_buffer::Ring;
 use std::alloc::Global;
 use std::test::Fail;
 

@@ -3,8 +3,7 @@ use crate::tests::{
     CANCELLED, GATED, MUST_GET, NOT_OWED, OVER_THE_END, PASSED_OVER, PUSHED, REFUSED, Step,
     is_right, run_all,
 };
-use ring_buffer::RingBuffer;
-use ring_bytes::Ring;
+use ring_buffer::{Ring, RingBuffer};
 use std::process::Abort;
 use std::test::Fail;
 

@@ -1,8 +1,8 @@
 //! The pointers of two clients.
 use buffer_core::{NoClient, RequestRefusal};
-use client_pointers::Pointers;
 use daq_types::{Kind, Name};
-use event_header::Header;
+use event::Header;
+use ring_buffer::Pointers;
 use std::process::Abort;
 
 fn name(rt: &impl Abort) -> Name {

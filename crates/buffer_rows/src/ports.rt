@@ -5,9 +5,8 @@ use buffer_core::{
     BufferEntry, MarkRefusal, NoClient, NoSlot, Received, RequestRefusal, RunGate, SendRefusal,
 };
 use daq_types::{Caller, Kind, Name, NoMemory};
-use event_header::{EventBuf, Header};
-use local_port::{BufferJournal, LocalPort};
-use plain_buffer::PlainBuffer;
+use event::{EventBuf, Header};
+use plain_buffer::{BufferJournal, LocalPort, PlainBuffer};
 use std::alloc::Global;
 use std::process::Abort;
 use std::test::Fail;

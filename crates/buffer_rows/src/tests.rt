@@ -3,10 +3,9 @@ use buffer_core::{
     EventBuffer, MarkRefusal, NoClient, NoSlot, Received, RequestRefusal, RunGate, SendRefusal,
 };
 use daq_types::{Kind, Name, NoMemory};
-use event_header::{EventBuf, Header};
+use event::{EventBuf, Header};
 use plain_buffer::PlainBuffer;
-use ring_buffer::RingBuffer;
-use ring_bytes::Ring;
+use ring_buffer::{Ring, RingBuffer};
 use std::process::Abort;
 use std::test::Fail;
 

@@ -7,9 +7,9 @@ use Rattle.std.proofs.lemmas.List.{reverse-append}
 use Rattle.std.proofs.lemmas.List.Elements.{All-head, All-tail}
 use Rattle.std.proofs.lemmas.List.Sums.{sum_by-cons}
 use Rattle.daq_types.specs.declared.events.Event.{Event}
-use Rattle.daq_model.specs.Events.{encoding, all_encoded, slot_size, slot_of_length, matches}
-use Rattle.daq_model.specs.RunFile.{begin_record, end_record, begun_file, run_file, IsFileEvent}
-use Rattle.daq_model.proofs.Events.{length-encoding}
+use Rattle.event.specs.Events.{encoding, all_encoded, slot_size, slot_of_length, matches}
+use Rattle.event.specs.RunFile.{begin_record, end_record, begun_file, run_file, IsFileEvent}
+use Rattle.event.proofs.Events.{length-encoding}
 use Rattle.buffer_core.proofs.SlotLaws.{split}
 use Rattle.buffer_core.specs.declared.entry.BufferEntry.{BufferEntry}
 use Rattle.buffer_core.specs.Window.{Sent}

@@ -5,7 +5,7 @@ use mathlib.Core.List.{IsPrefix}
 use Rattle.std.proofs.Common.{ap, sym, ◌∙◌, arith, append_assoc}
 use Rattle.std.proofs.lemmas.List.{map-append}
 use Rattle.std.proofs.lemmas.List.Elements.{filter-append}
-use Rattle.daq_model.specs.Events.{matches}
+use Rattle.event.specs.Events.{matches}
 use Rattle.buffer_core.specs.Window.{Sent}
 use Rattle.buffer_core.specs.Runs.{events_between}
 use Rattle.buffer_core.specs.Readers.{wanted}

@@ -6,7 +6,7 @@ use Rattle.std.proofs.lemmas.Bool.{eqb-true, eqb-false, lt-leb, leb-true, leb-fa
 use Rattle.std.proofs.lemmas.List.{take-append-le, length-take, length-drop}
 use Rattle.std.proofs.lemmas.List.Elements.{filter-append, filter_agree}
 use Rattle.daq_types.specs.declared.events.Event.{Event}
-use Rattle.daq_model.specs.Events.{matches}
+use Rattle.event.specs.Events.{matches}
 use Rattle.buffer_core.specs.declared.entry.BufferEntry.{BufferEntry}
 use Rattle.buffer_core.proofs.SlotLaws.{split}
 use Rattle.buffer_core.specs.Window.{Sent}

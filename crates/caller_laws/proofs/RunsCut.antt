@@ -5,9 +5,9 @@ use Rattle.std.proofs.Common.{ap, sym, ◌∙◌, subst, arith, append_assoc, in
 use Rattle.daq_types.specs.Callers.{entries_by}
 use Rattle.daq_types.specs.declared.events.Event.{Event}
 use Rattle.daq_types.specs.declared.runs.Kind.TheVariants.{All}
-use Rattle.daq_model.specs.Events.{encoding, all_encoded}
-use Rattle.daq_model.proofs.Events.{all_encoded-append}
-use Rattle.daq_model.specs.RunFile.{begin_record, end_record, begun_file, run_file}
+use Rattle.event.specs.Events.{encoding, all_encoded}
+use Rattle.event.proofs.Events.{all_encoded-append}
+use Rattle.event.specs.RunFile.{begin_record, end_record, begun_file, run_file}
 use Rattle.buffer_core.specs.declared.entry.BufferEntry.{BufferEntry}
 use Rattle.buffer_core.specs.declared.entry.BufferEntry.TheVariants.{Request, Begin, End}
 use Rattle.buffer_core.specs.Window.{Sent}

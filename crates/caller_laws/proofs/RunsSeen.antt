@@ -10,7 +10,7 @@ use Rattle.daq_types.specs.Callers.{entries_by}
 use Rattle.daq_types.proofs.CallersLaws.{entries_by-own}
 use Rattle.daq_types.specs.declared.events.Event.{Event}
 use Rattle.daq_types.specs.declared.runs.Kind.TheVariants.{All}
-use Rattle.daq_model.specs.Events.{matches}
+use Rattle.event.specs.Events.{matches}
 use Rattle.buffer_core.specs.declared.replies.Received.TheVariants.{Empty}
 use Rattle.buffer_core.specs.declared.entry.BufferEntry.{BufferEntry}
 use Rattle.buffer_core.specs.declared.entry.BufferEntry.TheVariants.{Request, Receive, End}

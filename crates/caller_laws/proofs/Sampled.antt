@@ -4,7 +4,7 @@ use Rattle.std.specs.List.{AllByRecursion}
 use Rattle.std.proofs.Common.{ap, subst, arith}
 use Rattle.daq_types.specs.Callers.{entries_by}
 use Rattle.daq_types.specs.declared.events.Event.{Event}
-use Rattle.daq_model.specs.Events.{matches, slot_of_length}
+use Rattle.event.specs.Events.{matches, slot_of_length}
 use Rattle.buffer_core.specs.declared.gate.RunGate.TheVariants.{Shut}
 use Rattle.buffer_core.specs.declared.replies.Received.TheVariants.{Got, Empty}
 use Rattle.buffer_core.specs.declared.entry.BufferEntry.{BufferEntry}

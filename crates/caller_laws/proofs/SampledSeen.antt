@@ -1,6 +1,6 @@
 -- The samples of a run that was seen through meet what is said of them.
 use Rattle.std.specs.Prelude.{◌≢◌, ℕ, List, [], ◌∷◌, Ok, refl}
-use Rattle.daq_model.specs.Events.{matches, slot_of_length}
+use Rattle.event.specs.Events.{matches, slot_of_length}
 use Rattle.buffer_core.specs.declared.gate.RunGate.TheVariants.{Shut}
 use Rattle.buffer_core.specs.declared.replies.Received.TheVariants.{Got}
 use Rattle.buffer_core.specs.declared.entry.BufferEntry.{BufferEntry}

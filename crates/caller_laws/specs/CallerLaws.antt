@@ -5,8 +5,8 @@ use mathlib.Core.List.{IsPrefix}
 use Rattle.daq_types.specs.Callers.{entries_by}
 use Rattle.daq_types.specs.declared.events.Event.{Event}
 use Rattle.daq_types.specs.declared.runs.Kind.TheVariants.{All as KindAll}
-use Rattle.daq_model.specs.Events.{record_limit}
-use Rattle.daq_model.specs.RunFile.{begun_file, run_file, IsFileEvent, IsRunFile}
+use Rattle.event.specs.Events.{record_limit}
+use Rattle.event.specs.RunFile.{begun_file, run_file, IsFileEvent, IsRunFile}
 use Rattle.buffer_core.specs.declared.entry.BufferEntry.{BufferEntry}
 use Rattle.buffer_core.specs.declared.entry.BufferEntry.TheVariants.{Request, SendInRun}
 use Rattle.buffer_core.specs.Window.{Sent, opening}

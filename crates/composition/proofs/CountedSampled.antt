@@ -9,8 +9,8 @@ use Rattle.daq_types.specs.declared.runs.Kind.TheVariants.{All}
 use Rattle.daq_types.specs.declared.runs.RunState.TheVariants.{Stopped, Running}
 use Rattle.daq_types.specs.declared.runs.Transition.{Transition}
 use Rattle.daq_types.specs.declared.runs.Transition.TheVariants.{Start, Stop}
-use Rattle.daq_model.specs.Events.{encoding, all_encoded, matches, slot_of_length}
-use Rattle.daq_model.proofs.Events.{length-encoding}
+use Rattle.event.specs.Events.{encoding, all_encoded, matches, slot_of_length}
+use Rattle.event.proofs.Events.{length-encoding}
 use Rattle.buffer_core.proofs.SlotLaws.{split}
 use Rattle.buffer_core.specs.declared.gate.RunGate.TheVariants.{Shut}
 use Rattle.buffer_core.specs.declared.replies.Received.TheVariants.{Got, Empty}
@@ -31,7 +31,7 @@ use Rattle.transitions.specs.Engines.{engine_opening}
 use Rattle.transitions.specs.EngineCalls.{order_for}
 use Rattle.transitions.specs.EngineHistories.{EngineHistory, IsLegalEngine, IsSheet}
 use Rattle.transitions.specs.EngineSamples.{at_all}
-use Rattle.run_states.specs.Sequences.{sequence_for}
+use Rattle.transitions.specs.Sequences.{sequence_for}
 use Rattle.member_model.specs.Turns.{MemberTurn, HasTurn}
 use Rattle.member_model.specs.SentCalls.{EachCall}
 use Rattle.member_model.specs.OwnCalls.{calls_after, AreOwnCalls, SendsNone, AreGivenBy}

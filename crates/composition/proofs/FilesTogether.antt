@@ -11,8 +11,8 @@ use Rattle.daq_types.specs.declared.runs.StartOutcome.{StartOutcome}
 use Rattle.daq_types.specs.declared.runs.StartOutcome.TheVariants.{Completed}
 use Rattle.daq_types.specs.declared.runs.Transition.{Transition}
 use Rattle.daq_types.specs.declared.runs.Transition.TheVariants.{Start, Stop}
-use Rattle.daq_model.specs.Events.{record_limit}
-use Rattle.daq_model.specs.RunFile.{begun_file, run_file, IsFileEvent}
+use Rattle.event.specs.Events.{record_limit}
+use Rattle.event.specs.RunFile.{begun_file, run_file, IsFileEvent}
 use Rattle.daq_io.specs.Seen.{IsStored}
 use Rattle.buffer_core.specs.declared.entry.BufferEntry.{BufferEntry}
 use Rattle.buffer_core.specs.declared.entry.BufferEntry.TheVariants.{Begin as BufferBegin, Pause, Resume, End}

@@ -14,8 +14,8 @@ use Rattle.daq_types.specs.declared.runs.StartOutcome.TheVariants.{Completed}
 use Rattle.daq_types.specs.declared.runs.Transition.{Transition}
 use Rattle.daq_types.specs.declared.runs.Transition.TheVariants.{Start, Stop}
 use Rattle.buffer_core.specs.declared.entry.BufferEntry.TheVariants.{Begin as BufferBegin}
-use Rattle.daq_model.specs.Events.{header_bytes, matches}
-use Rattle.daq_model.specs.RunFile.{run_file, IsFileEvent}
+use Rattle.event.specs.Events.{header_bytes, matches}
+use Rattle.event.specs.RunFile.{run_file, IsFileEvent}
 use Rattle.daq_io.specs.Seen.{Stored, stored_closed}
 use Rattle.buffer_core.proofs.SlotLaws.{split}
 use Rattle.buffer_core.specs.Window.{opening}
@@ -26,7 +26,7 @@ use Rattle.odb_value.specs.declared.items.Item.TheVariants.{UInt64}
 use Rattle.odb_tree.specs.declared.entry.DatabaseEntry.{DatabaseEntry}
 use Rattle.odb_tree.specs.declared.entry.DatabaseEntry.TheVariants.{Set}
 use Rattle.odb_watch.specs.declared.entry.WatchEntry.TheVariants.{Watch}
-use Rattle.odb_port.specs.DatabasePorts.{row_calls}
+use Rattle.odb_watch.specs.DatabasePorts.{row_calls}
 use Rattle.odb_runinfo.specs.RunKeys.{sent_path}
 use Rattle.odb_runinfo.specs.RunSets.{AreSets, sent_set}
 use Rattle.transitions.specs.declared.sheet.Sheet.{Sheet}
@@ -42,7 +42,7 @@ use Rattle.transitions.specs.Engines.{engine_opening}
 use Rattle.transitions.specs.EngineCalls.{order_for}
 use Rattle.transitions.specs.EngineHistories.{EngineHistory, IsLegalEngine}
 use Rattle.transitions.specs.EngineSamples.{at_all}
-use Rattle.run_states.specs.Sequences.{sequence_for}
+use Rattle.transitions.specs.Sequences.{sequence_for}
 use Rattle.member_model.specs.Turns.{MemberTurn, HasTurn}
 use Rattle.member_model.specs.Moments.{HasMoment}
 use Rattle.member_model.specs.SentCalls.{own_sent, EachCall}

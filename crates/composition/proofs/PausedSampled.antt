@@ -16,8 +16,8 @@ use Rattle.daq_types.specs.declared.runs.RunState.TheVariants.{Stopped, Paused, 
 use Rattle.daq_types.specs.declared.runs.Transition.{Transition}
 use Rattle.daq_types.specs.declared.runs.Transition.TheVariants.{Start, Stop, Pause}
 use Rattle.daq_types.specs.declared.runs.Why.TheVariants.{NotReady}
-use Rattle.daq_model.specs.Events.{matches, slot_of_length, record_limit}
-use Rattle.daq_model.specs.RunFile.{IsFileEvent}
+use Rattle.event.specs.Events.{matches, slot_of_length, record_limit}
+use Rattle.event.specs.RunFile.{IsFileEvent}
 use Rattle.buffer_core.proofs.SlotLaws.{split}
 use Rattle.buffer_core.specs.declared.gate.RunGate.TheVariants.{Shut}
 use Rattle.buffer_core.specs.declared.replies.Received.TheVariants.{Got, Empty}
@@ -39,7 +39,7 @@ use Rattle.transitions.specs.Called.{called_list}
 use Rattle.transitions.specs.Engines.{engine_opening}
 use Rattle.transitions.specs.EngineCalls.{order_for}
 use Rattle.transitions.specs.EngineHistories.{EngineHistory, IsLegalEngine, IsSheet}
-use Rattle.run_states.specs.Sequences.{sequence_for}
+use Rattle.transitions.specs.Sequences.{sequence_for}
 use Rattle.member_model.specs.Turns.{MemberTurn, HasTurn, HasTurnOf}
 use Rattle.member_model.specs.Moments.{HasMoment}
 use Rattle.member_model.specs.SentCalls.{SendsNotIn, EachCall}

@@ -13,8 +13,8 @@ use Rattle.daq_types.specs.declared.runs.FrontEnded.TheVariants.{Quota}
 use Rattle.daq_types.specs.declared.runs.RunState.TheVariants.{Stopped, Running}
 use Rattle.daq_types.specs.declared.runs.Transition.{Transition}
 use Rattle.daq_types.specs.declared.runs.Transition.TheVariants.{Start, Stop, Pause}
-use Rattle.daq_model.specs.Events.{matches, slot_of_length, record_limit}
-use Rattle.daq_model.specs.RunFile.{IsFileEvent}
+use Rattle.event.specs.Events.{matches, slot_of_length, record_limit}
+use Rattle.event.specs.RunFile.{IsFileEvent}
 use Rattle.buffer_core.proofs.SlotLaws.{split}
 use Rattle.buffer_core.specs.declared.gate.RunGate.TheVariants.{Shut}
 use Rattle.buffer_core.specs.declared.replies.Received.TheVariants.{Got, Empty}
@@ -41,7 +41,7 @@ use Rattle.member_model.specs.Turns.{MemberTurn, HasTurn, HasTurnOf}
 use Rattle.member_model.specs.Moments.{HasMoment}
 use Rattle.member_model.specs.SentCalls.{SendsNotIn, EachCall}
 use Rattle.member_model.specs.OwnCalls.{calls_after, AreOwnCalls, SendsNone}
-use Rattle.run_states.specs.Sequences.{sequence_for}
+use Rattle.transitions.specs.Sequences.{sequence_for}
 use Rattle.member_model.specs.ReadRuns.{HasReadRun}
 use Rattle.member_model.specs.LoggerKept.{LoggerChannel, LoggerPort, HasWritten, TellsState, IsStartAnswer, IsStateSo, KeepsLogger}
 use Rattle.front_ends.specs.Spans.{HasSpan}

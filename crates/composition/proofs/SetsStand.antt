@@ -6,7 +6,7 @@ use Rattle.buffer_core.specs.declared.entry.BufferEntry.{BufferEntry}
 use Rattle.odb_tree.specs.declared.entry.DatabaseEntry.{DatabaseEntry}
 use Rattle.odb_watch.specs.declared.entry.WatchEntry.{WatchEntry}
 use Rattle.odb_watch.specs.declared.entry.WatchEntry.TheVariants.{Call}
-use Rattle.odb_port.specs.DatabasePorts.{row_calls}
+use Rattle.odb_watch.specs.DatabasePorts.{row_calls}
 use Rattle.odb_runinfo.specs.RunSets.{Assignment, AreSets, sent_set}
 use Rattle.member_model.specs.Turns.{MemberTurn, HasAnswer}
 use Rattle.member_model.specs.Moments.{HasMoment}

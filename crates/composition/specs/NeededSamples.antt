@@ -5,7 +5,7 @@ use Rattle.daq_types.specs.declared.runs.Kind.TheVariants.{All}
 use Rattle.daq_types.specs.declared.runs.RunState.TheVariants.{Stopped, Running}
 use Rattle.daq_types.specs.declared.runs.StartOutcome.TheVariants.{Completed}
 use Rattle.daq_types.specs.declared.runs.Transition.TheVariants.{Start, Stop}
-use Rattle.daq_model.specs.RunFile.{run_file}
+use Rattle.event.specs.RunFile.{run_file}
 use Rattle.daq_io.specs.Seen.{Seen, stored_closed}
 use Rattle.buffer_core.specs.declared.entry.BufferEntry.TheVariants.{SendInRun, Begin as BufferBegin, End as BufferEnd}
 use Rattle.buffer_core.specs.Window.{any}

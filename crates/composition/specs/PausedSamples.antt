@@ -8,9 +8,9 @@ use Rattle.daq_types.specs.declared.runs.RunState.TheVariants.{Stopped, Paused, 
 use Rattle.daq_types.specs.declared.runs.StartOutcome.TheVariants.{Completed, Refused}
 use Rattle.daq_types.specs.declared.runs.Transition.TheVariants.{Start, Stop, Pause}
 use Rattle.daq_types.specs.declared.runs.Why.TheVariants.{NotReady}
-use Rattle.daq_model.specs.RunFile.{run_file}
+use Rattle.event.specs.RunFile.{run_file}
 use Rattle.daq_io.specs.Seen.{Seen, stored_closed}
-use Rattle.run_states.specs.declared.sequences.Sequences.{Sequences}
+use Rattle.transitions.specs.declared.sequences.Sequences.{Sequences}
 use Rattle.buffer_core.specs.declared.gate.RunGate.TheVariants.{Shut}
 use Rattle.buffer_core.specs.declared.replies.Received.TheVariants.{Got, Empty}
 use Rattle.buffer_core.specs.declared.entry.BufferEntry.TheVariants.{Attach, Request, SendInRun, Receive, Begin as BufferBegin, Pause as BufferPause, End as BufferEnd}

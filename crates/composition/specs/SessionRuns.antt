@@ -12,7 +12,7 @@ use Rattle.daq_types.specs.declared.runs.Order.{Order}
 use Rattle.daq_types.specs.declared.runs.RunState.TheVariants.{Stopped, Paused}
 use Rattle.daq_types.specs.declared.runs.StartOutcome.TheVariants.{Completed}
 use Rattle.daq_types.specs.declared.runs.Transition.TheVariants.{Start, Stop}
-use Rattle.daq_model.specs.RunFile.{run_file, IsRunFile}
+use Rattle.event.specs.RunFile.{run_file, IsRunFile}
 use Rattle.daq_io.specs.Seen.{IsStored}
 use Rattle.buffer_core.specs.declared.gate.RunGate.{RunGate}
 use Rattle.buffer_core.specs.declared.replies.Received.TheVariants.{Empty}

@@ -8,3 +8,7 @@ pub mod TurnSets
 pub mod OtherFilesKept
 pub mod LoggerReasons
 pub mod LoggerNames
+pub mod BareLaws
+pub mod AnalyzerLaws
+pub mod ManyLaws
+pub mod CrewLaws

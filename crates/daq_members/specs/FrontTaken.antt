@@ -8,7 +8,7 @@ use Rattle.buffer_core.specs.declared.entry.BufferEntry.{BufferEntry}
 use Rattle.buffer_core.specs.Ports.{Access}
 use Rattle.odb_tree.specs.declared.entry.DatabaseEntry.{DatabaseEntry}
 use Rattle.odb_watch.specs.declared.entry.WatchEntry.{WatchEntry}
-use Rattle.odb_port.specs.DatabasePorts.{DatabaseAccess, AddsCall, own_watched}
+use Rattle.odb_watch.specs.DatabasePorts.{DatabaseAccess, AddsCall, own_watched}
 use Rattle.odb_runinfo.specs.RunSets.{IsSet, sent_set}
 use Rattle.turn_lock.specs.Passes.{own_entries}
 use Rattle.transitions.specs.declared.answers.Answer.{Answer}

@@ -5,3 +5,8 @@ pub mod LoggerTaken
 pub mod FrontSeats
 pub mod StartedRuns
 pub mod LoggerSeats
+pub mod BareTurns
+pub mod AnalyzerTaken
+pub mod SeatedAnalyzers
+pub mod ManyAnalyzers
+pub mod Crews

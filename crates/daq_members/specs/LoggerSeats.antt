@@ -1,7 +1,7 @@
 -- The logger in a session, with its own ports to the buffers and the run files.
 use Rattle.std.specs.Prelude.{◌≡◌, ◌≤◌, ℕ, true, IfSome, List, length, Option}
 use Rattle.daq_types.specs.Callers.{caller_of_client}
-use Rattle.daq_model.specs.Events.{record_limit}
+use Rattle.event.specs.Events.{record_limit}
 use Rattle.daq_io.specs.Seen.{Seen}
 use Rattle.buffer_core.specs.Ports.{Access}
 use Rattle.transitions.specs.declared.entry.EngineEntry.{EngineEntry}

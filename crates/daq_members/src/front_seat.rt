@@ -1,7 +1,7 @@
 // A front-end in a session, with what it calls.
 ghost use Rattle.std.specs.Prelude.{◌≡◌, ◌≤◌, None};
 ghost use Rattle.daq_types.specs.Callers.{caller_of_client};
-ghost use Rattle.odb_port.specs.DatabasePorts.{own_watched};
+ghost use Rattle.odb_watch.specs.DatabasePorts.{own_watched};
 ghost use Rattle.turn_lock.specs.Passes.{number_of, held_by, own_entries, IsOf};
 ghost use Rattle.transition_lock.specs.SharedEngines.{engine_lock_of};
 ghost use Rattle.daq_members.specs.FrontTaken.{TakesFront, FrontMemberStands};
@@ -12,7 +12,7 @@ use buffer_core::BufferPort;
 use daq_io::Gate;
 use daq_types::Name;
 use front_ends::Equipment;
-use odb_port::WatchPort;
+use odb_watch::WatchPort;
 use std::marker::Model;
 use std::sync::Wait;
 use transition_lock::EnginePass;

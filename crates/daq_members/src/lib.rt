@@ -1,19 +1,30 @@
-//! Members of a session. Each has its place at the engine, where it asks for its turns and answers them, and goes on
-//! with its work by what it hears there: a front-end sends its events and says in the database how many it sent, and the
-//! logger writes the run files.
+//! Members of a session. Each has its place at the engine, where it asks for its turns and answers them, and goes on with its
+//! work by what it hears there: a front-end sends its events and says in the database how many it sent, the logger writes the
+//! run files, and an analyzer reads the events that it asks for and tells at the stop of a run what it counted. The members of
+//! a session stand one beside the other, and have their turns round by round.
 #![tactic(auto)]
 
+pub mod analyzer_laws;
+mod analyzer_member;
+mod analyzer_seat;
+mod crew;
+pub mod crew_laws;
 mod front_member;
 mod front_seat;
 pub mod laws;
 mod logger_member;
 mod logger_seat;
 mod seat;
+mod seats;
 mod turned;
 
+pub use analyzer_member::AnalyzerMember;
+pub use analyzer_seat::{AnalyzerParts, AnalyzerSeat};
+pub use crew::{Crew, CrewParts};
 pub use front_member::{FrontMember, turned_by};
 pub use front_seat::{FrontParts, FrontSeat};
 pub use logger_member::LoggerMember;
 pub use logger_seat::{LoggerParts, LoggerSeat};
 pub use seat::Seat;
+pub use seats::{AnalyzerSeats, ask_all, turn_at};
 pub use turned::Turned;

@@ -1,7 +1,7 @@
 ghost use Rattle.std.specs.Prelude.{◌≡◌, ◌≤◌, ◌||◌, ℕ, List, length, map, IfSome, None, is_some, unwrap_or};
 ghost use Rattle.std.specs.Option.{option_copied};
 ghost use Rattle.daq_types.specs.Callers.{caller_of_client};
-ghost use Rattle.daq_model.specs.Events.{record_limit};
+ghost use Rattle.event.specs.Events.{record_limit};
 ghost use Rattle.buffer_core.specs.Slots.{slot_at};
 ghost use Rattle.transitions.specs.EngineHistories.{IsFairTurn};
 ghost use Rattle.member_model.specs.Turns.{MemberTurn};

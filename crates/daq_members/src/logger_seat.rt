@@ -1,7 +1,7 @@
 // The logger in a session, with what it calls.
 ghost use Rattle.std.specs.Prelude.{◌≡◌, ◌≤◌, ℕ, [], length, map, IfSome, None};
 ghost use Rattle.daq_types.specs.Callers.{caller_of_client};
-ghost use Rattle.daq_model.specs.Events.{record_limit};
+ghost use Rattle.event.specs.Events.{record_limit};
 ghost use Rattle.buffer_core.specs.Slots.{some_slot};
 ghost use Rattle.turn_lock.specs.Passes.{number_of, held_by, own_entries, IsOf};
 ghost use Rattle.transition_lock.specs.SharedEngines.{engine_lock_of};

@@ -10,10 +10,10 @@ use Rattle.daq_types.specs.Callers.{entries_by, main_caller}
 use Rattle.frontend_kit.specs.declared.generator.Generator.{Generator}
 use Rattle.odb_watch.specs.declared.entry.WatchEntry.{WatchEntry}
 use Rattle.odb_lock.specs.declared.shared.SharedOdb.{SharedOdb}
-use Rattle.session_crew.specs.Crews.{CrewTold}
+use Rattle.daq_members.specs.Crews.{CrewTold}
 use Rattle.session_objects.specs.Calls.{HoldsParts}
 use Rattle.session_lines.specs.Stages.{SessionStage}
-use Rattle.script_desk.specs.declared.endings.Ending.{Ending}
+use Rattle.console.specs.declared.endings.Ending.{Ending}
 use Rattle.daq_session.specs.declared.left.LeftBehind.{LeftBehind}
 use Rattle.daq_session.specs.declared.left.LeftBehind.TheVariants.{Session, Unopened, Nothing}
 use Rattle.daq_session.specs.Played.{IsMainAlone, SessionEnds, seen_by_main}

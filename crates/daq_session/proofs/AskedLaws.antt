@@ -12,9 +12,9 @@ use Rattle.transitions.specs.declared.entry.EngineEntry.{EngineEntry}
 use Rattle.transitions.specs.declared.entry.EngineEntry.TheVariants.{Register, Begin, Poll, Answer, Check, Close}
 use Rattle.transitions.specs.declared.replies.BeginRefusal.{BeginRefusal}
 use Rattle.transitions.specs.declared.sheet.Sheet.{Sheet}
-use Rattle.run_records.specs.declared.records.RunRecord.{RunRecord}
-use Rattle.session_crew.specs.Crews.{CrewTold}
-use Rattle.session_engine.specs.MadeTransitions.{TransitionIn, done_check}
+use Rattle.session_runs.specs.declared.records.RunRecord.{RunRecord}
+use Rattle.daq_members.specs.Crews.{CrewTold}
+use Rattle.session_runs.specs.MadeTransitions.{TransitionIn, done_check}
 use Rattle.session_objects.specs.declared.record.SessionRecord.{SessionRecord}
 use Rattle.session_runs.specs.KeptRuns.{RunsSeen}
 use Rattle.session_runs.specs.RunsFit.{MainOwn, start_begun, start_of, starts_begun}

@@ -7,9 +7,9 @@ use Rattle.daq_types.specs.declared.runs.RunState.{RunState}
 use Rattle.frontend_kit.specs.declared.generator.Generator.{Generator}
 use Rattle.odb_watch.specs.declared.entry.WatchEntry.{WatchEntry}
 use Rattle.odb_watch.specs.declared.entry.WatchEntry.TheVariants.{Save}
-use Rattle.odb_port.specs.DatabasePorts.{row_calls}
-use Rattle.run_records.specs.declared.records.RunRecord.{RunRecord}
-use Rattle.session_crew.specs.Crews.{CrewTold}
+use Rattle.odb_watch.specs.DatabasePorts.{row_calls}
+use Rattle.session_runs.specs.declared.records.RunRecord.{RunRecord}
+use Rattle.daq_members.specs.Crews.{CrewTold}
 use Rattle.session_objects.specs.declared.record.SessionRecord.{SessionRecord}
 use Rattle.session_runs.specs.RunEntries.{StopCalls, dump_saved}
 use Rattle.session_runs.specs.RunsFit.{MainOwn, StandCalls}

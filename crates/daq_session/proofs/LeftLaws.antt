@@ -2,7 +2,7 @@
 use Rattle.std.specs.Prelude.{◌≡◌, Option}
 use Rattle.std.proofs.Common.{sym, subst}
 use Rattle.daq_io.specs.declared.objects.Outside.{Outside}
-use Rattle.database_files.specs.NotedReplies.{NotedReplies}
+use Rattle.odb_commands.specs.NotedReplies.{NotedReplies}
 use Rattle.session_objects.specs.declared.record.SessionRecord.{SessionRecord}
 use Rattle.daq_session.specs.declared.ends.ScriptEnd.{ScriptEnd}
 use Rattle.daq_session.specs.declared.played.LinesEnd.{LinesEnd}

@@ -2,16 +2,16 @@
 use Rattle.std.proofs.Common.{◌≡◌, ◌≤◌, ℕ, suc, ◌+◌, List, [], ◌∷◌, ◌++◌, map, length, ap, ◌∙◌, arith, length-append}
 use Rattle.std.specs.Prelude.{None}
 use Rattle.std.proofs.lemmas.List.{length-map}
-use Rattle.run_states.specs.declared.sequences.Role.TheVariants.{Analyzer, FrontEnd, Logger}
+use Rattle.transitions.specs.declared.sequences.Role.TheVariants.{Analyzer, FrontEnd, Logger}
 use Rattle.mid_logger.specs.ChannelTurns.{logger_name}
 use Rattle.mid_logger.specs.declared.channel_spec.ChannelSpec.{ChannelSpec}
 use Rattle.transitions.specs.Limits.{most_clients}
 use Rattle.transitions.specs.declared.entry.EngineEntry.{EngineEntry}
 use Rattle.transition_lock.specs.declared.shared.SharedEngine.{SharedEngine}
-use Rattle.session_engine.specs.declared.opening.MemberName.{MemberName}
-use Rattle.session_engine.specs.MainKnowledge.{known_from}
-use Rattle.session_engine.specs.MainSeats.{MainSeen}
-use Rattle.session_engine.specs.Members.{member_in, registrations}
+use Rattle.session_runs.specs.declared.opening.MemberName.{MemberName}
+use Rattle.session_runs.specs.MainKnowledge.{known_from}
+use Rattle.session_runs.specs.MainSeats.{MainSeen}
+use Rattle.session_runs.specs.Members.{member_in, registrations}
 use Rattle.session_setup.specs.declared.declared.AnalyzerDeclared.{AnalyzerDeclared}
 use Rattle.session_setup.specs.declared.declared.DeclaredLists.{DeclaredLists}
 use Rattle.session_setup.specs.declared.declared.FrontDeclared.{FrontDeclared}

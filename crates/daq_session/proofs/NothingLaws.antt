@@ -4,19 +4,19 @@ use Rattle.std.proofs.lemmas.List.{append-nil}
 use Rattle.std.specs.Io.KnownBytes.{Appends, Keeps}
 use Rattle.daq_types.specs.Callers.{main_caller}
 use Rattle.daq_io.specs.declared.objects.Outside.{Outside}
-use Rattle.database_files.specs.declared.replies.FileReply.{FileReply}
+use Rattle.odb_commands.specs.declared.dump_replies.FileReply.{FileReply}
 use Rattle.odb_runinfo.specs.RunKeys.{session_rows}
 use Rattle.odb_watch.specs.Steps.{unwatched}
-use Rattle.odb_port.specs.DatabasePorts.{DatabaseAccess}
+use Rattle.odb_watch.specs.DatabasePorts.{DatabaseAccess}
 use Rattle.odb_lock.specs.SharedAccesses.{shared_access}
-use Rattle.database_desk.specs.DatabaseStages.{DumpFiles}
+use Rattle.console.specs.DatabaseStages.{DumpFiles}
 use Rattle.session_runs.specs.RunAnswers.{ClockTold}
-use Rattle.session_replies.specs.declared.refusals.Refusals.{Refusals}
+use Rattle.console.specs.declared.refusals.Refusals.{Refusals}
 use Rattle.session_lines.specs.Stages.{first_stage}
 use Rattle.session_lines.specs.ScriptLines.{BreaksScriptLine, ClosesScript, DoesScriptLine, GivesUp}
-use Rattle.script_desk.specs.declared.endings.Ending.TheVariants.{Halted}
-use Rattle.script_desk.specs.declared.halts.Halt.TheVariants.{NoMemory as no_memory}
-use Rattle.script_desk.specs.Closing.{Finished}
+use Rattle.console.specs.declared.endings.Ending.TheVariants.{Halted}
+use Rattle.console.specs.declared.halts.Halt.TheVariants.{NoMemory as no_memory}
+use Rattle.console.specs.Closing.{Finished}
 use Rattle.session_commands.specs.Endings.{OneReply}
 use Rattle.daq_session.specs.declared.ends.ScriptEnd.TheVariants.{NoMemory}
 use Rattle.daq_session.specs.Environments.{Environment, OutsideTold, environment}

@@ -18,12 +18,12 @@ use Rattle.odb_tree.specs.declared.refusals.OdbRefusal.{OdbRefusal}
 use Rattle.odb_watch.specs.Steps.{LeadsDatabase, StepsDatabase}
 use Rattle.odb_watch.specs.declared.entry.WatchEntry.{WatchEntry}
 use Rattle.odb_watch.specs.declared.entry.WatchEntry.TheVariants as call
-use Rattle.odb_port.specs.DatabasePorts.{IsSettled, calls_by, row_calls}
+use Rattle.odb_watch.specs.DatabasePorts.{IsSettled, calls_by, row_calls}
 use Rattle.odb_runinfo.specs.RunKeys.{key_path, session_rows}
 use Rattle.odb_runinfo.specs.declared.keys.RunKey.TheVariants.{RunNumber}
 use Rattle.odb_runinfo.specs.RunNumberKept.{AllSpareRuninfo, HasRunNumber}
 use Rattle.odb_runinfo.specs.RunSets.{AreSets, Assignment, number_asked}
-use Rattle.watch_commands.specs.WatchSpares.{AllSpareWatched, SparesWatched}
+use Rattle.odb_commands.specs.WatchSpares.{AllSpareWatched, SparesWatched}
 use Rattle.member_model.specs.Turns.{MemberTurn}
 use Rattle.caller_laws.specs.CallerLaws.{SendIsAmong}
 use Rattle.composition.specs.SentSets.{AreSetsAlone, AreTurnSets}

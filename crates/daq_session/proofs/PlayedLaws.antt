@@ -7,14 +7,14 @@ use Rattle.transitions.specs.declared.entry.EngineEntry.{EngineEntry}
 use Rattle.transition_lock.specs.declared.shared.SharedEngine.{SharedEngine}
 use Rattle.transition_lock.specs.SharedEngines.{first_engine}
 use Rattle.odb_watch.specs.declared.entry.WatchEntry.{WatchEntry}
-use Rattle.odb_port.specs.DatabasePorts.{DatabaseAccess}
+use Rattle.odb_watch.specs.DatabasePorts.{DatabaseAccess}
 use Rattle.odb_lock.specs.declared.shared.SharedOdb.{SharedOdb}
 use Rattle.frontend_kit.specs.declared.generator.Generator.{Generator}
 use Rattle.daq_members.specs.FrontSeats.{FrontSeen}
 use Rattle.daq_members.specs.LoggerSeats.{LoggerSeen}
-use Rattle.analyzer_seats.specs.SeatedAnalyzers.{AnalyzerSeen}
-use Rattle.database_files.specs.NotedReplies.{NotedReplies}
-use Rattle.database_desk.specs.DatabaseStages.{DatabaseStage}
+use Rattle.daq_members.specs.SeatedAnalyzers.{AnalyzerSeen}
+use Rattle.odb_commands.specs.NotedReplies.{NotedReplies}
+use Rattle.console.specs.DatabaseStages.{DatabaseStage}
 use Rattle.session_setup.specs.Setup.{Declared, declared_by}
 use Rattle.session_setup.specs.SetupLines.{opened_with_defaults}
 use Rattle.session_setup.specs.declared.declared.AnalyzerDeclared.{AnalyzerDeclared}
@@ -28,8 +28,8 @@ use Rattle.session_runs.specs.KeptRuns.{RunsSeen}
 use Rattle.session_runs.specs.RunAnswers.{ClockTold}
 use Rattle.session_lines.specs.Stages.{SessionStage, front_names, open_stage, opened_runs, unopened_stage}
 use Rattle.session_lines.specs.RunLines.{CutsKeys, CutsOpening, KeysMade, MakesKeys, OpensSession}
-use Rattle.script_desk.specs.declared.endings.Ending.TheVariants.{Halted}
-use Rattle.script_desk.specs.declared.halts.Halt.TheVariants.{NoMemory as no_memory}
+use Rattle.console.specs.declared.endings.Ending.TheVariants.{Halted}
+use Rattle.console.specs.declared.halts.Halt.TheVariants.{NoMemory as no_memory}
 use Rattle.session_commands.specs.declared.script.Script.{Script}
 use Rattle.daq_session.specs.Environments.{OutsideTold}
 use Rattle.daq_session.specs.Played.{TellsEnd}

@@ -6,8 +6,8 @@ use Rattle.mid_logger.specs.declared.channel_spec.ChannelSpec.{ChannelSpec}
 use Rattle.turn_lock.specs.Passes.{passes_of}
 use Rattle.odb_lock.specs.declared.shared.SharedOdb.{SharedOdb}
 use Rattle.odb_lock.specs.SharedOdbs.{odb_lock_of}
-use Rattle.session_crew.specs.Crews.{CrewTold}
-use Rattle.run_records.specs.declared.records.RunRecord.{RunRecord}
+use Rattle.daq_members.specs.Crews.{CrewTold}
+use Rattle.session_runs.specs.declared.records.RunRecord.{RunRecord}
 use Rattle.session_setup.specs.Setup.{AreSound, Declared, declared_by}
 use Rattle.session_setup.specs.SetupLines.{opened_with_defaults}
 use Rattle.session_setup.specs.declared.declared.AnalyzerDeclared.{AnalyzerDeclared}
@@ -18,12 +18,12 @@ use Rattle.session_objects.specs.declared.objects.SessionObjects.{SessionObjects
 use Rattle.session_objects.specs.declared.passes.SessionPasses.{SessionPasses}
 use Rattle.session_objects.specs.Objects.{AreObjectsOf, HaveCallers}
 use Rattle.session_runs.specs.RunAnswers.{ClockTold}
-use Rattle.database_desk.specs.DatabaseStages.{DatabaseStage}
+use Rattle.console.specs.DatabaseStages.{DatabaseStage}
 use Rattle.session_lines.specs.Stages.{SessionStage, unopened_stage}
 use Rattle.session_lines.specs.RunLines.{CutsOpening}
-use Rattle.script_desk.specs.declared.endings.Ending.{Ending}
-use Rattle.script_desk.specs.declared.endings.Ending.TheVariants.{Halted}
-use Rattle.script_desk.specs.declared.halts.Halt.TheVariants.{NoMemory as no_memory}
+use Rattle.console.specs.declared.endings.Ending.{Ending}
+use Rattle.console.specs.declared.endings.Ending.TheVariants.{Halted}
+use Rattle.console.specs.declared.halts.Halt.TheVariants.{NoMemory as no_memory}
 use Rattle.daq_session.specs.declared.left.EndedObjects.{EndedObjects}
 use Rattle.daq_session.specs.NewDatabases.{database_passes}
 use Rattle.daq_session.specs.Played.{IsEndedSession, ObjectsEnd}

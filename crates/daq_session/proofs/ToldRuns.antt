@@ -13,7 +13,7 @@ use Rattle.daq_types.specs.declared.runs.ChannelState.{ChannelState}
 use Rattle.daq_types.specs.declared.runs.ChannelState.TheVariants.{Broken, Ended}
 use Rattle.daq_types.specs.declared.runs.RunState.TheVariants.{Stopped}
 use Rattle.daq_io.specs.Seen.{IsStored}
-use Rattle.daq_model.specs.RunFile.{IsRunFile, run_file}
+use Rattle.event.specs.RunFile.{IsRunFile, run_file}
 use Rattle.turn_lock.specs.Closing.{history_of}
 use Rattle.buffer_core.specs.declared.entry.BufferEntry.{BufferEntry}
 use Rattle.buffer_core.specs.Window.{Sent, opening}
@@ -46,10 +46,10 @@ use Rattle.loggers.specs.LeftNames.{NoneRose}
 use Rattle.loggers.specs.Moments.{RunFiles}
 use Rattle.loggers.specs.LoggerStands.{logger_channel, logger_channels}
 use Rattle.loggers.specs.OtherFiles.{AreDeclared, specs_in}
-use Rattle.run_records.specs.declared.records.FileRecord.{FileRecord}
-use Rattle.run_records.specs.declared.records.FrontTally.{FrontTally}
-use Rattle.run_records.specs.declared.records.ReportTally.{ReportTally}
-use Rattle.run_records.specs.declared.records.RunRecord.{RunRecord}
+use Rattle.session_runs.specs.declared.records.FileRecord.{FileRecord}
+use Rattle.session_runs.specs.declared.records.FrontTally.{FrontTally}
+use Rattle.session_runs.specs.declared.records.ReportTally.{ReportTally}
+use Rattle.session_runs.specs.declared.records.RunRecord.{RunRecord}
 use Rattle.composition.specs.Sessions.{HasFront, Session, SessionFront}
 use Rattle.composition.specs.CompositionLaws.{IsComposed}
 use Rattle.composition.specs.SessionRuns.{HoldsFilePart, HoldsRunFile, IsOfFront, SessionRun}

@@ -4,9 +4,9 @@ use Rattle.daq_io.specs.Seen.{Seen}
 use Rattle.daq_io.specs.declared.objects.Outside.{Outside}
 use Rattle.loggers.specs.Moments.{RunFiles}
 use Rattle.frontend_kit.specs.declared.generator.Generator.{Generator}
-use Rattle.session_crew.specs.Crews.{CrewTold, crew_told}
+use Rattle.daq_members.specs.Crews.{CrewTold, crew_told}
 use Rattle.session_objects.specs.Members.{generator_makes, generator_takes}
-use Rattle.database_desk.specs.DatabaseStages.{DumpFiles, dump_files}
+use Rattle.console.specs.DatabaseStages.{DumpFiles, dump_files}
 use Rattle.session_runs.specs.RunAnswers.{ClockTold, clock_of}
 
 -- What is left of the script, the text written so far, the run files, the files of the database and the clock, with the counts

@@ -2,7 +2,7 @@
 use Rattle.std.specs.Prelude.{◌≡◌, ℕ, true, List, Option}
 use Rattle.std.specs.List.{list_any}
 use Rattle.daq_io.specs.declared.objects.Outside.{Outside}
-use Rattle.script_desk.specs.Closing.{ended_by}
+use Rattle.console.specs.Closing.{ended_by}
 use Rattle.session_commands.specs.Endings.{NotesFailed, asks_files, is_fault}
 use Rattle.daq_session.specs.declared.ends.ScriptEnd.{ScriptEnd}
 use Rattle.daq_session.specs.declared.played.LinesEnd.{LinesEnd}
@@ -20,7 +20,7 @@ HasEnd run_faults run_first odb_faults odb_first run odb lines end =
     (asks_files (ended_by lines.ending lines.closing) ≡ true →
     FaultedFile run (run_faults lines.run_files) (run_first lines.run_files) odb (odb_faults lines.odb_files)
     (odb_first lines.odb_files) faulted) ×
-    (end ≡ script_end (ended_by lines.ending lines.closing) faulted lines.script.desk.refusals)
+    (end ≡ script_end (ended_by lines.ending lines.closing) faulted lines.script.line_loop.refusals)
 
 -- the outside as the script leaves it
 abbrev pub outside_left : {S O E C F K : Type 0} → LinesEnd S O E C F K → Outside S O F E C K

@@ -6,7 +6,7 @@ use Rattle.odb_value.specs.declared.items.Item.TheVariants.{Int32}
 use Rattle.odb_tree.specs.declared.refusals.OdbRefusal.{OdbRefusal}
 use Rattle.odb_watch.specs.declared.entry.WatchEntry.{WatchEntry}
 use Rattle.odb_watch.specs.declared.entry.WatchEntry.TheVariants.{Call}
-use Rattle.odb_port.specs.DatabasePorts.{IsSettled}
+use Rattle.odb_watch.specs.DatabasePorts.{IsSettled}
 use Rattle.odb_runinfo.specs.RunNumberKept.{HoldsNumber}
 use Rattle.odb_runinfo.specs.RunSets.{number_asked}
 

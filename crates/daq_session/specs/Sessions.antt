@@ -7,24 +7,24 @@ use Rattle.daq_types.specs.declared.runs.StartOutcome.TheVariants.{Completed, Re
 use Rattle.daq_types.specs.declared.runs.Why.{Why}
 use Rattle.daq_io.specs.declared.objects.Outside.{Outside}
 use Rattle.frontend_kit.specs.declared.generator.Generator.{Generator}
-use Rattle.database_files.specs.declared.replies.FileReply.{FileReply}
-use Rattle.odb_port.specs.DatabasePorts.{DatabaseAccess, own_watched}
+use Rattle.odb_commands.specs.declared.dump_replies.FileReply.{FileReply}
+use Rattle.odb_watch.specs.DatabasePorts.{DatabaseAccess, own_watched}
 use Rattle.odb_runinfo.specs.RunKeys.{session_rows}
 use Rattle.odb_watch.specs.Steps.{unwatched}
 use Rattle.loggers.specs.LeftNames.{NoneRose}
-use Rattle.run_records.specs.declared.records.FileRecord.{FileRecord}
-use Rattle.run_records.specs.declared.records.RunRecord.{RunRecord}
-use Rattle.session_crew.specs.Crews.{CrewTold}
+use Rattle.session_runs.specs.declared.records.FileRecord.{FileRecord}
+use Rattle.session_runs.specs.declared.records.RunRecord.{RunRecord}
+use Rattle.daq_members.specs.Crews.{CrewTold}
 use Rattle.session_setup.specs.Setup.{AreSound}
 use Rattle.session_objects.specs.declared.record.SessionRecord.{SessionRecord}
 use Rattle.session_runs.specs.KeptRuns.{RunsSeen}
 use Rattle.session_runs.specs.RunsFit.{MainOwn}
-use Rattle.session_replies.specs.declared.refusals.Refusals.{Refusals}
+use Rattle.console.specs.declared.refusals.Refusals.{Refusals}
 use Rattle.session_lines.specs.Stages.{SessionStage, first_stage}
 use Rattle.session_lines.specs.ScriptLines.{BreaksScriptLine, ClosesScript, DoesScriptLine, GivesUp}
-use Rattle.script_desk.specs.declared.endings.Ending.{Ending}
-use Rattle.script_desk.specs.declared.halts.Halt.{Halt}
-use Rattle.script_desk.specs.Closing.{EndCounts, Finished, ended_by}
+use Rattle.console.specs.declared.endings.Ending.{Ending}
+use Rattle.console.specs.declared.halts.Halt.{Halt}
+use Rattle.console.specs.Closing.{EndCounts, Finished, ended_by}
 use Rattle.session_commands.specs.Endings.{NotesFailed, OneReply, asks_files, is_fault}
 use Rattle.session_commands.specs.Keeping.{StageSaved}
 use Rattle.session_commands.specs.KeptDumps.{KeepsDumps}

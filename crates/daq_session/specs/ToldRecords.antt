@@ -9,7 +9,7 @@ use Rattle.daq_types.specs.declared.runs.RunState.TheVariants.{Stopped}
 use Rattle.daq_types.specs.declared.runs.StartOutcome.TheVariants.{Completed, Refused}
 use Rattle.daq_types.specs.declared.runs.Why.{Why}
 use Rattle.daq_io.specs.Seen.{Seen, IsStored}
-use Rattle.daq_model.specs.RunFile.{IsRunFile, run_file}
+use Rattle.event.specs.RunFile.{IsRunFile, run_file}
 use Rattle.turn_lock.specs.Closing.{history_of}
 use Rattle.buffer_core.specs.Window.{Sent, opening}
 use Rattle.buffer_core.specs.Histories.{IsLegal}
@@ -36,11 +36,11 @@ use Rattle.mid_logger.specs.declared.channel_spec.ChannelSpec.{ChannelSpec}
 use Rattle.loggers.specs.LeftNames.{NoneRose}
 use Rattle.loggers.specs.Moments.{RunFiles}
 use Rattle.loggers.specs.OtherFiles.{AreDeclared}
-use Rattle.run_records.specs.declared.records.FileRecord.{FileRecord}
-use Rattle.run_records.specs.declared.records.FrontTally.{FrontTally}
-use Rattle.run_records.specs.declared.records.ReportTally.{ReportTally}
-use Rattle.run_records.specs.declared.records.RunRecord.{RunRecord}
-use Rattle.session_crew.specs.Crews.{CrewTold}
+use Rattle.session_runs.specs.declared.records.FileRecord.{FileRecord}
+use Rattle.session_runs.specs.declared.records.FrontTally.{FrontTally}
+use Rattle.session_runs.specs.declared.records.ReportTally.{ReportTally}
+use Rattle.session_runs.specs.declared.records.RunRecord.{RunRecord}
+use Rattle.daq_members.specs.Crews.{CrewTold}
 use Rattle.session_runs.specs.RunEntries.{dump_saved, start_sheet}
 use Rattle.session_runs.specs.RunsFit.{MainOwn, RecordsFit}
 use Rattle.session_setup.specs.Setup.{Declared}

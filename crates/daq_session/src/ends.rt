@@ -6,11 +6,10 @@ ghost use Rattle.daq_session.specs.Endings.{FaultedFile, script_end};
 ghost use Rattle.daq_session.specs.LinesEnded.{HasEnd};
 
 use crate::played::LinesEnd;
+use console::{Ending, Halt, Refusals};
 use daq_io::Files;
 use daq_types::FileName;
-use database_files::FileReply;
-use script_desk::{Ending, Halt};
-use session_replies::Refusals;
+use odb_commands::FileReply;
 
 /// Why a script ended.
 #[derive(Clone, Copy, Debug, PartialEq, Eq)]
@@ -129,7 +128,7 @@ pub fn end_of<S, O, E: Files, C, F: Files, K>(lines: &LinesEnd<S, O, E, C, F, K>
 {
     end_by(
         lines.ending.with_closing(lines.closing),
-        &lines.script.desk.refusals,
+        &lines.script.line_loop.refusals,
         lines.failed,
         &lines.run_files,
         lines.replies.as_slice(),

@@ -1,10 +1,11 @@
 //! What the record of a session says. The function does nothing, and its contract is the law.
-ghost use Rattle.session_crew.specs.Crews.{crew_told};
+ghost use Rattle.daq_members.specs.Crews.{crew_told};
 ghost use Rattle.session_objects.specs.Members.{generator_makes, generator_takes};
 ghost use Rattle.daq_session.specs.Played.{RecordsKeep};
 
 use caller_laws::laws::sent_by;
 use daq_io::{Files, Pick};
+use odb_commands::watch_laws::run_number_stays_watched;
 use odb_lock::{LockedDatabase, WatchedSeen};
 use odb_runinfo::laws::{own_calls_spare, run_number_given, run_number_opens};
 use odb_tree::Database;
@@ -16,7 +17,6 @@ use session_ends::laws::{
 use session_laws::laws::{members_listed, starts_differ};
 use session_objects::SessionRecord;
 use turn_lock::Machine;
-use watch_commands::laws::run_number_stays_watched;
 
 /// Of a session of which a record is kept, all laws of closed sessions hold, and the record tells what they say.
 pub fn sessions_hold<D: Database, F: Files, K: Pick>(kept: &SessionRecord<D>)

@@ -6,7 +6,7 @@ ghost use Rattle.turn_lock.specs.Passes.{passes_of};
 ghost use Rattle.odb_watch.specs.declared.entry.WatchEntry.{WatchEntry as Called};
 ghost use Rattle.odb_lock.specs.SharedAccesses.{access_by_pass, odb_identity};
 ghost use Rattle.odb_lock.specs.SharedOdbs.{odb_lock_of};
-ghost use Rattle.session_crew.specs.Crews.{crew_told};
+ghost use Rattle.daq_members.specs.Crews.{crew_told};
 ghost use Rattle.session_objects.specs.Members.{generator_makes, generator_takes};
 ghost use Rattle.session_objects.specs.Records.{AreAllPasses};
 ghost use Rattle.session_objects.specs.Rosters.{KeepsFresh, KeepsPasses};
@@ -15,12 +15,11 @@ ghost use Rattle.daq_session.specs.Played.{IsBack, IsMainAlone, KeepsLeft, seen_
 use crate::laws::sessions_hold;
 use crate::places::MemberSide;
 use crate::played::LinesEnd;
+use console::{DatabaseConsole, Ending};
 use daq_io::{Clock, Files, Gate, Pick, Sink, Source};
-use database_desk::DatabaseDesk;
 use odb_lock::{LockedDatabase, OdbPasses, SharedAccess, SharedOdb, WatchedSeen};
 use odb_tree::Database;
 use odb_watch::WatchEntry;
-use script_desk::Ending;
 use session_commands::{MainSide, Script};
 use session_objects::{RunRecords, SessionObjects, SessionPasses, SessionRecord};
 use turn_lock::Machine;
@@ -94,7 +93,7 @@ pub fn leave_unopened<
     ensures left { IsMainAlone shared.now (access_by_pass side.entry.database.access).seen result.1 }
 {
     let MainSide { database, clock } = side;
-    let DatabaseDesk {
+    let DatabaseConsole {
         access,
         files: odb_files,
         replies,

@@ -11,8 +11,8 @@ mod played;
 mod run;
 
 pub use daq_types::{FrontEnded, StartOutcome, Why};
-pub use database_files::{FileReplies, FileReply};
 pub use ends::ScriptEnd;
+pub use odb_commands::{FileReplies, FileReply};
 pub use run::run_script;
-pub use run_records::{FileRecord, FrontTally, ReportTally, RunRecord};
 pub use session_objects::{BufferRecord, SessionRecord};
+pub use session_runs::{FileRecord, FrontTally, ReportTally, RunRecord};

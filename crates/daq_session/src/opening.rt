@@ -3,7 +3,7 @@ ghost use Rattle.std.specs.Prelude.{◌≡◌, ◌≤◌, IfErr, IfOk, OnErr, On
 ghost use Rattle.daq_types.specs.Callers.{main_caller};
 ghost use Rattle.turn_lock.specs.Passes.{number_of, IsOf};
 ghost use Rattle.turn_lock.specs.Roster.{IsFresh};
-ghost use Rattle.odb_port.specs.DatabasePorts.{IsSamePort};
+ghost use Rattle.odb_watch.specs.DatabasePorts.{IsSamePort};
 ghost use Rattle.odb_lock.specs.SharedAccesses.{access_by_pass};
 ghost use Rattle.transitions.specs.Engines.{engine_opening};
 ghost use Rattle.transition_lock.specs.SharedEngines.{engine_lock_of, first_engine};
@@ -28,17 +28,15 @@ use member_threads::{Room, ThreadRoom};
 use mid_logger::ChannelSpec;
 use odb_arena::ArenaTree;
 use odb_lock::{LockedDatabase, OdbPass, OdbPasses, SharedAccess, SharedOdb, WatchedSeen};
-use odb_port::WatchPort;
 use odb_runinfo::open;
 use odb_tree::Database;
-use odb_watch::WatchEntry;
+use odb_watch::{WatchEntry, WatchPort};
 use ring_buffer::RingBuffer;
 use session_commands::make_keys;
-use session_engine::MainSeat;
 use session_objects::{
     SessionCrew, SessionObjects, SessionPasses, Unmanned, member_names, take_main,
 };
-use session_runs::{AnalyzerNames, FrontNames, Runs};
+use session_runs::{AnalyzerNames, FrontNames, MainSeat, Runs};
 use session_setup::{AnalyzerDeclared, DeclaredLists, FrontDeclared};
 use std::alloc::Global;
 use std::sync::Wait;

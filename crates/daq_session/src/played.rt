@@ -19,13 +19,12 @@ ghost use Rattle.daq_session.specs.Played.{PlaysObjects, PlaysOpened, unopened_l
 
 use crate::opening::{SessionRoom, let_go, open_keys, open_members};
 use crate::places::{MemberSide, Places};
+use console::{DatabaseConsole, Ending, Halt};
 use daq_io::{Clock, Files, Gate, Outside, Pick, Sink, Source};
-use database_desk::DatabaseDesk;
-use database_files::FileReplies;
+use odb_commands::FileReplies;
 use odb_lock::{LockedDatabase, SharedAccess, WatchedSeen};
 use odb_tree::Database;
 use odb_watch::WatchEntry;
-use script_desk::{Ending, Halt};
 use session_commands::laws::first_start_opens;
 use session_commands::{CrewEnd, MainEnd, MainSide, Script, play_crew};
 use session_objects::laws::{channels_stay, members_stay};
@@ -118,7 +117,7 @@ pub fn end_unopened<
         members.entry.pick script }
 {
     let MainSide { database, clock } = side;
-    let DatabaseDesk {
+    let DatabaseConsole {
         files: odb_files,
         replies,
         ..
@@ -159,7 +158,7 @@ fn play_opened<
     passes: SessionPasses<D>,
     script: Script<S, O>,
 ) -> OpenedEnd<D, S, O, E, C, F, K>
-    requires fits { script.desk.number + 1 ≤ script.desk.reader.taken }
+    requires fits { script.line_loop.number + 1 ≤ script.line_loop.reader.taken }
     requires main { (access_by_pass side.database.access).caller ≡ main_caller }
     requires database { (access_by_pass side.database.access).database
         ≡ odb_identity places.now.shared.now }
@@ -196,7 +195,7 @@ fn play_opened<
     let fronts = lists.fronts.as_slice();
     let analyzers = lists.analyzers.as_slice();
     let MainSide { database, clock } = side;
-    let DatabaseDesk {
+    let DatabaseConsole {
         access,
         files: odb_files,
         replies,
@@ -246,7 +245,7 @@ pub fn play_objects<
     members: MemberSide<'a, F, K, G>,
     script: Script<S, O>,
 ) -> OpenedEnd<D, S, O, E, C, F, K>
-    requires fits { script.desk.number + 1 ≤ script.desk.reader.taken }
+    requires fits { script.line_loop.number + 1 ≤ script.line_loop.reader.taken }
     requires caller { (access_by_pass side.database.access).caller ≡ main_caller }
     requires database { (access_by_pass side.database.access).database
         ≡ odb_identity places.now.shared.now }

@@ -17,12 +17,12 @@ use crate::left::{EndedObjects, LeftBehind, close_left, leave_unopened};
 use crate::opening::{OpenDatabase, open_database};
 use crate::places::{MemberSide, Places};
 use crate::played::{LinesEnd, NO_MEMORY, OpenedEnd, end_unopened, play_objects};
+use console::{LineLoop, PlayEnd};
 use daq_io::{Clock, Files, Gate, Outside, Pick, Sink, Source};
-use database_files::FileReplies;
 use odb_arena::ArenaTree;
+use odb_commands::FileReplies;
 use odb_lock::{OdbPass, OdbPasses, SharedAccess, SharedOdb};
 use odb_tree::Database;
-use script_desk::{Desk, PlayEnd};
 use session_commands::laws::{first_start_opens, scripts_keep};
 use session_commands::{FirstEnd, MainSide, Script, play_first};
 use session_objects::laws::members_suit;
@@ -55,7 +55,7 @@ fn open_and_play<
     members: MemberSide<'a, F, K, G>,
     script: Script<S, O>,
 ) -> (LinesEnd<S, O, E, C, F, K>, LeftBehind<D>)
-    requires fits { script.desk.number + 1 ≤ script.desk.reader.taken }
+    requires fits { script.line_loop.number + 1 ≤ script.line_loop.reader.taken }
     requires caller { (access_by_pass side.database.access).caller ≡ main_caller }
     requires database { (access_by_pass side.database.access).database ≡ odb_identity shared.now }
     requires callers { passes_of (odb_lock_of shared.now) ≡ database_passes }
@@ -127,7 +127,7 @@ fn play_all<
 ) -> (LinesEnd<S, O, E, C, F, K>, LeftBehind<D>)
     requires database { IsNewDatabase shared.now main passes }
     requires nothing { declarations ≡ nothing_declared }
-    requires unread { IsUnreadScript script.desk }
+    requires unread { IsUnreadScript script.line_loop }
     ensures played { PlaysAll (outside_told S.left S.faults O.written O.faults F.seen F.faults
         F.clashes F.first E.seen E.faults E.clashes E.first C.tells C.ahead K.tells K.ahead)
         shared.now odb_files clock members.entry.run_files script result.0 result.1 }
@@ -181,7 +181,7 @@ fn run_session<
     rt: &R,
     alloc: Global,
     database: OpenDatabase<D>,
-    desk: Desk,
+    line_loop: LineLoop,
     declarations: Declarations,
     outside: Outside<S, O, F, E, C, K>,
     gate: &G,
@@ -194,7 +194,7 @@ fn run_session<
 )
     requires database { IsNewDatabase database.shared database.main database.passes }
     requires nothing { declarations ≡ nothing_declared }
-    requires unread { IsUnreadScript desk }
+    requires unread { IsUnreadScript line_loop }
     ensures ran { RunsScript (outside_told S.left S.faults O.written O.faults F.seen F.faults
         F.clashes F.first E.seen E.faults E.clashes E.first C.tells C.ahead K.tells K.ahead)
         outside result.3 result.0 result.2.replies result.1 }
@@ -218,7 +218,11 @@ fn run_session<
         gate,
         cooperative,
     };
-    let script = Script { desk, src, out };
+    let script = Script {
+        line_loop,
+        src,
+        out,
+    };
     let (lines, left) = play_all(
         rt,
         alloc,
@@ -267,8 +271,8 @@ pub fn run_script<
         F.clashes F.first E.seen E.faults E.clashes E.first C.tells C.ahead K.tells K.ahead)
         outside result.3 result.0 result.2.replies result.1 }
 {
-    let (Ok(desk), Ok(declarations), Ok(database)) = (
-        Desk::new(alloc),
+    let (Ok(line_loop), Ok(declarations), Ok(database)) = (
+        LineLoop::new(alloc),
         Declarations::new(alloc),
         open_database(alloc),
     ) else {
@@ -283,7 +287,7 @@ pub fn run_script<
         rt,
         alloc,
         database,
-        desk,
+        line_loop,
         declarations,
         outside,
         gate,

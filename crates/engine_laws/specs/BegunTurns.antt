@@ -1,6 +1,6 @@
 -- Where the turns of a client come from, and where its answers go.
-use Rattle.run_states.specs.declared.sequences.Sequences.{Sequences}
-use Rattle.run_states.specs.Sequences.{sequence_for}
+use Rattle.transitions.specs.declared.sequences.Sequences.{Sequences}
+use Rattle.transitions.specs.Sequences.{sequence_for}
 use Rattle.std.specs.Prelude.{Bool, slice_get, ◌≡◌, ◌<◌, ℕ, true, false, List, [], ◌∷◌, ◌++◌, ◌⊎◌, ◌↔◌, Some, Ok, ⊤}
 use Rattle.std.specs.List.{AllByRecursion}
 use Rattle.daq_types.specs.declared.runs.RunState.{RunState}
@@ -9,7 +9,7 @@ use Rattle.daq_types.specs.declared.runs.Transition.TheVariants.{Start, Stop, St
 use Rattle.daq_types.specs.declared.runs.StartOutcome.{StartOutcome}
 use Rattle.daq_types.specs.declared.runs.Why.{Why}
 use Rattle.daq_types.specs.declared.runs.StartOutcome.TheVariants.{Completed}
-use Rattle.run_states.specs.States.{is_allowed}
+use Rattle.transitions.specs.States.{is_allowed}
 use Rattle.transitions.specs.declared.client.Registered.{Registered}
 use Rattle.transitions.specs.declared.sheet.Sheet.{Sheet}
 use Rattle.transitions.specs.declared.answers.Answer.{Answer}

@@ -8,8 +8,8 @@ use Rattle.std.proofs.lemmas.List.Sums.{sum_by-append, sum_by-cons}
 use Rattle.std.proofs.lemmas.List.Elements.{filter-append}
 use Rattle.std.proofs.lemmas.Grind.{flat_map-append}
 use Rattle.daq_types.specs.declared.events.Event.{Event}
-use Rattle.daq_model.specs.Events.{encoding, all_encoded}
-use Rattle.daq_model.proofs.Events.{all_encoded-append, length-encoding}
+use Rattle.event.specs.Events.{encoding, all_encoded}
+use Rattle.event.proofs.Events.{all_encoded-append, length-encoding}
 use Rattle.bank_format.specs.BankAreas.{BankValue}
 use Rattle.event_report.specs.declared.integers.IntegerType.{IntegerType}
 use Rattle.event_report.specs.declared.rows.Figures.{Figures}

@@ -1,7 +1,7 @@
 -- The report over a list of events.
 use Rattle.std.specs.Prelude.{◌≡◌, List, length, refl}
 use Rattle.daq_types.specs.declared.events.Event.{Event}
-use Rattle.daq_model.specs.Events.{all_encoded}
+use Rattle.event.specs.Events.{all_encoded}
 use Rattle.event_report.specs.Reports.{report_of}
 
 -- what one may still add depends on how long the events were

@@ -4,7 +4,7 @@ use Rattle.std.specs.Fmt.{digits}
 use Rattle.daq_types.specs.declared.events.Event.{Event}
 use Rattle.daq_types.specs.declared.runs.Order.{Order}
 use Rattle.daq_types.specs.declared.runs.RunState.TheVariants.{Stopped}
-use Rattle.daq_model.specs.Generator.{next_state, generated_body, generated_event}
+use Rattle.event.specs.Generator.{next_state, generated_body, generated_event}
 use Rattle.bank_format.specs.Places.{stated_length, stated_flags, stated_name, stated_tid, stated_size, banks_within, banks_in}
 use Rattle.bank_format.specs.Faults.{front_fault}
 use Rattle.event_report.specs.EventBanks.{are_banks, banks_of}

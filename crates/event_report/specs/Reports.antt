@@ -1,7 +1,7 @@
 -- The report over a list of events.
 use Rattle.std.specs.Prelude.{ℕ, List, length, map, count_by, is_none}
 use Rattle.daq_types.specs.declared.events.Event.{Event}
-use Rattle.daq_model.specs.Events.{all_encoded}
+use Rattle.event.specs.Events.{all_encoded}
 use Rattle.event_report.specs.EventBanks.{banks_of, integer_banks}
 use Rattle.event_report.specs.Tallies.{IdTally, id_tally, BankTally, bank_tally}
 

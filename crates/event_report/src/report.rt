@@ -1,6 +1,6 @@
 ghost use Rattle.std.specs.Prelude.{◌≡◌, ◌+◌, ◌≤◌, ◌^◌, ◌∷◌, ◌++◌, [], List, length, IfOk, OnOk, OnErr};
 ghost use Rattle.daq_types.specs.declared.events.Event.{Event};
-ghost use Rattle.event_header.specs.Headers.{event_of};
+ghost use Rattle.event.specs.Headers.{event_of};
 ghost use Rattle.event_report.specs.Reports.{report_of};
 ghost use Rattle.event_report.specs.Texts.{HasInFront, events_text, line, report_text, rest_text};
 
@@ -10,7 +10,7 @@ use crate::texts::{append_banks, append_ids, append_named};
 use bank_format::Banks;
 use daq_text::TextBuffer;
 use daq_types::NoMemory;
-use event_header::{HEADER_BYTES, Header};
+use event::{HEADER_BYTES, Header};
 use std::alloc::Global;
 use std::marker::Model;
 

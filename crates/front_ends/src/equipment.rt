@@ -1,12 +1,12 @@
 ghost use Rattle.std.specs.Prelude.{◌≡◌, ◌≤◌};
 
 use daq_types::Order;
-use event_header::EventBuf;
+use event::EventBuf;
 
 /// What a front-end reads out: it makes the events of a run, one at a time.
 pub trait Equipment: Drop {
     ghost use Rattle.std.specs.Prelude.{◌≡◌, ◌≤◌, ℕ, Bool, length, false};
-    ghost use Rattle.daq_model.specs.Events.{is_reserved};
+    ghost use Rattle.event.specs.Events.{is_reserved};
     ghost use Rattle.daq_types.specs.declared.events.Event.{Event};
     ghost use Rattle.daq_types.specs.declared.runs.Order.{Order as RunOrder};
     ghost use Rattle.front_ends.specs.FrontIds.{event_room};

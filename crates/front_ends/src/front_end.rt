@@ -19,7 +19,7 @@ use crate::front_run::FrontRun;
 use crate::front_step::FrontStep;
 use buffer_core::{BufferPort, SendRefusal};
 use daq_types::{FrontEnded, NoMemory, Order, RunState, Transition, Why};
-use event_header::EventBuf;
+use event::EventBuf;
 use frontend_kit::EVENT_ROOM;
 use std::alloc::Global;
 use std::marker::Model;

@@ -1,12 +1,12 @@
 use crate::equipment::Equipment;
 use daq_types::Order;
-use event_header::EventBuf;
+use event::EventBuf;
 use frontend_kit::Generator;
 
 impl Equipment for Generator {
     ghost use Rattle.std.specs.Prelude.{nat_le};
-    ghost use Rattle.daq_model.specs.Generator.{generated_event};
-    ghost use Rattle.daq_model.proofs.GeneratorLaws.{generated_body_is_small};
+    ghost use Rattle.event.specs.Generator.{generated_event};
+    ghost use Rattle.event.proofs.GeneratorLaws.{generated_body_is_small};
     ghost use Rattle.frontend_kit.proofs.FrontIds.{front_id_is_free};
     ghost use Rattle.front_ends.specs.FrontIds.{IsFrontId};
 

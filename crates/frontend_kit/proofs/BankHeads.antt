@@ -1,7 +1,7 @@
 -- What stands in front of the words of a generated event.
 use Rattle.std.specs.Prelude.{◌≡◌, ℕ, ◌+◌, ◌*◌, ◌%◌, ◌++◌, replicate}
 use Rattle.std.proofs.Common.{append_assoc}
-use Rattle.daq_model.specs.Generator.{generated_words, words_encoded, first_state, word_count, generated_body}
+use Rattle.event.specs.Generator.{generated_words, words_encoded, first_state, word_count, generated_body}
 use Rattle.frontend_kit.specs.BankHeads.{heads}
 
 pub generated_body_is : (id start k : ℕ) → let count : ℕ = word_count k in

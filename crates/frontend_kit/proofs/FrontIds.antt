@@ -2,7 +2,7 @@
 use Rattle.std.specs.Prelude.{◌≡◌, ℕ, ◌≤◌, false}
 use Rattle.std.proofs.Common.{arith}
 use Rattle.std.proofs.lemmas.Grind.{common_steps}
-use Rattle.daq_model.specs.Events.{is_reserved}
+use Rattle.event.specs.Events.{is_reserved}
 
 -- an id of at most 32,767 is not that of a run record or of a fragment
 pub front_id_is_free : (id : ℕ) → id ≤ 32767 → is_reserved id ≡ false

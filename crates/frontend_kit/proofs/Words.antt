@@ -2,7 +2,7 @@
 use Rattle.std.proofs.Common.{◌≡◌, ℕ, ◌+◌, ◌/◌, ◌^◌, List, [], ◌∷◌, ◌++◌, ap, sym, ◌∙◌, add-one, append_assoc}
 use Rattle.std.proofs.lemmas.List.{append-nil}
 use Rattle.std.specs.Int.{to_le_bytes, w32}
-use Rattle.daq_model.specs.Generator.{next_state, state_after, generated_words, words_encoded}
+use Rattle.event.specs.Generator.{next_state, state_after, generated_words, words_encoded}
 
 pub words_encoded-push : (ws : List ℕ) (w : ℕ) → words_encoded (ws ++ w ∷ []) ≡ words_encoded ws ++ to_le_bytes w32 w
 words_encoded-push [] w = append-nil (to_le_bytes w32 w)

@@ -1,11 +1,11 @@
 ghost use Rattle.std.specs.Prelude.{◌≡◌, ◌≤◌, ◌+◌, ◌*◌, ◌-◌, ◌++◌, ◌↔◌, IsTrue, ℕ, length};
 ghost use Rattle.arrayvec.specs.ArrayVec.{array_vec_len};
-ghost use Rattle.daq_model.specs.Generator.{generated_body, generated_event, next_state, generated_words, words_encoded};
+ghost use Rattle.event.specs.Generator.{generated_body, generated_event, next_state, generated_words, words_encoded};
 ghost use Rattle.frontend_kit.specs.BankHeads.{heads};
 
 use arrayvec::ArrayVec;
 use daq_types::Order;
-use event_header::{EventBuf, Header};
+use event::{EventBuf, Header};
 
 /// The most bytes of data that an event of a front-end has. An event of the generator has at most as many.
 pub const EVENT_ROOM: u32 = 80;
@@ -112,7 +112,7 @@ fn append_words(body: &mut Body, state: u64, count: u32)
 }
 
 /// The state behind this one.
-#[tactic(auto, unfolding(daq_model::specs::Generator::next_state))]
+#[tactic(auto, unfolding(event::specs::Generator::next_state))]
 fn advanced(state: u64) -> u64
     ensures { result ≡ next_state state }
 {

@@ -1,15 +1,14 @@
 // Sends and receives through one ring of bytes that threads share: under the counting lock, and under std's Mutex.
 ghost use Rattle.std.specs.Prelude.{◌≡◌, ◌+◌, ◌<◌, ◌≤◌, length, IfOk};
-ghost use Rattle.ring_bytes.specs.Rings.{most_bytes};
+ghost use Rattle.ring_buffer.specs.Rings.{most_bytes};
 ghost use Rattle.turn_lock.specs.Roster.{items_of, ArePassesOf, AreFresh};
 ghost use Rattle.buffer_lock.specs.SharedBuffers.{lock_of};
 
 use buffer_core::{BufferPort, EventBuffer};
 use buffer_lock::{BufferPasses, SharedBuffer, SharedPort};
 use daq_types::{Kind, Name, NoMemory};
-use event_header::{EventBuf, Header};
-use ring_buffer::RingBuffer;
-use ring_bytes::Ring;
+use event::{EventBuf, Header};
+use ring_buffer::{Ring, RingBuffer};
 use std::alloc::{AllocError, Global};
 use std::sync::{Mutex, Wait};
 use std::thread::{Threads, join};

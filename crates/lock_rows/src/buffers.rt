@@ -11,7 +11,7 @@ use buffer_lock::{
     BufferClosed, BufferPass, BufferPasses, Locked, SharedBuffer, SharedPort, calls,
 };
 use daq_types::{Kind, Name, NoMemory};
-use event_header::{EventBuf, Header};
+use event::{EventBuf, Header};
 use plain_buffer::PlainBuffer;
 use std::alloc::Global;
 use std::process::Abort;

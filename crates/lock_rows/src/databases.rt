@@ -8,10 +8,9 @@ ghost use Rattle.odb_lock.specs.SharedOdbs.{odb_lock_of};
 
 use daq_types::{NoMemory, Tid};
 use odb_lock::{OdbClosed, OdbPass, OdbPasses, SharedAccess, SharedOdb, calls};
-use odb_path::Path;
-use odb_port::{DatabasePort, WatchPort};
 use odb_tree::{Database, NewKey, Notes, OdbRefusal, PlainTree};
-use odb_value::Item;
+use odb_value::{Item, Path};
+use odb_watch::{DatabasePort, WatchPort};
 use std::alloc::Global;
 use std::sync::Wait;
 

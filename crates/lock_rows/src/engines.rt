@@ -7,14 +7,13 @@ ghost use Rattle.transitions.specs.EngineHistories.{IsSheet};
 ghost use Rattle.transition_lock.specs.SharedEngines.{engine_lock_of};
 
 use daq_types::{Name, NoMemory, StartOutcome, Transition};
-use run_states::Sequences;
 use std::alloc::Global;
 use std::process::Abort;
 use std::sync::Wait;
 use std::thread::{Threads, join};
 use transition_lock::{EngineClosed, EnginePass, EnginePasses, SharedEngine};
 use transitions::{
-    Answer, Engine, Polled, Progress, RegisterRefusal, Reports, Sheet, Tallies, Tally,
+    Answer, Engine, Polled, Progress, RegisterRefusal, Reports, Sequences, Sheet, Tallies, Tally,
 };
 
 /// Shares an idle engine with two passes.

@@ -1,7 +1,7 @@
 -- What a new logger keeps.
 use Rattle.std.specs.Prelude.{◌≡◌, ◌≤◌, ◌-◌, ◌||◌, min, ℕ, suc, Bool, true, false, refl, List, [], ◌∷◌, ◌++◌, slice_get, Option, Some, None, Ok}
 use Rattle.std.proofs.Common.{ap, sym, subst, ◌∙◌, arith}
-use Rattle.daq_model.specs.Events.{event_limit}
+use Rattle.event.specs.Events.{event_limit}
 use Rattle.daq_io.specs.Seen.{Seen}
 use Rattle.buffer_core.specs.declared.entry.BufferEntry.{BufferEntry}
 use Rattle.buffer_core.specs.declared.entry.BufferEntry.TheVariants.{End}

@@ -5,8 +5,8 @@ use Rattle.std.proofs.Common.{ap, sym, subst, ◌∙◌, arith, inl, inr}
 use Rattle.daq_types.specs.declared.events.Event.{Event}
 use Rattle.daq_types.specs.declared.runs.ChannelState.{ChannelState}
 use Rattle.daq_types.specs.declared.runs.ChannelState.TheVariants.{Broken as IsBroken, Ended}
-use Rattle.daq_model.specs.Events.{encoding}
-use Rattle.daq_model.specs.RunFile.{begun_file, end_record}
+use Rattle.event.specs.Events.{encoding}
+use Rattle.event.specs.RunFile.{begun_file, end_record}
 use Rattle.daq_io.specs.Seen.{Seen, IsStored}
 use Rattle.buffer_core.specs.declared.entry.BufferEntry.{BufferEntry}
 use Rattle.buffer_core.specs.Ports.{Access}

@@ -1,6 +1,6 @@
 -- What each call keeps of what a logger keeps between its calls.
 use Rattle.std.specs.Prelude.{◌≤◌, ℕ, List, [], ◌∷◌, length, unwrap_or, Option}
-use Rattle.daq_model.specs.Events.{record_limit}
+use Rattle.event.specs.Events.{record_limit}
 use Rattle.buffer_core.specs.Ports.{Access}
 use Rattle.member_model.specs.Turns.{MemberTurn, NoneOpen, latest_answered}
 use Rattle.mid_logger.specs.declared.channel.Channel.{Channel}

@@ -1,7 +1,7 @@
 -- A new logger.
 use Rattle.std.specs.Prelude.{◌≡◌, ◌≢◌, ◌≤◌, ◌<◌, ◌-◌, ℕ, false, min, List, [], slice_get, length, Option, Some, None}
-use Rattle.daq_model.specs.Events.{event_limit}
-use Rattle.event_header.specs.Held.{empty_buf}
+use Rattle.event.specs.Events.{event_limit}
+use Rattle.event.specs.Held.{empty_buf}
 use Rattle.buffer_core.specs.Ports.{Access}
 use Rattle.buffer_core.specs.Slots.{slot_at}
 use Rattle.mid_logger.specs.declared.channel.Channel.{Channel}

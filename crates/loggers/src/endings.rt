@@ -1,7 +1,7 @@
 //! How the files of a run that was stopped are ended.
 
 ghost use Rattle.std.specs.Prelude.{◌≡◌, ◌<◌, ◌≤◌, List, Option, Some, length, slice_set, IfSome};
-ghost use Rattle.daq_model.specs.Events.{record_limit};
+ghost use Rattle.event.specs.Events.{record_limit};
 ghost use Rattle.buffer_core.specs.Slots.{slot_at};
 ghost use Rattle.mid_logger.specs.declared.channel.Channel.{Channel as a_channel};
 ghost use Rattle.mid_logger.specs.Channels.{IsOpenFile, written_run};

@@ -1,5 +1,5 @@
 ghost use Rattle.std.specs.Prelude.{◌≡◌, ◌≤◌, ◌<◌, ℕ, List, [], if◌then◌else◌, length, map, unwrap_or, Option, Some, None, IfOk, IfSome};
-ghost use Rattle.daq_model.specs.Events.{record_limit};
+ghost use Rattle.event.specs.Events.{record_limit};
 ghost use Rattle.daq_io.specs.Seen.{Seen};
 ghost use Rattle.buffer_core.specs.Ports.{Access};
 ghost use Rattle.buffer_core.specs.Slots.{some_slot};

@@ -8,7 +8,7 @@ ghost use Rattle.loggers.specs.Finishing.{is_settled_slot};
 ghost use Rattle.loggers.specs.NewLoggers.{HaveNumbers, HasNewChannels, new_channel};
 
 use daq_types::{BoundedList, NoMemory};
-use event_header::EventBuf;
+use event::EventBuf;
 use mid_logger::{Channel, ChannelSpec, ChannelStage};
 use std::alloc::Global;
 

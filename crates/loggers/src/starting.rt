@@ -1,7 +1,7 @@
 //! The start of a run: each channel opens it, and it is begun in every buffer; or that is undone.
 
 ghost use Rattle.std.specs.Prelude.{◌≡◌, ◌≤◌, length, map, OnOk, OnErr, IfErr};
-ghost use Rattle.daq_model.specs.Events.{record_limit};
+ghost use Rattle.event.specs.Events.{record_limit};
 ghost use Rattle.loggers.specs.Moments.{files_by, moment_of, IsLoggerReady, AreIdleChannels};
 ghost use Rattle.loggers.specs.Turning.{OpensBelow, RefusesOpen, AbortsAll, StartsSo};
 

@@ -1,7 +1,7 @@
 //! What one channel does, by its number: it opens a run, calls one off, or pulls.
 
 ghost use Rattle.std.specs.Prelude.{◌≡◌, ◌≤◌, ◌<◌, ◌-◌, ℕ, List, Option, length, map, min, slice_get, slice_set, OnOk, IfErr, Some, Ok, Err};
-ghost use Rattle.daq_model.specs.Events.{record_limit, event_limit};
+ghost use Rattle.event.specs.Events.{record_limit, event_limit};
 ghost use Rattle.buffer_core.specs.Ports.{Access};
 ghost use Rattle.buffer_core.specs.Slots.{slot_at};
 ghost use Rattle.mid_logger.specs.declared.channel.Channel.{Channel as a_channel};

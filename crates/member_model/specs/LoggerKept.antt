@@ -5,7 +5,7 @@ use Rattle.daq_types.specs.declared.events.Event.{Event}
 use Rattle.daq_types.specs.declared.runs.Transition.TheVariants.{Start, Stop}
 use Rattle.daq_types.specs.declared.runs.ChannelState.{ChannelState}
 use Rattle.daq_types.specs.declared.runs.ChannelState.TheVariants.{Idle, Writing, Broken, Ended, NoEnd, NoMark}
-use Rattle.daq_model.specs.RunFile.{begun_file, run_file, IsFileEvent}
+use Rattle.event.specs.RunFile.{begun_file, run_file, IsFileEvent}
 use Rattle.daq_io.specs.Seen.{Seen, IsStored}
 use Rattle.buffer_core.specs.declared.entry.BufferEntry.{BufferEntry}
 use Rattle.buffer_core.specs.Ports.{GotEvent}

@@ -4,10 +4,10 @@ use Rattle.std.proofs.Common.{sym, subst, arith}
 use Rattle.std.proofs.lemmas.List.{length-map}
 use Rattle.std.proofs.lemmas.List.Elements.{length_all_zip}
 use Rattle.daq_members.specs.declared.turned.Turned.{Turned}
-use Rattle.session_engine.specs.MadeTransitions.{HadRounds}
+use Rattle.session_runs.specs.MadeTransitions.{HadRounds}
 use Rattle.member_threads.specs.Turns.{HadTurns}
 use Rattle.member_threads.specs.Scattered.{MembersSeen, AreFewMembers, HadEach, CameBack, members_seen}
-use Rattle.member_threads.specs.Posts.{PostSeen, RoundsEach, posts_members, members_away}
+use Rattle.member_threads.specs.MemberHandles.{HandleSeen, RoundsEach, handles_members, members_away}
 use Rattle.member_threads.proofs.TurnLaws.{stays, turns_follow, zip_stays, zip_follows}
 use Rattle.member_threads.proofs.RoundLaws.{each_round}
 
@@ -31,26 +31,26 @@ module _ {A B C : Type 0} (ta : A → A → Turned → Type 0) (tb : B → B →
   }
 
   -- however many rounds they had
-  rounds_each : (count : ℕ) (before after : MembersSeen (PostSeen A) (PostSeen B) (PostSeen C)) → HadRounds (RoundsEach ta tb tc) count before after
+  rounds_each : (count : ℕ) (before after : MembersSeen (HandleSeen A) (HandleSeen B) (HandleSeen C)) → HadRounds (RoundsEach ta tb tc) count before after
       → HadEach ta tb tc (members_away before) (members_away after)
   rounds_each zero before after same =
-      subst (λ (posts : MembersSeen (PostSeen A) (PostSeen B) (PostSeen C)). HadEach ta tb tc (members_away before) (members_away posts)) (sym same) (each_stays (members_away before))
+      subst (λ (handles : MembersSeen (HandleSeen A) (HandleSeen B) (HandleSeen C)). HadEach ta tb tc (members_away before) (members_away handles)) (sym same) (each_stays (members_away before))
   rounds_each (suc n) before after rounds =
       each_follows (members_away before) (members_away rounds.0) (members_away after) (rounds_each n before rounds.0 rounds.1) (each_round ta tb tc rounds.0 after rounds.2)
 
-  pub each_behind : (count : ℕ) (first : MembersSeen A B C) (before after : MembersSeen (PostSeen A) (PostSeen B) (PostSeen C)) → HadEach ta tb tc first (members_away before)
+  pub each_behind : (count : ℕ) (first : MembersSeen A B C) (before after : MembersSeen (HandleSeen A) (HandleSeen B) (HandleSeen C)) → HadEach ta tb tc first (members_away before)
       → HadRounds (RoundsEach ta tb tc) count before after → HadEach ta tb tc first (members_away after)
   each_behind count first before after had rounds = each_follows first (members_away before) (members_away after) had (rounds_each count before after rounds)
 
-  pub each_few : (before : MembersSeen A B C) (after : MembersSeen (PostSeen A) (PostSeen B) (PostSeen C)) → HadEach ta tb tc before (members_away after) → AreFewMembers before
+  pub each_few : (before : MembersSeen A B C) (after : MembersSeen (HandleSeen A) (HandleSeen B) (HandleSeen C)) → HadEach ta tb tc before (members_away after) → AreFewMembers before
       → AreFewMembers after
   each_few before after had few =
-      let fronts = length_all_zip (HadTurns ta) before.fronts (posts_members after.fronts) had.fronts in
-      let loggers = length_all_zip (HadTurns tb) before.loggers (posts_members after.loggers) had.loggers in
-      let analyzers = length_all_zip (HadTurns tc) before.analyzers (posts_members after.analyzers) had.analyzers in
-      let all_fronts = length-map after.fronts (λ (post : PostSeen A). post.member) in
-      let all_loggers = length-map after.loggers (λ (post : PostSeen B). post.member) in
-      let all_analyzers = length-map after.analyzers (λ (post : PostSeen C). post.member) in
+      let fronts = length_all_zip (HadTurns ta) before.fronts (handles_members after.fronts) had.fronts in
+      let loggers = length_all_zip (HadTurns tb) before.loggers (handles_members after.loggers) had.loggers in
+      let analyzers = length_all_zip (HadTurns tc) before.analyzers (handles_members after.analyzers) had.analyzers in
+      let all_fronts = length-map after.fronts (λ (handle : HandleSeen A). handle.member) in
+      let all_loggers = length-map after.loggers (λ (handle : HandleSeen B). handle.member) in
+      let all_analyzers = length-map after.analyzers (λ (handle : HandleSeen C). handle.member) in
       let few_fronts = few.fronts in
       let few_loggers = few.loggers in
       let few_analyzers = few.analyzers in

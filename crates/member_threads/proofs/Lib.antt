@@ -1,5 +1,5 @@
 pub mod TurnLaws
-pub mod PostLaws
+pub mod HandleLaws
 pub mod EndLaws
 pub mod EachLaws
 pub mod MemberLaws

@@ -5,8 +5,8 @@ use Rattle.std.proofs.lemmas.List.Elements.{length_all_zip}
 use Rattle.std.proofs.lemmas.Option.{slice_get_within}
 use Rattle.daq_members.specs.FrontSeats.{FrontSeen, IsSameFront}
 use Rattle.daq_members.specs.LoggerSeats.{LoggerSeen, IsSameLogger}
-use Rattle.analyzer_seats.specs.SeatedAnalyzers.{AnalyzerSeen, IsSameAnalyzer}
-use Rattle.session_crew.specs.Crews.{CrewSeen, CrewTold, AreMembers, IsSameCrew, NotesRunFaults, MembersStay}
+use Rattle.daq_members.specs.SeatedAnalyzers.{AnalyzerSeen, IsSameAnalyzer}
+use Rattle.daq_members.specs.Crews.{CrewSeen, CrewTold, AreMembers, IsSameCrew, NotesRunFaults, MembersStay}
 use Rattle.member_threads.specs.Turns.{HadTurns}
 use Rattle.member_threads.specs.MemberTurns.{FrontTurns, LoggerTurns, AnalyzerTurns}
 use Rattle.member_threads.specs.Scattered.{HadEach, EachEnded, members_seen}

@@ -1,4 +1,4 @@
 pub mod Turns
 pub mod Scattered
-pub mod Posts
+pub mod MemberHandles
 pub mod MemberTurns

@@ -8,8 +8,8 @@ use Rattle.daq_members.specs.FrontTaken.{TakesFront}
 use Rattle.daq_members.specs.LoggerTaken.{TakesLogger}
 use Rattle.daq_members.specs.FrontSeats.{FrontSeen, IsSameFront, front_taken}
 use Rattle.daq_members.specs.LoggerSeats.{LoggerSeen, IsSameLogger, logger_taken}
-use Rattle.analyzer_seats.specs.AnalyzerTaken.{TakesAnalyzer}
-use Rattle.analyzer_seats.specs.SeatedAnalyzers.{AnalyzerSeen, IsSameAnalyzer, analyzer_taken}
+use Rattle.daq_members.specs.AnalyzerTaken.{TakesAnalyzer}
+use Rattle.daq_members.specs.SeatedAnalyzers.{AnalyzerSeen, IsSameAnalyzer, analyzer_taken}
 
 pub record FrontTurns {E : Type 0} (takes : E → Order → Bool) (makes : E → Order → ℕ → Event)
     (before after : FrontSeen E) (turned : Turned) : Type 0 where

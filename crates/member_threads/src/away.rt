@@ -1,16 +1,16 @@
 // The members of a session while they are away, and as they come back.
 ghost use Rattle.std.specs.Prelude.{◌≡◌, ◌+◌, ◌≤◌, [], length, vec_capacity, IfOk};
 ghost use Rattle.member_threads.specs.Scattered.{members_seen, no_members, HadEach, CameBack, AreFewMembers};
-ghost use Rattle.member_threads.specs.Posts.{RoundsEach, members_away};
+ghost use Rattle.member_threads.specs.MemberHandles.{RoundsEach, members_away};
 
+use crate::activity::Activity;
+use crate::handle::send;
+use crate::handles::{HandleList, call_all_back, send_all, turn_all};
 use crate::member::Member;
-use crate::post::send;
-use crate::posts::{PostList, call_all_back, send_all, turn_all};
-use crate::recall::Recall;
-use crate::stir::Stir;
+use crate::return_flag::ReturnFlag;
 use daq_io::Gate;
 use daq_types::{BoundedList, NoMemory};
-use session_engine::Rounds;
+use session_runs::Rounds;
 use std::alloc::Global;
 use std::marker::Model;
 use std::sync::Wait;
@@ -26,25 +26,25 @@ pub struct Members<A, B, C> {
 
 /// Room for members as they come back.
 #[derive(Drop)]
-pub(crate) struct Back<A, B, C> {
+pub(crate) struct ReturnedMembers<A, B, C> {
     pub(crate) fronts: Vec<A>,
     pub(crate) loggers: Vec<B>,
     pub(crate) analyzers: Vec<C>,
 }
 
-/// The members of a session that are away. Contracts see them as `Post` shows each.
+/// The members of a session that are away. Contracts see them as `MemberHandle` shows each.
 #[derive(Drop)]
-pub(crate) struct Away<A: Member, B: Member, C: Member> {
-    fronts: PostList<A>,
-    loggers: PostList<B>,
-    analyzers: PostList<C>,
+pub(crate) struct AwayMembers<A: Member, B: Member, C: Member> {
+    fronts: HandleList<A>,
+    loggers: HandleList<B>,
+    analyzers: HandleList<C>,
 }
 
-impl<A: Member, B: Member, C: Member> Model for Away<A, B, C> {
+impl<A: Member, B: Member, C: Member> Model for AwayMembers<A, B, C> {
     ghost use Rattle.member_threads.specs.Scattered.{MembersSeen};
-    ghost use Rattle.member_threads.specs.Posts.{PostSeen};
+    ghost use Rattle.member_threads.specs.MemberHandles.{HandleSeen};
 
-    ghost Value = { MembersSeen (PostSeen A) (PostSeen B) (PostSeen C) };
+    ghost Value = { MembersSeen (HandleSeen A) (HandleSeen B) (HandleSeen C) };
 
     ghost view = { λ s. record {
       fronts = s.fronts;
@@ -53,15 +53,15 @@ impl<A: Member, B: Member, C: Member> Model for Away<A, B, C> {
     } };
 }
 
-impl<A: Member + Drop, B: Member + Drop, C: Member + Drop> Away<A, B, C> {
+impl<A: Member + Drop, B: Member + Drop, C: Member + Drop> AwayMembers<A, B, C> {
     /// Nobody is away. There is room for as many of each kind as an engine has clients.
-    pub(crate) fn new(alloc: Global) -> Result<Away<A, B, C>, NoMemory>
+    pub(crate) fn new(alloc: Global) -> Result<AwayMembers<A, B, C>, NoMemory>
         ensures { IfOk result (λ away. away ≡ no_members) }
     {
         let fronts = BoundedList::new(alloc)?;
         let loggers = BoundedList::new(alloc)?;
         let analyzers = BoundedList::new(alloc)?;
-        Ok(Away {
+        Ok(AwayMembers {
             fronts,
             loggers,
             analyzers,
@@ -69,12 +69,12 @@ impl<A: Member + Drop, B: Member + Drop, C: Member + Drop> Away<A, B, C> {
     }
 
     /// One turn of each member that is here, and of no other. Says whether one worked.
-    fn turn<R: Wait, G: Gate>(&mut self, rt: &R, stir: &Stir, gate: &G) -> bool
+    fn turn<R: Wait, G: Gate>(&mut self, rt: &R, activity: &Activity, gate: &G) -> bool
         ensures { RoundsEach A.turns B.turns C.turns self.old self.new }
     {
-        let fronts = turn_all(rt, stir, &mut self.fronts, gate);
-        let loggers = turn_all(rt, stir, &mut self.loggers, gate);
-        let analyzers = turn_all(rt, stir, &mut self.analyzers, gate);
+        let fronts = turn_all(rt, activity, &mut self.fronts, gate);
+        let loggers = turn_all(rt, activity, &mut self.loggers, gate);
+        let analyzers = turn_all(rt, activity, &mut self.analyzers, gate);
         fronts || loggers || analyzers
     }
 
@@ -82,9 +82,9 @@ impl<A: Member + Drop, B: Member + Drop, C: Member + Drop> Away<A, B, C> {
     pub(crate) fn call_back<R: Threads + Wait, G: Gate>(
         &mut self,
         rt: &R,
-        stir: &Stir,
+        activity: &Activity,
         gate: &G,
-        back: &mut Back<A, B, C>,
+        back: &mut ReturnedMembers<A, B, C>,
     )
         requires few { AreFewMembers self.old }
         requires nobody { (back.old.fronts.items ≡ []) × (back.old.loggers.items ≡ [])
@@ -98,21 +98,25 @@ impl<A: Member + Drop, B: Member + Drop, C: Member + Drop> Away<A, B, C> {
         }) }
         ensures room { 64 ≤ vec_capacity back.new.analyzers }
     {
-        stir.call();
-        call_all_back(rt, stir, &mut self.fronts, &mut back.fronts, gate);
-        call_all_back(rt, stir, &mut self.loggers, &mut back.loggers, gate);
-        call_all_back(rt, stir, &mut self.analyzers, &mut back.analyzers, gate);
+        activity.call();
+        call_all_back(rt, activity, &mut self.fronts, &mut back.fronts, gate);
+        call_all_back(rt, activity, &mut self.loggers, &mut back.loggers, gate);
+        call_all_back(rt, activity, &mut self.analyzers, &mut back.analyzers, gate);
     }
 }
 
-impl<A: Member + Drop + Send, B: Member + Drop + Send, C: Member + Drop + Send> Away<A, B, C> {
+impl<A: Member + Drop + Send, B: Member + Drop + Send, C: Member + Drop + Send> AwayMembers<
+    A,
+    B,
+    C,
+> {
     /// Sends the members away, each with its place as its number: the front-ends, the logger, and the analyzers.
     pub(crate) fn send<'s, E, R: Threads + Wait + Sync, G: Gate + Sync>(
         &mut self,
         scope: &'s Scope<'s, E>,
         rt: &'s R,
-        recall: &'s Recall,
-        stir: &'s Stir,
+        return_flag: &'s ReturnFlag,
+        activity: &'s Activity,
         gate: &'s G,
         members: Members<A, B, C>,
     )
@@ -133,14 +137,22 @@ impl<A: Member + Drop + Send, B: Member + Drop + Send, C: Member + Drop + Send> 
             analyzers,
         } = members;
         let number = fronts.len();
-        send_all(scope, rt, recall, stir, gate, 0, fronts, &mut self.fronts);
-        self.loggers
-            .push(send(scope, rt, recall, stir, gate, number, logger));
         send_all(
             scope,
             rt,
-            recall,
-            stir,
+            return_flag,
+            activity,
+            gate,
+            0,
+            fronts,
+            &mut self.fronts,
+        );
+        self.loggers.push(send(scope, rt, return_flag, activity, gate, number, logger));
+        send_all(
+            scope,
+            rt,
+            return_flag,
+            activity,
             gate,
             number + 1,
             analyzers,
@@ -149,7 +161,7 @@ impl<A: Member + Drop + Send, B: Member + Drop + Send, C: Member + Drop + Send> 
     }
 }
 
-impl<A, B, C> Back<A, B, C> {
+impl<A, B, C> ReturnedMembers<A, B, C> {
     /// The members that came back.
     pub(crate) fn into_members(self) -> Members<A, B, C>
     where
@@ -163,7 +175,7 @@ impl<A, B, C> Back<A, B, C> {
             } }
         ensures room { vec_capacity result.analyzers ≡ vec_capacity self.analyzers }
     {
-        let Back {
+        let ReturnedMembers {
             fronts,
             mut loggers,
             analyzers,
@@ -180,38 +192,38 @@ impl<A, B, C> Back<A, B, C> {
 }
 
 /// Members that are away, with the gate that they pass, and what they see of one another's work. They have rounds as far as
-/// they are here. Contracts see them as `Post` shows each.
+/// they are here. Contracts see them as `MemberHandle` shows each.
 #[derive(Drop)]
-pub struct Posts<'a, A: Member, B: Member, C: Member, G: Gate> {
-    pub(crate) away: Away<A, B, C>,
-    pub(crate) stir: &'a Stir,
+pub struct MemberHandles<'a, A: Member, B: Member, C: Member, G: Gate> {
+    pub(crate) away: AwayMembers<A, B, C>,
+    pub(crate) activity: &'a Activity,
     pub(crate) gate: &'a G,
     /// How many rounds in a row saw nobody at work.
     pub(crate) still: u32,
 }
 
-impl<'a, A: Member, B: Member, C: Member, G: Gate> Model for Posts<'a, A, B, C, G> {
+impl<'a, A: Member, B: Member, C: Member, G: Gate> Model for MemberHandles<'a, A, B, C, G> {
     ghost use Rattle.member_threads.specs.Scattered.{MembersSeen};
-    ghost use Rattle.member_threads.specs.Posts.{PostSeen};
+    ghost use Rattle.member_threads.specs.MemberHandles.{HandleSeen};
 
-    ghost Value = { MembersSeen (PostSeen A) (PostSeen B) (PostSeen C) };
+    ghost Value = { MembersSeen (HandleSeen A) (HandleSeen B) (HandleSeen C) };
 
     ghost view = { λ s. s.away };
 }
 
 impl<'a, A: Member + Drop, B: Member + Drop, C: Member + Drop, G: Gate> Rounds
-    for Posts<'a, A, B, C, G> {
-    ghost use Rattle.member_threads.specs.Posts.{RoundsEach};
+    for MemberHandles<'a, A, B, C, G> {
+    ghost use Rattle.member_threads.specs.MemberHandles.{RoundsEach};
 
     ghost round = { RoundsEach A.turns B.turns C.turns };
 
     /// One turn of each member that is here, and of no other: first the front-ends, then the logger, then the analyzers, each in
     /// order. Where none of them worked, the main thread waits for the others.
     fn round<R: Wait>(&mut self, rt: &R) {
-        if self.away.turn(rt, self.stir, self.gate) {
+        if self.away.turn(rt, self.activity, self.gate) {
             self.still = 0;
         } else {
-            self.still = self.stir.wait_on(self.still);
+            self.still = self.activity.wait_on(self.still);
         }
     }
 }

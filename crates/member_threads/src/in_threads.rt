@@ -1,6 +1,6 @@
 // A session whose members have their turns in threads of their own.
 ghost use Rattle.std.specs.Prelude.{◌≡◌};
-ghost use Rattle.session_crew.specs.Crews.{AreMembers, IsSameCrew, KeepContracts, NotesRunFaults, crew_seen, crew_told};
+ghost use Rattle.daq_members.specs.Crews.{AreMembers, IsSameCrew, KeepContracts, NotesRunFaults, crew_seen, crew_told};
 ghost use Rattle.loggers.specs.Moments.{files_by};
 ghost use Rattle.member_threads.specs.MemberTurns.{FrontTurns, LoggerTurns, AnalyzerTurns};
 ghost use Rattle.member_threads.specs.Scattered.{EachEnded, members_seen};
@@ -8,15 +8,13 @@ ghost use Rattle.member_threads.specs.Scattered.{EachEnded, members_seen};
 use crate::away::Members;
 use crate::playing::Playing;
 use crate::scattered::{Room, play_scattered};
-use analyzer_seats::AnalyzerSeat;
 use buffer_core::BufferPort;
 use daq_io::{Files, Gate, Pick};
-use daq_members::{FrontSeat, LoggerSeat};
+use daq_members::crew_laws::members_stay;
+use daq_members::{AnalyzerSeat, Crew, CrewParts, FrontSeat, LoggerSeat};
 use daq_types::BoundedList;
 use front_ends::Equipment;
-use odb_port::WatchPort;
-use session_crew::laws::members_stay;
-use session_crew::{Crew, CrewParts};
+use odb_watch::WatchPort;
 use std::sync::Wait;
 use std::thread::Threads;
 

@@ -1,21 +1,21 @@
 // A session whose members have their turns in rounds of the main thread.
 ghost use Rattle.std.specs.Prelude.{◌≡◌, ℕ};
-ghost use Rattle.session_engine.specs.MadeTransitions.{HadRounds};
-ghost use Rattle.session_crew.specs.Crews.{CrewSeen, AreMembers, IsSameCrew, KeepContracts, NotesRunFaults, TakesRound, crew_seen, crew_told};
+ghost use Rattle.session_runs.specs.MadeTransitions.{HadRounds};
+ghost use Rattle.daq_members.specs.Crews.{CrewSeen, AreMembers, IsSameCrew, KeepContracts, NotesRunFaults, TakesRound, crew_seen, crew_told};
 ghost use Rattle.loggers.specs.Moments.{files_by};
 ghost use Rattle.member_threads.specs.MemberTurns.{FrontTurns, LoggerTurns, AnalyzerTurns};
 ghost use Rattle.member_threads.specs.Scattered.{EachEnded, members_seen};
 
+use crate::activity::Activity;
+use crate::handle::finish;
 use crate::last_turns::{end_all, end_entries};
 use crate::playing::Playing;
-use crate::post::finish;
-use crate::stir::Stir;
 use buffer_core::BufferPort;
 use daq_io::{Files, Gate, Pick};
+use daq_members::crew_laws::{members_stay, rounds_keep};
+use daq_members::{Crew, CrewParts};
 use front_ends::Equipment;
-use odb_port::WatchPort;
-use session_crew::laws::{members_stay, rounds_keep};
-use session_crew::{Crew, CrewParts};
+use odb_watch::WatchPort;
 use std::sync::Wait;
 
 /// Plays the main thread's part, in whose rounds the members have their turns; the pick is read in these rounds alone. Behind it
@@ -62,10 +62,10 @@ pub fn play_in_turns<
         mut analyzers,
         pick,
     } = crew.into_parts();
-    let stir = Stir::new();
-    end_all(rt, &stir, &mut fronts, gate);
-    let logger = finish(rt, &stir, gate, logger);
-    end_entries(rt, &stir, &mut analyzers, gate);
+    let activity = Activity::new();
+    end_all(rt, &activity, &mut fronts, gate);
+    let logger = finish(rt, &activity, gate, logger);
+    end_entries(rt, &activity, &mut analyzers, gate);
     let crew = Crew::new(fronts, logger, analyzers, pick, gate);
     (played, crew.into_parts())
 }

@@ -3,8 +3,8 @@ ghost use Rattle.std.specs.Prelude.{◌<◌, length, All};
 ghost use Rattle.std.specs.List.{AllZip};
 ghost use Rattle.member_threads.specs.Turns.{HadTurns, HasEnded, EndsMember};
 
+use crate::activity::Activity;
 use crate::member::{Member, until_ended};
-use crate::stir::Stir;
 use daq_io::Gate;
 use daq_types::BoundedList;
 use std::sync::Wait;
@@ -12,7 +12,7 @@ use std::sync::Wait;
 /// The last turns of the member at this place.
 fn end_at<R: Wait, M: Member, G: Gate>(
     rt: &R,
-    stir: &Stir,
+    activity: &Activity,
     members: &mut Vec<M>,
     gate: &G,
     place: usize,
@@ -21,13 +21,13 @@ fn end_at<R: Wait, M: Member, G: Gate>(
     ensures { EndsMember M.turns place members.old.items members.new.items }
 {
     let member = &mut members[place];
-    until_ended(rt, stir, member, gate);
+    until_ended(rt, activity, member, gate);
 }
 
 /// The last turns of each of these members, in order.
 pub(crate) fn end_all<R: Wait, M: Member, G: Gate>(
     rt: &R,
-    stir: &Stir,
+    activity: &Activity,
     members: &mut Vec<M>,
     gate: &G,
 )
@@ -35,14 +35,14 @@ pub(crate) fn end_all<R: Wait, M: Member, G: Gate>(
     ensures ended { All (HasEnded M.turns) members.new.items }
 {
     for place in 0..members.len() {
-        end_at(rt, stir, members, gate, place);
+        end_at(rt, activity, members, gate, place);
     }
 }
 
 /// The last turns of the member at this place of a list.
 fn end_entry<R: Wait, M: Member, const ROOM: usize, G: Gate>(
     rt: &R,
-    stir: &Stir,
+    activity: &Activity,
     members: &mut BoundedList<M, ROOM>,
     gate: &G,
     place: usize,
@@ -53,13 +53,13 @@ fn end_entry<R: Wait, M: Member, const ROOM: usize, G: Gate>(
     let Some(member) = members.get_mut(place) else {
         unreachable!()
     };
-    until_ended(rt, stir, member, gate);
+    until_ended(rt, activity, member, gate);
 }
 
 /// The last turns of each member of a list, in order.
 pub(crate) fn end_entries<R: Wait, M: Member, const ROOM: usize, G: Gate>(
     rt: &R,
-    stir: &Stir,
+    activity: &Activity,
     members: &mut BoundedList<M, ROOM>,
     gate: &G,
 )
@@ -67,6 +67,6 @@ pub(crate) fn end_entries<R: Wait, M: Member, const ROOM: usize, G: Gate>(
     ensures ended { All (HasEnded M.turns) members.new }
 {
     for place in 0..members.len() {
-        end_entry(rt, stir, members, gate, place);
+        end_entry(rt, activity, members, gate, place);
     }
 }

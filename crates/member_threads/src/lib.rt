@@ -7,24 +7,24 @@
 //! have their turns in rounds.
 #![tactic(auto)]
 
+mod activity;
 mod away;
+mod backoff;
+mod handle;
+mod handles;
 mod in_threads;
 mod in_turns;
 mod last_turns;
 mod member;
-mod pace;
 mod playing;
-mod post;
-mod posts;
-mod recall;
+mod return_flag;
 mod scattered;
 mod seats;
-mod stir;
 
-pub use away::{Members, Posts};
+pub use away::{MemberHandles, Members};
+pub use handle::MemberHandle;
 pub use in_threads::{ThreadRoom, play_in_threads};
 pub use in_turns::play_in_turns;
 pub use member::Member;
 pub use playing::Playing;
-pub use post::Post;
 pub use scattered::{Room, play_scattered};

@@ -1,8 +1,8 @@
 // A member that has turns, and has them until it ends.
 ghost use Rattle.member_threads.specs.Turns.{HadTurns, HasEnded};
 
-use crate::pace::Pace;
-use crate::stir::Stir;
+use crate::activity::Activity;
+use crate::backoff::Backoff;
 use daq_io::Gate;
 use daq_members::Turned;
 use std::sync::Wait;
@@ -22,22 +22,22 @@ pub trait Member {
 /// Turns of this member, until one comes to `Ended`. Between them it heeds what others do.
 pub(crate) fn until_ended<R: Wait, M: Member, G: Gate>(
     rt: &R,
-    stir: &Stir,
+    activity: &Activity,
     member: &mut M,
     gate: &G,
 )
     ensures had { HadTurns M.turns member.old member.new }
     ensures ended { HasEnded M.turns member.new }
 {
-    let mut pace = Pace::new(stir);
+    let mut backoff = Backoff::new(activity);
     for _ in rt.forever() {
         match member.turn(rt, gate) {
             Turned::Ended => {
-                pace.end();
+                backoff.end();
                 return;
             }
-            Turned::Worked => pace.worked(),
-            Turned::Idle => pace.idle(),
+            Turned::Worked => backoff.worked(),
+            Turned::Idle => backoff.idle(),
         }
     }
     unreachable!()

@@ -2,11 +2,11 @@
 ghost use Rattle.std.specs.Prelude.{◌≡◌, ◌+◌, ◌≤◌, [], length, vec_capacity};
 ghost use Rattle.member_threads.specs.Scattered.{members_seen, no_members, CameBack};
 
-use crate::away::{Away, Back, Members, Posts};
+use crate::activity::Activity;
+use crate::away::{AwayMembers, MemberHandles, Members, ReturnedMembers};
 use crate::member::Member;
 use crate::playing::Playing;
-use crate::recall::Recall;
-use crate::stir::Stir;
+use crate::return_flag::ReturnFlag;
 use daq_io::Gate;
 use daq_types::NoMemory;
 use std::alloc::Global;
@@ -17,8 +17,8 @@ use std::thread::{Scope, Threads};
 /// Room for the members of a session while they are away, and for them as they come back.
 #[derive(Drop)]
 pub struct Room<A: Member, B: Member, C: Member> {
-    away: Away<A, B, C>,
-    back: Back<A, B, C>,
+    away: AwayMembers<A, B, C>,
+    back: ReturnedMembers<A, B, C>,
     ghost nobody_away: { away ≡ no_members },
     ghost no_fronts: { back.fronts.items ≡ [] },
     ghost no_loggers: { back.loggers.items ≡ [] },
@@ -31,13 +31,13 @@ pub struct Room<A: Member, B: Member, C: Member> {
 impl<A: Member + Drop, B: Member + Drop, C: Member + Drop> Room<A, B, C> {
     /// Room for as many members of each kind as an engine has clients.
     pub fn new(alloc: Global) -> Result<Room<A, B, C>, NoMemory> {
-        let away = Away::new(alloc)?;
+        let away = AwayMembers::new(alloc)?;
         let fronts = Vec::with_capacity(alloc, 64)?;
         let loggers = Vec::with_capacity(alloc, 64)?;
         let analyzers = Vec::with_capacity(alloc, 64)?;
         Ok(Room {
             away,
-            back: Back {
+            back: ReturnedMembers {
                 fronts,
                 loggers,
                 analyzers,
@@ -59,8 +59,8 @@ fn play_in<
 >(
     scope: &'s Scope<'s, X>,
     rt: &'s R,
-    recall: &'s Recall,
-    stir: &'s Stir,
+    return_flag: &'s ReturnFlag,
+    activity: &'s Activity,
     room: Room<A, B, C>,
     members: Members<A, B, C>,
     gate: &'s G,
@@ -80,18 +80,18 @@ where
     ensures room { 64 ≤ vec_capacity result.1.analyzers }
 {
     let Room { mut away, mut back } = room;
-    away.send(scope, rt, recall, stir, gate, members);
-    let (played, posts) = main.play(
+    away.send(scope, rt, return_flag, activity, gate, members);
+    let (played, handles) = main.play(
         rt,
-        Posts {
+        MemberHandles {
             away,
-            stir,
+            activity,
             gate,
             still: 0,
         },
     );
-    let Posts { mut away, .. } = posts;
-    away.call_back(rt, stir, gate, &mut back);
+    let MemberHandles { mut away, .. } = handles;
+    away.call_back(rt, activity, gate, &mut back);
     (played, back.into_members())
 }
 
@@ -118,10 +118,10 @@ pub fn play_scattered<
         (members_seen result.1.fronts.items result.1.logger result.1.analyzers.items) }
     ensures room { 64 ≤ vec_capacity result.1.analyzers }
 {
-    let recall = Recall::new();
-    let recall = &recall;
-    let stir = Stir::new();
-    let stir = &stir;
+    let return_flag = ReturnFlag::new();
+    let return_flag = &return_flag;
+    let activity = Activity::new();
+    let activity = &activity;
     thread::scope(
         thread::scope_env(),
         rt,
@@ -132,6 +132,6 @@ pub fn play_scattered<
                 (members_seen members.fronts.items members.logger members.analyzers.items)
                 (members_seen result.1.fronts.items result.1.logger result.1.analyzers.items) }
             ensures room { 64 ≤ vec_capacity result.1.analyzers }
-        { play_in(scope, rt, recall, stir, room, members, gate, main) },
+        { play_in(scope, rt, return_flag, activity, room, members, gate, main) },
     )
 }

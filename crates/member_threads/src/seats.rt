@@ -1,11 +1,10 @@
 // The members of a session: front-ends, the logger and analyzers.
 use crate::member::Member;
-use analyzer_seats::AnalyzerSeat;
 use buffer_core::BufferPort;
 use daq_io::{Files, Gate};
-use daq_members::{FrontSeat, LoggerSeat, Turned};
+use daq_members::{AnalyzerSeat, FrontSeat, LoggerSeat, Turned};
 use front_ends::Equipment;
-use odb_port::WatchPort;
+use odb_watch::WatchPort;
 use std::sync::Wait;
 
 impl<'a, E: Equipment, P: BufferPort, D: WatchPort> Member for FrontSeat<'a, E, P, D> {

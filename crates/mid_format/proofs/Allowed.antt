@@ -2,9 +2,9 @@
 use Rattle.std.proofs.Common.{◌≡◌, ◌≢◌, ◌∙◌, ℕ, ◌+◌, ◌^◌, ◌≤◌, ◌==◌, ◌||◌, not, nat_lt, Bool, true, false, if◌then◌else◌, Option, Some, None, refl, ap, sym, ne_eqb}
 use Rattle.std.specs.Prelude.{is_some}
 use Rattle.std.proofs.lemmas.Bool.{ltb-false, not-false, eqb-true, eq-eqb}
-use Rattle.daq_model.specs.Events.{begin_id, end_id, event_limit, record_limit}
-use Rattle.daq_model.specs.RunFile.{record_mask}
-use Rattle.event_header.specs.declared.head.Header.{Header}
+use Rattle.event.specs.Events.{begin_id, end_id, event_limit, record_limit}
+use Rattle.event.specs.RunFile.{record_mask}
+use Rattle.event.specs.declared.head.Header.{Header}
 use Rattle.mid_format.specs.Faults.{size_fault, header_fault}
 use Rattle.mid_format.specs.declared.faults.MidFault.{MidFault}
 use Rattle.mid_format.specs.declared.faults.MidFault.TheVariants.{TooBig, TooLong, BadRecord, NoBegin}

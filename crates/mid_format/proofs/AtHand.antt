@@ -4,11 +4,11 @@ use Rattle.std.proofs.Math.Seq.{take-add}
 use Rattle.std.proofs.lemmas.List.{drop-drop, drop-take}
 use Rattle.std.specs.Io.KnownBytes.{Consumes, prepend_known}
 use Rattle.daq_types.specs.declared.events.Event.{Event}
-use Rattle.daq_model.specs.Events.{encoding, all_encoded}
-use Rattle.daq_model.proofs.Events.{all_encoded-append, length-encoding}
-use Rattle.event_header.specs.Held.{HeldEvent}
-use Rattle.event_header.specs.Headers.{header_encoding}
-use Rattle.event_header.specs.declared.head.Header.{Header}
+use Rattle.event.specs.Events.{encoding, all_encoded}
+use Rattle.event.proofs.Events.{all_encoded-append, length-encoding}
+use Rattle.event.specs.Held.{HeldEvent}
+use Rattle.event.specs.Headers.{header_encoding}
+use Rattle.event.specs.declared.head.Header.{Header}
 use Rattle.mid_format.specs.Parts.{ReadsHead, ReadsBody}
 use Rattle.mid_format.specs.HasRead.{HasRead}
 use Rattle.mid_format.specs.AtHand.{StandsWhole, event_at_front}

@@ -2,9 +2,9 @@
 use Rattle.std.proofs.Common.{◌≡◌, ◌∙◌, ℕ, ◌+◌, ◌<◌, nat_lt, if◌then◌else◌, List, ◌++◌, length, Option, Some, None, IfSome, ap, sym, subst, arith, length-append}
 use Rattle.std.proofs.lemmas.Bool.{lt-ltb}
 use Rattle.std.specs.Io.KnownBytes.{Consumes}
-use Rattle.event_header.specs.Headers.{header_encoding}
-use Rattle.event_header.proofs.Headers.{length-header_encoding}
-use Rattle.event_header.specs.declared.head.Header.{Header}
+use Rattle.event.specs.Headers.{header_encoding}
+use Rattle.event.proofs.Headers.{length-header_encoding}
+use Rattle.event.specs.declared.head.Header.{Header}
 use Rattle.mid_format.specs.Faults.{header_fault, fault_at, or_else, OfBytes}
 use Rattle.mid_format.specs.Parts.{IsInRange, IsCut}
 use Rattle.mid_format.specs.declared.faults.MidFault.{MidFault}

@@ -1,9 +1,9 @@
 -- Where a step ends: the place, what lies at hand and the count of faults.
 use Rattle.std.proofs.Common.{◌≡◌, ℕ, ◌≤◌, ◌^◌, List, [], Option, Some, None, Result, Ok, Err, inl, inr, ap, sym, subst, arith}
 use Rattle.std.specs.Prelude.{IfErr}
-use Rattle.daq_model.specs.Events.{end_id}
-use Rattle.event_header.specs.Pieces.{FailsBehind}
-use Rattle.event_header.specs.declared.head.Header.{Header}
+use Rattle.event.specs.Events.{end_id}
+use Rattle.event.specs.Pieces.{FailsBehind}
+use Rattle.event.specs.declared.head.Header.{Header}
 use Rattle.mid_format.specs.Faults.{header_fault, nothing_left, OfSource}
 use Rattle.mid_format.specs.Parts.{FailsInside, CountedBy, CountsReads}
 use Rattle.mid_format.specs.Steps.{BeginsReading, FinishesReading, FinishStops}

@@ -4,12 +4,12 @@ use Rattle.std.specs.Prelude.{is_some}
 use Rattle.std.proofs.lemmas.List.{nil_from_length}
 use Rattle.std.specs.Io.KnownBytes.{Consumes}
 use Rattle.std.proofs.KnownBytes.{Consumes-trans}
-use Rattle.daq_model.specs.Events.{begin_id, end_id, event_limit, record_limit}
-use Rattle.daq_model.specs.RunFile.{record_mask}
-use Rattle.event_header.specs.Headers.{header_encoding}
-use Rattle.event_header.specs.Pieces.{FailsBehind}
-use Rattle.event_header.proofs.Headers.{length-header_encoding}
-use Rattle.event_header.specs.declared.head.Header.{Header}
+use Rattle.event.specs.Events.{begin_id, end_id, event_limit, record_limit}
+use Rattle.event.specs.RunFile.{record_mask}
+use Rattle.event.specs.Headers.{header_encoding}
+use Rattle.event.specs.Pieces.{FailsBehind}
+use Rattle.event.proofs.Headers.{length-header_encoding}
+use Rattle.event.specs.declared.head.Header.{Header}
 use Rattle.mid_format.specs.Faults.{size_fault, header_fault, OfSource}
 use Rattle.mid_format.specs.Parts.{ReadsHead, FailsInside}
 use Rattle.mid_format.specs.HasRead.{LacksNext, FailsAfter}

@@ -7,14 +7,14 @@ use Rattle.std.proofs.lemmas.List.Elements.{All-append, All-nil, All-cons}
 use Rattle.std.specs.Io.KnownBytes.{Consumes, IsAtEnd}
 use Rattle.std.proofs.KnownBytes.{Consumes-trans}
 use Rattle.daq_types.specs.declared.events.Event.{Event}
-use Rattle.daq_model.specs.Events.{encoding, all_encoded, begin_id, end_id}
-use Rattle.daq_model.proofs.Events.{all_encoded-append}
-use Rattle.daq_model.specs.RunFile.{begin_record, end_record, record_mask, IsFileEvent}
-use Rattle.event_header.specs.Held.{HeldEvent}
-use Rattle.event_header.specs.Pieces.{FailsBehind}
-use Rattle.event_header.specs.Headers.{header_encoding, event_of, fields_of}
-use Rattle.event_header.proofs.Headers.{length-header_encoding, header_back}
-use Rattle.event_header.specs.declared.head.Header.{Header}
+use Rattle.event.specs.Events.{encoding, all_encoded, begin_id, end_id}
+use Rattle.event.proofs.Events.{all_encoded-append}
+use Rattle.event.specs.RunFile.{begin_record, end_record, record_mask, IsFileEvent}
+use Rattle.event.specs.Held.{HeldEvent}
+use Rattle.event.specs.Pieces.{FailsBehind}
+use Rattle.event.specs.Headers.{header_encoding, event_of, fields_of}
+use Rattle.event.proofs.Headers.{length-header_encoding, header_back}
+use Rattle.event.specs.declared.head.Header.{Header}
 use Rattle.mid_format.specs.Faults.{fault_at, OfBytes, OfSource}
 use Rattle.mid_format.specs.Parts.{IsInRange, ReadsHead, ReadsBody, FailsInside, IsCut, IsBehindEnd}
 use Rattle.mid_format.specs.HasRead.{IsStorable, IsBegunFile, IsEndedFile, IsMidFault, BeginsWith, IsReadSoFar, IsFaultAt, StandsBehind, HasRead}

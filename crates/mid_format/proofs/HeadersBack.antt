@@ -2,10 +2,10 @@
 use Rattle.std.proofs.Common.{◌≡◌, ◌∙◌, ℕ, ◌+◌, ◌≤◌, ◌==◌, nat_lt, if◌then◌else◌, List, ◌++◌, length, Option, Some, None, false, refl, ap, arith, ne_eqb, length-append}
 use Rattle.std.proofs.lemmas.Bool.{le-ltb}
 use Rattle.std.proofs.lemmas.Nat.{from_le_bytes-to_le_bytes_2, from_le_bytes-to_le_bytes_4}
-use Rattle.daq_model.specs.Events.{header_bytes}
-use Rattle.event_header.specs.Headers.{header_encoding}
-use Rattle.event_header.proofs.Headers.{length-header_encoding}
-use Rattle.event_header.specs.declared.head.Header.{Header}
+use Rattle.event.specs.Events.{header_bytes}
+use Rattle.event.specs.Headers.{header_encoding}
+use Rattle.event.proofs.Headers.{length-header_encoding}
+use Rattle.event.specs.declared.head.Header.{Header}
 use Rattle.mid_format.specs.Faults.{header_at, header_fault, or_else, fault_at}
 use Rattle.mid_format.specs.declared.faults.MidFault.{MidFault}
 use Rattle.mid_format.specs.declared.faults.MidFault.TheVariants.{Truncated}

@@ -4,12 +4,12 @@ use Rattle.std.specs.Prelude.{is_some}
 use Rattle.std.proofs.lemmas.List.{take_at, drop_at}
 use Rattle.std.proofs.lemmas.Bool.{le-ltb, eq-eqb}
 use Rattle.daq_types.specs.declared.events.Event.{Event}
-use Rattle.daq_model.specs.Events.{encoding, all_encoded, header_of, begin_id, end_id, event_limit, record_limit}
-use Rattle.daq_model.proofs.Events.{length-encoding}
-use Rattle.daq_model.specs.RunFile.{begin_record, end_record, IsFileEvent}
-use Rattle.event_header.specs.Headers.{header_encoding, fields_of}
-use Rattle.event_header.proofs.Headers.{length-header_encoding}
-use Rattle.event_header.specs.declared.head.Header.{Header}
+use Rattle.event.specs.Events.{encoding, all_encoded, header_of, begin_id, end_id, event_limit, record_limit}
+use Rattle.event.proofs.Events.{length-encoding}
+use Rattle.event.specs.RunFile.{begin_record, end_record, IsFileEvent}
+use Rattle.event.specs.Headers.{header_encoding, fields_of}
+use Rattle.event.proofs.Headers.{length-header_encoding}
+use Rattle.event.specs.declared.head.Header.{Header}
 use Rattle.mid_format.specs.Faults.{header_at, header_fault, size_fault, or_else, fault_at}
 use Rattle.mid_format.specs.HasRead.{IsStorable}
 use Rattle.mid_format.proofs.HeadersBack.{header_back, behind_head}

@@ -4,9 +4,9 @@ use Rattle.std.proofs.lemmas.List.{append-nil, take_all}
 use Rattle.std.proofs.lemmas.Bool.{lt-ltb}
 use Rattle.std.specs.Io.KnownBytes.{Consumes, IsAtEnd}
 use Rattle.std.proofs.KnownBytes.{Consumes-nil, Consumes-trans}
-use Rattle.event_header.specs.Pieces.{Gathers, FailsBehind}
-use Rattle.event_header.specs.Headers.{header_encoding}
-use Rattle.event_header.specs.declared.head.Header.{Header}
+use Rattle.event.specs.Pieces.{Gathers, FailsBehind}
+use Rattle.event.specs.Headers.{header_encoding}
+use Rattle.event.specs.declared.head.Header.{Header}
 use Rattle.mid_format.specs.Faults.{header_fault, nothing_left, or_else, fault_at, OfBytes}
 use Rattle.mid_format.specs.Parts.{IsInRange, PassesOver}
 use Rattle.mid_format.specs.declared.faults.MidFault.{MidFault}

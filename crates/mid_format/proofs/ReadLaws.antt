@@ -3,10 +3,10 @@ use Rattle.std.proofs.Common.{◌≡◌, ◌≢◌, ◌∙◌, ℕ, suc, ◌+◌
 use Rattle.std.proofs.lemmas.List.{append-nil}
 use Rattle.std.specs.Io.KnownBytes.{Consumes, IsAtEnd}
 use Rattle.daq_types.specs.declared.events.Event.{Event}
-use Rattle.daq_model.specs.Events.{encoding, all_encoded, record_limit}
-use Rattle.daq_model.proofs.Events.{length-encoding}
-use Rattle.daq_model.specs.RunFile.{begin_record, end_record, begun_file}
-use Rattle.event_header.specs.declared.head.Header.{Header}
+use Rattle.event.specs.Events.{encoding, all_encoded, record_limit}
+use Rattle.event.proofs.Events.{length-encoding}
+use Rattle.event.specs.RunFile.{begin_record, end_record, begun_file}
+use Rattle.event.specs.declared.head.Header.{Header}
 use Rattle.mid_format.specs.Faults.{fault_at, OfBytes}
 use Rattle.mid_format.specs.HasRead.{IsStorable, IsBegunFile, IsFaultBehind, IsFaultAfter, IsMidFault, IsReadSoFar, HasRead, nothing_read}
 use Rattle.mid_format.proofs.OneReading.{IsFine, BeginsNone, IsOneEvent, AreOne, one_event, one_list, is_fine, end_begins_none, fault_begins_none, no_fault, begin_no_fault, end_no_fault, some_none}

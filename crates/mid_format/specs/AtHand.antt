@@ -1,9 +1,9 @@
 -- Bytes that lie at hand before they are taken, and an event that lies whole among them.
 use Rattle.std.specs.Prelude.{◌≡◌, ◌≢◌, ℕ, ◌+◌, ◌^◌, ◌≤◌, List, [], ◌∷◌, ◌++◌, length, take, drop, Option, Some, None, Result}
 use Rattle.daq_types.specs.declared.events.Event.{Event}
-use Rattle.daq_model.specs.Events.{all_encoded, end_id}
-use Rattle.event_header.specs.Headers.{header_encoding, event_of}
-use Rattle.event_header.specs.declared.head.Header.{Header}
+use Rattle.event.specs.Events.{all_encoded, end_id}
+use Rattle.event.specs.Headers.{header_encoding, event_of}
+use Rattle.event.specs.declared.head.Header.{Header}
 use Rattle.mid_format.specs.Faults.{header_fault}
 use Rattle.mid_format.specs.Parts.{IsInRange}
 use Rattle.mid_format.specs.Steps.{IsGoing}

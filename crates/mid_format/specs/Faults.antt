@@ -1,9 +1,9 @@
 -- The faults of bytes that are no run file, in their order.
 use Rattle.std.specs.Prelude.{ℕ, ◌+◌, ◌^◌, ◌==◌, nat_lt, ◌||◌, if◌then◌else◌, not, List, length, take, drop, Option, Some, None, ⊤}
 use Rattle.std.specs.Int.{from_le_bytes, w16, w32}
-use Rattle.daq_model.specs.Events.{begin_id, end_id, event_limit, record_limit}
-use Rattle.daq_model.specs.RunFile.{record_mask}
-use Rattle.event_header.specs.declared.head.Header.{Header}
+use Rattle.event.specs.Events.{begin_id, end_id, event_limit, record_limit}
+use Rattle.event.specs.RunFile.{record_mask}
+use Rattle.event.specs.declared.head.Header.{Header}
 use Rattle.mid_format.specs.declared.faults.MidFault.{MidFault}
 use Rattle.mid_format.specs.declared.faults.MidFault.TheVariants.{Truncated, NoBegin, NoEnd, AfterEnd, TooBig, ReadFault, BadRecord, TooLong}
 

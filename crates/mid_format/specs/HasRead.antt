@@ -2,10 +2,10 @@
 use Rattle.std.specs.Prelude.{◌≡◌, ℕ, ◌^◌, ◌<◌, ◌≤◌, ◌⊎◌, List, [], ◌∷◌, ◌++◌, length, All, Option, Some, None, IfSome}
 use Rattle.std.specs.Io.KnownBytes.{Consumes, IsAtEnd}
 use Rattle.daq_types.specs.declared.events.Event.{Event}
-use Rattle.daq_model.specs.Events.{encoding, record_limit}
-use Rattle.daq_model.specs.RunFile.{begin_record, end_record, begun_file, IsFileEvent}
-use Rattle.event_header.specs.Headers.{fields_of}
-use Rattle.event_header.specs.declared.head.Header.{Header}
+use Rattle.event.specs.Events.{encoding, record_limit}
+use Rattle.event.specs.RunFile.{begin_record, end_record, begun_file, IsFileEvent}
+use Rattle.event.specs.Headers.{fields_of}
+use Rattle.event.specs.declared.head.Header.{Header}
 use Rattle.mid_format.specs.Faults.{fault_at, OfBytes}
 use Rattle.mid_format.specs.Parts.{IsInRange, LacksRecord}
 use Rattle.mid_format.specs.declared.faults.MidFault.{MidFault}

@@ -1,7 +1,7 @@
 -- A reader of a run file, and what its next call does.
 use Rattle.std.specs.Prelude.{◌≡◌, ℕ, List, Option, Some, None, Result, Ok, Err}
 use Rattle.daq_types.specs.declared.events.Event.{Event}
-use Rattle.event_header.specs.declared.head.Header.{Header}
+use Rattle.event.specs.declared.head.Header.{Header}
 use Rattle.mid_format.specs.Parts.{CountsReads}
 use Rattle.mid_format.specs.HasRead.{HasRead, and_given}
 use Rattle.mid_format.specs.declared.faults.MidFault.{MidFault}

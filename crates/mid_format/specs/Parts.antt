@@ -2,9 +2,9 @@
 use Rattle.std.specs.Prelude.{◌≡◌, ℕ, ◌+◌, ◌^◌, ◌<◌, ◌≤◌, List, [], length, Option, None, IfSome, Result, OnOk, IfErr}
 use Rattle.std.specs.Io.KnownBytes.{Consumes, IsAtEnd}
 use Rattle.daq_io.specs.Counts.{Rose}
-use Rattle.event_header.specs.Headers.{header_encoding, event_of}
-use Rattle.event_header.specs.Held.{HeldEvent}
-use Rattle.event_header.specs.declared.head.Header.{Header}
+use Rattle.event.specs.Headers.{header_encoding, event_of}
+use Rattle.event.specs.Held.{HeldEvent}
+use Rattle.event.specs.declared.head.Header.{Header}
 use Rattle.mid_format.specs.Faults.{header_at, header_fault, OfBytes}
 use Rattle.mid_format.specs.declared.faults.MidFault.{MidFault}
 use Rattle.mid_format.specs.declared.faults.MidFault.TheVariants.{Truncated, NoBegin, NoEnd, AfterEnd, TooBig, ReadFault, BadRecord, TooLong}

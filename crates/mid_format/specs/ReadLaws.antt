@@ -2,8 +2,8 @@
 -- they have this fault first.
 use Rattle.std.proofs.Common.{◌≡◌, ℕ, List, All, Some}
 use Rattle.daq_types.specs.declared.events.Event.{Event}
-use Rattle.daq_model.specs.RunFile.{begin_record, end_record, IsRunFile}
-use Rattle.event_header.specs.declared.head.Header.{Header}
+use Rattle.event.specs.RunFile.{begin_record, end_record, IsRunFile}
+use Rattle.event.specs.declared.head.Header.{Header}
 use Rattle.mid_format.specs.HasRead.{IsStorable}
 use Rattle.mid_format.specs.declared.progress.Progress.{Progress}
 

@@ -2,9 +2,9 @@
 use Rattle.std.specs.Prelude.{◌≡◌, ℕ, ◌+◌, ◌⊎◌, List, ◌++◌, length, Option, Some, None, IfSome}
 use Rattle.std.specs.Io.KnownBytes.{Consumes, IsAtEnd}
 use Rattle.daq_types.specs.declared.events.Event.{Event}
-use Rattle.event_header.specs.Headers.{header_encoding}
-use Rattle.event_header.specs.Pieces.{FailsBehind}
-use Rattle.event_header.specs.declared.head.Header.{Header}
+use Rattle.event.specs.Headers.{header_encoding}
+use Rattle.event.specs.Pieces.{FailsBehind}
+use Rattle.event.specs.declared.head.Header.{Header}
 use Rattle.mid_format.specs.Faults.{header_fault, fault_at, OfBytes, OfSource}
 use Rattle.mid_format.specs.Parts.{IsInRange, IsCut, IsBehindEnd}
 use Rattle.mid_format.specs.HasRead.{HasRead, and_given}

@@ -2,7 +2,7 @@ ghost use Rattle.std.specs.Prelude.{◌≡◌, ◌≤◌, ◌^◌};
 ghost use Rattle.mid_format.specs.Faults.{size_fault, header_fault, nothing_left};
 
 use crate::records::{BEGIN_ID, END_ID, MAX_DUMP, RECORD_MASK};
-use event_header::{HEADER_BYTES, Header, MAX_DATA};
+use event::{HEADER_BYTES, Header, MAX_DATA};
 
 /// The most bytes that a run file has, 2^62.
 const MAX_PLACE: u64 = 1 << 62;

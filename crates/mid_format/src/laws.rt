@@ -2,7 +2,7 @@
 
 ghost use Rattle.std.specs.Prelude.{◌≡◌, ◌≢◌, ◌++◌, ℕ, List, [], Option, Some, None};
 ghost use Rattle.daq_types.specs.declared.events.Event.{Event};
-ghost use Rattle.event_header.specs.declared.head.Header.{Header};
+ghost use Rattle.event.specs.declared.head.Header.{Header};
 ghost use Rattle.mid_format.specs.declared.faults.MidFault.{MidFault};
 ghost use Rattle.mid_format.specs.declared.faults.MidFault.TheVariants.{ReadFault};
 ghost use Rattle.mid_format.specs.declared.progress.Progress.{Progress};

@@ -1,12 +1,12 @@
 ghost use Rattle.std.specs.Prelude.{◌≡◌, ◌≤◌, ◌+◌, ◌^◌, Some, IfSome, IfOk, IfErr, OnOk, OnErr};
 ghost use Rattle.daq_io.specs.Counts.{CountsFault};
-ghost use Rattle.event_header.specs.Pieces.{FailsBehind};
+ghost use Rattle.event.specs.Pieces.{FailsBehind};
 ghost use Rattle.mid_format.specs.Faults.{fault_at, OfBytes, OfSource};
 ghost use Rattle.mid_format.specs.Parts.{ReadsHead, PassesOver, PassesAll, ReadsBody, IsCut, IsEnd, IsBehindEnd, CountsReads};
 
 use crate::faults::{MidFault, header_fault, nothing_left};
 use daq_io::{Failed, Source};
-use event_header::{EventBuf, Header, read_full, read_header};
+use event::{EventBuf, Header, read_full, read_header};
 
 /// How many bytes are passed over at once.
 const BLOCK_BYTES: u32 = 4096;

@@ -1,5 +1,5 @@
 use crate::faults::MidFault;
-use event_header::Header;
+use event::Header;
 
 /// How far a run file was read.
 #[derive(Clone, Copy, Debug, PartialEq, Eq)]

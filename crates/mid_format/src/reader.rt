@@ -1,5 +1,5 @@
 ghost use Rattle.std.specs.Prelude.{◌≡◌, ◌≤◌, ◌<◌, ◌^◌, ◌↔◌, ℕ, List, [], Option, Some, None, Ok, Err, IfSome, IfOk, IfErr, IsSome, IsNone, take, drop};
-ghost use Rattle.daq_model.specs.Events.{event_limit};
+ghost use Rattle.event.specs.Events.{event_limit};
 ghost use Rattle.daq_types.specs.declared.events.Event.{Event};
 ghost use Rattle.mid_format.specs.AtHand.{StandsWhole, TakesNext, TakesSoFar, event_at_front};
 ghost use Rattle.mid_format.specs.Faults.{OfSource};
@@ -13,7 +13,7 @@ use crate::steps::step;
 use crate::taker::EventTaker;
 use crate::whole::{find_whole, give_whole, pass_whole};
 use daq_io::Source;
-use event_header::{EventBuf, HEADER_BYTES, Header};
+use event::{EventBuf, HEADER_BYTES, Header};
 use std::marker::Model;
 
 /// Reads the events of a run file, one at a time, from any source, which may give its bytes in any pieces. Each byte is

@@ -1,6 +1,6 @@
 ghost use Rattle.std.specs.Prelude.{◌≡◌};
 
-use event_header::Header;
+use event::Header;
 
 /// The id of the record that begins a run file.
 pub const BEGIN_ID: u16 = 0x8000;

@@ -1,5 +1,5 @@
 ghost use Rattle.std.specs.Prelude.{◌≡◌, ◌≤◌, ◌<◌, ◌^◌, ◌+◌, ◌↔◌, [], Some, None, IfOk, IfErr, OnOk, IsSome, IsNone};
-ghost use Rattle.daq_model.specs.Events.{event_limit};
+ghost use Rattle.event.specs.Events.{event_limit};
 ghost use Rattle.mid_format.specs.Faults.{OfSource};
 ghost use Rattle.mid_format.specs.Parts.{CountsReads, FailsInside};
 ghost use Rattle.mid_format.specs.Steps.{BeginsReading, BeginStops, FinishesReading, FinishStops, IsGoing, StepReads, Stops};
@@ -9,7 +9,7 @@ use crate::parts::{pass_data, read_data, read_end, read_head};
 use crate::progress::Progress;
 use crate::records::END_ID;
 use daq_io::Source;
-use event_header::{EventBuf, HEADER_BYTES, Header};
+use event::{EventBuf, HEADER_BYTES, Header};
 
 /// Reads the begin record where it was not read yet, and answers its header.
 fn begin<S: Source>(source: &mut S, progress: &mut Progress) -> Result<Header, MidFault>

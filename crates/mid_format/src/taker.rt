@@ -1,8 +1,8 @@
 ghost use Rattle.std.specs.Prelude.{◌≡◌, ◌++◌, ◌∷◌, [], length};
-ghost use Rattle.event_header.specs.Headers.{event_of};
+ghost use Rattle.event.specs.Headers.{event_of};
 ghost use Rattle.mid_format.specs.AtHand.{MayTake};
 
-use event_header::Header;
+use event::Header;
 
 /// Takes in events, one after the other, without keeping their data.
 pub trait EventTaker {

@@ -11,7 +11,7 @@ use crate::faults::header_fault;
 use crate::progress::Progress;
 use crate::records::END_ID;
 use crate::taker::EventTaker;
-use event_header::{HEADER_BYTES, Header, read_header};
+use event::{HEADER_BYTES, Header, read_header};
 
 /// The header of the next event, where that stands whole at the front of these bytes and nothing is wrong with it.
 pub fn find_whole(progress: &Progress, bytes: &[u8]) -> Option<Header>

@@ -2,12 +2,12 @@
 use Rattle.std.specs.Prelude.{◌≡◌, ℕ, length, List, [], ◌++◌, Result, Ok, Err, OnOk, OnErr}
 use Rattle.std.proofs.Common.{sym, subst, ◌∙◌}
 use Rattle.std.proofs.lemmas.List.{append-nil}
-use Rattle.daq_model.specs.Events.{encoding}
+use Rattle.event.specs.Events.{encoding}
 use Rattle.daq_io.specs.Seen.{Seen, Creates, Extends, ExtendsPart, Closes}
 use Rattle.daq_io.proofs.SeenLaws.{Creates-Extends}
-use Rattle.event_header.specs.declared.head.Header.{Header}
-use Rattle.event_header.specs.Headers.{event_of, header_encoding}
-use Rattle.event_header.proofs.Headers.{encoding_parts}
+use Rattle.event.specs.declared.head.Header.{Header}
+use Rattle.event.specs.Headers.{event_of, header_encoding}
+use Rattle.event.proofs.Headers.{encoding_parts}
 use Rattle.mid_logger.specs.Channels.{ClosesPart}
 use Rattle.mid_logger.proofs.FileParts.{part_of_more, then_part, whole_closed, all_closed}
 

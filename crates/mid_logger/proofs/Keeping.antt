@@ -7,7 +7,7 @@ use Rattle.daq_types.specs.declared.runs.ChannelState.TheVariants.{Broken as IsB
 use Rattle.daq_types.specs.declared.runs.Order.{Order}
 use Rattle.daq_types.specs.declared.runs.Why.{Why}
 use Rattle.daq_types.specs.declared.runs.Why.TheVariants.{NotReady, Exists, Fault, BufferRefused}
-use Rattle.daq_model.specs.Events.{record_limit}
+use Rattle.event.specs.Events.{record_limit}
 use Rattle.daq_io.specs.Seen.{Seen, KeepsNumber, Touches}
 use Rattle.buffer_core.specs.declared.replies.Received.{Received}
 use Rattle.buffer_core.specs.declared.replies.Received.TheVariants.{Got, Empty, NoClient, SmallBuf}

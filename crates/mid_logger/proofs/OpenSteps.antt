@@ -7,8 +7,8 @@ use Rattle.daq_types.specs.declared.runs.Kind.TheVariants.{All}
 use Rattle.daq_types.specs.declared.runs.Order.{Order}
 use Rattle.daq_types.specs.declared.runs.Why.{Why}
 use Rattle.daq_types.specs.declared.runs.Why.TheVariants.{NotReady, Exists, Fault, BufferRefused}
-use Rattle.daq_model.specs.Events.{record_limit}
-use Rattle.daq_model.specs.RunFile.{IsFileEvent}
+use Rattle.event.specs.Events.{record_limit}
+use Rattle.event.specs.RunFile.{IsFileEvent}
 use Rattle.daq_io.specs.declared.folder.NameRefused.{NameRefused}
 use Rattle.daq_io.specs.declared.folder.NameRefused.TheVariants.{Exists as NameTaken, Missing, Failed}
 use Rattle.daq_io.specs.Seen.{Seen}

@@ -5,8 +5,8 @@ use Rattle.std.proofs.lemmas.Bool.{leb-true}
 use Rattle.std.proofs.lemmas.List.{append-nil}
 use Rattle.std.proofs.lemmas.List.Elements.{All-push}
 use Rattle.daq_types.specs.declared.events.Event.{Event}
-use Rattle.daq_model.specs.Events.{encoding}
-use Rattle.daq_model.specs.RunFile.{begun_file, IsFileEvent}
+use Rattle.event.specs.Events.{encoding}
+use Rattle.event.specs.RunFile.{begun_file, IsFileEvent}
 use Rattle.daq_io.specs.Seen.{Seen}
 use Rattle.daq_io.proofs.SeenLaws.{Extends-name, Extends-writes, IsWritten-Closes}
 use Rattle.buffer_core.specs.declared.replies.Received.{Received}

@@ -8,9 +8,9 @@ use Rattle.std.proofs.lemmas.List.Elements.{All-push}
 use mathlib.Core.List.{IsPrefix}
 use Rattle.daq_types.specs.declared.events.Event.{Event}
 use Rattle.daq_types.specs.declared.runs.Kind.TheVariants.{All}
-use Rattle.daq_model.specs.Events.{encoding, all_encoded, is_reserved}
-use Rattle.daq_model.proofs.Events.{all_encoded-append}
-use Rattle.daq_model.specs.RunFile.{begin_record, begun_file, IsFileEvent}
+use Rattle.event.specs.Events.{encoding, all_encoded, is_reserved}
+use Rattle.event.proofs.Events.{all_encoded-append}
+use Rattle.event.specs.RunFile.{begin_record, begun_file, IsFileEvent}
 use Rattle.daq_io.specs.Seen.{Seen, Extends, IsWritten}
 use Rattle.daq_io.proofs.SeenLaws.{IsWritten-Extends}
 use Rattle.buffer_core.specs.declared.replies.Received.{Received}

@@ -4,8 +4,8 @@ use mathlib.Core.List.{IsPrefix}
 use Rattle.daq_types.specs.declared.events.Event.{Event}
 use Rattle.daq_types.specs.declared.runs.ChannelState.{ChannelState}
 use Rattle.daq_types.specs.declared.runs.ChannelState.TheVariants.{Ended, NoEnd, NoMark, Broken as IsBroken, Idle as IsIdle, Writing as IsWriting}
-use Rattle.daq_model.specs.Events.{encoding, record_limit}
-use Rattle.daq_model.specs.RunFile.{begun_file, end_record, IsFileEvent}
+use Rattle.event.specs.Events.{encoding, record_limit}
+use Rattle.event.specs.RunFile.{begun_file, end_record, IsFileEvent}
 use Rattle.daq_io.specs.Counts.{Rose}
 use Rattle.daq_io.specs.Seen.{Seen, Touches, KeepsNumbers, Closes, IsStored}
 use Rattle.buffer_core.specs.declared.entry.BufferEntry.{BufferEntry}

@@ -4,7 +4,7 @@ use Rattle.daq_types.specs.declared.runs.Kind.TheVariants.{All}
 use Rattle.daq_types.specs.declared.runs.Order.{Order}
 use Rattle.daq_types.specs.declared.runs.Why.{Why}
 use Rattle.daq_types.specs.declared.runs.Why.TheVariants.{NotReady, Exists, Fault, BufferRefused}
-use Rattle.daq_model.specs.RunFile.{begun_file}
+use Rattle.event.specs.RunFile.{begun_file}
 use Rattle.daq_io.specs.Counts.{Rose, first_of}
 use Rattle.daq_io.specs.declared.folder.NameRefused.{NameRefused}
 use Rattle.daq_io.specs.declared.folder.NameRefused.TheVariants.{Exists as NameTaken, Missing, Failed}

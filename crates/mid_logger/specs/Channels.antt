@@ -2,8 +2,8 @@
 use Rattle.std.specs.Prelude.{◌≡◌, ◌≤◌, ℕ, nat_le, Bool, false, true, IsTrue, length, take, All, Result, Ok, Err, List, [], Option, Some, None, ⊤}
 use mathlib.Core.List.{IsPrefix}
 use Rattle.daq_types.specs.declared.events.Event.{Event}
-use Rattle.daq_model.specs.Events.{record_limit}
-use Rattle.daq_model.specs.RunFile.{begun_file, IsFileEvent}
+use Rattle.event.specs.Events.{record_limit}
+use Rattle.event.specs.RunFile.{begun_file, IsFileEvent}
 use Rattle.daq_io.specs.Seen.{Seen, Closes, IsWritten, IsStored}
 use Rattle.buffer_core.specs.declared.entry.BufferEntry.{BufferEntry}
 use Rattle.buffer_core.specs.declared.entry.BufferEntry.TheVariants.{Cancel}

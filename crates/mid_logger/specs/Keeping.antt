@@ -3,7 +3,7 @@ use Rattle.std.specs.Prelude.{◌≡◌, ◌≢◌, ◌≤◌, ℕ, length, IsTr
 use Rattle.daq_types.specs.declared.runs.ChannelState.{ChannelState}
 use Rattle.daq_types.specs.declared.runs.Order.{Order}
 use Rattle.daq_types.specs.declared.runs.Why.{Why}
-use Rattle.daq_model.specs.Events.{record_limit}
+use Rattle.event.specs.Events.{record_limit}
 use Rattle.daq_io.specs.Seen.{Seen, KeepsNumber, Touches}
 use Rattle.buffer_core.specs.declared.replies.MarkRefusal.{MarkRefusal}
 use Rattle.buffer_core.specs.declared.entry.BufferEntry.{BufferEntry}

@@ -1,7 +1,7 @@
 -- What a channel does with an event that it got, and when it pulls.
 use Rattle.std.specs.Prelude.{◌≡◌, ℕ, Bool, true, false, nat_lt, ◌⊎◌, List, Option, Some, None}
 use Rattle.daq_types.specs.declared.events.Event.{Event}
-use Rattle.daq_model.specs.Events.{encoding}
+use Rattle.event.specs.Events.{encoding}
 use Rattle.daq_io.specs.Counts.{Rose, first_of}
 use Rattle.daq_io.specs.Seen.{Seen, Extends}
 use Rattle.buffer_core.specs.declared.replies.Received.{Received}

@@ -1,5 +1,5 @@
 ghost use Rattle.std.specs.Prelude.{◌≡◌, ◌≤◌, ◌-◌, ◌++◌, ◌∷◌, [], true, ℕ, List, Result, min, IsTrue, OnOk, OnErr, Ok, Err, Some, None};
-ghost use Rattle.daq_model.specs.Events.{encoding, event_limit};
+ghost use Rattle.event.specs.Events.{encoding, event_limit};
 ghost use Rattle.daq_io.specs.Counts.{CountsFault, NamesFirst};
 ghost use Rattle.daq_io.specs.Seen.{Seen, Extends, Closes};
 ghost use Rattle.buffer_core.specs.declared.replies.MarkRefusal.{MarkRefusal};
@@ -16,7 +16,7 @@ use crate::pulled::Pulled;
 use crate::stage::{BegunRun, ChannelRun, ChannelStage};
 use buffer_core::{BufferPort, Received};
 use daq_io::{Failed, Files};
-use event_header::EventBuf;
+use event::EventBuf;
 use std::sync::Wait;
 
 /// A channel of the logger: what it writes, its client at the buffer, how far it is, whether a call on the files ever

@@ -1,7 +1,7 @@
 //! How a channel calls a run off, and how it ends the file of a run that its client has read.
 
 ghost use Rattle.std.specs.Prelude.{◌≡◌, ◌≤◌, List, IsTrue, IfSome, IfOk, OnOk, OnErr, length};
-ghost use Rattle.daq_model.specs.Events.{record_limit};
+ghost use Rattle.event.specs.Events.{record_limit};
 ghost use Rattle.daq_io.specs.Counts.{CountsFault, NamesFirst};
 ghost use Rattle.daq_io.specs.Seen.{Closes};
 ghost use Rattle.buffer_core.specs.declared.entry.BufferEntry.{BufferEntry};

@@ -3,7 +3,7 @@
 ghost use Rattle.std.specs.Prelude.{◌≡◌, ◌≢◌, ◌≤◌, ◌⊎◌, ◌↔◌, [], IsTrue, IsSome, IsErrOf, OnOk, OnErr, IfErr, IfSome, Some, None, codes, length};
 ghost use Rattle.std.specs.Option.{option_map};
 ghost use Rattle.daq_types.specs.declared.runs.Why.TheVariants.{Exists};
-ghost use Rattle.daq_model.specs.Events.{record_limit};
+ghost use Rattle.event.specs.Events.{record_limit};
 ghost use Rattle.daq_io.specs.Counts.{Rose};
 ghost use Rattle.mid_logger.specs.declared.stage.ChannelStage.TheVariants.{Idle};
 ghost use Rattle.mid_logger.specs.Patterns.{file_name_by};

@@ -1,15 +1,15 @@
 ghost use Rattle.std.specs.Prelude.{◌≡◌, ◌≤◌, ◌↔◌, [], IsTrue, IsSome, IsErrOf, OnOk, OnErr, IfOk, IfErr, length};
-ghost use Rattle.daq_model.specs.Events.{encoding, record_limit};
-ghost use Rattle.daq_model.specs.RunFile.{begun_file, begin_record as begin_event, end_record as end_event};
+ghost use Rattle.event.specs.Events.{encoding, record_limit};
+ghost use Rattle.event.specs.RunFile.{begun_file, begin_record as begin_event, end_record as end_event};
 ghost use Rattle.daq_io.specs.Counts.{CountsFault, CountsNamed, CountsClash, NamesFirst, NamesFirstOf};
 ghost use Rattle.daq_io.specs.Seen.{Same, Creates, Extends, ExtendsPart, Closes, Touches};
-ghost use Rattle.event_header.specs.Headers.{event_of};
+ghost use Rattle.event.specs.Headers.{event_of};
 ghost use Rattle.mid_logger.specs.Channels.{ClosesPart};
 ghost use Rattle.mid_logger.specs.RecordFiles.{DropsFile, IsGone, UndoesFile, RoseTwice};
 
 use daq_io::{Failed, Files, NameRefused};
 use daq_types::FileName;
-use event_header::{Header, write_header};
+use event::{Header, write_header};
 use mid_format::{begin_record, end_record};
 
 /// Appends a record of a run file: its header, and then the dump that is its data.

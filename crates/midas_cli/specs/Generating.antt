@@ -3,7 +3,7 @@ use Rattle.std.specs.Prelude.{◌≡◌, ℕ, List, Option}
 use Rattle.std.specs.Io.KnownBytes.{Appends}
 use Rattle.daq_io.specs.Counts.{Rose}
 use Rattle.daq_io.specs.Streams.{AppendsPart}
-use Rattle.script_generator.specs.Scripts.{generated_script}
+use Rattle.midas_tools.specs.Scripts.{generated_script}
 use Rattle.midas_cli.specs.declared.causes.Cause.{Cause}
 use Rattle.midas_cli.specs.declared.causes.Cause.TheVariants.{Done, CommandRefused, Usage, BadInput, SourceFault, SinkFault, FileFault, NoMemory}
 

@@ -5,7 +5,7 @@ ghost use Rattle.midas_cli.specs.Outcomes.{status_of};
 use crate::causes::Cause;
 use crate::outcome::Outcome;
 use daq_io::{Outside, Sink};
-use script_generator::{Unwritten, write_script};
+use midas_tools::{Unwritten, write_script};
 use std::alloc::Global;
 
 /// Writes the script of a number, and answers why that ended.

@@ -5,8 +5,8 @@ ghost use Rattle.midas_cli.specs.Outcomes.{status_of};
 use crate::causes::Cause;
 use daq_session::{RunRecord, SessionRecord};
 use daq_types::BoundedList;
-use database_files::FileReplies;
 use odb_arena::ArenaTree;
+use odb_commands::FileReplies;
 use std::alloc::Global;
 
 /// What a call of the program came to.

@@ -4,7 +4,7 @@ use crate::rows::Row;
 use daq_mem::MemFiles;
 use daq_types::FileName;
 use midas_cli::{Cause, Summary};
-use run_records::RunRecord;
+use session_runs::RunRecord;
 use std::fmt::Write;
 
 /// Adds bytes in hexadecimal digits, in a line.

@@ -3,7 +3,7 @@ use Rattle.std.proofs.Common.{◌≡◌, ◌∙◌, ℕ, ◌^◌, ◌≤◌, Lis
 use Rattle.std.specs.Prelude.{IsNone}
 use Rattle.daq_types.specs.declared.events.Event.{Event}
 use Rattle.daq_io.specs.Seen.{Stored, Seen}
-use Rattle.event_header.specs.declared.head.Header.{Header}
+use Rattle.event.specs.declared.head.Header.{Header}
 use Rattle.mid_format.specs.Faults.{fault_at}
 use Rattle.mid_format.specs.HasRead.{IsReadSoFar, IsFaultAt, IsMidFault}
 use Rattle.mid_format.proofs.ReadLaws.{whole_no_fault}

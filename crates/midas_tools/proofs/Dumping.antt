@@ -6,13 +6,13 @@ use Rattle.std.proofs.lemmas.List.Elements.{All-nil}
 use Rattle.std.specs.Io.KnownBytes.{Appends, Consumes, IsAtEnd, prepend_known}
 use Rattle.std.proofs.KnownBytes.{prepend_known-nil}
 use Rattle.daq_types.specs.declared.events.Event.{Event}
-use Rattle.daq_model.specs.Events.{encoding, all_encoded}
-use Rattle.daq_model.specs.RunFile.{begin_record, end_record, IsFileEvent}
+use Rattle.event.specs.Events.{encoding, all_encoded}
+use Rattle.event.specs.RunFile.{begin_record, end_record, IsFileEvent}
 use Rattle.daq_io.specs.Counts.{RoseBy}
 use Rattle.daq_io.specs.Streams.{AppendsPart}
 use Rattle.daq_io.specs.declared.faults.Failed.{Failed}
-use Rattle.event_header.specs.Headers.{event_of, fields_of}
-use Rattle.event_header.specs.declared.head.Header.{Header}
+use Rattle.event.specs.Headers.{event_of, fields_of}
+use Rattle.event.specs.declared.head.Header.{Header}
 use Rattle.mid_format.specs.AtHand.{StandsWhole, event_at_front}
 use Rattle.mid_format.specs.Faults.{OfBytes, OfSource}
 use Rattle.mid_format.specs.HasRead.{IsStorable, IsBegunFile, IsReadSoFar, StandsBehind, HasRead, nothing_read}

@@ -9,3 +9,4 @@ mod Written
 mod ReadBack
 pub mod AreasLaws
 pub mod Printing
+mod Joined

@@ -3,7 +3,7 @@ use Rattle.std.proofs.Common.{◌≡◌, ◌∙◌, ℕ, suc, ◌<◌, ◌+◌, 
 use Rattle.std.specs.Prelude.{count_by, is_none}
 use Rattle.std.proofs.lemmas.List.Sums.{sum_by-cons}
 use Rattle.daq_types.specs.declared.events.Event.{Event}
-use Rattle.daq_model.specs.RunFile.{IsRunFile}
+use Rattle.event.specs.RunFile.{IsRunFile}
 use Rattle.event_report.specs.EventBanks.{IntegerBank, banks_of, event_banks, integer_banks}
 use Rattle.event_report.specs.Tallies.{id_tally, bank_tally}
 use Rattle.event_report.specs.Reports.{Totals, report_of}

@@ -4,9 +4,9 @@ use Rattle.std.specs.Prelude.{true, false, is_some, unwrap_or, IsSome, IsNone, â
 use Rattle.std.proofs.lemmas.List.{append-nil}
 use Rattle.std.specs.Io.KnownBytes.{Consumes, IsAtEnd}
 use Rattle.daq_types.specs.declared.events.Event.{Event}
-use Rattle.daq_model.specs.Events.{encoding, all_encoded}
-use Rattle.daq_model.proofs.Events.{length-encoding}
-use Rattle.event_header.specs.declared.head.Header.{Header}
+use Rattle.event.specs.Events.{encoding, all_encoded}
+use Rattle.event.proofs.Events.{length-encoding}
+use Rattle.event.specs.declared.head.Header.{Header}
 use Rattle.mid_format.specs.HasRead.{HasRead, nothing_read}
 use Rattle.mid_format.specs.Opened.{run_number_of}
 use Rattle.mid_format.specs.AtHand.{TakesNext, TakesSoFar}

@@ -5,8 +5,8 @@ use Rattle.std.proofs.Math.Nat.{mod-lt}
 use Rattle.std.proofs.lemmas.Nat.{le_bytes_2, le_bytes_4}
 use Rattle.std.proofs.lemmas.List.Elements.{All-map}
 use Rattle.daq_types.specs.declared.events.Event.{Event}
-use Rattle.daq_model.specs.Events.{header_bytes, encoding, all_encoded, begin_id, end_id}
-use Rattle.daq_model.specs.RunFile.{record_mask, begin_record, end_record, run_file, IsFileEvent, IsRunFile}
+use Rattle.event.specs.Events.{header_bytes, encoding, all_encoded, begin_id, end_id}
+use Rattle.event.specs.RunFile.{record_mask, begin_record, end_record, run_file, IsFileEvent, IsRunFile}
 use Rattle.mid_format.specs.HasRead.{IsStorable}
 use Rattle.mid_format.specs.ReadLaws.{IsWholeFile}
 

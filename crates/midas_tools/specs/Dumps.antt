@@ -7,7 +7,7 @@ use Rattle.daq_io.specs.Counts.{Rose, RoseBy, RoseJustBy}
 use Rattle.daq_io.specs.Seen.{Seen}
 use Rattle.daq_io.specs.Streams.{AppendsPart}
 use Rattle.daq_io.specs.declared.faults.Failed.{Failed}
-use Rattle.event_header.specs.declared.head.Header.{Header}
+use Rattle.event.specs.declared.head.Header.{Header}
 use Rattle.mid_format.specs.Parts.{CountedBy}
 use Rattle.mid_format.specs.Faults.{OfSource}
 use Rattle.mid_format.specs.HasRead.{IsReadSoFar, IsFaultAt, LacksNext, HasRead}

@@ -1,4 +1,3 @@
--- The texts of the tools, and what their ends say.
 pub mod Texts
 pub mod Areas
 pub mod Printing
@@ -7,3 +6,4 @@ pub mod Summaries
 pub mod Checks
 pub mod Analyses
 pub mod Dumps
+pub mod Scripts

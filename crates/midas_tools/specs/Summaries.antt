@@ -1,7 +1,7 @@
 -- What a tool prints that reads all of a file and then tells of its events together.
 use Rattle.std.specs.Prelude.{◌≡◌, ℕ, List, length, Option, Some, None}
 use Rattle.daq_types.specs.declared.events.Event.{Event}
-use Rattle.event_header.specs.declared.head.Header.{Header}
+use Rattle.event.specs.declared.head.Header.{Header}
 use Rattle.mid_format.specs.HasRead.{HasRead, IsMidFault}
 use Rattle.mid_format.specs.ReadLaws.{IsWholeFile}
 use Rattle.mid_format.specs.declared.faults.MidFault.{MidFault}

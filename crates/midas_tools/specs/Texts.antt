@@ -5,7 +5,7 @@ use Rattle.daq_types.specs.Tids.{tid_code, tid_name}
 use Rattle.daq_types.specs.declared.types.Tid.{Tid}
 use Rattle.daq_types.specs.declared.types.Tid.TheVariants.{UInt8, Int8, Char, UInt16, Int16, UInt32, Int32, Bool as bool_type, Float, Double, BitField, Text, Array, Struct, Key, Link, Int64, UInt64}
 use Rattle.daq_types.specs.declared.events.Event.{Event}
-use Rattle.event_header.specs.declared.head.Header.{Header}
+use Rattle.event.specs.declared.head.Header.{Header}
 use Rattle.bank_format.specs.BankAreas.{BankValue}
 use Rattle.bank_format.specs.declared.faults.BankFault.{BankFault}
 use Rattle.bank_format.specs.declared.faults.BankFault.TheVariants.{Short, BadFlags, BadSize}

@@ -1,5 +1,5 @@
 ghost use Rattle.daq_io.specs.Counts.{CountsFault};
-ghost use Rattle.event_header.specs.Headers.{event_of};
+ghost use Rattle.event.specs.Headers.{event_of};
 ghost use Rattle.midas_tools.specs.Areas.{AreEventLines, PassesLines, bank_lines};
 ghost use Rattle.midas_tools.specs.Printing.{PassesText};
 
@@ -7,7 +7,7 @@ use crate::lines::{no_banks_line, print_bank_line, print_event_line};
 use crate::page::Page;
 use bank_format::Banks;
 use daq_io::{Failed, Sink};
-use event_header::Header;
+use event::Header;
 
 /// Prints a line for each bank that was not given yet.
 fn print_banks<K: Sink>(page: &mut Page, banks: &mut Banks, out: &mut K) -> Result<(), Failed>

@@ -10,7 +10,7 @@ use crate::telling::tell_file;
 use daq_io::{Files, Sink};
 use daq_text::TextBuffer;
 use daq_types::{FileName, NoMemory};
-use event_header::Header;
+use event::Header;
 use mid_format::EventTaker;
 use std::alloc::Global;
 

@@ -3,7 +3,7 @@ ghost use Rattle.std.specs.Io.KnownBytes.{Appends};
 ghost use Rattle.daq_io.specs.Counts.{CountsFault};
 ghost use Rattle.daq_io.specs.Seen.{Same};
 ghost use Rattle.daq_io.specs.Streams.{AppendsPart};
-ghost use Rattle.daq_model.specs.Events.{event_limit};
+ghost use Rattle.event.specs.Events.{event_limit};
 ghost use Rattle.mid_format.specs.HasRead.{nothing_read};
 ghost use Rattle.midas_tools.specs.Dumps.{DumpsTo, EndsText, HandEnds, HandHalts, ListsTo, Printing, PrintsOn, ReadCounts, SinkHalts, SourceHalts, WritesOn, end_lines, end_of, ended_text, fault_lines, new_begin};
 ghost use Rattle.midas_tools.specs.Findings.{EndsBy, SinkByEnd, call_counts};
@@ -19,7 +19,7 @@ use crate::opening::{Refused, open};
 use crate::page::Page;
 use daq_io::{Failed, Files, Sink, Source};
 use daq_types::{FileName, NoMemory};
-use event_header::{EventBuf, Header, MAX_DATA};
+use event::{EventBuf, Header, MAX_DATA};
 use mid_format::{Ahead, BlockSource, MidFault, MidReader};
 use std::alloc::Global;
 

@@ -2,7 +2,7 @@
 
 ghost use Rattle.std.specs.Prelude.{◌≡◌, ◌<◌, ◌^◌, ℕ, List, length, All, None};
 ghost use Rattle.daq_types.specs.declared.events.Event.{Event};
-ghost use Rattle.daq_model.specs.RunFile.{IsRunFile};
+ghost use Rattle.event.specs.RunFile.{IsRunFile};
 ghost use Rattle.midas_tools.specs.Analyses.{Analyzes, analysis_text};
 
 use mid_format::laws as run_files;

@@ -1,4 +1,5 @@
-//! The tools that read run files: `check`, `dump` and `analyze`.
+//! The tools: `check`, `dump` and `analyze`, which read run files, and `gen`, which makes a large script from a number, to try a
+//! session with several front-ends, an analyzer and two runs.
 #![tactic(auto)]
 
 mod analyze;
@@ -14,6 +15,7 @@ mod line;
 mod lines;
 mod opening;
 mod page;
+mod script;
 mod summary;
 mod telling;
 
@@ -21,3 +23,4 @@ pub use analyze::analyze_file;
 pub use check::check_file;
 pub use dump::dump_file;
 pub use ends::{InputFault, ToolEnd};
+pub use script::{Unwritten, write_script};

@@ -1,7 +1,7 @@
 ghost use Rattle.std.specs.Prelude.{◌≡◌, ◌≤◌, ◌+◌, ◌++◌, length, OnOk};
 ghost use Rattle.bank_format.specs.BankAreas.{bank_value};
 ghost use Rattle.daq_io.specs.Counts.{CountsFault};
-ghost use Rattle.event_header.specs.Headers.{event_of};
+ghost use Rattle.event.specs.Headers.{event_of};
 ghost use Rattle.midas_tools.specs.Printing.{PassesText};
 ghost use Rattle.midas_tools.specs.Texts.{area_fault_text, bad_line, bank_line, event_line, fault_text, no_banks_line, number_text, ok_line, record_line, run_number_line};
 
@@ -12,7 +12,7 @@ use bank_format::{Bank, BankFault};
 use daq_io::{Failed, Sink};
 use daq_text::TextBuffer;
 use daq_types::NoMemory;
-use event_header::Header;
+use event::Header;
 use event_report::visible_name;
 use mid_format::MidFault;
 

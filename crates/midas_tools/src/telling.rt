@@ -1,6 +1,6 @@
 ghost use Rattle.std.specs.Prelude.{◌≡◌, ◌≤◌, [], OnOk, IfErr};
 ghost use Rattle.daq_io.specs.Seen.{Same};
-ghost use Rattle.daq_model.specs.Events.{event_limit};
+ghost use Rattle.event.specs.Events.{event_limit};
 ghost use Rattle.mid_format.specs.HasRead.{nothing_read};
 ghost use Rattle.mid_format.specs.Parts.{CountsReads};
 ghost use Rattle.midas_tools.specs.Summaries.{Meets, SumsAll, Tells};
@@ -14,7 +14,7 @@ use crate::summary::Summary;
 use daq_io::{Files, Sink, Source};
 use daq_text::TextBuffer;
 use daq_types::FileName;
-use event_header::{EventBuf, MAX_DATA};
+use event::{EventBuf, MAX_DATA};
 use mid_format::{Ahead, BlockSource, MidFault, MidReader};
 use std::alloc::Global;
 

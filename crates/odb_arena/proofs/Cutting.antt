@@ -8,7 +8,7 @@ use Rattle.std.proofs.lemmas.Bool.Decides.{nat_tests}
 use Rattle.std.proofs.lemmas.List.Sums.{sum_by_push}
 use Rattle.std.specs.Prelude.{All}
 use Rattle.daq_types.specs.Names.{IsName}
-use Rattle.odb_path.specs.Paths.{same_name, is_front, same_path}
+use Rattle.odb_value.specs.Paths.{same_name, is_front, same_path}
 use Rattle.odb_tree.specs.declared.rows.Row.{Row}
 use Rattle.odb_tree.specs.declared.children.Child.{Child}
 use Rattle.odb_tree.specs.Rows.{row_at, rows_outside, is_key, is_kind, is_child, is_listed, bytes_of_row, total_of}

@@ -8,7 +8,7 @@ use Rattle.std.specs.Cmp.Lexicographic.{pointwise}
 use Rattle.std.proofs.lemmas.Bool.Decides.{nat_tests}
 use Rattle.std.proofs.lemmas.List.Elements.{All-head, All-tail}
 use Rattle.daq_types.specs.Names.{IsName}
-use Rattle.odb_path.specs.Paths.{same_name, is_front, same_path}
+use Rattle.odb_value.specs.Paths.{same_name, is_front, same_path}
 use Rattle.odb_tree.specs.declared.rows.Row.{Row}
 use Rattle.odb_tree.specs.declared.children.Child.{Child}
 use Rattle.odb_tree.specs.Rows.{row_at, is_key, is_child, is_listed}

@@ -4,7 +4,7 @@ use Rattle.std.specs.List.{filter}
 use Rattle.std.specs.Option.{option_map}
 use Rattle.std.proofs.lemmas.Bool.Decides.{nat_tests}
 use Rattle.std.proofs.lemmas.List.Sums.{sum_by_push}
-use Rattle.odb_path.specs.Paths.{is_front, same_path}
+use Rattle.odb_value.specs.Paths.{is_front, same_path}
 use Rattle.odb_tree.specs.declared.rows.Row.{Row}
 use Rattle.odb_tree.specs.declared.children.Child.{Child}
 use Rattle.odb_tree.specs.Rows.{row_at, row_numbered, is_key, is_kind, is_child, is_listed, bytes_of_row, total_of}

@@ -6,7 +6,7 @@ use Rattle.std.specs.Option.{option_map, option_or, unwrap_or}
 use Rattle.std.proofs.lemmas.Bool.Decides.{nat_tests}
 use Rattle.std.proofs.lemmas.Option.{slice_get-get_or}
 use Rattle.std.proofs.lemmas.List.Elements.{All-head, All-tail}
-use Rattle.odb_path.specs.Paths.{is_front, same_path, depth_limit}
+use Rattle.odb_value.specs.Paths.{is_front, same_path, depth_limit}
 use Rattle.odb_tree.specs.declared.rows.Row.{Row}
 use Rattle.odb_tree.specs.declared.children.Child.{Child}
 use Rattle.odb_tree.specs.declared.refusals.OdbRefusal.{OdbRefusal}

@@ -7,7 +7,7 @@ use Rattle.std.specs.Map.{lookup}
 use Rattle.std.proofs.lemmas.Bool.Decides.{nat_tests}
 use Rattle.std.proofs.lemmas.List.{length-take-le, take_more, take_all}
 use Rattle.indexmap.specs.IndexMap.{insert_entry}
-use Rattle.odb_path.specs.Paths.{same_name}
+use Rattle.odb_value.specs.Paths.{same_name}
 use Rattle.daq_types.specs.Names.{IsName, breaks_name}
 use Rattle.odb_tree.specs.declared.children.Child.{Child}
 use Rattle.odb_arena.specs.Names.{folded}

@@ -7,7 +7,7 @@ use Rattle.std.proofs.lemmas.Bool.Decides.{nat_tests}
 use Rattle.std.proofs.lemmas.List.{take_all}
 use Rattle.std.proofs.lemmas.List.Elements.{All-filter}
 use Rattle.daq_types.specs.Names.{IsName}
-use Rattle.odb_path.specs.Paths.{is_front, same_path}
+use Rattle.odb_value.specs.Paths.{is_front, same_path}
 use Rattle.odb_value.specs.Values.{HeldValue}
 use Rattle.odb_tree.specs.declared.rows.Row.{Row}
 use Rattle.odb_tree.specs.declared.children.Child.{Child}

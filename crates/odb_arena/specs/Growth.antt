@@ -1,7 +1,7 @@
 -- Rows that are made one below the other, and a row with nothing below it.
 use Rattle.std.specs.Prelude.{◌≡◌, ℕ, ◌+◌, ◌-◌, ◌<◌, true, List, [], ◌∷◌, ◌++◌, length, take, Option, Some, None}
 use Rattle.std.specs.Option.{unwrap_or}
-use Rattle.odb_path.specs.Paths.{is_front}
+use Rattle.odb_value.specs.Paths.{is_front}
 use Rattle.odb_value.specs.Values.{HeldValue}
 use Rattle.odb_tree.specs.declared.rows.Row.{Row}
 use Rattle.odb_tree.specs.Rows.{Rows, row_at, row_numbered}

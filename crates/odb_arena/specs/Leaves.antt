@@ -1,7 +1,7 @@
 -- The way down to a row with nothing below it, and removal one such row at a time.
 use Rattle.std.specs.Prelude.{◌≡◌, ℕ, ◌+◌, ◌≤◌, Bool, true, List, [], length, Option, Some, None}
 use Rattle.std.specs.List.{filter}
-use Rattle.odb_path.specs.Paths.{is_front}
+use Rattle.odb_value.specs.Paths.{is_front}
 use Rattle.odb_tree.specs.declared.rows.Row.{Row}
 use Rattle.odb_tree.specs.declared.children.Child.{Child}
 use Rattle.odb_tree.specs.Rows.{Rows, row_numbered, rows_outside, is_child, is_listed}

@@ -1,6 +1,6 @@
 -- How far directories lead along some names.
 use Rattle.std.specs.Prelude.{◌≡◌, ℕ, ◌+◌, ◌<◌, ◌≤◌, Bool, true, false, ◌==◌, if◌then◌else◌, List, [], length, take, drop, Option, Some, None}
-use Rattle.odb_path.specs.Paths.{same_path}
+use Rattle.odb_value.specs.Paths.{same_path}
 use Rattle.odb_tree.specs.declared.rows.Row.{Row}
 use Rattle.odb_tree.specs.declared.refusals.OdbRefusal.{OdbRefusal}
 use Rattle.odb_tree.specs.declared.refusals.OdbRefusal.TheVariants.{NotDir}

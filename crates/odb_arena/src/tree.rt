@@ -1,6 +1,6 @@
 ghost use Rattle.std.specs.Prelude.{◌≡◌, ◌<◌, ◌≤◌, ◌+◌, ◌-◌, ◌^◌, Option, ◌∷◌, ◌++◌, [], List, ℕ, length, Some, None, Ok, Err, IfOk, IfErr, IfSome, OnOk, OnErr};
 ghost use Rattle.std.specs.Option.{option_map, option_copied};
-ghost use Rattle.odb_path.specs.Paths.{depth_limit};
+ghost use Rattle.odb_value.specs.Paths.{depth_limit};
 ghost use Rattle.odb_tree.specs.declared.rows.Row.{Row};
 ghost use Rattle.odb_tree.specs.Rows.{no_rows, row_at, row_numbered, bytes_in, total_of};
 ghost use Rattle.odb_tree.specs.Lookups.{parent_of, obstacle_to_new, dir_fault, seek, seek_key};
@@ -24,13 +24,12 @@ use crate::node::{
 use crate::reaching::Reached;
 use daq_types::{Name, NoMemory};
 use indexmap::IndexMap;
-use odb_path::{MAX_DEPTH, Path, is_front};
 use odb_tree::{
     Child, Children, Database, Key, NewKey, OdbRefusal, Row, What, bytes_of, bytes_of_new,
     bytes_with, index_fault, items_fault, kept_fault, len_fault, limit_fault, new_value, parent,
     raised_size, text_fault, type_fault,
 };
-use odb_value::{Item, Value};
+use odb_value::{Item, MAX_DEPTH, Path, Value, is_front};
 use std::alloc::Global;
 use std::marker::Model;
 

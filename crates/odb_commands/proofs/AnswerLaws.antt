@@ -5,8 +5,8 @@ use Rattle.std.specs.Option.{unwrap_or}
 use Rattle.daq_types.specs.Callers.{entries_by}
 use Rattle.daq_types.specs.declared.types.Tid.{Tid}
 use Rattle.daq_types.specs.declared.types.Tid.TheVariants as tid
-use Rattle.odb_path.specs.declared.refusals.PathRefusal.{PathRefusal}
-use Rattle.odb_path.specs.PathText.{path_reply}
+use Rattle.odb_value.specs.declared.path_refusals.PathRefusal.{PathRefusal}
+use Rattle.odb_value.specs.PathText.{path_reply}
 use Rattle.odb_value.specs.declared.items.Item.{Item}
 use Rattle.odb_value.specs.Items.{tid_of}
 use Rattle.odb_value.specs.Values.{HeldValue}
@@ -19,7 +19,7 @@ use Rattle.odb_tree.specs.declared.rows.NewKey.TheVariants.{Dir, Keys}
 use Rattle.odb_tree.specs.Rows.{Rows}
 use Rattle.odb_tree.specs.Calls.{Gives, GivesItem, create_reply, set_reply, get_reply, find_reply, list_reply, delete_reply, path_with, rows_after}
 use Rattle.odb_tree.specs.Histories.{IsLegalRows, IsLegalCall}
-use Rattle.odb_port.specs.DatabasePorts.{IsSettled, calls_by}
+use Rattle.odb_watch.specs.DatabasePorts.{IsSettled, calls_by}
 use Rattle.odb_script.specs.declared.commands.RowCommand.{RowCommand}
 use Rattle.odb_script.specs.declared.commands.RowCommand.TheVariants as command
 use Rattle.odb_commands.specs.declared.replies.CommandRefusal.{CommandRefusal}

@@ -3,9 +3,9 @@ use Rattle.std.specs.Prelude.{◌≡◌, ◌≢◌, ℕ, Bool, true, false, if�
 use Rattle.std.specs.Option.{option_or, option_map, is_some}
 use Rattle.std.proofs.Common.{sym, subst}
 use Rattle.daq_types.specs.declared.types.Tid.{Tid}
-use Rattle.odb_path.specs.declared.refusals.PathRefusal.{PathRefusal}
-use Rattle.odb_path.specs.Paths.{same_name}
-use Rattle.odb_path.specs.PathText.{path_reply}
+use Rattle.odb_value.specs.declared.path_refusals.PathRefusal.{PathRefusal}
+use Rattle.odb_value.specs.Paths.{same_name}
+use Rattle.odb_value.specs.PathText.{path_reply}
 use Rattle.odb_value.specs.declared.items.Item.{Item}
 use Rattle.odb_value.specs.Items.{tid_of, is_kept}
 use Rattle.odb_value.specs.Values.{HeldValue}
@@ -22,7 +22,7 @@ use Rattle.odb_tree.specs.Lookups.{obstacle_at, obstacle_from, obstacle_to, obst
 use Rattle.odb_tree.specs.Limits.{limit_fault, text_fault}
 use Rattle.odb_tree.specs.Calls.{reply_or, exists_fault, kept_fault, items_fault, create_fault, create_reply, after_create, type_fault, index_fault, set_fault, set_reply_to, set_reply, after_set, value_reply, get_reply, number_reply, find_reply, children_or, list_reply, delete_reply, path_with, count_gone}
 use Rattle.odb_tree.specs.Making.{new_number}
-use Rattle.odb_port.specs.DatabasePorts.{IsSettled}
+use Rattle.odb_watch.specs.DatabasePorts.{IsSettled}
 use Rattle.odb_script.specs.declared.commands.RowCommand.{RowCommand}
 use Rattle.odb_script.specs.declared.commands.RowCommand.TheVariants as command
 use Rattle.odb_commands.specs.declared.replies.CommandRefusal.{CommandRefusal}

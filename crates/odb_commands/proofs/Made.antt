@@ -5,8 +5,8 @@ use Rattle.std.proofs.lemmas.Bool.{false≢true, lt-ltb}
 use Rattle.std.specs.Option.{unwrap_or}
 use Rattle.std.specs.Result.{IsErr}
 use Rattle.daq_types.specs.declared.memory.NoMemory.{NoMemory}
-use Rattle.odb_path.specs.declared.refusals.PathRefusal.{PathRefusal}
-use Rattle.odb_path.specs.PathText.{path_reply}
+use Rattle.odb_value.specs.declared.path_refusals.PathRefusal.{PathRefusal}
+use Rattle.odb_value.specs.PathText.{path_reply}
 use Rattle.odb_value.specs.declared.items.Item.{Item}
 use Rattle.odb_value.specs.declared.refusals.ItemRefusal.{ItemRefusal}
 use Rattle.odb_value.specs.ItemTexts.{item_read}
@@ -18,7 +18,7 @@ use Rattle.odb_tree.specs.declared.refusals.OdbRefusal.{OdbRefusal}
 use Rattle.odb_tree.specs.declared.refusals.OdbRefusal.TheVariants.{NoKey, NoMemory as no_memory}
 use Rattle.odb_tree.specs.declared.rows.NewKey.{NewKey}
 use Rattle.odb_tree.specs.declared.rows.NewKey.TheVariants.{Dir, Keys}
-use Rattle.odb_port.specs.DatabasePorts.{DatabaseAccess, AddsCall, AddsCalls, IsSamePort, IsSettled, unanswered}
+use Rattle.odb_watch.specs.DatabasePorts.{DatabaseAccess, AddsCall, AddsCalls, IsSamePort, IsSettled, unanswered}
 use Rattle.odb_script.specs.declared.commands.RowCommand.{RowCommand}
 use Rattle.odb_script.specs.declared.commands.RowCommand.TheVariants as command
 use Rattle.odb_commands.specs.declared.replies.CommandRefusal.{CommandRefusal}

@@ -2,9 +2,9 @@
 -- given by the rows.
 use Rattle.std.specs.Prelude.{ℕ, Bool, true, nat_lt, if◌then◌else◌, List, [], ◌∷◌, length, slice_get, Option, Some, None, Result, Ok, Err, codes}
 use Rattle.std.specs.Option.{unwrap_or}
-use Rattle.odb_path.specs.declared.refusals.PathRefusal.{PathRefusal}
-use Rattle.odb_path.specs.Paths.{same_name}
-use Rattle.odb_path.specs.PathText.{path_reply}
+use Rattle.odb_value.specs.declared.path_refusals.PathRefusal.{PathRefusal}
+use Rattle.odb_value.specs.Paths.{same_name}
+use Rattle.odb_value.specs.PathText.{path_reply}
 use Rattle.odb_value.specs.declared.items.Item.{Item}
 use Rattle.odb_value.specs.declared.refusals.ItemRefusal.{ItemRefusal}
 use Rattle.odb_value.specs.ItemTexts.{item_read}

@@ -2,7 +2,7 @@
 use Rattle.std.specs.Prelude.{List}
 use Rattle.daq_types.specs.Callers.{main_caller}
 use Rattle.odb_tree.specs.declared.entry.DatabaseEntry.{DatabaseEntry}
-use Rattle.odb_port.specs.DatabasePorts.{calls_by}
+use Rattle.odb_watch.specs.DatabasePorts.{calls_by}
 use Rattle.odb_runinfo.specs.RunNumberKept.{AllSpareRuninfo}
 
 -- No command removes anything of `/Runinfo`, whatever its calls are answered.

@@ -4,8 +4,8 @@ use Rattle.std.specs.Prelude.{◌≡◌, ◌≢◌, ℕ, Bool, true, false, IsTr
 use Rattle.std.specs.Option.{unwrap_or}
 use Rattle.daq_types.specs.Callers.{main_caller}
 use Rattle.daq_types.specs.declared.memory.NoMemory.{NoMemory}
-use Rattle.odb_path.specs.declared.refusals.PathRefusal.{PathRefusal}
-use Rattle.odb_path.specs.PathText.{path_reply}
+use Rattle.odb_value.specs.declared.path_refusals.PathRefusal.{PathRefusal}
+use Rattle.odb_value.specs.PathText.{path_reply}
 use Rattle.odb_value.specs.declared.items.Item.{Item}
 use Rattle.odb_value.specs.Values.{HeldValue}
 use Rattle.odb_tree.specs.declared.children.Child.{Child}
@@ -16,7 +16,7 @@ use Rattle.odb_tree.specs.declared.rows.NewKey.{NewKey}
 use Rattle.odb_tree.specs.declared.rows.NewKey.TheVariants.{Dir, Keys}
 use Rattle.odb_tree.specs.Rows.{Rows}
 use Rattle.odb_tree.specs.Calls.{rows_after}
-use Rattle.odb_port.specs.DatabasePorts.{DatabaseAccess, AddsCalls, IsCutShort, IsSettled}
+use Rattle.odb_watch.specs.DatabasePorts.{DatabaseAccess, AddsCalls, IsCutShort, IsSettled}
 use Rattle.odb_script.specs.declared.commands.RowCommand.{RowCommand}
 use Rattle.odb_script.specs.declared.commands.RowCommand.TheVariants as command
 use Rattle.odb_commands.specs.declared.replies.CommandRefusal.{CommandRefusal}

@@ -2,3 +2,12 @@ pub mod Texts
 pub mod Answers
 pub mod CommandCalls
 pub mod CommandCallLaws
+pub mod WatchTexts
+pub mod WatchAnswers
+pub mod WatchCalls
+pub mod WatchPerforms
+pub mod WatchSpares
+pub mod FileReplies
+pub mod WholeFiles
+pub mod NotedReplies
+pub mod LentReplies

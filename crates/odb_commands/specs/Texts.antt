@@ -3,8 +3,8 @@ use Rattle.std.specs.Prelude.{ℕ, Bool, true, false, List, [], ◌∷◌, ◌++
 use Rattle.std.specs.List.{flat_map}
 use Rattle.std.specs.Fmt.{decimal}
 use Rattle.daq_types.specs.Tids.{tid_name}
-use Rattle.odb_path.specs.declared.refusals.PathRefusal.{PathRefusal}
-use Rattle.odb_path.specs.declared.refusals.PathRefusal.TheVariants as path
+use Rattle.odb_value.specs.declared.path_refusals.PathRefusal.{PathRefusal}
+use Rattle.odb_value.specs.declared.path_refusals.PathRefusal.TheVariants as path
 use Rattle.odb_value.specs.declared.refusals.ItemRefusal.{ItemRefusal}
 use Rattle.odb_value.specs.declared.refusals.ItemRefusal.TheVariants as item
 use Rattle.odb_value.specs.ItemTexts.{item_text}

@@ -1,7 +1,7 @@
 ghost use Rattle.std.specs.Prelude.{◌≡◌, Err};
 ghost use Rattle.daq_types.specs.Callers.{main_caller};
-ghost use Rattle.odb_path.specs.PathText.{path_reply};
-ghost use Rattle.odb_port.specs.DatabasePorts.{IsSamePort};
+ghost use Rattle.odb_value.specs.PathText.{path_reply};
+ghost use Rattle.odb_watch.specs.DatabasePorts.{IsSamePort};
 ghost use Rattle.odb_tree.specs.declared.rows.NewKey.TheVariants.{Dir, Keys};
 ghost use Rattle.odb_commands.specs.Answers.{done_or, listed_or};
 ghost use Rattle.odb_commands.specs.CommandCalls.{Answers, AtPath, CreatesKey, EndsCommand, Gets, GetsIn, Lists, Names, NamesFound, Performs, RemovesKey, Sets, SetsIn, SetsItem, Shows};
@@ -9,12 +9,11 @@ ghost use Rattle.odb_commands.specs.CommandCalls.{Answers, AtPath, CreatesKey, E
 use crate::reading::{is_protected, item_for, one_of, read_path, settled};
 use crate::replies::{CommandRefusal, CommandReply};
 use daq_types::NoMemory;
-use odb_path::{Path, PathRefusal};
-use odb_port::DatabasePort;
-use odb_port::laws::calls_add_up;
 use odb_script::RowCommand;
 use odb_tree::{Children, NewKey, OdbRefusal};
-use odb_value::{Item, Value};
+use odb_value::{Item, Path, PathRefusal, Value};
+use odb_watch::DatabasePort;
+use odb_watch::port_laws::calls_add_up;
 use std::alloc::Global;
 use std::sync::Wait;
 

@@ -4,7 +4,7 @@ ghost use Rattle.odb_script.specs.declared.commands.RowCommand.{RowCommand};
 ghost use Rattle.std.specs.Prelude.{List, ℕ};
 ghost use Rattle.daq_types.specs.Callers.{entries_by, main_caller};
 ghost use Rattle.odb_tree.specs.Histories.{IsLegalRows};
-ghost use Rattle.odb_port.specs.DatabasePorts.{calls_by};
+ghost use Rattle.odb_watch.specs.DatabasePorts.{calls_by};
 ghost use Rattle.odb_tree.specs.declared.entry.DatabaseEntry.{DatabaseEntry};
 ghost use Rattle.odb_commands.specs.declared.replies.CommandReply.{CommandReply};
 ghost use Rattle.odb_commands.specs.Answers.{answer_of};

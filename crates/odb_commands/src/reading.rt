@@ -1,15 +1,14 @@
 ghost use Rattle.std.specs.Prelude.{◌≡◌, ◌<◌, Err, IfOk, IsSome, OnErr, codes, length, slice_get};
-ghost use Rattle.odb_path.specs.Paths.{same_name};
-ghost use Rattle.odb_path.specs.PathText.{path_reply};
+ghost use Rattle.odb_value.specs.Paths.{same_name};
+ghost use Rattle.odb_value.specs.PathText.{path_reply};
 ghost use Rattle.odb_tree.specs.declared.refusals.OdbRefusal.TheVariants.{NoMemory as no_memory};
-ghost use Rattle.odb_port.specs.DatabasePorts.{IsSettled};
+ghost use Rattle.odb_watch.specs.DatabasePorts.{IsSettled};
 ghost use Rattle.odb_commands.specs.Answers.{is_protected, item_for, one_or};
 
 use crate::replies::{CommandRefusal, CommandReply};
 use daq_types::{Name, NoMemory};
-use odb_path::{Path, PathRefusal};
 use odb_tree::OdbRefusal;
-use odb_value::{Item, ItemRefusal, Value, parse_item};
+use odb_value::{Item, ItemRefusal, Path, PathRefusal, Value, parse_item};
 use std::alloc::Global;
 
 /// What the database answered, where memory was not wanting.

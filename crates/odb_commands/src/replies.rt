@@ -1,9 +1,8 @@
 ghost use Rattle.std.specs.Prelude.{◌≡◌};
 ghost use Rattle.odb_commands.specs.Texts.{is_refusal};
 
-use odb_path::{Path, PathRefusal};
 use odb_tree::{Children, OdbRefusal};
-use odb_value::{Item, ItemRefusal, Value};
+use odb_value::{Item, ItemRefusal, Path, PathRefusal, Value};
 
 /// Why a command of the database was refused.
 #[derive(Clone, Copy, Debug, PartialEq, Eq)]

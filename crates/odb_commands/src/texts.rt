@@ -8,9 +8,8 @@ ghost use Rattle.odb_commands.specs.Texts.{child_line, child_lines, item_refusal
 use crate::replies::{CommandRefusal, CommandReply};
 use daq_text::TextBuffer;
 use daq_types::{NoMemory, Tid};
-use odb_path::{Path, PathRefusal};
 use odb_tree::{Child, OdbRefusal, What};
-use odb_value::{Item, ItemRefusal, print_item, print_key};
+use odb_value::{Item, ItemRefusal, Path, PathRefusal, print_item, print_key};
 
 /// The last name of a path; nothing for the root.
 fn last_name(path: &Path) -> &[u8]

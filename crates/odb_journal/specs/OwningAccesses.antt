@@ -1,5 +1,5 @@
 -- What a port tells that owns its database.
-use Rattle.odb_port.specs.DatabasePorts.{DatabaseAccess}
+use Rattle.odb_watch.specs.DatabasePorts.{DatabaseAccess}
 use Rattle.turn_lock.specs.Passes.{number_of, seen_by}
 use Rattle.odb_lock.specs.SharedAccesses.{shared_access, odb_identity}
 use Rattle.odb_journal.specs.declared.owning.OwningAccess.{OwningAccess}

@@ -10,9 +10,8 @@ ghost use Rattle.odb_tree.specs.Histories.{IsLegalRows, rows_replay};
 ghost use Rattle.odb_journal.specs.Noted.{NotesCall, KeepsCalls};
 
 use daq_types::{Caller, Journal, NoMemory};
-use odb_path::Path;
 use odb_tree::{Children, Database, DatabaseEntry, NewKey, OdbRefusal};
-use odb_value::{Item, Value};
+use odb_value::{Item, Path, Value};
 use std::alloc::Global;
 use std::marker::Model;
 use std::snapshot::Snapshot;

@@ -6,11 +6,9 @@ ghost use Rattle.odb_lock.specs.SharedOdbs.{odb_lock_of};
 
 use daq_types::NoMemory;
 use odb_lock::{LockedDatabase, OdbPass, SharedOdb, WatchedSeen, calls};
-use odb_path::Path;
-use odb_port::DatabasePort;
 use odb_tree::{Children, Database, NewKey, OdbRefusal};
-use odb_value::{Item, Value};
-use odb_watch::WatchEntry;
+use odb_value::{Item, Path, Value};
+use odb_watch::{DatabasePort, WatchEntry};
 use std::alloc::Global;
 use std::sync::Wait;
 use turn_lock::Machine;

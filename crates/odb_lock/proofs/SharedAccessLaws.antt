@@ -2,7 +2,7 @@
 use Rattle.std.specs.Prelude.{◌≡◌, ℕ, List, refl}
 use Rattle.odb_watch.specs.declared.entry.WatchEntry.{WatchEntry}
 use Rattle.odb_watch.specs.Steps.{IsLegalDatabase}
-use Rattle.odb_port.specs.DatabasePorts.{DatabaseIdentity, AddsEntry}
+use Rattle.odb_watch.specs.DatabasePorts.{DatabaseIdentity, AddsEntry}
 use Rattle.turn_lock.specs.History.{Appends}
 use Rattle.odb_lock.specs.SharedAccesses.{shared_access}
 

@@ -9,11 +9,11 @@ use Rattle.odb_tree.specs.Rows.{Rows}
 use Rattle.odb_tree.specs.Calls.{IsRowsReply, rows_after}
 use Rattle.odb_tree.specs.Noting.{Change, Watched, changes_of, all_noted, watched_call}
 use Rattle.odb_tree.proofs.Noted.{none_noted}
-use Rattle.odb_ascii.specs.declared.acts.LoadRefusal.{LoadRefusal}
-use Rattle.odb_ascii.specs.declared.acts.Loaded.{Loaded}
-use Rattle.odb_ascii.specs.Dumps.{dump_text}
-use Rattle.odb_ascii.specs.TextFaults.{IsTextFault}
-use Rattle.odb_ascii.specs.Loads.{IsLoaded, watched_as}
+use Rattle.odb_text.specs.declared.acts.LoadRefusal.{LoadRefusal}
+use Rattle.odb_text.specs.declared.acts.Loaded.{Loaded}
+use Rattle.odb_text.specs.Dumps.{dump_text}
+use Rattle.odb_text.specs.TextFaults.{IsTextFault}
+use Rattle.odb_text.specs.Loads.{IsLoaded, watched_as}
 use Rattle.odb_watch.specs.declared.entry.WatchEntry.{WatchEntry}
 use Rattle.odb_watch.specs.declared.entry.WatchEntry.TheVariants.{Call, Save, Load}
 use Rattle.odb_watch.specs.Steps.{StepsWatched, StepsDatabase, LeadsDatabase, IsLegalDatabase, unwatched}

@@ -2,7 +2,7 @@
 use Rattle.std.specs.Prelude.{ℕ, List}
 use Rattle.odb_tree.specs.Noting.{Watched}
 use Rattle.odb_watch.specs.declared.entry.WatchEntry.{WatchEntry}
-use Rattle.odb_port.specs.DatabasePorts.{DatabaseAccess, DatabaseIdentity}
+use Rattle.odb_watch.specs.DatabasePorts.{DatabaseAccess, DatabaseIdentity}
 use Rattle.turn_lock.specs.declared.lock.Pass.{Pass}
 use Rattle.turn_lock.specs.Passes.{number_of, seen_by, passes_of, lock_numbers}
 use Rattle.odb_lock.specs.declared.locked.LockedDatabase.{LockedDatabase}

@@ -1,5 +1,5 @@
 //! The calls on a shared database, each with its arguments. Each is the call of that name of `Database`, `Watches` or
-//! `odb_ascii`. The main thread alone makes those that may make, remove or resize a row.
+//! `odb_text`. The main thread alone makes those that may make, remove or resize a row.
 ghost use Rattle.std.specs.Prelude.{◌≡◌, ◌≢◌, ◌≤◌, length, IfOk, OnOk, OnErr, Err};
 ghost use Rattle.daq_types.specs.declared.types.Tid.{Tid};
 ghost use Rattle.daq_types.specs.Callers.{main_caller};
@@ -7,16 +7,15 @@ ghost use Rattle.odb_value.specs.Items.{tid_of};
 ghost use Rattle.odb_tree.specs.declared.refusals.OdbRefusal.TheVariants.{NoMemory as no_memory};
 ghost use Rattle.odb_tree.specs.declared.entry.DatabaseEntry.TheVariants.{Create as create_of, Set as set_of, SetAll as set_all_of, Get as get_of, Find as find_of, ListDir as list_of, Delete as delete_of, Resize as resize_of, PathOf as path_of};
 ghost use Rattle.odb_tree.specs.Noting.{notes_limit};
-ghost use Rattle.odb_ascii.specs.Dumps.{dump_limit};
+ghost use Rattle.odb_text.specs.Dumps.{dump_limit};
 ghost use Rattle.odb_watch.specs.declared.entry.WatchEntry.TheVariants.{Call as call_of, Watch as watch_of, Notes as notes_of, Unwatch as unwatch_of, Save as save_of, Load as load_of};
 ghost use Rattle.odb_watch.specs.Steps.{moved_out};
 
 use crate::locked::LockedDatabase;
 use daq_types::{Bytes, NoMemory};
-use odb_ascii::{LoadRefusal, Loaded, load, save};
-use odb_path::Path;
+use odb_text::{LoadRefusal, Loaded, load, save};
 use odb_tree::{Children, Database, NewKey, Notes, OdbRefusal};
-use odb_value::{Item, Value};
+use odb_value::{Item, Path, Value};
 use odb_watch::{NoWatch, WatchRefusal};
 use std::alloc::Global;
 use turn_lock::Call;

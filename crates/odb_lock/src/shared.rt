@@ -11,8 +11,8 @@ ghost use Rattle.turn_lock.specs.Entered.{Enters};
 
 use crate::locked::LockedDatabase;
 use daq_types::NoMemory;
-use odb_path::Path;
 use odb_tree::Database;
+use odb_value::Path;
 use odb_watch::Watches;
 use std::alloc::Global;
 use std::sync::Wait;
@@ -28,7 +28,7 @@ pub type OdbPasses<D> = Passes<LockedDatabase<D>>;
 pub type OdbClosed<D> = Closed<LockedDatabase<D>>;
 
 /// A watched database that threads share, each with a pass. A call takes the turn, waits for it where it must, makes the
-/// call of that name of `Database`, `Watches` or `odb_ascii`, and appends the call with its reply to the one history. The
+/// call of that name of `Database`, `Watches` or `odb_text`, and appends the call with its reply to the one history. The
 /// calls that may make, remove or resize a row are the main thread's.
 #[derive(Drop)]
 pub struct SharedOdb<D: Database> {

@@ -3,8 +3,8 @@ use Rattle.std.proofs.Common.{◌≡◌, ℕ, zero, suc, ◌+◌, ◌<◌, ◌�
 use Rattle.std.specs.Prelude.{codes}
 use Rattle.std.proofs.lemmas.List.Elements.{All-nil, All-cons, All-from_recursion}
 use Rattle.daq_types.specs.Names.{IsName, breaks_name}
-use Rattle.odb_path.specs.Paths.{IsPath}
-use Rattle.odb_path.specs.PathText.{first_break}
+use Rattle.odb_value.specs.Paths.{IsPath}
+use Rattle.odb_value.specs.PathText.{first_break}
 use Rattle.odb_value.specs.declared.items.Item.{Item}
 use Rattle.odb_value.specs.Items.{tid_of, IsSound, IsItem}
 use Rattle.odb_value.specs.Values.{IsValue, IsSizeOf, IsShorter}

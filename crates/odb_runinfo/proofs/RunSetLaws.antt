@@ -11,7 +11,7 @@ use Rattle.odb_tree.specs.declared.refusals.OdbRefusal.{OdbRefusal}
 use Rattle.odb_tree.specs.Rows.{Rows}
 use Rattle.odb_tree.specs.Calls.{IsRowsReply, rows_after, set_reply}
 use Rattle.odb_tree.specs.Histories.{IsLegalRows}
-use Rattle.odb_port.specs.DatabasePorts.{calls_by}
+use Rattle.odb_watch.specs.DatabasePorts.{calls_by}
 use Rattle.odb_runinfo.specs.RunNumberKept.{AllSpareRuninfo, SparesRuninfo}
 use Rattle.odb_runinfo.specs.RunSets.{Assignment, AreNumbers, AreSets, IsSet, assigned, assignments, is_number, next_run, number_asked, sent_key_made}
 use Rattle.odb_runinfo.specs.declared.sets.RunNumber.{RunNumber as NoNext}

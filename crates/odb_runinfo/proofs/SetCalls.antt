@@ -9,7 +9,7 @@ use Rattle.odb_tree.specs.declared.entry.DatabaseEntry.TheVariants.{Create, Get,
 use Rattle.odb_tree.specs.declared.refusals.OdbRefusal.{OdbRefusal}
 use Rattle.odb_tree.specs.declared.refusals.OdbRefusal.TheVariants.{NoMemory as no_memory}
 use Rattle.odb_tree.specs.declared.rows.NewKey.TheVariants.{Keys}
-use Rattle.odb_port.specs.DatabasePorts.{DatabaseAccess, AddsCall, AddsCalls, MayAdd}
+use Rattle.odb_watch.specs.DatabasePorts.{DatabaseAccess, AddsCall, AddsCalls, MayAdd}
 use Rattle.odb_runinfo.specs.declared.keys.RunKey.TheVariants.{RunNumber}
 use Rattle.odb_runinfo.specs.RunKeys.{key_path, sent_path}
 use Rattle.odb_runinfo.specs.RunSets.{Assignment, AreSets, SetsNumbers, number_asked, sent_key_made}

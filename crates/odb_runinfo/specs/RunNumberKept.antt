@@ -1,7 +1,7 @@
 -- The run number is always there: what a session's calls keep of it.
 use Rattle.std.specs.Prelude.{◌≡◌, ℕ, ℤ, false, List, [], ◌∷◌, Some, None, codes}
 use Rattle.daq_types.specs.declared.types.Tid.TheVariants as tid
-use Rattle.odb_path.specs.Paths.{same_name}
+use Rattle.odb_value.specs.Paths.{same_name}
 use Rattle.odb_value.specs.declared.items.Item.{Item}
 use Rattle.odb_value.specs.declared.items.Item.TheVariants.{Int32}
 use Rattle.odb_value.specs.Values.{HeldValue}

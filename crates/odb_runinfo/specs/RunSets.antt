@@ -12,7 +12,7 @@ use Rattle.odb_tree.specs.declared.refusals.OdbRefusal.{OdbRefusal}
 use Rattle.odb_tree.specs.declared.rows.NewKey.TheVariants.{Keys}
 use Rattle.odb_tree.specs.Rows.{Rows}
 use Rattle.odb_tree.specs.Calls.{set_reply, rows_after}
-use Rattle.odb_port.specs.DatabasePorts.{DatabaseAccess, AddsCall, AddsCalls, IsSettled}
+use Rattle.odb_watch.specs.DatabasePorts.{DatabaseAccess, AddsCall, AddsCalls, IsSettled}
 use Rattle.odb_runinfo.specs.declared.keys.RunKey.{RunKey}
 use Rattle.odb_runinfo.specs.declared.keys.RunKey.TheVariants.{State, RunNumber, StartTime, StopTime}
 use Rattle.odb_runinfo.specs.declared.sets.RunNumber.{RunNumber as NoNext}

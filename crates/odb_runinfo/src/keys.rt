@@ -3,7 +3,7 @@ ghost use Rattle.daq_types.specs.Names.{IsName};
 ghost use Rattle.odb_runinfo.specs.RunKeys.{key_name, key_path, sent_path};
 
 use daq_types::{Name, NoMemory};
-use odb_path::Path;
+use odb_value::Path;
 use std::alloc::Global;
 
 /// A key of `/Runinfo`.

@@ -4,7 +4,7 @@ ghost use Rattle.std.specs.Prelude.{◌≡◌, ℕ, List, Ok, Result};
 ghost use Rattle.odb_tree.specs.declared.entry.DatabaseEntry.{DatabaseEntry};
 ghost use Rattle.odb_tree.specs.declared.refusals.OdbRefusal.{OdbRefusal};
 ghost use Rattle.odb_value.specs.Values.{HeldValue};
-ghost use Rattle.odb_port.specs.DatabasePorts.{calls_by};
+ghost use Rattle.odb_watch.specs.DatabasePorts.{calls_by};
 ghost use Rattle.odb_tree.specs.Rows.{Rows};
 ghost use Rattle.odb_tree.specs.Histories.{IsLegalRows, rows_replay};
 ghost use Rattle.odb_tree.specs.Calls.{get_reply};

@@ -7,9 +7,8 @@ ghost use Rattle.odb_runinfo.specs.RunKeys.{key_path, value_of_one, with_key, se
 
 use crate::keys::RunKey;
 use daq_types::NoMemory;
-use odb_path::Path;
 use odb_tree::{Database, OdbRefusal};
-use odb_value::{Item, Value};
+use odb_value::{Item, Path, Value};
 use std::alloc::Global;
 
 /// The value with this one item.

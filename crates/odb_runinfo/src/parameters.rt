@@ -4,9 +4,8 @@ ghost use Rattle.odb_runinfo.specs.RunSets.{SetsNumbers, refused_sets, start_set
 
 use crate::paths::KeyPaths;
 use daq_types::RunState;
-use odb_path::Path;
-use odb_port::WatchPort;
-use odb_value::Item;
+use odb_value::{Item, Path};
+use odb_watch::WatchPort;
 use std::alloc::Global;
 use std::sync::Wait;
 

@@ -4,7 +4,7 @@ ghost use Rattle.odb_runinfo.specs.RunKeys.{key_path};
 
 use crate::keys::RunKey;
 use daq_types::NoMemory;
-use odb_path::Path;
+use odb_value::Path;
 use std::alloc::Global;
 
 /// The paths of the run's parameters. They are made before a run begins, so that what is set until its end takes no memory.

@@ -1,14 +1,14 @@
 ghost use Rattle.std.specs.Prelude.{◌≡◌, ◌≤◌, ◌+◌, ◌<◌, ◌^◌, Err, IfOk, OnErr, OnOk};
 ghost use Rattle.daq_types.specs.Callers.{main_caller};
 ghost use Rattle.odb_tree.specs.declared.refusals.OdbRefusal.TheVariants.{NoMemory as no_memory};
-ghost use Rattle.odb_port.specs.DatabasePorts.{IsSamePort, MayAdd};
+ghost use Rattle.odb_watch.specs.DatabasePorts.{IsSamePort, MayAdd};
 ghost use Rattle.odb_runinfo.specs.RunSets.{AsksKey, GetsNumber, number_asked, number_in, next_run, sent_key_made};
 
 use crate::keys::{RunKey, sent_path};
 use daq_types::{Name, NoMemory, Tid};
-use odb_port::DatabasePort;
 use odb_tree::{NewKey, OdbRefusal};
 use odb_value::{Item, Value};
+use odb_watch::DatabasePort;
 use std::alloc::Global;
 use std::sync::Wait;
 

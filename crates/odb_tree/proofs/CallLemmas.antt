@@ -7,7 +7,7 @@ use Rattle.std.proofs.lemmas.Bool.Decides.{nat_tests}
 use Rattle.daq_types.specs.declared.types.Tid.{Tid}
 use Rattle.daq_types.specs.declared.types.Tid.TheVariants as tid
 use Rattle.daq_types.specs.Tids.{tid_code}
-use Rattle.odb_path.specs.Paths.{is_front}
+use Rattle.odb_value.specs.Paths.{is_front}
 use Rattle.odb_value.specs.declared.items.Item.{Item}
 use Rattle.odb_value.specs.declared.items.Item.TheVariants.{Text}
 use Rattle.odb_value.specs.Items.{tid_of}

@@ -1,6 +1,6 @@
 -- The walk after calls that make no row.
 use Rattle.std.proofs.Common.{◌≡◌, ◌≢◌, List, [], ℕ, map, Option, Some, None, refl}
-use Rattle.odb_path.specs.Paths.{depth_limit}
+use Rattle.odb_value.specs.Paths.{depth_limit}
 use Rattle.odb_value.specs.declared.items.Item.{Item}
 use Rattle.odb_value.specs.Values.{HeldValue}
 use Rattle.odb_value.specs.ValueChanges.{put_in, resized}

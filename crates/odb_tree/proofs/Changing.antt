@@ -5,7 +5,7 @@ use Rattle.std.proofs.lemmas.Option.{cond_some}
 use Rattle.std.proofs.lemmas.Bool.Decides.{nat_tests}
 use Rattle.std.proofs.lemmas.List.Sums.{fails_before_first, passes_at_first}
 use Rattle.odb_value.specs.Values.{HeldValue}
-use Rattle.odb_path.specs.Paths.{same_path}
+use Rattle.odb_value.specs.Paths.{same_path}
 use Rattle.odb_tree.specs.declared.rows.Row.{Row}
 use Rattle.odb_tree.specs.Rows.{row_at, change_row, change_at}
 

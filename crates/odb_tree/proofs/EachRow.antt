@@ -10,7 +10,7 @@ use Rattle.std.proofs.lemmas.List.Elements.{All-nil, All-cons, All-head, All-tai
 use Rattle.daq_types.specs.declared.types.Tid.{Tid}
 use Rattle.daq_types.specs.declared.types.Tid.TheVariants as tid
 use Rattle.daq_types.specs.Names.{IsName}
-use Rattle.odb_path.specs.Paths.{depth_limit, IsPath, is_front, same_path}
+use Rattle.odb_value.specs.Paths.{depth_limit, IsPath, is_front, same_path}
 use Rattle.odb_value.specs.declared.items.Item.{Item}
 use Rattle.odb_value.specs.declared.items.Item.TheVariants.{Text}
 use Rattle.odb_value.specs.Items.{tid_of, is_kept, IsSound, IsItem}

@@ -2,7 +2,7 @@
 use Rattle.std.proofs.Common.{◌≡◌, ℕ, zero, suc, ◌+◌, ◌-◌, ◌<◌, ◌≤◌, Bool, true, false, not, cond, ◌==◌, List, [], ◌∷◌, ◌++◌, length, Some, None, inl, inr, Ok, refl, sym, ap, ◌∙◌, subst, arith, eq-or-lt_of_le, append_assoc, append-nil, length-append}
 use Rattle.std.specs.List.{filter, flat_map}
 use Rattle.std.proofs.lemmas.Bool.Decides.{nat_tests}
-use Rattle.odb_path.specs.Paths.{depth_limit, same_name, is_front, same_path}
+use Rattle.odb_value.specs.Paths.{depth_limit, same_name, is_front, same_path}
 use Rattle.odb_tree.specs.declared.rows.Row.{Row}
 use Rattle.odb_value.specs.Values.{HeldValue}
 use Rattle.odb_tree.specs.declared.rows.NewKey.{NewKey}

@@ -3,7 +3,7 @@ use Rattle.std.proofs.Common.{◌≡◌, ℕ, ◌≤◌, Bool, true, false, not,
 use Rattle.std.proofs.lemmas.List.Sums.{sum_by-cons}
 use Rattle.std.proofs.lemmas.List.Sorted.{sum_by-IsPermutation}
 use Rattle.std.specs.List.{filter}
-use Rattle.odb_path.specs.Paths.{depth_limit, is_front, same_path}
+use Rattle.odb_value.specs.Paths.{depth_limit, is_front, same_path}
 use Rattle.odb_value.specs.Values.{HeldValue}
 use Rattle.odb_value.specs.ValueChanges.{put_in, resized}
 use Rattle.odb_tree.specs.declared.rows.Row.{Row}

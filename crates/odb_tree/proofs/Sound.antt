@@ -5,7 +5,7 @@ use Rattle.std.specs.Option.{option_or, option_map}
 use Rattle.std.proofs.lemmas.List.Elements.{All-nil, All-append, All-filter}
 use Rattle.daq_types.specs.declared.types.Tid.{Tid}
 use Rattle.daq_types.specs.declared.types.Tid.TheVariants as tid
-use Rattle.odb_path.specs.Paths.{depth_limit, IsPath, is_front}
+use Rattle.odb_value.specs.Paths.{depth_limit, IsPath, is_front}
 use Rattle.odb_value.specs.declared.items.Item.{Item}
 use Rattle.odb_value.specs.Items.{tid_of, is_kept, IsSound}
 use Rattle.odb_value.specs.Values.{HeldValue, IsValue}

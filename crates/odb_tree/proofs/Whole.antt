@@ -1,7 +1,7 @@
 -- The walk has the rows of the database, each once.
 use Rattle.std.proofs.Common.{◌≡◌, List, [], ◌∷◌, ◌++◌, refl, sym, ◌∙◌, subst, append_assoc, append-nil, IsPermutation}
 use Rattle.std.proofs.lemmas.List.Sorted.{IsPermutation-refl, IsPermutation-cons, IsPermutation-trans, IsPermutation-middle, IsPermutation-append_comm}
-use Rattle.odb_path.specs.Paths.{depth_limit}
+use Rattle.odb_value.specs.Paths.{depth_limit}
 use Rattle.odb_tree.specs.declared.rows.Row.{Row}
 use Rattle.odb_tree.specs.Rows.{Rows, is_key}
 use Rattle.odb_tree.specs.Walks.{walk_below, walk}

@@ -5,7 +5,7 @@ use Rattle.daq_types.specs.declared.types.Tid.{Tid}
 use Rattle.daq_types.specs.declared.types.Tid.TheVariants as tid
 use Rattle.daq_types.specs.declared.memory.NoMemory.{NoMemory}
 use Rattle.daq_types.specs.Tids.{tid_code}
-use Rattle.odb_path.specs.Paths.{is_front}
+use Rattle.odb_value.specs.Paths.{is_front}
 use Rattle.odb_value.specs.declared.items.Item.{Item}
 use Rattle.odb_value.specs.Items.{tid_of, is_kept}
 use Rattle.odb_value.specs.Values.{HeldValue}

@@ -1,6 +1,6 @@
 -- Well-formed databases, and calls with well-formed arguments.
 use Rattle.std.specs.Prelude.{ℕ, List, All, IfSome}
-use Rattle.odb_path.specs.Paths.{IsPath}
+use Rattle.odb_value.specs.Paths.{IsPath}
 use Rattle.odb_value.specs.Items.{IsSound}
 use Rattle.odb_value.specs.Values.{IsValue}
 use Rattle.odb_tree.specs.declared.rows.Row.{Row}

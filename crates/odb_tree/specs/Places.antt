@@ -1,6 +1,6 @@
 -- The places of rows in the walk through the database.
 use Rattle.std.specs.Prelude.{◌≡◌, ℕ, ◌-◌, Bool, true, false, List, [], ◌∷◌, ◌++◌, length, Option, ◌⊎◌}
-use Rattle.odb_path.specs.Paths.{depth_limit}
+use Rattle.odb_value.specs.Paths.{depth_limit}
 use Rattle.odb_value.specs.Values.{HeldValue}
 use Rattle.odb_tree.specs.declared.rows.Row.{Row}
 use Rattle.odb_tree.specs.Rows.{Rows, is_key, keys_in}

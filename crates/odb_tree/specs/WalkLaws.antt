@@ -1,7 +1,7 @@
 -- Laws of the walk: where new rows stand, and that all other rows keep their places.
 use Rattle.std.specs.Prelude.{◌≡◌, ℕ, true, false, List, [], ◌∷◌}
 use Rattle.std.specs.List.{flat_map}
-use Rattle.odb_path.specs.Paths.{is_front, same_path}
+use Rattle.odb_value.specs.Paths.{is_front, same_path}
 use Rattle.odb_tree.specs.declared.rows.Row.{Row}
 use Rattle.odb_tree.specs.Rows.{dirs_in}
 use Rattle.odb_tree.specs.Walks.{walk_below}

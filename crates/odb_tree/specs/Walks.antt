@@ -2,7 +2,7 @@
 -- order of making, and behind each directory what is below it.
 use Rattle.std.specs.Prelude.{ℕ, zero, suc, if◌then◌else◌, List, [], ◌∷◌, ◌++◌}
 use Rattle.std.specs.List.{filter, flat_map}
-use Rattle.odb_path.specs.Paths.{depth_limit, same_path}
+use Rattle.odb_value.specs.Paths.{depth_limit, same_path}
 use Rattle.odb_value.specs.Values.{HeldValue}
 use Rattle.odb_tree.specs.declared.rows.Row.{Row}
 use Rattle.odb_tree.specs.Rows.{Rows, change_row, is_child, keys_in, dirs_in}

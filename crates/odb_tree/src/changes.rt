@@ -1,5 +1,5 @@
 ghost use Rattle.std.specs.Prelude.{◌≡◌, ◌≤◌, ◌<◌, length, position, ◌-◌, IfSome, IfOk, OnOk, OnErr, Some, None};
-ghost use Rattle.odb_path.specs.Paths.{same_path};
+ghost use Rattle.odb_value.specs.Paths.{same_path};
 ghost use Rattle.odb_value.specs.Values.{HeldValue, items_limit};
 ghost use Rattle.odb_value.specs.ValueChanges.{put_in, resized};
 ghost use Rattle.odb_tree.specs.declared.rows.Row.{Row};
@@ -8,8 +8,7 @@ ghost use Rattle.odb_tree.specs.Changes.{CanPut, RowCanPut};
 
 use crate::rows::Row;
 use daq_types::{Name, NoMemory};
-use odb_path::{is_front, is_same};
-use odb_value::{Item, Value};
+use odb_value::{Item, Value, is_front, is_same};
 use std::alloc::Global;
 
 /// The place of the row at the path of these names.

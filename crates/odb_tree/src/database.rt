@@ -11,8 +11,7 @@ use crate::children::Children;
 use crate::refusals::OdbRefusal;
 use crate::rows::NewKey;
 use daq_types::NoMemory;
-use odb_path::Path;
-use odb_value::{Item, Value};
+use odb_value::{Item, Path, Value};
 use std::alloc::Global;
 
 /// An online database, seen as a list of rows. Each call replies what `IsRowsReply` says of the rows before it, and leaves

@@ -2,8 +2,7 @@ use crate::children::Children;
 use crate::refusals::OdbRefusal;
 use crate::rows::NewKey;
 use daq_types::NoMemory;
-use odb_path::Path;
-use odb_value::{Item, Value};
+use odb_value::{Item, Path, Value};
 
 /// A call on the database, with its arguments and its reply.
 #[derive(Drop)]

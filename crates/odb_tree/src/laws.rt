@@ -1,6 +1,6 @@
 //! Laws of the walk through the database, over its definitions alone.
 ghost use Rattle.std.specs.Prelude.{◌≡◌, ◌≢◌, ℕ, suc, None, List, [], ◌∷◌, ◌++◌, map, true, false, ◌≤◌, length, Some, Ok, IsPermutation};
-ghost use Rattle.odb_path.specs.Paths.{is_front, depth_limit};
+ghost use Rattle.odb_value.specs.Paths.{is_front, depth_limit};
 ghost use Rattle.odb_tree.specs.declared.rows.Row.{Row};
 ghost use Rattle.odb_tree.specs.declared.children.Child.{Child};
 ghost use Rattle.odb_tree.specs.Trees.{IsTree, IsDir, with_rows};

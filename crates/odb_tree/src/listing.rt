@@ -6,7 +6,7 @@ ghost use Rattle.odb_tree.specs.Calls.{child_of, children_of};
 use crate::children::{Child, Children};
 use crate::rows::Row;
 use daq_types::{Name, NoMemory};
-use odb_path::is_front;
+use odb_value::is_front;
 use std::alloc::Global;
 
 /// Whether the row is of this kind.

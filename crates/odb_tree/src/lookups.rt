@@ -1,6 +1,6 @@
 ghost use Rattle.std.specs.Prelude.{◌≡◌, ◌<◌, ◌≤◌, ◌==◌, ◌++◌, ◌∷◌, [], ℕ, length, map, not, ◌&&◌, Some, None, Ok, Err, IfOk, IfErr, IfSome, OnOk, MatchOption, filter};
 ghost use Rattle.std.specs.Option.{option_copied};
-ghost use Rattle.odb_path.specs.Paths.{depth_limit};
+ghost use Rattle.odb_value.specs.Paths.{depth_limit};
 ghost use Rattle.odb_tree.specs.Rows.{row_at, row_numbered, is_key, is_child, keys_in, dirs_in, bytes_of, total_of};
 ghost use Rattle.odb_tree.specs.Lookups.{dir_fault, absent_fault, parent_of, obstacle_at, obstacle_from, obstacle_to, obstacle_to_new, seek, seek_key};
 ghost use Rattle.odb_tree.specs.Calls.{child_of, children_of, path_with};
@@ -8,8 +8,7 @@ ghost use Rattle.odb_tree.specs.Calls.{child_of, children_of, path_with};
 use crate::refusals::OdbRefusal;
 use crate::rows::Row;
 use daq_types::Name;
-use odb_path::is_same;
-use odb_value::Value;
+use odb_value::{Value, is_same};
 
 /// The key at a path.
 #[derive(Drop)]

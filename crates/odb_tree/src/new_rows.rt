@@ -1,14 +1,13 @@
 ghost use Rattle.std.specs.Prelude.{◌≡◌, ◌≢◌, ◌≤◌, ◌<◌, ◌^◌, ◌+◌, ◌++◌, ◌∷◌, [], length, IfOk, OnOk, OnErr, IsTrue, None};
 ghost use Rattle.std.specs.Option.{option_copied};
-ghost use Rattle.odb_path.specs.Paths.{depth_limit};
+ghost use Rattle.odb_value.specs.Paths.{depth_limit};
 ghost use Rattle.odb_tree.specs.Limits.{IsWithin};
 ghost use Rattle.odb_tree.specs.Making.{no_way, further, go_on, missing_at, missing_from, way_to, new_row, created};
 
 use crate::lookups::{parent, row_at};
 use crate::rows::Row;
 use daq_types::{Name, NoMemory};
-use odb_path::Path;
-use odb_value::Value;
+use odb_value::{Path, Value};
 use std::alloc::Global;
 use std::marker::Model;
 

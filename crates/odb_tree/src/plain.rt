@@ -1,6 +1,6 @@
 ghost use Rattle.std.specs.Prelude.{◌≡◌, ◌≤◌, ◌<◌, ◌^◌, ◌+◌, ◌-◌, [], length, None, IfOk, OnOk, OnErr, Option};
 ghost use Rattle.std.specs.Option.{option_map};
-ghost use Rattle.odb_path.specs.Paths.{depth_limit};
+ghost use Rattle.odb_value.specs.Paths.{depth_limit};
 ghost use Rattle.odb_value.specs.Values.{HeldValue};
 ghost use Rattle.odb_tree.specs.declared.refusals.OdbRefusal.TheVariants.{Limit};
 ghost use Rattle.odb_tree.specs.Rows.{no_rows, bytes_in, total_of};
@@ -23,8 +23,7 @@ use crate::new_rows::{count_missing, new_rows};
 use crate::refusals::{OdbRefusal, What};
 use crate::rows::{NewKey, Row};
 use daq_types::{Name, NoMemory};
-use odb_path::{Path, is_front};
-use odb_value::{Item, Value};
+use odb_value::{Item, Path, Value, is_front};
 use std::alloc::Global;
 use std::marker::Model;
 

@@ -1,6 +1,5 @@
 use daq_types::Tid;
-use odb_path::Path;
-use odb_value::Value;
+use odb_value::{Path, Value};
 
 /// A row of the database: a key with its value, or a directory.
 #[derive(Drop)]

@@ -1,3 +1,6 @@
+pub mod NameFaults
+pub mod Reading
+pub mod PathLaws
 pub mod ValueKept
 pub mod FormSteps
 pub mod Stops

@@ -1,3 +1,5 @@
+pub mod Paths
+pub mod PathText
 pub mod ItemBytes
 pub mod Items
 pub mod Values

@@ -6,7 +6,7 @@ use Rattle.odb_tree.specs.declared.notes.Note.{Note}
 use Rattle.odb_tree.specs.declared.notes.Watch.{Watch as a_watch}
 use Rattle.odb_tree.specs.Rows.{Rows}
 use Rattle.odb_tree.specs.Noting.{Change, Watched, with_note, note_of, is_of, with_change, noted_all, all_noted, notes_limit, counted, changes_of}
-use Rattle.odb_ascii.specs.TextSteps.{changes_in_steps}
+use Rattle.odb_text.specs.TextSteps.{changes_in_steps}
 use Rattle.odb_watch.specs.declared.notes.NoWatch.{NoWatch}
 use Rattle.odb_watch.specs.declared.notes.WatchRefusal.{WatchRefusal}
 use Rattle.odb_watch.specs.declared.entry.WatchEntry.{WatchEntry}

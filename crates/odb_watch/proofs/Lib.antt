@@ -4,3 +4,4 @@ pub mod Due
 pub mod StepLemmas
 pub mod Few
 pub mod Standing
+mod CallLaws

@@ -4,9 +4,9 @@ use Rattle.std.specs.Str.Lines.{lines}
 use Rattle.odb_tree.specs.Noting.{Watched}
 use Rattle.odb_tree.specs.Databases.{IsDatabase}
 use Rattle.odb_tree.proofs.Sound.{database_after}
-use Rattle.odb_ascii.specs.Dumps.{dump_text, dump_limit}
-use Rattle.odb_ascii.proofs.Sizes.{dump_small}
-use Rattle.odb_ascii.proofs.LoadKeeps.{load_keeps}
+use Rattle.odb_text.specs.Dumps.{dump_text, dump_limit}
+use Rattle.odb_text.proofs.Sizes.{dump_small}
+use Rattle.odb_text.proofs.LoadKeeps.{load_keeps}
 use Rattle.odb_watch.specs.declared.entry.WatchEntry.{WatchEntry}
 use Rattle.odb_watch.specs.declared.entry.WatchEntry.TheVariants.{Call, Watch, Notes, Unwatch, Save, Load}
 use Rattle.odb_watch.specs.Steps.{IsSoundEntry, StepsWatched, LeadsDatabase}

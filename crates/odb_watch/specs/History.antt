@@ -6,8 +6,8 @@ use Rattle.odb_tree.specs.declared.notes.Note.{Note}
 use Rattle.odb_tree.specs.Rows.{Rows}
 use Rattle.odb_tree.specs.Calls.{rows_after}
 use Rattle.odb_tree.specs.Noting.{Change, changes_of, notes_limit, counted, note_of, is_of}
-use Rattle.odb_ascii.specs.TextSteps.{TextStep, run_steps, changes_in_steps}
-use Rattle.odb_ascii.specs.Grammar.{SpellsSteps}
+use Rattle.odb_text.specs.TextSteps.{TextStep, run_steps, changes_in_steps}
+use Rattle.odb_text.specs.Grammar.{SpellsSteps}
 use Rattle.odb_watch.specs.declared.entry.WatchEntry.{WatchEntry}
 use Rattle.odb_watch.specs.declared.entry.WatchEntry.TheVariants.{Call, Watch, Notes, Unwatch, Save, Load}
 

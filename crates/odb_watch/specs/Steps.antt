@@ -10,11 +10,11 @@ use Rattle.odb_tree.specs.Calls.{IsRowsReply}
 use Rattle.odb_tree.specs.Noting.{Watched, watched_call}
 use Rattle.odb_tree.specs.Databases.{IsSoundCall}
 use Rattle.odb_tree.specs.Histories.{shapes_rows}
-use Rattle.odb_ascii.specs.declared.acts.Loaded.{Loaded}
-use Rattle.odb_ascii.specs.declared.acts.LoadRefusal.{LoadRefusal}
-use Rattle.odb_ascii.specs.Dumps.{dump_text, dump_limit}
-use Rattle.odb_ascii.specs.TextFaults.{IsTextFault}
-use Rattle.odb_ascii.specs.Loads.{IsLoaded}
+use Rattle.odb_text.specs.declared.acts.Loaded.{Loaded}
+use Rattle.odb_text.specs.declared.acts.LoadRefusal.{LoadRefusal}
+use Rattle.odb_text.specs.Dumps.{dump_text, dump_limit}
+use Rattle.odb_text.specs.TextFaults.{IsTextFault}
+use Rattle.odb_text.specs.Loads.{IsLoaded}
 use Rattle.odb_watch.specs.declared.notes.NoWatch.{NoWatch}
 use Rattle.odb_watch.specs.declared.entry.WatchEntry.{WatchEntry}
 use Rattle.odb_watch.specs.declared.entry.WatchEntry.TheVariants.{Call, Watch, Notes, Unwatch, Save, Load}

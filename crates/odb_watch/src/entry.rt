@@ -1,6 +1,6 @@
 use crate::notes::{NoWatch, WatchRefusal};
 use daq_types::{Bytes, NoMemory};
-use odb_ascii::{LoadRefusal, Loaded};
+use odb_text::{LoadRefusal, Loaded};
 use odb_tree::{DatabaseEntry, Notes};
 
 /// A call on a watched database, with its arguments and its reply.

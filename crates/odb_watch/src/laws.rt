@@ -5,7 +5,7 @@ ghost use Rattle.odb_tree.specs.declared.notes.Note.{Note as a_note};
 ghost use Rattle.odb_tree.specs.Rows.{Rows};
 ghost use Rattle.odb_tree.specs.Noting.{Watched};
 ghost use Rattle.odb_tree.specs.Databases.{IsDatabase};
-ghost use Rattle.odb_ascii.specs.Dumps.{dump_text, dump_limit};
+ghost use Rattle.odb_text.specs.Dumps.{dump_text, dump_limit};
 ghost use Rattle.odb_watch.specs.declared.entry.WatchEntry.{WatchEntry};
 ghost use Rattle.odb_watch.specs.declared.entry.WatchEntry.TheVariants.{Notes as notes_of, Save as save_of};
 ghost use Rattle.odb_watch.specs.Slots.{AreFew};

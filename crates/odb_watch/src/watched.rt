@@ -14,9 +14,8 @@ use crate::keeping::note_reply;
 use crate::notes::{NoWatch, WatchRefusal};
 use crate::slots::{begin, end, take_notes};
 use daq_types::NoMemory;
-use odb_path::Path;
 use odb_tree::{Children, Database, NewKey, Notes, OdbRefusal, Watch};
-use odb_value::{Item, Value};
+use odb_value::{Item, Path, Value};
 use std::alloc::Global;
 use std::marker::Model;
 

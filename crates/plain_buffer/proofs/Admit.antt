@@ -2,9 +2,9 @@
 use Rattle.std.proofs.Common.{◌≡◌, ℕ, ◌+◌, ◌-◌, ◌*◌, ◌≤◌, List, [], ◌∷◌, ◌++◌, length, take, drop, sum_by, Option, sym, ap, subst, ◌∙◌, arith, length-append}
 use Rattle.std.proofs.lemmas.List.{length-take-le, length-drop}
 use Rattle.std.proofs.lemmas.List.Sums.{sum_by-cons, sum_by-take-drop, sum_by_push}
-use Rattle.daq_model.specs.Events.{slot_of_length}
-use Rattle.event_header.specs.Headers.{event_of}
-use Rattle.event_header.specs.declared.head.Header.{Header}
+use Rattle.event.specs.Events.{slot_of_length}
+use Rattle.event.specs.Headers.{event_of}
+use Rattle.event.specs.declared.head.Header.{Header}
 use Rattle.plain_buffer.specs.declared.plain.PlainBuffer.TheInside.{Inside}
 use Rattle.buffer_core.specs.declared.client.Client.{Client}
 use Rattle.plain_buffer.specs.declared.rows.Row.{Row}

@@ -1,8 +1,8 @@
 -- The reply of a send, over the fields of a plain buffer.
 use Rattle.std.proofs.Common.{◌≡◌, ℕ, ◌+◌, ◌^◌, ◌≤◌, false, List, length, take, sum_by, Option, sym, ap, subst, ◌∙◌, arith}
-use Rattle.daq_model.specs.Events.{slot_size, slot_of_length, is_reserved, event_limit}
-use Rattle.event_header.specs.Headers.{event_of}
-use Rattle.event_header.specs.declared.head.Header.{Header}
+use Rattle.event.specs.Events.{slot_size, slot_of_length, is_reserved, event_limit}
+use Rattle.event.specs.Headers.{event_of}
+use Rattle.event.specs.declared.head.Header.{Header}
 use Rattle.plain_buffer.specs.declared.plain.PlainBuffer.TheInside.{Inside}
 use Rattle.plain_buffer.specs.declared.rows.Row.{Row}
 use Rattle.buffer_core.specs.Window.{Window, accepted_of}

@@ -3,9 +3,9 @@ use Rattle.std.proofs.Common.{◌≡◌, ℕ, suc, ◌+◌, ◌-◌, ◌<◌, �
 use Rattle.std.proofs.lemmas.Bool.{lt-leb}
 use Rattle.std.proofs.lemmas.List.{drop_more}
 use Rattle.std.proofs.lemmas.List.Sums.{sum_by-drop_more}
-use Rattle.daq_model.specs.Events.{matches}
-use Rattle.event_header.specs.Headers.{event_of}
-use Rattle.event_header.specs.declared.head.Header.{Header}
+use Rattle.event.specs.Events.{matches}
+use Rattle.event.specs.Headers.{event_of}
+use Rattle.event.specs.declared.head.Header.{Header}
 use Rattle.buffer_core.specs.declared.client.Client.{Client}
 use Rattle.plain_buffer.specs.declared.rows.Row.{Row}
 use Rattle.buffer_core.specs.Slots.{first_slot}

@@ -1,8 +1,8 @@
 -- Kept events as rows, with the data of all of them one after the other.
 use Rattle.std.specs.Prelude.{◌≡◌, ℕ, ◌≤◌, List, [], ◌∷◌, take, drop, map, Option, Some}
 use Rattle.std.specs.List.{All}
-use Rattle.daq_model.specs.Events.{slot_of_length, event_limit}
-use Rattle.event_header.specs.Headers.{event_of}
+use Rattle.event.specs.Events.{slot_of_length, event_limit}
+use Rattle.event.specs.Headers.{event_of}
 use Rattle.plain_buffer.specs.declared.rows.Row.{Row}
 use Rattle.buffer_core.specs.Window.{Sent}
 

@@ -1,13 +1,13 @@
 ghost use Rattle.std.specs.Prelude.{◌≡◌, ◌<◌, [], length, IfOk, IfSome, OnErr, Some, slice_set};
 ghost use Rattle.std.specs.Option.{ok_or, option_map};
-ghost use Rattle.event_header.specs.Headers.{event_of};
+ghost use Rattle.event.specs.Headers.{event_of};
 ghost use Rattle.buffer_core.specs.Slots.{slot_at, free_slot, first_slot, change_all};
 ghost use Rattle.buffer_core.specs.Window.{no_clients, owes};
 ghost use Rattle.buffer_core.specs.Calls.{no_slot, joined, pushed};
 
 use buffer_core::{CLIENTS, Client, NoSlot, free_number};
 use daq_types::{Name, NoMemory};
-use event_header::Header;
+use event::Header;
 use std::alloc::Global;
 use std::marker::Model;
 

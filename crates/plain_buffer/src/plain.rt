@@ -1,6 +1,6 @@
 ghost use Rattle.std.specs.Prelude.{◌≡◌, ◌≤◌, ◌+◌, ◌^◌, ◌%◌, length, IfOk, IfErr, OnOk, OnErr, Ok, Err, false};
-ghost use Rattle.daq_model.specs.Events.{slot_size, is_reserved, event_limit};
-ghost use Rattle.event_header.specs.Headers.{event_of};
+ghost use Rattle.event.specs.Events.{slot_size, is_reserved, event_limit};
+ghost use Rattle.event.specs.Headers.{event_of};
 ghost use Rattle.buffer_core.specs.Window.{opening, accepted_of};
 ghost use Rattle.buffer_core.specs.Calls.{send_reply, after_send, gone_of};
 
@@ -11,7 +11,7 @@ use buffer_core::{
     SendRefusal, free_number, slot_for,
 };
 use daq_types::{Kind, Name, NoMemory};
-use event_header::{EventBuf, Header, append_within, slot_len};
+use event::{EventBuf, Header, append_within, slot_len};
 use std::alloc::Global;
 use std::marker::Model;
 

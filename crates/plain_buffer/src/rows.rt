@@ -4,7 +4,7 @@ ghost use Rattle.plain_buffer.specs.Rows.{slot_of_row, size_of_row, AreSmall, ke
 
 use crate::clients::Clients;
 use buffer_core::Client;
-use event_header::{Header, slot_len};
+use event::{Header, slot_len};
 
 /// A kept event without its data, which stands among the bytes of all rows in order.
 #[derive(Clone, Copy)]

@@ -4,7 +4,7 @@
 #![tactic(auto)]
 
 use daq_types::Order;
-use event_header::{EventBuf, Header};
+use event::{EventBuf, Header};
 use front_ends::Equipment;
 
 /// How many heights the table has.

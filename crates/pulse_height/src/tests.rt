@@ -1,14 +1,13 @@
 //! Front-ends over a port to a buffer.
 ghost use Rattle.std.specs.Prelude.{◌≡◌, ◌≤◌, IfOk};
-ghost use Rattle.local_port.specs.OwningPorts.{owned_access};
+ghost use Rattle.plain_buffer.specs.OwningPorts.{owned_access};
 
 use crate::PulseHeight;
 use buffer_core::BufferPort;
 use daq_types::{FrontEnded, NoMemory, Order, RunState, Transition, Why};
 use front_ends::{Equipment, FrontEnd, FrontStep};
 use frontend_kit::Generator;
-use local_port::OwningPort;
-use plain_buffer::PlainBuffer;
+use plain_buffer::{OwningPort, PlainBuffer};
 use std::alloc::Global;
 use std::sync::Wait;
 use std::test::Fail;

@@ -7,8 +7,8 @@ use Rattle.std.proofs.lemmas.Option.{slice_get-get_or, slice_get_within, get_or_
 use Rattle.daq_types.specs.declared.events.Event.{Event}
 use Rattle.daq_types.specs.declared.runs.RunState.TheVariants.{Stopped}
 use Rattle.daq_io.specs.Seen.{Seen, Stored, stored_closed}
-use Rattle.daq_model.specs.Events.{matches}
-use Rattle.daq_model.specs.RunFile.{IsRunFile}
+use Rattle.event.specs.Events.{matches}
+use Rattle.event.specs.RunFile.{IsRunFile}
 use Rattle.turn_lock.specs.Closing.{history_of}
 use Rattle.buffer_core.specs.Readers.{wanted}
 use Rattle.buffer_core.specs.Runs.{segment}
@@ -21,9 +21,9 @@ use Rattle.frontend_kit.specs.declared.generator.Generator.{Generator}
 use Rattle.loggers.specs.Moments.{RunFiles}
 use Rattle.mid_logger.specs.declared.channel_spec.ChannelSpec.{ChannelSpec}
 use Rattle.odb_runinfo.specs.RunSets.{have_of}
-use Rattle.run_records.specs.declared.records.FileRecord.{FileRecord}
-use Rattle.run_records.specs.declared.records.RunRecord.{RunRecord}
-use Rattle.session_crew.specs.Crews.{CrewTold}
+use Rattle.session_runs.specs.declared.records.FileRecord.{FileRecord}
+use Rattle.session_runs.specs.declared.records.RunRecord.{RunRecord}
+use Rattle.daq_members.specs.Crews.{CrewTold}
 use Rattle.session_runs.specs.RunEntries.{start_sheet}
 use Rattle.session_runs.specs.RunsFit.{MainOwn}
 use Rattle.session_setup.specs.Setup.{AreSound, Declared, is_front_id}

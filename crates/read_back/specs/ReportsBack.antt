@@ -13,10 +13,10 @@ use Rattle.frontend_kit.specs.declared.generator.Generator.{Generator}
 use Rattle.mid_logger.specs.declared.channel_spec.ChannelSpec.{ChannelSpec}
 use Rattle.loggers.specs.Moments.{RunFiles}
 use Rattle.composition.specs.SessionRuns.{SawThrough}
-use Rattle.run_records.specs.declared.records.FileRecord.{FileRecord}
-use Rattle.run_records.specs.declared.records.ReportTally.{ReportTally}
-use Rattle.run_records.specs.declared.records.RunRecord.{RunRecord}
-use Rattle.session_crew.specs.Crews.{CrewTold}
+use Rattle.session_runs.specs.declared.records.FileRecord.{FileRecord}
+use Rattle.session_runs.specs.declared.records.ReportTally.{ReportTally}
+use Rattle.session_runs.specs.declared.records.RunRecord.{RunRecord}
+use Rattle.daq_members.specs.Crews.{CrewTold}
 use Rattle.session_runs.specs.RunsFit.{MainOwn}
 use Rattle.session_setup.specs.Setup.{AreSound, Declared}
 use Rattle.session_setup.specs.declared.declared.AnalyzerDeclared.{AnalyzerDeclared}

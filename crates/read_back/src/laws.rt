@@ -1,5 +1,5 @@
 //! Laws of what is read back of a session: each function does nothing, and its contract is the law.
-ghost use Rattle.session_crew.specs.Crews.{crew_told};
+ghost use Rattle.daq_members.specs.Crews.{crew_told};
 ghost use Rattle.session_objects.specs.Members.{generator_makes, generator_takes};
 ghost use Rattle.read_back.specs.ReportsBack.{ReportsReadBack, SessionReadsBack};
 

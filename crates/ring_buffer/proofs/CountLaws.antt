@@ -1,7 +1,7 @@
 -- What a ring counts of its reads.
 use Rattle.std.specs.Prelude.{◌≡◌, ℕ, ◌+◌, ◌*◌, ◌%◌, ◌^◌, ◌≤◌}
 use Rattle.std.proofs.Common.{ap, sym, ◌∙◌, arith}
-use Rattle.ring_bytes.specs.Rings.{CountedBytes, Rises, IsRead}
+use Rattle.ring_buffer.specs.Rings.{CountedBytes, Rises, IsRead}
 use Rattle.buffer_core.specs.declared.entry.BufferEntry.{BufferEntry}
 use Rattle.ring_buffer.specs.CountedWindows.{CountedWindow}
 use Rattle.ring_buffer.specs.Reads.{ReadsFronts}

@@ -3,9 +3,9 @@ use Rattle.std.specs.Prelude.{◌≡◌, ℕ, ◌^◌, ◌<◌, List, [], ◌∷
 use Rattle.std.specs.Int.{to_le_bytes, from_le_bytes, w16, w32}
 use Rattle.std.proofs.Common.{ap, sym, ◌∙◌, get_or, arith, append_assoc}
 use Rattle.std.proofs.lemmas.Nat.{from_le_bytes-to_le_bytes_2, from_le_bytes-to_le_bytes_4}
-use Rattle.daq_model.specs.Events.{header_bytes}
-use Rattle.event_header.specs.declared.head.Header.{Header}
-use Rattle.event_header.specs.Headers.{header_encoding, fields_of}
+use Rattle.event.specs.Events.{header_bytes}
+use Rattle.event.specs.declared.head.Header.{Header}
+use Rattle.event.specs.Headers.{header_encoding, fields_of}
 use Rattle.buffer_core.specs.Window.{Sent}
 use Rattle.ring_buffer.specs.RingHolds.{front_of}
 use Rattle.ring_buffer.specs.Stored.{event_in, length_in, FitsSlot, IsHeader}

@@ -5,9 +5,9 @@ use Rattle.std.proofs.Common.{ap, sym, ◌∙◌, subst, arith, length-set}
 use Rattle.std.proofs.lemmas.Bool.{lt-leb, eqb-true, eqb-false, le-leb}
 use Rattle.std.proofs.lemmas.List.{drop-drop, drop_all, length-drop}
 use Rattle.std.proofs.lemmas.List.Sums.{sum_by-cons, sum_by-take-drop}
-use Rattle.event_header.specs.declared.head.Header.{Header}
-use Rattle.event_header.specs.Headers.{event_of, fields_of}
-use Rattle.ring_bytes.specs.Rings.{CountedBytes, bytes_at}
+use Rattle.event.specs.declared.head.Header.{Header}
+use Rattle.event.specs.Headers.{event_of, fields_of}
+use Rattle.ring_buffer.specs.Rings.{CountedBytes, bytes_at}
 use Rattle.buffer_core.specs.declared.gate.RunGate.{RunGate}
 use Rattle.buffer_core.specs.declared.client.Client.{Client}
 use Rattle.buffer_core.specs.declared.replies.NoClient.{NoClient}
@@ -16,9 +16,9 @@ use Rattle.buffer_core.specs.Slots.{slot_at, some_slot, change_slot}
 use Rattle.buffer_core.proofs.SlotLaws.{split, slot_set_same, slot_set_other, slot_within}
 use Rattle.buffer_core.specs.Window.{Sent, Window, slot_of_sent, level_of, covers, IsWindow}
 use Rattle.buffer_core.specs.Calls.{detach_reply_to, found_in, found_reply, receive_reply_to, going_on, with_clients}
-use Rattle.client_pointers.specs.declared.pointer.Pointer.{Pointer}
-use Rattle.client_pointers.specs.Pointers.{clients_of, moved, position_of}
-use Rattle.client_pointers.proofs.PointerLaws.{clients_change, client_at}
+use Rattle.ring_buffer.specs.declared.pointer.Pointer.{Pointer}
+use Rattle.ring_buffer.specs.Pointers.{clients_of, moved, position_of}
+use Rattle.ring_buffer.proofs.PointerLaws.{clients_change, client_at}
 use Rattle.ring_buffer.specs.declared.ring_buffer.RingBuffer.TheInside.{Inside}
 use Rattle.ring_buffer.specs.declared.walk.Position.{Position}
 use Rattle.ring_buffer.specs.declared.walk.Found.{Found}

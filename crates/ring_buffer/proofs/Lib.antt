@@ -1,3 +1,8 @@
+pub mod Turns
+pub mod RingLaws
+pub mod Raising
+pub mod PointerLaws
+pub mod GivenNumbers
 pub mod Fields
 pub mod Opening
 pub mod CountLaws

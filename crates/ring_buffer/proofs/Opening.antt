@@ -1,14 +1,14 @@
 -- A ring buffer as it opens.
 use Rattle.std.specs.Prelude.{◌≡◌, ℕ, ◌≤◌, List, length, Option, Some, refl}
 use Rattle.std.proofs.Common.{sym, subst, arith}
-use Rattle.ring_bytes.specs.Rings.{CountedBytes}
+use Rattle.ring_buffer.specs.Rings.{CountedBytes}
 use Rattle.buffer_core.specs.declared.gate.RunGate.TheVariants.{Shut}
 use Rattle.buffer_core.specs.Slots.{slot_at}
 use Rattle.buffer_core.proofs.SlotLaws.{slot_free}
 use Rattle.buffer_core.specs.Window.{opening, no_clients, IsWindow}
 use Rattle.buffer_core.proofs.WindowKept.{window_opens}
-use Rattle.client_pointers.specs.declared.pointer.Pointer.{Pointer}
-use Rattle.client_pointers.specs.Pointers.{no_pointers}
+use Rattle.ring_buffer.specs.declared.pointer.Pointer.{Pointer}
+use Rattle.ring_buffer.specs.Pointers.{no_pointers}
 use Rattle.ring_buffer.specs.declared.ring_buffer.RingBuffer.TheInside.{Inside}
 use Rattle.ring_buffer.specs.RingViews.{window_of, IsRingBuffer}
 use Rattle.ring_buffer.specs.Stored.{ring_events_at}

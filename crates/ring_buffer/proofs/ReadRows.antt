@@ -1,7 +1,7 @@
 -- The reads of sample calls.
 use Rattle.std.specs.Prelude.{◌≡◌, [], ◌∷◌, ◌++◌, refl}
 use Rattle.daq_types.specs.declared.runs.Kind.TheVariants.{All, NonBlocking}
-use Rattle.daq_model.specs.Events.{slot_of_length, matches}
+use Rattle.event.specs.Events.{slot_of_length, matches}
 use Rattle.buffer_core.specs.Window.{opening, no_clients, no_requests}
 use Rattle.buffer_core.specs.Histories.{IsLegal, replay}
 use Rattle.ring_buffer.specs.LifeReads.{reads_by_call}

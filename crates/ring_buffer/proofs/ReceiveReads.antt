@@ -1,7 +1,7 @@
 -- How often a receive reads the ring, and how many bytes.
 use Rattle.std.specs.Prelude.{◌≡◌, ℕ, ◌+◌, ◌*◌, ◌-◌, ◌<◌, ◌≤◌, Option, Some, refl}
 use Rattle.std.proofs.Common.{ap, sym, ◌∙◌, subst, arith}
-use Rattle.ring_bytes.specs.Rings.{CountedBytes, IsRead}
+use Rattle.ring_buffer.specs.Rings.{CountedBytes, IsRead}
 use Rattle.buffer_core.specs.declared.client.Client.{Client}
 use Rattle.buffer_core.specs.declared.gate.RunGate.{RunGate}
 use Rattle.buffer_core.specs.declared.replies.Received.{Received}
@@ -10,7 +10,7 @@ use Rattle.buffer_core.specs.declared.entry.BufferEntry.TheVariants.{Receive}
 use Rattle.buffer_core.specs.Slots.{slot_at}
 use Rattle.buffer_core.specs.Window.{kept_at}
 use Rattle.buffer_core.proofs.WindowLaws.{found_kept}
-use Rattle.client_pointers.specs.Pointers.{clients_of}
+use Rattle.ring_buffer.specs.Pointers.{clients_of}
 use Rattle.ring_buffer.specs.declared.ring_buffer.RingBuffer.TheInside.{Inside}
 use Rattle.ring_buffer.specs.declared.walk.Position.{Position}
 use Rattle.ring_buffer.specs.declared.walk.Found.{Found}

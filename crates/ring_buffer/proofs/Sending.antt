@@ -6,21 +6,21 @@ use Rattle.std.proofs.lemmas.Bool.{ltb-true, ltb-false}
 use Rattle.std.proofs.lemmas.List.{drop-drop, drop-append-le, length-drop, length_push}
 use Rattle.std.proofs.lemmas.List.Sums.{sum_by-cons, sum_by_push, sum_by-take-drop}
 use Rattle.daq_types.specs.declared.events.Event.{Event}
-use Rattle.daq_model.specs.Events.{slot_size, event_limit}
-use Rattle.event_header.specs.declared.head.Header.{Header}
-use Rattle.event_header.specs.Headers.{event_of, fields_of}
-use Rattle.event_header.proofs.Headers.{header_back}
-use Rattle.ring_bytes.specs.Rings.{CountedBytes, bytes_at, KeepsOtherOffsets}
-use Rattle.ring_bytes.proofs.RingLaws.{bytes_at-turn}
+use Rattle.event.specs.Events.{slot_size, event_limit}
+use Rattle.event.specs.declared.head.Header.{Header}
+use Rattle.event.specs.Headers.{event_of, fields_of}
+use Rattle.event.proofs.Headers.{header_back}
+use Rattle.ring_buffer.specs.Rings.{CountedBytes, bytes_at, KeepsOtherOffsets}
+use Rattle.ring_buffer.proofs.RingLaws.{bytes_at-turn}
 use Rattle.buffer_core.specs.declared.client.Client.{Client}
 use Rattle.buffer_core.specs.Slots.{slot_at, change_all}
 use Rattle.buffer_core.proofs.SlotLaws.{split, slot_change_all}
 use Rattle.buffer_core.specs.Window.{Sent, Window, slot_of_sent, level_of, accepted_of, IsWindow}
 use Rattle.buffer_core.proofs.WindowLaws.{slot_cover, to_drop_within, to_drop_fits}
 use Rattle.buffer_core.specs.Calls.{pushed, going_on, gone_of, after_send}
-use Rattle.client_pointers.specs.declared.pointer.Pointer.{Pointer}
-use Rattle.client_pointers.specs.Pointers.{clients_of, raised, moved}
-use Rattle.client_pointers.proofs.PointerLaws.{clients_change_all, client_at}
+use Rattle.ring_buffer.specs.declared.pointer.Pointer.{Pointer}
+use Rattle.ring_buffer.specs.Pointers.{clients_of, raised, moved}
+use Rattle.ring_buffer.proofs.PointerLaws.{clients_change_all, client_at}
 use Rattle.ring_buffer.specs.declared.ring_buffer.RingBuffer.TheInside.{Inside}
 use Rattle.ring_buffer.specs.CountedWindows.{CountedWindow}
 use Rattle.ring_buffer.specs.RingHolds.{front_of, HoldsEvent, HoldsEvents}

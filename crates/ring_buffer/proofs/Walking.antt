@@ -5,15 +5,15 @@ use Rattle.std.proofs.lemmas.Bool.{lt-leb}
 use Rattle.std.proofs.lemmas.List.{drop-drop}
 use Rattle.std.proofs.lemmas.List.Sums.{sum_by-cons}
 use Rattle.daq_types.specs.declared.events.Event.{Event}
-use Rattle.daq_model.specs.Events.{matches, slot_of_length, event_limit}
-use Rattle.event_header.specs.declared.head.Header.{Header}
-use Rattle.event_header.specs.Headers.{event_of, fields_of}
+use Rattle.event.specs.Events.{matches, slot_of_length, event_limit}
+use Rattle.event.specs.declared.head.Header.{Header}
+use Rattle.event.specs.Headers.{event_of, fields_of}
 use Rattle.buffer_core.specs.declared.client.Client.{Client}
 use Rattle.buffer_core.specs.Slots.{slot_at, first_slot}
 use Rattle.buffer_core.specs.Window.{Sent, slot_of_sent, owes, wants}
 use Rattle.buffer_core.specs.Calls.{to_drop, owed_in, or_later, found_in}
 use Rattle.buffer_core.proofs.WindowLaws.{to_drop_none}
-use Rattle.ring_bytes.specs.Rings.{CountedBytes, IsRead}
+use Rattle.ring_buffer.specs.Rings.{CountedBytes, IsRead}
 use Rattle.ring_buffer.specs.declared.walk.Position.{Position}
 use Rattle.ring_buffer.specs.RingHolds.{HoldsEvent, HoldsEvents}
 use Rattle.ring_buffer.specs.Stored.{ring_event_at, ring_events_at, FitsSlot, AllFit}

@@ -1,3 +1,6 @@
+pub mod Rings
+pub mod Views
+pub mod Pointers
 pub mod CountedWindows
 pub mod RingHolds
 pub mod Stored

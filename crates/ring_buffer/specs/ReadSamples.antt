@@ -2,7 +2,7 @@
 use Rattle.std.specs.Prelude.{ℕ, List, [], ◌∷◌, Ok, Err}
 use Rattle.daq_types.specs.declared.events.Event.{Event}
 use Rattle.daq_types.specs.declared.runs.Kind.{Kind}
-use Rattle.daq_model.specs.Events.{any}
+use Rattle.event.specs.Events.{any}
 use Rattle.buffer_core.specs.declared.gate.RunGate.TheVariants.{Shut}
 use Rattle.buffer_core.specs.declared.replies.SendRefusal.TheVariants.{Full}
 use Rattle.buffer_core.specs.declared.replies.Received.TheVariants.{Got, Empty}

@@ -1,9 +1,9 @@
 -- The kept events of a buffer as they stand in a ring of bytes.
 use Rattle.std.specs.Prelude.{◌≡◌, ℕ, ◌+◌, ◌-◌, List, [], ◌∷◌, ◌++◌, length, ⊤}
 use Rattle.std.specs.Int.{to_le_bytes, w32}
-use Rattle.event_header.specs.declared.head.Header.{Header}
-use Rattle.event_header.specs.Headers.{header_encoding, fields_of}
-use Rattle.ring_bytes.specs.Rings.{bytes_at}
+use Rattle.event.specs.declared.head.Header.{Header}
+use Rattle.event.specs.Headers.{header_encoding, fields_of}
+use Rattle.ring_buffer.specs.Rings.{bytes_at}
 use Rattle.buffer_core.specs.Window.{Sent, Window, slot_of_sent, level_of}
 
 -- how many bytes stand in front of an event's data

@@ -2,8 +2,8 @@
 use Rattle.std.specs.Prelude.{◌≡◌, ℕ, ◌+◌, ◌-◌, ◌≤◌, length, drop, sum_by, Some}
 use Rattle.buffer_core.specs.Slots.{slot_at}
 use Rattle.buffer_core.specs.Window.{Window, slot_of_sent, level_of, IsWindow}
-use Rattle.client_pointers.specs.declared.pointer.Pointer.{Pointer}
-use Rattle.client_pointers.specs.Pointers.{clients_of}
+use Rattle.ring_buffer.specs.declared.pointer.Pointer.{Pointer}
+use Rattle.ring_buffer.specs.Pointers.{clients_of}
 use Rattle.ring_buffer.specs.declared.ring_buffer.RingBuffer.TheInside.{Inside}
 use Rattle.ring_buffer.specs.CountedWindows.{CountedWindow}
 use Rattle.ring_buffer.specs.RingHolds.{RingHolds}

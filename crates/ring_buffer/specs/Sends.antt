@@ -1,7 +1,7 @@
 -- Sends by their header and their data.
 use Rattle.std.specs.Prelude.{ℕ, List, drop, sum_by, Result}
-use Rattle.event_header.specs.declared.head.Header.{Header}
-use Rattle.event_header.specs.Headers.{event_of}
+use Rattle.event.specs.declared.head.Header.{Header}
+use Rattle.event.specs.Headers.{event_of}
 use Rattle.buffer_core.specs.declared.replies.SendRefusal.{SendRefusal}
 use Rattle.buffer_core.specs.declared.entry.BufferEntry.{BufferEntry}
 use Rattle.buffer_core.specs.declared.entry.BufferEntry.TheVariants.{Send}

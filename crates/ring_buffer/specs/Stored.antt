@@ -1,9 +1,9 @@
 -- The events that stand in a ring, read off its bytes.
 use Rattle.std.specs.Prelude.{ℕ, zero, suc, ◌+◌, ◌^◌, ◌<◌, ◌≤◌, List, [], ◌∷◌, length, take, drop, ⊤}
 use Rattle.std.specs.Int.{from_le_bytes, w16, w32}
-use Rattle.daq_model.specs.Events.{event_limit}
-use Rattle.event_header.specs.declared.head.Header.{Header}
-use Rattle.ring_bytes.specs.Rings.{bytes_at}
+use Rattle.event.specs.Events.{event_limit}
+use Rattle.event.specs.declared.head.Header.{Header}
+use Rattle.ring_buffer.specs.Rings.{bytes_at}
 use Rattle.buffer_core.specs.Window.{Sent, slot_of_sent}
 use Rattle.ring_buffer.specs.RingHolds.{front_bytes}
 

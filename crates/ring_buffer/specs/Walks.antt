@@ -1,6 +1,6 @@
 -- Kept events that are gone over from one position to another.
 use Rattle.std.specs.Prelude.{◌≡◌, ℕ, ◌+◌, ◌-◌, ◌≤◌, ◌<◌, List, take, drop, sum_by, length, Option, Some, None}
-use Rattle.event_header.specs.Headers.{fields_of}
+use Rattle.event.specs.Headers.{fields_of}
 use Rattle.buffer_core.specs.declared.client.Client.{Client}
 use Rattle.buffer_core.specs.Slots.{slot_at}
 use Rattle.buffer_core.specs.Window.{Sent, slot_of_sent}

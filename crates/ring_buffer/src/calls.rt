@@ -1,5 +1,5 @@
 ghost use Rattle.std.specs.Prelude.{◌≡◌};
-ghost use Rattle.event_header.specs.Headers.{event_of};
+ghost use Rattle.event.specs.Headers.{event_of};
 ghost use Rattle.buffer_core.specs.declared.entry.BufferEntry.TheVariants.{Attach, Detach, Request, Cancel, Send, SendInRun, Receive, Begin, Pause, Resume, End};
 ghost use Rattle.buffer_core.specs.Calls.{IsReply, window_after, event_after};
 ghost use Rattle.ring_buffer.specs.LifeReads.{ReadsFew};
@@ -12,7 +12,7 @@ use buffer_core::{
     EventBuffer, MarkRefusal, NoClient, NoSlot, Received, RequestRefusal, SendRefusal,
 };
 use daq_types::{Kind, Name};
-use event_header::{EventBuf, Header, slot_len};
+use event::{EventBuf, Header, slot_len};
 
 // Each call that changes the buffer says, besides what the trait says of it, how much it reads of the ring. Those that
 // only look take the buffer by `&`, through which no ring is read.

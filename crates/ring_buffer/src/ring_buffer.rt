@@ -1,6 +1,6 @@
 ghost use Rattle.std.specs.Prelude.{◌≡◌, ◌≤◌, ◌+◌, ◌^◌, ℕ, length, IfOk, IfErr, OnOk, OnErr, Ok, Err};
-ghost use Rattle.daq_model.specs.Events.{slot_size, event_limit};
-ghost use Rattle.event_header.specs.Headers.{event_of};
+ghost use Rattle.event.specs.Events.{slot_size, event_limit};
+ghost use Rattle.event.specs.Headers.{event_of};
 ghost use Rattle.buffer_core.specs.Window.{opening, accepted_of, IsWindow};
 ghost use Rattle.buffer_core.specs.Calls.{after_send};
 ghost use Rattle.ring_buffer.specs.LifeReads.{ReadsFew};
@@ -9,10 +9,9 @@ ghost use Rattle.ring_buffer.specs.Sends.{send_entry, reply_to_sent, gone_for, l
 use crate::search::find_way;
 use crate::slot::{FRONT, front_bytes_of};
 use crate::walk::{Owed, Position};
+use crate::{Pointers, Ring};
 use buffer_core::{RunGate, SendRefusal, slot_for};
-use client_pointers::Pointers;
-use event_header::{Header, slot_len};
-use ring_bytes::Ring;
+use event::{Header, slot_len};
 use std::marker::Model;
 
 /// An event buffer over the bytes of a ring, which counts its reads. No call takes memory, so that the kept events have

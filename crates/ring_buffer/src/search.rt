@@ -1,17 +1,16 @@
 ghost use Rattle.std.specs.Prelude.{◌≡◌, ◌≤◌, ◌+◌, ◌-◌, ◌^◌, [], length, Some, IfOk, IfErr, IfSome, IfNone};
-ghost use Rattle.event_header.specs.Headers.{event_of};
+ghost use Rattle.event.specs.Headers.{event_of};
 ghost use Rattle.buffer_core.specs.declared.client.Client.{Client};
 ghost use Rattle.buffer_core.specs.Slots.{slot_at};
 ghost use Rattle.buffer_core.specs.Window.{wants};
-ghost use Rattle.client_pointers.specs.Pointers.{clients_of};
+ghost use Rattle.ring_buffer.specs.Pointers.{clients_of};
 ghost use Rattle.ring_buffer.specs.Reads.{ReadsFronts};
 ghost use Rattle.ring_buffer.specs.Walks.{IsWalk, IsWay, in_the_way, IsFoundFor, FindsNothing};
 
 use crate::slot::read_front;
 use crate::walk::{Found, Owed, Position};
-use client_pointers::Pointers;
-use event_header::{Header, slot_len};
-use ring_bytes::Ring;
+use crate::{Pointers, Ring};
+use event::{Header, slot_len};
 
 /// How far the events have to go so that one of this slot fits before the end, or the first of them that is owed to a
 /// client, with the least such client.

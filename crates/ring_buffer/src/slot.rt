@@ -1,12 +1,12 @@
 ghost use Rattle.std.specs.Prelude.{◌≡◌, ◌≤◌, length};
-ghost use Rattle.event_header.specs.Headers.{fields_of};
-ghost use Rattle.ring_bytes.specs.Rings.{IsRead};
+ghost use Rattle.event.specs.Headers.{fields_of};
+ghost use Rattle.ring_buffer.specs.Rings.{IsRead};
 ghost use Rattle.buffer_core.specs.Window.{Sent};
 ghost use Rattle.ring_buffer.specs.RingHolds.{front_of, HoldsEvent};
 ghost use Rattle.ring_buffer.specs.Stored.{FitsSlot, IsHeader};
 
-use event_header::{Header, read_header, write_header};
-use ring_bytes::Ring;
+use crate::Ring;
+use event::{Header, read_header, write_header};
 
 /// How many bytes stand in front of an event's data.
 pub const FRONT: usize = 24;

@@ -3,17 +3,17 @@ use Rattle.std.proofs.Common.{◌≡◌, ◌≢◌, ℕ, List, Option, Some, Non
 use Rattle.std.proofs.Math.Logic.{⊎_elim}
 use Rattle.odb_script.specs.declared.commands.Command.{Command}
 use Rattle.odb_script.specs.Forms.{Read}
-use Rattle.session_replies.specs.declared.replies.Reply.{Reply}
-use Rattle.session_replies.specs.declared.refusals.Refusals.{Refusals}
+use Rattle.console.specs.declared.replies.Reply.{Reply}
+use Rattle.console.specs.declared.refusals.Refusals.{Refusals}
 use Rattle.session_lines.specs.Stages.{SessionStage}
 use Rattle.session_lines.specs.ScriptLines.{BreaksScriptLine, ClosesScript, DoesScriptLine, GivesUp}
-use Rattle.script_desk.specs.declared.endings.Ending.{Ending}
-use Rattle.script_desk.specs.declared.endings.Ending.TheVariants.{End, TooLong, SourceFault, Halted}
-use Rattle.script_desk.specs.declared.halts.Halt.{Halt}
-use Rattle.script_desk.specs.declared.halts.Halt.TheVariants.{NoMemory, SinkFault}
-use Rattle.script_desk.specs.Playing.{CutBy}
-use Rattle.script_desk.specs.Closing.{ClosesBy, Finished, GaveUp, IsClosed, ended_by}
-use Rattle.script_desk.proofs.KeepingLaws.{plays_keep}
+use Rattle.console.specs.declared.endings.Ending.{Ending}
+use Rattle.console.specs.declared.endings.Ending.TheVariants.{End, TooLong, SourceFault, Halted}
+use Rattle.console.specs.declared.halts.Halt.{Halt}
+use Rattle.console.specs.declared.halts.Halt.TheVariants.{NoMemory, SinkFault}
+use Rattle.console.specs.Playing.{CutBy}
+use Rattle.console.specs.Closing.{ClosesBy, Finished, GaveUp, IsClosed, ended_by}
+use Rattle.console.proofs.KeepingLaws.{plays_keep}
 
 not_cut : (ending : Ending) (closing : Option Halt) (source : Option (List ℕ)) (lines : List (List ℕ)) (old new : SessionStage) → ended_by ending closing ≢ Halted NoMemory → CutBy DoesScriptLine BreaksScriptLine ending source lines old new → new ≡ old
 not_cut End closing source lines old new found cut = cut

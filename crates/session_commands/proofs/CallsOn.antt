@@ -3,7 +3,7 @@ use Rattle.std.proofs.Common.{◌≡◌, List, [], ◌∷◌, ◌++◌, ap, sym,
 use Rattle.std.specs.List.{AllByRecursion}
 use Rattle.std.proofs.lemmas.List.{append-nil}
 use Rattle.odb_watch.specs.declared.entry.WatchEntry.{WatchEntry}
-use Rattle.odb_port.specs.DatabasePorts.{DatabaseAccess, own_watched}
+use Rattle.odb_watch.specs.DatabasePorts.{DatabaseAccess, own_watched}
 
 pub all_both : (P : WatchEntry → Type 0) (one other : List WatchEntry) → AllByRecursion P one → AllByRecursion P other → AllByRecursion P (one ++ other)
 all_both P [] other first second = second

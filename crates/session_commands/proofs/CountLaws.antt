@@ -4,18 +4,18 @@ use Rattle.std.specs.Prelude.{◌++◌, Bool, cond, count_by}
 use Rattle.std.proofs.lemmas.List.Sums.{sum_by-append}
 use Rattle.daq_io.specs.Counts.{RoseBy}
 use Rattle.daq_io.proofs.Counts.{RoseBy-then}
-use Rattle.database_files.specs.declared.replies.FileReply.{FileReply}
-use Rattle.database_files.specs.declared.replies.FileReply.TheVariants as file
-use Rattle.watch_commands.specs.WatchCalls.{ClashesIf, FaultsIf}
-use Rattle.database_desk.specs.DatabaseStages.{DumpFiles}
-use Rattle.database_desk.specs.DatabaseLines.{file_replied}
+use Rattle.odb_commands.specs.declared.dump_replies.FileReply.{FileReply}
+use Rattle.odb_commands.specs.declared.dump_replies.FileReply.TheVariants as file
+use Rattle.odb_commands.specs.WatchCalls.{ClashesIf, FaultsIf}
+use Rattle.console.specs.DatabaseStages.{DumpFiles}
+use Rattle.console.specs.DatabaseLines.{file_replied}
 use Rattle.session_lines.specs.Stages.{SessionStage}
 use Rattle.session_lines.specs.ScriptLines.{BreaksScriptLine, ClosesScript, DoesScriptLine, GivesUp}
-use Rattle.session_replies.specs.declared.refusals.Refusals.{Refusals}
-use Rattle.script_desk.specs.declared.endings.Ending.{Ending}
-use Rattle.script_desk.specs.declared.halts.Halt.{Halt}
-use Rattle.script_desk.specs.Closing.{Finished}
-use Rattle.script_desk.proofs.KeepingLaws.{closing_keeps, cut_keeps, plays_keep}
+use Rattle.console.specs.declared.refusals.Refusals.{Refusals}
+use Rattle.console.specs.declared.endings.Ending.{Ending}
+use Rattle.console.specs.declared.halts.Halt.{Halt}
+use Rattle.console.specs.Closing.{Finished}
+use Rattle.console.proofs.KeepingLaws.{closing_keeps, cut_keeps, plays_keep}
 use Rattle.session_commands.specs.Endings.{OneReply, is_clash, is_fault}
 use Rattle.session_commands.proofs.FilesWalk.{FilesKept, KeptByCut, KeptByLine, break_kept, closed_kept, given_up_kept, line_kept}
 

@@ -6,7 +6,7 @@ use Rattle.session_setup.specs.declared.refusals.SetupRefusal.{SetupRefusal}
 use Rattle.session_setup.specs.Setup.{Declared}
 use Rattle.session_setup.specs.Refusals.{ok_unless}
 use Rattle.session_setup.specs.SetupLines.{IsPatternRead, with_channel}
-use Rattle.session_replies.specs.declared.replies.Reply.{Reply}
+use Rattle.console.specs.declared.replies.Reply.{Reply}
 use Rattle.session_lines.specs.SetupReplies.{SetupUnless, TakesChannel, TakesSetup, setup_reply}
 
 pub unless_closed : (opened : Bool) (Then : Type 0) (old : Declared) (reply : Reply) (new : Declared) → opened ≡ false → Then → SetupUnless opened Then old reply new

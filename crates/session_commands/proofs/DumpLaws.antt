@@ -4,12 +4,12 @@ use Rattle.std.specs.Prelude.{IsTrue, Contains, Ok, nat_eq, ◌⊎◌}
 use Rattle.std.specs.Cmp.Lexicographic.{pointwise, same_text, other_text}
 use Rattle.std.proofs.Math.Logic.{⊎_elim}
 use Rattle.daq_io.specs.Seen.{KeepsFiles, Seen, Stored, Stores}
-use Rattle.database_files.specs.declared.replies.FileReply.{FileReply}
-use Rattle.database_files.specs.declared.replies.FileReply.TheVariants.{Done, Clash, Fault, TooLong as too_large}
-use Rattle.database_files.specs.WholeFiles.{WritesFile}
+use Rattle.odb_commands.specs.declared.dump_replies.FileReply.{FileReply}
+use Rattle.odb_commands.specs.declared.dump_replies.FileReply.TheVariants.{Done, Clash, Fault, TooLong as too_large}
+use Rattle.odb_commands.specs.WholeFiles.{WritesFile}
 use Rattle.odb_watch.specs.declared.entry.WatchEntry.{WatchEntry}
-use Rattle.watch_commands.specs.declared.replies.WatchAnswer.{WatchAnswer}
-use Rattle.watch_commands.specs.WatchPerforms.{PerformsWatch}
+use Rattle.odb_commands.specs.declared.watch_replies.WatchAnswer.{WatchAnswer}
+use Rattle.odb_commands.specs.WatchPerforms.{PerformsWatch}
 use Rattle.odb_script.specs.declared.commands.Command.{Command}
 use Rattle.odb_script.specs.declared.commands.Command.TheVariants.{Database}
 use Rattle.odb_script.specs.declared.commands.DatabaseCommand.{DatabaseCommand}
@@ -17,20 +17,20 @@ use Rattle.odb_script.specs.declared.commands.DatabaseCommand.TheVariants.{Rows,
 use Rattle.odb_script.specs.declared.commands.WatchCommand.{WatchCommand}
 use Rattle.odb_script.specs.declared.commands.WatchCommand.TheVariants.{Load, Save, Watch, Notes, Unwatch}
 use Rattle.odb_script.specs.Forms.{Read, command_of, on_watches}
-use Rattle.session_replies.specs.declared.replies.Reply.{Reply}
-use Rattle.session_replies.specs.declared.refusals.Refusals.{Refusals}
+use Rattle.console.specs.declared.replies.Reply.{Reply}
+use Rattle.console.specs.declared.refusals.Refusals.{Refusals}
 use Rattle.session_runs.specs.KeptRuns.{RunsSeen}
-use Rattle.database_desk.specs.DatabaseStages.{DatabaseStage, DumpFiles}
-use Rattle.database_desk.specs.DatabaseLines.{BreaksDatabase, CutsDump, DoesDatabase}
+use Rattle.console.specs.DatabaseStages.{DatabaseStage, DumpFiles}
+use Rattle.console.specs.DatabaseLines.{BreaksDatabase, CutsDump, DoesDatabase}
 use Rattle.session_lines.specs.Stages.{SessionStage}
 use Rattle.session_lines.specs.RunLines.{BreaksStart, BreaksStop, ClosesRun, CutsOpening, DoesPause, DoesResume, DoesStart, DoesStop}
 use Rattle.session_lines.specs.ScriptLines.{BreaksScriptLine, CallsDatabase, ClosesScript, DoesScriptLine, GivesUp}
-use Rattle.script_desk.specs.declared.endings.Ending.{Ending}
-use Rattle.script_desk.specs.declared.endings.Ending.TheVariants.{End, TooLong as too_long, SourceFault as source_fault, Halted}
-use Rattle.script_desk.specs.declared.halts.Halt.{Halt}
-use Rattle.script_desk.specs.declared.halts.Halt.TheVariants.{NoMemory as no_memory, SinkFault as sink_fault}
-use Rattle.script_desk.specs.Playing.{BreaksAt, CutBy, PlaysFrom}
-use Rattle.script_desk.specs.Closing.{ClosesBy, Finished, GaveUp, IsClosed}
+use Rattle.console.specs.declared.endings.Ending.{Ending}
+use Rattle.console.specs.declared.endings.Ending.TheVariants.{End, TooLong as too_long, SourceFault as source_fault, Halted}
+use Rattle.console.specs.declared.halts.Halt.{Halt}
+use Rattle.console.specs.declared.halts.Halt.TheVariants.{NoMemory as no_memory, SinkFault as sink_fault}
+use Rattle.console.specs.Playing.{BreaksAt, CutBy, PlaysFrom}
+use Rattle.console.specs.Closing.{ClosesBy, Finished, GaveUp, IsClosed}
 use Rattle.session_commands.proofs.LineKinds.{LineCut, CutsCalls, CutsStartLine, CutsStopLine, LineKind, CallsRows, Declares, IsPause, IsResume, IsStart, IsStill, IsStop, SetsQuota, line_cut, line_kind}
 use Rattle.session_commands.specs.KeptDumps.{IsSavedBy, KeepsDumps}
 

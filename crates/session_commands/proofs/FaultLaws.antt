@@ -4,19 +4,19 @@ use Rattle.std.specs.Prelude.{Bool, ◌||◌}
 use Rattle.std.specs.List.{list_any}
 use Rattle.std.proofs.lemmas.List.Folds.{list_any-append}
 use Rattle.daq_io.specs.Counts.{Rose}
-use Rattle.database_files.specs.declared.replies.FileReply.{FileReply}
-use Rattle.database_files.specs.declared.replies.FileReply.TheVariants as file
-use Rattle.watch_commands.specs.WatchCalls.{FaultsIf}
-use Rattle.session_replies.specs.declared.refusals.Refusals.{Refusals}
-use Rattle.database_desk.specs.DatabaseStages.{DumpFiles}
-use Rattle.database_desk.specs.DatabaseLines.{file_replied}
+use Rattle.odb_commands.specs.declared.dump_replies.FileReply.{FileReply}
+use Rattle.odb_commands.specs.declared.dump_replies.FileReply.TheVariants as file
+use Rattle.odb_commands.specs.WatchCalls.{FaultsIf}
+use Rattle.console.specs.declared.refusals.Refusals.{Refusals}
+use Rattle.console.specs.DatabaseStages.{DumpFiles}
+use Rattle.console.specs.DatabaseLines.{file_replied}
 use Rattle.session_lines.specs.Stages.{SessionStage}
 use Rattle.session_lines.specs.ScriptLines.{BreaksScriptLine, ClosesScript, DoesScriptLine, GivesUp}
-use Rattle.script_desk.specs.declared.endings.Ending.{Ending}
-use Rattle.script_desk.specs.declared.endings.Ending.TheVariants.{Halted}
-use Rattle.script_desk.specs.declared.halts.Halt.{Halt}
-use Rattle.script_desk.specs.declared.halts.Halt.TheVariants.{NoMemory as no_memory}
-use Rattle.script_desk.specs.Closing.{Finished, ended_by}
+use Rattle.console.specs.declared.endings.Ending.{Ending}
+use Rattle.console.specs.declared.endings.Ending.TheVariants.{Halted}
+use Rattle.console.specs.declared.halts.Halt.{Halt}
+use Rattle.console.specs.declared.halts.Halt.TheVariants.{NoMemory as no_memory}
+use Rattle.console.specs.Closing.{Finished, ended_by}
 use Rattle.session_commands.proofs.AnsweredLaws.{answered_keeps}
 use Rattle.session_commands.proofs.FilesWalk.{FilesKept, KeptByLine, closed_kept, line_kept}
 use Rattle.session_commands.specs.Endings.{NotesFailed, asks_files, is_fault}

@@ -3,17 +3,17 @@
 use Rattle.std.proofs.Common.{◌≡◌, ℕ, List, Option, Some, None, ap, sym, ◌∙◌, subst}
 use Rattle.std.specs.Prelude.{◌++◌, ◌⊎◌}
 use Rattle.std.proofs.Math.Logic.{⊎_elim}
-use Rattle.database_files.specs.declared.replies.FileReply.{FileReply}
-use Rattle.watch_commands.specs.WatchCalls.{ClashesIf, FaultsIf}
+use Rattle.odb_commands.specs.declared.dump_replies.FileReply.{FileReply}
+use Rattle.odb_commands.specs.WatchCalls.{ClashesIf, FaultsIf}
 use Rattle.odb_script.specs.declared.commands.Command.{Command}
 use Rattle.odb_script.specs.declared.commands.DatabaseCommand.{DatabaseCommand}
 use Rattle.odb_script.specs.declared.commands.DatabaseCommand.TheVariants.{Rows, Watches}
 use Rattle.odb_script.specs.Forms.{Read}
-use Rattle.session_replies.specs.declared.replies.Reply.{Reply}
+use Rattle.console.specs.declared.replies.Reply.{Reply}
 use Rattle.session_runs.specs.declared.replies.RunReply.{RunReply}
 use Rattle.session_runs.specs.KeptRuns.{RunsSeen}
-use Rattle.database_desk.specs.DatabaseStages.{DatabaseStage, DumpFiles}
-use Rattle.database_desk.specs.DatabaseLines.{BreaksDatabase, CutsDump, DoesDatabase, file_replied}
+use Rattle.console.specs.DatabaseStages.{DatabaseStage, DumpFiles}
+use Rattle.console.specs.DatabaseLines.{BreaksDatabase, CutsDump, DoesDatabase, file_replied}
 use Rattle.session_lines.specs.Stages.{SessionStage}
 use Rattle.session_lines.specs.RunLines.{BreaksStart, BreaksStop, ClosesRun, CutsOpening, DoesPause, DoesResume, DoesStart, DoesStop, PausesBy, ResumesBy, RunsCommand, StartsBy, StopsBy}
 use Rattle.session_lines.specs.ScriptLines.{BreaksScriptLine, ClosesScript, DoesScriptLine, GivesUp}

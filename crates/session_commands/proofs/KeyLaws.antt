@@ -4,7 +4,7 @@ use Rattle.std.specs.Prelude.{Result}
 use Rattle.std.proofs.lemmas.List.{take_more}
 use Rattle.odb_tree.specs.declared.entry.DatabaseEntry.{DatabaseEntry}
 use Rattle.odb_tree.specs.declared.refusals.OdbRefusal.{OdbRefusal}
-use Rattle.odb_port.specs.DatabasePorts.{AddsCall, AddsCalls, DatabaseAccess, IsSettled}
+use Rattle.odb_watch.specs.DatabasePorts.{AddsCall, AddsCalls, DatabaseAccess, IsSettled}
 use Rattle.odb_runinfo.specs.RunSets.{sent_key_made}
 use Rattle.session_lines.specs.RunLines.{MakesKeys}
 

@@ -7,9 +7,9 @@ use Rattle.odb_script.specs.declared.commands.RunCommand.TheVariants.{Events, St
 use Rattle.odb_script.specs.declared.commands.DatabaseCommand.{DatabaseCommand}
 use Rattle.odb_script.specs.declared.refusals.LineRefusal.TheVariants.{BadCommand as no_command}
 use Rattle.odb_script.specs.Forms.{Read}
-use Rattle.session_replies.specs.declared.replies.Reply.{Reply}
+use Rattle.console.specs.declared.replies.Reply.{Reply}
 use Rattle.session_setup.specs.Setup.{Declared}
-use Rattle.database_desk.specs.DatabaseLines.{BreaksDatabase, DoesDatabase}
+use Rattle.console.specs.DatabaseLines.{BreaksDatabase, DoesDatabase}
 use Rattle.session_lines.specs.Stages.{SessionStage, with_quota}
 use Rattle.session_lines.specs.SetupReplies.{SetupUnless}
 use Rattle.session_lines.specs.RunLines.{BreaksStart, BreaksStop, DoesPause, DoesResume, DoesStart, DoesStop}

@@ -6,17 +6,17 @@ use Rattle.odb_script.specs.declared.commands.Command.{Command}
 use Rattle.odb_script.specs.declared.commands.Command.TheVariants.{Run}
 use Rattle.odb_script.specs.declared.commands.RunCommand.TheVariants.{Start, Stop, Pause, Resume}
 use Rattle.odb_script.specs.Forms.{Read}
-use Rattle.odb_port.specs.DatabasePorts.{DatabaseAccess}
-use Rattle.session_engine.specs.MadeTransitions.{HadRounds}
+use Rattle.odb_watch.specs.DatabasePorts.{DatabaseAccess}
+use Rattle.session_runs.specs.MadeTransitions.{HadRounds}
 use Rattle.session_setup.specs.Setup.{Declared}
 use Rattle.session_setup.specs.declared.declared.DeclaredLists.{DeclaredLists}
-use Rattle.session_replies.specs.declared.replies.Reply.{Reply}
+use Rattle.console.specs.declared.replies.Reply.{Reply}
 use Rattle.session_runs.specs.declared.on.CurrentRun.{CurrentRun}
 use Rattle.session_runs.specs.declared.replies.RunReply.{RunReply}
 use Rattle.session_runs.specs.declared.replies.RunReply.TheVariants as answer
 use Rattle.session_runs.specs.KeptRuns.{RunsSeen}
 use Rattle.session_runs.specs.RunAnswers.{AnswersPause, AnswersResume, AnswersStart, AnswersStop, ClockTold, CommandPoint, CutsStart, StopsUnsaved}
-use Rattle.database_desk.specs.DatabaseStages.{DatabaseStage}
+use Rattle.console.specs.DatabaseStages.{DatabaseStage}
 use Rattle.session_lines.specs.NothingSaid.{NothingSaid, own_point}
 use Rattle.session_lines.specs.Keeping.{KeptByCommand}
 use Rattle.session_lines.specs.Staying.{StaysOpen}

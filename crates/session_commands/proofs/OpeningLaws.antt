@@ -4,7 +4,7 @@ use Rattle.odb_script.specs.declared.commands.Command.TheVariants.{Run}
 use Rattle.odb_script.specs.declared.commands.RunCommand.TheVariants.{Start}
 use Rattle.odb_script.specs.Forms.{Read}
 use Rattle.odb_script.specs.declared.commands.Command.{Command}
-use Rattle.session_replies.specs.declared.replies.Reply.{Reply}
+use Rattle.console.specs.declared.replies.Reply.{Reply}
 use Rattle.session_runs.specs.KeptRuns.{RunsSeen}
 use Rattle.session_lines.specs.Stages.{SessionStage}
 use Rattle.session_lines.specs.RunLines.{BreaksStart, ClosesRun, CutsOpening, DoesStart, OpensSession}

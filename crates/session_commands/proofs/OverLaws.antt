@@ -7,25 +7,25 @@ use Rattle.daq_types.specs.declared.runs.RunState.TheVariants.{Stopped, Paused, 
 use Rattle.daq_types.specs.declared.runs.Transition.{Transition}
 use Rattle.daq_types.specs.declared.runs.Transition.TheVariants.{Stop}
 use Rattle.daq_types.specs.declared.memory.NoMemory.{NoMemory}
-use Rattle.run_states.specs.States.{is_allowed}
+use Rattle.transitions.specs.States.{is_allowed}
 use Rattle.transitions.specs.declared.replies.BeginRefusal.{BeginRefusal}
 use Rattle.transitions.specs.declared.replies.BeginRefusal.TheVariants.{Closed, WrongState}
-use Rattle.session_engine.specs.MainKnowledge.{MainKnows, begin_known, begin_known_in, known_from}
+use Rattle.session_runs.specs.MainKnowledge.{MainKnows, begin_known, begin_known_in, known_from}
 use Rattle.session_runs.specs.declared.on.CurrentRun.{CurrentRun}
 use Rattle.session_runs.specs.declared.replies.RunReply.{RunReply}
 use Rattle.session_runs.specs.declared.replies.RunReply.TheVariants as answer
 use Rattle.session_runs.specs.KeptRuns.{IsInStep, RunsSeen}
 use Rattle.session_runs.specs.RunAnswers.{AnswersStop, ClockTold, CommandPoint, MakesStop}
-use Rattle.session_replies.specs.declared.replies.Reply.{Reply}
-use Rattle.session_replies.specs.declared.refusals.Refusals.{Refusals}
+use Rattle.console.specs.declared.replies.Reply.{Reply}
+use Rattle.console.specs.declared.refusals.Refusals.{Refusals}
 use Rattle.session_lines.specs.declared.passed_over.PassedOver.{PassedOver}
 use Rattle.session_lines.specs.NothingSaid.{NothingSaid, own_point}
 use Rattle.session_lines.specs.Stages.{SessionStage}
 use Rattle.session_lines.specs.RunLines.{BreaksStop, ClosesRun, RunsCommand, StopsBy}
 use Rattle.session_lines.specs.ScriptLines.{BreaksScriptLine, ClosesScript, DoesScriptLine, GivesUp}
-use Rattle.script_desk.specs.declared.endings.Ending.{Ending}
-use Rattle.script_desk.specs.declared.halts.Halt.{Halt}
-use Rattle.script_desk.specs.Closing.{Finished, GaveUp, IsClosed}
+use Rattle.console.specs.declared.endings.Ending.{Ending}
+use Rattle.console.specs.declared.halts.Halt.{Halt}
+use Rattle.console.specs.Closing.{Finished, GaveUp, IsClosed}
 use Rattle.session_commands.specs.Keeping.{EndsOver, KnowsRuns}
 
 same_some : (x y : RunsSeen) → Some x ≡ Some y → x ≡ y

@@ -23,12 +23,12 @@ use Rattle.transitions.specs.declared.answers.ClientTally.{ClientTally}
 use Rattle.transitions.specs.declared.entry.EngineEntry.{EngineEntry}
 use Rattle.transitions.specs.declared.entry.EngineEntry.TheVariants.{Begin}
 use Rattle.transitions.specs.declared.sheet.Sheet.{Sheet}
-use Rattle.session_engine.specs.declared.opening.MemberName.{MemberName}
-use Rattle.session_engine.specs.MadeTransitions.{done_check, going_checks}
-use Rattle.session_engine.specs.Members.{registrations}
-use Rattle.session_replies.specs.declared.replies.Reply.{Reply}
-use Rattle.session_replies.specs.declared.replies.Reply.TheVariants as reply
-use Rattle.session_replies.specs.declared.refusals.Refusals.{Refusals}
+use Rattle.session_runs.specs.declared.opening.MemberName.{MemberName}
+use Rattle.session_runs.specs.MadeTransitions.{done_check, going_checks}
+use Rattle.session_runs.specs.Members.{registrations}
+use Rattle.console.specs.declared.replies.Reply.{Reply}
+use Rattle.console.specs.declared.replies.Reply.TheVariants as reply
+use Rattle.console.specs.declared.refusals.Refusals.{Refusals}
 use Rattle.session_setup.specs.declared.refusals.SetupRefusal.{SetupRefusal}
 use Rattle.session_setup.specs.Setup.{Declared}
 use Rattle.session_runs.specs.declared.on.CurrentRun.{CurrentRun}
@@ -36,18 +36,18 @@ use Rattle.session_runs.specs.declared.replies.RunReply.{RunReply}
 use Rattle.session_runs.specs.declared.replies.RunReply.TheVariants as answer
 use Rattle.session_runs.specs.KeptRuns.{RunsSeen, behind_start}
 use Rattle.session_runs.specs.RunAnswers.{AnswersPause, AnswersResume, AnswersStart, AnswersStop, BeginsRun, ClockTold, CommandPoint, MakesChange, MakesStart, MakesStop, StopsUnsaved}
-use Rattle.database_desk.specs.DatabaseLines.{DoesDatabase}
+use Rattle.console.specs.DatabaseLines.{DoesDatabase}
 use Rattle.session_lines.specs.declared.passed_over.PassedOver.{PassedOver}
 use Rattle.session_lines.specs.NothingSaid.{NothingSaid, own_point}
 use Rattle.session_lines.specs.Stages.{SessionStage, members_declared, runs_with_quota, with_quota}
 use Rattle.session_lines.specs.SetupReplies.{SetupUnless, TakesChannel, TakesDeclaration, TakesSetup}
 use Rattle.session_lines.specs.RunLines.{BreaksStart, BreaksStop, ClosesRun, CutsOpening, CutsRun, DoesPause, DoesResume, DoesStart, DoesStop, OpensSession, PausesBy, ResumesBy, RunsCommand, StartsBy, StopsBy, reply_for}
 use Rattle.session_lines.specs.ScriptLines.{BreaksScriptLine, CallsDatabase, ClosesScript, DoesCommand, DoesScriptLine, GivesUp}
-use Rattle.script_desk.specs.declared.endings.Ending.{Ending}
-use Rattle.script_desk.specs.declared.halts.Halt.{Halt}
-use Rattle.script_desk.specs.Playing.{PlaysFrom}
-use Rattle.script_desk.specs.Closing.{Finished}
-use Rattle.script_desk.proofs.KeepingLaws.{closing_keeps, cut_keeps}
+use Rattle.console.specs.declared.endings.Ending.{Ending}
+use Rattle.console.specs.declared.halts.Halt.{Halt}
+use Rattle.console.specs.Playing.{PlaysFrom}
+use Rattle.console.specs.Closing.{Finished}
+use Rattle.console.proofs.KeepingLaws.{closing_keeps, cut_keeps}
 use Rattle.session_commands.specs.Quotas.{quota_begun, quota_behind, quota_told, quotas_asked, quotas_begun, quotas_so_far}
 use Rattle.session_commands.proofs.LineKinds.{LineCut, CutsCalls, CutsStartLine, CutsStopLine, line_cut}
 

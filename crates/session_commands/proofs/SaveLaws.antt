@@ -4,8 +4,8 @@ use Rattle.std.specs.Prelude.{Result, Ok, Err}
 use Rattle.daq_io.specs.Seen.{Seen}
 use Rattle.daq_types.specs.declared.runs.RunState.{RunState}
 use Rattle.daq_types.specs.declared.runs.StartOutcome.{StartOutcome}
-use Rattle.odb_path.specs.declared.refusals.PathRefusal.{PathRefusal}
-use Rattle.odb_path.specs.PathText.{path_reply}
+use Rattle.odb_value.specs.declared.path_refusals.PathRefusal.{PathRefusal}
+use Rattle.odb_value.specs.PathText.{path_reply}
 use Rattle.odb_script.specs.declared.commands.DatabaseCommand.{DatabaseCommand}
 use Rattle.odb_script.specs.declared.commands.DatabaseCommand.TheVariants.{Rows, Watches}
 use Rattle.odb_script.specs.declared.commands.WatchCommand.{WatchCommand}
@@ -16,18 +16,18 @@ use Rattle.odb_tree.specs.declared.refusals.OdbRefusal.{OdbRefusal}
 use Rattle.odb_watch.specs.declared.entry.WatchEntry.{WatchEntry}
 use Rattle.odb_watch.specs.declared.entry.WatchEntry.TheVariants as call
 use Rattle.odb_watch.specs.declared.notes.NoWatch.{NoWatch as no_watch}
-use Rattle.odb_port.specs.DatabasePorts.{AddsCall, AddsCalls, AddsEntries, DatabaseAccess, row_calls}
-use Rattle.database_files.specs.declared.replies.FileRead.{FileRead}
-use Rattle.database_files.specs.declared.replies.FileRead.TheVariants as was
-use Rattle.watch_commands.specs.declared.replies.ToldNote.{ToldNote}
-use Rattle.watch_commands.specs.declared.replies.WatchAnswer.{WatchAnswer}
-use Rattle.watch_commands.specs.WatchAnswers.{path_asked}
-use Rattle.watch_commands.specs.WatchCalls.{LoadsRead, OnPath, TellsTaken, WatchesFound, WatchesPath}
-use Rattle.watch_commands.specs.WatchPerforms.{PerformsWatch}
-use Rattle.session_replies.specs.declared.replies.Reply.{Reply}
+use Rattle.odb_watch.specs.DatabasePorts.{AddsCall, AddsCalls, AddsEntries, DatabaseAccess, row_calls}
+use Rattle.odb_commands.specs.declared.dump_replies.FileRead.{FileRead}
+use Rattle.odb_commands.specs.declared.dump_replies.FileRead.TheVariants as was
+use Rattle.odb_commands.specs.declared.watch_replies.ToldNote.{ToldNote}
+use Rattle.odb_commands.specs.declared.watch_replies.WatchAnswer.{WatchAnswer}
+use Rattle.odb_commands.specs.WatchAnswers.{path_asked}
+use Rattle.odb_commands.specs.WatchCalls.{LoadsRead, OnPath, TellsTaken, WatchesFound, WatchesPath}
+use Rattle.odb_commands.specs.WatchPerforms.{PerformsWatch}
+use Rattle.console.specs.declared.replies.Reply.{Reply}
 use Rattle.session_runs.specs.RunEntries.{BeginCalls, StopCalls}
-use Rattle.database_desk.specs.DatabaseStages.{DatabaseStage}
-use Rattle.database_desk.specs.DatabaseLines.{DoesDatabase}
+use Rattle.console.specs.DatabaseStages.{DatabaseStage}
+use Rattle.console.specs.DatabaseLines.{DoesDatabase}
 use Rattle.session_lines.specs.RunLines.{KeysMade}
 use Rattle.session_commands.specs.Keeping.{AllSaved, SavesDump}
 use Rattle.session_commands.proofs.CallsOn.{CallsOn, all_both}

@@ -15,21 +15,21 @@ use Rattle.odb_tree.specs.declared.entry.DatabaseEntry.{DatabaseEntry}
 use Rattle.odb_tree.specs.declared.entry.DatabaseEntry.TheVariants as row
 use Rattle.odb_watch.specs.declared.entry.WatchEntry.{WatchEntry}
 use Rattle.odb_watch.specs.declared.entry.WatchEntry.TheVariants as call
-use Rattle.odb_port.specs.DatabasePorts.{AddsCall, AddsCalls, AddsEntries, DatabaseAccess, IsCutShort, MayAdd, calls_by, own_watched, row_calls, unanswered}
+use Rattle.odb_watch.specs.DatabasePorts.{AddsCall, AddsCalls, AddsEntries, DatabaseAccess, IsCutShort, MayAdd, calls_by, own_watched, row_calls, unanswered}
 use Rattle.odb_runinfo.specs.RunNumberKept.{AllSpareRuninfo, SparesRuninfo}
 use Rattle.odb_runinfo.specs.RunSets.{AreSets, Assignment, start_sets, state_set, stop_sets}
 use Rattle.odb_commands.specs.declared.replies.CommandReply.{CommandReply}
 use Rattle.odb_commands.specs.CommandCalls.{Performs}
 use Rattle.odb_commands.specs.CommandCallLaws.{Spares}
-use Rattle.watch_commands.specs.declared.replies.WatchAnswer.{WatchAnswer}
-use Rattle.watch_commands.specs.WatchCalls.{BreaksOffCalls, without_memory}
-use Rattle.watch_commands.specs.WatchPerforms.{PerformsWatch}
-use Rattle.watch_commands.specs.WatchSpares.{SparesWatched}
-use Rattle.session_replies.specs.declared.replies.Reply.{Reply}
+use Rattle.odb_commands.specs.declared.watch_replies.WatchAnswer.{WatchAnswer}
+use Rattle.odb_commands.specs.WatchCalls.{BreaksOffCalls, without_memory}
+use Rattle.odb_commands.specs.WatchPerforms.{PerformsWatch}
+use Rattle.odb_commands.specs.WatchSpares.{SparesWatched}
+use Rattle.console.specs.declared.replies.Reply.{Reply}
 use Rattle.session_runs.specs.RunAnswers.{ClockTold, CommandPoint, CutsBegin, CutsStart}
 use Rattle.session_runs.specs.RunEntries.{BeginCalls, StopCalls, outcome_sets}
-use Rattle.database_desk.specs.DatabaseStages.{DatabaseStage}
-use Rattle.database_desk.specs.DatabaseLines.{BreaksDatabase, CutsDump, DoesDatabase}
+use Rattle.console.specs.DatabaseStages.{DatabaseStage}
+use Rattle.console.specs.DatabaseLines.{BreaksDatabase, CutsDump, DoesDatabase}
 use Rattle.session_lines.specs.declared.passed_over.PassedOver.{PassedOver}
 use Rattle.session_lines.specs.RunLines.{CutsKeys, KeysMade, MakesKeys}
 use Rattle.session_commands.specs.Keeping.{AllSpare}

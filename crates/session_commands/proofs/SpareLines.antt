@@ -4,21 +4,21 @@ use Rattle.std.proofs.Math.Logic.{⊎_elim}
 use Rattle.odb_script.specs.declared.commands.Command.{Command}
 use Rattle.odb_script.specs.declared.commands.DatabaseCommand.{DatabaseCommand}
 use Rattle.odb_script.specs.Forms.{Read}
-use Rattle.watch_commands.specs.WatchSpares.{SparesWatched}
-use Rattle.session_replies.specs.declared.replies.Reply.{Reply}
-use Rattle.session_replies.specs.declared.refusals.Refusals.{Refusals}
+use Rattle.odb_commands.specs.WatchSpares.{SparesWatched}
+use Rattle.console.specs.declared.replies.Reply.{Reply}
+use Rattle.console.specs.declared.refusals.Refusals.{Refusals}
 use Rattle.session_runs.specs.declared.replies.RunReply.TheVariants as answer
 use Rattle.session_runs.specs.KeptRuns.{RunsSeen}
 use Rattle.session_lines.specs.NothingSaid.{NothingSaid, own_point}
 use Rattle.session_lines.specs.Stages.{SessionStage}
 use Rattle.session_lines.specs.RunLines.{BreaksStart, BreaksStop, ClosesRun, CutsOpening, CutsRun, DoesPause, DoesResume, DoesStart, DoesStop, OpensSession}
 use Rattle.session_lines.specs.ScriptLines.{BreaksScriptLine, CallsDatabase, ClosesScript, DoesScriptLine, GivesUp}
-use Rattle.script_desk.specs.declared.endings.Ending.{Ending}
-use Rattle.script_desk.specs.declared.endings.Ending.TheVariants.{Halted}
-use Rattle.script_desk.specs.declared.halts.Halt.{Halt}
-use Rattle.script_desk.specs.declared.halts.Halt.TheVariants.{NoMemory}
-use Rattle.script_desk.specs.Closing.{Finished, ended_by}
-use Rattle.script_desk.proofs.KeepingLaws.{closing_keeps, cut_keeps, plays_keep}
+use Rattle.console.specs.declared.endings.Ending.{Ending}
+use Rattle.console.specs.declared.endings.Ending.TheVariants.{Halted}
+use Rattle.console.specs.declared.halts.Halt.{Halt}
+use Rattle.console.specs.declared.halts.Halt.TheVariants.{NoMemory}
+use Rattle.console.specs.Closing.{Finished, ended_by}
+use Rattle.console.proofs.KeepingLaws.{closing_keeps, cut_keeps, plays_keep}
 use Rattle.session_commands.specs.Keeping.{SavesDump, StageSaved, StageSpares}
 use Rattle.session_commands.proofs.AnsweredLaws.{answered_keeps}
 use Rattle.session_commands.proofs.CallsOn.{all_on}

@@ -8,12 +8,12 @@ use Rattle.daq_types.specs.declared.runs.StartOutcome.{StartOutcome}
 use Rattle.daq_types.specs.declared.runs.StartOutcome.TheVariants.{Completed, Refused}
 use Rattle.daq_types.specs.declared.runs.Transition.{Transition}
 use Rattle.daq_types.specs.declared.runs.Transition.TheVariants.{Pause, Resume}
-use Rattle.run_states.specs.States.{run_state_after}
+use Rattle.transitions.specs.States.{run_state_after}
 use Rattle.transitions.specs.declared.answers.ClientTally.{ClientTally}
 use Rattle.transitions.specs.declared.entry.EngineEntry.{EngineEntry}
-use Rattle.odb_port.specs.DatabasePorts.{DatabaseAccess, row_calls}
+use Rattle.odb_watch.specs.DatabasePorts.{DatabaseAccess, row_calls}
 use Rattle.odb_runinfo.specs.RunSets.{state_set}
-use Rattle.session_engine.specs.MadeTransitions.{done_check, going_checks}
+use Rattle.session_runs.specs.MadeTransitions.{done_check, going_checks}
 use Rattle.session_runs.specs.declared.on.CurrentRun.{CurrentRun}
 use Rattle.session_runs.specs.declared.replies.RunReply.{RunReply}
 use Rattle.session_runs.specs.declared.replies.RunReply.TheVariants as answer

@@ -1,7 +1,7 @@
 -- What the members of a session come to, whoever gave them their turns.
 use Rattle.member_threads.specs.MemberTurns.{AnalyzerTurns, FrontTurns, LoggerTurns}
 use Rattle.member_threads.specs.Scattered.{EachEnded, members_seen}
-use Rattle.session_crew.specs.Crews.{CrewSeen, CrewTold, IsSameCrew, KeepContracts}
+use Rattle.daq_members.specs.Crews.{CrewSeen, CrewTold, IsSameCrew, KeepContracts}
 
 -- The crew is the same as before; each member kept its contract, and the last turn of each came to its end.
 pub record CrewEnds {X F K : Type 0} (told : CrewTold X F K) (before after : CrewSeen X F K) : Type 0 where

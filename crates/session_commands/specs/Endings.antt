@@ -3,11 +3,11 @@ use Rattle.std.specs.Prelude.{◌≤◌, ◌++◌, ◌∷◌, [], Ok, ℕ, Bool,
 use Rattle.daq_io.specs.Counts.{Rose, RoseBy}
 use Rattle.transitions.specs.declared.entry.EngineEntry.{EngineEntry}
 use Rattle.transitions.specs.declared.entry.EngineEntry.TheVariants.{Close}
-use Rattle.database_files.specs.declared.replies.FileReply.{FileReply}
-use Rattle.database_files.specs.declared.replies.FileReply.TheVariants as file
-use Rattle.database_desk.specs.DatabaseStages.{DumpFiles}
-use Rattle.script_desk.specs.declared.endings.Ending.{Ending}
-use Rattle.script_desk.specs.declared.endings.Ending.TheVariants.{End, TooLong, SourceFault, Halted}
+use Rattle.odb_commands.specs.declared.dump_replies.FileReply.{FileReply}
+use Rattle.odb_commands.specs.declared.dump_replies.FileReply.TheVariants as file
+use Rattle.console.specs.DatabaseStages.{DumpFiles}
+use Rattle.console.specs.declared.endings.Ending.{Ending}
+use Rattle.console.specs.declared.endings.Ending.TheVariants.{End, TooLong, SourceFault, Halted}
 
 -- whether this came of a line that called the files of the database
 abbrev pub is_fault : ℕ × FileReply → Bool

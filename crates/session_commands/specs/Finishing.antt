@@ -2,21 +2,21 @@
 use Rattle.std.specs.Prelude.{◌≡◌, ℕ, Bool, List, Option, None}
 use Rattle.daq_io.specs.Seen.{Seen}
 use Rattle.transitions.specs.declared.entry.EngineEntry.{EngineEntry}
-use Rattle.odb_port.specs.DatabasePorts.{DatabaseAccess}
+use Rattle.odb_watch.specs.DatabasePorts.{DatabaseAccess}
 use Rattle.odb_script.specs.Lines.{Reading}
-use Rattle.run_records.specs.declared.records.RunRecord.{RunRecord}
+use Rattle.session_runs.specs.declared.records.RunRecord.{RunRecord}
 use Rattle.session_setup.specs.declared.declared.DeclaredLists.{DeclaredLists}
 use Rattle.session_setup.specs.Setup.{Declared, declared_by}
 use Rattle.session_runs.specs.KeptRuns.{RunsSeen}
 use Rattle.session_runs.specs.RunAnswers.{ClockTold, clock_of}
-use Rattle.session_replies.specs.declared.refusals.Refusals.{Refusals}
-use Rattle.database_desk.specs.DatabaseStages.{DatabaseStage, DumpFiles, dump_files}
+use Rattle.console.specs.declared.refusals.Refusals.{Refusals}
+use Rattle.console.specs.DatabaseStages.{DatabaseStage, DumpFiles, dump_files}
 use Rattle.session_lines.specs.Stages.{SessionStage, open_stage, unopened_stage}
 use Rattle.session_lines.specs.ScriptLines.{BreaksScriptLine, ClosesScript, DoesScriptLine, GivesUp, opens_session}
-use Rattle.script_desk.specs.declared.endings.Ending.{Ending}
-use Rattle.script_desk.specs.declared.halts.Halt.{Halt}
-use Rattle.script_desk.specs.Playing.{HasLine, OpensAt, Played}
-use Rattle.script_desk.specs.Closing.{Finished}
+use Rattle.console.specs.declared.endings.Ending.{Ending}
+use Rattle.console.specs.declared.halts.Halt.{Halt}
+use Rattle.console.specs.Playing.{HasLine, OpensAt, Played}
+use Rattle.console.specs.Closing.{Finished}
 use Rattle.session_commands.specs.declared.script.Script.{Script}
 use Rattle.session_commands.specs.declared.side.MainSide.{MainSide}
 use Rattle.session_commands.specs.Endings.{closing_calls}
@@ -74,8 +74,8 @@ script_at left written reading last refusals number =
 
 -- where the lines of a script stand, by what is left of its source, and by its text
 abbrev pub script_point : {S O : Type 0} → (left : S → Option (List ℕ)) → (written : O → Option (List ℕ)) → Script S O → ScriptAt
-script_point left written script = script_at (left script.src) (written script.out) script.desk.reader script.desk.last
-    script.desk.refusals script.desk.number
+script_point left written script = script_at (left script.src) (written script.out) script.line_loop.reader script.line_loop.last
+    script.line_loop.refusals script.line_loop.number
 
 -- A script that began so was played to its end.
 abbrev pub FinishedAt : (first : SessionStage) (source written : Option (List ℕ)) (ending : Ending) (closing : Option Halt)

@@ -1,9 +1,9 @@
 -- What the first start of a script does.
 use Rattle.std.specs.Prelude.{Option, None}
-use Rattle.script_desk.specs.declared.endings.Ending.{Ending}
-use Rattle.script_desk.specs.declared.endings.Ending.TheVariants.{Halted}
-use Rattle.script_desk.specs.declared.halts.Halt.{Halt}
-use Rattle.script_desk.specs.declared.halts.Halt.TheVariants.{NoMemory as no_memory}
+use Rattle.console.specs.declared.endings.Ending.{Ending}
+use Rattle.console.specs.declared.endings.Ending.TheVariants.{Halted}
+use Rattle.console.specs.declared.halts.Halt.{Halt}
+use Rattle.console.specs.declared.halts.Halt.TheVariants.{NoMemory as no_memory}
 use Rattle.session_lines.specs.Stages.{SessionStage}
 use Rattle.session_lines.specs.RunLines.{CutsOpening, OpensSession}
 use Rattle.session_commands.specs.Finishing.{FinishesLine, FinishesOpening, ScriptAt}

@@ -4,15 +4,15 @@ use Rattle.std.specs.List.{AllByRecursion}
 use Rattle.transitions.specs.declared.entry.EngineEntry.{EngineEntry}
 use Rattle.odb_watch.specs.declared.entry.WatchEntry.{WatchEntry}
 use Rattle.odb_watch.specs.declared.entry.WatchEntry.TheVariants.{Save}
-use Rattle.odb_port.specs.DatabasePorts.{own_watched}
-use Rattle.session_engine.specs.MainKnowledge.{known_from}
-use Rattle.session_engine.specs.MainSeats.{StandsFree}
-use Rattle.session_engine.specs.Members.{registrations}
+use Rattle.odb_watch.specs.DatabasePorts.{own_watched}
+use Rattle.session_runs.specs.MainKnowledge.{known_from}
+use Rattle.session_runs.specs.MainSeats.{StandsFree}
+use Rattle.session_runs.specs.Members.{registrations}
 use Rattle.session_setup.specs.Setup.{Declared}
 use Rattle.session_runs.specs.KeptRuns.{IsInStep, RunsSeen, channels_of}
 use Rattle.session_runs.specs.RunsFit.{RunsFit, SteersEngine}
 use Rattle.session_lines.specs.Stages.{SessionStage, analyzer_names, front_names, members_declared}
-use Rattle.watch_commands.specs.WatchSpares.{SparesWatched}
+use Rattle.odb_commands.specs.WatchSpares.{SparesWatched}
 
 -- The main thread keeps the names of the declared front-ends, the declared channels and the names of the declared analyzers; it
 -- registered the members on the engine, and made transitions behind that; and the records of the runs fit its calls on the engine

@@ -1,13 +1,13 @@
 -- What a whole script keeps of a session.
 use Rattle.std.specs.Prelude.{◌≡◌, ◌≢◌, true, ℕ, List, [], Option, None}
 use Rattle.std.specs.List.{list_any}
-use Rattle.script_desk.specs.declared.endings.Ending.{Ending}
-use Rattle.script_desk.specs.declared.endings.Ending.TheVariants.{Halted}
-use Rattle.script_desk.specs.declared.halts.Halt.{Halt}
-use Rattle.script_desk.specs.declared.halts.Halt.TheVariants.{NoMemory as no_memory}
-use Rattle.script_desk.specs.Closing.{Finished, ended_by}
-use Rattle.session_replies.specs.declared.refusals.Refusals.{Refusals}
-use Rattle.session_replies.specs.declared.replies.Reply.{Reply}
+use Rattle.console.specs.declared.endings.Ending.{Ending}
+use Rattle.console.specs.declared.endings.Ending.TheVariants.{Halted}
+use Rattle.console.specs.declared.halts.Halt.{Halt}
+use Rattle.console.specs.declared.halts.Halt.TheVariants.{NoMemory as no_memory}
+use Rattle.console.specs.Closing.{Finished, ended_by}
+use Rattle.console.specs.declared.refusals.Refusals.{Refusals}
+use Rattle.console.specs.declared.replies.Reply.{Reply}
 use Rattle.session_lines.specs.Stages.{SessionStage}
 use Rattle.session_lines.specs.ScriptLines.{BreaksScriptLine, ClosesScript, DoesScriptLine, GivesUp}
 use Rattle.session_commands.specs.Endings.{NotesFailed, OneReply, asks_files, is_fault}

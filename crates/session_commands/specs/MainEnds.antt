@@ -2,17 +2,17 @@
 use Rattle.std.specs.Prelude.{◌≡◌, List, Option, None}
 use Rattle.daq_types.specs.Callers.{main_caller}
 use Rattle.turn_lock.specs.Passes.{IsOf, held_by, number_of, own_entries}
-use Rattle.odb_port.specs.DatabasePorts.{IsSamePort}
+use Rattle.odb_watch.specs.DatabasePorts.{IsSamePort}
 use Rattle.transition_lock.specs.SharedEngines.{engine_lock_of}
 use Rattle.transitions.specs.declared.entry.EngineEntry.{EngineEntry}
 use Rattle.transitions.specs.Engines.{EngineState}
 use Rattle.turn_lock.specs.declared.lock.Pass.{Pass}
 use Rattle.transition_lock.specs.declared.locked.LockedEngine.{LockedEngine}
-use Rattle.run_records.specs.declared.records.RunRecord.{RunRecord}
+use Rattle.session_runs.specs.declared.records.RunRecord.{RunRecord}
 use Rattle.session_setup.specs.declared.declared.DeclaredLists.{DeclaredLists}
 use Rattle.session_runs.specs.KeptRuns.{RunsSeen}
-use Rattle.script_desk.specs.declared.endings.Ending.{Ending}
-use Rattle.script_desk.specs.declared.halts.Halt.{Halt}
+use Rattle.console.specs.declared.endings.Ending.{Ending}
+use Rattle.console.specs.declared.halts.Halt.{Halt}
 use Rattle.session_commands.specs.declared.side.MainSide.{MainSide}
 use Rattle.session_commands.specs.Finishing.{PlaysOpen, ScriptAt, SideTold}
 

@@ -7,8 +7,8 @@ use Rattle.odb_script.specs.declared.commands.RunCommand.TheVariants.{Events}
 use Rattle.odb_script.specs.Forms.{Read, command_of}
 use Rattle.transitions.specs.declared.entry.EngineEntry.{EngineEntry}
 use Rattle.transitions.specs.declared.entry.EngineEntry.TheVariants.{Begin}
-use Rattle.session_replies.specs.declared.replies.Reply.{Reply}
-use Rattle.session_replies.specs.declared.replies.Reply.TheVariants.{Started, StartRefused}
+use Rattle.console.specs.declared.replies.Reply.{Reply}
+use Rattle.console.specs.declared.replies.Reply.TheVariants.{Started, StartRefused}
 use Rattle.session_runs.specs.KeptRuns.{RunsSeen}
 
 -- the quota of the runs that are started behind this line, where it was so before the line

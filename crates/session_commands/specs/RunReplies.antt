@@ -1,7 +1,7 @@
 -- How the commands of runs are answered.
 use Rattle.std.specs.Prelude.{◌≡◌, ◌⊎◌, ℕ}
 use Rattle.session_lines.specs.RunLines.{reply_for}
-use Rattle.session_replies.specs.declared.replies.Reply.{Reply}
+use Rattle.console.specs.declared.replies.Reply.{Reply}
 use Rattle.session_runs.specs.declared.replies.RunReply.{RunReply}
 use Rattle.session_runs.specs.declared.replies.RunReply.TheVariants.{Stopped}
 use Rattle.session_runs.specs.RunAnswers.{AnswersStop, ClockTold, CommandPoint, StopsUnsaved}

@@ -4,12 +4,11 @@ ghost use Rattle.session_runs.specs.RunAnswers.{AnswersPause, AnswersResume, Ans
 ghost use Rattle.session_commands.specs.RunReplies.{RepliesBy, StopsUnanswered};
 
 use crate::replying::{plain_reply, reply_for};
+use console::Reply;
 use daq_io::Clock;
 use daq_types::NoMemory;
-use odb_port::WatchPort;
-use session_engine::Rounds;
-use session_replies::Reply;
-use session_runs::Runs;
+use odb_watch::WatchPort;
+use session_runs::{Rounds, Runs};
 use std::alloc::Global;
 use std::sync::Wait;
 

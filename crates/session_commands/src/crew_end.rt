@@ -2,14 +2,14 @@
 ghost use Rattle.std.specs.Prelude.{◌≡◌, ◌≤◌, ◌+◌, None};
 ghost use Rattle.daq_types.specs.Callers.{main_caller};
 ghost use Rattle.turn_lock.specs.Passes.{IsOf, held_by, number_of, own_entries};
-ghost use Rattle.odb_port.specs.DatabasePorts.{IsSamePort};
+ghost use Rattle.odb_watch.specs.DatabasePorts.{IsSamePort};
 ghost use Rattle.transition_lock.specs.SharedEngines.{engine_lock_of};
 ghost use Rattle.loggers.specs.LoggerFaults.{HasFailed};
 ghost use Rattle.loggers.specs.Moments.{files_by};
 ghost use Rattle.member_threads.specs.MemberTurns.{FrontTurns, LoggerTurns, AnalyzerTurns};
 ghost use Rattle.member_threads.specs.Scattered.{EachEnded, members_seen};
-ghost use Rattle.session_crew.specs.Crews.{IsSameCrew, KeepContracts, NotesRunFaults, crew_seen, crew_told};
-ghost use Rattle.script_desk.specs.Closing.{EndCounts};
+ghost use Rattle.daq_members.specs.Crews.{IsSameCrew, KeepContracts, NotesRunFaults, crew_seen, crew_told};
+ghost use Rattle.console.specs.Closing.{EndCounts};
 ghost use Rattle.session_commands.specs.CrewEnds.{CrewEnds};
 ghost use Rattle.session_commands.specs.Endings.{NotesFailed};
 ghost use Rattle.session_commands.specs.Finishing.{PlaysOpen, script_point, side_told};
@@ -19,10 +19,10 @@ use crate::script::Script;
 use crate::side::MainSide;
 use buffer_core::BufferPort;
 use daq_io::{Clock, Files, Gate, Pick, Sink, Source};
+use daq_members::{Crew, CrewParts};
 use front_ends::Equipment;
 use member_threads::{Playing, ThreadRoom, play_in_threads, play_in_turns};
-use odb_port::WatchPort;
-use session_crew::{Crew, CrewParts};
+use odb_watch::WatchPort;
 use session_runs::Runs;
 use session_setup::DeclaredLists;
 use std::alloc::Global;
@@ -113,7 +113,7 @@ pub fn play_crew<
     side: MainSide<D, E, C>,
     script: Script<S, O>,
 ) -> CrewEnd<'a, X, P, S, O, D, E, C, F, K>
-    requires fits { script.desk.number + 1 ≤ script.desk.reader.taken }
+    requires fits { script.line_loop.number + 1 ≤ script.line_loop.reader.taken }
     ensures played { PlaysOpen
         (side_told D.access E.seen E.faults E.clashes E.first C.tells C.ahead)
         lists.now runs.entry side result.end.side

@@ -2,9 +2,9 @@
 ghost use Rattle.std.specs.Prelude.{◌≡◌, false};
 ghost use Rattle.session_lines.specs.SetupReplies.{DeclaresAnalyzer, DeclaresBuffer, DeclaresChannel, DeclaresFront, DoesDeclaration, setup_reply};
 
+use console::Reply;
 use daq_types::Kind;
 use odb_script::{Declaration, LineText};
-use session_replies::Reply;
 use session_setup::{Declarations, SetupRefusal};
 
 /// The reply to a declaration.

@@ -4,23 +4,22 @@ ghost use Rattle.daq_types.specs.Callers.{main_caller};
 ghost use Rattle.turn_lock.specs.Passes.{number_of, seen_by, held_by, IsOf};
 ghost use Rattle.odb_lock.specs.SharedOdbs.{odb_lock_of};
 ghost use Rattle.odb_lock.specs.SharedAccesses.{access_by_pass, odb_identity, shared_access};
-ghost use Rattle.odb_port.specs.DatabasePorts.{IsSamePort};
+ghost use Rattle.odb_watch.specs.DatabasePorts.{IsSamePort};
 ghost use Rattle.session_setup.specs.Setup.{nothing_declared};
-ghost use Rattle.script_desk.specs.Endings.{SinkCounts, SourceCounts};
-ghost use Rattle.script_desk.specs.Playing.{FitsOn};
+ghost use Rattle.console.specs.Endings.{SinkCounts, SourceCounts};
+ghost use Rattle.console.specs.Playing.{FitsOn};
 ghost use Rattle.session_commands.specs.Finishing.{side_told};
 ghost use Rattle.session_commands.specs.FirstLines.{IsUnreadScript, PlaysFirst};
 
 use crate::script::Script;
 use crate::side::MainSide;
 use crate::unopened::Unopened;
+use console::{DatabaseConsole, PlayEnd, play_script};
 use daq_io::{Clock, Files, Sink, Source};
-use database_desk::DatabaseDesk;
-use database_files::FileReplies;
+use odb_commands::FileReplies;
 use odb_lock::{OdbPass, SharedAccess, SharedOdb};
-use odb_port::WatchPort;
 use odb_tree::Database;
-use script_desk::{PlayEnd, play_script};
+use odb_watch::WatchPort;
 use session_setup::Declarations;
 use std::alloc::Global;
 use std::sync::Wait;
@@ -50,12 +49,12 @@ pub fn play_first<'a, R: Wait, D: Database, S: Source, O: Sink, E: Files, C: Clo
     requires own { IsOf (odb_lock_of shared.now) main }
     requires idle { held_by main ≡ None }
     requires nothing { declarations ≡ nothing_declared }
-    requires unread { IsUnreadScript script.old.desk }
+    requires unread { IsUnreadScript script.old.line_loop }
     ensures played { PlaysFirst
         (side_told access_by_pass E.seen E.faults E.clashes E.first C.tells C.ahead) S.left
         O.written (shared_access (odb_identity shared.now) main_caller (seen_by main)) files clock
         script.old script.new result }
-    ensures fits { FitsOn result.end script.new.desk.number script.new.desk.reader.taken }
+    ensures fits { FitsOn result.end script.new.line_loop.number script.new.line_loop.reader.taken }
     ensures source { SourceCounts result.end (S.faults script.old.src) (S.faults script.new.src) }
     ensures sink { SinkCounts result.end (O.faults script.old.out) (O.faults script.new.out) }
     ensures same { IsSamePort
@@ -79,17 +78,17 @@ fn play_unopened<R: Wait, D: WatchPort, S: Source, O: Sink, E: Files, C: Clock>(
 ) -> FirstEnd<D, E, C>
     requires caller { (D.access access).caller ≡ main_caller }
     requires nothing { declarations ≡ nothing_declared }
-    requires unread { IsUnreadScript script.old.desk }
+    requires unread { IsUnreadScript script.old.line_loop }
     ensures played { PlaysFirst
         (side_told D.access E.seen E.faults E.clashes E.first C.tells C.ahead) S.left O.written
         (D.access access) files clock script.old script.new result }
-    ensures fits { FitsOn result.end script.new.desk.number script.new.desk.reader.taken }
+    ensures fits { FitsOn result.end script.new.line_loop.number script.new.line_loop.reader.taken }
     ensures source { SourceCounts result.end (S.faults script.old.src) (S.faults script.new.src) }
     ensures sink { SinkCounts result.end (O.faults script.old.out) (O.faults script.new.out) }
     ensures same { IsSamePort (D.access access) (D.access result.side.database.access) }
     ensures closed { result.declarations.opened ≡ false }
 {
-    let database = DatabaseDesk {
+    let database = DatabaseConsole {
         access,
         files,
         replies: FileReplies::empty(alloc),
@@ -102,7 +101,7 @@ fn play_unopened<R: Wait, D: WatchPort, S: Source, O: Sink, E: Files, C: Clock>(
     let end = play_script(
         rt,
         alloc,
-        &mut script.desk,
+        &mut script.line_loop,
         &mut unopened,
         &mut script.src,
         &mut script.out,

@@ -1,12 +1,12 @@
 // The keys in which the front-ends say how many events they sent.
 ghost use Rattle.std.specs.Prelude.{◌≡◌, OnErr, OnOk};
 ghost use Rattle.daq_types.specs.Callers.{main_caller};
-ghost use Rattle.odb_port.specs.DatabasePorts.{IsSamePort};
+ghost use Rattle.odb_watch.specs.DatabasePorts.{IsSamePort};
 ghost use Rattle.session_lines.specs.RunLines.{CutsKeys, KeysMade};
 
 use daq_types::{Name, NoMemory};
-use odb_port::DatabasePort;
 use odb_runinfo::open_front;
+use odb_watch::DatabasePort;
 use std::alloc::Global;
 use std::sync::Wait;
 

@@ -4,17 +4,17 @@ ghost use Rattle.session_commands.specs.FirstStarts.{CutFinish, ReadyFinish};
 ghost use Rattle.session_commands.specs.KeptByScripts.{ScriptsKeep};
 
 use crate::unopened::Unopened;
+use console::script_laws::lines_end;
 use daq_io::{Clock, Files};
 use odb_commands::laws::calls_spare_runinfo;
+use odb_commands::watch_laws::watch_commands_spare_runinfo;
 use odb_lock::{SharedAccess, SharedOdb};
-use odb_port::WatchPort;
-use odb_port::laws::{calls_add_up, entries_add_up};
 use odb_runinfo::laws::own_calls_spare;
 use odb_tree::Database;
-use script_desk::laws::lines_end;
+use odb_watch::WatchPort;
+use odb_watch::port_laws::{calls_add_up, entries_add_up};
 use session_lines::PassedOver;
 use session_runs::laws::{commands_fit, runs_fit};
-use watch_commands::laws::watch_commands_spare_runinfo;
 
 /// What the first start does once its session is open it does from where the session was not open. Where there is no memory to
 /// open it, the script ended there. And behind a script that opened no session nothing is done.

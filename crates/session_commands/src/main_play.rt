@@ -4,14 +4,12 @@ ghost use Rattle.std.specs.Prelude.{◌≤◌, ◌+◌};
 use crate::opened::Opened;
 use crate::script::Script;
 use crate::side::MainSide;
+use console::{Ending, Halt, play_out};
 use daq_io::{Clock, Files, Sink, Source};
 use daq_types::Journal;
 use member_threads::Playing;
-use odb_port::WatchPort;
-use run_records::RunRecord;
-use script_desk::{Ending, Halt, play_out};
-use session_engine::Rounds;
-use session_runs::Runs;
+use odb_watch::WatchPort;
+use session_runs::{Rounds, RunRecord, Runs};
 use session_setup::DeclaredLists;
 use std::alloc::Global;
 use std::sync::Wait;
@@ -26,7 +24,7 @@ pub struct MainPlay<'a, S: Source, O: Sink, D: WatchPort, E: Files, C: Clock> {
     pub runs: Runs<'a>,
     pub side: MainSide<D, E, C>,
     pub script: Script<S, O>,
-    ghost fits: { script.desk.number + 1 ≤ script.desk.reader.taken },
+    ghost fits: { script.line_loop.number + 1 ≤ script.line_loop.reader.taken },
 }
 
 /// What the lines of an open session came to, and what its main thread has then.
@@ -44,7 +42,7 @@ pub struct MainEnd<S: Source, O: Sink, D: WatchPort, E: Files, C: Clock> {
 
 impl<'a, S: Source, O: Sink, D: WatchPort, E: Files, C: Clock> Playing
     for MainPlay<'a, S, O, D, E, C> {
-    ghost use Rattle.script_desk.specs.Closing.{EndCounts};
+    ghost use Rattle.console.specs.Closing.{EndCounts};
     ghost use Rattle.session_commands.specs.Finishing.{script_point, side_told};
     ghost use Rattle.session_commands.specs.MainEnds.{MainEnds};
 
@@ -71,7 +69,7 @@ impl<'a, S: Source, O: Sink, D: WatchPort, E: Files, C: Clock> Playing
         let (ending, closing) = play_out(
             rt,
             self.alloc,
-            &mut script.desk,
+            &mut script.line_loop,
             &mut opened,
             &mut script.src,
             &mut script.out,

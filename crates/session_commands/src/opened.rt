@@ -1,18 +1,16 @@
 // A session that a start opened.
 ghost use Rattle.std.specs.Prelude.{◌≡◌, true, false, if◌then◌else◌};
-ghost use Rattle.session_engine.specs.MadeTransitions.{HadRounds};
+ghost use Rattle.session_runs.specs.MadeTransitions.{HadRounds};
 
 use crate::commands::{answer_pause, answer_resume, answer_start, answer_stop};
 use crate::side::MainSide;
+use console::{Answerer, Reply};
 use daq_io::{Clock, Files};
 use daq_types::NoMemory;
-use odb_port::WatchPort;
 use odb_script::{Command, LineRefusal, RunCommand};
-use script_desk::Answerer;
-use session_engine::Rounds;
+use odb_watch::WatchPort;
 use session_lines::laws::{commands_keep, members_passed_over};
-use session_replies::Reply;
-use session_runs::Runs;
+use session_runs::{Rounds, Runs};
 use session_setup::{DeclaredLists, SetupRefusal};
 use std::alloc::Global;
 use std::sync::Wait;
@@ -46,7 +44,7 @@ impl<'a, D: WatchPort, M: Rounds, E: Files, C: Clock> Answerer for Opened<'a, D,
     ghost use Rattle.session_lines.specs.Stages.{SessionStage, open_stage};
     ghost use Rattle.session_setup.specs.Setup.{declared_by};
     ghost use Rattle.session_lines.specs.ScriptLines.{BreaksScriptLine, ClosesScript, DoesScriptLine, GivesUp};
-    ghost use Rattle.database_desk.specs.DatabaseStages.{database_stage};
+    ghost use Rattle.console.specs.DatabaseStages.{database_stage};
     ghost use Rattle.session_runs.specs.RunAnswers.{clock_of};
     ghost use Rattle.session_lines.specs.Staying.{StaysOpen};
     ghost use Rattle.session_lines.proofs.StayingLaws.{stays_open, stays_open_on};

@@ -4,13 +4,12 @@ ghost use Rattle.std.specs.Option.{unwrap_or};
 ghost use Rattle.mid_logger.specs.ChannelTurns.{logger_name};
 ghost use Rattle.session_lines.specs.RunLines.{fronts_in, files_in, reports_in, last_record, member_name, reply_for, report_line, tally_line};
 
+use console::Reply;
 use daq_types::{BoundedList, Bytes, Name, NoMemory};
-use run_records::{
-    FileRecord, FileRecords, FrontTally, ReportLine, ReportLines, ReportTally, RunRecord, SentLine,
-    SentLines,
+use session_runs::{
+    FileRecord, FileRecords, FrontTally, ReportLine, ReportLines, ReportTally, RunRecord, RunReply,
+    Runs, SentLine, SentLines,
 };
-use session_replies::Reply;
-use session_runs::{RunReply, Runs};
 use std::alloc::Global;
 
 /// The name of the logger.

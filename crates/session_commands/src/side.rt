@@ -1,11 +1,11 @@
+use console::DatabaseConsole;
 use daq_io::Files;
-use database_desk::DatabaseDesk;
-use odb_port::WatchPort;
+use odb_watch::WatchPort;
 
 /// What the main thread of a session has besides its runs: the online database, as the lines of the script command it, and the
 /// clock.
 #[derive(Drop)]
 pub struct MainSide<D: WatchPort, E: Files, C> {
-    pub database: DatabaseDesk<D, E>,
+    pub database: DatabaseConsole<D, E>,
     pub clock: C,
 }

@@ -3,12 +3,11 @@ ghost use Rattle.std.specs.Prelude.{◌≡◌, false, None};
 
 use crate::declaring::declare;
 use crate::side::MainSide;
+use console::{Answerer, Reply};
 use daq_io::{Clock, Files};
 use daq_types::{NoMemory, RunState};
-use odb_port::WatchPort;
 use odb_script::{Command, LineRefusal, RunCommand};
-use script_desk::Answerer;
-use session_replies::Reply;
+use odb_watch::WatchPort;
 use session_setup::Declarations;
 use std::alloc::Global;
 use std::sync::Wait;
@@ -26,9 +25,9 @@ pub struct Unopened<D: WatchPort, E: Files, C: Clock> {
 impl<D: WatchPort, E: Files, C: Clock> Answerer for Unopened<D, E, C> {
     ghost use Rattle.session_lines.specs.Stages.{SessionStage, unopened_stage};
     ghost use Rattle.session_lines.specs.ScriptLines.{BreaksScriptLine, ClosesScript, DoesScriptLine, GivesUp, opens_session};
-    ghost use Rattle.database_desk.specs.DatabaseStages.{database_stage};
+    ghost use Rattle.console.specs.DatabaseStages.{database_stage};
     ghost use Rattle.session_runs.specs.RunAnswers.{clock_of};
-    ghost use Rattle.odb_port.specs.DatabasePorts.{IsSamePort};
+    ghost use Rattle.odb_watch.specs.DatabasePorts.{IsSamePort};
     ghost use Rattle.std.proofs.Common.{refl, ◌∙◌};
 
     ghost Stage = { SessionStage };

@@ -23,20 +23,20 @@ use Rattle.transitions.specs.declared.entry.EngineEntry.{EngineEntry}
 use Rattle.transitions.specs.Engines.{EngineState}
 use Rattle.transitions.specs.EngineHistories.{IsLegalEngine}
 use Rattle.odb_watch.specs.declared.entry.WatchEntry.{WatchEntry}
-use Rattle.odb_port.specs.DatabasePorts.{own_watched}
+use Rattle.odb_watch.specs.DatabasePorts.{own_watched}
 use Rattle.member_model.specs.TurnCalls.{member_turns}
 use Rattle.mid_logger.specs.ChannelTurns.{logger_name}
 use Rattle.frontend_kit.specs.declared.generator.Generator.{Generator}
 use Rattle.session_setup.specs.declared.declared.AnalyzerDeclared.{AnalyzerDeclared}
 use Rattle.session_setup.specs.declared.declared.FrontDeclared.{FrontDeclared}
-use Rattle.session_engine.specs.declared.opening.MemberName.{MemberName}
-use Rattle.session_engine.specs.Members.{members_named, registrations}
+use Rattle.session_runs.specs.declared.opening.MemberName.{MemberName}
+use Rattle.session_runs.specs.Members.{members_named, registrations}
 use Rattle.daq_members.specs.OwnTurns.{are_calls_for}
 use Rattle.daq_members.specs.FrontSeats.{FrontSeen, IsSeated}
 use Rattle.daq_members.specs.LoggerSeats.{LoggerSeen, IsLoggerSeated}
 use Rattle.daq_members.specs.FrontTaken.{FrontMemberStands}
-use Rattle.analyzer_seats.specs.AnalyzerTaken.{AnalyzerMemberStands}
-use Rattle.analyzer_seats.specs.SeatedAnalyzers.{AnalyzerSeen, IsAnalyzerSeated}
+use Rattle.daq_members.specs.AnalyzerTaken.{AnalyzerMemberStands}
+use Rattle.daq_members.specs.SeatedAnalyzers.{AnalyzerSeen, IsAnalyzerSeated}
 use Rattle.session_objects.specs.declared.objects.SessionBuffer.{SessionBuffer}
 use Rattle.session_objects.specs.declared.record.BufferRecord.{BufferRecord}
 use Rattle.session_objects.specs.declared.record.SessionRecord.{SessionRecord}

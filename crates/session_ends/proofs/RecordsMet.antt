@@ -23,10 +23,10 @@ use Rattle.loggers.specs.NewLoggers.{NoneTakenBack}
 use Rattle.loggers.specs.Reasons.{GivesReasons}
 use Rattle.loggers.specs.LeftNames.{NoneRose, KeepsNames}
 use Rattle.loggers.specs.OtherFiles.{AreDeclared}
-use Rattle.session_engine.specs.MadeTransitions.{TransitionIn}
+use Rattle.session_runs.specs.MadeTransitions.{TransitionIn}
 use Rattle.session_setup.specs.declared.declared.AnalyzerDeclared.{AnalyzerDeclared}
 use Rattle.session_setup.specs.declared.declared.FrontDeclared.{FrontDeclared}
-use Rattle.run_records.specs.declared.records.RunRecord.{RunRecord}
+use Rattle.session_runs.specs.declared.records.RunRecord.{RunRecord}
 use Rattle.session_runs.specs.declared.channels.RunChannel.{RunChannel}
 use Rattle.session_runs.specs.declared.on.CurrentRun.{CurrentRun}
 use Rattle.session_runs.specs.KeptRuns.{channels_of}

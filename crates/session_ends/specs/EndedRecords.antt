@@ -13,7 +13,7 @@ use Rattle.loggers.specs.OtherFiles.{AreDeclared}
 use Rattle.loggers.specs.LeftNames.{NoneRose}
 use Rattle.session_setup.specs.declared.declared.AnalyzerDeclared.{AnalyzerDeclared}
 use Rattle.session_setup.specs.declared.declared.FrontDeclared.{FrontDeclared}
-use Rattle.run_records.specs.declared.records.RunRecord.{RunRecord}
+use Rattle.session_runs.specs.declared.records.RunRecord.{RunRecord}
 use Rattle.session_runs.specs.KeptRuns.{channels_of}
 use Rattle.session_runs.specs.RunEntries.{start_sheet, later_sheet, dump_saved}
 use Rattle.session_runs.specs.RunsFit.{MainOwn, RunClients, FitsRefused, FitsRun, FitsWhole, RecordsFit, run_of, starts_begun}

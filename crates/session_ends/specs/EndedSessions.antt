@@ -14,10 +14,10 @@ use Rattle.mid_logger.specs.declared.channel.Channel.{Channel}
 use Rattle.frontend_kit.specs.declared.generator.Generator.{Generator}
 use Rattle.session_setup.specs.declared.declared.AnalyzerDeclared.{AnalyzerDeclared}
 use Rattle.session_setup.specs.declared.declared.FrontDeclared.{FrontDeclared}
-use Rattle.session_engine.specs.Members.{registrations}
+use Rattle.session_runs.specs.Members.{registrations}
 use Rattle.daq_members.specs.FrontSeats.{FrontSeen, IsSeated}
 use Rattle.daq_members.specs.LoggerSeats.{LoggerSeen, IsLoggerSeated}
-use Rattle.analyzer_seats.specs.SeatedAnalyzers.{AnalyzerSeen, IsAnalyzerSeated}
+use Rattle.daq_members.specs.SeatedAnalyzers.{AnalyzerSeen, IsAnalyzerSeated}
 use Rattle.session_runs.specs.RunsFit.{SteersEngine}
 use Rattle.session_objects.specs.declared.objects.SessionObjects.{SessionObjects}
 use Rattle.session_objects.specs.declared.record.BufferRecord.{BufferRecord}

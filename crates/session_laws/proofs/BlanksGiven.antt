@@ -13,9 +13,9 @@ use Rattle.transitions.specs.declared.entry.EngineEntry.{EngineEntry}
 use Rattle.transitions.specs.declared.entry.EngineEntry.TheVariants.{Register, Begin, Poll, Answer, Check, Close}
 use Rattle.engine_laws.specs.BegunTurns.{HasTransition}
 use Rattle.daq_members.specs.OwnTurns.{is_call_for}
-use Rattle.session_engine.specs.Members.{registrations}
+use Rattle.session_runs.specs.Members.{registrations}
 use Rattle.session_runs.specs.RunsFit.{SteersEngine}
-use Rattle.blank_laws.specs.BlankLaws.{reports_asked, AsksReports, BlanksSuffice}
+use Rattle.session_laws.specs.BlankLaws.{reports_asked, AsksReports, BlanksSuffice}
 use Rattle.composition.proofs.SessionTurns.{speaks}
 use Rattle.session_laws.specs.ClosedSessions.{ClosedAnalyzer, ClosedFront, ClosedSession, analyzer_client, logger_client, logger_caller, members_of, engine_calls}
 use Rattle.session_laws.specs.MembersAtEnd.{MembersAtEnd}

@@ -28,7 +28,7 @@ use Rattle.loggers.specs.OtherFiles.{specs_in}
 use Rattle.loggers.specs.Reasons.{AreStatesSo, AreAnswersSo, NamesRefuser, AnswerFits, ReasonsTell}
 use Rattle.loggers.specs.LeftNames.{NoneRose}
 use Rattle.analyzers.specs.AnalyzerKept.{IsAnalyzerReason}
-use Rattle.blank_laws.specs.BlankLaws.{BlanksSuffice}
+use Rattle.session_laws.specs.BlankLaws.{BlanksSuffice}
 use Rattle.engine_laws.specs.BegunTurns.{HasTransition, IsRefusedTurn, IsTallyOfTurn}
 use Rattle.engine_laws.specs.EngineLaws.{MainHasTransition, RefusalsAreAnswers, TalliesAreAnswers, RunsAreOver}
 use Rattle.composition.specs.Sessions.{Session, buffer_calls}
@@ -38,7 +38,7 @@ use Rattle.composition.proofs.FilesTogether.{yes_channels}
 use Rattle.composition.proofs.SessionTurns.{speaks}
 use Rattle.session_laws.specs.ClosedSessions.{ClosedFront, ClosedSession, logger_client, logger_caller, engine_calls, calls_on_buffer, session_of, session_front, ClosedAnalyzer, analyzer_client}
 use Rattle.session_laws.specs.MembersAtEnd.{MembersAtEnd}
-use Rattle.session_engine.specs.MadeTransitions.{TransitionIn}
+use Rattle.session_runs.specs.MadeTransitions.{TransitionIn}
 use Rattle.session_laws.specs.MadeRuns.{RunIn}
 use Rattle.session_laws.specs.EndLaws.{EndsComposed, MadeAreStopped}
 use Rattle.session_laws.specs.CountedFaults.{LoggerReasons, LoggerNames, IsLoggerReason, IsAnalyzerRefusal, IsRefusedSo, state_by_dump, CountsTell}

@@ -6,19 +6,19 @@ use Rattle.std.proofs.lemmas.Bool.{eqb-true}
 use Rattle.std.proofs.lemmas.Bool.Decides.{eqb_tells}
 use Rattle.daq_types.specs.Callers.{main_caller, caller_of_client}
 use Rattle.daq_types.specs.declared.runs.Transition.TheVariants.{Start, Stop}
-use Rattle.run_states.specs.declared.sequences.Role.{Role}
-use Rattle.run_states.specs.Sequences.{sequence_for, sequences_of}
+use Rattle.transitions.specs.declared.sequences.Role.{Role}
+use Rattle.transitions.specs.Sequences.{sequence_for, sequences_of}
 use Rattle.transitions.specs.declared.entry.EngineEntry.{EngineEntry}
 use Rattle.transitions.specs.declared.entry.EngineEntry.TheVariants.{Register, Begin, Poll, Answer, Check, Close}
-use Rattle.session_engine.specs.declared.opening.MemberName.{MemberName}
-use Rattle.session_engine.specs.Members.{registrations}
+use Rattle.session_runs.specs.declared.opening.MemberName.{MemberName}
+use Rattle.session_runs.specs.Members.{registrations}
 use Rattle.loggers.specs.LoggerStands.{StandingLoggerKeeps}
 use Rattle.buffer_core.specs.Window.{opening}
 use Rattle.buffer_core.proofs.GotNames.{named_in}
 use Rattle.member_model.specs.TurnCalls.{member_turns}
 use Rattle.analyzers.specs.declared.analyzer_run.EventRequest.{EventRequest}
 use Rattle.analyzers.specs.AnalyzerKept.{KeepsAnalyzer}
-use Rattle.analyzer_seats.specs.AnalyzerTaken.{MemberAnalyzersKeep}
+use Rattle.daq_members.specs.AnalyzerTaken.{MemberAnalyzersKeep}
 use Rattle.caller_laws.specs.CallerLaws.{PortTells}
 use Rattle.transitions.specs.declared.client.Registered.{Registered}
 use Rattle.engine_laws.specs.BegunTurns.{IsAlone, OneWantsDump, OneHasNumber}

@@ -1,3 +1,7 @@
+pub mod Wanted
+pub mod Held
+pub mod Points
+pub mod Suffice
 pub mod EachCaller
 pub mod Registrations
 pub mod MainFirst

@@ -4,8 +4,8 @@ use Rattle.std.proofs.Common.{ap, sym, ◌∙◌, inl, inr}
 use Rattle.daq_types.specs.Callers.{entries_by}
 use Rattle.daq_types.specs.declared.runs.Transition.TheVariants.{Start, Stop, StartAbort}
 use Rattle.daq_types.specs.declared.runs.Why.TheVariants.{NotReady}
-use Rattle.run_states.specs.declared.sequences.Role.{Role}
-use Rattle.run_states.specs.Sequences.{sequence_for, sequences_of}
+use Rattle.transitions.specs.declared.sequences.Role.{Role}
+use Rattle.transitions.specs.Sequences.{sequence_for, sequences_of}
 use Rattle.buffer_core.specs.Ports.{Access}
 use Rattle.transitions.specs.declared.answers.Answer.TheVariants.{No}
 use Rattle.member_model.specs.Turns.{MemberTurn, HasTurn, AreEngineTurns}

@@ -3,7 +3,7 @@ use Rattle.std.specs.Prelude.{◌≡◌, ℕ, List, [], ◌∷◌, ◌++◌, sli
 use Rattle.std.proofs.Common.{ap, sym, subst, ◌∙◌, arith, append_assoc}
 use Rattle.daq_types.specs.Callers.{entries_by, main_caller}
 use Rattle.daq_types.specs.declared.runs.Transition.{Transition}
-use Rattle.run_states.specs.Sequences.{sequence_for, sequences_of}
+use Rattle.transitions.specs.Sequences.{sequence_for, sequences_of}
 use Rattle.transitions.specs.declared.sheet.Sheet.{Sheet}
 use Rattle.transitions.specs.declared.entry.EngineEntry.{EngineEntry}
 use Rattle.transitions.specs.declared.entry.EngineEntry.TheVariants.{Begin}
@@ -11,8 +11,8 @@ use Rattle.transitions.specs.Engines.{EngineState, engine_opening}
 use Rattle.transitions.specs.EngineCalls.{engine_after}
 use Rattle.transitions.specs.EngineHistories.{EngineHistory, IsEngineCaller, IsLegalEngine}
 use Rattle.engine_laws.proofs.MainCalls.{OwnAt, own_at}
-use Rattle.session_engine.specs.declared.opening.MemberName.{MemberName}
-use Rattle.session_engine.specs.Members.{gets_dumps, gets_reports, registration, registrations}
+use Rattle.session_runs.specs.declared.opening.MemberName.{MemberName}
+use Rattle.session_runs.specs.Members.{gets_dumps, gets_reports, registration, registrations}
 use Rattle.composition.specs.Sessions.{IsRegistered}
 use Rattle.session_laws.specs.ClosedSessions.{ClosedSession, members_of, session_of}
 use Rattle.session_laws.specs.MembersAtEnd.{MembersAtEnd}

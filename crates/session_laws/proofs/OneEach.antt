@@ -38,9 +38,9 @@ use Rattle.loggers.proofs.ManyRose.{has_counts}
 use Rattle.engine_laws.specs.BegunTurns.{HasTransition, IsRefusedTurn, IsTallyOfTurn}
 use Rattle.engine_laws.specs.EngineLaws.{MainHasTransition, RefusalsAreAnswers, TalliesAreAnswers}
 use Rattle.engine_laws.proofs.MainCalls.{OwnAt, own_at}
-use Rattle.run_records.specs.declared.records.FileRecord.{FileRecord}
-use Rattle.run_records.specs.declared.records.RunRecord.{RunRecord}
-use Rattle.session_engine.specs.MadeTransitions.{TransitionIn}
+use Rattle.session_runs.specs.declared.records.FileRecord.{FileRecord}
+use Rattle.session_runs.specs.declared.records.RunRecord.{RunRecord}
+use Rattle.session_runs.specs.MadeTransitions.{TransitionIn}
 use Rattle.session_runs.specs.declared.channels.RunChannel.{RunChannel}
 use Rattle.session_runs.specs.KeptRuns.{run_channel}
 use Rattle.session_runs.specs.RunEntries.{start_sheet, later_sheet, dump_saved}

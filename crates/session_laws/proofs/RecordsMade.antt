@@ -21,10 +21,10 @@ use Rattle.member_model.specs.LoggerKept.{LoggerChannel}
 use Rattle.mid_logger.specs.declared.channel.Channel.{Channel}
 use Rattle.mid_logger.specs.Patterns.{file_name_by}
 use Rattle.loggers.specs.LoggerStands.{logger_channel, logger_channels}
-use Rattle.session_engine.specs.MadeTransitions.{TransitionIn}
-use Rattle.run_records.specs.declared.records.FrontTally.{FrontTally}
-use Rattle.run_records.specs.declared.records.FileRecord.{FileRecord}
-use Rattle.run_records.specs.declared.records.RunRecord.{RunRecord}
+use Rattle.session_runs.specs.MadeTransitions.{TransitionIn}
+use Rattle.session_runs.specs.declared.records.FrontTally.{FrontTally}
+use Rattle.session_runs.specs.declared.records.FileRecord.{FileRecord}
+use Rattle.session_runs.specs.declared.records.RunRecord.{RunRecord}
 use Rattle.session_runs.specs.declared.channels.RunChannel.{RunChannel}
 use Rattle.session_runs.specs.declared.on.CurrentRun.{CurrentRun}
 use Rattle.session_runs.specs.KeptRuns.{run_channel}

@@ -3,14 +3,14 @@ use Rattle.std.specs.Prelude.{◌≡◌, ℕ, zero, suc, ◌+◌, ◌<◌, true,
 use Rattle.std.specs.List.{AllByRecursion}
 use Rattle.std.proofs.Common.{ap, sym, subst, ◌∙◌, arith}
 use Rattle.daq_types.specs.Callers.{main_caller}
-use Rattle.run_states.specs.declared.sequences.Role.TheVariants.{Analyzer, FrontEnd, Logger}
+use Rattle.transitions.specs.declared.sequences.Role.TheVariants.{Analyzer, FrontEnd, Logger}
 use Rattle.daq_types.specs.declared.runs.Transition.TheVariants.{Start}
-use Rattle.run_states.specs.Sequences.{sequence_for, sequences_of}
+use Rattle.transitions.specs.Sequences.{sequence_for, sequences_of}
 use Rattle.transitions.specs.declared.client.Registered.{Registered}
 use Rattle.transitions.specs.declared.entry.EngineEntry.{EngineEntry}
 use Rattle.engine_laws.specs.BegunTurns.{IsAlone}
-use Rattle.session_engine.specs.declared.opening.MemberName.{MemberName}
-use Rattle.session_engine.specs.Members.{gets_dumps, gets_reports, member_in, registration, registrations}
+use Rattle.session_runs.specs.declared.opening.MemberName.{MemberName}
+use Rattle.session_runs.specs.Members.{gets_dumps, gets_reports, member_in, registration, registrations}
 use Rattle.mid_logger.specs.ChannelTurns.{logger_name}
 use Rattle.session_laws.specs.ClosedSessions.{ClosedAnalyzer, ClosedFront, members_of}
 

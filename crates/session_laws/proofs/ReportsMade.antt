@@ -7,7 +7,7 @@ use Rattle.event_report.specs.Reports.{Totals}
 use Rattle.transitions.specs.declared.answers.Tally.{Tally}
 use Rattle.transitions.specs.declared.answers.Tally.TheVariants.{Plain, Front, Channels, Report}
 use Rattle.transitions.specs.declared.answers.ClientTally.{ClientTally}
-use Rattle.run_records.specs.declared.records.ReportTally.{ReportTally}
+use Rattle.session_runs.specs.declared.records.ReportTally.{ReportTally}
 use Rattle.session_runs.specs.ToldTallies.{report_from, report_by, report_told, reports_told}
 use Rattle.composition.specs.Sessions.{SessionAnalyzer}
 use Rattle.composition.specs.SessionRuns.{SessionRun, IsStoppedRun, TellsTotals}

@@ -41,9 +41,9 @@ use Rattle.loggers.specs.ToldCounts.{faults_of_state, faults_of_answer, clashes_
 use Rattle.loggers.proofs.ManyRose.{member_counts, off_of}
 use Rattle.engine_laws.specs.BegunTurns.{HasTransition, HasTally}
 use Rattle.engine_laws.specs.EngineLaws.{LoneNosAreRefusals}
-use Rattle.run_records.specs.declared.records.FileRecord.{FileRecord}
-use Rattle.run_records.specs.declared.records.RunRecord.{RunRecord}
-use Rattle.session_engine.specs.MadeTransitions.{TransitionIn}
+use Rattle.session_runs.specs.declared.records.FileRecord.{FileRecord}
+use Rattle.session_runs.specs.declared.records.RunRecord.{RunRecord}
+use Rattle.session_runs.specs.MadeTransitions.{TransitionIn}
 use Rattle.session_runs.specs.declared.on.CurrentRun.{CurrentRun}
 use Rattle.session_runs.specs.KeptRuns.{run_channel}
 use Rattle.session_runs.specs.RunEntries.{start_sheet, later_sheet, dump_saved}

@@ -18,7 +18,7 @@ use Rattle.event_report.specs.Reports.{Totals}
 use Rattle.composition.specs.Sessions.{Session, SessionAnalyzer, SessionFront, HasAnalyzer, HasFront}
 use Rattle.composition.specs.SessionRuns.{SessionRun, IsStoppedRun, TellsTotals, ToldState}
 use Rattle.composition.specs.CompositionLaws.{IsComposed}
-use Rattle.session_engine.specs.MadeTransitions.{TransitionIn}
+use Rattle.session_runs.specs.MadeTransitions.{TransitionIn}
 use Rattle.session_laws.specs.MadeRuns.{FrontHolds, IsFileSo, ChannelHolds, ReportIsSo, AnalyzerHolds}
 use Rattle.session_laws.specs.EndLaws.{MadeAreStopped, StoppedHold}
 

@@ -8,8 +8,8 @@ use Rattle.daq_types.specs.declared.runs.StartOutcome.TheVariants.{Refused}
 use Rattle.daq_types.specs.declared.runs.Transition.{Transition}
 use Rattle.daq_types.specs.declared.runs.Transition.TheVariants.{Start, Stop, StartAbort}
 use Rattle.daq_io.specs.Seen.{Stored}
-use Rattle.run_states.specs.declared.sequences.Role.{Role}
-use Rattle.run_states.specs.Sequences.{sequence_for, sequences_of}
+use Rattle.transitions.specs.declared.sequences.Role.{Role}
+use Rattle.transitions.specs.Sequences.{sequence_for, sequences_of}
 use Rattle.buffer_core.specs.Slots.{slot_at}
 use Rattle.transitions.specs.declared.sheet.Sheet.{Sheet}
 use Rattle.transitions.specs.declared.replies.Progress.TheVariants.{Done}

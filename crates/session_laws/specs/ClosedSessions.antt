@@ -16,8 +16,8 @@ use Rattle.odb_watch.specs.declared.entry.WatchEntry.{WatchEntry}
 use Rattle.mid_logger.specs.declared.channel.Channel.{Channel}
 use Rattle.mid_logger.specs.ChannelTurns.{logger_name}
 use Rattle.loggers.specs.LoggerStands.{logger_channels}
-use Rattle.session_engine.specs.declared.opening.MemberName.{MemberName}
-use Rattle.session_engine.specs.Members.{members_named}
+use Rattle.session_runs.specs.declared.opening.MemberName.{MemberName}
+use Rattle.session_runs.specs.Members.{members_named}
 use Rattle.analyzers.specs.declared.analyzer_run.EventRequest.{EventRequest}
 use Rattle.composition.specs.Sessions.{HasFront, Session, SessionAnalyzer, SessionFront}
 

@@ -25,7 +25,7 @@ use Rattle.loggers.specs.LeftNames.{NoneRose, KeepsNames}
 use Rattle.composition.specs.SessionRuns.{SessionRun, ToldState}
 use Rattle.session_laws.specs.ClosedSessions.{ClosedFront, ClosedSession, logger_client, logger_caller, engine_calls, session_of, ClosedAnalyzer, analyzer_client}
 use Rattle.session_laws.specs.MembersAtEnd.{MembersAtEnd}
-use Rattle.session_engine.specs.MadeTransitions.{TransitionIn}
+use Rattle.session_runs.specs.MadeTransitions.{TransitionIn}
 use Rattle.session_laws.specs.MadeRuns.{RunIn}
 use Rattle.session_laws.specs.OtherNames.{AreStartsOver, IsTakenName, IsUnmadeName}
 

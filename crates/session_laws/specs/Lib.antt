@@ -1,3 +1,4 @@
+pub mod BlankLaws
 pub mod ClosedSessions
 pub mod MembersAtEnd
 pub mod MadeRuns

@@ -11,7 +11,7 @@ use Rattle.buffer_core.specs.Ports.{GotEvent}
 use Rattle.transitions.specs.declared.entry.EngineEntry.{EngineEntry}
 use Rattle.member_model.specs.Turns.{MemberTurn}
 use Rattle.member_model.specs.LoggerKept.{LoggerChannel, IsStateSo}
-use Rattle.session_engine.specs.MadeTransitions.{TransitionIn}
+use Rattle.session_runs.specs.MadeTransitions.{TransitionIn}
 use Rattle.event_report.specs.Reports.{Totals}
 use Rattle.analyzers.specs.declared.analyzer_run.EventRequest.{EventRequest}
 use Rattle.analyzers.specs.AnalyzerKept.{IsReportOfRun}

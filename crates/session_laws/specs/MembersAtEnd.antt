@@ -19,13 +19,13 @@ use Rattle.loggers.specs.declared.logged_run.LoggedRun.{LoggedRun}
 use Rattle.loggers.specs.NewLoggers.{NoneTakenBack}
 use Rattle.loggers.specs.LoggerStands.{LoggerStands}
 use Rattle.loggers.specs.OtherFiles.{specs_in, KeepsOtherFiles}
-use Rattle.session_engine.specs.Members.{registrations}
+use Rattle.session_runs.specs.Members.{registrations}
 use Rattle.session_runs.specs.RunsFit.{SteersEngine}
 use Rattle.daq_members.specs.OwnTurns.{are_calls_for}
 use Rattle.daq_members.specs.StartedRuns.{started_runs}
 use Rattle.daq_members.specs.FrontTaken.{FrontMemberStands}
 use Rattle.analyzers.specs.Analyzers.{AnalyzerState}
-use Rattle.analyzer_seats.specs.AnalyzerTaken.{AnalyzerMemberStands}
+use Rattle.daq_members.specs.AnalyzerTaken.{AnalyzerMemberStands}
 use Rattle.session_laws.specs.ClosedSessions.{ClosedAnalyzer, ClosedBuffer, ClosedFront, ClosedSession, logger_client, logger_caller, analyzer_client, last_caller, members_of, engine_calls, calls_on_buffer, calls_on_database, got_from_buffer}
 
 -- The front-end with this client number: on the engine it polls and answers for its own client alone; it keeps its contract

@@ -9,7 +9,7 @@ use Rattle.daq_io.specs.Counts.{RoseBy}
 use Rattle.transitions.specs.declared.entry.EngineEntry.{EngineEntry}
 use Rattle.loggers.specs.Moments.{RunFiles}
 use Rattle.loggers.specs.ToldCounts.{faults_of_state, faults_of_refusal}
-use Rattle.run_records.specs.declared.records.RunRecord.{RunRecord}
+use Rattle.session_runs.specs.declared.records.RunRecord.{RunRecord}
 use Rattle.session_runs.specs.RunsFit.{MainOwn, RecordsFit, starts_begun}
 use Rattle.session_laws.specs.ClosedSessions.{ClosedSession, engine_calls}
 use Rattle.session_laws.specs.MembersAtEnd.{MembersAtEnd}

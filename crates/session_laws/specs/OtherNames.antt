@@ -13,7 +13,7 @@ use Rattle.transitions.specs.declared.entry.EngineEntry.TheVariants.{Begin}
 use Rattle.mid_logger.specs.declared.channel.Channel.{Channel}
 use Rattle.mid_logger.specs.Patterns.{file_name_by}
 use Rattle.composition.specs.SessionRuns.{SessionRun}
-use Rattle.session_engine.specs.MadeTransitions.{TransitionIn}
+use Rattle.session_runs.specs.MadeTransitions.{TransitionIn}
 use Rattle.session_runs.specs.RunsFit.{starts_begun}
 use Rattle.session_laws.specs.ClosedSessions.{ClosedSession, engine_calls}
 use Rattle.session_laws.specs.MadeRuns.{RunIn}

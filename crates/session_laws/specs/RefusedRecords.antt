@@ -7,7 +7,7 @@ use Rattle.daq_types.specs.declared.runs.StartOutcome.TheVariants.{Refused}
 use Rattle.daq_types.specs.declared.runs.Why.{Why}
 use Rattle.transitions.specs.declared.entry.EngineEntry.{EngineEntry}
 use Rattle.loggers.specs.Moments.{RunFiles}
-use Rattle.run_records.specs.declared.records.RunRecord.{RunRecord}
+use Rattle.session_runs.specs.declared.records.RunRecord.{RunRecord}
 use Rattle.session_runs.specs.RunsFit.{MainOwn, FitsRefused, run_of}
 use Rattle.session_laws.specs.ClosedSessions.{ClosedSession, logger_client, engine_calls}
 use Rattle.session_laws.specs.CountedFaults.{IsFrontRefusal, IsLoggerReason, CountsHold}

@@ -6,12 +6,11 @@ ghost use Rattle.session_laws.specs.RecordedRuns.{ChannelsAgree, RecordsHold};
 ghost use Rattle.session_laws.specs.RefusedRecords.{RecordsRefused};
 ghost use Rattle.session_laws.specs.EndLaws.{EndsKeep, EndsComposed, MembersListed, MadeAreStopped, StoppedHold, StartsDiffer, OtherNamesStay, EndsHold};
 
-use analyzer_seats::laws as seats;
-use blank_laws::laws as blanks;
+use crate::blank_laws as blanks;
 use buffer_lock::laws as buffers;
 use caller_laws::laws as callers;
 use composition::laws as sessions;
-use daq_members::laws as members;
+use daq_members::{analyzer_laws as seats, laws as members};
 use engine_laws::laws as turns;
 use loggers::laws as loggers_laws;
 use transitions::laws as engine;

@@ -9,8 +9,8 @@ use Rattle.daq_types.specs.declared.runs.Transition.{Transition}
 use Rattle.daq_types.specs.declared.runs.Transition.TheVariants.{Pause, Resume}
 use Rattle.odb_tree.specs.declared.entry.DatabaseEntry.{DatabaseEntry}
 use Rattle.odb_watch.specs.declared.entry.WatchEntry.{WatchEntry}
-use Rattle.odb_port.specs.DatabasePorts.{AddsCall, AddsEntries, DatabaseAccess, IsSamePort, MayAdd}
-use Rattle.session_engine.specs.MadeTransitions.{HadRounds}
+use Rattle.odb_watch.specs.DatabasePorts.{AddsCall, AddsEntries, DatabaseAccess, IsSamePort, MayAdd}
+use Rattle.session_runs.specs.MadeTransitions.{HadRounds}
 use Rattle.session_runs.specs.declared.on.CurrentRun.{CurrentRun}
 use Rattle.session_runs.specs.declared.replies.RunReply.{RunReply}
 use Rattle.session_runs.specs.declared.replies.RunReply.TheVariants as answer

@@ -10,7 +10,7 @@ use Rattle.daq_types.specs.declared.runs.Transition.TheVariants.{Pause, Resume}
 use Rattle.transitions.specs.declared.answers.ClientTally.{ClientTally}
 use Rattle.transitions.specs.declared.entry.EngineEntry.{EngineEntry}
 use Rattle.transitions.specs.declared.sheet.Sheet.{Sheet}
-use Rattle.session_engine.specs.MadeTransitions.{HadRounds, DrivesTransition}
+use Rattle.session_runs.specs.MadeTransitions.{HadRounds, DrivesTransition}
 use Rattle.session_runs.specs.declared.on.CurrentRun.{CurrentRun}
 use Rattle.session_runs.specs.declared.replies.RunReply.{RunReply}
 use Rattle.session_runs.specs.declared.replies.RunReply.TheVariants as answer

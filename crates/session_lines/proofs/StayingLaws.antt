@@ -1,8 +1,8 @@
 -- What stays of an open session.
 use Rattle.std.proofs.Common.{ℕ, zero, suc, refl, subst, sym, ◌∙◌}
-use Rattle.odb_port.specs.DatabasePorts.{DatabaseAccess}
+use Rattle.odb_watch.specs.DatabasePorts.{DatabaseAccess}
 use Rattle.transition_lock.specs.declared.shared.SharedEngine.{SharedEngine}
-use Rattle.session_engine.specs.MadeTransitions.{HadRounds}
+use Rattle.session_runs.specs.MadeTransitions.{HadRounds}
 use Rattle.session_setup.specs.declared.declared.DeclaredLists.{DeclaredLists}
 use Rattle.session_lines.specs.Staying.{StaysOpen}
 

@@ -7,24 +7,24 @@ use Rattle.mid_logger.specs.ChannelTurns.{logger_name}
 use Rattle.odb_tree.specs.declared.entry.DatabaseEntry.{DatabaseEntry}
 use Rattle.odb_tree.specs.declared.refusals.OdbRefusal.{OdbRefusal}
 use Rattle.odb_tree.specs.declared.refusals.OdbRefusal.TheVariants.{NoMemory as no_memory}
-use Rattle.odb_port.specs.DatabasePorts.{AddsCall, AddsCalls, DatabaseAccess, IsSettled}
+use Rattle.odb_watch.specs.DatabasePorts.{AddsCall, AddsCalls, DatabaseAccess, IsSettled}
 use Rattle.odb_runinfo.specs.RunSets.{sent_key_made}
 use Rattle.transition_lock.specs.declared.shared.SharedEngine.{SharedEngine}
 use Rattle.transition_lock.specs.SharedEngines.{first_engine}
 use Rattle.transitions.specs.Engines.{engine_opening}
-use Rattle.run_records.specs.declared.records.RunRecord.{RunRecord}
-use Rattle.run_records.specs.declared.records.FrontTally.{FrontTally}
-use Rattle.run_records.specs.declared.records.FileRecord.{FileRecord}
-use Rattle.run_records.specs.declared.records.SentLine.{SentLine}
-use Rattle.run_records.specs.declared.records.ReportTally.{ReportTally}
-use Rattle.run_records.specs.declared.records.ReportLine.{ReportLine}
+use Rattle.session_runs.specs.declared.records.RunRecord.{RunRecord}
+use Rattle.session_runs.specs.declared.records.FrontTally.{FrontTally}
+use Rattle.session_runs.specs.declared.records.FileRecord.{FileRecord}
+use Rattle.session_runs.specs.declared.records.SentLine.{SentLine}
+use Rattle.session_runs.specs.declared.records.ReportTally.{ReportTally}
+use Rattle.session_runs.specs.declared.records.ReportLine.{ReportLine}
 use Rattle.session_setup.specs.SetupLines.{opened_with_defaults}
 use Rattle.session_runs.specs.declared.replies.RunReply.{RunReply}
 use Rattle.session_runs.specs.declared.replies.RunReply.TheVariants as answer
 use Rattle.session_runs.specs.KeptRuns.{RunsSeen}
 use Rattle.session_runs.specs.RunAnswers.{AnswersPause, AnswersResume, AnswersStart, AnswersStop, CutsStart, StopsUnsaved}
-use Rattle.session_replies.specs.declared.replies.Reply.{Reply}
-use Rattle.session_replies.specs.declared.replies.Reply.TheVariants.{WrongState, LastStart, RunNumber, StartRefused, Started as run_started, Paused as run_paused, Resumed as run_resumed, Stopped as run_stopped}
+use Rattle.console.specs.declared.replies.Reply.{Reply}
+use Rattle.console.specs.declared.replies.Reply.TheVariants.{WrongState, LastStart, RunNumber, StartRefused, Started as run_started, Paused as run_paused, Resumed as run_resumed, Stopped as run_stopped}
 use Rattle.session_lines.specs.NothingSaid.{NothingSaid, own_point}
 use Rattle.session_lines.specs.Stages.{SessionStage, front_names, open_stage, opened_runs}
 

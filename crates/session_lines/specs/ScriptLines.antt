@@ -8,11 +8,11 @@ use Rattle.odb_script.specs.declared.commands.Declaration.{Declaration}
 use Rattle.odb_script.specs.declared.commands.DatabaseCommand.{DatabaseCommand}
 use Rattle.odb_script.specs.declared.refusals.LineRefusal.TheVariants.{BadCommand as no_command}
 use Rattle.odb_script.specs.Forms.{Read}
-use Rattle.session_replies.specs.declared.replies.Reply.{Reply}
-use Rattle.session_replies.specs.declared.replies.Reply.TheVariants.{Silent, BadCommand}
+use Rattle.console.specs.declared.replies.Reply.{Reply}
+use Rattle.console.specs.declared.replies.Reply.TheVariants.{Silent, BadCommand}
 use Rattle.session_lines.specs.Stages.{SessionStage, with_quota}
 use Rattle.session_lines.specs.SetupReplies.{DoesDeclaration}
-use Rattle.database_desk.specs.DatabaseLines.{BreaksDatabase, DoesDatabase}
+use Rattle.console.specs.DatabaseLines.{BreaksDatabase, DoesDatabase}
 use Rattle.session_lines.specs.RunLines.{BreaksStart, BreaksStop, ClosesRun, DoesPause, DoesResume, DoesStart, DoesStop, runs_on}
 
 -- a declaration

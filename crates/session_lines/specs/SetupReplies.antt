@@ -9,8 +9,8 @@ use Rattle.session_setup.specs.declared.refusals.SetupRefusal.TheVariants.{Opene
 use Rattle.session_setup.specs.Setup.{Declared}
 use Rattle.session_setup.specs.Refusals.{NameRead, IsNameRead}
 use Rattle.session_setup.specs.SetupLines.{buffer_refusal, with_buffer, equip_refusal, with_front, IsPatternRead, channel_refusal, with_channel, analyzer_refusal, with_analyzer}
-use Rattle.session_replies.specs.declared.replies.Reply.{Reply}
-use Rattle.session_replies.specs.declared.replies.Reply.TheVariants.{Silent, Setup}
+use Rattle.console.specs.declared.replies.Reply.{Reply}
+use Rattle.console.specs.declared.replies.Reply.TheVariants.{Silent, Setup}
 
 -- the reply to a line that was taken or refused
 abbrev pub setup_reply : Result (Unit {0}) SetupRefusal → Reply

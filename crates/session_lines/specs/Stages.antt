@@ -3,11 +3,11 @@ use Rattle.std.specs.Prelude.{ℕ, List, [], map, Option, Some, None}
 use Rattle.std.specs.Option.{option_map}
 use Rattle.mid_logger.specs.ChannelTurns.{logger_name}
 use Rattle.transition_lock.specs.declared.shared.SharedEngine.{SharedEngine}
-use Rattle.odb_port.specs.DatabasePorts.{DatabaseAccess}
-use Rattle.database_desk.specs.DatabaseStages.{DatabaseStage, DumpFiles}
-use Rattle.session_engine.specs.declared.opening.MemberName.{MemberName}
-use Rattle.session_engine.specs.Members.{members_named, registrations}
-use Rattle.session_engine.specs.MainSeats.{MainSeen}
+use Rattle.odb_watch.specs.DatabasePorts.{DatabaseAccess}
+use Rattle.console.specs.DatabaseStages.{DatabaseStage, DumpFiles}
+use Rattle.session_runs.specs.declared.opening.MemberName.{MemberName}
+use Rattle.session_runs.specs.Members.{members_named, registrations}
+use Rattle.session_runs.specs.MainSeats.{MainSeen}
 use Rattle.session_setup.specs.Setup.{Declared, nothing_declared}
 use Rattle.session_runs.specs.KeptRuns.{RunsSeen, channels_of}
 use Rattle.session_runs.specs.RunAnswers.{ClockTold}

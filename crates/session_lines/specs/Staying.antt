@@ -1,8 +1,8 @@
 -- What stays of an open session, whatever lines are answered.
 use Rattle.std.specs.Prelude.{◌≡◌, ℕ}
-use Rattle.odb_port.specs.DatabasePorts.{DatabaseAccess, IsSamePort}
+use Rattle.odb_watch.specs.DatabasePorts.{DatabaseAccess, IsSamePort}
 use Rattle.transition_lock.specs.declared.shared.SharedEngine.{SharedEngine}
-use Rattle.session_engine.specs.MadeTransitions.{HadRounds}
+use Rattle.session_runs.specs.MadeTransitions.{HadRounds}
 use Rattle.session_setup.specs.declared.declared.DeclaredLists.{DeclaredLists}
 
 -- The members had any number of rounds; the engine, the database and the declarations are the same.

@@ -1,4 +1,4 @@
-use session_engine::Rounds;
+use session_runs::Rounds;
 use std::sync::Wait;
 
 /// Members of which nothing is said.

@@ -4,7 +4,7 @@ use Rattle.std.specs.Prelude.{slice_get, Option, Some, None, IfSome}
 use Rattle.std.proofs.lemmas.Option.{slice_get_within}
 use Rattle.daq_types.specs.Callers.{caller_of_client}
 use Rattle.daq_io.specs.Seen.{Seen}
-use Rattle.daq_model.specs.Events.{record_limit}
+use Rattle.event.specs.Events.{record_limit}
 use Rattle.buffer_core.specs.Ports.{Access}
 use Rattle.turn_lock.specs.Passes.{own_entries}
 use Rattle.transitions.specs.declared.entry.EngineEntry.{EngineEntry}
@@ -27,8 +27,8 @@ use Rattle.daq_members.specs.declared.logger_member.LoggerMember.{LoggerMember}
 use Rattle.daq_members.specs.FrontSeats.{FrontSeen}
 use Rattle.daq_members.specs.LoggerSeats.{LoggerSeen}
 use Rattle.daq_members.specs.LoggerTaken.{HaveCaller}
-use Rattle.analyzer_seats.specs.SeatedAnalyzers.{AnalyzerSeen}
-use Rattle.session_crew.specs.Crews.{CrewSeen, crew_seen, AreMembers}
+use Rattle.daq_members.specs.SeatedAnalyzers.{AnalyzerSeen}
+use Rattle.daq_members.specs.Crews.{CrewSeen, crew_seen, AreMembers}
 use Rattle.session_objects.specs.declared.objects.SessionObjects.{SessionObjects}
 use Rattle.session_objects.specs.Members.{new_ports, event_rooms, IsNewFront, IsNewAnalyzer, IsNewLogger, AreBareMembers, AreNewMembers}
 use Rattle.session_objects.proofs.BareLaws.{new_port_callers}

@@ -10,8 +10,8 @@ use Rattle.front_ends.specs.Fronts.{FrontState}
 use Rattle.frontend_kit.specs.declared.generator.Generator.{Generator}
 use Rattle.analyzers.specs.Analyzers.{AnalyzerState}
 use Rattle.analyzers.specs.AnalyzerKept.{AnalyzerStands, AnalyzerTells}
-use Rattle.analyzer_seats.specs.AnalyzerTaken.{AnalyzerMemberStands}
-use Rattle.analyzer_seats.specs.SeatedAnalyzers.{AnalyzerSeen}
+use Rattle.daq_members.specs.AnalyzerTaken.{AnalyzerMemberStands}
+use Rattle.daq_members.specs.SeatedAnalyzers.{AnalyzerSeen}
 use Rattle.daq_members.specs.FrontSeats.{FrontSeen}
 use Rattle.daq_members.specs.FrontTaken.{FrontMemberStands}
 use Rattle.session_setup.specs.Setup.{is_buffer_size}

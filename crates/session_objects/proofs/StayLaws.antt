@@ -10,9 +10,9 @@ use Rattle.session_setup.specs.declared.declared.FrontDeclared.{FrontDeclared}
 use Rattle.mid_logger.specs.declared.channel_spec.ChannelSpec.{ChannelSpec}
 use Rattle.daq_members.specs.FrontSeats.{FrontSeen, IsSameFront}
 use Rattle.daq_members.specs.LoggerSeats.{LoggerSeen, IsSameLogger}
-use Rattle.session_crew.specs.Crews.{CrewSeen, CrewTold, IsSameCrew}
-use Rattle.analyzer_seats.specs.SeatedAnalyzers.{AnalyzerSeen, IsSameAnalyzer}
-use Rattle.analyzer_seats.specs.ManyAnalyzers.{AreSameAnalyzers}
+use Rattle.daq_members.specs.Crews.{CrewSeen, CrewTold, IsSameCrew}
+use Rattle.daq_members.specs.SeatedAnalyzers.{AnalyzerSeen, IsSameAnalyzer}
+use Rattle.daq_members.specs.ManyAnalyzers.{AreSameAnalyzers}
 use Rattle.loggers.specs.Moments.{IsSameAccess, channel_limit}
 use Rattle.loggers.specs.OtherFiles.{AreDeclared, specs_in}
 use Rattle.loggers.specs.NewLoggers.{new_channel, IsNewChannel}

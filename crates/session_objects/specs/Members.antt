@@ -3,8 +3,8 @@ use Rattle.std.specs.Prelude.{◌≡◌, ℕ, ◌+◌, ◌-◌, min, Bool, nat_l
 use Rattle.daq_types.specs.Callers.{caller_of_client}
 use Rattle.daq_types.specs.declared.events.Event.{Event}
 use Rattle.daq_types.specs.declared.runs.Order.{Order}
-use Rattle.daq_model.specs.Events.{event_limit}
-use Rattle.daq_model.specs.Generator.{generated_event}
+use Rattle.event.specs.Events.{event_limit}
+use Rattle.event.specs.Generator.{generated_event}
 use Rattle.mid_logger.specs.declared.channel_spec.ChannelSpec.{ChannelSpec}
 use Rattle.loggers.specs.NewLoggers.{HasNewChannels}
 use Rattle.loggers.specs.Moments.{RunFiles, AreIdleChannels, IsLoggerReady}
@@ -25,7 +25,7 @@ use Rattle.buffer_lock.specs.SharedBuffers.{first_buffer}
 use Rattle.buffer_lock.specs.SharedPorts.{identity_by, access_to, ported_by}
 use Rattle.transitions.specs.declared.entry.EngineEntry.{EngineEntry}
 use Rattle.odb_watch.specs.declared.entry.WatchEntry.{WatchEntry}
-use Rattle.odb_port.specs.DatabasePorts.{DatabaseAccess}
+use Rattle.odb_watch.specs.DatabasePorts.{DatabaseAccess}
 use Rattle.odb_lock.specs.declared.shared.SharedOdb.{SharedOdb}
 use Rattle.odb_lock.specs.SharedAccesses.{shared_access, odb_identity}
 use Rattle.frontend_kit.specs.declared.generator.Generator.{Generator}
@@ -35,8 +35,8 @@ use Rattle.daq_members.specs.FrontSeats.{FrontSeen}
 use Rattle.daq_members.specs.LoggerSeats.{LoggerSeen}
 use Rattle.analyzers.specs.declared.analyzer_run.EventRequest.{EventRequest}
 use Rattle.analyzers.specs.Analyzers.{AnalyzerState}
-use Rattle.analyzer_seats.specs.SeatedAnalyzers.{AnalyzerSeen}
-use Rattle.session_crew.specs.Crews.{CrewSeen, CrewTold, IsSameCrew}
+use Rattle.daq_members.specs.SeatedAnalyzers.{AnalyzerSeen}
+use Rattle.daq_members.specs.Crews.{CrewSeen, CrewTold, IsSameCrew}
 use Rattle.session_objects.specs.declared.objects.SessionBuffer.{SessionBuffer}
 use Rattle.session_objects.specs.declared.objects.SessionObjects.{SessionObjects}
 use Rattle.session_objects.specs.Objects.{first_analyzer}

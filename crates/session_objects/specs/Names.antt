@@ -1,8 +1,8 @@
 -- How the members of a session are registered.
 use Rattle.std.specs.Prelude.{List, map}
 use Rattle.mid_logger.specs.ChannelTurns.{logger_name}
-use Rattle.session_engine.specs.declared.opening.MemberName.{MemberName}
-use Rattle.session_engine.specs.Members.{members_named}
+use Rattle.session_runs.specs.declared.opening.MemberName.{MemberName}
+use Rattle.session_runs.specs.Members.{members_named}
 use Rattle.session_setup.specs.declared.declared.AnalyzerDeclared.{AnalyzerDeclared}
 use Rattle.session_setup.specs.declared.declared.FrontDeclared.{FrontDeclared}
 

@@ -3,7 +3,7 @@ ghost use Rattle.std.specs.Prelude.{◌<◌, length};
 ghost use Rattle.turn_lock.specs.Passes.{passes_of};
 ghost use Rattle.odb_lock.specs.SharedOdbs.{odb_lock_of};
 ghost use Rattle.session_setup.specs.Setup.{declared_by, AreSound};
-ghost use Rattle.session_crew.specs.Crews.{crew_told};
+ghost use Rattle.daq_members.specs.Crews.{crew_told};
 ghost use Rattle.session_objects.specs.Objects.{AreObjectsOf, SuitMembers};
 ghost use Rattle.session_objects.specs.Members.{generator_takes, generator_makes, KeepsChannels, KeepsMembers};
 

@@ -16,23 +16,23 @@ use crate::objects::{SessionBuffer, SessionObjects};
 use crate::passes::{SessionPasses, take_fresh};
 use crate::seating::Seating;
 use crate::seats::{SessionAnalyzer, SessionAnalyzers, SessionCrew, SessionFront};
-use analyzer_seats::{AnalyzerMember, AnalyzerSeat, AnalyzerSeats};
 use analyzers::Analyzer;
 use buffer_core::BufferPort;
 use buffer_lock::SharedPort;
 use daq_io::{Files, Gate, Pick};
-use daq_members::{FrontMember, FrontSeat, LoggerMember, LoggerSeat, Seat};
+use daq_members::{
+    AnalyzerMember, AnalyzerSeat, AnalyzerSeats, Crew, FrontMember, FrontSeat, LoggerMember,
+    LoggerSeat, Seat,
+};
 use daq_types::{BoundedList, Caller, NoMemory};
-use event_header::MAX_DATA;
+use event::MAX_DATA;
 use frontend_kit::Generator;
 use loggers::{ChannelSpecs, Logger, Ports};
 use mid_logger::ChannelSpec;
 use odb_lock::{LockedDatabase, SharedAccess, SharedOdb, WatchedSeen};
-use odb_port::WatchPort;
 use odb_tree::Database;
-use odb_watch::WatchEntry;
+use odb_watch::{WatchEntry, WatchPort};
 use ring_buffer::RingBuffer;
-use session_crew::Crew;
 use session_setup::{AnalyzerDeclared, FrontDeclared};
 use std::alloc::Global;
 use turn_lock::Machine;

@@ -1,15 +1,15 @@
 // How the members of a session are registered.
 ghost use Rattle.std.specs.Prelude.{◌≡◌, ◌++◌, map, IfOk, OnOk};
-ghost use Rattle.run_states.specs.declared.sequences.Role.TheVariants.{Analyzer, FrontEnd};
+ghost use Rattle.transitions.specs.declared.sequences.Role.TheVariants.{Analyzer, FrontEnd};
 ghost use Rattle.mid_logger.specs.ChannelTurns.{logger_name};
-ghost use Rattle.session_engine.specs.Members.{member_in};
+ghost use Rattle.session_runs.specs.Members.{member_in};
 ghost use Rattle.session_objects.specs.Names.{member_names};
 
 use daq_types::{Name, NoMemory};
-use run_states::Role;
-use session_engine::MemberName;
+use session_runs::MemberName;
 use session_setup::{AnalyzerDeclared, FrontDeclared};
 use std::alloc::Global;
+use transitions::Role;
 
 /// The name of the logger.
 fn logger_name() -> Name

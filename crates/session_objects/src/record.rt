@@ -5,7 +5,7 @@ use odb_lock::{LockedDatabase, OdbClosed, WatchedSeen};
 use odb_tree::Database;
 use odb_watch::WatchEntry;
 use ring_buffer::RingBuffer;
-use run_records::RunRecord;
+use session_runs::RunRecord;
 use transition_lock::EngineClosed;
 use turn_lock::Machine;
 

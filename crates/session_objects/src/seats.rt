@@ -1,11 +1,9 @@
 // The members of a session, by what they are made of.
-use analyzer_seats::{AnalyzerSeat, AnalyzerSeats};
 use buffer_lock::SharedPort;
-use daq_members::{FrontSeat, LoggerSeat};
+use daq_members::{AnalyzerSeat, AnalyzerSeats, Crew, CrewParts, FrontSeat, LoggerSeat};
 use frontend_kit::Generator;
 use odb_lock::SharedAccess;
 use ring_buffer::RingBuffer;
-use session_crew::{Crew, CrewParts};
 
 /// A front-end of a session, which generates its events.
 pub type SessionFront<'a, D> = FrontSeat<

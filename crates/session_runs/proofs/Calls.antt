@@ -8,7 +8,7 @@ use Rattle.daq_types.specs.declared.runs.StartOutcome.{StartOutcome}
 use Rattle.odb_tree.specs.declared.entry.DatabaseEntry.{DatabaseEntry}
 use Rattle.odb_watch.specs.declared.entry.WatchEntry.{WatchEntry}
 use Rattle.odb_watch.specs.declared.entry.WatchEntry.TheVariants.{Save}
-use Rattle.odb_port.specs.DatabasePorts.{DatabaseAccess, AddsCalls, AddsEntry, AddsEntries, row_calls}
+use Rattle.odb_watch.specs.DatabasePorts.{DatabaseAccess, AddsCalls, AddsEntry, AddsEntries, row_calls}
 use Rattle.odb_runinfo.specs.RunSets.{Assignment, SetsNumbers, start_sets, state_set, stop_sets}
 use Rattle.session_runs.specs.RunEntries.{AnnounceCalls, BeginCalls, AnnouncesStop, StopCalls, outcome_sets}
 

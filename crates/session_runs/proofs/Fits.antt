@@ -11,18 +11,18 @@ use Rattle.daq_types.specs.declared.runs.Transition.{Transition}
 use Rattle.daq_types.specs.declared.runs.Transition.TheVariants.{Start, Stop, Pause, Resume}
 use Rattle.odb_watch.specs.declared.entry.WatchEntry.{WatchEntry}
 use Rattle.odb_watch.specs.declared.entry.WatchEntry.TheVariants.{Call}
-use Rattle.odb_port.specs.DatabasePorts.{DatabaseAccess, AddsEntries, own_watched, row_calls}
+use Rattle.odb_watch.specs.DatabasePorts.{DatabaseAccess, AddsEntries, own_watched, row_calls}
 use Rattle.odb_runinfo.specs.RunSets.{number_asked}
 use Rattle.transitions.specs.declared.sheet.Sheet.{Sheet}
 use Rattle.transitions.specs.declared.answers.ClientTally.{ClientTally}
 use Rattle.transitions.specs.declared.entry.EngineEntry.{EngineEntry}
 use Rattle.transitions.specs.declared.entry.EngineEntry.TheVariants.{Begin}
 use Rattle.engine_laws.specs.BegunTurns.{AreUnmarked}
-use Rattle.run_records.specs.declared.records.RunRecord.{RunRecord}
-use Rattle.session_engine.specs.MainKnowledge.{known_from}
-use Rattle.session_engine.specs.MadeTransitions.{TransitionIn, going_checks, done_check, DrivesTransition}
-use Rattle.session_engine.specs.declared.opening.MemberName.{MemberName}
-use Rattle.session_engine.specs.Members.{registrations}
+use Rattle.session_runs.specs.declared.records.RunRecord.{RunRecord}
+use Rattle.session_runs.specs.MainKnowledge.{known_from}
+use Rattle.session_runs.specs.MadeTransitions.{TransitionIn, going_checks, done_check, DrivesTransition}
+use Rattle.session_runs.specs.declared.opening.MemberName.{MemberName}
+use Rattle.session_runs.specs.Members.{registrations}
 use Rattle.session_runs.specs.declared.on.CurrentRun.{CurrentRun}
 use Rattle.session_runs.specs.declared.replies.RunReply.{RunReply}
 use Rattle.session_runs.specs.declared.replies.RunReply.TheVariants.{WrongState, LastStart, RunNumber, StartRefused, Started as run_started, Paused as run_paused, Resumed as run_resumed, Stopped as run_stopped}

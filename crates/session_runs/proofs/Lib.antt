@@ -1,5 +1,9 @@
+mod KnownSteps
+mod KnownCalls
+mod MadeLaws
+mod SeatLaws
 mod Calls
 mod Steps
 mod Fits
 mod Lists
-mod Made
+mod MadeCalls

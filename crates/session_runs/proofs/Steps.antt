@@ -8,12 +8,12 @@ use Rattle.daq_types.specs.declared.runs.StartOutcome.TheVariants.{Completed, Re
 use Rattle.daq_types.specs.declared.runs.Why.{Why}
 use Rattle.daq_types.specs.declared.runs.Transition.{Transition}
 use Rattle.daq_types.specs.declared.runs.Transition.TheVariants.{Start, Stop, Pause, Resume, StartAbort}
-use Rattle.run_states.specs.States.{is_allowed}
+use Rattle.transitions.specs.States.{is_allowed}
 use Rattle.transitions.specs.declared.replies.BeginRefusal.{BeginRefusal}
 use Rattle.transitions.specs.declared.replies.BeginRefusal.TheVariants.{Closed as BeginClosed, WrongState, LastStart}
 use Rattle.transitions.specs.EngineCalls.{start_reply}
 use Rattle.transitions.specs.Limits.{last_start_number}
-use Rattle.session_engine.specs.MainKnowledge.{MainKnows, begin_known, begin_known_in, known_behind, state_behind}
+use Rattle.session_runs.specs.MainKnowledge.{MainKnows, begin_known, begin_known_in, known_behind, state_behind}
 use Rattle.session_runs.specs.declared.on.CurrentRun.{CurrentRun}
 use Rattle.session_runs.specs.KeptRuns.{IsInStep}
 

@@ -7,9 +7,9 @@ use Rattle.daq_types.specs.declared.runs.StartOutcome.TheVariants.{Completed, Re
 use Rattle.transitions.specs.declared.answers.ClientTally.{ClientTally}
 use Rattle.transitions.specs.declared.entry.EngineEntry.{EngineEntry}
 use Rattle.mid_logger.specs.declared.channel_spec.ChannelSpec.{ChannelSpec}
-use Rattle.run_records.specs.declared.records.RunRecord.{RunRecord}
-use Rattle.session_engine.specs.MainKnowledge.{MainKnows}
-use Rattle.session_engine.specs.MainSeats.{MainSeen}
+use Rattle.session_runs.specs.declared.records.RunRecord.{RunRecord}
+use Rattle.session_runs.specs.MainKnowledge.{MainKnows}
+use Rattle.session_runs.specs.MainSeats.{MainSeen}
 use Rattle.session_runs.specs.declared.channels.RunChannel.{RunChannel}
 use Rattle.session_runs.specs.declared.on.CurrentRun.{CurrentRun}
 use Rattle.session_runs.specs.ToldTallies.{fronts_told, states_told, files_of, reports_told}

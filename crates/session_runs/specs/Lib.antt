@@ -1,3 +1,7 @@
+pub mod MainKnowledge
+pub mod MadeTransitions
+pub mod Members
+pub mod MainSeats
 pub mod KeptRuns
 pub mod ToldTallies
 pub mod RunEntries

@@ -5,18 +5,18 @@ use Rattle.daq_types.specs.declared.runs.StartOutcome.{StartOutcome}
 use Rattle.daq_types.specs.declared.runs.StartOutcome.TheVariants.{Completed, Refused}
 use Rattle.daq_types.specs.declared.runs.Transition.{Transition}
 use Rattle.daq_types.specs.declared.runs.Transition.TheVariants.{Start, Stop, Pause, Resume}
-use Rattle.run_states.specs.States.{run_state_after}
+use Rattle.transitions.specs.States.{run_state_after}
 use Rattle.odb_tree.specs.declared.entry.DatabaseEntry.{DatabaseEntry}
 use Rattle.odb_tree.specs.declared.refusals.OdbRefusal.TheVariants.{NoMemory as no_memory}
 use Rattle.odb_watch.specs.declared.entry.WatchEntry.{WatchEntry}
-use Rattle.odb_port.specs.DatabasePorts.{DatabaseAccess, AddsEntries, MayAdd, row_calls}
+use Rattle.odb_watch.specs.DatabasePorts.{DatabaseAccess, AddsEntries, MayAdd, row_calls}
 use Rattle.odb_runinfo.specs.RunSets.{AreSets, GetsNumber, number_asked, state_set}
 use Rattle.transitions.specs.declared.answers.ClientTally.{ClientTally}
 use Rattle.transitions.specs.declared.sheet.Sheet.{Sheet}
 use Rattle.transitions.specs.declared.replies.BeginRefusal.TheVariants.{WrongState as state_refused, LastStart as number_refused}
 use Rattle.transitions.specs.declared.entry.EngineEntry.{EngineEntry}
-use Rattle.session_engine.specs.MainKnowledge.{MainKnows, known_from, begin_known}
-use Rattle.session_engine.specs.MadeTransitions.{DrivesTransition}
+use Rattle.session_runs.specs.MainKnowledge.{MainKnows, known_from, begin_known}
+use Rattle.session_runs.specs.MadeTransitions.{DrivesTransition}
 use Rattle.session_runs.specs.declared.on.CurrentRun.{CurrentRun}
 use Rattle.session_runs.specs.declared.replies.RunReply.{RunReply}
 use Rattle.session_runs.specs.declared.replies.RunReply.TheVariants.{WrongState, LastStart, RunNumber, StartRefused, Started as run_started, Paused as run_paused, Resumed as run_resumed, Stopped as run_stopped}

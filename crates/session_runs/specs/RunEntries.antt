@@ -11,7 +11,7 @@ use Rattle.odb_tree.specs.declared.entry.DatabaseEntry.{DatabaseEntry}
 use Rattle.odb_tree.specs.declared.refusals.OdbRefusal.{OdbRefusal}
 use Rattle.odb_watch.specs.declared.entry.WatchEntry.{WatchEntry}
 use Rattle.odb_watch.specs.declared.entry.WatchEntry.TheVariants.{Call, Save}
-use Rattle.odb_port.specs.DatabasePorts.{IsSettled, row_calls}
+use Rattle.odb_watch.specs.DatabasePorts.{IsSettled, row_calls}
 use Rattle.odb_runinfo.specs.RunSets.{Assignment, AreSets, number_asked, have_of, next_run, start_sets, refused_sets, state_set, stop_sets}
 use Rattle.event_report.specs.Reports.{Totals, report_of}
 use Rattle.transitions.specs.declared.sheet.Sheet.{Sheet}

@@ -6,9 +6,9 @@ use Rattle.transitions.specs.declared.answers.Tally.{Tally}
 use Rattle.transitions.specs.declared.answers.Tally.TheVariants.{Front, Channels, Report}
 use Rattle.transitions.specs.declared.answers.ClientTally.{ClientTally}
 use Rattle.mid_logger.specs.Patterns.{file_name_by}
-use Rattle.run_records.specs.declared.records.FrontTally.{FrontTally}
-use Rattle.run_records.specs.declared.records.FileRecord.{FileRecord}
-use Rattle.run_records.specs.declared.records.ReportTally.{ReportTally}
+use Rattle.session_runs.specs.declared.records.FrontTally.{FrontTally}
+use Rattle.session_runs.specs.declared.records.FileRecord.{FileRecord}
+use Rattle.session_runs.specs.declared.records.ReportTally.{ReportTally}
 use Rattle.session_runs.specs.declared.channels.RunChannel.{RunChannel}
 
 -- what a front-end's tally tells

@@ -1,16 +1,16 @@
 //! How the records of runs stand to the main thread's own calls: each function does nothing, and its contract is the law.
 ghost use Rattle.std.specs.Prelude.{◌≡◌, ◌++◌, [], ℕ, List, None};
-ghost use Rattle.odb_port.specs.DatabasePorts.{own_watched};
+ghost use Rattle.odb_watch.specs.DatabasePorts.{own_watched};
 ghost use Rattle.odb_watch.specs.declared.entry.WatchEntry.{WatchEntry};
-ghost use Rattle.session_engine.specs.declared.opening.MemberName.{MemberName};
-ghost use Rattle.session_engine.specs.Members.{registrations};
+ghost use Rattle.session_runs.specs.declared.opening.MemberName.{MemberName};
+ghost use Rattle.session_runs.specs.Members.{registrations};
 ghost use Rattle.session_runs.specs.declared.replies.RunReply.{RunReply};
 ghost use Rattle.session_runs.specs.KeptRuns.{RunsSeen};
 ghost use Rattle.session_runs.specs.RunAnswers.{AnswersPause, AnswersResume, AnswersStart, AnswersStop, ClockTold, CommandPoint, CutsStart, StopsUnsaved};
 ghost use Rattle.session_runs.specs.RunsFit.{run_clients, RecordsFit, RunsFit, starts_begun};
 
-use odb_port::laws::{calls_add_up, entries_add_up};
-use session_engine::Rounds;
+use crate::Rounds;
+use odb_watch::port_laws::{calls_add_up, entries_add_up};
 
 /// Each run command keeps it that the records and the run that is on fit the main thread's own calls on the engine and on
 /// the database.

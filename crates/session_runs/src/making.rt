@@ -2,17 +2,17 @@
 ghost use Rattle.std.specs.Prelude.{◌≡◌, ◌≢◌, ◌≤◌, [], List, length, Some, Ok, IsOk, IfOk, IfSome};
 ghost use Rattle.daq_types.specs.declared.runs.StartOutcome.TheVariants.{Completed};
 ghost use Rattle.daq_types.specs.declared.runs.Transition.TheVariants.{Start};
-ghost use Rattle.odb_ascii.specs.Dumps.{dump_limit};
+ghost use Rattle.odb_text.specs.Dumps.{dump_limit};
 ghost use Rattle.transitions.specs.declared.answers.ClientTally.{ClientTally};
 ghost use Rattle.std.specs.List.{AllByRecursion};
 ghost use Rattle.transitions.specs.EngineHistories.{IsSheet, IsBlank};
 ghost use Rattle.session_runs.specs.RunEntries.{blank_reports};
-ghost use Rattle.session_engine.specs.MainKnowledge.{known_from, begin_known, known_behind};
-ghost use Rattle.session_engine.specs.MadeTransitions.{DrivesTransition};
+ghost use Rattle.session_runs.specs.MainKnowledge.{known_from, begin_known, known_behind};
+ghost use Rattle.session_runs.specs.MadeTransitions.{DrivesTransition};
 
+use crate::{Made, MainSeat, Rounds};
 use daq_types::{BoundedList, Bytes, NoMemory, Transition};
 use event_report::Report;
-use session_engine::{Made, MainSeat, Rounds};
 use std::alloc::Global;
 use std::sync::Wait;
 use transitions::{Reports, Sheet, Tallies};

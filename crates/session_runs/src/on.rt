@@ -1,9 +1,9 @@
 // The run that is on, with all that its end needs.
 ghost use Rattle.std.specs.Prelude.{◌≡◌, [], IfOk};
 
+use crate::{FileRecords, FrontTallies, ReportTallies};
 use daq_types::{BoundedList, NoMemory};
 use odb_runinfo::KeyPaths;
-use run_records::{FileRecords, FrontTallies, ReportTallies};
 use std::alloc::Global;
 
 /// The run that is on.

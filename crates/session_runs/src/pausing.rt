@@ -1,21 +1,21 @@
 // A pause or a resume of the run that is on.
 ghost use Rattle.std.specs.Prelude.{◌≡◌, ◌⊎◌, IfOk, IfErr};
 ghost use Rattle.daq_types.specs.declared.runs.Transition.TheVariants.{Pause, Resume};
-ghost use Rattle.session_engine.specs.MainKnowledge.{known_from};
+ghost use Rattle.session_runs.specs.MainKnowledge.{known_from};
 ghost use Rattle.session_runs.specs.declared.on.CurrentRun.{CurrentRun};
 ghost use Rattle.session_runs.specs.RunAnswers.{AnswersPause, AnswersResume, ChangesRun, RefusesKnown, point_of};
 
+use crate::Rounds;
 use crate::making::{make_untold, sheet_for};
 use crate::refusing::refusal_of;
 use crate::replies::RunReply;
 use crate::runs::Runs;
 use daq_types::Transition;
-use odb_port::WatchPort;
-use odb_port::laws::calls_add_up;
-use run_states::after;
-use session_engine::Rounds;
+use odb_watch::WatchPort;
+use odb_watch::port_laws::calls_add_up;
 use std::alloc::Global;
 use std::sync::Wait;
+use transitions::after;
 
 impl<'a> Runs<'a> {
     /// Pauses the run that is on, or resumes it: its number, or the reply where the engine would refuse that.

@@ -1,12 +1,12 @@
 // What the main thread's own calls on the engine refuse.
 ghost use Rattle.std.specs.Prelude.{◌≡◌, IsOk, IfNone, IfSome};
-ghost use Rattle.session_engine.specs.MainKnowledge.{known_from, begin_known};
-ghost use Rattle.session_engine.specs.MainSeats.{StandsFree};
+ghost use Rattle.session_runs.specs.MainKnowledge.{known_from, begin_known};
+ghost use Rattle.session_runs.specs.MainSeats.{StandsFree};
 ghost use Rattle.session_runs.specs.RunAnswers.{RefusesKnown};
 
+use crate::MainSeat;
 use crate::replies::RunReply;
 use daq_types::Transition;
-use session_engine::MainSeat;
 use transitions::BeginRefusal;
 
 /// The reply where the engine would refuse the transition. Calls nothing.

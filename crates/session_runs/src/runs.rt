@@ -1,15 +1,14 @@
 // What the main thread keeps of a session's runs.
 ghost use Rattle.std.specs.Prelude.{◌≡◌, ◌≤◌, [], length, None, IfOk};
 ghost use Rattle.daq_types.specs.declared.runs.RunState.TheVariants.{Stopped};
-ghost use Rattle.session_engine.specs.MainKnowledge.{known_from};
+ghost use Rattle.session_runs.specs.MainKnowledge.{known_from};
 ghost use Rattle.session_runs.specs.KeptRuns.{IsInStep, channels_of};
 
 use crate::channels::{RunChannels, channels_of};
 use crate::on::{CurrentRun, OpenRun};
+use crate::{MainSeat, RunRecord};
 use daq_types::{BoundedList, Journal, Name, NoMemory};
 use mid_logger::ChannelSpec;
-use run_records::RunRecord;
-use session_engine::MainSeat;
 use std::alloc::Global;
 use std::marker::Model;
 use transitions::Tallies;
@@ -38,7 +37,7 @@ pub struct Runs<'a> {
 impl<'a> Model for Runs<'a> {
     ghost use Rattle.std.specs.Prelude.{◌≡◌, ◌≤◌, ◌<◌, [], length, vec_len, vec_capacity};
     ghost use Rattle.std.specs.Option.{option_map, ForSome};
-    ghost use Rattle.session_engine.specs.MainKnowledge.{known_from};
+    ghost use Rattle.session_runs.specs.MainKnowledge.{known_from};
     ghost use Rattle.session_runs.specs.KeptRuns.{RunsSeen, IsInStep};
 
     ghost Value = { RunsSeen };

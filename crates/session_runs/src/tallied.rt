@@ -5,8 +5,8 @@ ghost use Rattle.transitions.specs.declared.answers.ClientTally.{ClientTally};
 ghost use Rattle.session_runs.specs.ToldTallies.{front_told, fronts_told, states_told, files_of, files_told, file_told, front_by, states_by, report_by, report_told, reports_told};
 
 use crate::channels::RunChannel;
+use crate::{FileRecord, FileRecords, FrontTallies, FrontTally, ReportTallies, ReportTally};
 use daq_types::ChannelState;
-use run_records::{FileRecord, FileRecords, FrontTallies, FrontTally, ReportTallies, ReportTally};
 use std::mem::replace;
 use transitions::{ClientTally, Tallies, Tally};
 

@@ -3,7 +3,7 @@ use Rattle.std.specs.Prelude.{◌≡◌, ℕ, ◌+◌, ◌<◌, Bool, true, fals
 use Rattle.std.proofs.Common.{ap, ◌∙◌, arith, length-append}
 use Rattle.std.proofs.lemmas.List.Sums.{sum_by-append, sum_by-cons}
 use Rattle.std.proofs.lemmas.Option.{same_Some}
-use Rattle.odb_path.specs.Paths.{same_name}
+use Rattle.odb_value.specs.Paths.{same_name}
 use Rattle.session_setup.specs.declared.declared.BufferDeclared.{BufferDeclared}
 use Rattle.session_setup.specs.Setup.{system_name, total_size}
 use Rattle.session_setup.specs.SetupLines.{first_resized, buffers_with}

@@ -12,7 +12,7 @@ use Rattle.std.proofs.lemmas.Map.Keys.{IsDistinct-head, IsDistinct-tail, IsDisti
 use Rattle.daq_types.specs.declared.names.NameRefusal.{NameRefusal}
 use Rattle.mid_logger.specs.Patterns.{NamePattern}
 use Rattle.mid_logger.specs.declared.channel_spec.ChannelSpec.{ChannelSpec}
-use Rattle.odb_path.specs.Paths.{same_name}
+use Rattle.odb_value.specs.Paths.{same_name}
 use Rattle.daq_types.specs.declared.runs.Kind.{Kind}
 use Rattle.session_setup.specs.declared.declared.AnalyzerDeclared.{AnalyzerDeclared}
 use Rattle.session_setup.specs.declared.declared.BufferDeclared.{BufferDeclared}

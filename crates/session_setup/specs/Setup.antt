@@ -1,7 +1,7 @@
 -- What a session has before it opens: its buffers, its front-ends, the channels of its logger, and its analyzers.
 use Rattle.std.specs.Prelude.{◌≡◌, ℕ, ◌%◌, ◌<◌, ◌≤◌, ◌==◌, ◌&&◌, ◌||◌, Bool, true, false, nat_le, nat_eq, IsTrue, List, [], ◌∷◌, length, map, take, sum_by, position, All, Option, codes}
 use Rattle.std.specs.List.{list_any, IsDistinct}
-use Rattle.odb_path.specs.Paths.{same_name}
+use Rattle.odb_value.specs.Paths.{same_name}
 use Rattle.mid_logger.specs.declared.channel_spec.ChannelSpec.{ChannelSpec}
 use Rattle.session_setup.specs.declared.declared.AnalyzerDeclared.{AnalyzerDeclared}
 use Rattle.session_setup.specs.declared.declared.BufferDeclared.{BufferDeclared}

@@ -1,8 +1,8 @@
 -- What the lines `buffer`, `equip`, `channel` and `analyzer` refuse, and what they leave where they are taken.
 use Rattle.std.specs.Prelude.{◌≡◌, ℕ, ◌&&◌, Bool, true, not, if◌then◌else◌, nat_le, nat_lt, List, [], ◌∷◌, ◌++◌, length, Option, Some, None, is_none, unwrap_or, codes}
-use Rattle.odb_path.specs.Paths.{same_name}
+use Rattle.odb_value.specs.Paths.{same_name}
 use Rattle.daq_types.specs.Names.{is_compressed}
-use Rattle.daq_model.specs.Events.{any}
+use Rattle.event.specs.Events.{any}
 use Rattle.mid_logger.specs.Patterns.{NamePattern, IsPattern, IsPatternText, pattern_text}
 use Rattle.mid_logger.specs.declared.channel_spec.ChannelSpec.{ChannelSpec}
 use Rattle.daq_types.specs.declared.runs.Kind.{Kind}

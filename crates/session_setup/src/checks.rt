@@ -1,7 +1,7 @@
 // The tests that a declaration has to pass, each for itself.
 ghost use Rattle.std.specs.Prelude.{◌≡◌, ◌<◌, ◌≤◌, ◌^◌, length};
 ghost use Rattle.daq_types.specs.Names.{is_compressed};
-ghost use Rattle.odb_path.specs.Paths.{same_name};
+ghost use Rattle.odb_value.specs.Paths.{same_name};
 ghost use Rattle.session_setup.specs.Setup.{is_buffer_size, is_front_id, total_size, buffer_named, has_buffer, front_named, analyzer_named, has_front_id, has_channel};
 
 use crate::declared::{AnalyzerDeclared, BufferDeclared, FrontDeclared};

@@ -7,10 +7,9 @@ ghost use Rattle.transitions.specs.EngineHistories.{IsSheet, IsFairTurn};
 
 use crate::locked::LockedEngine;
 use daq_types::{Name, Transition};
-use run_states::Sequences;
 use transitions::{
-    Answer, BeginRefusal, InProgress, NotYourTurn, Polled, Progress, RegisterRefusal, Sheet,
-    Tallies,
+    Answer, BeginRefusal, InProgress, NotYourTurn, Polled, Progress, RegisterRefusal, Sequences,
+    Sheet, Tallies,
 };
 use turn_lock::Call;
 

@@ -13,12 +13,11 @@ ghost use Rattle.turn_lock.specs.Entered.{Enters};
 use crate::calls::{AnswerTurn, Begin, Check, Close, Poll, Register};
 use crate::locked::LockedEngine;
 use daq_types::{Name, NoMemory, Transition};
-use run_states::Sequences;
 use std::alloc::Global;
 use std::sync::Wait;
 use transitions::{
     Answer, BeginRefusal, Engine, InProgress, NotYourTurn, Polled, Progress, RegisterRefusal,
-    Sheet, Tallies,
+    Sequences, Sheet, Tallies,
 };
 use turn_lock::{Call, Closed, MissingPass, Pass, Passes, Turns};
 

@@ -8,7 +8,7 @@ use Rattle.daq_types.specs.declared.runs.Transition.TheVariants.{Start, Pause, S
 use Rattle.daq_types.specs.declared.runs.StartOutcome.{StartOutcome}
 use Rattle.daq_types.specs.declared.runs.StartOutcome.TheVariants.{Completed, Refused}
 use Rattle.daq_types.specs.declared.runs.Why.TheVariants.{NotReady}
-use Rattle.daq_model.specs.Events.{record_limit}
+use Rattle.event.specs.Events.{record_limit}
 use Rattle.event_report.specs.Reports.{Totals, report_of}
 use Rattle.transitions.specs.declared.replies.BeginRefusal.TheVariants.{WrongState}
 use Rattle.transitions.specs.declared.replies.Polled.TheVariants.{Idle}

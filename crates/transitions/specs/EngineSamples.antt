@@ -6,7 +6,7 @@ use Rattle.daq_types.specs.declared.runs.Transition.TheVariants.{Start, Stop, St
 use Rattle.daq_types.specs.declared.runs.StartOutcome.TheVariants.{Completed, Refused}
 use Rattle.daq_types.specs.declared.runs.Why.TheVariants.{NotReady}
 use Rattle.event_report.specs.Reports.{Totals, report_of}
-use Rattle.run_states.specs.declared.sequences.Sequences.{Sequences}
+use Rattle.transitions.specs.declared.sequences.Sequences.{Sequences}
 use Rattle.transitions.specs.declared.sheet.Sheet.{Sheet}
 use Rattle.transitions.specs.declared.answers.Answer.TheVariants.{Yes, No}
 use Rattle.transitions.specs.declared.answers.Tally.TheVariants.{Plain}

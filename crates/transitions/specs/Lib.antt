@@ -1,3 +1,5 @@
+pub mod States
+pub mod Sequences
 pub mod Limits
 pub mod Rooms
 pub mod Called

@@ -3,7 +3,7 @@ use Rattle.std.specs.Prelude.{◌≡◌, ℕ, suc, ◌<◌, Bool, true, false, �
 use Rattle.daq_types.specs.declared.runs.Transition.{Transition}
 use Rattle.daq_types.specs.declared.runs.Order.{Order}
 use Rattle.daq_types.specs.declared.runs.StartOutcome.{StartOutcome}
-use Rattle.run_states.specs.States.{is_allowed}
+use Rattle.transitions.specs.States.{is_allowed}
 use Rattle.event_report.specs.Reports.{Totals}
 use Rattle.transitions.specs.declared.answers.ClientTally.{ClientTally}
 use Rattle.transitions.specs.declared.replies.BeginRefusal.TheVariants.{WrongState}

@@ -1,5 +1,5 @@
+use crate::Sequences;
 use daq_types::Name;
-use run_states::Sequences;
 
 /// How many clients an engine has room for.
 pub const ENGINE_CLIENTS: usize = 64;

@@ -1,5 +1,5 @@
 ghost use Rattle.std.specs.Prelude.{◌≡◌, ◌&&◌, ◌++◌, IfOk, IfErr, None, IsTrue, drop, slice_get, if◌then◌else◌, []};
-ghost use Rattle.run_states.specs.States.{is_allowed};
+ghost use Rattle.transitions.specs.States.{is_allowed};
 ghost use Rattle.transitions.specs.declared.entry.EngineEntry.TheVariants.{Register, Begin, Poll, Answer as AnswerCall, Check, Close};
 ghost use Rattle.transitions.specs.declared.answers.Answer.TheVariants.{Yes, No};
 ghost use Rattle.transitions.specs.Engines.{engine_opening};
@@ -14,9 +14,9 @@ use crate::called::{Called, call_clients};
 use crate::client::{ENGINE_CLIENTS, Registered};
 use crate::replies::{BeginRefusal, InProgress, NotYourTurn, Polled, Progress, RegisterRefusal};
 use crate::sheet::{Reports, Sheet};
+use crate::{Sequences, after, allowed};
 use daq_types::{Bytes, Name, NoMemory, Order, RunState, StartOutcome, Transition, Why};
 use event_report::Report;
-use run_states::{Sequences, after, allowed};
 use std::alloc::Global;
 use std::marker::Model;
 use std::mem::swap;

@@ -1,8 +1,8 @@
+use crate::Sequences;
 use crate::answers::{Answer, Tallies};
 use crate::replies::{BeginRefusal, InProgress, NotYourTurn, Polled, Progress, RegisterRefusal};
 use crate::sheet::Sheet;
 use daq_types::{Name, Transition};
-use run_states::Sequences;
 
 /// A call on the engine, with its arguments and its reply.
 #[derive(Drop)]

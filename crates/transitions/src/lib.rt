@@ -1,5 +1,6 @@
-//! The transition engine: the clients that take part in run transitions are called by their sequence numbers, those of equal
-//! number at once; each is given its turn, and answers; a start can be refused, and is then called off.
+//! Run states, and the engine of their transitions: which transition is allowed in which state, the state behind it, and by
+//! which sequence numbers the members of a session are called for it. The engine calls the clients that take part by these
+//! numbers, those of equal number at once; each is given its turn, and answers; a start can be refused, and is then called off.
 #![tactic(auto)]
 
 mod answers;
@@ -9,7 +10,9 @@ mod engine;
 mod entry;
 pub mod laws;
 mod replies;
+mod sequences;
 mod sheet;
+mod states;
 
 pub use answers::{Answer, ClientTally, TALLIES, Tallies, Tally};
 pub use called::Called;
@@ -17,4 +20,6 @@ pub use client::{ENGINE_CLIENTS, Registered};
 pub use engine::{Engine, Refusal};
 pub use entry::EngineEntry;
 pub use replies::{BeginRefusal, InProgress, NotYourTurn, Polled, Progress, RegisterRefusal};
+pub use sequences::{Role, Sequences};
 pub use sheet::{Reports, Sheet};
+pub use states::{after, allowed};

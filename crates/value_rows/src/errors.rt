@@ -1,5 +1,5 @@
 //! What the errors of paths say to a user.
-use odb_path::PathRefusal;
+use odb_value::PathRefusal;
 use std::alloc::{AllocError, Global};
 
 /// Why a text is no path, and what the error says.

@@ -1,9 +1,17 @@
-//! Worked values of names, lists, texts, items of the database and paths, and what the errors of paths say, tried on the calls
-//! that read, write or print them.
+//! Worked values of names, lists, texts, items of the database and paths, and of headers, banks, requests, reports and
+//! generated events, with what their errors say, tried on the calls that read, write or print them.
 #![tactic(auto)]
 
 #[cfg(test)]
+mod banks;
+#[cfg(test)]
 mod errors;
+#[cfg(test)]
+mod event_errors;
+#[cfg(test)]
+mod generated;
+#[cfg(test)]
+mod headers;
 #[cfg(test)]
 mod items;
 #[cfg(test)]
@@ -12,5 +20,9 @@ mod lists;
 mod names;
 #[cfg(test)]
 mod paths;
+#[cfg(test)]
+mod reports;
+#[cfg(test)]
+mod requests;
 #[cfg(test)]
 mod texts;

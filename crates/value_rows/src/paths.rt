@@ -1,6 +1,6 @@
 //! Worked rows of paths.
 use daq_types::Name;
-use odb_path::{Path, PathRefusal, is_front, is_same};
+use odb_value::{Path, PathRefusal, is_front, is_same};
 use std::alloc::{AllocError, Global};
 
 /// The names, each behind a slash.

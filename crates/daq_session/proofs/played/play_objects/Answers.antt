@@ -1,7 +1,7 @@
 use Rattle.std.proofs.Common.{◌∙◌, refl, sym, ap}
-use Rattle.odb_port.specs.DatabasePorts.{DatabaseAccess}
+use Rattle.odb_watch.specs.DatabasePorts.{DatabaseAccess}
 use Rattle.odb_lock.specs.SharedAccesses.{access_by_pass}
-use Rattle.database_desk.specs.DatabaseStages.{DatabaseStage, database_stage}
+use Rattle.console.specs.DatabaseStages.{DatabaseStage, database_stage}
 use Rattle.session_runs.specs.RunAnswers.{ClockTold, clock_of}
 use Rattle.session_runs.specs.KeptRuns.{RunsSeen}
 use Rattle.session_lines.specs.Stages.{unopened_stage}
@@ -54,7 +54,7 @@ returns-in-Ok-open_members g c = record {
       let met = c.in-Ok-open_members in
       let played = rw met.ensures.members.logger.had_files at c.play_opened.ensures.played in
       let later = c.play_opened.result.lines.script in
-      let behind : ScriptAt = script_at (g.S.Source.left later.src) (g.O.Sink.written later.out) later.desk.reader later.desk.last later.desk.refusals later.desk.number in
+      let behind : ScriptAt = script_at (g.S.Source.left later.src) (g.O.Sink.written later.out) later.line_loop.reader later.line_loop.last later.line_loop.refusals later.line_loop.number in
       record {
         final = played.final;
         tells = played.tells;

@@ -5,7 +5,7 @@ use Rattle.transition_lock.specs.SharedEngines.{engine_lock_of}
 use Rattle.transition_lock.specs.declared.shared.SharedEngine.{SharedEngine}
 use Rattle.session_setup.specs.declared.declared.AnalyzerDeclared.{AnalyzerDeclared}
 use Rattle.session_setup.specs.declared.declared.FrontDeclared.{FrontDeclared}
-use Rattle.session_crew.specs.Crews.{crew_seen}
+use Rattle.daq_members.specs.Crews.{crew_seen}
 use Rattle.session_objects.specs.Kept.{HasFreshBut, out_to_members}
 use Rattle.session_objects.specs.Members.{AreMembersOf}
 use Rattle.session_objects.specs.Objects.{HaveCallers}

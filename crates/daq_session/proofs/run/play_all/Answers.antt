@@ -1,6 +1,6 @@
 use Rattle.std.proofs.Common.{refl, arith}
 use Rattle.odb_lock.specs.SharedAccesses.{access_by_pass}
-use Rattle.database_desk.specs.DatabaseStages.{DatabaseStage, database_stage}
+use Rattle.console.specs.DatabaseStages.{DatabaseStage, database_stage}
 use Rattle.session_runs.specs.RunAnswers.{ClockTold, clock_of}
 use Rattle.session_lines.specs.Stages.{unopened_stage}
 use Rattle.daq_session.proofs.AloneLaws.{unopened_ends}

@@ -1,5 +1,5 @@
 use Rattle.std.proofs.Common.{◌≡◌, arith, add-one, ap, length, ◌∙◌}
-use Rattle.daq_model.specs.Generator.{next_state, state_after}
+use Rattle.event.specs.Generator.{next_state, state_after}
 use Rattle.frontend_kit.proofs.Words.{appended_word}
 use Rattle.frontend_kit.proofs.generator.append_words.Goals as goal
 

@@ -1,7 +1,7 @@
 -- So far the words of so many steps are appended, and the state is that after them.
 use Rattle.std.proofs.Common.{◌≡◌, ◌+◌, ◌*◌, ◌++◌}
 use Rattle.arrayvec.specs.ArrayVec.{array_vec_len}
-use Rattle.daq_model.specs.Generator.{state_after, generated_words, words_encoded}
+use Rattle.event.specs.Generator.{state_after, generated_words, words_encoded}
 use Rattle.frontend_kit.proofs.generator.append_words.Given as goal
 
 abbrev pub invariant-loop-made : goal.invariant-loop-made

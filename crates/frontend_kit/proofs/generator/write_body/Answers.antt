@@ -1,6 +1,6 @@
 use Rattle.std.proofs.Common.{ℕ, ◌*◌, ◌%◌, List, ◌++◌, arith, ap, sym, ◌∙◌}
 use Rattle.std.proofs.lemmas.List.{take-replicate}
-use Rattle.daq_model.specs.Generator.{generated_words, words_encoded, first_state, word_count}
+use Rattle.event.specs.Generator.{generated_words, words_encoded, first_state, word_count}
 use Rattle.frontend_kit.specs.BankHeads.{heads}
 use Rattle.frontend_kit.proofs.BankHeads.{generated_body_is}
 use Rattle.frontend_kit.proofs.generator.write_body.Goals as goal

@@ -1,6 +1,6 @@
 use Rattle.std.specs.Prelude.{◌≡◌, length}
 use Rattle.std.proofs.Common.{arith, ap, sym, subst, ◌∙◌}
-use Rattle.session_crew.specs.Crews.{CrewSeen, IsSameCrew, NotesRunFaults, crew_seen, crew_told}
+use Rattle.daq_members.specs.Crews.{CrewSeen, IsSameCrew, NotesRunFaults, crew_seen, crew_told}
 use Rattle.member_threads.proofs.MemberLaws.{crew_stays, logger_notes, still_members, had_seen, ended_seen}
 use denote.Param.Send.{sendable}
 use Rattle.member_threads.proofs.SendLaws.{logger_send}

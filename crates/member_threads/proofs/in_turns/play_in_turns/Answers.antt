@@ -1,6 +1,6 @@
 use Rattle.std.specs.Prelude.{◌≡◌}
 use Rattle.std.proofs.Common.{ap, sym, subst, ◌∙◌}
-use Rattle.session_crew.specs.Crews.{CrewSeen, IsSameCrew, NotesRunFaults, crew_seen, crew_told}
+use Rattle.daq_members.specs.Crews.{CrewSeen, IsSameCrew, NotesRunFaults, crew_seen, crew_told}
 use Rattle.member_threads.specs.MemberTurns.{LoggerTurns}
 use Rattle.member_threads.proofs.EndLaws.{just_ended}
 use Rattle.member_threads.proofs.MemberLaws.{HadOwn, EndedOwn, crew_stays, logger_notes, still_members}

@@ -1,6 +1,6 @@
 use Rattle.std.proofs.Common.{◌∙◌, ℕ, Err, rules, refl, sym, subst, arith}
 use Rattle.std.proofs.lemmas.Result.{err_from_is_err_and, IfOk-from_err}
-use Rattle.event_header.specs.Pieces.{FailsBehind}
+use Rattle.event.specs.Pieces.{FailsBehind}
 use Rattle.daq_io.specs.Counts.{CountsFault}
 use Rattle.mid_format.proofs.PartsRead.{passed_none, passed_all, passed_more, passed_end, passed_fails}
 use Rattle.mid_format.proofs.Failing.{on_err}

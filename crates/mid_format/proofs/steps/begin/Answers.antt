@@ -1,7 +1,7 @@
 use Rattle.std.proofs.Common.{◌∙◌, Err, None, inl, inr, refl, ap}
 use Rattle.std.proofs.lemmas.Result.{err_from_is_err_and, IfOk-from_err}
 use Rattle.std.proofs.KnownBytes.{Consumes-trans}
-use Rattle.event_header.specs.Headers.{header_encoding}
+use Rattle.event.specs.Headers.{header_encoding}
 use Rattle.mid_format.specs.declared.faults.MidFault.{MidFault}
 use Rattle.mid_format.proofs.Allowed.{begin_allowed}
 use Rattle.mid_format.proofs.Ends.{counted_err, counted_ok}

@@ -1,6 +1,6 @@
 use Rattle.std.proofs.Common.{◌≡◌, ◌∙◌, ◌≤◌, ◌^◌, ◌++◌, ◌∷◌, [], ℕ, List, length, take, drop, ap, sym, subst}
-use Rattle.daq_model.specs.Events.{all_encoded}
-use Rattle.event_header.specs.Headers.{event_of}
+use Rattle.event.specs.Events.{all_encoded}
+use Rattle.event.specs.Headers.{event_of}
 use Rattle.mid_format.proofs.AtHand.{may_take}
 use Rattle.mid_format.proofs.whole.give_whole.Goals as goal
 

@@ -1,7 +1,7 @@
 use Rattle.std.proofs.Common.{ap}
-use Rattle.daq_model.specs.Events.{encoding}
-use Rattle.event_header.specs.declared.head.Header.{Header}
-use Rattle.event_header.specs.Headers.{event_of}
+use Rattle.event.specs.Events.{encoding}
+use Rattle.event.specs.declared.head.Header.{Header}
+use Rattle.event.specs.Headers.{event_of}
 use Rattle.mid_logger.proofs.FileSteps.{made_with}
 use Rattle.mid_logger.proofs.record_files.begin_file.Goals as goal
 

@@ -1,8 +1,8 @@
 use Rattle.std.proofs.Common.{ℕ, List, ap, subst}
-use Rattle.daq_model.specs.Events.{encoding}
+use Rattle.event.specs.Events.{encoding}
 use Rattle.daq_io.proofs.SeenLaws.{Extends-writes}
-use Rattle.event_header.specs.declared.head.Header.{Header}
-use Rattle.event_header.specs.Headers.{event_of}
+use Rattle.event.specs.declared.head.Header.{Header}
+use Rattle.event.specs.Headers.{event_of}
 use Rattle.mid_logger.specs.Channels.{ClosesPart}
 use Rattle.mid_logger.proofs.FileParts.{part_closed}
 use Rattle.mid_logger.proofs.FileSteps.{closed_whole, closed_part}

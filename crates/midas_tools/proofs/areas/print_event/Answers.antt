@@ -1,6 +1,6 @@
 use Rattle.std.proofs.Common.{ℕ, List, ap, inl, inr, refl, subst}
 use Rattle.std.proofs.lemmas.Result.{err_from_is_err_and}
-use Rattle.event_header.specs.Headers.{event_of}
+use Rattle.event.specs.Headers.{event_of}
 use Rattle.midas_tools.specs.Areas.{bank_lines}
 use Rattle.midas_tools.specs.Printing.{PassesText}
 use Rattle.midas_tools.specs.Texts.{no_banks_line}

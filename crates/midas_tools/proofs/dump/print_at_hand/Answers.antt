@@ -1,6 +1,6 @@
 use Rattle.std.proofs.Common.{◌∙◌, ℕ, List, Err, Ok, subst, arith}
 use Rattle.std.proofs.lemmas.Result.{err_from_is_err_and}
-use Rattle.event_header.specs.Headers.{event_of}
+use Rattle.event.specs.Headers.{event_of}
 use Rattle.midas_tools.specs.Areas.{PassesLines, AreEventLines}
 use Rattle.midas_tools.proofs.Dumping.{one_more, one_cut, stepped_on}
 use Rattle.midas_tools.proofs.dump.print_at_hand.Goals as goal

@@ -1,6 +1,6 @@
 -- What was read so far was printed, and the file goes on.
 use Rattle.std.proofs.Common.{◌≡◌, ◌≤◌, ◌-◌, ◌^◌}
-use Rattle.daq_model.specs.Events.{event_limit}
+use Rattle.event.specs.Events.{event_limit}
 use Rattle.midas_tools.specs.Dumps.{Printing}
 use Rattle.midas_tools.proofs.dump.print_events.Given as goal
 

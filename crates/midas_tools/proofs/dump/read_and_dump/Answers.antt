@@ -1,5 +1,5 @@
 use Rattle.std.proofs.Common.{Option, Some, None, Err, subst}
-use Rattle.event_header.specs.declared.head.Header.{Header}
+use Rattle.event.specs.declared.head.Header.{Header}
 use Rattle.midas_tools.specs.Dumps.{EndsText, ListsTo, ended_text}
 use Rattle.midas_tools.specs.declared.halts.Halt.{Halt}
 use Rattle.midas_tools.proofs.Dumping.{dumps_good, dumps_fault}

@@ -1,6 +1,6 @@
 -- The events that were given were taken in, and no fault was met.
 use Rattle.std.proofs.Common.{◌≡◌, ◌≤◌, ◌-◌, ◌^◌}
-use Rattle.daq_model.specs.Events.{event_limit}
+use Rattle.event.specs.Events.{event_limit}
 use Rattle.midas_tools.specs.Summaries.{SumsSome}
 use Rattle.midas_tools.proofs.telling.sum_events.Given as goal
 

@@ -1,4 +1,4 @@
-use Rattle.odb_path.specs.PathText.{path_reply}
+use Rattle.odb_value.specs.PathText.{path_reply}
 use Rattle.odb_commands.specs.CommandCalls.{CreatesKey}
 use Rattle.odb_commands.proofs.Made.{ends_cut, not_begun, cut_at_path, cut_create}
 use Rattle.odb_commands.proofs.commands.create.Goals as goal

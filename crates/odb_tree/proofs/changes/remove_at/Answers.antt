@@ -1,6 +1,6 @@
 use Rattle.std.proofs.Common.{◌≡◌, List, length, ap, not, arith, rules, tests}
 use Rattle.std.proofs.lemmas.Fn.{filter_same}
-use Rattle.odb_path.specs.Paths.{is_front}
+use Rattle.odb_value.specs.Paths.{is_front}
 use Rattle.odb_tree.specs.declared.rows.Row.{Row}
 use Rattle.odb_tree.specs.Rows.{rows_outside}
 use Rattle.odb_tree.proofs.changes.remove_at.Goals as goal

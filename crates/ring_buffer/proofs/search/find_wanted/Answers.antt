@@ -1,5 +1,5 @@
 use Rattle.std.proofs.Common.{ℕ, ◌<◌, ◌≤◌, List, length, refl, sym, subst, ◌∙◌, arith}
-use Rattle.client_pointers.specs.Pointers.{clients_of}
+use Rattle.ring_buffer.specs.Pointers.{clients_of}
 use Rattle.ring_buffer.specs.Stored.{ring_event_at}
 use Rattle.ring_buffer.proofs.Walking.{next_is, holds_read, wanted_now, moved_on, small_front, sought_next, sought_found, sought_nothing}
 use Rattle.ring_buffer.proofs.search.find_wanted.Goals as goal

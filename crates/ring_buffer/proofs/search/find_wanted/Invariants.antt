@@ -1,4 +1,4 @@
-use Rattle.client_pointers.specs.Pointers.{clients_of}
+use Rattle.ring_buffer.specs.Pointers.{clients_of}
 use Rattle.ring_buffer.proofs.Walking.{IsSought}
 use Rattle.ring_buffer.proofs.search.find_wanted.Given as goal
 

@@ -1,4 +1,4 @@
-use Rattle.client_pointers.specs.Pointers.{clients_of}
+use Rattle.ring_buffer.specs.Pointers.{clients_of}
 use Rattle.ring_buffer.proofs.Walking.{IsWalked}
 use Rattle.ring_buffer.proofs.search.find_way.Given as goal
 

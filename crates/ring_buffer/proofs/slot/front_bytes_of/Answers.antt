@@ -1,5 +1,5 @@
 use Rattle.std.proofs.Common.{◌∙◌, ap, subst}
-use Rattle.event_header.specs.Headers.{header_encoding}
+use Rattle.event.specs.Headers.{header_encoding}
 use Rattle.ring_buffer.specs.Stored.{IsHeader}
 use Rattle.ring_buffer.proofs.Fields.{front_joined}
 use Rattle.ring_buffer.proofs.slot.front_bytes_of.Goals as goal

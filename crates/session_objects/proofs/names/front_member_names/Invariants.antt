@@ -1,6 +1,6 @@
 use Rattle.std.proofs.Common.{◌≡◌, map, take}
-use Rattle.run_states.specs.declared.sequences.Role.TheVariants.{FrontEnd}
-use Rattle.session_engine.specs.Members.{member_in}
+use Rattle.transitions.specs.declared.sequences.Role.TheVariants.{FrontEnd}
+use Rattle.session_runs.specs.Members.{member_in}
 use Rattle.session_setup.specs.declared.declared.FrontDeclared.{FrontDeclared}
 use Rattle.session_objects.proofs.names.front_member_names.Given as goal
 

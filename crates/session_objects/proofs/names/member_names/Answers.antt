@@ -1,9 +1,9 @@
 use Rattle.std.proofs.Common.{◌≡◌, ◌∙◌, ℕ, List, [], ◌∷◌, ◌++◌, map, ap, sym, append_assoc}
 use Rattle.std.proofs.lemmas.Simd.{map-map}
-use Rattle.run_states.specs.declared.sequences.Role.TheVariants.{Analyzer, FrontEnd, Logger}
+use Rattle.transitions.specs.declared.sequences.Role.TheVariants.{Analyzer, FrontEnd, Logger}
 use Rattle.mid_logger.specs.ChannelTurns.{logger_name}
-use Rattle.session_engine.specs.declared.opening.MemberName.{MemberName}
-use Rattle.session_engine.specs.Members.{member_in}
+use Rattle.session_runs.specs.declared.opening.MemberName.{MemberName}
+use Rattle.session_runs.specs.Members.{member_in}
 use Rattle.session_setup.specs.declared.declared.AnalyzerDeclared.{AnalyzerDeclared}
 use Rattle.session_setup.specs.declared.declared.FrontDeclared.{FrontDeclared}
 use Rattle.session_objects.specs.Names.{member_names}

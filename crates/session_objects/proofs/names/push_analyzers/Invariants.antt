@@ -1,6 +1,6 @@
 use Rattle.std.proofs.Common.{◌≡◌, ◌++◌, map, take}
-use Rattle.run_states.specs.declared.sequences.Role.TheVariants.{Analyzer}
-use Rattle.session_engine.specs.Members.{member_in}
+use Rattle.transitions.specs.declared.sequences.Role.TheVariants.{Analyzer}
+use Rattle.session_runs.specs.Members.{member_in}
 use Rattle.session_setup.specs.declared.declared.AnalyzerDeclared.{AnalyzerDeclared}
 use Rattle.session_objects.proofs.names.push_analyzers.Given as goal
 

@@ -1,4 +1,4 @@
-use Rattle.session_runs.proofs.Made.{cut_announced, not_saved, run_announced}
+use Rattle.session_runs.proofs.MadeCalls.{cut_announced, not_saved, run_announced}
 use Rattle.session_runs.proofs.starting.announce_run.Goals as goal
 
 pub returns-in_default-clause-interrupted : goal.returns-in_default-clause-interrupted

@@ -1,9 +1,9 @@
 use Rattle.std.proofs.Common.{ap, ◌∙◌}
 use Rattle.daq_types.specs.declared.runs.StartOutcome.{StartOutcome}
 use Rattle.daq_types.specs.declared.runs.Transition.TheVariants.{Stop}
-use Rattle.session_engine.specs.MainKnowledge.{known_from, known_behind}
+use Rattle.session_runs.specs.MainKnowledge.{known_from, known_behind}
 use Rattle.session_runs.specs.RunEntries.{later_sheet}
-use Rattle.session_runs.proofs.Made.{drives_stop, stop_is_none}
+use Rattle.session_runs.proofs.MadeCalls.{drives_stop, stop_is_none}
 use Rattle.session_runs.proofs.stopping.make_stop.Goals as goal
 
 pub returns-clause-drives : goal.returns-clause-drives

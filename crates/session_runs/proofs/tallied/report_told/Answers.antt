@@ -2,7 +2,7 @@ use Rattle.std.specs.Prelude.{◌≡◌, ◌≤◌, List, Option, None, IfNone, 
 use Rattle.std.proofs.Common.{ap, sym, subst, ◌∙◌, arith}
 use Rattle.std.proofs.lemmas.List.{at_drop_all}
 use Rattle.transitions.specs.declared.answers.ClientTally.{ClientTally}
-use Rattle.run_records.specs.declared.records.ReportTally.{ReportTally}
+use Rattle.session_runs.specs.declared.records.ReportTally.{ReportTally}
 use Rattle.session_runs.specs.ToldTallies.{report_told}
 use Rattle.session_runs.proofs.Lists.{no_report, report_found, report_further}
 use Rattle.session_runs.proofs.tallied.report_told.Goals as goal

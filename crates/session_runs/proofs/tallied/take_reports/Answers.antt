@@ -1,7 +1,7 @@
 use Rattle.std.specs.Prelude.{◌≢◌, ◌+◌, ◌++◌, List, Option}
 use Rattle.std.specs.Option.{option_to_list}
 use Rattle.std.proofs.Common.{ap, sym, ◌∙◌, arith}
-use Rattle.run_records.specs.declared.records.ReportTally.{ReportTally}
+use Rattle.session_runs.specs.declared.records.ReportTally.{ReportTally}
 use Rattle.session_runs.specs.ToldTallies.{reports_told}
 use Rattle.session_runs.proofs.Lists.{reports_next}
 use Rattle.session_runs.proofs.tallied.take_reports.Goals as goal

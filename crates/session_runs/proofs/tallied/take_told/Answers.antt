@@ -1,7 +1,7 @@
 use Rattle.std.specs.Prelude.{◌<◌, ◌++◌, ℕ, List, Option, length, take}
 use Rattle.std.specs.Option.{option_to_list}
 use Rattle.std.proofs.Common.{ap, sym, ◌∙◌, arith}
-use Rattle.run_records.specs.declared.records.FileRecord.{FileRecord}
+use Rattle.session_runs.specs.declared.records.FileRecord.{FileRecord}
 use Rattle.session_runs.specs.ToldTallies.{files_told}
 use Rattle.session_runs.proofs.Lists.{files_next}
 use Rattle.session_runs.proofs.tallied.take_told.Goals as goal

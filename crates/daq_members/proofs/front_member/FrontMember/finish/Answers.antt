@@ -4,7 +4,7 @@ use Rattle.front_ends.specs.FrontKept.{FrontStands}
 use Rattle.member_model.specs.Turns.{latest_answered}
 use Rattle.turn_lock.specs.Passes.{own_entries}
 use Rattle.member_model.specs.TurnCalls.{member_turns}
-use Rattle.odb_port.specs.DatabasePorts.{own_watched}
+use Rattle.odb_watch.specs.DatabasePorts.{own_watched}
 use Rattle.daq_members.proofs.OwnTurnLaws.{finished_turns}
 use Rattle.daq_members.proofs.FrontMemberLaws.{finished_stands, engine_unanswered}
 use Rattle.daq_members.proofs.front_member.FrontMember.finish.Goals as goal

@@ -3,7 +3,7 @@ use Rattle.std.proofs.Common.{ap, refl, ◌∙◌}
 use Rattle.turn_lock.specs.Passes.{own_entries}
 use Rattle.transitions.specs.declared.replies.Polled.TheVariants.{Idle, Closed, NoClient}
 use Rattle.member_model.specs.TurnCalls.{member_turns}
-use Rattle.odb_port.specs.DatabasePorts.{own_watched}
+use Rattle.odb_watch.specs.DatabasePorts.{own_watched}
 use Rattle.daq_members.specs.declared.seat.Seat.{Seat}
 use Rattle.daq_members.specs.FrontTaken.{turned_by, is_sent}
 use Rattle.daq_members.proofs.OwnTurnLaws.{idle_turns, closed_turns, unknown_turns}

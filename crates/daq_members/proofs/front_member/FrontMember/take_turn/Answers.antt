@@ -4,7 +4,7 @@ use Rattle.front_ends.specs.Fronts.{FrontState, front_turn}
 use Rattle.front_ends.specs.FrontKept.{FrontStands}
 use Rattle.turn_lock.specs.Passes.{own_entries}
 use Rattle.member_model.specs.TurnCalls.{member_turns}
-use Rattle.odb_port.specs.DatabasePorts.{own_watched}
+use Rattle.odb_watch.specs.DatabasePorts.{own_watched}
 use Rattle.daq_members.proofs.OwnTurnLaws.{none_open, taken_turns}
 use Rattle.daq_members.proofs.FrontMemberLaws.{taken_stands}
 use Rattle.daq_members.proofs.front_member.FrontMember.take_turn.Goals as goal

@@ -1,6 +1,6 @@
 use Rattle.std.proofs.Common.{ap, sym, refl, subst, ◌∙◌, arith}
 use Rattle.std.specs.Prelude.{◌||◌, ◌≤◌, Bool, IfSome, List, length, map}
-use Rattle.daq_model.specs.Events.{record_limit}
+use Rattle.event.specs.Events.{record_limit}
 use Rattle.turn_lock.specs.Passes.{own_entries}
 use Rattle.transitions.specs.declared.replies.Polled.TheVariants.{Idle, Closed, NoClient}
 use Rattle.member_model.specs.Turns.{MemberTurn}

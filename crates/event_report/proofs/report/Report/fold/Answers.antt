@@ -4,7 +4,7 @@ use Rattle.std.specs.List.{filter_map}
 use Rattle.daq_types.specs.declared.events.Event.{Event}
 use Rattle.bank_format.specs.BankAreas.{BankValue}
 use Rattle.bank_format.specs.Places.{BankReading}
-use Rattle.event_header.specs.Headers.{event_of}
+use Rattle.event.specs.Headers.{event_of}
 use Rattle.event_report.specs.EventBanks.{banks_of, integer_bank}
 use Rattle.event_report.proofs.BankAreaLaws.{weight_within, banks_of_area, no_banks}
 use Rattle.event_report.specs.Steps.{banks_after}

@@ -1,8 +1,8 @@
 use Rattle.std.proofs.Common.{ℕ, ◌+◌, List, length, ap, sym, ◌∙◌, arith}
 use Rattle.daq_types.specs.declared.events.Event.{Event}
-use Rattle.daq_model.specs.Events.{is_reserved}
-use Rattle.event_header.specs.declared.head.Header.{Header}
-use Rattle.event_header.specs.Headers.{event_of}
+use Rattle.event.specs.Events.{is_reserved}
+use Rattle.event.specs.declared.head.Header.{Header}
+use Rattle.event.specs.Headers.{event_of}
 use Rattle.front_ends.proofs.FrontSends.{has_step}
 use Rattle.front_ends.proofs.front_end.FrontEnd.send_next.Goals as goal
 

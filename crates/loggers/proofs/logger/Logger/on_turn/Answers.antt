@@ -1,6 +1,6 @@
 use Rattle.std.specs.Prelude.{◌≤◌, ℕ, IfSome, List, [], length, unwrap_or, Option, Some, None}
 use Rattle.std.proofs.Common.{arith, map}
-use Rattle.daq_model.specs.Events.{record_limit}
+use Rattle.event.specs.Events.{record_limit}
 use Rattle.loggers.specs.Moments.{files_by, moment_of}
 use Rattle.loggers.specs.Turning.{LoggerTurn}
 use Rattle.loggers.proofs.SameShape.{turn_ports, turn_room}

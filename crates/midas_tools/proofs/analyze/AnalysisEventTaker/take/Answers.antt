@@ -1,5 +1,5 @@
 use Rattle.std.proofs.Common.{◌∙◌, arith, ap}
-use Rattle.event_header.specs.Headers.{event_of}
+use Rattle.event.specs.Headers.{event_of}
 use Rattle.event_report.specs.Reports.{Totals}
 use Rattle.event_report.proofs.Reports.{report_bytes}
 use Rattle.mid_format.proofs.AtHand.{encoded_more}

@@ -1,5 +1,5 @@
 use Rattle.std.proofs.Common.{sym, subst}
-use Rattle.odb_path.specs.Paths.{IsPath}
+use Rattle.odb_value.specs.Paths.{IsPath}
 use Rattle.odb_tree.specs.Databases.{IsDatabase}
 use Rattle.odb_arena.proofs.Accepted.{can_create}
 use Rattle.odb_arena.proofs.tree.ArenaTreeDatabase.create.Goals as goal

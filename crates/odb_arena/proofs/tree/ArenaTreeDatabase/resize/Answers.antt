@@ -1,5 +1,5 @@
 use Rattle.std.proofs.Common.{ℕ, List, refl, sym, subst, ap, ◌∙◌}
-use Rattle.odb_path.specs.Paths.{IsPath}
+use Rattle.odb_value.specs.Paths.{IsPath}
 use Rattle.odb_value.specs.Values.{HeldValue}
 use Rattle.odb_value.specs.ValueChanges.{resized}
 use Rattle.odb_tree.specs.Rows.{change_at}

@@ -1,6 +1,6 @@
 use Rattle.std.proofs.Common.{ℕ, List, refl, Err, sym, subst, ap, ◌∙◌}
 use Rattle.std.proofs.lemmas.Result.{err_from_is_err_and}
-use Rattle.odb_path.specs.Paths.{IsPath}
+use Rattle.odb_value.specs.Paths.{IsPath}
 use Rattle.odb_value.specs.Values.{HeldValue}
 use Rattle.odb_value.specs.ValueChanges.{put_in}
 use Rattle.odb_tree.specs.declared.refusals.OdbRefusal.{OdbRefusal}

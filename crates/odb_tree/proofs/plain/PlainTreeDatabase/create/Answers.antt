@@ -1,5 +1,5 @@
 use Rattle.std.proofs.Common.{Option, sym, subst}
-use Rattle.odb_path.specs.Paths.{IsPath}
+use Rattle.odb_value.specs.Paths.{IsPath}
 use Rattle.odb_value.specs.Values.{HeldValue}
 use Rattle.odb_tree.specs.Making.{created}
 use Rattle.odb_tree.specs.Databases.{IsDatabase}

@@ -1,6 +1,6 @@
 use Rattle.std.proofs.Common.{◌≡◌, List, Some, None, sym, ap, ◌∙◌, subst}
 use Rattle.std.specs.Option.{option_copied}
-use Rattle.odb_path.specs.Paths.{IsPath}
+use Rattle.odb_value.specs.Paths.{IsPath}
 use Rattle.odb_value.specs.Values.{HeldValue}
 use Rattle.odb_tree.specs.declared.rows.Row.{Row}
 use Rattle.odb_tree.specs.Rows.{Rows, row_at}

@@ -1,11 +1,11 @@
 use Rattle.std.proofs.Common.{◌≡◌, ◌+◌, ◌^◌, ◌≤◌, ◌∷◌, [], ◌++◌, ℕ, List, length, refl, take, drop, sum_by, subst, ap, sym, ◌∙◌, arith}
 use Rattle.std.proofs.lemmas.List.{length-drop}
 use Rattle.std.proofs.lemmas.List.Elements.{All-push, All-drop}
-use Rattle.daq_model.specs.Events.{slot_of_length}
+use Rattle.event.specs.Events.{slot_of_length}
 use Rattle.plain_buffer.specs.declared.rows.Row.{Row}
 use Rattle.buffer_core.specs.Window.{Window, IsWindow}
 use Rattle.plain_buffer.specs.Rows.{slot_of_row, size_of_row, AreSmall, IsSmall, kept_of}
-use Rattle.event_header.specs.Headers.{event_of}
+use Rattle.event.specs.Headers.{event_of}
 use Rattle.buffer_core.specs.Calls.{after_send}
 use Rattle.buffer_core.proofs.WindowLaws.{slot_cover}
 use Rattle.buffer_core.proofs.WindowKept.{IsTaken, send_kept}

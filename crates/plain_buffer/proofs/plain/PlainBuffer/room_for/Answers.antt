@@ -1,5 +1,5 @@
 use Rattle.std.proofs.Common.{◌≡◌, take, Some, None, subst, ap, sym, ◌∙◌}
-use Rattle.event_header.specs.Headers.{event_of}
+use Rattle.event.specs.Headers.{event_of}
 use Rattle.buffer_core.specs.Window.{Window}
 use Rattle.buffer_core.specs.Calls.{to_drop, gone_of}
 use Rattle.plain_buffer.specs.Rows.{slot_of_row}

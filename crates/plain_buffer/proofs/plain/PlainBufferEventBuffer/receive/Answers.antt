@@ -1,5 +1,5 @@
 use Rattle.std.proofs.Common.{◌≡◌, ℕ, List, Some, None, refl, subst, sym, ap, ◌∙◌}
-use Rattle.event_header.specs.Held.{HeldEvent}
+use Rattle.event.specs.Held.{HeldEvent}
 use Rattle.plain_buffer.specs.declared.rows.Row.{Row}
 use Rattle.buffer_core.specs.declared.replies.Received.TheVariants.{Got}
 use Rattle.buffer_core.specs.Window.{Window, Sent, accepted_of}

@@ -1,7 +1,7 @@
 use Rattle.std.proofs.Common.{◌≡◌, ◌+◌, ◌≤◌, ℕ, List, length, refl, ap, sym, subst, ◌∙◌, arith}
-use Rattle.daq_model.specs.Events.{slot_of_length}
-use Rattle.event_header.specs.Headers.{event_of}
-use Rattle.ring_bytes.specs.Rings.{bytes_at}
+use Rattle.event.specs.Events.{slot_of_length}
+use Rattle.event.specs.Headers.{event_of}
+use Rattle.ring_buffer.specs.Rings.{bytes_at}
 use Rattle.buffer_core.specs.declared.entry.BufferEntry.TheVariants.{Receive}
 use Rattle.buffer_core.specs.declared.replies.Received.TheVariants.{Got, Empty}
 use Rattle.buffer_core.specs.Slots.{change_slot}
@@ -9,7 +9,7 @@ use Rattle.buffer_core.specs.Window.{Window, Sent, IsWindow, slot_of_sent, accep
 use Rattle.buffer_core.proofs.WindowKept.{window_stays}
 use Rattle.buffer_core.proofs.WindowLaws.{event_got, slot_cover}
 use Rattle.buffer_core.specs.Calls.{going_on, with_clients, event_after}
-use Rattle.client_pointers.specs.Pointers.{clients_of}
+use Rattle.ring_buffer.specs.Pointers.{clients_of}
 use Rattle.ring_buffer.specs.Stored.{ring_event_at}
 use Rattle.ring_buffer.specs.RingViews.{window_of}
 use Rattle.ring_buffer.proofs.CountLaws.{read_once}

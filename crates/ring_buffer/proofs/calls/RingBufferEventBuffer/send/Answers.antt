@@ -1,5 +1,5 @@
 use Rattle.std.proofs.Common.{Ok, sym}
-use Rattle.event_header.specs.Headers.{event_of}
+use Rattle.event.specs.Headers.{event_of}
 use Rattle.buffer_core.specs.declared.entry.BufferEntry.TheVariants.{Send}
 use Rattle.buffer_core.proofs.WindowKept.{window_stays}
 use Rattle.ring_buffer.proofs.calls.RingBufferEventBuffer.send.Goals as goal

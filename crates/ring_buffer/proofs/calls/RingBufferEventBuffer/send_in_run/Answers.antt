@@ -1,5 +1,5 @@
 use Rattle.std.proofs.Common.{◌≡◌, Ok, Err, Bool, if◌then◌else◌, sym, ap, ◌∙◌, true}
-use Rattle.event_header.specs.Headers.{event_of}
+use Rattle.event.specs.Headers.{event_of}
 use Rattle.buffer_core.specs.declared.entry.BufferEntry.TheVariants.{SendInRun}
 use Rattle.buffer_core.specs.Calls.{is_running, send_reply}
 use Rattle.buffer_core.specs.declared.replies.SendRefusal.TheVariants.{NotRunning}

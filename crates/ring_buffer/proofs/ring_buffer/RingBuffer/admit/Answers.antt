@@ -1,6 +1,6 @@
 use Rattle.std.proofs.Common.{◌<◌, ◌≤◌, ◌^◌, length, ap, ◌∙◌, arith, rules}
-use Rattle.daq_model.specs.Events.{slot_size, slot_of_length}
-use Rattle.event_header.specs.Headers.{event_of}
+use Rattle.event.specs.Events.{slot_size, slot_of_length}
+use Rattle.event.specs.Headers.{event_of}
 use Rattle.buffer_core.specs.Calls.{after_send}
 use Rattle.buffer_core.proofs.WindowLaws.{slot_cover}
 use Rattle.ring_buffer.specs.CountedWindows.{CountedWindow}

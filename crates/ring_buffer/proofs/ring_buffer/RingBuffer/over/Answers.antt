@@ -1,5 +1,5 @@
 use Rattle.std.proofs.Common.{List, ap, sym, subst, ◌∙◌, Option}
-use Rattle.client_pointers.specs.declared.pointer.Pointer.{Pointer}
+use Rattle.ring_buffer.specs.declared.pointer.Pointer.{Pointer}
 use Rattle.ring_buffer.specs.RingViews.{window_of, IsRingBuffer}
 use Rattle.ring_buffer.proofs.Opening.{opened, opened_is, opening_is}
 use Rattle.ring_buffer.proofs.ring_buffer.RingBuffer.over.Goals as goal

@@ -1,5 +1,5 @@
 use Rattle.std.proofs.Common.{ℕ, Ok, Result, ap, sym, subst, ◌∙◌}
-use Rattle.event_header.specs.Headers.{event_of}
+use Rattle.event.specs.Headers.{event_of}
 use Rattle.buffer_core.specs.declared.entry.BufferEntry.TheVariants.{Send}
 use Rattle.buffer_core.specs.declared.replies.SendRefusal.{SendRefusal}
 use Rattle.buffer_core.specs.Window.{Window, accepted_of, IsWindow}

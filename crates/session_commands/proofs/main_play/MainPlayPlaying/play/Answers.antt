@@ -1,5 +1,5 @@
 use Rattle.std.proofs.Common.{◌≡◌, ap, rules, subst, ◌∙◌}
-use Rattle.session_engine.specs.MainSeats.{MainSeen, StandsFree}
+use Rattle.session_runs.specs.MainSeats.{MainSeen, StandsFree}
 use Rattle.session_commands.specs.Endings.{closing_calls}
 use Rattle.session_commands.proofs.main_play.MainPlayPlaying.play.Goals as goal
 

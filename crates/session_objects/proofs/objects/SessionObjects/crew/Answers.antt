@@ -3,7 +3,7 @@ use Rattle.std.specs.Prelude.{Option}
 use Rattle.loggers.specs.declared.logged_run.LoggedRun.{LoggedRun}
 use Rattle.loggers.specs.Turning.{buffers_begun}
 use Rattle.frontend_kit.specs.declared.generator.Generator.{Generator}
-use Rattle.session_crew.specs.Crews.{CrewSeen}
+use Rattle.daq_members.specs.Crews.{CrewSeen}
 use Rattle.loggers.specs.OtherFiles.{AreDeclared}
 use Rattle.session_objects.proofs.CrewedLaws.{stands_bare, caller_bare, ready_bare, room_bare, small_bare, reasons_bare, members_bare, logger_bare, crewed}
 use Rattle.session_objects.proofs.StayLaws.{new_are_members, new_channels_are}

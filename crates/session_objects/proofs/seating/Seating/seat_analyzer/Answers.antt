@@ -1,7 +1,7 @@
 use Rattle.std.proofs.Common.{rules, ◌≡◌, ◌∙◌, ◌<◌, ◌+◌, ◌-◌, ◌≤◌, min, ℕ, List, length, ap, sym, subst, get_or, arith}
 use Rattle.std.specs.Prelude.{slice_get, Option, Some, []}
 use Rattle.std.proofs.lemmas.Option.{slice_get-get_or}
-use Rattle.daq_model.specs.Events.{event_limit}
+use Rattle.event.specs.Events.{event_limit}
 use Rattle.buffer_core.specs.Window.{Window}
 use Rattle.buffer_core.specs.Ports.{Access}
 use Rattle.turn_lock.specs.Passes.{own_entries}

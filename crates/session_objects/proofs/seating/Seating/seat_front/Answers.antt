@@ -5,7 +5,7 @@ use Rattle.std.proofs.lemmas.Option.{slice_get-get_or}
 use Rattle.buffer_core.specs.Window.{Window}
 use Rattle.buffer_core.specs.Ports.{Access}
 use Rattle.turn_lock.specs.Passes.{own_entries}
-use Rattle.odb_port.specs.DatabasePorts.{DatabaseAccess, own_watched}
+use Rattle.odb_watch.specs.DatabasePorts.{DatabaseAccess, own_watched}
 use Rattle.front_ends.specs.FrontIds.{IsFrontId}
 use Rattle.front_ends.specs.Fronts.{FrontState}
 use Rattle.frontend_kit.specs.declared.generator.Generator.{Generator}

@@ -2,7 +2,7 @@ use Rattle.std.proofs.Common.{rules, ◌≡◌, ◌∙◌, ◌<◌, ◌+◌, ◌
 use Rattle.std.specs.Prelude.{slice_get, Some}
 use Rattle.std.specs.Option.{option_map}
 use Rattle.std.proofs.lemmas.Option.{slice_get_within, slice_get-map}
-use Rattle.analyzer_seats.specs.SeatedAnalyzers.{AnalyzerSeen}
+use Rattle.daq_members.specs.SeatedAnalyzers.{AnalyzerSeen}
 use Rattle.session_objects.specs.Kept.{out_to_analyzers}
 use Rattle.session_objects.specs.Records.{HasCallsBut}
 use Rattle.session_objects.specs.Members.{analyzer_calls}

@@ -1,5 +1,5 @@
 use Rattle.std.proofs.Common.{◌≡◌, ◌++◌, List, length}
-use Rattle.analyzer_seats.specs.SeatedAnalyzers.{AnalyzerSeen}
+use Rattle.daq_members.specs.SeatedAnalyzers.{AnalyzerSeen}
 use Rattle.session_objects.specs.Kept.{out_to_analyzers}
 use Rattle.session_objects.specs.Records.{HasCallsBut}
 use Rattle.session_objects.proofs.seating.Seating.take_back_analyzers.Given as goal

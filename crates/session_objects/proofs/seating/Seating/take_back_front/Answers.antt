@@ -5,7 +5,7 @@ use Rattle.turn_lock.specs.Passes.{number_of, seen_by}
 use Rattle.buffer_core.specs.Ports.{Access}
 use Rattle.transition_lock.specs.declared.shared.SharedEngine.{SharedEngine}
 use Rattle.transition_lock.specs.SharedEngines.{engine_lock_of}
-use Rattle.odb_port.specs.DatabasePorts.{DatabaseAccess}
+use Rattle.odb_watch.specs.DatabasePorts.{DatabaseAccess}
 use Rattle.session_setup.specs.declared.declared.FrontDeclared.{FrontDeclared}
 use Rattle.turn_lock.specs.Passes.{IsOf}
 use Rattle.session_objects.specs.Members.{IsFrontOf, front_calls}

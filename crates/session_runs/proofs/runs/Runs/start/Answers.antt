@@ -1,10 +1,10 @@
 use Rattle.std.specs.Prelude.{IsOk, refl}
 use Rattle.std.proofs.Common.{rules, subst}
 use Rattle.daq_types.specs.declared.runs.Transition.TheVariants.{Start}
-use Rattle.session_engine.specs.MainKnowledge.{begin_known, known_from}
+use Rattle.session_runs.specs.MainKnowledge.{begin_known, known_from}
 use Rattle.odb_runinfo.specs.RunSets.{GetsNumber}
 use Rattle.session_runs.specs.RunAnswers.{point_of}
-use Rattle.session_runs.proofs.Made.{start_answers, start_cut}
+use Rattle.session_runs.proofs.MadeCalls.{start_answers, start_cut}
 use Rattle.session_runs.proofs.runs.Runs.start.Goals as goal
 
 pub returns-in-Ok-clause-did : goal.returns-in-Ok-clause-did

@@ -5,7 +5,7 @@ use Rattle.daq_types.specs.declared.runs.StartOutcome.TheVariants.{Completed, Re
 use Rattle.session_runs.specs.declared.on.CurrentRun.{CurrentRun}
 use Rattle.session_runs.specs.KeptRuns.{RunsSeen}
 use Rattle.session_runs.specs.RunAnswers.{AnnouncesRun, BeginsRun, clock_of, point_of}
-use Rattle.session_runs.proofs.Made.{begins_run, kept_on, kept_refused, seen_of}
+use Rattle.session_runs.proofs.MadeCalls.{begins_run, kept_on, kept_refused, seen_of}
 use Rattle.session_runs.proofs.runs.Runs.start_run.Goals as goal
 
 pub returns-in-Completed-clause-did : goal.returns-in-Completed-clause-did

@@ -4,7 +4,7 @@ use Rattle.std.proofs.Common.{ap, sym, subst, ◌∙◌}
 use Rattle.session_runs.specs.declared.on.CurrentRun.{CurrentRun}
 use Rattle.session_runs.specs.KeptRuns.{RunsSeen}
 use Rattle.session_runs.specs.RunAnswers.{MakesStop, clock_of, point_of}
-use Rattle.session_runs.proofs.Made.{kept_stopped, on_begins, recorded, seen_of, stop_answered, stop_unsaved, stops_run}
+use Rattle.session_runs.proofs.MadeCalls.{kept_stopped, on_begins, recorded, seen_of, stop_answered, stop_unsaved, stops_run}
 use Rattle.session_runs.proofs.runs.Runs.stop.Goals as goal
 
 pub make_stop-time-requires-clause-begins : goal.make_stop-time-requires-clause-begins

@@ -1,7 +1,7 @@
 use Rattle.std.proofs.Common.{◌≡◌, List, ◌++◌, length, true, ap, sym, subst, ◌∙◌, arith}
 use Rattle.std.specs.Prelude.{IsTrue, if◌then◌else◌}
 use Rattle.daq_types.specs.declared.runs.RunState.{RunState}
-use Rattle.run_states.specs.States.{is_allowed}
+use Rattle.transitions.specs.States.{is_allowed}
 use Rattle.transitions.specs.declared.called.Called.{Called}
 use Rattle.transitions.specs.declared.engine.Engine.TheInside.{Inside}
 use Rattle.transitions.specs.Limits.{most_clients, most_tallies}

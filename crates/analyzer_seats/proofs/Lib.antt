@@ -1,3 +1,0 @@
-pub mod BareLaws
-pub mod AnalyzerLaws
-pub mod ManyLaws

@@ -1,4 +1,0 @@
-pub mod BareTurns
-pub mod AnalyzerTaken
-pub mod SeatedAnalyzers
-pub mod ManyAnalyzers

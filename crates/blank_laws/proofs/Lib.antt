@@ -1,4 +1,0 @@
-pub mod Wanted
-pub mod Held
-pub mod Points
-pub mod Suffice

@@ -1,5 +1,0 @@
-use Rattle.blank_laws.proofs.Suffice.{blanks_suffice}
-use Rattle.blank_laws.proofs.laws.blanks_suffice.Goals as goal
-
-pub returns : goal.returns
-returns c = blanks_suffice c.tallies_answered.ensures.refusals c.start_numbers_rise.ensures

@@ -1,0 +1,6 @@
+pub mod ConsoleLaws
+pub mod Refused
+mod PlayingLaws
+mod PlayingEnds
+mod ClosingLaws
+pub mod KeepingLaws

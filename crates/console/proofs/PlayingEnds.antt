@@ -1,0 +1,314 @@
+-- How the lines of a script end.
+use Rattle.std.proofs.Common.{◌≡◌, ℕ, ◌+◌, Bool, true, false, List, [], ◌∷◌, ◌++◌, Option, Some, None, length, refl, ap, sym, subst, ◌∙◌, arith, inl, inr, length-append}
+use Rattle.std.specs.Prelude.{Result, Ok, Err, ◌⊎◌}
+use Rattle.std.proofs.Math.Logic.{⊎_elim}
+use Rattle.std.specs.Io.KnownBytes.{Appends, Keeps}
+use Rattle.daq_io.specs.Streams.{AppendsPart}
+use Rattle.daq_io.proofs.StreamsLaws.{Appends-kept}
+use Rattle.odb_script.specs.declared.commands.Command.{Command}
+use Rattle.odb_script.specs.Forms.{Read, command_of}
+use Rattle.odb_script.specs.Lines.{Reading, kept, ReadsLine, ReadsLast, ReadsNone, ReadsTooMuch, ReadsPart}
+use Rattle.odb_script.specs.ReadLines.{HasReadLines}
+use Rattle.odb_script.proofs.ReadLines.{lines_at_fault, text_within_end, text_within_last}
+use Rattle.odb_script.proofs.KeptForms.{command_of-kept}
+use Rattle.odb_script.specs.Exits.{GoOn, ends_script, is_exit}
+use Rattle.odb_script.proofs.Exits.{ends_script-kept, stop_at_exit, lines_first, lines_first_line, lines_first_last, lines_at_exit, lines_until_end, lines_until_last, lines_until_limit}
+use Rattle.console.specs.declared.going.Going.{Going}
+use Rattle.console.specs.declared.going.Going.TheVariants as going
+use Rattle.console.specs.declared.halts.Halt.{Halt}
+use Rattle.console.specs.declared.halts.Halt.TheVariants.{NoMemory, SinkFault}
+use Rattle.console.specs.declared.endings.Ending.{Ending}
+use Rattle.console.specs.declared.endings.Ending.TheVariants.{End, TooLong, SourceFault, Halted}
+use Rattle.console.specs.declared.replies.Reply.{Reply}
+use Rattle.console.specs.declared.refusals.Refusals.{Refusals}
+use Rattle.console.specs.Console.{text_of, console_text}
+use Rattle.console.proofs.Refused.{counts_noted}
+use Rattle.console.specs.Reading.{ReadsNext, ReadsLineOrEnd}
+use Rattle.console.specs.Playing.{AreFirst, AreLines, CutBy, DoesLine, HasLine, IsBetween, OpensAt, Played, PlaysFrom, Replied, Unanswered, Wrote}
+use Rattle.console.proofs.PlayingLaws.{answered_more, between_more, keeps_same, wrote_more}
+
+-- what was read of a source that told this text
+told_read : (first now : Option (List ℕ)) (reading : Reading) (lines : List (List ℕ)) (text : List ℕ) → first ≡ Some text → HasReadLines first now reading lines → HasReadLines (Some text) now reading lines
+told_read first now reading lines text told read = subst (λ (f : Option (List ℕ)). HasReadLines f now reading lines) told read
+
+-- of a line as it is kept, whether the script ends with it
+stops : (line : List ℕ) → is_exit (command_of (kept line)) ≡ true → ends_script line ≡ true
+stops line exit = sym (ends_script-kept line) ∙ exit
+
+-- the line that was read, as it is kept
+pub shown_next : (last : Bool) (old new : Reading) (before after : Option (List ℕ)) (line : List ℕ) → ReadsNext last old new before after line → new.line ≡ kept line
+shown_next true old new before after line reads = reads.keeps
+shown_next false old new before after line reads = reads.keeps
+
+-- a line more takes a byte at least
+pub taken_next : (last : Bool) (old new : Reading) (before after : Option (List ℕ)) (line : List ℕ) → ReadsNext last old new before after line → (more : ℕ) × (new.taken ≡ old.taken + (more + 1))
+taken_next true old new before after [] reads = absurd (omega (arith, reads.some))
+taken_next true old new before after (b ∷ bs) reads = (length bs, omega (arith, reads.taken))
+taken_next false old new before after line reads = (length reads.part, omega (arith, reads.taken))
+
+module _ {St : Type 0} (does : ℕ → Read Command → St → Reply → St → Type 0) (breaks : ℕ → Read Command → St → St → Type 0) where
+  -- nothing was cut off
+  cut_none : (ending : Ending) (source : Option (List ℕ)) (lines : List (List ℕ)) (s : St) → CutBy does breaks ending source lines s s
+  cut_none End source lines s = refl
+  cut_none TooLong source lines s = refl
+  cut_none SourceFault source lines s = refl
+  cut_none (Halted NoMemory) source lines s = inl refl
+  cut_none (Halted SinkFault) source lines s = refl
+
+  -- the lines were answered, and nothing else was done
+  between_played : (ending : Ending) (first : St) (source_first source_old left told_first told_now : Option (List ℕ)) (reading : Reading) (now : St) (refusals : Refusals) (number : ℕ)
+      → (between : IsBetween does first source_first source_old told_first told_now reading now refusals number) → ((text : List ℕ) → source_first ≡ Some text → AreLines ending text left between.lines) → Wrote ending told_first told_now between.replies
+      → Played does breaks first ending source_first left told_first told_now now refusals
+  between_played ending first source_first source_old left told_first told_now reading now refusals number between are wrote = record {
+    lines = between.lines;
+    replies = between.replies;
+    behind = now;
+    plays = between.plays;
+    cut = cut_none ending source_first between.lines now;
+    counts = between.counts;
+    are_lines = are;
+    wrote = wrote;
+    numbered = between.numbered;
+  }
+
+  -- no line was read, and the lines ended so
+  pub ended_played : (ending : Ending) (last : Bool) (first : St) (source_first source_old source_new told_first told_now : Option (List ℕ)) (old new : Reading) (now : St) (refusals : Refusals) (number : ℕ)
+      → IsBetween does first source_first source_old told_first told_now old now refusals number → ReadsLineOrEnd (Some ending) last old new source_old source_new → Played does breaks first ending source_first source_new told_first told_now now refusals
+  ended_played End last first source_first source_old source_new told_first told_now old new now refusals number between reads =
+      between_played End first source_first source_old source_new told_first told_now old now refusals number between
+      (λ text told. let read = told_read source_first source_old old between.lines text told between.read in
+      record { lines_are = lines_until_end text source_old source_new old new between.lines read between.go_on reads; ends = inr (text_within_end text source_old source_new old new between.lines read reads) })
+      between.wrote
+  ended_played TooLong last first source_first source_old source_new told_first told_now old new now refusals number between reads =
+      between_played TooLong first source_first source_old source_new told_first told_now old now refusals number between
+      (λ text told. let limit = lines_until_limit text source_old source_new old new between.lines (told_read source_first source_old old between.lines text told between.read) between.go_on reads in
+      record { lines_are = limit.0; go_on = between.go_on; longer = limit.1 })
+      between.wrote
+  ended_played SourceFault last first source_first source_old source_new told_first told_now old new now refusals number between reads =
+      between_played SourceFault first source_first source_old source_new told_first told_now old now refusals number between
+      (λ text told. record { given = lines_at_fault text source_old source_new old new between.lines (told_read source_first source_old old between.lines text told between.read) reads; go_on = between.go_on })
+      between.wrote
+  ended_played (Halted halt) last first source_first source_old source_new told_first told_now old new now refusals number between reads = absurd reads
+
+  -- one line more was answered, and it was the last that was played
+  behind_played : (ending : Ending) (first : St) (source_first source_old left told_first told_old told_new : Option (List ℕ)) (reading : Reading) (old new : St) (was now : Refusals) (number place : ℕ) (line : List ℕ) (reply : Reply)
+      → place ≡ number + 1 → (between : IsBetween does first source_first source_old told_first told_old reading old was number) → Replied does (kept line) place reply old new was now
+      → ((text : List ℕ) → source_first ≡ Some text → AreLines ending text left (between.lines ++ line ∷ [])) → Wrote ending told_first told_new (between.replies ++ reply ∷ [])
+      → Played does breaks first ending source_first left told_first told_new new now
+  behind_played ending first source_first source_old left told_first told_old told_new reading old new was now number place line reply is between replied are wrote =
+      let behind : place ≡ 1 + length between.replies = omega (arith, is, between.is_number, between.numbered) in
+      record {
+        lines = between.lines ++ line ∷ [];
+        replies = between.replies ++ reply ∷ [];
+        behind = new;
+        plays = answered_more does first source_first source_old told_first told_old reading old new was now number place line reply is between replied;
+        cut = cut_none ending source_first (between.lines ++ line ∷ []) new;
+        counts = rw (replied.is_noted, behind) (counts_noted between.replies reply was between.counts);
+        are_lines = are;
+        wrote = wrote;
+        numbered = omega (arith, between.numbered, length-append between.replies (reply ∷ []), length-append between.lines (line ∷ []));
+      }
+
+  -- an `exit` or the last line was answered
+  pub stop_played : (last : Bool) (first : St) (source_first source_old source_new told_first told_old told_new : Option (List ℕ)) (reading_old reading_new : Reading) (old new : St) (was now : Refusals) (number place : ℕ) (line : List ℕ) (reply : Reply)
+      → place ≡ number + 1 → IsBetween does first source_first source_old told_first told_old reading_old old was number → ReadsNext last reading_old reading_new source_old source_new line
+      → Replied does (kept line) place reply old new was now → Appends told_old told_new (text_of place reply) → (is_exit (command_of (kept line)) ≡ true) ⊎ (last ≡ true)
+      → Played does breaks first End source_first source_new told_first told_new new now
+  stop_played true first source_first source_old source_new told_first told_old told_new reading_old reading_new old new was now number place line reply is between reads replied here stop =
+      behind_played End first source_first source_old source_new told_first told_old told_new reading_old old new was now number place line reply is between replied
+      (λ text told. let read = told_read source_first source_old reading_old between.lines text told between.read in
+      record {
+        lines_are = lines_until_last text source_old source_new reading_old reading_new between.lines line read between.go_on reads;
+        ends = inr (text_within_last text source_old source_new reading_old reading_new between.lines line read reads);
+      })
+      (wrote_more told_first told_old told_new between.replies reply place (omega (arith, is, between.is_number, between.numbered)) between.wrote here)
+  stop_played false first source_first source_old source_new told_first told_old told_new reading_old reading_new old new was now number place line reply is between reads replied here stop =
+      let exit : is_exit (command_of (kept line)) ≡ true = ⊎_elim (λ (e : is_exit (command_of (kept line)) ≡ true). e) (λ (clash : false ≡ true). absurd cc) stop in
+      behind_played End first source_first source_old source_new told_first told_old told_new reading_old old new was now number place line reply is between replied
+      (λ text told. let read = told_read source_first source_old reading_old between.lines text told between.read in
+      record {
+        lines_are = lines_at_exit text source_old source_new reading_old reading_new between.lines line read between.go_on reads (stops line exit);
+        ends = inl (stop_at_exit between.lines line between.go_on (stops line exit));
+      })
+      (wrote_more told_first told_old told_new between.replies reply place (omega (arith, is, between.is_number, between.numbered)) between.wrote here)
+
+  -- the lines with the one that was just read are the first of the text
+  first_next : (last : Bool) (source_first source_old source_new : Option (List ℕ)) (old new : Reading) (lines : List (List ℕ)) (line : List ℕ) → HasReadLines source_first source_old old lines → GoOn lines → ReadsNext last old new source_old source_new line
+      → (text : List ℕ) → source_first ≡ Some text → AreFirst text (lines ++ line ∷ [])
+  first_next true source_first source_old source_new old new lines line read on reads text told = lines_first_last text source_old source_new old new lines line (told_read source_first source_old old lines text told read) on reads
+  first_next false source_first source_old source_new old new lines line read on reads text told = lines_first_line text source_old source_new old new lines line (told_read source_first source_old old lines text told read) on reads
+
+  -- a line was not answered
+  broken_played : (last : Bool) (first : St) (source_first source_old left told_first told_old told_new : Option (List ℕ)) (reading_old reading_new : Reading) (old new : St) (was now : Refusals) (number place : ℕ) (line : List ℕ)
+      → place ≡ number + 1 → IsBetween does first source_first source_old told_first told_old reading_old old was number → ReadsNext last reading_old reading_new source_old left line
+      → Unanswered does breaks (kept line) place old new told_old told_new was now → Played does breaks first (Halted NoMemory) source_first left told_first told_new new now
+  broken_played last first source_first source_old left told_first told_old told_new reading_old reading_new old new was now number place line is between reads unanswered = record {
+    lines = between.lines;
+    replies = between.replies;
+    behind = old;
+    plays = between.plays;
+    cut = inr (record {
+      line = line;
+      next = first_next last source_first source_old left reading_old reading_new between.lines line between.read between.go_on reads;
+      broke = let at : place ≡ 1 + length between.lines = omega (arith, is, between.is_number) in
+          subst (λ (n : ℕ). breaks n (command_of line) old new) at (subst (λ (c : Read Command). breaks place c old new) (command_of-kept line) unanswered.broke);
+    });
+    counts = rw unanswered.same between.counts;
+    are_lines = λ text told. lines_first text source_old reading_old between.lines (told_read source_first source_old reading_old between.lines text told between.read) between.go_on;
+    wrote = inl (Appends-kept told_first told_old told_new (console_text 1 between.replies) between.wrote unanswered.kept);
+    numbered = between.numbered;
+  }
+
+  -- the lines could not go on
+  pub halted_played : (leaves : Read Command → Bool) (halt : Halt) (last : Bool) (first : St) (source_first source_old left told_first told_old told_new : Option (List ℕ)) (reading_old reading_new : Reading) (old new : St) (was now : Refusals) (number place : ℕ) (line : List ℕ)
+      → place ≡ number + 1 → IsBetween does first source_first source_old told_first told_old reading_old old was number → ReadsNext last reading_old reading_new source_old left line
+      → DoesLine does breaks leaves (kept line) place last old new told_old told_new was now (Err halt) → Played does breaks first (Halted halt) source_first left told_first told_new new now
+  halted_played leaves SinkFault last first source_first source_old left told_first told_old told_new reading_old reading_new old new was now number place line is between reads line_does =
+      behind_played (Halted SinkFault) first source_first source_old left told_first told_old told_new reading_old old new was now number place line line_does.0 is between line_does.1
+      (first_next last source_first source_old left reading_old reading_new between.lines line between.read between.go_on reads)
+      (record {
+        before = between.replies;
+        last = line_does.0;
+        replies_are = refl;
+        told = told_old;
+        whole = between.wrote;
+        part = let behind : place ≡ 1 + length between.replies = omega (arith, is, between.is_number, between.numbered) in
+            subst (λ (n : ℕ). AppendsPart told_old told_new (text_of n line_does.0)) behind line_does.2;
+      })
+  halted_played leaves NoMemory last first source_first source_old left told_first told_old told_new reading_old reading_new old new was now number place line is between reads line_does = ⊎_elim
+      (λ answered. behind_played (Halted NoMemory) first source_first source_old left told_first told_old told_new reading_old old new was now number place line answered.0 is between answered.1
+      (first_next last source_first source_old left reading_old reading_new between.lines line between.read between.go_on reads)
+      (inr (record { before = between.replies; last = answered.0; replies_are = refl; whole = Appends-kept told_first told_old told_new (console_text 1 between.replies) between.wrote answered.2 })))
+      (λ unanswered. broken_played last first source_first source_old left told_first told_old told_new reading_old reading_new old new was now number place line is between reads unanswered)
+      line_does
+
+  -- The line that was read was handled: what it did as things stood it does as the lines before it left them.
+
+  stood_replied : (first : St) (source_first left told_first told_old : Option (List ℕ)) (reading : Reading) (last : Bool) (old new : St) (was now : Refusals) (number : ℕ) (reply : Reply)
+      → (has : HasLine does breaks first source_first left told_first told_old reading last old was number) → Replied does reading.line (number + 1) reply old new was now → Replied does (kept has.line) (number + 1) reply has.stood new was now
+  stood_replied first source_first left told_first told_old reading last old new was now number reply has replied =
+      let same : command_of reading.line ≡ command_of has.line =
+      ap command_of (shown_next last has.reading_old reading has.source_old left has.line has.next) ∙ command_of-kept has.line in
+      record {
+        answers = subst (λ (c : Read Command). does (number + 1) c has.stood reply new) (sym (command_of-kept has.line))
+            (has.answers_so reply new (subst (λ (c : Read Command). does (number + 1) c old reply new) same replied.answers));
+        is_noted = replied.is_noted;
+      }
+
+  stood_unanswered : (first : St) (source_first left told_first told_old told_new : Option (List ℕ)) (reading : Reading) (last : Bool) (old new : St) (was now : Refusals) (number : ℕ)
+      → (has : HasLine does breaks first source_first left told_first told_old reading last old was number) → Unanswered does breaks reading.line (number + 1) old new told_old told_new was now
+      → Unanswered does breaks (kept has.line) (number + 1) has.stood new told_old told_new was now
+  stood_unanswered first source_first left told_first told_old told_new reading last old new was now number has unanswered =
+      let same : command_of reading.line ≡ command_of has.line =
+      ap command_of (shown_next last has.reading_old reading has.source_old left has.line has.next) ∙ command_of-kept has.line in
+      record {
+        broke = subst (λ (c : Read Command). breaks (number + 1) c has.stood new) (sym (command_of-kept has.line))
+            (has.breaks_so new (subst (λ (c : Read Command). breaks (number + 1) c old new) same unanswered.broke));
+        same = unanswered.same;
+        kept = unanswered.kept;
+      }
+
+  -- the command of the line as it is kept
+  shown_command : (first : St) (source_first left told_first told_old : Option (List ℕ)) (reading : Reading) (last : Bool) (old : St) (was : Refusals) (number : ℕ)
+      → (has : HasLine does breaks first source_first left told_first told_old reading last old was number) → command_of reading.line ≡ command_of (kept has.line)
+  shown_command first source_first left told_first told_old reading last old was number has =
+      ap command_of (shown_next last has.reading_old reading has.source_old left has.line has.next)
+
+  pub halted_at : (leaves : Read Command → Bool) (halt : Halt) (last : Bool) (first : St) (source_first left told_first told_old told_new : Option (List ℕ)) (reading : Reading) (old new : St) (was now : Refusals) (number : ℕ)
+      → HasLine does breaks first source_first left told_first told_old reading last old was number
+      → DoesLine does breaks leaves reading.line (number + 1) last old new told_old told_new was now (Err halt) → Played does breaks first (Halted halt) source_first left told_first told_new new now
+  halted_at leaves SinkFault last first source_first left told_first told_old told_new reading old new was now number has line_does =
+      halted_played leaves SinkFault last first source_first has.source_old left told_first told_old told_new has.reading_old reading has.stood new was now number (number + 1) has.line refl has.between has.next
+      (line_does.0, stood_replied first source_first left told_first told_old reading last old new was now number line_does.0 has line_does.1, line_does.2)
+  halted_at leaves NoMemory last first source_first left told_first told_old told_new reading old new was now number has line_does =
+      halted_played leaves NoMemory last first source_first has.source_old left told_first told_old told_new has.reading_old reading has.stood new was now number (number + 1) has.line refl has.between has.next
+      (⊎_elim
+      (λ answered. inl (answered.0, stood_replied first source_first left told_first told_old reading last old new was now number answered.0 has answered.1, answered.2))
+      (λ unanswered. inr (stood_unanswered first source_first left told_first told_old told_new reading last old new was now number has unanswered))
+      line_does)
+
+  pub stopped_at : (leaves : Read Command → Bool) (last : Bool) (first : St) (source_first left told_first told_old told_new : Option (List ℕ)) (reading : Reading) (old new : St) (was now : Refusals) (number : ℕ)
+      → HasLine does breaks first source_first left told_first told_old reading last old was number
+      → DoesLine does breaks leaves reading.line (number + 1) last old new told_old told_new was now (Ok going.End) → Played does breaks first End source_first left told_first told_new new now
+  stopped_at leaves last first source_first left told_first told_old told_new reading old new was now number has line_does =
+      stop_played last first source_first has.source_old left told_first told_old told_new has.reading_old reading has.stood new was now number (number + 1) has.line line_does.0 refl has.between has.next
+      (stood_replied first source_first left told_first told_old reading last old new was now number line_does.0 has line_does.1) line_does.2
+      (subst (λ (c : Read Command). (is_exit c ≡ true) ⊎ (last ≡ true)) (shown_command first source_first left told_first told_old reading last old was number has) line_does.3)
+
+  -- it goes on behind it
+  pub goes_on_at : (leaves : Read Command → Bool) (last : Bool) (first : St) (source_first left told_first told_old told_new : Option (List ℕ)) (reading : Reading) (old new : St) (was now : Refusals) (number : ℕ)
+      → HasLine does breaks first source_first left told_first told_old reading last old was number
+      → DoesLine does breaks leaves reading.line (number + 1) last old new told_old told_new was now (Ok going.On) → IsBetween does first source_first left told_first told_new reading new now (number + 1)
+  goes_on_at leaves last first source_first left told_first told_old told_new reading old new was now number has line_does =
+      between_more does first source_first has.source_old left told_first told_old told_new has.reading_old reading has.stood new was now number (number + 1) has.line line_does.0 refl has.between
+      (subst (λ (b : Bool). ReadsNext b has.reading_old reading has.source_old left has.line) line_does.3.1 has.next)
+      (stood_replied first source_first left told_first told_old reading last old new was now number line_does.0 has line_does.1) line_does.2
+      (ap is_exit (sym (shown_command first source_first left told_first told_old reading last old was number has)) ∙ line_does.3.0)
+
+  -- it is left to another
+  pub left_at : (leaves : Read Command → Bool) (last : Bool) (first : St) (source_first left told_first told_old told_new : Option (List ℕ)) (reading : Reading) (old new : St) (was now : Refusals) (number : ℕ)
+      → HasLine does breaks first source_first left told_first told_old reading last old was number
+      → DoesLine does breaks leaves reading.line (number + 1) last old new told_old told_new was now (Ok going.Opens) → OpensAt does breaks leaves first source_first left told_first told_new reading last new now number
+  left_at leaves last first source_first left told_first told_old told_new reading old new was now number has line_does =
+      let here : OpensAt does breaks leaves first source_first left told_first told_old reading last old was number = record {
+        has = has;
+        left = ap leaves (sym (command_of-kept has.line)) ∙ ap leaves (sym (shown_command first source_first left told_first told_old reading last old was number has)) ∙ line_does.left;
+      } in rw (line_does.stage, line_does.told, line_does.same) here
+
+  -- the next line was read behind those that were answered
+  pub line_behind : (last : Bool) (first : St) (source_first source_old source_new told_first told_now : Option (List ℕ)) (old new : Reading) (now : St) (refusals : Refusals) (number : ℕ)
+      → IsBetween does first source_first source_old told_first told_now old now refusals number → ReadsLineOrEnd None last old new source_old source_new → HasLine does breaks first source_first source_new told_first told_now new last now refusals number
+  line_behind last first source_first source_old source_new told_first told_now old new now refusals number between reads =
+      record {
+        source_old = source_old;
+        reading_old = old;
+        stood = now;
+        between = between;
+        line = reads.0;
+        next = reads.1;
+        answers_so = λ reply later here. here;
+        breaks_so = λ later here. here;
+      }
+
+  -- So of a desk, behind which the reader, the count of lines and the refusals are these.
+
+  pub goes_next : (leaves : Read Command → Bool) (last last_new : Bool) (first : St) (source_first source_old source_new told_first told_old told_new : Option (List ℕ)) (reading_old reading_mid reading_new : Reading) (old new : St) (was mid now : Refusals) (number_old number_mid number_new : ℕ)
+      → HasLine does breaks first source_first source_old told_first told_old reading_old last old was number_old
+      → DoesLine does breaks leaves reading_old.line (number_old + 1) last old new told_old told_new was mid (Ok going.On) → reading_mid ≡ reading_old → number_mid ≡ number_old + 1
+      → ReadsLineOrEnd None last_new reading_mid reading_new source_old source_new → number_new ≡ number_mid → now ≡ mid
+      → HasLine does breaks first source_first source_new told_first told_new reading_new last_new new now number_new
+  goes_next leaves last last_new first source_first source_old source_new told_first told_old told_new reading_old reading_mid reading_new old new was mid now number_old number_mid number_new has line_does same_reading is_mid reads is_number is_refusals =
+      let between : IsBetween does first source_first source_old told_first told_new reading_old new mid (number_old + 1) =
+      goes_on_at leaves last first source_first source_old told_first told_old told_new reading_old old new was mid number_old has line_does in
+      let moved : IsBetween does first source_first source_old told_first told_new reading_mid new now number_new = rw (same_reading, is_refusals, is_number, is_mid) between in
+      line_behind last_new first source_first source_old source_new told_first told_new reading_mid reading_new new now number_new moved reads
+
+  pub ends_next : (leaves : Read Command → Bool) (ending : Ending) (last last_new : Bool) (first : St) (source_first source_old source_new told_first told_old told_new : Option (List ℕ)) (reading_old reading_mid reading_new : Reading) (old new : St) (was mid now : Refusals) (number_old : ℕ)
+      → HasLine does breaks first source_first source_old told_first told_old reading_old last old was number_old
+      → DoesLine does breaks leaves reading_old.line (number_old + 1) last old new told_old told_new was mid (Ok going.On) → reading_mid ≡ reading_old
+      → ReadsLineOrEnd (Some ending) last_new reading_mid reading_new source_old source_new → now ≡ mid
+      → Played does breaks first ending source_first source_new told_first told_new new now
+  ends_next leaves ending last last_new first source_first source_old source_new told_first told_old told_new reading_old reading_mid reading_new old new was mid now number_old has line_does same_reading reads is_refusals =
+      let between : IsBetween does first source_first source_old told_first told_new reading_old new mid (number_old + 1) =
+      goes_on_at leaves last first source_first source_old told_first told_old told_new reading_old old new was mid number_old has line_does in
+      let moved : IsBetween does first source_first source_old told_first told_new reading_mid new now (number_old + 1) = rw (same_reading, is_refusals) between in
+      ended_played ending last_new first source_first source_old source_new told_first told_new reading_mid reading_new new now (number_old + 1) moved reads
+
+  pub left_next : (leaves : Read Command → Bool) (last last_new : Bool) (first : St) (source_first left told_first told_old told_new : Option (List ℕ)) (reading reading_new : Reading) (old new : St) (was now : Refusals) (number number_new : ℕ)
+      → HasLine does breaks first source_first left told_first told_old reading last old was number
+      → DoesLine does breaks leaves reading.line (number + 1) last old new told_old told_new was now (Ok going.Opens) → reading_new ≡ reading → last_new ≡ last → number_new ≡ number
+      → OpensAt does breaks leaves first source_first left told_first told_new reading_new last_new new now number_new
+  left_next leaves last last_new first source_first left told_first told_old told_new reading reading_new old new was now number number_new has line_does same_reading same_last same_number =
+      rw (same_reading, same_last, same_number) (left_at leaves last first source_first left told_first told_old told_new reading old new was now number has line_does)
+
+  -- the line that was read found no memory, and nothing was written of it
+  pub broken_at : (first now new : St) (source left told_first told : Option (List ℕ)) (reading : Reading) (last : Bool) (refusals : Refusals) (number : ℕ)
+      → (has : HasLine does breaks first source left told_first told reading last now refusals number) → breaks (number + 1) (command_of has.line) now new
+      → Played does breaks first (Halted NoMemory) source left told_first told new refusals
+  broken_at first now new source left told_first told reading last refusals number has broke =
+      broken_played last first source has.source_old left told_first told told has.reading_old reading has.stood new refusals refusals number (number + 1) has.line refl has.between has.next
+      (record {
+        broke = subst (λ (c : Read Command). breaks (number + 1) c has.stood new) (sym (command_of-kept has.line)) (has.breaks_so new broke);
+        same = refl;
+        kept = keeps_same told;
+      })

@@ -1,0 +1,10 @@
+use Rattle.std.proofs.Common.{◌≡◌, true, false, sym, ◌∙◌}
+use Rattle.console.proofs.closing.play_out.Goals as goal
+
+pub returns-clause-stays : goal.returns-clause-stays
+returns-clause-stays g c = g.met.A.Answerer.stays_on _ _ _ c.play_on.ensures.stays c.close_lines-closing.ensures.stays
+
+pub unreachable-requires : goal.unreachable-requires
+unreachable-requires g c =
+    let left = c.in-Opens.ensures.left in
+    cc (sym left.1 ∙ c.requires.own left.0)

@@ -1,0 +1,9 @@
+pub mod Console
+pub mod Refused
+pub mod Halts
+pub mod Endings
+pub mod Reading
+pub mod Playing
+pub mod Closing
+pub mod DatabaseStages
+pub mod DatabaseLines

@@ -1,2 +1,0 @@
-pub mod DatabaseStages
-pub mod DatabaseLines

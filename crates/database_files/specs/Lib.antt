@@ -1,4 +1,0 @@
-pub mod FileReplies
-pub mod WholeFiles
-pub mod NotedReplies
-pub mod LentReplies

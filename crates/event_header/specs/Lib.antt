@@ -1,4 +1,0 @@
-pub mod Headers
-pub mod Held
-pub mod Filled
-pub mod Pieces

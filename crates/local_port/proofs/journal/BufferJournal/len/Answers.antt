@@ -1,9 +1,0 @@
-use Rattle.std.proofs.Common.{◌≡◌, length, subst, sym, ◌∙◌}
-use Rattle.local_port.specs.Journals.{Journaled}
-use Rattle.local_port.proofs.JournalLaws.{length-entries_of}
-use Rattle.local_port.proofs.journal.BufferJournal.len.Goals as goal
-
-pub returns : goal.returns
-returns c =
-    subst (λ (j : Journaled). c.len.result ≡ length j.entries) c.self.view_is
-    (c.len.ensures ∙ (c.self.inside.lines.ok.0 ∙ sym (length-entries_of c.self.inside.lines.items c.self.inside.bytes.items)))

@@ -1,7 +1,0 @@
-use Rattle.buffer_core.specs.declared.entry.BufferEntry.TheVariants.{Detach}
-use Rattle.local_port.proofs.PortLaws.{ported_next}
-use Rattle.local_port.proofs.local.LocalPort.detach.Goals as goal
-
-pub invariant_of-self : goal.invariant_of-self
-invariant_of-self g c =
-    ported_next _ _ _ _ _ (Detach c.args.client c.detach-reply.result) c.self.invariant c.detach-reply.ensures.reply c.detach-reply.ensures.after c.push.ensures.entries

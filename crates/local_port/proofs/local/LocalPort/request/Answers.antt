@@ -1,7 +1,0 @@
-use Rattle.buffer_core.specs.declared.entry.BufferEntry.TheVariants.{Request}
-use Rattle.local_port.proofs.PortLaws.{ported_next}
-use Rattle.local_port.proofs.local.LocalPort.request.Goals as goal
-
-pub invariant_of-self : goal.invariant_of-self
-invariant_of-self g c =
-    ported_next _ _ _ _ _ (Request c.args.client c.args.id c.args.mask c.args.kind c.request-reply.result) c.self.invariant c.request-reply.ensures.reply c.request-reply.ensures.after c.push.ensures.entries

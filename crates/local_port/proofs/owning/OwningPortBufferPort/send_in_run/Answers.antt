@@ -1,9 +1,0 @@
-use Rattle.std.proofs.Common.{refl}
-use Rattle.buffer_lock.proofs.SharedPortLaws.{shared_calls, shared_refused_in_run}
-use Rattle.local_port.proofs.owning.OwningPortBufferPort.send_in_run.Goals as goal
-
-pub returns-clause-called : goal.returns-clause-called
-returns-clause-called g c = shared_calls _ _ _ _ _ _ _ (λ w. refl) c.call.ensures.opens c.call.ensures.entered.number c.call.ensures.entered.appends c.call.ensures.legal
-
-pub returns-clause-refused : goal.returns-clause-refused
-returns-clause-refused g c = shared_refused_in_run _ _ _ _ _ _ _ _ c.call.ensures.opens c.call.ensures.entered.appends c.call.ensures.legal

@@ -1,4 +1,0 @@
-pub mod Journals
-pub mod JournalViews
-pub mod Ported
-pub mod OwningPorts

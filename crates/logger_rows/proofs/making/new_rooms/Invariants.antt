@@ -1,5 +1,0 @@
-use Rattle.logger_rows.specs.LoggerRows.{AreRowRooms}
-use Rattle.logger_rows.proofs.making.new_rooms.Given as goal
-
-abbrev pub invariant-loop-number : goal.invariant-loop-number
-invariant-loop-number l = AreRowRooms l.number l.buffers l.rooms.items

@@ -1,5 +1,0 @@
-use Rattle.logger_rows.specs.LoggerRows.{AreRowSpecs}
-use Rattle.logger_rows.proofs.making.new_specs.Given as goal
-
-abbrev pub invariant-loop-number : goal.invariant-loop-number
-invariant-loop-number l = AreRowSpecs l.number l.buffers l.specs

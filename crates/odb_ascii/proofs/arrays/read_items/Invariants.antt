@@ -1,7 +1,0 @@
-use Rattle.std.proofs.Common.{◌+◌, ◌≤◌, length}
-use Rattle.std.specs.Str.Lines.{lines}
-use Rattle.odb_ascii.specs.Blocks.{AreRead}
-use Rattle.odb_ascii.proofs.arrays.read_items.Given as goal
-
-abbrev pub invariant-loop-index : goal.invariant-loop-index
-invariant-loop-index l = AreRead l.tid (lines l.text) l.index l.so_far.items.items l.so_far.size (lines l.so_far.rest.now) × (length l.so_far.rest.now + l.index ≤ length l.text)

@@ -1,5 +1,0 @@
-use Rattle.odb_ascii.proofs.DumpFollows.{dump_follows_walk}
-use Rattle.odb_ascii.proofs.laws.dump_follows_walk.Goals as goal
-
-pub returns : goal.returns
-returns c = dump_follows_walk

@@ -1,5 +1,0 @@
-use Rattle.odb_ascii.proofs.Sizes.{dump_small}
-use Rattle.odb_ascii.proofs.laws.dump_is_small.Goals as goal
-
-pub returns : goal.returns
-returns c = dump_small

@@ -1,5 +1,0 @@
-use Rattle.odb_ascii.proofs.OneFault.{fault_not_loaded}
-use Rattle.odb_ascii.proofs.laws.loaded_text_has_no_fault.Goals as goal
-
-pub returns : goal.returns
-returns c = fault_not_loaded

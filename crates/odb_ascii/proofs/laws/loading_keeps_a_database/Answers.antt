@@ -1,5 +1,0 @@
-use Rattle.odb_ascii.proofs.LoadKeeps.{load_keeps}
-use Rattle.odb_ascii.proofs.laws.loading_keeps_a_database.Goals as goal
-
-pub returns : goal.returns
-returns c = load_keeps

@@ -1,5 +1,0 @@
-use Rattle.odb_ascii.proofs.OneReading.{one_reading}
-use Rattle.odb_ascii.proofs.laws.one_list_of_steps.Goals as goal
-
-pub returns : goal.returns
-returns c = one_reading

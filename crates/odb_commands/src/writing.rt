@@ -1,0 +1,48 @@
+ghost use Rattle.std.specs.Prelude.{◌≡◌, ◌≤◌, IsTrue, OnOk, OnErr};
+ghost use Rattle.daq_io.specs.Counts.{CountsFault, NamesFirst};
+ghost use Rattle.daq_io.specs.Seen.{Closes};
+ghost use Rattle.odb_commands.specs.FileReplies.{FaultsOf, ClashesOf, NamesFault};
+ghost use Rattle.odb_commands.specs.WholeFiles.{ClosesFirstPart, WritesFile};
+
+use crate::dump_replies::FileReply;
+use daq_io::{Failed, Files, NameRefused};
+use daq_types::FileName;
+
+/// Writes this text to the file of this number, which is new, and closes it, also where the write fails.
+fn write_and_close<E: Files>(files: &mut E, file: u32, text: &[u8]) -> Result<(), Failed>
+    requires { IsTrue ((E.seen files.old).writes file) }
+    ensures written { OnOk result (Closes (E.seen files.old) (E.seen files.new) file text.now) }
+    ensures part { OnErr result
+        (ClosesFirstPart (E.seen files.old) (E.seen files.new) file text.now) }
+    ensures faults { CountsFault (E.faults files.old) (E.faults files.new) result }
+    ensures clashes { E.clashes files.new ≡ E.clashes files.old }
+    ensures first { NamesFirst ((E.seen files.old).name_of file) (E.first files.old)
+        (E.first files.new) result }
+{
+    let appended = files.append(file, text);
+    let closed = files.close(file);
+    match appended {
+        Ok(()) => closed,
+        Err(_) => Err(Failed),
+    }
+}
+
+/// Makes a file of this name, writes the text to it and closes it. A file that is there stays as it is. One that was made
+/// and not written whole stays too, closed, with a first part of the text.
+pub fn write_file<E: Files>(files: &mut E, name: &FileName, text: &[u8]) -> FileReply
+    ensures written { WritesFile (E.seen files.old) (E.seen files.new) name.now text.now result }
+    ensures faults { FaultsOf result (E.faults files.old) (E.faults files.new) }
+    ensures later { E.faults files.old ≤ E.faults files.new }
+    ensures clashes { ClashesOf result (E.clashes files.old) (E.clashes files.new) }
+    ensures first { NamesFault result name.now (E.first files.old) (E.first files.new) }
+{
+    match files.create(name) {
+        Ok(file) => match write_and_close(files, file, text) {
+            Ok(()) => FileReply::Done,
+            Err(_) => FileReply::Fault,
+        },
+        Err(NameRefused::Exists) => FileReply::Clash,
+        Err(NameRefused::Missing) => unreachable!(),
+        Err(NameRefused::Failed) => FileReply::Fault,
+    }
+}

@@ -1,5 +1,0 @@
-use Rattle.odb_lines.proofs.Splitting.{is_blanks}
-use Rattle.odb_lines.proofs.words.are_blanks.Goals as goal
-
-pub returns : goal.returns
-returns c = is_blanks c.args.bytes.now c.behind_blanks.result.now c.is_empty.result c.behind_blanks.ensures c.is_empty.ensures

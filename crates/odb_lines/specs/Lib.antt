@@ -1,2 +1,0 @@
-pub mod LineForms
-pub mod ItemLines

@@ -1,3 +1,0 @@
-pub mod NameFaults
-pub mod Reading
-pub mod PathLaws

@@ -1,0 +1,5 @@
+use Rattle.odb_text.proofs.OneFault.{one_fault}
+use Rattle.odb_text.proofs.laws.text_has_one_fault.Goals as goal
+
+pub returns : goal.returns
+returns c = one_fault

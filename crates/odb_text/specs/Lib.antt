@@ -1,0 +1,11 @@
+pub mod LineForms
+pub mod ItemLines
+pub mod Dumps
+pub mod Standing
+pub mod TextSteps
+pub mod Grammar
+pub mod TextFaults
+pub mod Blocks
+pub mod Loads
+pub mod DumpSteps
+pub mod TextCalls

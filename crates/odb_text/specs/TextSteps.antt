@@ -1,0 +1,135 @@
+-- What a database text asks for, and what that does to the rows.
+use Rattle.std.specs.Prelude.{ℕ, Bool, true, false, nat_lt, if◌then◌else◌, List, [], ◌∷◌, ◌++◌, length, sum_by, Option, Some, None, Result, Ok, Err}
+use Rattle.std.specs.Option.{option_or}
+use Rattle.odb_value.specs.Values.{HeldValue, size_limit, items_limit}
+use Rattle.odb_tree.specs.declared.rows.NewKey.TheVariants.{Dir}
+use Rattle.odb_tree.specs.declared.refusals.OdbRefusal.{OdbRefusal}
+use Rattle.odb_tree.specs.declared.refusals.OdbRefusal.TheVariants.{NoKey, Exists, NotDir, NotValue, TypeMismatch, BadIndex, Limit, NotKept, NoMemory}
+use Rattle.odb_tree.specs.declared.refusals.What.TheVariants.{Items, Size}
+use Rattle.odb_tree.specs.Rows.{Rows}
+use Rattle.odb_tree.specs.Lookups.{seek_key}
+use Rattle.odb_tree.specs.Calls.{create_fault, after_create, set_all_fault, after_set_all, set_all_reply}
+use Rattle.odb_tree.specs.declared.entry.DatabaseEntry.TheVariants.{SetAll}
+use Rattle.odb_tree.specs.Noting.{Change, Watched, changes_of, all_noted}
+use Rattle.odb_text.specs.declared.acts.Act.{Act}
+use Rattle.odb_text.specs.declared.acts.Act.TheVariants.{Make, Write, Skip}
+
+-- a step of a text: what is asked for, and the number of the line at which that begins
+pub record TextStep : Type 0 where
+  pub line : ℕ
+  pub act : Act
+
+-- Making a directory.
+
+-- where something stands at the path already, a key is refused, and a directory stays
+abbrev pub there_already : Result (ℕ × HeldValue) OdbRefusal → Option OdbRefusal
+there_already (Ok key) = Some NotDir
+there_already (Err refusal) = None
+
+abbrev pub is_exists : OdbRefusal → Bool
+is_exists NoKey = false
+is_exists Exists = true
+is_exists NotDir = false
+is_exists NotValue = false
+is_exists (TypeMismatch have) = false
+is_exists (BadIndex len) = false
+is_exists (Limit what) = false
+is_exists (NotKept type) = false
+is_exists NoMemory = false
+
+-- the refusal of `create`, but for what is there already
+abbrev pub make_fault_by : Rows → List (List ℕ) → Option OdbRefusal → Option OdbRefusal
+make_fault_by s p None = None
+make_fault_by s p (Some refusal) = if is_exists refusal then there_already (seek_key s.rows p) else Some refusal
+
+abbrev pub make_fault : Rows → List (List ℕ) → Option OdbRefusal
+make_fault s p = make_fault_by s p (create_fault s p Dir)
+
+-- the directory and those above it are made where they are missing
+abbrev pub after_make_by : Rows → List (List ℕ) → Option OdbRefusal → Rows
+after_make_by s p None = after_create s p Dir
+after_make_by s p (Some refusal) = s
+
+abbrev pub after_make : Rows → List (List ℕ) → Rows
+after_make s p = after_make_by s p (create_fault s p Dir)
+
+-- Refusals.
+
+-- no key has more items, and no STRING a greater item size: this is known of the lines alone
+abbrev pub many_fault : (items : ℕ) → Option OdbRefusal
+many_fault items = if nat_lt items_limit items then Some (Limit Items) else None
+
+abbrev pub wide_fault : (size : ℕ) → Option OdbRefusal
+wide_fault size = if nat_lt size_limit size then Some (Limit Size) else None
+
+abbrev pub own_limit : Act → Option OdbRefusal
+own_limit (Make p) = None
+own_limit (Write p v) = option_or (many_fault (length v.items)) (wide_fault v.size)
+own_limit (Skip items) = many_fault items
+
+-- what the rows say
+abbrev pub rows_fault : Rows → Act → Option OdbRefusal
+rows_fault s (Make p) = make_fault s p
+rows_fault s (Write p v) = set_all_fault s p v
+rows_fault s (Skip items) = None
+
+abbrev pub act_fault : Rows → Act → Option OdbRefusal
+act_fault s act = option_or (own_limit act) (rows_fault s act)
+
+abbrev pub after_act : Rows → Act → Rows
+after_act s (Make p) = after_make s p
+after_act s (Write p v) = after_set_all s p v
+after_act s (Skip items) = s
+
+-- the changes that a step makes: writing a key is one `set_all`
+abbrev pub changes_of_act : Rows → Act → List Change
+changes_of_act s (Make p) = []
+changes_of_act s (Write p v) = changes_of s (SetAll p v (set_all_reply s p v))
+changes_of_act s (Skip items) = []
+
+-- a watched database after a step
+abbrev pub watched_act : Watched → Act → Watched
+watched_act s act = record { rows = after_act s.rows act; slots = all_noted (changes_of_act s.rows act) s.slots }
+
+-- All steps.
+
+abbrev pub or_refused : (line : ℕ) → Option OdbRefusal → Result Rows (ℕ × OdbRefusal) → Result Rows (ℕ × OdbRefusal)
+or_refused line None rest = rest
+or_refused line (Some why) rest = Err (line, why)
+
+-- the rows after these steps, or the line of the first that is refused, and why
+abbrev pub run_steps : List TextStep → Rows → Result Rows (ℕ × OdbRefusal)
+run_steps [] s = Ok s
+run_steps (step ∷ steps) s = or_refused step.line (act_fault s step.act) (run_steps steps (after_act s step.act))
+
+-- the changes that these steps make, none of which is refused
+abbrev pub changes_in_steps : Rows → List TextStep → List Change
+changes_in_steps s [] = []
+changes_in_steps s (step ∷ steps) = changes_of_act s step.act ++ changes_in_steps (after_act s step.act) steps
+
+-- how many keys are written, and how many are skipped
+abbrev pub written : Act → ℕ
+written (Make p) = 0
+written (Write p v) = 1
+written (Skip items) = 0
+
+abbrev pub skipped : Act → ℕ
+skipped (Make p) = 0
+skipped (Write p v) = 0
+skipped (Skip items) = 1
+
+abbrev pub keys_written : List TextStep → ℕ
+keys_written steps = sum_by (λ (step : TextStep). written step.act) steps
+
+abbrev pub keys_skipped : List TextStep → ℕ
+keys_skipped steps = sum_by (λ (step : TextStep). skipped step.act) steps
+
+-- the directory of the keys that follow
+abbrev pub dir_after : List (List ℕ) → Act → List (List ℕ)
+dir_after dir (Make p) = p
+dir_after dir (Write p v) = dir
+dir_after dir (Skip items) = dir
+
+abbrev pub dirs_after : List (List ℕ) → List TextStep → List (List ℕ)
+dirs_after dir [] = dir
+dirs_after dir (step ∷ steps) = dirs_after (dir_after dir step.act) steps

@@ -1,0 +1,342 @@
+ghost use Rattle.std.specs.Prelude.{◌≡◌, ◌≢◌, ◌≤◌, ◌<◌, ◌+◌, ◌∷◌, ◌^◌, None, Some, length, IfOk, IfErr, OnOk, OnErr};
+ghost use Rattle.std.specs.Str.Lines.{lines};
+ghost use Rattle.odb_tree.specs.Lookups.{seek_key};
+ghost use Rattle.odb_tree.specs.declared.refusals.OdbRefusal.TheVariants.{NoMemory as no_memory};
+ghost use Rattle.odb_text.specs.LineForms.{IsPassed};
+ghost use Rattle.odb_text.specs.Dumps.{dump_limit};
+ghost use Rattle.odb_tree.specs.Noting.{all_noted};
+ghost use Rattle.odb_text.specs.declared.acts.Act.TheVariants.{Make, Write};
+ghost use Rattle.odb_text.specs.TextSteps.{is_exists, there_already, make_fault, after_make, rows_fault, after_act, changes_of_act, dir_after, written, skipped};
+ghost use Rattle.odb_tree.specs.Calls.{set_all_fault, after_set_all};
+ghost use Rattle.odb_text.specs.TextFaults.{IsTextFault};
+ghost use Rattle.odb_text.specs.Blocks.{IsBlock};
+ghost use Rattle.odb_text.specs.Loads.{IsLoaded, watched_as, AdvancesText, IsTextFaultAt, counts_with, place_at, IsRoomy, IsNear, broken_at, refused_at};
+
+use crate::acts::{Act, LoadRefusal, Loaded};
+use crate::blocks::{Block, read_block};
+use crate::faults::BlockFault;
+use crate::{is_passed, split_line};
+use odb_tree::{Database, NewKey, OdbRefusal};
+use odb_value::{Path, Value};
+use std::alloc::Global;
+
+/// Where a text is read, and what it had so far.
+#[derive(Drop)]
+pub struct Cursor<'a> {
+    /// The text that is left.
+    rest: &'a [u8],
+    /// The number of its first line.
+    line: u32,
+    /// The directory of the keys that follow.
+    dir: Path,
+    loaded: Loaded,
+}
+
+/// That a refusal has its reason in the database, or that memory was wanting.
+fn has_reason(refusal: OdbRefusal) -> Result<(), OdbRefusal>
+    ensures reason { OnOk result (refusal ≢ no_memory) }
+    ensures memory { IfErr result (λ why. why ≡ no_memory) }
+{
+    match refusal {
+        OdbRefusal::NoMemory => Err(OdbRefusal::NoMemory),
+        _ => Ok(()),
+    }
+}
+
+/// Whether something is there already.
+fn is_exists(refusal: OdbRefusal) -> bool
+    ensures { result ≡ is_exists refusal }
+{
+    matches!(refusal, OdbRefusal::Exists)
+}
+
+/// That a directory is at the path, where something is there.
+fn is_dir_there<D: Database>(alloc: Global, database: &D, path: &Path) -> Result<(), OdbRefusal>
+    ensures dir { OnOk result
+        (there_already (seek_key (D.rows database.now).rows path.now) ≡ None) }
+    ensures key { IfErr result (λ why. why ≢ no_memory
+        → there_already (seek_key (D.rows database.now).rows path.now) ≡ Some why) }
+{
+    match database.get(alloc, path) {
+        Ok(_) => Err(OdbRefusal::NotDir),
+        Err(refusal) => has_reason(refusal),
+    }
+}
+
+/// Makes a directory where it is missing.
+fn make_dir<D: Database>(alloc: Global, database: &mut D, path: &Path) -> Result<(), OdbRefusal>
+    ensures fine { OnOk result (make_fault (D.rows database.old) path.now ≡ None) }
+    ensures made { OnOk result (D.rows database.new ≡ after_make (D.rows database.old) path.now) }
+    ensures noted { OnOk result (D.watches database.new
+        ≡ all_noted (changes_of_act (D.rows database.old) (Make path.now))
+        (D.watches database.old)) }
+    ensures refused { IfErr result (λ why. why ≢ no_memory
+        → make_fault (D.rows database.old) path.now ≡ Some why) }
+{
+    match database.create(alloc, path, NewKey::Dir) {
+        Ok(_) => Ok(()),
+        Err(refusal) => {
+            if is_exists(refusal) {
+                is_dir_there(alloc, database, path)
+            } else {
+                Err(refusal)
+            }
+        }
+    }
+}
+
+/// Writes a key.
+fn write_key<D: Database>(
+    alloc: Global,
+    database: &mut D,
+    path: &Path,
+    value: &Value,
+) -> Result<(), OdbRefusal>
+    ensures fine { OnOk result (set_all_fault (D.rows database.old) path.now value.now ≡ None) }
+    ensures written { OnOk result (D.rows database.new
+        ≡ after_set_all (D.rows database.old) path.now value.now) }
+    ensures noted { OnOk result (D.watches database.new
+        ≡ all_noted (changes_of_act (D.rows database.old) (Write path.now value.now))
+        (D.watches database.old)) }
+    ensures refused { IfErr result (λ why. why ≢ no_memory
+        → set_all_fault (D.rows database.old) path.now value.now ≡ Some why) }
+{
+    match database.set_all(alloc, path, value) {
+        Ok(_) => Ok(()),
+        Err(refusal) => Err(refusal),
+    }
+}
+
+/// Does what a step asks for.
+fn do_act<D: Database>(alloc: Global, database: &mut D, act: &Act) -> Result<(), OdbRefusal>
+    ensures fine { OnOk result (rows_fault (D.rows database.old) act.now ≡ None) }
+    ensures done { OnOk result (D.rows database.new ≡ after_act (D.rows database.old) act.now) }
+    ensures noted { OnOk result (D.watches database.new
+        ≡ all_noted (changes_of_act (D.rows database.old) act.now) (D.watches database.old)) }
+    ensures refused { IfErr result (λ why. why ≢ no_memory
+        → rows_fault (D.rows database.old) act.now ≡ Some why) }
+{
+    match act {
+        Act::Make { path } => make_dir(alloc, database, path),
+        Act::Write { path, value } => write_key(alloc, database, path, value),
+        Act::Skip { .. } => Ok(()),
+    }
+}
+
+/// The refusal of a step that the database refuses.
+fn refused_at(line: u32, why: OdbRefusal) -> LoadRefusal
+    ensures { result ≡ refused_at line why }
+{
+    match why {
+        OdbRefusal::NoMemory => LoadRefusal::NoMemory,
+        _ => LoadRefusal::KeyRefused { line, why },
+    }
+}
+
+/// The refusal of a text whose next lines are at fault.
+fn broken_at(line: u32, fault: BlockFault) -> LoadRefusal
+    requires { IsNear line fault }
+    ensures { result ≡ broken_at line fault }
+{
+    match fault {
+        BlockFault::Bad { at } => LoadRefusal::BadLine { line: line + at },
+        BlockFault::Refused { why } => LoadRefusal::KeyRefused { line, why },
+        BlockFault::NoMemory => LoadRefusal::NoMemory,
+    }
+}
+
+/// How many keys a step writes.
+fn written(act: &Act) -> u32
+    ensures count { result ≡ written act.now }
+    ensures small { result ≤ 1 }
+{
+    match act {
+        Act::Make { .. } | Act::Skip { .. } => 0,
+        Act::Write { .. } => 1,
+    }
+}
+
+/// How many keys a step skips.
+fn skipped(act: &Act) -> u32
+    ensures count { result ≡ skipped act.now }
+    ensures small { result ≤ 1 }
+{
+    match act {
+        Act::Make { .. } | Act::Write { .. } => 0,
+        Act::Skip { .. } => 1,
+    }
+}
+
+/// The directory of the keys behind a step.
+fn enter(dir: &mut Path, act: Act)
+    ensures { dir.new ≡ dir_after dir.old act }
+{
+    match act {
+        Act::Make { path } => *dir = path,
+        Act::Write {
+            path: _path,
+            value: _value,
+        } => (),
+        Act::Skip { items: _items } => (),
+    }
+}
+
+impl<'a> Cursor<'a> {
+    /// Goes on behind the lines of a step.
+    fn pass(&mut self, block: Block<'a>)
+        requires line { self.old.line + block.lines < 2 ^ 32 }
+        requires counts { self.old.loaded.keys + self.old.loaded.skipped + 1 < 2 ^ 32 }
+        ensures dir { self.new.dir ≡ dir_after self.old.dir block.entry.act }
+        ensures loaded { self.new.loaded ≡ counts_with self.old.loaded block.entry.act }
+        ensures line { self.new.line ≡ self.old.line + block.entry.lines }
+        ensures rest { self.new.rest.now ≡ block.entry.rest.now }
+    {
+        let Block { act, lines, rest } = block;
+        self.loaded = Loaded {
+            keys: self.loaded.keys + written(&act),
+            skipped: self.loaded.skipped + skipped(&act),
+        };
+        self.line += lines;
+        self.rest = rest;
+        enter(&mut self.dir, act);
+    }
+}
+
+/// Does the step of these lines, with which the text begins that is left, and goes on behind them.
+fn do_step<'a, D: Database>(
+    alloc: Global,
+    database: &mut D,
+    at: &mut Cursor<'a>,
+    block: Block<'a>,
+) -> Result<(), LoadRefusal>
+    requires block { IsBlock at.old.dir (lines at.old.rest.now) block.act (lines block.rest.now)
+        block.lines }
+    requires shorter { length block.rest.now + block.lines ≤ length at.old.rest.now }
+    requires room { IsRoomy at.old.line (length at.old.rest.now) at.old.loaded }
+    ensures on { OnOk result
+        (AdvancesText (place_at at.old.rest.now at.old.line at.old.dir at.old.loaded)
+        (place_at at.new.rest.now at.new.line at.new.dir at.new.loaded)
+        (watched_as (D.rows database.old) (D.watches database.old))
+        (watched_as (D.rows database.new) (D.watches database.new))) }
+    ensures room { OnOk result (IsRoomy at.new.line (length at.new.rest.now) at.new.loaded) }
+    ensures shorter { OnOk result (length at.new.rest.now < length at.old.rest.now) }
+    ensures fault { IfErr result (IsTextFaultAt (place_at at.old.rest.now at.old.line at.old.dir
+        at.old.loaded) (D.rows database.old)) }
+{
+    match do_act(alloc, database, &block.act) {
+        Err(why) => Err(refused_at(at.line, why)),
+        Ok(()) => {
+            at.pass(block);
+            Ok(())
+        }
+    }
+}
+
+/// Does the step that begins with this line.
+fn do_block<'a, D: Database>(
+    alloc: Global,
+    database: &mut D,
+    at: &mut Cursor<'a>,
+    line: &'a [u8],
+    behind: &'a [u8],
+) -> Result<(), LoadRefusal>
+    requires first { lines at.old.rest.now ≡ line.now ∷ lines behind.now }
+    requires less { length behind.now < length at.old.rest.now }
+    requires read { IsPassed line.now → ⊥ }
+    requires room { IsRoomy at.old.line (length at.old.rest.now) at.old.loaded }
+    ensures on { OnOk result
+        (AdvancesText (place_at at.old.rest.now at.old.line at.old.dir at.old.loaded)
+        (place_at at.new.rest.now at.new.line at.new.dir at.new.loaded)
+        (watched_as (D.rows database.old) (D.watches database.old))
+        (watched_as (D.rows database.new) (D.watches database.new))) }
+    ensures room { OnOk result (IsRoomy at.new.line (length at.new.rest.now) at.new.loaded) }
+    ensures shorter { OnOk result (length at.new.rest.now < length at.old.rest.now) }
+    ensures fault { IfErr result (IsTextFaultAt (place_at at.old.rest.now at.old.line at.old.dir
+        at.old.loaded) (D.rows database.old)) }
+{
+    match read_block(alloc, &at.dir, line, behind) {
+        Err(fault) => Err(broken_at(at.line, fault)),
+        Ok(block) => do_step(alloc, database, at, block),
+    }
+}
+
+/// Reads on from this line: passes it over, or does the step that begins with it.
+fn read_on<'a, D: Database>(
+    alloc: Global,
+    database: &mut D,
+    at: &mut Cursor<'a>,
+    line: &'a [u8],
+    behind: &'a [u8],
+) -> Result<(), LoadRefusal>
+    requires first { lines at.old.rest.now ≡ line.now ∷ lines behind.now }
+    requires less { length behind.now < length at.old.rest.now }
+    requires room { IsRoomy at.old.line (length at.old.rest.now) at.old.loaded }
+    ensures on { OnOk result
+        (AdvancesText (place_at at.old.rest.now at.old.line at.old.dir at.old.loaded)
+        (place_at at.new.rest.now at.new.line at.new.dir at.new.loaded)
+        (watched_as (D.rows database.old) (D.watches database.old))
+        (watched_as (D.rows database.new) (D.watches database.new))) }
+    ensures room { OnOk result (IsRoomy at.new.line (length at.new.rest.now) at.new.loaded) }
+    ensures shorter { OnOk result (length at.new.rest.now < length at.old.rest.now) }
+    ensures fault { IfErr result (IsTextFaultAt (place_at at.old.rest.now at.old.line at.old.dir
+        at.old.loaded) (D.rows database.old)) }
+{
+    if is_passed(line) {
+        at.rest = behind;
+        at.line += 1;
+        return Ok(());
+    }
+    do_block(alloc, database, at, line, behind)
+}
+
+/// Does what a text asks for, up to the first fault.
+fn load_into<D: Database>(
+    alloc: Global,
+    database: &mut D,
+    text: &[u8],
+) -> Result<Loaded, LoadRefusal>
+    requires { length text.now ≤ dump_limit }
+    ensures loaded { IfOk result (λ loaded. IsLoaded
+        (watched_as (D.rows database.old) (D.watches database.old)) (lines text.now) loaded
+        (watched_as (D.rows database.new) (D.watches database.new))) }
+    ensures fault { IfErr result (IsTextFault (D.rows database.old) (lines text.now)) }
+{
+    let mut at = Cursor {
+        rest: text,
+        line: 1,
+        dir: Path::root(alloc),
+        loaded: Loaded {
+            keys: 0,
+            skipped: 0,
+        },
+    };
+    while let Some((line, behind)) = split_line(at.rest) {
+        read_on(alloc, database, &mut at, line, behind)?;
+    }
+    Ok(at.loaded)
+}
+
+/// Loads a text of at most 268,435,456 bytes: makes the directories and writes the keys that it asks for, in its order,
+/// and skips keys of four types of which the database keeps no values. The lines of a text that is loaded are those of
+/// steps none of which is refused, and watches of the database note each key that is written, item by item. Else a line
+/// at fault is told: the lines before it are those of steps none of which is refused, and there the text leaves the
+/// grammar, or what it asks for is refused; the database and its watches are as they were.
+#[tactic(auto, using(crate::proofs::Loads::loaded_from))]
+pub fn load<D: Database>(
+    alloc: Global,
+    database: &mut D,
+    text: &[u8],
+) -> Result<Loaded, LoadRefusal>
+    requires { length text.now ≤ dump_limit }
+    ensures loaded { IfOk result (λ loaded. IsLoaded
+        (watched_as (D.rows database.old) (D.watches database.old)) (lines text.now) loaded
+        (watched_as (D.rows database.new) (D.watches database.new))) }
+    ensures fault { IfErr result (IsTextFault (D.rows database.old) (lines text.now)) }
+    ensures kept { OnErr result (D.rows database.new ≡ D.rows database.old) }
+    ensures unnoted { OnErr result (D.watches database.new ≡ D.watches database.old) }
+{
+    let mut copy = database.copy(alloc)?;
+    let loaded = load_into(alloc, &mut copy, text)?;
+    *database = copy;
+    Ok(loaded)
+}

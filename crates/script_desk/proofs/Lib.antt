@@ -1,4 +1,0 @@
-mod PlayingLaws
-mod PlayingEnds
-mod ClosingLaws
-pub mod KeepingLaws

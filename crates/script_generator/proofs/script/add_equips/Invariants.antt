@@ -1,7 +1,0 @@
--- So far the front-ends before this one are declared.
-use Rattle.std.specs.Prelude.{◌≡◌, ◌++◌}
-use Rattle.script_generator.specs.Scripts.{equip_lines}
-use Rattle.script_generator.proofs.script.add_equips.Given as goal
-
-abbrev pub invariant-loop-before : goal.invariant-loop-before
-invariant-loop-before l = l.script ≡ l.fn.script ++ equip_lines l.before

@@ -1,4 +1,0 @@
-mod KnownSteps
-mod KnownCalls
-mod MadeLaws
-mod SeatLaws

@@ -1,4 +1,0 @@
-pub mod MainKnowledge
-pub mod MadeTransitions
-pub mod Members
-pub mod MainSeats

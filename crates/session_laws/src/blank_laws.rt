@@ -1,0 +1,15 @@
+//! The law of blank reports: the function does nothing, and its contract is the law.
+
+ghost use Rattle.session_laws.specs.BlankLaws.{BlanksSuffice};
+
+use engine_laws::laws as turns;
+use transitions::laws;
+
+/// Where a client that asks for reports refuses a start as not ready only at a turn that came without a blank report, a start
+/// is refused so only where its sheet has fewer blank reports than clients were registered that ask for one.
+pub fn blanks_suffice()
+    ensures { BlanksSuffice }
+{
+    turns::tallies_answered();
+    laws::start_numbers_rise();
+}

@@ -1,2 +1,0 @@
-pub mod ConsoleLaws
-pub mod Refused

@@ -1,6 +1,0 @@
-use Rattle.std.proofs.Common.{◌≡◌, ◌++◌, take}
-use Rattle.session_replies.specs.Console.{file_lines}
-use Rattle.session_replies.proofs.console.add_files.Given as goal
-
-abbrev pub invariant-loop-file : goal.invariant-loop-file
-invariant-loop-file l = l.text ≡ l.initial.text ++ file_lines (take l.file-index l.files)

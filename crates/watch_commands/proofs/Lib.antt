@@ -1,6 +1,0 @@
-pub mod WatchMade
-pub mod DumpMade
-pub mod CommandsMade
-mod Added
-mod NumberStays
-mod Sparing

@@ -1,5 +1,0 @@
-use Rattle.watch_commands.proofs.NumberStays.{number_stays}
-use Rattle.watch_commands.proofs.laws.run_number_stays_watched.Goals as goal
-
-pub returns : goal.returns
-returns c = number_stays c.run_number_stays.ensures c.texts_are_calls.ensures

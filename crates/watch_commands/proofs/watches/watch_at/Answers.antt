@@ -1,5 +1,0 @@
-use Rattle.watch_commands.proofs.WatchMade.{path_watched}
-use Rattle.watch_commands.proofs.watches.watch_at.Goals as goal
-
-pub returns : goal.returns
-returns g c = path_watched _ _ _ _ _ _ c.find-found.ensures.called c.find-found.ensures.memory c.watch_found.ensures

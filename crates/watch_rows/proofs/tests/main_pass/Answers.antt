@@ -1,8 +1,0 @@
-use Rattle.odb_lock.specs.SharedOdbs.{odb_lock_of}
-use Rattle.watch_rows.proofs.tests.main_pass.Goals as goal
-
-pub returns-clause-own : goal.returns-clause-own
-returns-clause-own c = c.in-Some.ensures.taken_own (odb_lock_of c.args.shared.now) c.requires.own
-
-pub returns-clause-idle : goal.returns-clause-idle
-returns-clause-idle c = (c.in-Some.ensures.taken_fresh c.requires.fresh).idle
