@@ -6,7 +6,7 @@ use Rattle.odb_tree.specs.declared.refusals.OdbRefusal.{OdbRefusal}
 use Rattle.odb_text.specs.declared.acts.Loaded.{Loaded as keys_loaded}
 use Rattle.odb_text.specs.declared.acts.LoadRefusal.{LoadRefusal}
 use Rattle.odb_text.specs.declared.acts.LoadRefusal.TheVariants as load
-use Rattle.odb_text.specs.Dumps.{path_text}
+use Rattle.odb_value.specs.PathText.{path_text}
 use Rattle.odb_watch.specs.declared.notes.WatchRefusal.{WatchRefusal}
 use Rattle.odb_watch.specs.declared.notes.WatchRefusal.TheVariants as watch
 use Rattle.odb_commands.specs.Texts.{path_refusal_text, odb_text, refused_line}

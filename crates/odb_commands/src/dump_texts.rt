@@ -7,9 +7,9 @@ use crate::watch_replies::{ToldNote, WatchCommandRefusal, WatchReply};
 use crate::{CommandRefusal, begin_refusal};
 use daq_text::TextBuffer;
 use daq_types::NoMemory;
-use odb_text::{LoadRefusal, Loaded, print_path};
+use odb_text::{LoadRefusal, Loaded};
 use odb_tree::OdbRefusal;
-use odb_value::Path;
+use odb_value::{Path, print_path};
 use odb_watch::WatchRefusal;
 
 /// Adds the path of a row, or its number where the row is gone.

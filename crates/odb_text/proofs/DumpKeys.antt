@@ -27,7 +27,8 @@ use Rattle.odb_text.specs.declared.acts.Act.TheVariants.{Write}
 use Rattle.odb_text.specs.Grammar.{SizedItem, AreItemLines, size_given, size_for, held_with, IsSingleKey, IsArrayHead, SpellsAct}
 use Rattle.odb_text.proofs.Written.{wider}
 use Rattle.odb_text.proofs.DumpLines.{array_line, array_lines, array_head, key_line, lines_with, key_lines}
-use Rattle.odb_text.proofs.DumpPaths.{or_false, name_inside, above_blank, name_no_sign, has_no_append}
+use Rattle.odb_value.proofs.PathAgain.{or_false, name_inside, above_blank}
+use Rattle.odb_text.proofs.DumpPaths.{name_no_sign, has_no_append}
 
 -- a name without the blank behind it
 

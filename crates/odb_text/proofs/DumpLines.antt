@@ -17,7 +17,8 @@ use Rattle.odb_tree.specs.Rows.{Rows, keys_in, dirs_in}
 use Rattle.odb_tree.specs.Calls.{last_name}
 use Rattle.odb_text.specs.LineForms.{HasNo}
 use Rattle.odb_text.proofs.Texts.{first_line}
-use Rattle.odb_text.specs.Dumps.{path_text, dir_line, value_text, keys_text, section_text, section_with, dirs_text, dump_text}
+use Rattle.odb_value.specs.PathText.{path_text}
+use Rattle.odb_text.specs.Dumps.{dir_line, value_text, keys_text, section_text, section_with, dirs_text, dump_text}
 
 -- lines, each with its end
 abbrev pub ended : List (List ℕ) → List ℕ

@@ -28,7 +28,8 @@ use Rattle.odb_tree.specs.Trees.{AreShort}
 use Rattle.odb_tree.specs.Databases.{IsRow, IsDatabase}
 use Rattle.odb_tree.proofs.EachRow.{short_rows}
 use Rattle.odb_tree.proofs.Whole.{has_rows}
-use Rattle.odb_text.specs.Dumps.{path_text, dir_line, value_text, row_text, keys_text, section_text, section_with, root_text, dirs_text, dump_text, dump_limit}
+use Rattle.odb_value.specs.PathText.{path_text}
+use Rattle.odb_text.specs.Dumps.{dir_line, value_text, row_text, keys_text, section_text, section_with, root_text, dirs_text, dump_text, dump_limit}
 
 -- Items.
 

@@ -2,16 +2,12 @@
 use Rattle.std.specs.Prelude.{ℕ, zero, suc, List, [], ◌∷◌, ◌++◌, Option, Some, None, codes}
 use Rattle.std.specs.List.{flat_map}
 use Rattle.odb_value.specs.Paths.{depth_limit}
+use Rattle.odb_value.specs.PathText.{path_text}
 use Rattle.odb_value.specs.Values.{HeldValue}
 use Rattle.odb_value.specs.KeyTexts.{key_text}
 use Rattle.odb_tree.specs.declared.rows.Row.{Row}
 use Rattle.odb_tree.specs.Rows.{Rows, keys_in, dirs_in}
 use Rattle.odb_tree.specs.Calls.{last_name}
-
--- the text of a path: its names from the root down, each behind a slash; the root is a slash alone
-abbrev pub path_text : List (List ℕ) → List ℕ
-path_text [] = codes "/"
-path_text (name ∷ names) = flat_map (λ (n : List ℕ). 47 ∷ n) (name ∷ names)
 
 -- the line of a directory
 abbrev pub dir_line : List (List ℕ) → List ℕ

@@ -4,37 +4,15 @@ ghost use Rattle.odb_value.specs.Paths.{depth_limit};
 ghost use Rattle.odb_tree.specs.Trees.{IsDir};
 ghost use Rattle.odb_tree.specs.Rows.{keys_in};
 ghost use Rattle.odb_tree.specs.Databases.{IsDatabase};
-ghost use Rattle.odb_text.specs.Dumps.{path_text, dir_line, keys_text, section_text, root_text, dirs_text};
+ghost use Rattle.odb_text.specs.Dumps.{dir_line, keys_text, section_text, root_text, dirs_text};
 ghost use Rattle.odb_text.specs.Standing.{IsChildIn, key_part, begins_with_key};
 
 use crate::children::{children_of, path_of_child};
 use daq_text::TextBuffer;
-use daq_types::{Name, NoMemory};
+use daq_types::NoMemory;
 use odb_tree::{Child, Database};
-use odb_value::{Path, print_key};
+use odb_value::{Path, print_key, print_path};
 use std::alloc::Global;
-
-/// Adds names, each behind a slash.
-fn add_names(text: &mut TextBuffer, names: &[Name]) -> Result<(), NoMemory>
-    ensures { OnOk result (text.new ≡ text.old ++ flat_map (λ (name : List ℕ). 47 ∷ name)
-        names.now) }
-{
-    for name in names {
-        text.text(b"/")?;
-        text.text(name.as_slice())?;
-    }
-    Ok(())
-}
-
-/// Adds the text of the path with these names: each behind a slash, from the root down; the root's is a slash alone.
-pub fn print_path(names: &[Name], text: &mut TextBuffer) -> Result<(), NoMemory>
-    ensures { OnOk result (text.new ≡ text.old ++ path_text names.now) }
-{
-    if names.is_empty() {
-        return text.text(b"/");
-    }
-    add_names(text, names)
-}
 
 /// Adds the line of a directory.
 fn add_dir_line(text: &mut TextBuffer, path: &Path) -> Result<(), NoMemory>

@@ -21,7 +21,6 @@ mod words;
 
 pub use acts::{Act, LoadRefusal, Loaded};
 pub use directories::read_dir_line;
-pub use dump::print_path;
 pub use items::{ReadItem, is_string, item_alone, item_line};
 pub use keys::{array, key_line, single};
 pub use lines::split_line;

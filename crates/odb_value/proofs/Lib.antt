@@ -1,6 +1,7 @@
 pub mod NameFaults
 pub mod Reading
 pub mod PathLaws
+pub mod PathAgain
 pub mod ValueKept
 pub mod FormSteps
 pub mod Stops

@@ -1,7 +1,7 @@
--- The text of a path, and what is wrong with a text that is no path.
-use Rattle.std.specs.Prelude.{◌≡◌, ◌≢◌, ℕ, ◌+◌, ◌-◌, ◌==◌, List, [], ◌∷◌, length, Option, Some, None, Result, Ok, Err, nat_lt, if◌then◌else◌}
+-- The text of a path, both ways, and what is wrong with a text that is no path.
+use Rattle.std.specs.Prelude.{◌≡◌, ◌≢◌, ℕ, ◌+◌, ◌-◌, ◌==◌, List, [], ◌∷◌, length, Option, Some, None, Result, Ok, Err, nat_lt, if◌then◌else◌, codes}
 use Rattle.std.specs.Option.{option_or}
-use Rattle.std.specs.List.{slice_split}
+use Rattle.std.specs.List.{slice_split, flat_map}
 use Rattle.daq_types.specs.Names.{breaks_name}
 use Rattle.odb_value.specs.declared.path_refusals.PathRefusal.{PathRefusal}
 use Rattle.odb_value.specs.declared.path_refusals.PathRefusal.TheVariants.{EmptyName, LongName, BadByte, TooDeep, NoMemory}
@@ -71,3 +71,8 @@ path_reply text = names_or (names_of text) (first_fault (names_start text) 0 (na
 abbrev pub GivesNames : Result (List (List ℕ)) PathRefusal → Result (List (List ℕ)) PathRefusal → Type 0
 GivesNames (Ok path) reply = reply ≡ Ok path
 GivesNames (Err refusal) reply = refusal ≢ NoMemory → reply ≡ Err refusal
+
+-- the text of a path: its names from the root down, each behind a slash; the root is a slash alone
+abbrev pub path_text : List (List ℕ) → List ℕ
+path_text [] = codes "/"
+path_text (name ∷ names) = flat_map (λ (n : List ℕ). 47 ∷ n) (name ∷ names)

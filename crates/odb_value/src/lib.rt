@@ -1,5 +1,5 @@
 //! Paths and values of the online database: lists of key names, which are equal without the case of their letters; items and
-//! arrays of them, and the text of an item, both ways.
+//! arrays of them; and the texts of a path and of an item, both ways.
 #![tactic(auto)]
 
 mod compare;
@@ -9,6 +9,7 @@ mod key_texts;
 pub mod laws;
 mod parts;
 mod path_refusals;
+mod path_texts;
 mod paths;
 mod refusals;
 mod texts;
@@ -19,6 +20,7 @@ pub use items::Item;
 pub use key_texts::print_key;
 pub use parts::{CharByte, TextBytes};
 pub use path_refusals::PathRefusal;
+pub use path_texts::print_path;
 pub use paths::{MAX_DEPTH, Path};
 pub use refusals::ItemRefusal;
 pub use texts::{parse_item, print_item};
