@@ -228,10 +228,11 @@ pub gets_behind : (a b c : DatabaseAccess) (index : Option ℕ) (p copy : List (
 gets_behind a b c index p copy given got result called is same settled rest =
     first_then a b c (GetsIn p index got) (Gets index p) (call.Get p got) result (got_at a b p copy given got called is same) (λ calls reply does. (got, calls, refl, settled, does)) rest
 
-pub shows_behind : (a b c : DatabaseAccess) (p : List (List ℕ)) (v : HeldValue) (found : Result ℕ OdbRefusal) (result : Result CommandReply NoMemory) → AddsCall a b (call.Find p found) → found ≢ Err no_memory
+pub shows_behind : (a b c : DatabaseAccess) (p : List (List ℕ)) (v : HeldValue) (given found : Result ℕ OdbRefusal) (result : Result CommandReply NoMemory) → AddsCall a b (call.Find p given) → found ≡ given → IsSettled found
     → EndsCommand b c (NamesFound v found) result → EndsCommand a c (Shows p None v) result
-shows_behind a b c p v found result called settled rest =
-    first_then a b c (NamesFound v found) (Shows p None v) (call.Find p found) result called (λ calls reply does. (found, calls, refl, settled_by found settled, does)) rest
+shows_behind a b c p v given found result called same settled rest =
+    first_then a b c (NamesFound v found) (Shows p None v) (call.Find p found) result (subst (λ (r : Result ℕ OdbRefusal). AddsCall a b (call.Find p r)) (sym same) called)
+    (λ calls reply does. (found, calls, refl, settled, does)) rest
 
 -- The port stays, by what its calls tell.
 pub port_stays : ((a b : DatabaseAccess) (calls : List DatabaseEntry) → AddsCalls a b calls → IsSamePort a b) → (a b : DatabaseAccess) (Does : List DatabaseEntry → CommandReply → Type 0) (result : Result CommandReply NoMemory)

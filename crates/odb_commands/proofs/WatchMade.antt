@@ -97,14 +97,11 @@ row_cut a b row got called wanting =
     cut_at_first a b (WatchesRow row) (call.Watch row got) (call.Watch row (Err watch.NoWatchSlot)) (watching_or (Err watch.NoWatchSlot)) (Err watch.NoWatchSlot, refl, no_slot, refl)
     (ap (λ (r : Result ℕ WatchRefusal). call.Watch row r) wanting) (λ same. cc) called
 
-settled_by : {X : Type 0} (got : Result X OdbRefusal) → got ≢ Err odb.NoMemory → IsSettled got
-settled_by (Ok x) found = tt
-settled_by (Err refusal) found = λ is. found (ap (λ (r : OdbRefusal). Err r) is)
-
-pub path_watched : (a b c : DatabaseAccess) (p : List (List ℕ)) (found : Result ℕ OdbRefusal) (result : Result WatchAnswer NoMemory) → AddsEntry a b (call.Call (Find p found)) → found ≢ Err odb.NoMemory
+pub path_watched : (a b c : DatabaseAccess) (p : List (List ℕ)) (given found : Result ℕ OdbRefusal) (result : Result WatchAnswer NoMemory) → AddsEntry a b (call.Call (Find p given)) → found ≡ given → IsSettled found
     → EndsWatchCommand b c (WatchesFound found) result → EndsWatchCommand a c (WatchesPath p) result
-path_watched a b c p found result called settled rest =
-    first_then a b c (WatchesFound found) (WatchesPath p) (call.Call (Find p found)) result called (λ calls answer does. (found, calls, refl, settled_by found settled, does)) rest
+path_watched a b c p given found result called same settled rest =
+    first_then a b c (WatchesFound found) (WatchesPath p) (call.Call (Find p found)) result (subst (λ (r : Result ℕ OdbRefusal). AddsEntry a b (call.Call (Find p r))) (sym same) called)
+    (λ calls answer does. (found, calls, refl, settled, does)) rest
 
 abbrev pub some_watch : (p : List (List ℕ)) → Some_does (WatchesPath p)
 some_watch p = (call.Call (Find p (Err odb.NoKey)) ∷ [], refused_for (Database odb.NoKey), (Err odb.NoKey, [], refl, no_key, (refl, refl)))

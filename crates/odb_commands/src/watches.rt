@@ -6,7 +6,7 @@ ghost use Rattle.odb_watch.specs.Steps.{moved_out};
 ghost use Rattle.odb_commands.specs.WatchAnswers.{said as reply_said, refused_for as refusal_for, watching_or as watching_of, ended_or as ended_of};
 ghost use Rattle.odb_commands.specs.WatchCalls.{AnswersWatch, EndsWatchCommand, OnPath, IsWatchSettled, WatchesRow, WatchesFound, WatchesPath, TellsNotes, TellsTaken, TakesNotes, EndsWatch};
 
-use crate::read_path;
+use crate::reading::{read_path, settled};
 use crate::watch_replies::{ToldNote, ToldNotes, WatchAnswer, WatchCommandRefusal, WatchReply};
 use daq_types::NoMemory;
 use odb_tree::{Note, Notes, OdbRefusal};
@@ -92,7 +92,7 @@ fn watch_at<R: Wait, P: WatchPort>(
     ensures { EndsWatchCommand (P.access port.old) (P.access port.new)
         (WatchesPath path) result }
 {
-    let found = port.find(rt, path);
+    let found = settled(port.find(rt, path))?;
     watch_found(rt, alloc, port, found)
 }
 
