@@ -144,8 +144,8 @@ fn keys_loaded(loaded: Result<Loaded, LoadRefusal>) -> Reply {
 
 fn reply<D: Database>(alloc: Global, database: &mut D, path: &Path, call: Call) -> Reply {
     match call {
-        Call::Dir => database.create(alloc, path, NewKey::Dir),
-        Call::Keys(tid, len) => database.create(alloc, path, NewKey::Keys { tid, len }),
+        Call::Dir => database.create(alloc, path, &NewKey::Dir),
+        Call::Keys(tid, len) => database.create(alloc, path, &NewKey::Keys { tid, len }),
         Call::Set(index, tid, text) => set(alloc, database, path, index, tid, text),
         Call::SetLong(index, len) => set_long(alloc, database, path, index, len),
         Call::SetAll(tid, len) => set_all(alloc, database, path, tid, len),

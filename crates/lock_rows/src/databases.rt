@@ -83,7 +83,7 @@ fn make_rows<R: Wait>(
     ensures idle { held_by main.new ≡ None }
     ensures number { number_of main.new ≡ number_of main.old }
 {
-    let kind = NewKey::Keys {
+    let kind = &NewKey::Keys {
         tid: Tid::UInt8,
         len: 2,
     };
@@ -221,7 +221,7 @@ fn make_meet_and_find<R: Wait>(
 ) -> Result<[Result<u32, OdbRefusal>; 2], NoMemory> {
     let (shared, mut passes) = share(alloc)?;
     let (mut main, mut other) = two_passes(&shared, &mut passes);
-    let kind = NewKey::Dir;
+    let kind = &NewKey::Dir;
     let made = shared.call(rt, &mut main, calls::Create { alloc, path, kind }, &mut ());
     meet_what_was_seen(&shared, &mut main, &mut other);
     let found = shared.call(rt, &mut other, calls::Find { path }, &mut ());

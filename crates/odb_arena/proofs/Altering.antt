@@ -7,7 +7,7 @@ use Rattle.odb_value.specs.Paths.{same_path}
 use Rattle.odb_value.specs.Values.{HeldValue}
 use Rattle.odb_tree.specs.declared.rows.Row.{Row}
 use Rattle.odb_tree.specs.declared.children.Child.{Child}
-use Rattle.odb_tree.specs.Rows.{Rows, row_at, is_child, is_listed, change_row, change_at, bytes_of, bytes_in, total_of}
+use Rattle.odb_tree.specs.Rows.{Rows, no_rows, row_at, is_child, is_listed, change_row, change_at, bytes_of, bytes_in, total_of}
 use Rattle.odb_tree.specs.Calls.{child_of}
 use Rattle.odb_tree.specs.Walks.{changed_at}
 use Rattle.odb_tree.proofs.WalkLaws.{true_false, not_true, change_is_map, value_kept}
@@ -56,9 +56,9 @@ number_pos row names next count bytes k r h e =
 -- the arena with a new value of the key at a path, whose row has this number
 pub arena_changed : (row row' : ℕ → Option Row) (names names' : Bool → ℕ → Option (List (List ℕ × Child))) (next count bytes k0 : ℕ) (p : List (List ℕ)) (f : HeldValue → HeldValue) (r0 : Row) (v : HeldValue)
     → IsArena row names next count bytes → row_at (rows_below row next) p ≡ Some r0 → r0.value ≡ Some v → row k0 ≡ Some r0 → eqb k0 0 ≡ false → same_path r0.path p ≡ true
-    → IsDatabase (record { rows = change_at (rows_below row next) p f; next = next })
+    → IsDatabase (record no_rows { rows = change_at (rows_below row next) p f; next = next })
     → ((k : ℕ) → row' k ≡ cond (eqb k0 k) (Some (change_row f r0)) (row k)) → ((keys : Bool) (k : ℕ) → names' keys k ≡ names keys k)
-    → (all_rows row' next ≡ record { rows = change_at (rows_below row next) p f; next = next }) × IsArena row' names' next count (bytes - bytes_of v + bytes_of (f v))
+    → (all_rows row' next ≡ record no_rows { rows = change_at (rows_below row next) p f; next = next }) × IsArena row' names' next count (bytes - bytes_of v + bytes_of (f v))
 arena_changed row row' names names' next count bytes k0 p f r0 v h found value here root same database rows_are names_are = (
   whole,
   record {
@@ -97,8 +97,8 @@ arena_changed row row' names names' next count bytes k0 p f r0 v h found value h
     rows_is : rows_below row' next ≡ map (changed_at p f) (rows_below row next)
     rows_is = below_changed (changed_at p f) row row' next each
 
-    whole : all_rows row' next ≡ record { rows = change_at (rows_below row next) p f; next = next }
-    whole = ap (λ (l : List Row). record { rows = l; next = next }) (rows_is ∙ sym (change_is_map p f (rows_below row next) (one_at (rows_below row next) p h.database.tree.apart)))
+    whole : all_rows row' next ≡ record no_rows { rows = change_at (rows_below row next) p f; next = next }
+    whole = ap (λ (l : List Row). record no_rows { rows = l; next = next }) (rows_is ∙ sym (change_is_map p f (rows_below row next) (one_at (rows_below row next) p h.database.tree.apart)))
 
     counts : ChangeCounts (rows_below row next) p v f
     counts = change_counts (rows_below row next) p r0 v f found value
@@ -130,16 +130,16 @@ arena_changed row row' names names' next count bytes k0 p f r0 v h found value h
 
 -- A key's value is changed in its node.
 pub altered : (t : Inside) (s : Rows) (p : List (List ℕ)) (f : HeldValue → HeldValue) (n had now : ℕ) (v : HeldValue) (row : Row) (es : List (ℕ × Node)) → IsWholeArena t → rows_of t ≡ s
-    → row_at s.rows p ≡ Some row → row.value ≡ Some v → row.number ≡ n → IsDatabase (record { rows = change_at s.rows p f; next = s.next })
+    → row_at s.rows p ≡ Some row → row.value ≡ Some v → row.number ≡ n → IsDatabase (record s { rows = change_at s.rows p f })
     → ((k : ℕ) → row_of es k ≡ cond (eqb n k) (option_map (change_row f) (row_of t.nodes.entries k)) (row_of t.nodes.entries k))
     → ((root : Directory) (keys : Bool) (k : ℕ) → names_at root es keys k ≡ names_at root t.nodes.entries keys k)
     → had ≡ bytes_of v → now ≡ bytes_of_found (row_of es n)
-    → (all_rows (row_of es) t.next ≡ record { rows = change_at s.rows p f; next = s.next }) × IsArena (row_of es) (names_at t.root es) t.next t.count (t.bytes - had + now)
+    → (all_rows (row_of es) t.next ≡ record s { rows = change_at s.rows p f }) × IsArena (row_of es) (names_at t.root es) t.next t.count (t.bytes - had + now)
 altered t s p f n had now v row es h is there value number database rows_are names_are had_is now_is =
     let done = arena_changed (row_of t.nodes.entries) (row_of es) (names_at t.root t.nodes.entries) (names_at t.root es) t.next t.count t.bytes n p f row v h found value here
     (number_pos (row_of t.nodes.entries) (names_at t.root t.nodes.entries) t.next t.count t.bytes n row h here) same
-    (subst (λ (x : Rows). IsDatabase (record { rows = change_at x.rows p f; next = x.next })) (sym is) database) each (names_are t.root) in (
-      done.0 ∙ ap (λ (x : Rows). record { rows = change_at x.rows p f; next = x.next }) is,
+    (subst (λ (x : Rows). IsDatabase (record x { rows = change_at x.rows p f })) (sym is) database) each (names_are t.root) in (
+      done.0 ∙ ap (λ (x : Rows). record x { rows = change_at x.rows p f }) is,
       subst (λ (b : ℕ). IsArena (row_of es) (names_at t.root es) t.next t.count (t.bytes - had + b)) (sym bytes)
           (subst (λ (b : ℕ). IsArena (row_of es) (names_at t.root es) t.next t.count (t.bytes - b + bytes_of (f v))) (sym had_is) done.1),
     )

@@ -8,7 +8,7 @@ use Rattle.std.proofs.lemmas.List.Sums.{sum_by-append, sum_by-cons}
 use Rattle.odb_value.specs.Paths.{same_name, is_front, same_path}
 use Rattle.odb_value.specs.Values.{HeldValue}
 use Rattle.odb_tree.specs.declared.rows.Row.{Row}
-use Rattle.odb_tree.specs.Rows.{Rows, row_at, row_numbered, rows_outside, bytes_of_row, total_of}
+use Rattle.odb_tree.specs.Rows.{Rows, no_rows, row_at, row_numbered, rows_outside, bytes_of_row, total_of}
 use Rattle.odb_tree.specs.Lookups.{parent_of, obstacle_from}
 use Rattle.odb_tree.specs.Making.{Way, further, go_on, no_way, way_to, last_of, new_row, new_number, created}
 use Rattle.odb_tree.specs.Calls.{path_with, after_delete}
@@ -149,24 +149,24 @@ last_gone s number last tree =
 
 pub without_is : (before : Rows) (row : Row) → without_last (with_rows before (row ∷ [])) ≡ before
 without_is before row =
-    same_rows (take (length (before.rows ++ row ∷ []) - 1) (before.rows ++ row ∷ [])) before.rows (before.next + 1 - 1) before.next
+    same_rows before (take (length (before.rows ++ row ∷ []) - 1) (before.rows ++ row ∷ [])) before.rows (before.next + 1 - 1) before.next
     (ap (λ (n : ℕ). take n (before.rows ++ row ∷ [])) (let e : length (before.rows ++ row ∷ []) - 1 ≡ length before.rows = omega (arith, length-append before.rows (row ∷ [])) in e) ∙ front before.rows row) (omega arith)
   where
     front : (rows : List Row) (row : Row) → take (length rows) (rows ++ row ∷ []) ≡ rows
     front [] row = refl
     front (r ∷ rs) row = ap (λ (l : List Row). r ∷ l) (front rs row)
 
-pub last_taken : (s s1 s2 : Rows) (number : ℕ) (last : IsLastRow s number) → IsTree s → s1 ≡ after_delete s last.row.path → s2 ≡ record { rows = s1.rows; next = s1.next - 1 } → s2 ≡ without_last s
+pub last_taken : (s s1 s2 : Rows) (number : ℕ) (last : IsLastRow s number) → IsTree s → s1 ≡ after_delete s last.row.path → s2 ≡ record s1 { next = s1.next - 1 } → s2 ≡ without_last s
 last_taken s s1 s2 number last tree e f =
     let rows : s1.rows ≡ last.before.rows = ap (λ (x : Rows). x.rows) e ∙ last_gone s number last tree in
     let next : s1.next - 1 ≡ last.before.next = omega (arith, ap (λ (x : Rows). x.next) e, ap (λ (x : Rows). x.next) last.made) in
-    f ∙ (same_rows s1.rows last.before.rows (s1.next - 1) last.before.next rows next ∙ sym (ap without_last last.made ∙ without_is last.before last.row))
+    f ∙ (same_rows s1 s1.rows last.before.rows (s1.next - 1) last.before.next rows next ∙ sym (ap without_last last.made ∙ without_is last.before last.row))
 
-pub taken_before : (s s1 : Rows) (number : ℕ) (last : IsLastRow s number) → IsTree s → s1 ≡ after_delete s last.row.path → IsDatabase (record { rows = s1.rows; next = s1.next - 1 })
+pub taken_before : (s s1 : Rows) (number : ℕ) (last : IsLastRow s number) → IsTree s → s1 ≡ after_delete s last.row.path → IsDatabase (record s1 { next = s1.next - 1 })
 taken_before s s1 number last tree e =
     let rows : s1.rows ≡ last.before.rows = ap (λ (x : Rows). x.rows) e ∙ last_gone s number last tree in
     let next : s1.next - 1 ≡ last.before.next = omega (arith, ap (λ (x : Rows). x.next) e, ap (λ (x : Rows). x.next) last.made) in
-    subst IsDatabase (sym (same_rows s1.rows last.before.rows (s1.next - 1) last.before.next rows next)) last.database
+    subst IsDatabase (sym (same_rows s1 s1.rows last.before.rows (s1.next - 1) last.before.next rows next)) last.database
 
 pub taken_next : (s s1 : Rows) (number : ℕ) (last : IsLastRow s number) → s1 ≡ after_delete s last.row.path → 1 ≤ s1.next
 taken_next s s1 number last e = omega (arith, ap (λ (x : Rows). x.next) e, ap (λ (x : Rows). x.next) last.made)
@@ -363,9 +363,9 @@ rising_less from (x ∷ xs) next p r h e =
     ]
 
 pub arena_forgets : (row : ℕ → Option Row) (names : Bool → ℕ → Option (List (List ℕ × Child))) (next count bytes : ℕ) → IsArena row names next count bytes → 1 ≤ next
-    → IsDatabase (record { rows = rows_below row next; next = next - 1 }) → (all_rows row (next - 1) ≡ record { rows = rows_below row next; next = next - 1 }) × IsArena row names (next - 1) count bytes
+    → IsDatabase (record no_rows { rows = rows_below row next; next = next - 1 }) → (all_rows row (next - 1) ≡ record no_rows { rows = rows_below row next; next = next - 1 }) × IsArena row names (next - 1) count bytes
 arena_forgets row names next count bytes h some database =
-    let rows : all_rows row (next - 1) ≡ record { rows = rows_below row next; next = next - 1 } = ap (λ (l : List Row). record { rows = l; next = next - 1 }) (sym same) in (
+    let rows : all_rows row (next - 1) ≡ record no_rows { rows = rows_below row next; next = next - 1 } = ap (λ (l : List Row). record no_rows { rows = l; next = next - 1 }) (sym same) in (
       rows,
       record {
         database = subst IsDatabase (sym rows) database;

@@ -11,7 +11,7 @@ use Rattle.daq_types.specs.Names.{IsName}
 use Rattle.odb_value.specs.Paths.{same_name, is_front, same_path}
 use Rattle.odb_tree.specs.declared.rows.Row.{Row}
 use Rattle.odb_tree.specs.declared.children.Child.{Child}
-use Rattle.odb_tree.specs.Rows.{row_at, rows_outside, is_key, is_kind, is_child, is_listed, bytes_of_row, total_of}
+use Rattle.odb_tree.specs.Rows.{no_rows, row_at, rows_outside, is_key, is_kind, is_child, is_listed, bytes_of_row, total_of}
 use Rattle.odb_tree.specs.Calls.{child_of, last_name, after_delete}
 use Rattle.odb_tree.specs.Trees.{AreApart}
 use Rattle.odb_tree.specs.Databases.{IsDatabase, IsRow}
@@ -180,9 +180,9 @@ pub arena_less : (row row' : ℕ → Option Row) (names names' : Bool → ℕ �
     → ((keys : Bool) (k : ℕ) → eqb k0 k ≡ false → names' keys k ≡ names_left keys at (not (is_key r0)) (folded name) k (names keys k))
     → (all_rows row' next ≡ after_delete (all_rows row next) r0.path) × IsArena row' names' next (count - 1) (bytes - bytes_of_row r0)
 arena_less row row' names names' next count bytes k0 at p u name r0 h here root path there same alone database rows_are names_are = (
-  ap (λ (l : List Row). record { rows = l; next = next }) rows_is,
+  ap (λ (l : List Row). record no_rows { rows = l; next = next }) rows_is,
   record {
-    database = subst IsDatabase (sym (ap (λ (l : List Row). record { rows = l; next = next }) rows_is)) database;
+    database = subst IsDatabase (sym (ap (λ (l : List Row). record no_rows { rows = l; next = next }) rows_is)) database;
     numbered = λ k r e. numbered_here k r e;
     named = λ keys k q e. subst (λ (l : List Row). names' keys k ≡ Some (entries_in keys l q)) (sym rows_is) (named_here keys k q e);
     counted = omega (arith, h.counted, counts.count);

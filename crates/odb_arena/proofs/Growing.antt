@@ -7,7 +7,7 @@ use Rattle.std.proofs.lemmas.List.Sums.{sum_by_push}
 use Rattle.odb_value.specs.Paths.{is_front, same_path}
 use Rattle.odb_tree.specs.declared.rows.Row.{Row}
 use Rattle.odb_tree.specs.declared.children.Child.{Child}
-use Rattle.odb_tree.specs.Rows.{row_at, row_numbered, is_key, is_kind, is_child, is_listed, bytes_of_row, total_of}
+use Rattle.odb_tree.specs.Rows.{no_rows, row_at, row_numbered, is_key, is_kind, is_child, is_listed, bytes_of_row, total_of}
 use Rattle.odb_tree.specs.Calls.{child_of}
 use Rattle.odb_tree.specs.Trees.{HasDir, IsDir, ArePlaced, AreApart, AreRising, with_rows}
 use Rattle.odb_tree.specs.Databases.{IsDatabase}
@@ -200,9 +200,9 @@ pub arena_more : (row row' : ℕ → Option Row) (names names' : Bool → ℕ �
     → ((keys : Bool) (k : ℕ) → names' keys k ≡ cond (eqb next k) (Some []) (names_entered keys at (child_of new) k (names keys k)))
     → (all_rows row' (next + 1) ≡ with_rows (all_rows row next) (new ∷ [])) × IsArena row' names' (next + 1) (count + 1) (bytes + bytes_of_row new)
 arena_more row row' names names' next count bytes at p name new h there number path database rows_are names_are = (
-  ap (λ (l : List Row). record { rows = l; next = next + 1 }) rows_is,
+  ap (λ (l : List Row). record no_rows { rows = l; next = next + 1 }) rows_is,
   record {
-    database = subst IsDatabase (sym (ap (λ (l : List Row). record { rows = l; next = next + 1 }) rows_is)) database;
+    database = subst IsDatabase (sym (ap (λ (l : List Row). record no_rows { rows = l; next = next + 1 }) rows_is)) database;
     numbered = λ k r e. numbered_here k r e;
     named = λ keys k q e. subst (λ (l : List Row). names' keys k ≡ Some (entries_in keys l q)) (sym rows_is) (named_here keys k q e);
     counted = omega (arith, h.counted, ap (λ (l : List Row). length l) rows_is, length-append (rows_below row next) (new ∷ []));

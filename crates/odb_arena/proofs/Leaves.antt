@@ -10,7 +10,7 @@ use Rattle.odb_value.specs.Paths.{is_front, same_path, depth_limit}
 use Rattle.odb_tree.specs.declared.rows.Row.{Row}
 use Rattle.odb_tree.specs.declared.children.Child.{Child}
 use Rattle.odb_tree.specs.declared.refusals.OdbRefusal.{OdbRefusal}
-use Rattle.odb_tree.specs.Rows.{Rows, row_at, row_numbered, rows_outside, is_key, is_kind, is_child, is_listed}
+use Rattle.odb_tree.specs.Rows.{Rows, no_rows, row_at, row_numbered, rows_outside, is_key, is_kind, is_child, is_listed}
 use Rattle.odb_tree.specs.Lookups.{obstacle_to, found_row, seek, not_there, absent_fault}
 use Rattle.odb_tree.specs.Calls.{path_with, child_of, after_delete, count_gone, delete_reply, find_reply, number_reply, reply_or}
 use Rattle.odb_tree.specs.Trees.{IsDir, ArePlaced, AreRising, IsTree}
@@ -340,8 +340,8 @@ removal_goes_on old s s' number gone n done leaf some other h = record {
         ∙ (ap (option_map (λ (r : Row). r.path)) (stays_numbered (λ (r : Row). not (is_front leaf.path r.path)) s.rows number top.0 top.1 (ap not apart))
         ∙ ap (λ (q : List (List ℕ)). Some q) top.2)
 
-same_whole : (xs ys : List Row) (n m : ℕ) → xs ≡ ys → n ≡ m → record { rows = xs; next = n } ≡ (let s : Rows = record { rows = ys; next = m } in s)
-same_whole xs ys n m e f = let make : List Row → ℕ → Rows = (λ l k. record { rows = l; next = k }) in ap (λ (l : List Row). make l n) e ∙ ap (make ys) f
+same_whole : (xs ys : List Row) (n m : ℕ) → xs ≡ ys → n ≡ m → record no_rows { rows = xs; next = n } ≡ (let s : Rows = record no_rows { rows = ys; next = m } in s)
+same_whole xs ys n m e f = let make : List Row → ℕ → Rows = (λ l k. record no_rows { rows = l; next = k }) in ap (λ (l : List Row). make l n) e ∙ ap (make ys) f
 
 -- no rows are left
 removal_empty : (old s : Rows) (number gone : ℕ) (done : AreRemoved old s number gone) → s.rows ≡ [] → s ≡ after_delete old done.path
@@ -412,7 +412,7 @@ find_has_path s path n tree h = let found = found_there s path n tree h in (foun
 pub deleted : (s s' : Rows) (path : List (List ℕ)) (n : ℕ) → IsTree s → Ok n ≡ find_reply s path → ((p : List (List ℕ)) → path_with s.rows n ≡ Some p → s' ≡ after_delete s p) → s' ≡ after_delete s path
 deleted s s' path n tree h k =
     let found = found_there s path n tree h in
-    k found.own found.there ∙ ap (λ (l : List Row). record { rows = l; next = s.next }) (outside_same s.rows found.own path found.same)
+    k found.own found.there ∙ ap (λ (l : List Row). record s { rows = l }) (outside_same s.rows found.own path found.same)
 
 pub delete_replies : (s s' : Rows) (path : List (List ℕ)) (n : ℕ) → IsTree s → Ok n ≡ find_reply s path → s' ≡ after_delete s path → delete_reply s path ≡ Ok (length s.rows - length s'.rows)
 delete_replies s s' path n tree h is =

@@ -11,7 +11,7 @@ use Rattle.odb_value.specs.Paths.{is_front, same_path}
 use Rattle.odb_value.specs.Values.{HeldValue}
 use Rattle.odb_tree.specs.declared.rows.Row.{Row}
 use Rattle.odb_tree.specs.declared.children.Child.{Child}
-use Rattle.odb_tree.specs.Rows.{Rows, row_at, row_numbered, rows_outside, is_key, bytes_in, bytes_of_row, total_of}
+use Rattle.odb_tree.specs.Rows.{Rows, no_rows, row_at, row_numbered, rows_outside, is_key, bytes_in, bytes_of_row, total_of}
 use Rattle.odb_tree.specs.Lookups.{parent_of}
 use Rattle.odb_tree.specs.Calls.{path_with, child_of, after_delete}
 use Rattle.odb_tree.specs.Trees.{IsTree, with_rows}
@@ -46,7 +46,7 @@ pub arena_same : (row row' : ℕ → Option Row) (names names' : Bool → ℕ �
     → (all_rows row' next ≡ all_rows row next) × IsArena row' names' next count bytes
 arena_same row row' names names' next count bytes h rows_are names_are =
     let same : rows_below row' next ≡ rows_below row next = below_same row' row next (λ k l. rows_are k) in
-    let rows : all_rows row' next ≡ all_rows row next = ap (λ (l : List Row). record { rows = l; next = next }) same in (
+    let rows : all_rows row' next ≡ all_rows row next = ap (λ (l : List Row). record no_rows { rows = l; next = next }) same in (
       rows,
       record {
         database = subst IsDatabase (sym rows) h.database;

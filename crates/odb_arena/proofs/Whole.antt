@@ -21,7 +21,7 @@ none_of : (k : ℕ) → row_of [] k ≡ None
 none_of k = refl
 
 pub no_rows_yet : all_rows (row_of []) 1 ≡ no_rows
-no_rows_yet = ap (λ (rows : List Row). record { rows = rows; next = 1 }) (below_none (row_of []) 1 none_of)
+no_rows_yet = ap (λ (rows : List Row). record no_rows { rows = rows; next = 1 }) (below_none (row_of []) 1 none_of)
 
 -- the new arena
 pub arena_begins : (root : Directory) → ((keys : Bool) → names_in keys root ≡ []) → IsArena (row_of []) (names_at root []) 1 0 0

@@ -5,7 +5,7 @@ use Rattle.std.specs.List.{filter}
 use Rattle.std.specs.Map.{lookup}
 use Rattle.odb_tree.specs.declared.rows.Row.{Row}
 use Rattle.odb_tree.specs.declared.children.Child.{Child}
-use Rattle.odb_tree.specs.Rows.{Rows, is_listed, change_row, bytes_of_row, total_of}
+use Rattle.odb_tree.specs.Rows.{Rows, no_rows, is_listed, change_row, bytes_of_row, total_of}
 use Rattle.odb_value.specs.Values.{HeldValue}
 use Rattle.odb_tree.specs.Calls.{child_of}
 use Rattle.odb_tree.specs.Databases.{IsDatabase}
@@ -39,7 +39,7 @@ rows_below row zero = []
 rows_below row (suc n) = rows_below row n ++ option_to_list (row n)
 
 abbrev pub all_rows : (row : ℕ → Option Row) → (next : ℕ) → Rows
-all_rows row next = record { rows = rows_below row next; next = next }
+all_rows row next = record no_rows { rows = rows_below row next; next = next }
 
 -- the path of the row with a number, and of the root for 0
 abbrev pub path_at : (row : ℕ → Option Row) → (number : ℕ) → Option (List (List ℕ))

@@ -64,4 +64,4 @@ pub record IsLastRow (s : Rows) (number : ℕ) : Type 0 where
 
 -- without the last row
 abbrev pub without_last : Rows → Rows
-without_last s = record { rows = take (length s.rows - 1) s.rows; next = s.next - 1 }
+without_last s = record s { rows = take (length s.rows - 1) s.rows; next = s.next - 1 }

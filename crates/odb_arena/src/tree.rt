@@ -1,11 +1,11 @@
 ghost use Rattle.std.specs.Prelude.{◌≡◌, ◌<◌, ◌≤◌, ◌+◌, ◌-◌, ◌^◌, Option, ◌∷◌, ◌++◌, [], List, ℕ, length, Some, None, Ok, Err, IfOk, IfErr, IfSome, OnOk, OnErr};
-ghost use Rattle.std.specs.Option.{option_map, option_copied};
+ghost use Rattle.std.specs.Option.{option_map, option_or, option_copied};
 ghost use Rattle.odb_value.specs.Paths.{depth_limit};
 ghost use Rattle.odb_tree.specs.declared.rows.Row.{Row};
 ghost use Rattle.odb_tree.specs.Rows.{no_rows, row_at, row_numbered, bytes_in, total_of};
 ghost use Rattle.odb_tree.specs.Lookups.{parent_of, obstacle_to_new, dir_fault, seek, seek_key};
 ghost use Rattle.odb_tree.specs.Making.{missing_from, new_number, created};
-ghost use Rattle.odb_tree.specs.Calls.{path_with, child_of, after_delete, after_resize, exists_fault, create_fault, set_fault, set_all_fault};
+ghost use Rattle.odb_tree.specs.Calls.{path_with, child_of, after_delete, after_resize, exists_fault, create_fault, set_fault, tid_fault, set_all_fault};
 ghost use Rattle.odb_tree.specs.Changes.{IsKeyAt};
 ghost use Rattle.odb_tree.specs.Limits.{passed, len_fault, limit_fault};
 ghost use Rattle.odb_tree.specs.declared.refusals.OdbRefusal.TheVariants.{Limit};
@@ -27,7 +27,7 @@ use indexmap::IndexMap;
 use odb_tree::{
     Child, Children, Database, Key, NewKey, OdbRefusal, Row, What, bytes_of, bytes_of_new,
     bytes_with, index_fault, items_fault, kept_fault, len_fault, limit_fault, new_value, parent,
-    raised_size, text_fault, type_fault,
+    raised_size, replace_fault, text_fault, tid_fault, type_fault,
 };
 use odb_value::{Item, MAX_DEPTH, Path, Value, is_front};
 use std::alloc::Global;
@@ -340,8 +340,8 @@ impl ArenaTree {
     /// Takes back the number given last, which no row has.
     fn forget_number(&mut self)
         requires some { 1 ≤ self.old.next }
-        requires database { IsDatabase (record { rows = self.old.rows; next = self.old.next - 1 }) }
-        ensures { self.new ≡ record { rows = self.old.rows; next = self.old.next - 1 } }
+        requires database { IsDatabase (record self.old { next = self.old.next - 1 }) }
+        ensures { self.new ≡ record self.old { next = self.old.next - 1 } }
     {
         self.next -= 1;
     }
@@ -468,10 +468,10 @@ impl ArenaTree {
     }
 
     /// Why a row is not made.
-    fn create_fault(&self, names: &[Name], reached: Reached, kind: NewKey) -> Option<OdbRefusal>
+    fn create_fault(&self, names: &[Name], reached: Reached, kind: &NewKey) -> Option<OdbRefusal>
         requires depth { length names.now ≤ depth_limit }
         requires reached { IsReached self.now.rows (parent_of names.now) reached }
-        ensures { result ≡ create_fault self.now names.now kind }
+        ensures { result ≡ create_fault self.now names.now kind.now }
     {
         if let Some(refusal) = self.obstacle(names, reached) {
             return Some(refusal);
@@ -507,6 +507,20 @@ impl ArenaTree {
         self.change_fault(text_fault(item), bytes_of(value), bytes)
     }
 
+    /// Why a key is not made with this value.
+    fn made_fault(&self, names: &[Name], reached: Reached, value: &Value) -> Option<OdbRefusal>
+        requires clear { obstacle_to_new self.now.rows names.now ≡ None }
+        requires reached { IsReached self.now.rows (parent_of names.now) reached }
+        requires depth { length names.now ≤ depth_limit }
+        ensures { result ≡ option_or (tid_fault value.now.tid)
+            (limit_fault None (created self.now names.now (Some value.now))) }
+    {
+        if let Some(refusal) = tid_fault(value.tid()) {
+            return Some(refusal);
+        }
+        self.new_fault(names, reached, None, bytes_of(value))
+    }
+
     /// Why a value is not written.
     fn set_all_fault(&self, names: &[Name], reached: Reached, value: &Value) -> Option<OdbRefusal>
         requires depth { length names.now ≤ depth_limit }
@@ -521,12 +535,12 @@ impl ArenaTree {
         }
         let given = value.tid();
         let Some(row) = self.row_at(names, reached) else {
-            return self.new_fault(names, reached, None, bytes_of(value));
+            return self.made_fault(names, reached, value);
         };
         let Some(had) = &row.value else {
             return Some(OdbRefusal::NotValue);
         };
-        if let Some(refusal) = type_fault(had.tid(), given) {
+        if let Some(refusal) = replace_fault(had.tid(), given) {
             return Some(refusal);
         }
         self.change_fault(None, bytes_of(had), bytes_of(value))
@@ -547,7 +561,7 @@ impl Database for ArenaTree {
 
     ghost watches = { λ _. [] };
 
-    fn create(&mut self, alloc: Global, path: &Path, kind: NewKey) -> Result<u32, OdbRefusal> {
+    fn create(&mut self, alloc: Global, path: &Path, kind: &NewKey) -> Result<u32, OdbRefusal> {
         let _ = &self.root;
         let names = path.names();
         let reached = self.reach_parent(names);

@@ -166,7 +166,7 @@ impl<D: Database> LocalDatabase<D> {
         ensures did { NotesCall self.old self.new main_caller (Create path kind result) }
     {
         let _ = path.names();
-        let reply = self.database.create(alloc, &path, kind);
+        let reply = self.database.create(alloc, &path, &kind);
         let entry = DatabaseEntry::Create { path, kind, reply };
         self.entries.push_reserved((Caller::MAIN, entry));
         reply

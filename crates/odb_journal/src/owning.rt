@@ -56,7 +56,7 @@ impl<D: Database> DatabasePort for OwningAccess<D> {
         let call = calls::Create {
             alloc,
             path: &path,
-            kind,
+            kind: &kind,
         };
         self.database.call(rt, &mut self.pass, call, &mut ())
     }

@@ -74,7 +74,7 @@ impl<'a, D: Database> DatabasePort for SharedAccess<'a, D> {
         let call = calls::Create {
             alloc,
             path: &path,
-            kind,
+            kind: &kind,
         };
         self.shared.call(rt, &mut self.pass, call, &mut ())
     }

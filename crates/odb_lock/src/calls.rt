@@ -25,7 +25,7 @@ use turn_lock::Call;
 pub struct Create<'a> {
     pub alloc: Global,
     pub path: &'a Path,
-    pub kind: NewKey,
+    pub kind: &'a NewKey,
 }
 
 impl<'a, D: Database> Call<LockedDatabase<D>> for Create<'a> {
@@ -35,7 +35,7 @@ impl<'a, D: Database> Call<LockedDatabase<D>> for Create<'a> {
 
     ghost may = { λ _ _ number. number ≡ main_caller };
 
-    ghost entry = { λ call _ reply _. call_of (create_of call.path.now call.kind reply) };
+    ghost entry = { λ call _ reply _. call_of (create_of call.path.now call.kind.now reply) };
 
     #[tactic(auto, using(crate::proofs::SharedLaws::call_step))]
     fn make(self, value: &mut LockedDatabase<D>, _into: &mut ()) -> Result<u32, OdbRefusal> {

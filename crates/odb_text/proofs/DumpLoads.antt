@@ -89,7 +89,7 @@ ran_on line s after act given steps e h =
     ∙ (ap (λ (o : Option OdbRefusal). or_refused line o (run_steps steps (after_act s act))) h.clear ∙ ap (run_steps steps) h.next)
 
 none_made : (s : Rows) → s ≡ with_rows s []
-none_made s = ap (λ (l : List Row). record { rows = l; next = s.next }) (sym (append-nil s.rows)) ∙ ap (λ (n : ℕ). record { rows = s.rows ++ []; next = n }) {x = s.next} {y = s.next + 0} (omega arith)
+none_made s = ap (λ (l : List Row). record s { rows = l }) (sym (append-nil s.rows)) ∙ ap (λ (n : ℕ). record s { rows = s.rows ++ []; next = n }) {x = s.next} {y = s.next + 0} (omega arith)
 
 rows_remade : (s : Rows) (made : List Row) (steps : List TextStep) → IsTree s → AreNew s made → AllByRecursion IsRow made → HasSpace s (length made) (total_of made)
     → acts_of steps ≡ map act_for made → run_steps steps s ≡ Ok (with_rows s made)

@@ -19,7 +19,7 @@ use Rattle.odb_tree.specs.Calls.{exists_fault, create_fault, set_all_fault, afte
 use Rattle.odb_tree.specs.Trees.{IsDir, IsPlaced, ArePlaced, AreApart, IsTree, IsNewRow, with_rows}
 use Rattle.odb_tree.specs.WalkLaws.{NoneAt}
 use Rattle.odb_tree.proofs.Kept.{created_with}
-use Rattle.odb_tree.proofs.FaultLemmas.{create_is, set_all_new}
+use Rattle.odb_tree.proofs.FaultLemmas.{create_is, set_all_new, tid_right}
 use Rattle.odb_text.specs.declared.acts.Act.{Act}
 use Rattle.odb_text.specs.TextSteps.{make_fault_by, after_make_by, many_fault, wide_fault, act_fault, after_act}
 use Rattle.odb_text.specs.DumpSteps.{act_with, act_for}
@@ -133,7 +133,8 @@ runs_with s q None after tree k free is within value =
 runs_with s q (Some v) after tree k free is within value =
     let limits : limit_fault None (created s q (Some v)) ≡ None = ap (limit_fault None) is ∙ fits after within in
     let fault : set_all_fault s q v ≡ None =
-    sym (set_all_new s q v None None (long_path s.rows q k) free value (sym (clear_way s q tree k)) no_other (sym limits)) in
+    sym (set_all_new s q v None None (long_path s.rows q k) free value (sym (clear_way s q tree k)) no_other
+    (sym (ap (λ (o : Option OdbRefusal). option_or o (limit_fault None (created s q (Some v)))) (tid_right v value) ∙ limits))) in
     record {
       clear = or_nothing (option_or (many_fault (length v.items)) (wide_fault v.size)) (set_all_fault s q v) (own_clear v value) fault;
       next = ap (after_set_all_at s q v) free ∙ is;

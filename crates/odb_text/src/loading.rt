@@ -73,7 +73,7 @@ fn make_dir<D: Database>(alloc: Global, database: &mut D, path: &Path) -> Result
     ensures refused { IfErr result (λ why. why ≢ no_memory
         → make_fault (D.rows database.old) path.now ≡ Some why) }
 {
-    match database.create(alloc, path, NewKey::Dir) {
+    match database.create(alloc, path, &NewKey::Dir) {
         Ok(_) => Ok(()),
         Err(refusal) => {
             if is_exists(refusal) {

@@ -49,7 +49,7 @@ filter_less : (test : Row → Bool) (rows : List Row) → IsLess (filter test ro
 filter_less test [] = record { count = omega arith; bytes = omega arith }
 filter_less test (r ∷ rs) = kept_or_not (test r) r (filter test rs) rs (filter_less test rs)
 
-pub outside_within : (s : Rows) (p : List (List ℕ)) (left : List Row) → left ≡ rows_outside s.rows p → IsWithin s → IsWithin (record { rows = left; next = s.next })
+pub outside_within : (s : Rows) (p : List (List ℕ)) (left : List Row) → left ≡ rows_outside s.rows p → IsWithin s → IsWithin (record s { rows = left })
 outside_within s p left is h =
     let less : IsLess left s.rows = subst (λ (rows : List Row). IsLess rows s.rows) (sym is) (filter_less (λ (r : Row). not (is_front p r.path)) s.rows) in
     record { rows = omega (arith, less.count, h.rows); total = omega (arith, less.bytes, h.total); next = h.next }

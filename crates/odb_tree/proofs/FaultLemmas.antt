@@ -60,7 +60,7 @@ pub had_some : (rows : List Row) (p : List (List ℕ)) (v : HeldValue) → IsKey
 had_some rows p v h = let counts = change_counts rows p h.row v (λ (x : HeldValue). x) h.there h.value in counts.had
 
 pub change_is : (s : Rows) (p : List (List ℕ)) (v : HeldValue) (f : HeldValue → HeldValue) (own : Option What) (had bytes : ℕ) → IsKeyAt s.rows p v → had ≡ bytes_of v → (own ≡ None → bytes ≡ bytes_of (f v))
-    → option_map Limit (passed own (length s.rows) (total_of s.rows - had + bytes) s.next) ≡ limit_fault own (record { rows = change_at s.rows p f; next = s.next })
+    → option_map Limit (passed own (length s.rows) (total_of s.rows - had + bytes) s.next) ≡ limit_fault own (record s { rows = change_at s.rows p f })
 change_is s p v f own had bytes h k e =
     let counts = change_counts s.rows p h.row v f h.there h.value in
     fault_same own (length s.rows) (total_of s.rows - had + bytes) (total_of (change_at s.rows p f)) s.next (λ none. omega (arith, e none, k, counts.total))
@@ -116,35 +116,41 @@ own_right v h = rw (len_right (length v.items) h.some h.many) (short_texts v.tid
 pub tid_right : (v : HeldValue) → IsValue v → tid_fault v.tid ≡ None
 tid_right v h = of_kept v.tid (is_kept-value v h)
 
-all_clear : (a b c type : Option OdbRefusal) (own : Option What) (after s : Rows) → a ≡ None → b ≡ None → c ≡ type → own ≡ None → after ≡ s
-    → option_or a (option_or b (option_or c (limit_fault own after))) ≡ option_or type (limit_fault None s)
-all_clear a b c type own after s ea eb ec eo es = rw (ea, eb, ec, eo, es) refl
+all_clear : (a b c type : Option OdbRefusal) (own : Option What) (after s : Rows) → a ≡ None → c ≡ type → own ≡ None → after ≡ s
+    → option_or a (option_or b (option_or c (limit_fault own after))) ≡ option_or b (option_or type (limit_fault None s))
+all_clear a b c type own after s ea ec eo es = rw (ea, ec, eo, es) refl
+
+or_assoc : {X : Type 0} (a b c : Option X) → option_or (option_or a b) c ≡ option_or a (option_or b c)
+or_assoc None b c = refl
+or_assoc (Some x) b c = refl
 
 -- a new key
 pub set_all_new : (s : Rows) (p : List (List ℕ)) (v : HeldValue) (obstacle r : Option OdbRefusal) → eqb (length p) 0 ≡ false → row_at s.rows p ≡ None → IsValue v
-    → obstacle ≡ obstacle_to_new s.rows p → ((x : OdbRefusal) → obstacle ≡ Some x → ⊥) → r ≡ limit_fault None (created s p (Some v)) → r ≡ set_all_fault s p v
+    → obstacle ≡ obstacle_to_new s.rows p → ((x : OdbRefusal) → obstacle ≡ Some x → ⊥) → r ≡ option_or (tid_fault v.tid) (limit_fault None (created s p (Some v))) → r ≡ set_all_fault s p v
 set_all_new s p v obstacle r named missing sound is free fault =
-    or_next obstacle (limit_fault None (created s p (Some v))) r free fault
-    ∙ (ap (λ (o : Option OdbRefusal). option_or o (limit_fault None (created s p (Some v)))) is
+    let rest : Option OdbRefusal = option_or (tid_fault v.tid) (limit_fault None (created s p (Some v))) in
+    or_next obstacle rest r free fault
+    ∙ (ap (λ (o : Option OdbRefusal). option_or o rest) is
     ∙ ap (λ (o : Option OdbRefusal). option_or (obstacle_to_new s.rows p) o)
     (sym (all_clear (value_fault s.rows p) (tid_fault v.tid) (there_fault v.tid (row_at s.rows p)) None (own_fault v) (after_set_all s p v) (created s p (Some v))
-    (named_value s.rows p named ∙ ap directory_fault missing) (tid_right v sound) (ap (there_fault v.tid) missing) (own_right v sound) (ap (after_set_all_at s p v) missing))))
+    (named_value s.rows p named ∙ ap directory_fault missing) (ap (there_fault v.tid) missing) (own_right v sound) (ap (after_set_all_at s p v) missing))))
 
 no_directory : (row : Row) (v : HeldValue) → row.value ≡ Some v → directory_fault (Some row) ≡ None
 no_directory row v h = ap (λ (o : Option HeldValue). cond (is_some o) None (Some NotValue)) h
 
 -- a key that is there
 pub set_all_there : (s : Rows) (p : List (List ℕ)) (v had : HeldValue) (row : Row) (obstacle type r : Option OdbRefusal) → eqb (length p) 0 ≡ false → row_at s.rows p ≡ Some row → row.value ≡ Some had
-    → IsValue v → obstacle ≡ obstacle_to_new s.rows p → ((x : OdbRefusal) → obstacle ≡ Some x → ⊥) → type ≡ type_fault had.tid v.tid
-    → r ≡ option_or type (limit_fault None (record { rows = change_at s.rows p (λ _. v); next = s.next })) → r ≡ set_all_fault s p v
+    → IsValue v → obstacle ≡ obstacle_to_new s.rows p → ((x : OdbRefusal) → obstacle ≡ Some x → ⊥) → type ≡ option_or (tid_fault v.tid) (type_fault had.tid v.tid)
+    → r ≡ option_or type (limit_fault None (record s { rows = change_at s.rows p (λ _. v) })) → r ≡ set_all_fault s p v
 set_all_there s p v had row obstacle type r named there held sound is free type_is fault =
-    let after : Rows = record { rows = change_at s.rows p (λ _. v); next = s.next } in
+    let after : Rows = record s { rows = change_at s.rows p (λ _. v) } in
     or_next obstacle (option_or type (limit_fault None after)) r free fault
     ∙ (ap (λ (o : Option OdbRefusal). option_or o (option_or type (limit_fault None after))) is
     ∙ ap (λ (o : Option OdbRefusal). option_or (obstacle_to_new s.rows p) o)
-    (sym (all_clear (value_fault s.rows p) (tid_fault v.tid) (there_fault v.tid (row_at s.rows p)) type (own_fault v) (after_set_all s p v) after
-    (named_value s.rows p named ∙ (ap directory_fault there ∙ no_directory row had held)) (tid_right v sound)
-    (ap (there_fault v.tid) there ∙ (ap (replace_fault v.tid) held ∙ sym type_is)) (own_right v sound) (ap (after_set_all_at s p v) there))))
+    (ap (λ (o : Option OdbRefusal). option_or o (limit_fault None after)) type_is ∙ (or_assoc (tid_fault v.tid) (type_fault had.tid v.tid) (limit_fault None after)
+    ∙ sym (all_clear (value_fault s.rows p) (tid_fault v.tid) (there_fault v.tid (row_at s.rows p)) (type_fault had.tid v.tid) (own_fault v) (after_set_all s p v) after
+    (named_value s.rows p named ∙ (ap directory_fault there ∙ no_directory row had held))
+    (ap (there_fault v.tid) there ∙ ap (replace_fault v.tid) held) (own_right v sound) (ap (after_set_all_at s p v) there)))))
 
 -- create
 

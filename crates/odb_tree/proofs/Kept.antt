@@ -39,7 +39,7 @@ short_none n p (r ∷ rs) h l =
 
 -- one row more at the end
 new_push : (s : Rows) (made : List Row) (new : Row) → AreNew s made → IsNewRow (with_rows s made) new → AreNew s (made ++ new ∷ [])
-new_push s [] new h k = (subst (λ (t : Rows). IsNewRow t new) (same_rows (s.rows ++ []) s.rows (s.next + 0) s.next (append-nil s.rows) (omega arith)) k, tt)
+new_push s [] new h k = (subst (λ (t : Rows). IsNewRow t new) (same_rows s (s.rows ++ []) s.rows (s.next + 0) s.next (append-nil s.rows) (omega arith)) k, tt)
 new_push s (r ∷ rs) new h k = (h.0, new_push (with_rows s (r ∷ [])) rs new h.1 (subst (λ (t : Rows). IsNewRow t new) (sym (with_more s r rs)) k))
 
 -- The way has come to this path: its directories may be made one after the other, and the path is there then.
@@ -139,7 +139,7 @@ has_last p h =
 
 pub created_with : (s : Rows) (p : List (List ℕ)) (value : Option HeldValue) → created s p value ≡ with_rows s (made_for s p value)
 created_with s p value =
-    same_rows (s.rows ++ made_for s p value) (s.rows ++ made_for s p value) (new_number s p + 1) (s.next + length (made_for s p value)) refl
+    same_rows s (s.rows ++ made_for s p value) (s.rows ++ made_for s p value) (new_number s p + 1) (s.next + length (made_for s p value)) refl
     (omega (arith, length-append (way_to s p).dirs (new_row s p value ∷ [])))
 
 pub made_new : (s : Rows) (p : List (List ℕ)) (value : Option HeldValue) → 0 < length p → obstacle_to_new s.rows p ≡ None → row_at s.rows p ≡ None → AreNew s (made_for s p value)

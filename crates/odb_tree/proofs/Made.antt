@@ -35,7 +35,7 @@ number_made s p value made count e f =
     omega (arith, f, ap (λ (rows : List Row). length rows) e, length-append (way_to s p).dirs (new_row s p value ∷ []))
 
 pub rows_created : (s : Rows) (p : List (List ℕ)) (value : Option HeldValue) (made rows : List Row) (count : ℕ) → made ≡ made_of s p value → rows ≡ s.rows ++ made → count ≡ length made
-    → record { rows = rows; next = s.next + count } ≡ created s p value
+    → record s { rows = rows; next = s.next + count } ≡ created s p value
 rows_created s p value made rows count e f g =
-    ap (λ (xs : List Row). record { rows = xs; next = s.next + count }) (f ∙ ap (λ (xs : List Row). s.rows ++ xs) e)
-    ∙ ap (λ (n : ℕ). record { rows = s.rows ++ made_of s p value; next = n }) (number_made s p value made count e g)
+    ap (λ (xs : List Row). record s { rows = xs; next = s.next + count }) (f ∙ ap (λ (xs : List Row). s.rows ++ xs) e)
+    ∙ ap (λ (n : ℕ). record s { rows = s.rows ++ made_of s p value; next = n }) (number_made s p value made count e g)

@@ -153,8 +153,8 @@ database_begins = record { tree = tree_begins; rows = All-nil IsRow; within = re
 reply_none : (o : Option OdbRefusal) (number : ℕ) → o ≡ None → reply_or o number ≡ Ok number
 reply_none o number h = ap (λ (r : Option OdbRefusal). reply_or r number) h
 
-with_left : (next : ℕ) (left rows : List Row) → left ≡ rows → IsDatabase (record { rows = rows; next = next }) → IsDatabase (record { rows = left; next = next })
-with_left next left rows is h = subst (λ (l : List Row). IsDatabase (record { rows = l; next = next })) (sym is) h
+with_left : (s : Rows) (left rows : List Row) → left ≡ rows → IsDatabase (record s { rows = rows }) → IsDatabase (record s { rows = left })
+with_left s left rows is h = subst (λ (l : List Row). IsDatabase (record s { rows = l })) (sym is) h
 
 pub database_created : (s : Rows) (p : List (List ℕ)) (kind : NewKey) (r : Option OdbRefusal) → IsDatabase s → IsPath p → r ≡ create_fault s p kind → r ≡ None → IsDatabase (after_create s p kind)
 database_created s p kind r h path is none =
@@ -176,13 +176,13 @@ pub set_refused : (s : Rows) (p : List (List ℕ)) (index : ℕ) (item : Item) (
 set_refused s p index item n v r refusal key is some = ap (set_reply_to s p index item) key ∙ ap (λ (o : Option OdbRefusal). reply_or o n) (sym is ∙ some)
 
 pub set_left : (s : Rows) (p : List (List ℕ)) (index : ℕ) (item given : Item) (left : List Row) → given ≡ item → left ≡ change_at s.rows p (λ w. put_in w index given)
-    → record { rows = left; next = s.next } ≡ after_set s p index item
+    → record s { rows = left } ≡ after_set s p index item
 set_left s p index item given left same changed =
-    ap (λ (rows : List Row). record { rows = rows; next = s.next }) (changed ∙ ap (λ (i : Item). change_at s.rows p (λ w. put_in w index i)) same)
+    ap (λ (rows : List Row). record s { rows = rows }) (changed ∙ ap (λ (i : Item). change_at s.rows p (λ w. put_in w index i)) same)
 
 pub database_set : (s : Rows) (p : List (List ℕ)) (index : ℕ) (item given : Item) (n : ℕ) (v : HeldValue) (r : Option OdbRefusal) (left : List Row) → IsDatabase s → IsPath p → IsSound item
     → seek_key s.rows p ≡ Ok (n, v) → r ≡ set_fault s p index item v → r ≡ None → given ≡ item → left ≡ change_at s.rows p (λ w. put_in w index given)
-    → IsDatabase (record { rows = left; next = s.next })
+    → IsDatabase (record s { rows = left })
 database_set s p index item given n v r left h path sound key is none same changed =
     subst IsDatabase (sym (set_left s p index item given left same changed))
     (database_after s (Set p index item (Ok n)) h (path, sound) (item_given (tid_of item) (Ok n) (set_reply s p index item) (set_replied s p index item n v r key is none)))
@@ -192,9 +192,9 @@ database_set_all s p v r h path value is none =
     database_after s (SetAll p v (Ok (number_at s p (row_at s.rows p)))) h (path, value) (reply_none (set_all_fault s p v) (number_at s p (row_at s.rows p)) (sym is ∙ none))
 
 pub database_replaced : (s : Rows) (p : List (List ℕ)) (v given : HeldValue) (row : Row) (r : Option OdbRefusal) (left : List Row) → IsDatabase s → IsPath p → IsValue v → r ≡ set_all_fault s p v → r ≡ None
-    → row_at s.rows p ≡ Some row → given ≡ v → left ≡ change_at s.rows p (λ _. given) → IsDatabase (record { rows = left; next = s.next })
+    → row_at s.rows p ≡ Some row → given ≡ v → left ≡ change_at s.rows p (λ _. given) → IsDatabase (record s { rows = left })
 database_replaced s p v given row r left h path value is none there same changed =
-    with_left s.next left (change_at s.rows p (λ _. v)) (changed ∙ ap (λ (w : HeldValue). change_at s.rows p (λ _. w)) same)
+    with_left s left (change_at s.rows p (λ _. v)) (changed ∙ ap (λ (w : HeldValue). change_at s.rows p (λ _. w)) same)
     (subst (λ (o : Option Row). IsDatabase (after_set_all_at s p v o)) there (database_set_all s p v r h path value is none))
 
 pub database_made : (s : Rows) (p : List (List ℕ)) (v given : HeldValue) (r : Option OdbRefusal) → IsDatabase s → IsPath p → IsValue v → r ≡ set_all_fault s p v → r ≡ None
@@ -203,14 +203,14 @@ database_made s p v given r h path value is none free same =
     subst (λ (w : HeldValue). IsDatabase (created s p (Some w))) (sym same)
     (subst (λ (o : Option Row). IsDatabase (after_set_all_at s p v o)) free (database_set_all s p v r h path value is none))
 
-pub database_outside : (s : Rows) (p : List (List ℕ)) (left : List Row) → IsDatabase s → IsPath p → absent_fault s.rows p ≡ None → left ≡ rows_outside s.rows p → IsDatabase (record { rows = left; next = s.next })
+pub database_outside : (s : Rows) (p : List (List ℕ)) (left : List Row) → IsDatabase s → IsPath p → absent_fault s.rows p ≡ None → left ≡ rows_outside s.rows p → IsDatabase (record s { rows = left })
 database_outside s p left h path there is =
-    with_left s.next left (rows_outside s.rows p) is
+    with_left s left (rows_outside s.rows p) is
     (database_after s (Delete p (Ok (count_gone s p))) h path (sym (reply_none (absent_fault s.rows p) (count_gone s p) there)))
 
 pub database_resized : (s : Rows) (p : List (List ℕ)) (len n : ℕ) (v : HeldValue) (r : Option OdbRefusal) (left : List Row) → IsDatabase s → IsPath p → seek_key s.rows p ≡ Ok (n, v)
-    → r ≡ limit_fault (len_fault len) (after_resize s p len) → r ≡ None → left ≡ change_at s.rows p (λ w. resized w len) → IsDatabase (record { rows = left; next = s.next })
+    → r ≡ limit_fault (len_fault len) (after_resize s p len) → r ≡ None → left ≡ change_at s.rows p (λ w. resized w len) → IsDatabase (record s { rows = left })
 database_resized s p len n v r left h path key is none changed =
-    with_left s.next left (change_at s.rows p (λ w. resized w len)) changed
+    with_left s left (change_at s.rows p (λ w. resized w len)) changed
     (database_after s (Resize p len (Ok n)) h path
     (ap (resize_reply_to s p len) key ∙ reply_none (limit_fault (len_fault len) (after_resize s p len)) n (sym is ∙ none)))

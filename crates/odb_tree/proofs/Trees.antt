@@ -265,22 +265,23 @@ tree_more s new h k = record {
   numbered = rising_more 1 s.rows s.next new h.numbered k.number;
 }
 
-abbrev pub plain_rows : List Row → ℕ → Rows
-plain_rows rows next = record { rows = rows; next = next }
+-- other rows in a database, and another next number
+abbrev pub rows_as : Rows → List Row → ℕ → Rows
+rows_as s rows next = record s { rows = rows; next = next }
 
-pub same_rows : (xs ys : List Row) (n m : ℕ) → xs ≡ ys → n ≡ m → plain_rows xs n ≡ plain_rows ys m
-same_rows xs ys n m e f = ap (λ (l : List Row). plain_rows l n) e ∙ ap (plain_rows ys) f
+pub same_rows : (s : Rows) (xs ys : List Row) (n m : ℕ) → xs ≡ ys → n ≡ m → rows_as s xs n ≡ rows_as s ys m
+same_rows s xs ys n m e f = ap (λ (l : List Row). rows_as s l n) e ∙ ap (rows_as s ys) f
 
 -- rows one after the other
 pub with_more : (s : Rows) (new : Row) (made : List Row) → with_rows (with_rows s (new ∷ [])) made ≡ with_rows s (new ∷ made)
-with_more s new made = same_rows ((s.rows ++ new ∷ []) ++ made) (s.rows ++ new ∷ made) (s.next + 1 + length made) (s.next + length (new ∷ made)) (append_assoc s.rows (new ∷ []) made) (omega arith)
+with_more s new made = same_rows s ((s.rows ++ new ∷ []) ++ made) (s.rows ++ new ∷ made) (s.next + 1 + length made) (s.next + length (new ∷ made)) (append_assoc s.rows (new ∷ []) made) (omega arith)
 
 pub tree_with : (s : Rows) (made : List Row) → IsTree s → AreNew s made → IsTree (with_rows s made)
-tree_with s [] h k = subst IsTree (same_rows s.rows (s.rows ++ []) s.next (s.next + 0) (sym (append-nil s.rows)) (omega arith)) h
+tree_with s [] h k = subst IsTree (same_rows s s.rows (s.rows ++ []) s.next (s.next + 0) (sym (append-nil s.rows)) (omega arith)) h
 tree_with s (new ∷ made) h k = subst IsTree (with_more s new made) (tree_with (with_rows s (new ∷ [])) made (tree_more s new h k.0) k.1)
 
 -- fewer rows
-pub tree_outside : (s : Rows) (q : List (List ℕ)) → IsTree s → IsTree (record { rows = rows_outside s.rows q; next = s.next })
+pub tree_outside : (s : Rows) (q : List (List ℕ)) → IsTree s → IsTree (record s { rows = rows_outside s.rows q })
 tree_outside s q h = record {
   placed = placed_outside q [] s.rows h.placed;
   apart = apart_filter (λ (r : Row). not (is_front q r.path)) s.rows h.apart;
@@ -296,9 +297,9 @@ numbers_kept p f r = kept (same_path r.path p) r
     kept false r = refl
 
 -- a row with another value
-pub tree_changed : (s : Rows) (p : List (List ℕ)) (f : HeldValue → HeldValue) → IsTree s → IsTree (record { rows = change_at s.rows p f; next = s.next })
+pub tree_changed : (s : Rows) (p : List (List ℕ)) (f : HeldValue → HeldValue) → IsTree s → IsTree (record s { rows = change_at s.rows p f })
 tree_changed s p f h =
-    subst IsTree (same_rows (map (changed_at p f) s.rows) (change_at s.rows p f) s.next s.next (sym (change_is_map p f s.rows (one_at s.rows p h.apart))) refl) (record {
+    subst IsTree (same_rows s (map (changed_at p f) s.rows) (change_at s.rows p f) s.next s.next (sym (change_is_map p f s.rows (one_at s.rows p h.apart))) refl) (record {
       placed = placed_mapped (changed_at p f) (changed_keeps p f) [] s.rows h.placed;
       apart = apart_mapped (changed_at p f) (changed_keeps p f) s.rows h.apart;
       numbered = rising_mapped (changed_at p f) (numbers_kept p f) 1 s.rows s.next h.numbered;

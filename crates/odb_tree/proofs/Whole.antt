@@ -3,11 +3,11 @@ use Rattle.std.proofs.Common.{◌≡◌, List, [], ◌∷◌, ◌++◌, refl, sy
 use Rattle.std.proofs.lemmas.List.Sorted.{IsPermutation-refl, IsPermutation-cons, IsPermutation-trans, IsPermutation-middle, IsPermutation-append_comm}
 use Rattle.odb_value.specs.Paths.{depth_limit}
 use Rattle.odb_tree.specs.declared.rows.Row.{Row}
-use Rattle.odb_tree.specs.Rows.{Rows, is_key}
+use Rattle.odb_tree.specs.Rows.{Rows, no_rows, is_key}
 use Rattle.odb_tree.specs.Walks.{walk_below, walk}
 use Rattle.odb_tree.specs.Trees.{ArePlaced, AreApart, AreShort, IsTree}
 use Rattle.odb_tree.specs.Places.{IsInserted, stands_behind}
-use Rattle.odb_tree.proofs.Trees.{apart_more, placed_more, plain_rows}
+use Rattle.odb_tree.proofs.Trees.{apart_more, placed_more, rows_as}
 use Rattle.odb_tree.proofs.Placed.{none_around, inserted_in}
 
 -- a row in the midst of a list
@@ -19,7 +19,7 @@ amid front back rest before xs ys new was is same =
     IsPermutation-trans ys (new ∷ xs) (before ++ new ∷ []) whole
     (IsPermutation-trans (new ∷ xs) (new ∷ before) (before ++ new ∷ []) (IsPermutation-cons new xs before same) (IsPermutation-append_comm (new ∷ []) before))
 
-one_more : (before : List Row) (new : Row) → IsInserted (plain_rows before 0) new → IsPermutation (walk_below depth_limit before []) before
+one_more : (before : List Row) (new : Row) → IsInserted (rows_as no_rows before 0) new → IsPermutation (walk_below depth_limit before []) before
     → IsPermutation (walk_below depth_limit (before ++ new ∷ []) []) (before ++ new ∷ [])
 unfolding walk
 one_more before new h same =
@@ -34,7 +34,7 @@ all_rows before (r ∷ rs) placed apart more all short same =
     subst (λ (l : List Row). IsPermutation (walk_below depth_limit l []) l) (append_assoc before (r ∷ []) rs)
     (all_rows (before ++ r ∷ []) rs (placed_more [] before r placed more.0) (apart_more before r apart free.0) more.1
     (subst AreApart (sym (append_assoc before (r ∷ []) rs)) all) short.1
-    (one_more before r (inserted_in (plain_rows before 0) r placed apart more.0 free.0 short.0) same))
+    (one_more before r (inserted_in (rows_as no_rows before 0) r placed apart more.0 free.0 short.0) same))
 
 no_walk : walk_below depth_limit [] [] ≡ []
 unfolding walk_below

@@ -74,7 +74,7 @@ index_fault len index = if nat_lt index len then None else Some (BadIndex len)
 
 -- the database with this item at the index
 abbrev pub after_set : Rows → List (List ℕ) → (index : ℕ) → Item → Rows
-after_set s p index item = record { rows = change_at s.rows p (λ v. put_in v index item); next = s.next }
+after_set s p index item = record s { rows = change_at s.rows p (λ v. put_in v index item) }
 
 abbrev pub set_fault : Rows → List (List ℕ) → (index : ℕ) → Item → HeldValue → Option OdbRefusal
 set_fault s p index item v =
@@ -91,7 +91,7 @@ set_reply s p index item = set_reply_to s p index item (seek_key s.rows p)
 
 abbrev pub after_set_all_at : Rows → List (List ℕ) → HeldValue → Option Row → Rows
 after_set_all_at s p v None = created s p (Some v)
-after_set_all_at s p v (Some r) = record { rows = change_at s.rows p (λ _. v); next = s.next }
+after_set_all_at s p v (Some r) = record s { rows = change_at s.rows p (λ _. v) }
 
 abbrev pub after_set_all : Rows → List (List ℕ) → HeldValue → Rows
 after_set_all s p v = after_set_all_at s p v (row_at s.rows p)
@@ -134,7 +134,7 @@ set_all_reply s p v = reply_or (set_all_fault s p v) (number_at s p (row_at s.ro
 -- More or fewer items of a key.
 
 abbrev pub after_resize : Rows → List (List ℕ) → (len : ℕ) → Rows
-after_resize s p len = record { rows = change_at s.rows p (λ v. resized v len); next = s.next }
+after_resize s p len = record s { rows = change_at s.rows p (λ v. resized v len) }
 
 abbrev pub resize_reply_to : Rows → List (List ℕ) → (len : ℕ) → Result (ℕ × HeldValue) OdbRefusal → Result ℕ OdbRefusal
 resize_reply_to s p len (Err refusal) = Err refusal
@@ -195,7 +195,7 @@ is_row_below s row above = is_below_path (path_with s.rows row) (path_with s.row
 -- Removal.
 
 abbrev pub after_delete : Rows → List (List ℕ) → Rows
-after_delete s p = record { rows = rows_outside s.rows p; next = s.next }
+after_delete s p = record s { rows = rows_outside s.rows p }
 
 -- how many rows go
 abbrev pub count_gone : Rows → List (List ℕ) → ℕ

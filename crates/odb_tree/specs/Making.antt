@@ -44,7 +44,7 @@ new_row s p value = record { number = new_number s p; path = (way_to s p).path +
 
 -- the database with a new row at the path, and its missing directories before it
 abbrev pub created : Rows → List (List ℕ) → Option HeldValue → Rows
-created s p value = record { rows = s.rows ++ ((way_to s p).dirs ++ new_row s p value ∷ []); next = new_number s p + 1 }
+created s p value = record s { rows = s.rows ++ ((way_to s p).dirs ++ new_row s p value ∷ []); next = new_number s p + 1 }
 
 -- how many directories of these names are missing, below one that was reached
 abbrev pub missing_at : Option Row → ℕ

@@ -49,7 +49,7 @@ pub record IsTree (s : Rows) : Type 0 where
 
 -- the rows with further ones, which take the next numbers
 abbrev pub with_rows : Rows → List Row → Rows
-with_rows s made = record { rows = s.rows ++ made; next = s.next + length made }
+with_rows s made = record s { rows = s.rows ++ made; next = s.next + length made }
 
 -- a row that may be made next: it stands in the root or in a directory that is there, nothing has its path, and it has
 -- the next number

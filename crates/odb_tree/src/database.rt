@@ -30,11 +30,11 @@ pub trait Database: Drop {
     ghost watches: { Self → List (Option a_watch) };
 
     /// Makes a key or a directory, and the missing directories of its path, and answers the number of its row.
-    fn create(&mut self, alloc: Global, path: &Path, kind: NewKey) -> Result<u32, OdbRefusal>
-        ensures reply { IsRowsReply (rows self.old) (Create path.now kind result) }
-        ensures after { rows self.new ≡ rows_after (rows self.old) (Create path.now kind result) }
+    fn create(&mut self, alloc: Global, path: &Path, kind: &NewKey) -> Result<u32, OdbRefusal>
+        ensures reply { IsRowsReply (rows self.old) (Create path.now kind.now result) }
+        ensures after { rows self.new ≡ rows_after (rows self.old) (Create path.now kind.now result) }
         ensures notes { watches self.new ≡ all_noted (changes_of (rows self.old)
-            (Create path.now kind result)) (watches self.old) };
+            (Create path.now kind.now result)) (watches self.old) };
 
     /// Writes one item of a key, and answers the number of its row. A text as long as the item size or longer raises
     /// that to its length plus 1. Takes memory for a text alone.

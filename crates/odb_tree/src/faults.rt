@@ -1,9 +1,10 @@
 ghost use Rattle.std.specs.Prelude.{◌≡◌, ◌≤◌, ◌<◌, ◌^◌, ◌*◌, length, None, IfOk, OnOk};
+ghost use Rattle.std.specs.Option.{option_or};
 ghost use Rattle.daq_types.specs.declared.types.Tid.{Tid};
 ghost use Rattle.odb_value.specs.Items.{is_kept};
 ghost use Rattle.odb_value.specs.Values.{items_limit};
 ghost use Rattle.odb_tree.specs.Rows.{bytes_in};
-ghost use Rattle.odb_tree.specs.Calls.{exists_fault, kept_fault, items_fault, new_value, type_fault, index_fault};
+ghost use Rattle.odb_tree.specs.Calls.{exists_fault, tid_fault, kept_fault, items_fault, new_value, type_fault, index_fault};
 
 use crate::limits::{bytes_with, len_fault, new_size};
 use crate::lookups::row_at;
@@ -33,52 +34,56 @@ pub fn is_kept(tid: Tid) -> bool
     )
 }
 
-/// Whether the database keeps no values of the type.
-pub fn kept_fault(kind: NewKey) -> Option<OdbRefusal>
-    ensures { result ≡ kept_fault kind }
+/// Whether the database keeps no values of this type.
+pub fn tid_fault(tid: Tid) -> Option<OdbRefusal>
+    ensures { result ≡ tid_fault tid }
+{
+    if is_kept(tid) {
+        return None;
+    }
+    Some(OdbRefusal::NotKept { tid })
+}
+
+/// Whether the database keeps no values of the new key's type.
+pub fn kept_fault(kind: &NewKey) -> Option<OdbRefusal>
+    ensures { result ≡ kept_fault kind.now }
 {
     match kind {
         NewKey::Dir => None,
-        NewKey::Keys { tid, .. } => {
-            if is_kept(tid) {
-                None
-            } else {
-                Some(OdbRefusal::NotKept { tid })
-            }
-        }
+        NewKey::Keys { tid, .. } => tid_fault(*tid),
     }
 }
 
 /// What is wrong with the number of items.
-pub fn items_fault(kind: NewKey) -> Option<What>
-    ensures { result ≡ items_fault kind }
+pub fn items_fault(kind: &NewKey) -> Option<What>
+    ensures { result ≡ items_fault kind.now }
 {
     match kind {
         NewKey::Dir => None,
-        NewKey::Keys { len, .. } => len_fault(len),
+        NewKey::Keys { len, .. } => len_fault(*len),
     }
 }
 
 /// The bytes of the new value.
-pub fn bytes_of_new(kind: NewKey) -> u64
-    ensures bytes { items_fault kind ≡ None → bytes_in (new_value kind) ≡ result }
+pub fn bytes_of_new(kind: &NewKey) -> u64
+    ensures bytes { items_fault kind.now ≡ None → bytes_in (new_value kind.now) ≡ result }
     ensures small { result < 2 ^ 49 }
 {
     match kind {
         NewKey::Dir => 0,
-        NewKey::Keys { tid, len } => bytes_with(len, new_size(tid)),
+        NewKey::Keys { tid, len } => bytes_with(*len, new_size(*tid)),
     }
 }
 
 /// The new value.
-pub fn new_value(alloc: Global, kind: NewKey) -> Result<Option<Value>, NoMemory>
-    requires kept { kept_fault kind ≡ None }
-    requires items { items_fault kind ≡ None }
-    ensures { IfOk result (λ value. value ≡ new_value kind) }
+pub fn new_value(alloc: Global, kind: &NewKey) -> Result<Option<Value>, NoMemory>
+    requires kept { kept_fault kind.now ≡ None }
+    requires items { items_fault kind.now ≡ None }
+    ensures { IfOk result (λ value. value ≡ new_value kind.now) }
 {
     match kind {
         NewKey::Dir => Ok(None),
-        NewKey::Keys { tid, len } => Ok(Some(Value::new(alloc, tid, len)?)),
+        NewKey::Keys { tid, len } => Ok(Some(Value::new(alloc, *tid, *len)?)),
     }
 }
 
@@ -90,6 +95,16 @@ pub fn type_fault(have: Tid, given: Tid) -> Option<OdbRefusal>
         return None;
     }
     Some(OdbRefusal::TypeMismatch { have })
+}
+
+/// Why a value of the second type does not take the place of one of the first.
+pub fn replace_fault(have: Tid, given: Tid) -> Option<OdbRefusal>
+    ensures { result ≡ option_or (tid_fault given) (type_fault have given) }
+{
+    if let Some(refusal) = tid_fault(given) {
+        return Some(refusal);
+    }
+    type_fault(have, given)
 }
 
 /// Whether there is no item of this index.

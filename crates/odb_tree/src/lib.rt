@@ -22,7 +22,8 @@ pub use children::{Child, Children};
 pub use database::Database;
 pub use entry::DatabaseEntry;
 pub use faults::{
-    bytes_of_new, index_fault, is_kept, items_fault, kept_fault, new_value, type_fault,
+    bytes_of_new, index_fault, is_kept, items_fault, kept_fault, new_value, replace_fault,
+    tid_fault, type_fault,
 };
 pub use limits::{bytes_of, bytes_with, len_fault, limit_fault, raised_size, text_fault};
 pub use lookups::{Key, parent};

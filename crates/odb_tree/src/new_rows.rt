@@ -1,6 +1,7 @@
 ghost use Rattle.std.specs.Prelude.{◌≡◌, ◌≢◌, ◌≤◌, ◌<◌, ◌^◌, ◌+◌, ◌++◌, ◌∷◌, [], length, IfOk, OnOk, OnErr, IsTrue, None};
 ghost use Rattle.std.specs.Option.{option_copied};
 ghost use Rattle.odb_value.specs.Paths.{depth_limit};
+ghost use Rattle.odb_tree.specs.Rows.{no_rows};
 ghost use Rattle.odb_tree.specs.Limits.{IsWithin};
 ghost use Rattle.odb_tree.specs.Making.{no_way, further, go_on, missing_at, missing_from, way_to, new_row, created};
 
@@ -138,10 +139,10 @@ pub fn new_rows(
 ) -> Result<Vec<Row>, NoMemory>
     requires named { 0 < length names.now }
     requires depth { length names.now ≤ depth_limit }
-    requires within { IsWithin (created (record { rows = rows.now; next = next }) names.now value) }
+    requires within { IsWithin (created (record no_rows { rows = rows.now; next = next }) names.now value) }
     ensures { IfOk result (λ made. made.items
-        ≡ (way_to (record { rows = rows.now; next = next }) names.now).dirs
-        ++ new_row (record { rows = rows.now; next = next }) names.now value ∷ []) }
+        ≡ (way_to (record no_rows { rows = rows.now; next = next }) names.now).dirs
+        ++ new_row (record no_rows { rows = rows.now; next = next }) names.now value ∷ []) }
 {
     let way = Way::to(alloc, rows, next, parent(names))?;
     way.into_rows(next, names[names.len() - 1], value)

@@ -1,5 +1,5 @@
-ghost use Rattle.std.specs.Prelude.{◌≡◌, ◌≤◌, ◌<◌, ◌^◌, ◌+◌, ◌-◌, [], length, None, IfOk, OnOk, OnErr, Option};
-ghost use Rattle.std.specs.Option.{option_map};
+ghost use Rattle.std.specs.Prelude.{◌≡◌, ◌≤◌, ◌<◌, ◌^◌, ◌+◌, ◌-◌, [], length, Some, None, IfOk, OnOk, OnErr, Option};
+ghost use Rattle.std.specs.Option.{option_map, option_or};
 ghost use Rattle.odb_value.specs.Paths.{depth_limit};
 ghost use Rattle.odb_value.specs.Values.{HeldValue};
 ghost use Rattle.odb_tree.specs.declared.refusals.OdbRefusal.TheVariants.{Limit};
@@ -8,13 +8,14 @@ ghost use Rattle.odb_tree.specs.Limits.{len_fault, passed, limit_fault};
 ghost use Rattle.odb_tree.specs.Making.{new_number, created};
 ghost use Rattle.odb_tree.specs.Changes.{IsKeyAt};
 ghost use Rattle.odb_tree.specs.Databases.{IsDatabase};
-ghost use Rattle.odb_tree.specs.Calls.{create_fault, set_fault, set_all_fault, after_resize};
+ghost use Rattle.odb_tree.specs.Calls.{create_fault, set_fault, tid_fault, set_all_fault, after_resize};
 
 use crate::changes::{copy_rows, put_at, remove_at, replace_at, resize_at};
 use crate::children::Children;
 use crate::database::Database;
 use crate::faults::{
-    bytes_of_new, exists_fault, index_fault, items_fault, kept_fault, new_value, type_fault,
+    bytes_of_new, exists_fault, index_fault, items_fault, kept_fault, new_value, replace_fault,
+    tid_fault, type_fault,
 };
 use crate::limits::{bytes_of, bytes_with, len_fault, limit_fault, raised_size, text_fault, total};
 use crate::listing::children_of;
@@ -88,9 +89,9 @@ impl PlainTree {
     }
 
     /// Why a row is not made.
-    fn create_fault(&self, names: &[Name], kind: NewKey) -> Option<OdbRefusal>
+    fn create_fault(&self, names: &[Name], kind: &NewKey) -> Option<OdbRefusal>
         requires { length names.now ≤ depth_limit }
-        ensures { result ≡ create_fault self.now names.now kind }
+        ensures { result ≡ create_fault self.now names.now kind.now }
     {
         let rows = self.rows.as_slice();
         if let Some(refusal) = obstacle(rows, parent(names), None) {
@@ -127,6 +128,18 @@ impl PlainTree {
         self.change_fault(text_fault(item), bytes_of(value), bytes)
     }
 
+    /// Why a key is not made with this value.
+    fn made_fault(&self, names: &[Name], value: &Value) -> Option<OdbRefusal>
+        requires { length names.now ≤ depth_limit }
+        ensures { result ≡ option_or (tid_fault value.now.tid)
+            (limit_fault None (created self.now names.now (Some value.now))) }
+    {
+        if let Some(refusal) = tid_fault(value.tid()) {
+            return Some(refusal);
+        }
+        self.new_fault(names, None, bytes_of(value))
+    }
+
     /// Why a value is not written.
     fn set_all_fault(&self, names: &[Name], value: &Value) -> Option<OdbRefusal>
         requires { length names.now ≤ depth_limit }
@@ -141,12 +154,12 @@ impl PlainTree {
         }
         let given = value.tid();
         let Some(row) = row_at(rows, names) else {
-            return self.new_fault(names, None, bytes_of(value));
+            return self.made_fault(names, value);
         };
         let Some(had) = &row.value else {
             return Some(OdbRefusal::NotValue);
         };
-        if let Some(refusal) = type_fault(had.tid(), given) {
+        if let Some(refusal) = replace_fault(had.tid(), given) {
             return Some(refusal);
         }
         self.change_fault(None, bytes_of(had), bytes_of(value))
@@ -183,7 +196,7 @@ impl Database for PlainTree {
 
     ghost watches = { λ _. [] };
 
-    fn create(&mut self, alloc: Global, path: &Path, kind: NewKey) -> Result<u32, OdbRefusal> {
+    fn create(&mut self, alloc: Global, path: &Path, kind: &NewKey) -> Result<u32, OdbRefusal> {
         let _ = &self.rows;
         let names = path.names();
         if let Some(refusal) = self.create_fault(names, kind) {

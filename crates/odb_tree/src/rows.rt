@@ -13,7 +13,7 @@ pub struct Row {
 }
 
 /// What `create` makes.
-#[derive(Clone, Copy, Debug, PartialEq, Eq)]
+#[derive(Drop)]
 pub enum NewKey {
     /// A directory.
     Dir,

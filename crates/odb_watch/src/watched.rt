@@ -91,11 +91,11 @@ impl<D: Database> Database for Watches<D> {
 
     ghost watches = { λ w. w.slots };
 
-    fn create(&mut self, alloc: Global, path: &Path, kind: NewKey) -> Result<u32, OdbRefusal>
-        ensures reply { IsRowsReply self.old.rows (Create path.now kind result) }
-        ensures after { self.new.rows ≡ rows_after self.old.rows (Create path.now kind result) }
+    fn create(&mut self, alloc: Global, path: &Path, kind: &NewKey) -> Result<u32, OdbRefusal>
+        ensures reply { IsRowsReply self.old.rows (Create path.now kind.now result) }
+        ensures after { self.new.rows ≡ rows_after self.old.rows (Create path.now kind.now result) }
         ensures notes { self.new.slots ≡ all_noted (changes_of self.old.rows
-            (Create path.now kind result)) self.old.slots }
+            (Create path.now kind.now result)) self.old.slots }
     {
         let reply = self.database.create(alloc, path, kind);
         match kind {

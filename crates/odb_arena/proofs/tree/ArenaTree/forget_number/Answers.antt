@@ -9,11 +9,11 @@ pub invariant_of-self : goal.invariant_of-self
 invariant_of-self c =
     (arena_forgets (row_of c.self.inside.nodes.entries) (names_at c.self.inside.root c.self.inside.nodes.entries) c.self.inside.next c.self.inside.count c.self.inside.bytes c.self.invariant
     (subst (λ (s : Rows). 1 ≤ s.next) (sym c.self.view_is) c.requires.some)
-    (subst (λ (s : Rows). IsDatabase (record { rows = s.rows; next = s.next - 1 })) (sym c.self.view_is) c.requires.database)).1
+    (subst (λ (s : Rows). IsDatabase (record s { next = s.next - 1 })) (sym c.self.view_is) c.requires.database)).1
 
 pub returns : goal.returns
 returns c =
     (arena_forgets (row_of c.self.inside.nodes.entries) (names_at c.self.inside.root c.self.inside.nodes.entries) c.self.inside.next c.self.inside.count c.self.inside.bytes c.self.invariant
     (subst (λ (s : Rows). 1 ≤ s.next) (sym c.self.view_is) c.requires.some)
-    (subst (λ (s : Rows). IsDatabase (record { rows = s.rows; next = s.next - 1 })) (sym c.self.view_is) c.requires.database)).0
-    ∙ ap (λ (s : Rows). record { rows = s.rows; next = s.next - 1 }) c.self.view_is
+    (subst (λ (s : Rows). IsDatabase (record s { next = s.next - 1 })) (sym c.self.view_is) c.requires.database)).0
+    ∙ ap (λ (s : Rows). record s { next = s.next - 1 }) c.self.view_is

@@ -6,5 +6,5 @@ use Rattle.odb_arena.proofs.tree.ArenaTreeDatabase.create.Goals as goal
 
 pub make-requires-clause-can : goal.make-requires-clause-can
 make-requires-clause-can c =
-    can_create c.args.self.now c.names-names.result.now c.args.kind c.create_fault.result c.in_ok-value.value (subst IsDatabase c.self.view_is c.self.invariant.database)
+    can_create c.args.self.now c.names-names.result.now c.args.kind.now c.create_fault.result c.in_ok-value.value (subst IsDatabase c.self.view_is c.self.invariant.database)
     (subst IsPath (sym c.names-names.ensures.names) c.names-names.ensures.is_path) c.create_fault.ensures c.in_default.is c.in_ok-value.ensures

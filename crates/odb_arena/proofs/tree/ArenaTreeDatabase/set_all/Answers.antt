@@ -44,6 +44,6 @@ returns-in-Some-row_at-clause-after c =
     (subst IsDatabase c.self.view_is c.self.invariant.database) (subst IsPath (sym c.names-names.ensures.names) c.names-names.ensures.is_path) c.tid.ensures.is_value
     c.set_all_fault.ensures c.in_default.is (sym c.row_at.ensures ∙ ap option_copied c.in-Some-row_at.is) c.in_ok-value.ensures refl)
     c.replace_in.ensures.rows c.replace_in.ensures.names (c.bytes_in-had.ensures.bytes ∙ ap bytes_in had.1) c.bytes_at.ensures.bytes).0
-    ∙ (ap (λ (w : HeldValue). record { rows = change_at c.args.self.now.rows c.names-names.result.now (λ (_ : HeldValue). w); next = c.args.self.now.next }) c.in_ok-value.ensures
+    ∙ (ap (λ (w : HeldValue). record c.args.self.now { rows = change_at c.args.self.now.rows c.names-names.result.now (λ (_ : HeldValue). w) }) c.in_ok-value.ensures
     ∙ (sym (ap (after_set_all_at c.args.self.now c.names-names.result.now c.args.value.now) (sym c.row_at.ensures ∙ ap option_copied c.in-Some-row_at.is))
     ∙ ap (λ (p : List (List ℕ)). after_set_all c.args.self.now p c.args.value.now) c.names-names.ensures.names))

@@ -9,5 +9,5 @@ use Rattle.odb_tree.proofs.plain.PlainTreeDatabase.create.Goals as goal
 pub make-requires-clause-database : goal.make-requires-clause-database
 make-requires-clause-database c =
     subst (λ (v : Option HeldValue). IsDatabase (created c.args.self.now c.names-names.result.now v)) (sym c.in_ok-value.ensures)
-    (database_created c.args.self.now c.names-names.result.now c.args.kind c.create_fault.result
+    (database_created c.args.self.now c.names-names.result.now c.args.kind.now c.create_fault.result
     (subst IsDatabase c.self.view_is c.self.invariant) (subst IsPath (sym c.names-names.ensures.names) c.names-names.ensures.is_path) c.create_fault.ensures c.in_default.is)

@@ -1,7 +1,7 @@
 use Rattle.std.proofs.Common.{◌≡◌, List, Ok, sym, subst, ap, ◌∙◌}
 use Rattle.odb_value.specs.Paths.{IsPath}
 use Rattle.odb_tree.specs.declared.rows.Row.{Row}
-use Rattle.odb_tree.specs.Rows.{Rows}
+use Rattle.odb_tree.specs.Rows.{Rows, no_rows}
 use Rattle.odb_tree.proofs.CallLemmas.{sought_key}
 use Rattle.odb_tree.specs.Lookups.{seek_key}
 use Rattle.odb_tree.specs.Limits.{len_fault, limit_fault}
@@ -17,7 +17,7 @@ resize_fault-requires c =
     (c.as_slice.ensures.value ∙ ap (λ (s : Rows). s.rows) c.self.view_is) c.in_ok-key.ensures.found
 
 pub invariant_of-self : goal.invariant_of-self
-invariant_of-self c = subst (λ (rows : List Row). IsDatabase (record { rows = rows; next = c.self.inside.next })) (sym c.in_err-resize_at.ensures.err) c.self.invariant
+invariant_of-self c = subst (λ (rows : List Row). IsDatabase (record no_rows { rows = rows; next = c.self.inside.next })) (sym c.in_err-resize_at.ensures.err) c.self.invariant
 
 pub invariant_of-self-2 : goal.invariant_of-self-2
 invariant_of-self-2 c =
