@@ -1,10 +1,10 @@
 -- Bytes that go over the end of a ring.
-use Rattle.std.specs.Prelude.{◌≡◌, ℕ, zero, suc, ◌+◌, ◌*◌, ◌-◌, ◌/◌, ◌%◌, ◌<◌, ◌≤◌, ◌⊎◌, List, ◌∷◌, ◌++◌, length, take, drop, min, refl}
+use Rattle.std.specs.Prelude.{◌≡◌, ℕ, zero, suc, ◌+◌, ◌*◌, ◌-◌, ◌/◌, ◌%◌, ◌<◌, ◌≤◌, ◌⊎◌, List, [], ◌∷◌, ◌++◌, length, take, drop, min, refl}
 use Rattle.std.proofs.Common.{ap, sym, subst, ◌∙◌, arith, get_or, drop-cons, inl, inr}
 use Rattle.std.proofs.Math.Logic.{⊎_elim}
 use Rattle.std.proofs.lemmas.Bool.{cases_lt}
 use Rattle.std.proofs.lemmas.Nat.{mod-mul-add}
-use Rattle.std.proofs.lemmas.List.{take_at, drop_at, get_or-drop, get_or-take, get_or_append_left, get_or-append_right, length-take-le, length-append, length-drop, take-append-drop}
+use Rattle.std.proofs.lemmas.List.{take_all, drop_all, take_at, drop_at, get_or-drop, get_or-take, get_or_append_left, get_or-append_right, length-take-le, length-append, length-drop, take-append-drop}
 use Rattle.std.proofs.lemmas.Slice.{drop-append-drop}
 use Rattle.ring_buffer.specs.Rings.{byte_at, bytes_at, KeepsOtherOffsets}
 use Rattle.ring_buffer.proofs.RingLaws.{bytes_at-add}
@@ -225,3 +225,30 @@ get_is ring piece front back front' back' off start first cut is_front is_back =
     ap (λ (xs : List ℕ). xs ++ back') is_front
     ∙ (ap (λ (xs : List ℕ). take (length front) (drop start ring) ++ xs) is_back
     ∙ (sym (bytes_turned ring off start (length front) (length back) turn) ∙ ap (λ (n : ℕ). bytes_at ring off n) count))
+
+-- a piece that does not go over the end is written in one
+pub put_straight : (ring new piece : List ℕ) (off start : ℕ) → start ≡ off % length ring → 0 < length ring → start + length piece ≤ length ring → new ≡ written ring start piece → IsPut ring new off piece
+put_straight ring new piece off start start_is some fits put =
+    let cut : IsCut (length ring) off start (length piece) piece piece [] =
+    record {
+      start_is = start_is;
+      some = some;
+      fits = omega (arith, fits);
+      first_is = omega (arith, fits);
+      front_is = sym (take_all (length piece) piece (omega arith));
+      back_is = sym (drop_all (length piece) piece (omega arith));
+    } in
+    put_is ring new new piece piece [] off start (length piece) cut put refl
+
+-- and read
+pub get_straight : (ring : List ℕ) (off start count : ℕ) → start ≡ off % length ring → 0 < length ring → start + count ≤ length ring → take count (drop start ring) ≡ bytes_at ring off count
+get_straight ring off start count start_is some fits =
+    let turn : IsTurn (length ring) off start count 0 =
+    record {
+      start_is = start_is;
+      some = some;
+      within = fits;
+      whole = omega (arith, fits);
+      wraps = λ h. omega (arith, h);
+    } in
+    sym (ap (λ (o : ℕ). bytes_at ring o count) (off_is (length ring) off start count 0 turn) ∙ bytes_straight ring (off / length ring) start count fits)

@@ -1,7 +1,6 @@
-ghost use Rattle.std.specs.Prelude.{◌≡◌, nat_lt};
-ghost use Rattle.buffer_core.specs.Slots.{passes};
+ghost use Rattle.std.specs.Prelude.{◌≡◌};
 ghost use Rattle.std.specs.Option.{option_map};
-ghost use Rattle.ring_buffer.specs.Pointers.{raised};
+ghost use Rattle.ring_buffer.specs.Pointers.{moved, raised};
 
 use buffer_core::Client;
 
@@ -12,30 +11,24 @@ pub struct Pointer {
     pub off: u64,
 }
 
-/// Whether there is a client that is behind this place.
-pub fn is_behind(slot: &Option<Pointer>, place: u64) -> bool
-    ensures { result ≡ passes (λ pointer. nat_lt pointer.client.next place) slot.now }
+/// The client of this slot, if there is one, goes on from this place, which has this offset.
+pub fn move_slot(slot: &mut Option<Pointer>, off: u64, place: u64)
+    ensures { slot.new ≡ option_map (moved off place) slot.old }
 {
-    match slot {
-        Some(pointer) => pointer.client.next < place,
-        None => false,
+    if let Some(pointer) = slot {
+        pointer.client.next = place;
+        pointer.off = off;
     }
 }
 
-/// A client that is behind this place, which has this offset, goes on from there.
-pub fn raised_slot(slot: Option<Pointer>, off: u64, place: u64) -> Option<Pointer>
-    ensures { result ≡ option_map (raised off place) slot }
+/// And so it does if it is behind.
+pub fn raise_slot(slot: &mut Option<Pointer>, off: u64, place: u64)
+    ensures { slot.new ≡ option_map (raised off place) slot.old }
 {
-    match slot {
-        Some(pointer) => {
-            if pointer.client.next < place {
-                return Some(Pointer {
-                    client: pointer.client.going_on(place),
-                    off,
-                });
-            }
-            Some(pointer)
+    if let Some(pointer) = slot {
+        if pointer.client.next < place {
+            pointer.client.next = place;
+            pointer.off = off;
         }
-        None => None,
     }
 }

@@ -6,7 +6,7 @@ ghost use Rattle.buffer_core.specs.Window.{wants, owes};
 ghost use Rattle.buffer_core.specs.Calls.{no_slot, joined, with_request, detach_reply_to, request_reply_to, cancel_reply_to};
 ghost use Rattle.ring_buffer.specs.Pointers.{AreFreeFrom, no_pointers, clients_of, changed, moved, raised, position_of};
 
-use crate::pointer::{Pointer, is_behind, raised_slot};
+use crate::pointer::{Pointer, move_slot, raise_slot};
 use buffer_core::{Client, NoClient, NoSlot, Request, RequestRefusal, free_number};
 use daq_types::{Kind, Name};
 use event::Header;
@@ -77,9 +77,7 @@ fn raise_all(slots: &mut [Option<Pointer>], given: usize, off: u64, place: u64)
     ensures { slots.new ≡ change_all (raised off place) slots.old }
 {
     for number in 0..given {
-        if is_behind(&slots[number], place) {
-            slots[number] = raised_slot(slots[number], off, place);
-        }
+        raise_slot(&mut slots[number], off, place);
     }
 }
 
@@ -213,7 +211,10 @@ impl Pointers {
     pub fn at(&self, client: u32) -> Option<(u64, u64)>
         ensures { result ≡ option_map position_of (slot_at self.now client) }
     {
-        match find(&self.slots, self.given, client) {
+        if client as usize >= self.given {
+            return None;
+        }
+        match &self.slots[client as usize] {
             Some(pointer) => Some((pointer.off, pointer.client.next)),
             None => None,
         }
@@ -225,16 +226,11 @@ impl Pointers {
         ensures ok { OnOk result (self.new ≡ change_slot (moved off place) self.old client) }
         ensures err { OnErr result (self.new ≡ self.old) }
     {
-        match find(&self.slots, self.given, client) {
-            Some(pointer) => {
-                self.slots[client as usize] = Some(Pointer {
-                    client: pointer.client.going_on(place),
-                    off,
-                });
-                Ok(())
-            }
-            None => Err(NoClient),
+        if self.at(client).is_none() {
+            return Err(NoClient);
         }
+        move_slot(&mut self.slots[client as usize], off, place);
+        Ok(())
     }
 
     /// All clients that are behind this place, which has this offset, go on from there.

@@ -47,7 +47,11 @@ fn put_bytes(bytes: &mut [u8], off: u64, part: &[u8])
 {
     let size = bytes.len();
     let start = (off % size as u64) as usize;
-    let (front, back) = part.split_at(part.len().min(size - start));
+    if part.len() <= size - start {
+        write_part(bytes, start, part);
+        return;
+    }
+    let (front, back) = part.split_at(size - start);
     write_part(bytes, start, front);
     write_part(bytes, 0, back);
 }
@@ -60,7 +64,11 @@ fn get_bytes(bytes: &[u8], off: u64, into: &mut [u8])
 {
     let size = bytes.len();
     let start = (off % size as u64) as usize;
-    let first = into.len().min(size - start);
+    if into.len() <= size - start {
+        into.copy_from_slice(&bytes[start..start + into.len()]);
+        return;
+    }
+    let first = size - start;
     let (front, back) = into.split_at_mut(first);
     front.copy_from_slice(&bytes[start..start + first]);
     back.copy_from_slice(&bytes[..back.len()]);

@@ -1,8 +1,11 @@
-ghost use Rattle.std.specs.Prelude.{◌≡◌, ◌≤◌, ◌+◌, ◌^◌, ℕ, length, IfOk, IfErr, OnOk, OnErr, Ok, Err};
+ghost use Rattle.std.specs.Prelude.{◌≡◌, ◌≤◌, ◌+◌, ◌^◌, ℕ, length, IfOk, IfErr, OnOk, OnErr, Ok, Err, Some};
 ghost use Rattle.event.specs.Events.{slot_size, event_limit};
 ghost use Rattle.event.specs.Headers.{event_of};
+ghost use Rattle.buffer_core.specs.Slots.{slot_at, change_all};
 ghost use Rattle.buffer_core.specs.Window.{opening, accepted_of, IsWindow};
 ghost use Rattle.buffer_core.specs.Calls.{after_send};
+ghost use Rattle.ring_buffer.specs.Pointers.{raised};
+ghost use Rattle.ring_buffer.specs.declared.pointer.Pointer.{Pointer};
 ghost use Rattle.ring_buffer.specs.LifeReads.{ReadsFew};
 ghost use Rattle.ring_buffer.specs.Sends.{send_entry, reply_to_sent, gone_for, level_left};
 
@@ -42,6 +45,17 @@ impl Model for RingBuffer {
     ghost view = { counted_of };
 
     ghost invariant = { IsRingBuffer };
+}
+
+/// All clients that are behind this position go on from there. None is behind the first kept event, so that nobody is
+/// looked at where no event is dropped.
+fn raise_behind(clients: &mut Pointers, first: u64, way: Position)
+    requires { (n : ℕ) (p : Pointer) → slot_at clients.old n ≡ Some p → first ≤ p.client.next }
+    ensures { clients.new ≡ change_all (raised way.off way.place) clients.old }
+{
+    if way.place != first {
+        clients.push(way.off, way.place);
+    }
 }
 
 impl RingBuffer {
@@ -137,11 +151,11 @@ impl RingBuffer {
         let front = front_bytes_of(start, header);
         self.ring.put_at(self.total, &front);
         self.ring.put_at(self.total + FRONT as u64, body);
+        raise_behind(&mut self.clients, self.first, way);
         self.first = way.place;
         self.off = way.off;
         self.count += 1;
         self.total += u64::from(slot_len(header.data_size));
-        self.clients.push(way.off, way.place);
     }
 
     /// Takes the event, of the run with this start number, where there is room for it.
