@@ -77,6 +77,7 @@ impl Call<LockedEngine> for Poll {
 
     ghost tells = { λ _ _ reply _ _. IsFairTurn reply };
 
+    #[inline(always)]
     fn make(self, value: &mut LockedEngine, _into: &mut ()) -> Polled {
         value.engine.poll(self.client)
     }

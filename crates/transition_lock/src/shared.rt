@@ -61,6 +61,7 @@ impl SharedEngine {
     }
 
     /// Makes a call on the engine in one turn.
+    #[inline(always)]
     fn call<R: Wait, C: Call<LockedEngine>>(
         &self,
         rt: &R,

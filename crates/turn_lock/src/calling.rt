@@ -25,6 +25,7 @@ impl<M: Machine> Turns<M> {
     ghost use Rattle.turn_lock.specs.Entered.{Enters, FindsTaken};
 
     /// Makes the call while the turn is held, and frees the turn.
+    #[inline(always)]
     fn make<C: Call<M>>(
         &self,
         pass: &mut Pass<M>,

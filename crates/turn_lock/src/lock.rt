@@ -24,7 +24,7 @@ const VALUE: usize = 0;
 /// No pass has this number.
 pub(crate) const FREE: u64 = 256;
 
-/// How often a pass tries for the turn before it gives the processor away.
+/// How often a pass looks whether the turn is free before it gives the processor away.
 const TRIES: u32 = 64;
 
 /// A lock round a value of type `M`, at which its passes take turns.
@@ -133,7 +133,7 @@ impl<M: Machine> Turns<M> {
         }
     }
 
-    /// Tries some times in a row, without giving the processor away.
+    /// Looks some times in a row whether the turn is free, and tries for it then, without giving the processor away.
     fn spin(&self, pass: &mut Pass<M>) -> Option<Held<M>>
         requires own { IsOf self.now pass.old }
         requires idle { held_by pass.old ≡ None }
@@ -146,15 +146,18 @@ impl<M: Machine> Turns<M> {
         ensures idle { IfNone result (held_by pass.new ≡ None) }
     {
         for _ in 0..TRIES {
-            if let Ok(held) = self.try_take(pass) {
-                return Some(held);
+            // A look does not take the words from the processor of who holds the turn, as a compare and exchange does.
+            if self.table.shared.peek(TURN) == FREE {
+                if let Ok(held) = self.try_take(pass) {
+                    return Some(held);
+                }
             }
             spin_loop();
         }
         None
     }
 
-    /// Takes the turn. It tries some times, then gives the processor away and tries again, until the turn is free.
+    /// Takes the turn. It tries, looks some times, then gives the processor away and looks again, until the turn is free.
     pub fn take<R: Wait>(&self, rt: &R, pass: &mut Pass<M>) -> Held<M>
         requires own { IsOf self.now pass.old }
         requires idle { held_by pass.old ≡ None }
@@ -172,6 +175,8 @@ impl<M: Machine> Turns<M> {
     }
 
     /// Takes the turn, which another pass had a moment ago.
+    #[cold]
+    #[inline(never)]
     fn take_when_free<R: Wait>(&self, rt: &R, pass: &mut Pass<M>) -> Held<M>
         requires own { IsOf self.now pass.old }
         requires idle { held_by pass.old ≡ None }
