@@ -43,6 +43,16 @@ pub encoded_more : (events : List Event) (event : Event) → length (all_encoded
 encoded_more events event =
     omega (arith, ap (length {A = ℕ}) (all_encoded-append events (event ∷ [])), length-append (all_encoded events) (encoding event ++ []), length-append (encoding event) [], length-encoding event)
 
+-- and how many events have together
+pub encoded_both : (before events : List Event) → length (all_encoded (before ++ events)) ≡ length (all_encoded before) + length (all_encoded events)
+encoded_both before events = ap (length {A = ℕ}) (all_encoded-append before events) ∙ length-append (all_encoded before) (all_encoded events)
+
+-- events that were read, with those of the files before, are as few as a taker may have
+pub within_more : (start : ℕ) (first now : Option (List ℕ)) (p : Progress) (before events : List Event) (event : Event) → length (all_encoded before) ≤ start → HasRead start first now p (events ++ event ∷ [])
+    → length (all_encoded ((before ++ events) ++ event ∷ [])) ≤ 2 ^ 62
+within_more start first now p before events event few r =
+    omega (arith, encoded_more (before ++ events) event, encoded_both before events, encoded_more events event, events_before start first now p (events ++ event ∷ []) r, few, r.within)
+
 module _ (old : Progress) (bytes : List ℕ) (h : Header) (w : StandsWhole old bytes h) where
   abbrev body : List ℕ
   body = take h.data_size (drop 16 bytes)
@@ -60,17 +70,19 @@ module _ (old : Progress) (bytes : List ℕ) (h : Header) (w : StandsWhole old b
   within_whole = allowed.sized.within
 
   -- one event more, of bytes that lie at hand
-  pub one_whole : (first before after : Option (List ℕ)) (new : Progress) (events : List Event) → HasRead first before old events → Consumes before after (take (16 + h.data_size) bytes)
-      → new ≡ record old { at = old.at + 16 + h.data_size } → HasRead first after new (events ++ event_at_front h bytes ∷ [])
-  one_whole first before after new events r taken is_new =
+  pub one_whole : (start : ℕ) (first before after : Option (List ℕ)) (new : Progress) (events : List Event) → HasRead start first before old events → Consumes before after (take (16 + h.data_size) bytes)
+      → new ≡ record old { at = old.at + 16 + h.data_size } → HasRead start first after new (events ++ event_at_front h bytes ∷ [])
+  one_whole start first before after new events r taken is_new =
       let consumed : Consumes before after (header_encoding h ++ body) = subst (Consumes before after) parts taken in
       let head : ReadsHead before (prepend_known body after) (Some w.begin.serial_number) old.at h =
       record { consumed = middle_of before after (header_encoding h) body consumed; fine = w.fine; in_range = w.in_range } in
       let held : HeldEvent = record { event = event_at_front h bytes; room = 0 } in
       let read : ReadsBody (prepend_known body after) after h held = record { body = body; length = length_body; consumed = behind_middle after body; event = refl } in
-      subst (λ (p : Progress). HasRead first after p (events ++ event_at_front h bytes ∷ [])) (sym is_new)
-      (one_more first before old events r w.going w.begin w.begun (prepend_known body after) h head after held w.no_end read)
+      subst (λ (p : Progress). HasRead start first after p (events ++ event_at_front h bytes ∷ [])) (sym is_new)
+      (one_more start first before old events r w.going w.begin w.begun (prepend_known body after) h head after held w.no_end read)
 
   -- those that were read, with this one, are as few as a taker may have
-  pub may_take : (first before : Option (List ℕ)) (events : List Event) → HasRead first before old events → length (all_encoded (events ++ event_at_front h bytes ∷ [])) ≤ 2 ^ 62
-  may_take first before events r = omega (arith, encoded_more events (event_at_front h bytes), length_body, events_before first before old events r, within_whole)
+  pub may_take : (start : ℕ) (first left : Option (List ℕ)) (before events : List Event) → length (all_encoded before) ≤ start → HasRead start first left old events
+      → length (all_encoded ((before ++ events) ++ event_at_front h bytes ∷ [])) ≤ 2 ^ 62
+  may_take start first left before events few r =
+      omega (arith, encoded_more (before ++ events) (event_at_front h bytes), encoded_both before events, length_body, events_before start first left old events r, few, within_whole)

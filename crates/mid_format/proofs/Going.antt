@@ -72,14 +72,14 @@ stands_later p b at place rest f no_end has_begun same e =
 
 -- The begin record.
 
-module _ (first before : Option (List ℕ)) (old : Progress) (events : List Event) (r : HasRead first before old events) (going : IsGoing old) (none : old.begin ≡ None) where
+module _ (start : ℕ) (first before : Option (List ℕ)) (old : Progress) (events : List Event) (r : HasRead start first before old events) (going : IsGoing old) (none : old.begin ≡ None) where
   empty : (r.done ≡ []) × (events ≡ [])
   empty = done_of r.done old None events r.is_done none going.no_end
 
-  at_begin : old.at ≡ 0
-  at_begin = r.place ∙ ap (length {A = ℕ}) empty.0
+  at_begin : old.at ≡ start
+  at_begin = omega (arith, r.place, ap (length {A = ℕ}) empty.0)
 
-  pub begun_now : (after : Option (List ℕ)) (new : Progress) (h : Header) → BeginsNow before after old new h → HasRead first after new events
+  pub begun_now : (after : Option (List ℕ)) (new : Progress) (h : Header) → BeginsNow before after old new h → HasRead start first after new events
   begun_now after new h b =
       let allowed : IsBeginHeader old.at h = begin_allowed old.at h b.fine in
       let done : List ℕ = header_encoding h ++ b.dump in
@@ -94,7 +94,7 @@ module _ (first before : Option (List ℕ)) (old : Progress) (events : List Even
         fine = All-nil IsFileEvent;
         all_storable = All-nil IsStorable;
       } in
-      subst (λ p. HasRead first after p events) (sym b.progress) (record {
+      subst (λ p. HasRead start first after p events) (sym b.progress) (record {
         done = header_encoding h ++ b.dump;
         begins = begins_of first after (header_encoding h ++ b.dump) taken;
         consumed = λ n. taken;
@@ -109,17 +109,17 @@ module _ (first before : Option (List ℕ)) (old : Progress) (events : List Even
       })
 
   pub begin_stopped : (after : Option (List ℕ)) (at_hand : List ℕ) (new : Progress) (f : MidFault) → BeginStops before old new f → OfSource f (FailsInside before after at_hand)
-      → HasRead first after (record new { fault = Some f }) events
+      → HasRead start first after (record new { fault = Some f }) events
   begin_stopped after at_hand new f s fails =
-      let stays : OfBytes f (IfSome first (λ text. IsMidFault text f)) =
-      map_fault f (IfSome before (λ rest. fault_at None old.at rest ≡ Some f)) (IfSome first (λ text. IsMidFault text f))
-      (told_behind first before r.done (λ rest. fault_at None old.at rest ≡ Some f) (λ text. IsMidFault text f) (r.consumed going.no_fault)
-      (λ rest e. inl (subst (λ front. fault_at None 0 (front ++ rest) ≡ Some f) (sym empty.0) (subst (λ at. fault_at None at rest ≡ Some f) at_begin e)))) s.fault_is in
-      let stands : OfBytes f (IfSome first (λ text. StandsBehind text r.done old.last old.begin f)) =
-      map_fault f (IfSome before (λ rest. fault_at None old.at rest ≡ Some f)) (IfSome first (λ text. StandsBehind text r.done old.last old.begin f))
-      (told_behind first before r.done (λ rest. fault_at None old.at rest ≡ Some f) (λ text. StandsBehind text r.done old.last old.begin f) (r.consumed going.no_fault)
-      (λ rest e. record { rest = rest; text_is = refl; stands = stands_first old old.at (length r.done) rest f going.no_end none r.place e })) s.fault_is in
-      subst (λ (p : Progress). HasRead first after (record p { fault = Some f }) events) (sym s.progress) (record {
+      let stays : OfBytes f (IfSome first (λ text. IsMidFault start text f)) =
+      map_fault f (IfSome before (λ rest. fault_at None old.at rest ≡ Some f)) (IfSome first (λ text. IsMidFault start text f))
+      (told_behind first before r.done (λ rest. fault_at None old.at rest ≡ Some f) (λ text. IsMidFault start text f) (r.consumed going.no_fault)
+      (λ rest e. inl (subst (λ front. fault_at None start (front ++ rest) ≡ Some f) (sym empty.0) (subst (λ at. fault_at None at rest ≡ Some f) at_begin e)))) s.fault_is in
+      let stands : OfBytes f (IfSome first (λ text. StandsBehind start text r.done old.last old.begin f)) =
+      map_fault f (IfSome before (λ rest. fault_at None old.at rest ≡ Some f)) (IfSome first (λ text. StandsBehind start text r.done old.last old.begin f))
+      (told_behind first before r.done (λ rest. fault_at None old.at rest ≡ Some f) (λ text. StandsBehind start text r.done old.last old.begin f) (r.consumed going.no_fault)
+      (λ rest e. record { rest = rest; text_is = refl; stands = stands_first old old.at (start + length r.done) rest f going.no_end none r.place e })) s.fault_is in
+      subst (λ (p : Progress). HasRead start first after (record p { fault = Some f }) events) (sym s.progress) (record {
         done = r.done;
         begins = r.begins;
         consumed = λ n. none_some (Some f) f n refl;
@@ -127,14 +127,14 @@ module _ (first before : Option (List ℕ)) (old : Progress) (events : List Even
         within = r.within;
         is_done = r.is_done;
         at_end = λ n end is_last. none_some (Some f) f n refl;
-        fault_is = of_fault f (λ fault. OfBytes fault (IfSome first (λ text. IsMidFault text fault))) stays;
-        here = of_fault f (λ fault. OfBytes fault (IfSome first (λ text. StandsBehind text r.done old.last old.begin fault))) stands;
+        fault_is = of_fault f (λ fault. OfBytes fault (IfSome first (λ text. IsMidFault start text fault))) stays;
+        here = of_fault f (λ fault. OfBytes fault (IfSome first (λ text. StandsBehind start text r.done old.last old.begin fault))) stands;
         unread = λ is_read. after_inside first before after at_hand r.done old.last going.no_end (r.consumed going.no_fault) (of_source f (FailsInside before after at_hand) fails is_read);
       })
 
 -- The begin record was read, now or before.
-pub record AfterBegin (first after : Option (List ℕ)) (new : Progress) (events : List Event) (h : Header) : Type 0 where
-  pub read : HasRead first after new events
+pub record AfterBegin (start : ℕ) (first after : Option (List ℕ)) (new : Progress) (events : List Event) (h : Header) : Type 0 where
+  pub read : HasRead start first after new events
   pub going : IsGoing new
   pub begin : new.begin ≡ Some h
 
@@ -145,30 +145,30 @@ going_after before after old new h going (inl b) = (
 )
 going_after before after old new h going (inr s) = (subst IsGoing (sym s.progress) going, ap (λ (p : Progress). p.begin) s.progress ∙ s.begin)
 
-read_after : (first before after : Option (List ℕ)) (old new : Progress) (events : List Event) (h : Header) → HasRead first before old events → IsGoing old → BeginsReading before after old new h → HasRead first after new events
-read_after first before after old new events h r going (inl b) = begun_now first before old events r going b.none after new h b
-read_after first before after old new events h r going (inr s) = subst (λ p. HasRead first after p events) (sym s.progress) (subst (λ left. HasRead first left old events) (sym s.same) r)
+read_after : (start : ℕ) (first before after : Option (List ℕ)) (old new : Progress) (events : List Event) (h : Header) → HasRead start first before old events → IsGoing old → BeginsReading before after old new h → HasRead start first after new events
+read_after start first before after old new events h r going (inl b) = begun_now start first before old events r going b.none after new h b
+read_after start first before after old new events h r going (inr s) = subst (λ p. HasRead start first after p events) (sym s.progress) (subst (λ left. HasRead start first left old events) (sym s.same) r)
 
-pub after_begin : (first before after : Option (List ℕ)) (old new : Progress) (events : List Event) (h : Header) → HasRead first before old events → IsGoing old → BeginsReading before after old new h
-    → AfterBegin first after new events h
-after_begin first before after old new events h r going b = record {
-  read = read_after first before after old new events h r going b;
+pub after_begin : (start : ℕ) (first before after : Option (List ℕ)) (old new : Progress) (events : List Event) (h : Header) → HasRead start first before old events → IsGoing old → BeginsReading before after old new h
+    → AfterBegin start first after new events h
+after_begin start first before after old new events h r going b = record {
+  read = read_after start first before after old new events h r going b;
   going = (going_after before after old new h going b).0;
   begin = (going_after before after old new h going b).1;
 }
 
 -- Behind the begin record.
 
-module _ (first before : Option (List ℕ)) (old : Progress) (events : List Event) (r : HasRead first before old events) (going : IsGoing old) (b : Header) (has_begun : old.begin ≡ Some b) where
+module _ (start : ℕ) (first before : Option (List ℕ)) (old : Progress) (events : List Event) (r : HasRead start first before old events) (going : IsGoing old) (b : Header) (has_begun : old.begin ≡ Some b) where
   so_far : BeginsWith r.done b events
   so_far = done_of r.done old (Some b) events r.is_done has_begun going.no_end
 
   pub stopped : (after : Option (List ℕ)) (at_hand : List ℕ) (f : MidFault) → OfBytes f (IfSome before (λ rest. fault_at (Some b.serial_number) old.at rest ≡ Some f)) → OfSource f (FailsInside before after at_hand)
-      → HasRead first after (record old { fault = Some f }) events
+      → HasRead start first after (record old { fault = Some f }) events
   stopped after at_hand f wrong fails =
-      let stays : OfBytes f (IfSome first (λ text. IsMidFault text f)) =
-      map_fault f (IfSome before (λ rest. fault_at (Some b.serial_number) old.at rest ≡ Some f)) (IfSome first (λ text. IsMidFault text f))
-      (told_behind first before r.done (λ rest. fault_at (Some b.serial_number) old.at rest ≡ Some f) (λ text. IsMidFault text f) (r.consumed going.no_fault)
+      let stays : OfBytes f (IfSome first (λ text. IsMidFault start text f)) =
+      map_fault f (IfSome before (λ rest. fault_at (Some b.serial_number) old.at rest ≡ Some f)) (IfSome first (λ text. IsMidFault start text f))
+      (told_behind first before r.done (λ rest. fault_at (Some b.serial_number) old.at rest ≡ Some f) (λ text. IsMidFault start text f) (r.consumed going.no_fault)
       (λ rest e. inr (inl (record {
         front = r.done;
         rest = rest;
@@ -181,10 +181,10 @@ module _ (first before : Option (List ℕ)) (old : Progress) (events : List Even
         counted = omega (arith, r.place, r.within);
         fault_is = subst (λ at. fault_at (Some b.serial_number) at rest ≡ Some f) r.place e;
       })))) wrong in
-      let stands : OfBytes f (IfSome first (λ text. StandsBehind text r.done old.last old.begin f)) =
-      map_fault f (IfSome before (λ rest. fault_at (Some b.serial_number) old.at rest ≡ Some f)) (IfSome first (λ text. StandsBehind text r.done old.last old.begin f))
-      (told_behind first before r.done (λ rest. fault_at (Some b.serial_number) old.at rest ≡ Some f) (λ text. StandsBehind text r.done old.last old.begin f) (r.consumed going.no_fault)
-      (λ rest e. record { rest = rest; text_is = refl; stands = stands_later old b old.at (length r.done) rest f going.no_end has_begun r.place e })) wrong in
+      let stands : OfBytes f (IfSome first (λ text. StandsBehind start text r.done old.last old.begin f)) =
+      map_fault f (IfSome before (λ rest. fault_at (Some b.serial_number) old.at rest ≡ Some f)) (IfSome first (λ text. StandsBehind start text r.done old.last old.begin f))
+      (told_behind first before r.done (λ rest. fault_at (Some b.serial_number) old.at rest ≡ Some f) (λ text. StandsBehind start text r.done old.last old.begin f) (r.consumed going.no_fault)
+      (λ rest e. record { rest = rest; text_is = refl; stands = stands_later old b old.at (start + length r.done) rest f going.no_end has_begun r.place e })) wrong in
       record {
         done = r.done;
         begins = r.begins;
@@ -193,19 +193,19 @@ module _ (first before : Option (List ℕ)) (old : Progress) (events : List Even
         within = r.within;
         is_done = r.is_done;
         at_end = λ n end is_last. none_some (Some f) f n refl;
-        fault_is = of_fault f (λ fault. OfBytes fault (IfSome first (λ text. IsMidFault text fault))) stays;
-        here = of_fault f (λ fault. OfBytes fault (IfSome first (λ text. StandsBehind text r.done old.last old.begin fault))) stands;
+        fault_is = of_fault f (λ fault. OfBytes fault (IfSome first (λ text. IsMidFault start text fault))) stays;
+        here = of_fault f (λ fault. OfBytes fault (IfSome first (λ text. StandsBehind start text r.done old.last old.begin fault))) stands;
         unread = λ is_read. after_inside first before after at_hand r.done old.last going.no_end (r.consumed going.no_fault) (of_source f (FailsInside before after at_hand) fails is_read);
       }
 
   module _ (middle : Option (List ℕ)) (h : Header) (head : ReadsHead before middle (Some b.serial_number) old.at h) where
     pub data_stopped : (after : Option (List ℕ)) (at_hand : List ℕ) (f : MidFault) → IsCut middle (old.at + 16) h.data_size f → OfSource f (FailsBehind middle after at_hand h.data_size)
-        → HasRead first after (record old { fault = Some f }) events
+        → HasRead start first after (record old { fault = Some f }) events
     data_stopped after at_hand f cut fails = stopped after at_hand f (cut_behind before middle (Some b.serial_number) old.at h f head.consumed head.fine head.in_range cut)
         (map_source f (FailsBehind middle after at_hand h.data_size) (FailsInside before after at_hand) (inside_data before middle after at_hand (Some b.serial_number) old.at h head) fails)
 
     pub one_more : (after : Option (List ℕ)) (held : HeldEvent) → h.event_id ≢ end_id → ReadsBody middle after h held
-        → HasRead first after (record old { at = old.at + 16 + h.data_size }) (events ++ held.event ∷ [])
+        → HasRead start first after (record old { at = old.at + 16 + h.data_size }) (events ++ held.event ∷ [])
     one_more after held ne body =
         let allowed : IsEventHeader old.at h = event_allowed b.serial_number old.at h head.fine ne in
         let e : Event = event_of h body.body in
@@ -225,7 +225,7 @@ module _ (first before : Option (List ℕ)) (old : Progress) (events : List Even
               (All-cons IsFileEvent (event_of h body.body) [] (record { begins_none = allowed.begins_none; ends_none = ne; small = omega (arith, body.length, allowed.sized.small) }) (All-nil IsFileEvent));
           all_storable = All-append IsStorable events (event_of h body.body ∷ []) so_far.begun.all_storable (All-cons IsStorable (event_of h body.body) [] (subst IsInRange fields head.in_range) (All-nil IsStorable));
         } in
-        subst (λ (x : Event). HasRead first after (record old { at = old.at + 16 + h.data_size }) (events ++ x ∷ [])) (sym body.event) (record {
+        subst (λ (x : Event). HasRead start first after (record old { at = old.at + 16 + h.data_size }) (events ++ x ∷ [])) (sym body.event) (record {
           done = r.done ++ encoding (event_of h body.body);
           begins = begins_of first after (r.done ++ encoding (event_of h body.body)) taken;
           consumed = λ n. taken;
@@ -260,14 +260,14 @@ module _ (first before : Option (List ℕ)) (old : Progress) (events : List Even
       taken_to after c = subst (λ more. Consumes first after (r.done ++ more)) last_bytes
           (Consumes-trans first before after r.done (header_encoding h ++ dump) (r.consumed going.no_fault) (Consumes-trans before middle after (header_encoding h) dump head.consumed c))
 
-      place_of : old.at + 16 + h.data_size ≡ length (r.done ++ encoding (end_record b.serial_number h.time_stamp dump))
+      place_of : old.at + 16 + h.data_size ≡ start + length (r.done ++ encoding (end_record b.serial_number h.time_stamp dump))
       place_of = omega (arith, r.place, length-append r.done (encoding (end_record b.serial_number h.time_stamp dump)), ap (length {A = ℕ}) last_bytes, length_encoded h dump sized)
 
       is_ended : IsReadSoFar (r.done ++ encoding (end_record b.serial_number h.time_stamp dump)) old.begin (Some h) events
       is_ended = subst (λ (o : Option Header). IsReadSoFar (r.done ++ encoding (end_record b.serial_number h.time_stamp dump)) o (Some h) events) (sym has_begun)
           (record { dump0 = so_far.dump; dump1 = dump; header = so_far.header; last = last_is; ended = ended })
 
-      pub finished : (after : Option (List ℕ)) → Consumes middle after dump → IsAtEnd after → HasRead first after (record old { last = Some h; at = old.at + 16 + h.data_size }) events
+      pub finished : (after : Option (List ℕ)) → Consumes middle after dump → IsAtEnd after → HasRead start first after (record old { last = Some h; at = old.at + 16 + h.data_size }) events
       finished after c at_end = record {
         done = r.done ++ encoding (end_record b.serial_number h.time_stamp dump);
         begins = begins_of first after (r.done ++ encoding (end_record b.serial_number h.time_stamp dump)) (taken_to after c);
@@ -282,11 +282,11 @@ module _ (first before : Option (List ℕ)) (old : Progress) (events : List Even
       }
 
       pub finish_stopped : (left after : Option (List ℕ)) (at_hand : List ℕ) (f : MidFault) → Consumes middle left dump → IsBehindEnd left (old.at + 16 + h.data_size) f → OfSource f (FailsBehind left after at_hand 1)
-          → HasRead first after (record old { last = Some h; at = old.at + 16 + h.data_size; fault = Some f }) events
+          → HasRead start first after (record old { last = Some h; at = old.at + 16 + h.data_size; fault = Some f }) events
       finish_stopped left after at_hand f c more fails =
-          let stays : OfBytes f (IfSome first (λ text. IsMidFault text f)) =
-          map_fault f (IfSome left (λ rest. (0 < length rest) × (f ≡ AfterEnd (old.at + 16 + h.data_size)))) (IfSome first (λ text. IsMidFault text f))
-          (told_behind first left (r.done ++ encoding (end_record b.serial_number h.time_stamp dump)) (λ rest. (0 < length rest) × (f ≡ AfterEnd (old.at + 16 + h.data_size))) (λ text. IsMidFault text f)
+          let stays : OfBytes f (IfSome first (λ text. IsMidFault start text f)) =
+          map_fault f (IfSome left (λ rest. (0 < length rest) × (f ≡ AfterEnd (old.at + 16 + h.data_size)))) (IfSome first (λ text. IsMidFault start text f))
+          (told_behind first left (r.done ++ encoding (end_record b.serial_number h.time_stamp dump)) (λ rest. (0 < length rest) × (f ≡ AfterEnd (old.at + 16 + h.data_size))) (λ text. IsMidFault start text f)
           (taken_to left c)
           (λ rest p. inr (inr (record {
             front = r.done ++ encoding (end_record b.serial_number h.time_stamp dump);
@@ -303,10 +303,10 @@ module _ (first before : Option (List ℕ)) (old : Progress) (events : List Even
             more = p.0;
             fault_is = p.1 ∙ ap AfterEnd place_of;
           })))) more in
-          let stands : OfBytes f (IfSome first (λ text. StandsBehind text (r.done ++ encoding (end_record b.serial_number h.time_stamp dump)) (Some h) old.begin f)) =
-          map_fault f (IfSome left (λ rest. (0 < length rest) × (f ≡ AfterEnd (old.at + 16 + h.data_size)))) (IfSome first (λ text. StandsBehind text (r.done ++ encoding (end_record b.serial_number h.time_stamp dump)) (Some h) old.begin f))
+          let stands : OfBytes f (IfSome first (λ text. StandsBehind start text (r.done ++ encoding (end_record b.serial_number h.time_stamp dump)) (Some h) old.begin f)) =
+          map_fault f (IfSome left (λ rest. (0 < length rest) × (f ≡ AfterEnd (old.at + 16 + h.data_size)))) (IfSome first (λ text. StandsBehind start text (r.done ++ encoding (end_record b.serial_number h.time_stamp dump)) (Some h) old.begin f))
           (told_behind first left (r.done ++ encoding (end_record b.serial_number h.time_stamp dump)) (λ rest. (0 < length rest) × (f ≡ AfterEnd (old.at + 16 + h.data_size)))
-          (λ text. StandsBehind text (r.done ++ encoding (end_record b.serial_number h.time_stamp dump)) (Some h) old.begin f) (taken_to left c)
+          (λ text. StandsBehind start text (r.done ++ encoding (end_record b.serial_number h.time_stamp dump)) (Some h) old.begin f) (taken_to left c)
           (λ rest p. record { rest = rest; text_is = refl; stands = (p.0, p.1 ∙ ap AfterEnd place_of) })) more in
           record {
             done = r.done ++ encoding (end_record b.serial_number h.time_stamp dump);
@@ -316,21 +316,21 @@ module _ (first before : Option (List ℕ)) (old : Progress) (events : List Even
             within = allowed.sized.within;
             is_done = is_ended;
             at_end = λ n end is_last. none_some (Some f) f n refl;
-            fault_is = of_fault f (λ fault. OfBytes fault (IfSome first (λ text. IsMidFault text fault))) stays;
-            here = of_fault f (λ fault. OfBytes fault (IfSome first (λ text. StandsBehind text (r.done ++ encoding (end_record b.serial_number h.time_stamp dump)) (Some h) old.begin fault))) stands;
+            fault_is = of_fault f (λ fault. OfBytes fault (IfSome first (λ text. IsMidFault start text fault))) stays;
+            here = of_fault f (λ fault. OfBytes fault (IfSome first (λ text. StandsBehind start text (r.done ++ encoding (end_record b.serial_number h.time_stamp dump)) (Some h) old.begin fault))) stands;
             unread = λ is_read. after_end first left after at_hand (r.done ++ encoding (end_record b.serial_number h.time_stamp dump)) h (taken_to left c) (of_source f (FailsBehind left after at_hand 1) fails is_read);
           }
 
 -- The end record, by what its step did.
-pub last_read : (first before middle after : Option (List ℕ)) (old new : Progress) (events : List Event) (b h : Header) → AfterBegin first before old events b → ReadsHead before middle (Some b.serial_number) old.at h
-    → h.event_id ≡ end_id → FinishesReading middle after old new h → HasRead first after new events
-last_read first before middle after old new events b h a head is_end f =
-    subst (λ p. HasRead first after p events) (sym f.progress) (finished first before old events a.read a.going b a.begin middle h head is_end f.dump f.length after f.consumed f.ended)
+pub last_read : (start : ℕ) (first before middle after : Option (List ℕ)) (old new : Progress) (events : List Event) (b h : Header) → AfterBegin start first before old events b → ReadsHead before middle (Some b.serial_number) old.at h
+    → h.event_id ≡ end_id → FinishesReading middle after old new h → HasRead start first after new events
+last_read start first before middle after old new events b h a head is_end f =
+    subst (λ p. HasRead start first after p events) (sym f.progress) (finished start first before old events a.read a.going b a.begin middle h head is_end f.dump f.length after f.consumed f.ended)
 
-pub last_stopped : (first before middle after : Option (List ℕ)) (at_hand : List ℕ) (old new : Progress) (events : List Event) (b h : Header) (f : MidFault) → AfterBegin first before old events b → ReadsHead before middle (Some b.serial_number) old.at h
-    → h.event_id ≡ end_id → FinishStops middle after at_hand old new h f → HasRead first after (record new { fault = Some f }) events
-last_stopped first before middle after at_hand old new events b h f a head is_end (inl cut) =
-    subst (λ (p : Progress). HasRead first after (record p { fault = Some f }) events) (sym cut.progress) (data_stopped first before old events a.read a.going b a.begin middle h head after at_hand f cut.fault_is cut.fails)
-last_stopped first before middle after at_hand old new events b h f a head is_end (inr more) =
-    subst (λ (p : Progress). HasRead first after (record p { fault = Some f }) events) (sym more.progress)
-    (finish_stopped first before old events a.read a.going b a.begin middle h head is_end more.dump more.length more.middle after at_hand f more.consumed more.fault_is more.fails)
+pub last_stopped : (start : ℕ) (first before middle after : Option (List ℕ)) (at_hand : List ℕ) (old new : Progress) (events : List Event) (b h : Header) (f : MidFault) → AfterBegin start first before old events b → ReadsHead before middle (Some b.serial_number) old.at h
+    → h.event_id ≡ end_id → FinishStops middle after at_hand old new h f → HasRead start first after (record new { fault = Some f }) events
+last_stopped start first before middle after at_hand old new events b h f a head is_end (inl cut) =
+    subst (λ (p : Progress). HasRead start first after (record p { fault = Some f }) events) (sym cut.progress) (data_stopped start first before old events a.read a.going b a.begin middle h head after at_hand f cut.fault_is cut.fails)
+last_stopped start first before middle after at_hand old new events b h f a head is_end (inr more) =
+    subst (λ (p : Progress). HasRead start first after (record p { fault = Some f }) events) (sym more.progress)
+    (finish_stopped start first before old events a.read a.going b a.begin middle h head is_end more.dump more.length more.middle after at_hand f more.consumed more.fault_is more.fails)

@@ -114,8 +114,8 @@ event_no_fault : (run at : ℕ) (e : Event) → IsFileEvent e → at + length (e
 event_no_fault run at e fine within =
     rw (ne_eqb e.id begin_id fine.begins_none, ne_eqb e.id end_id fine.ends_none) (no_size_fault at event_limit (fields_of e) fine.small (omega (arith, within, length-encoding e)))
 
-pub begin_no_fault : (run time : ℕ) (dump : List ℕ) → length dump ≤ record_limit → header_fault None 0 (fields_of (begin_record run time dump)) ≡ None
-begin_no_fault run time dump small = no_size_fault 0 record_limit (fields_of (begin_record run time dump)) small (omega (arith, small))
+pub begin_no_fault : (at run time : ℕ) (dump : List ℕ) → length dump ≤ record_limit → at + 16 + length dump ≤ 2 ^ 62 → header_fault None at (fields_of (begin_record run time dump)) ≡ None
+begin_no_fault at run time dump small within = no_size_fault at record_limit (fields_of (begin_record run time dump)) small within
 
 pub end_no_fault : (run at time : ℕ) (dump : List ℕ) → length dump ≤ record_limit → at + 16 + length dump ≤ 2 ^ 62 → header_fault (Some run) at (fields_of (end_record run time dump)) ≡ None
 end_no_fault run at time dump small within = rw (eq-eqb run run refl) (no_size_fault at record_limit (fields_of (end_record run time dump)) small within)

@@ -38,15 +38,19 @@ pub record MayTake (HasTaken : List Event → Type 0) (event : Event) : Type 0 w
   pub taken : HasTaken events
   pub within : length (all_encoded (events ++ event ∷ [])) ≤ 2 ^ 62
 
--- A taker has just the events that were read since the source told some bytes.
+-- A taker has the events of the files before, which have no more bytes than these files, and behind them just the events
+-- that were read since the source told some bytes.
 pub record TakesSoFar (HasTaken : List Event → Type 0) (now : Option (List ℕ)) (progress : Progress) : Type 0 where
+  pub start : ℕ
   pub first : Option (List ℕ)
+  pub before : List Event
+  pub few : length (all_encoded before) ≤ start
   pub events : List Event
-  pub read : HasRead first now progress events
-  pub taken : HasTaken events
+  pub read : HasRead start first now progress events
+  pub taken : HasTaken (before ++ events)
 
 -- One event more was read and taken; or none at the end and at a fault.
-pub record TakesNext (HasTaken : List Event → Type 0) (first now : Option (List ℕ)) (progress : Progress) (events : List Event) (result : Result (Option (Unit {0})) MidFault) : Type 0 where
+pub record TakesNext (HasTaken : List Event → Type 0) (start : ℕ) (first now : Option (List ℕ)) (progress : Progress) (before events : List Event) (result : Result (Option (Unit {0})) MidFault) : Type 0 where
   pub event : Event
-  pub read : HasRead first now progress (events_after events result event)
-  pub taken : HasTaken (events_after events result event)
+  pub read : HasRead start first now progress (events_after events result event)
+  pub taken : HasTaken (events_after (before ++ events) result event)

@@ -1,5 +1,5 @@
 -- The faults of bytes that are no run file, in their order.
-use Rattle.std.specs.Prelude.{ℕ, ◌+◌, ◌^◌, ◌==◌, nat_lt, ◌||◌, if◌then◌else◌, not, List, length, take, drop, Option, Some, None, ⊤}
+use Rattle.std.specs.Prelude.{ℕ, ◌+◌, ◌^◌, ◌==◌, nat_lt, ◌||◌, if◌then◌else◌, not, List, length, take, drop, Option, Some, None, is_some, ⊤}
 use Rattle.std.specs.Int.{from_le_bytes, w16, w32}
 use Rattle.event.specs.Events.{begin_id, end_id, event_limit, record_limit}
 use Rattle.event.specs.RunFile.{record_mask}
@@ -50,6 +50,11 @@ fault_at run at rest =
     else (if nat_lt (length rest) 16 then Some (Truncated (at + length rest))
     else or_else (header_fault run at (header_at rest))
     (if nat_lt (length rest) (16 + (header_at rest).data_size) then Some (Truncated (at + length rest)) else None))
+
+-- the number of the run of a file that begins at this place, where its begin record stands there whole and nothing is wrong
+-- with it
+abbrev pub run_at : (start : ℕ) → List ℕ → Option ℕ
+run_at start bytes = if is_some (fault_at None start bytes) then None else Some (header_at bytes).serial_number
 
 -- A fact of the source, at its fault.
 abbrev pub OfSource : MidFault → Type 0 → Type 0

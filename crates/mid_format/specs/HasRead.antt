@@ -1,5 +1,6 @@
--- What a reader of a run file has given so far, and what that says of the bytes of its source.
-use Rattle.std.specs.Prelude.{◌≡◌, ℕ, ◌^◌, ◌<◌, ◌≤◌, ◌⊎◌, List, [], ◌∷◌, ◌++◌, length, All, Option, Some, None, IfSome}
+-- What a reader of a run file has given so far, and what that says of the bytes of its source. Places count from `start` on:
+-- how many bytes the files of the run have that were read before it.
+use Rattle.std.specs.Prelude.{◌≡◌, ℕ, ◌+◌, ◌^◌, ◌<◌, ◌≤◌, ◌⊎◌, List, [], ◌∷◌, ◌++◌, length, All, Option, Some, None, IfSome}
 use Rattle.std.specs.Io.KnownBytes.{Consumes, IsAtEnd}
 use Rattle.daq_types.specs.declared.events.Event.{Event}
 use Rattle.event.specs.Events.{encoding, record_limit}
@@ -33,7 +34,7 @@ pub record IsEndedFile (bytes : List ℕ) (run time0 : ℕ) (dump0 : List ℕ) (
   pub storable : IsStorable (end_record run time1 dump1)
 
 -- The bytes are wrong behind the begin record and some events.
-pub record IsFaultBehind (text : List ℕ) (fault : MidFault) : Type 0 where
+pub record IsFaultBehind (start : ℕ) (text : List ℕ) (fault : MidFault) : Type 0 where
   pub front : List ℕ
   pub rest : List ℕ
   pub text_is : text ≡ front ++ rest
@@ -42,11 +43,11 @@ pub record IsFaultBehind (text : List ℕ) (fault : MidFault) : Type 0 where
   pub dump : List ℕ
   pub events : List Event
   pub begun : IsBegunFile front run time dump events
-  pub counted : length front ≤ 2 ^ 62
-  pub fault_is : fault_at (Some run) (length front) rest ≡ Some fault
+  pub counted : start + length front ≤ 2 ^ 62
+  pub fault_is : fault_at (Some run) (start + length front) rest ≡ Some fault
 
 -- A byte follows the end record.
-pub record IsFaultAfter (text : List ℕ) (fault : MidFault) : Type 0 where
+pub record IsFaultAfter (start : ℕ) (text : List ℕ) (fault : MidFault) : Type 0 where
   pub front : List ℕ
   pub rest : List ℕ
   pub text_is : text ≡ front ++ rest
@@ -57,14 +58,14 @@ pub record IsFaultAfter (text : List ℕ) (fault : MidFault) : Type 0 where
   pub time1 : ℕ
   pub dump1 : List ℕ
   pub ended : IsEndedFile front run time0 dump0 events time1 dump1
-  pub counted : length front ≤ 2 ^ 62
+  pub counted : start + length front ≤ 2 ^ 62
   pub more : 0 < length rest
-  pub fault_is : fault ≡ AfterEnd (length front)
+  pub fault_is : fault ≡ AfterEnd (start + length front)
 
 -- The first fault of bytes that are no run file: of the first header, of a later one behind the begin record and some
 -- events, or of what follows the end record.
-abbrev pub IsMidFault : List ℕ → MidFault → Type 0
-IsMidFault text fault = (fault_at None 0 text ≡ Some fault) ⊎ (IsFaultBehind text fault ⊎ IsFaultAfter text fault)
+abbrev pub IsMidFault : (start : ℕ) (text : List ℕ) → MidFault → Type 0
+IsMidFault start text fault = (fault_at None start text ≡ Some fault) ⊎ (IsFaultBehind start text fault ⊎ IsFaultAfter start text fault)
 
 -- The bytes of a begin record with this header and of these events.
 pub record BeginsWith (done : List ℕ) (begin : Header) (events : List Event) : Type 0 where
@@ -95,10 +96,10 @@ IsFaultAt None None at rest fault = fault_at None at rest ≡ Some fault
 IsFaultAt None (Some begin) at rest fault = fault_at (Some begin.serial_number) at rest ≡ Some fault
 
 -- A fault stands right behind what was read of the bytes.
-pub record StandsBehind (text done : List ℕ) (last begin : Option Header) (fault : MidFault) : Type 0 where
+pub record StandsBehind (start : ℕ) (text done : List ℕ) (last begin : Option Header) (fault : MidFault) : Type 0 where
   pub rest : List ℕ
   pub text_is : text ≡ done ++ rest
-  pub stands : IsFaultAt last begin (length done) rest fault
+  pub stands : IsFaultAt last begin (start + length done) rest fault
 
 -- No record lies whole behind what was read, and behind the end record no byte.
 abbrev pub LacksNext : (last : Option Header) → List ℕ → Type 0
@@ -112,28 +113,32 @@ pub record FailsAfter (first now : Option (List ℕ)) (done : List ℕ) (last : 
   pub consumed : Consumes first now (done ++ part)
 
 -- Where the source first told its bytes: these events were read of it, and it has `now` left.
-pub record HasRead (first now : Option (List ℕ)) (progress : Progress) (events : List Event) : Type 0 where
+pub record HasRead (start : ℕ) (first now : Option (List ℕ)) (progress : Progress) (events : List Event) : Type 0 where
   pub done : List ℕ
   -- what was read is the front of the bytes
   pub begins : IfSome first (λ text. (rest : List ℕ) × (text ≡ done ++ rest))
   -- and has been taken from the source, where it went no further
   pub consumed : progress.fault ≡ None → Consumes first now done
-  pub place : progress.at ≡ length done
+  pub place : progress.at ≡ start + length done
   pub within : progress.at ≤ 2 ^ 62
   -- it is the records and the events
   pub is_done : IsReadSoFar done progress.begin progress.last events
   -- behind the end record nothing is left, or there is a fault
   pub at_end : progress.fault ≡ None → (end : Header) → progress.last ≡ Some end → IsAtEnd now
   -- a fault is the first one of the bytes, or the source's
-  pub fault_is : (fault : MidFault) → progress.fault ≡ Some fault → OfBytes fault (IfSome first (λ text. IsMidFault text fault))
+  pub fault_is : (fault : MidFault) → progress.fault ≡ Some fault → OfBytes fault (IfSome first (λ text. IsMidFault start text fault))
   -- and stands right behind what was read
-  pub here : (fault : MidFault) → progress.fault ≡ Some fault → OfBytes fault (IfSome first (λ text. StandsBehind text done progress.last progress.begin fault))
+  pub here : (fault : MidFault) → progress.fault ≡ Some fault → OfBytes fault (IfSome first (λ text. StandsBehind start text done progress.last progress.begin fault))
   -- where the source failed, all that it gave was read, but for a part of a record
   pub unread : progress.fault ≡ Some ReadFault → FailsAfter first now done progress.last
 
--- nothing was read
+-- nothing was read of a file that begins at this place
+abbrev pub begins_at : (start : ℕ) → Progress
+begins_at start = record { begin = None; last = None; at = start; fault = None }
+
+-- nothing was read of a run's first file, or of its only one
 abbrev pub nothing_read : Progress
-nothing_read = record { begin = None; last = None; at = 0; fault = None }
+nothing_read = begins_at 0
 
 -- the events after an answer: one more, or the same
 abbrev pub and_given : List Event → Option (Unit {0}) → Event → List Event

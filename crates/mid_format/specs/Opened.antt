@@ -19,7 +19,7 @@ events_after events (Err fault) event = events
 
 -- The bytes are read on: whatever was read before, one event more, or no more at the end and at a fault.
 abbrev pub ReadsOn : Option (List ℕ) → Option (List ℕ) → Progress → Progress → Result (Option (Unit {0})) MidFault → Event → Type 0
-ReadsOn before after old new result event = (first : Option (List ℕ)) (events : List Event) → HasRead first before old events → HasRead first after new (events_after events result event)
+ReadsOn before after old new result event = (start : ℕ) (first : Option (List ℕ)) (events : List Event) → HasRead start first before old events → HasRead start first after new (events_after events result event)
 
 -- the fault of an answer
 abbrev pub fault_of : {T : Type 0} → Result T MidFault → Option MidFault

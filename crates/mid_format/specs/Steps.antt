@@ -70,8 +70,8 @@ FinishStops before after at_hand old new h fault = FinishCut before after at_han
 
 -- An answer, and what was read: whatever was read before, one event more or, at the end, no more.
 abbrev pub StepReads : Option (List ℕ) → Option (List ℕ) → Progress → Progress → Option (Unit {0}) → Event → Type 0
-StepReads before after old new given event = (first : Option (List ℕ)) (events : List Event) → HasRead first before old events → HasRead first after new (and_given events given event)
+StepReads before after old new given event = (start : ℕ) (first : Option (List ℕ)) (events : List Event) → HasRead start first before old events → HasRead start first after new (and_given events given event)
 
 -- A fault, and what was read: whatever was read before, and no more.
 abbrev pub Stops : Option (List ℕ) → Option (List ℕ) → Progress → Progress → MidFault → Type 0
-Stops before after old new fault = (first : Option (List ℕ)) (events : List Event) → HasRead first before old events → HasRead first after (record new { fault = Some fault }) events
+Stops before after old new fault = (start : ℕ) (first : Option (List ℕ)) (events : List Event) → HasRead start first before old events → HasRead start first after (record new { fault = Some fault }) events

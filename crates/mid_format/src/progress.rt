@@ -8,7 +8,7 @@ pub struct Progress {
     pub begin: Option<Header>,
     /// The header of the end record, where that was read.
     pub last: Option<Header>,
-    /// The bytes of the records and events that were read.
+    /// The bytes of the records and events that were read, with those of the files before.
     pub at: u64,
     /// The fault that was met.
     pub fault: Option<MidFault>,

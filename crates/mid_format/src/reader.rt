@@ -1,9 +1,9 @@
-ghost use Rattle.std.specs.Prelude.{◌≡◌, ◌≤◌, ◌<◌, ◌^◌, ◌↔◌, ℕ, List, [], Option, Some, None, Ok, Err, IfSome, IfOk, IfErr, IsSome, IsNone, take, drop};
+ghost use Rattle.std.specs.Prelude.{◌≡◌, ◌≤◌, ◌<◌, ◌^◌, ◌↔◌, ◌++◌, ℕ, List, [], Option, Some, None, Ok, Err, IfSome, IfOk, IfErr, IsSome, IsNone, take, drop};
 ghost use Rattle.event.specs.Events.{event_limit};
 ghost use Rattle.daq_types.specs.declared.events.Event.{Event};
 ghost use Rattle.mid_format.specs.AtHand.{StandsWhole, TakesNext, TakesSoFar, event_at_front};
 ghost use Rattle.mid_format.specs.Faults.{OfSource};
-ghost use Rattle.mid_format.specs.HasRead.{HasRead, nothing_read};
+ghost use Rattle.mid_format.specs.HasRead.{HasRead, begins_at, nothing_read};
 ghost use Rattle.mid_format.specs.Opened.{ReadsOn, CountsNext, fault_of, run_number_of};
 
 use crate::blocks::Ahead;
@@ -40,12 +40,21 @@ impl<S> MidReader<S> {
     pub fn new(source: S) -> MidReader<S>
         ensures { result ≡ record { source = source; progress = nothing_read } }
     {
+        MidReader::behind(source, 0)
+    }
+
+    /// A reader of the source's bytes, which has read nothing. They stand behind so many bytes of other files of the run,
+    /// which count in each place and for the most bytes that there may be.
+    pub fn behind(source: S, start: u64) -> MidReader<S>
+        requires { start ≤ 2 ^ 62 }
+        ensures { result ≡ record { source = source; progress = begins_at start } }
+    {
         MidReader {
             source,
             progress: Progress {
                 begin: None,
                 last: None,
-                at: 0,
+                at: start,
                 fault: None,
             },
         }
@@ -79,7 +88,7 @@ impl<S> MidReader<S> {
         self.progress.begin
     }
 
-    /// How many bytes the records and events have that were read.
+    /// How many bytes the records and events have that were read, with those of the files before.
     pub fn place(&self) -> u64
         ensures { result ≡ self.now.progress.at }
     {
@@ -189,10 +198,10 @@ impl<S: Ahead> MidReader<S> {
             self.old.progress }
         requires room { event_limit ≤ room.old.room }
         // The taker has one event more, the one that was read, or no more at the end and at a fault.
-        ensures gives { (first : Option (List ℕ)) → (events : List Event)
-            → HasRead first (S.left self.old.source) self.old.progress events
-            → T.has_taken taker.old events → TakesNext (T.has_taken taker.new) first
-            (S.left self.new.source) self.new.progress events result }
+        ensures gives { (start : ℕ) → (first : Option (List ℕ)) → (before events : List Event)
+            → HasRead start first (S.left self.old.source) self.old.progress events
+            → T.has_taken taker.old (before ++ events) → TakesNext (T.has_taken taker.new) start
+            first (S.left self.new.source) self.new.progress before events result }
         ensures fault { self.new.progress.fault ≡ fault_of result }
         ensures end { IfOk result (λ given. IsNone given ↔ IsSome self.new.progress.last) }
         ensures begun { IsSome self.old.progress.begin → self.new.progress.begin
@@ -221,10 +230,10 @@ impl<S: Ahead> MidReader<S> {
         requires so_far { TakesSoFar (T.has_taken taker.old) (S.left self.old.source)
             self.old.progress }
         requires room { event_limit ≤ room.old.room }
-        ensures gives { (first : Option (List ℕ)) → (events : List Event)
-            → HasRead first (S.left self.old.source) self.old.progress events
-            → T.has_taken taker.old events → TakesNext (T.has_taken taker.new) first
-            (S.left self.new.source) self.new.progress events result }
+        ensures gives { (start : ℕ) → (first : Option (List ℕ)) → (before events : List Event)
+            → HasRead start first (S.left self.old.source) self.old.progress events
+            → T.has_taken taker.old (before ++ events) → TakesNext (T.has_taken taker.new) start
+            first (S.left self.new.source) self.new.progress before events result }
         ensures fault { self.new.progress.fault ≡ fault_of result }
         ensures end { IfOk result (λ given. IsNone given ↔ IsSome self.new.progress.last) }
         ensures begun { IsSome self.old.progress.begin → self.new.progress.begin

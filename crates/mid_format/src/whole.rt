@@ -1,6 +1,6 @@
 //! Events that lie whole at hand.
 
-ghost use Rattle.std.specs.Prelude.{◌≡◌, ◌≤◌, ◌<◌, ◌^◌, ℕ, List, Option, Some, None, Ok, IfSome};
+ghost use Rattle.std.specs.Prelude.{◌≡◌, ◌≤◌, ◌<◌, ◌^◌, ◌++◌, ℕ, List, Option, Some, None, Ok, IfSome};
 ghost use Rattle.daq_types.specs.declared.events.Event.{Event};
 ghost use Rattle.mid_format.specs.AtHand.{StandsWhole, TakesNext, TakesSoFar, event_at_front};
 ghost use Rattle.mid_format.specs.HasRead.{HasRead};
@@ -61,10 +61,10 @@ pub fn give_whole<S: Ahead, T: EventTaker>(
 )
     requires so_far { TakesSoFar (T.has_taken taker.old) (S.left source.old) progress.old }
     requires whole { StandsWhole progress.old (S.at_hand source.old) header.now }
-    ensures gives { (first : Option (List ℕ)) → (events : List Event)
-        → HasRead first (S.left source.old) progress.old events → T.has_taken taker.old events
-        → TakesNext (T.has_taken taker.new) first (S.left source.new) progress.new events
-        (Ok (Some tt)) }
+    ensures gives { (start : ℕ) → (first : Option (List ℕ)) → (before events : List Event)
+        → HasRead start first (S.left source.old) progress.old events
+        → T.has_taken taker.old (before ++ events) → TakesNext (T.has_taken taker.new) start first
+        (S.left source.new) progress.new before events (Ok (Some tt)) }
     ensures place { progress.new.at ≤ 2 ^ 62 }
     ensures onward { progress.old.at < progress.new.at }
     ensures begun { progress.new.begin ≡ progress.old.begin }

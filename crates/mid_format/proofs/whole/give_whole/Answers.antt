@@ -11,8 +11,8 @@ take-requires-clause-room g c =
     let body : c.split_at-2.result.0.now ≡ take h.data_size (drop 16 (g.S.Source.at_hand c.args.source.now)) =
     ◌∙◌ {b = take h.data_size c.split_at.result.1.now} c.split_at-2.ensures.front (ap (λ (l : List ℕ). take h.data_size l) (c.split_at.ensures.back ∙ ap (λ (l : List ℕ). drop 16 l) c.peek.ensures)) in
     record {
-      events = so_far.events;
+      events = so_far.before ++ so_far.events;
       taken = so_far.taken;
-      within = subst (λ (b : List ℕ). length (all_encoded (so_far.events ++ event_of h b ∷ [])) ≤ 2 ^ 62) (sym body)
-          (may_take c.args.progress.now _ h c.requires.whole so_far.first _ so_far.events so_far.read);
+      within = subst (λ (b : List ℕ). length (all_encoded ((so_far.before ++ so_far.events) ++ event_of h b ∷ [])) ≤ 2 ^ 62) (sym body)
+          (may_take c.args.progress.now _ h c.requires.whole so_far.start so_far.first _ so_far.before so_far.events so_far.few so_far.read);
     }

@@ -9,7 +9,7 @@ pub invariant_of-self-in-Err : goal.invariant_of-self-in-Err
 invariant_of-self-in-Err g c = c.in-Err.ensures.place
 
 pub returns-in-Some-clause-reads : goal.returns-in-Some-clause-reads
-returns-in-Some-clause-reads g c = λ first events r. r
+returns-in-Some-clause-reads g c = λ start first events r. r
 
 pub returns-in-Some-clause-at_hand : goal.returns-in-Some-clause-at_hand
 returns-in-Some-clause-at_hand g c = rw (← c.self.view_is) (λ none. let clash : Some c.in-Some.fault ≡ None = sym c.in-Some.is ∙ none in absurd cc)
@@ -18,7 +18,7 @@ pub returns-in-Some-clause-counted : goal.returns-in-Some-clause-counted
 returns-in-Some-clause-counted g c = rw (← c.self.view_is, c.in-Some.is) refl
 
 pub returns-then-is_some-clause-reads : goal.returns-then-is_some-clause-reads
-returns-then-is_some-clause-reads g c = λ first events r. r
+returns-then-is_some-clause-reads g c = λ start first events r. r
 
 pub returns-then-is_some-clause-at_hand : goal.returns-then-is_some-clause-at_hand
 returns-then-is_some-clause-at_hand g c = λ none. tt
