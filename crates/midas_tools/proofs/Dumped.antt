@@ -16,7 +16,7 @@ use Rattle.midas_tools.specs.Dumps.{DumpsTo, IsDump, IsPart, ListsRead, ListsWho
 use Rattle.midas_tools.specs.Findings.{Finds, WritesAll, WritesPart, IsFileOpened, RefusesFile, Printed, SaysWhy, ClosesWell, ClosedAs}
 use Rattle.midas_tools.specs.declared.opening.Refused.{Refused}
 use Rattle.midas_tools.specs.declared.opening.Refused.TheVariants.{NameCompressed, NameMissing, OpenFailed}
-use Rattle.midas_tools.specs.declared.ends.InputFault.TheVariants.{Mid, Compressed, Missing, ScriptTooLong}
+use Rattle.midas_tools.specs.declared.ends.InputFault.TheVariants.{Mid, Compressed, Missing, ScriptTooLong, OtherRun}
 use Rattle.midas_tools.specs.declared.ends.ToolEnd.{ToolEnd}
 use Rattle.midas_tools.specs.declared.ends.ToolEnd.TheVariants.{Done, Input, FileFault, SinkFault, NoMemory}
 use Rattle.midas_tools.proofs.Ending.{file_at, there}
@@ -145,12 +145,12 @@ module _ (seen : Seen) (name : List ℕ) (read_old read_new : ℕ) (told_old tol
     finds_of None text ne d = (Done, (o.plain, λ told. there seen opened name number (λ bytes. IsDump bytes None text) o d told))
     finds_of (Some f) text ne d = (Input (Mid f), (o.plain, (λ is_read. ne (ap Some is_read)), λ told. there seen opened name number (λ bytes. IsDump bytes (Some f) text) o d told))
 
-    part_written : PrintsDump (told_left opened number) told_old told_new → WritesPart IsDump seen name told_old told_new
+    part_written : PrintsDump (told_left opened number) told_old told_new → WritesPart (Finds IsDump seen name) told_old told_new
     part_written p =
         let f : (found : ToolEnd) × Finds IsDump seen name p.text found = finds_of p.fault p.text p.sound p.dump in
         record { found = f.0; text = p.text; finds = f.1; written = p.written }
 
-    closed_all : (files_old files_new : ℕ) (end result : ToolEnd) (text : List ℕ) → Finds IsDump seen name text end → Appends told_old told_new text → (WritesAll IsDump seen name told_old told_new end → WritesOn seen name read_old read_new told_old told_new end)
+    closed_all : (files_old files_new : ℕ) (end result : ToolEnd) (text : List ℕ) → Finds IsDump seen name text end → Appends told_old told_new text → (WritesAll (Finds IsDump seen name) told_old told_new end → WritesOn seen name read_old read_new told_old told_new end)
         → ClosesWell files_old files_new end result → WritesOn seen name read_old read_new told_old told_new result
     closed_all files_old files_new end result text finds written all (inl well) = subst (λ (e : ToolEnd). Writes e) (sym well.0) (all (record { text = text; finds = finds; written = written }))
     closed_all files_old files_new end result text finds written all (inr failed) = subst (λ (e : ToolEnd). Writes e) (sym failed.0) (o.plain, inr (end, record { text = text; finds = finds; written = written }))
@@ -164,6 +164,7 @@ module _ (seen : Seen) (name : List ℕ) (read_old read_new : ℕ) (told_old tol
     dump_closed after files_old files_new (Input Compressed) result d front c = absurd d
     dump_closed after files_old files_new (Input Missing) result d front c = absurd d
     dump_closed after files_old files_new (Input ScriptTooLong) result d front c = absurd d
+    dump_closed after files_old files_new (Input (OtherRun file run)) result d front c = absurd d
     dump_closed after files_old files_new FileFault result d front c = subst (λ (e : ToolEnd). Writes e) (sym c.0) (o.plain, inl (read_written after d front))
     dump_closed after files_old files_new SinkFault result (inl d) front c = subst (λ (e : ToolEnd). Writes e) (sym c.0) (inr (o.plain, some_written d))
     dump_closed after files_old files_new SinkFault result (inr d) front c = subst (λ (e : ToolEnd). Writes e) (sym c.0) (inl (part_written d))

@@ -1,5 +1,5 @@
 -- What `dump` has printed, step by step.
-use Rattle.std.proofs.Common.{◌≡◌, ◌≢◌, ◌∙◌, ℕ, List, [], ◌∷◌, ◌++◌, length, Option, Some, None, Result, Ok, Err, IfSome, IfOk, Bool, true, false, ◌⊎◌, inl, inr, refl, ap, sym, subst, arith, append_assoc}
+use Rattle.std.proofs.Common.{◌≡◌, ◌≢◌, ◌∙◌, ◌+◌, ℕ, List, [], ◌∷◌, ◌++◌, length, Option, Some, None, Result, Ok, Err, IfSome, IfOk, Bool, true, false, ◌⊎◌, inl, inr, refl, ap, sym, subst, arith, append_assoc}
 use Rattle.std.specs.Prelude.{is_some, IsSome, IsNone, ◌↔◌}
 use Rattle.std.proofs.lemmas.List.{append-nil}
 use Rattle.std.proofs.lemmas.List.Elements.{All-nil}
@@ -15,7 +15,7 @@ use Rattle.event.specs.Headers.{event_of, fields_of}
 use Rattle.event.specs.declared.head.Header.{Header}
 use Rattle.mid_format.specs.AtHand.{StandsWhole, event_at_front}
 use Rattle.mid_format.specs.Faults.{OfBytes, OfSource}
-use Rattle.mid_format.specs.HasRead.{IsStorable, IsBegunFile, IsReadSoFar, StandsBehind, HasRead, nothing_read}
+use Rattle.mid_format.specs.HasRead.{IsStorable, IsBegunFile, IsFaultAt, IsReadSoFar, StandsBehind, HasRead, nothing_read}
 use Rattle.mid_format.specs.Parts.{CountedBy, CountsReads}
 use Rattle.mid_format.specs.Opened.{ReadsOn, events_after, CountsNext}
 use Rattle.mid_format.proofs.ReadLaws.{has_read_none}
@@ -29,8 +29,8 @@ use Rattle.midas_tools.specs.Findings.{SinkByEnd}
 use Rattle.midas_tools.specs.Printing.{PrintsSoFar, PassesText}
 use Rattle.midas_tools.proofs.Printing.{PrintsSoFar-none, PrintsSoFar-more, PrintsSoFar-all, PrintsSoFar-fails, none_passes, text_passes, text_fails}
 use Rattle.midas_tools.specs.Texts.{bad_line}
-use Rattle.midas_tools.proofs.Reading.{some_of}
-use Rattle.midas_tools.specs.declared.ends.InputFault.TheVariants.{Mid, Compressed, Missing, ScriptTooLong}
+use Rattle.midas_tools.proofs.Summing.{some_of}
+use Rattle.midas_tools.specs.declared.ends.InputFault.TheVariants.{Mid, Compressed, Missing, ScriptTooLong, OtherRun}
 use Rattle.midas_tools.specs.declared.ends.ToolEnd.{ToolEnd}
 use Rattle.midas_tools.specs.declared.ends.ToolEnd.TheVariants.{Done, Input, FileFault, SinkFault, NoMemory}
 
@@ -141,7 +141,7 @@ dump_good bytes now p text end l sound last_is = record {
 dump_fault : (bytes : List ℕ) (now : Option (List ℕ)) (p : Progress) (text : List ℕ) (f : MidFault) → Listing (Some bytes) now p text → p.fault ≡ Some f → f ≢ ReadFault
     → IsDump bytes (Some f) (ended_text text p.last (Some f))
 dump_fault bytes now p text f l is_fault ne =
-    let here : StandsBehind bytes l.read.done p.last p.begin f = of_bytes_is f (StandsBehind bytes l.read.done p.last p.begin f) ne (l.read.here f is_fault) in
+    let here : StandsBehind 0 bytes l.read.done p.last p.begin f = of_bytes_is f (StandsBehind 0 bytes l.read.done p.last p.begin f) ne (l.read.here f is_fault) in
     record {
       begin = p.begin;
       last = p.last;
@@ -157,7 +157,7 @@ dump_fault bytes now p text f l is_fault ne =
         text_is = ap (λ (t : List ℕ). t ++ end_lines p.last) l.text_is;
       };
       counted = omega (arith, l.read.place, l.read.within);
-      ends = here.stands;
+      ends = subst (λ (at : ℕ). IsFaultAt p.last p.begin at here.rest f) (let e : 0 + length l.read.done ≡ length l.read.done = omega arith in e) here.stands;
       text_is = refl;
     }
 
@@ -180,7 +180,7 @@ printing_none first told p page e blank = record {
   text = [];
   listing = record {
     events = [];
-    read = subst (λ (q : Progress). HasRead first first q []) (sym e) (has_read_none first);
+    read = subst (λ (q : Progress). HasRead 0 first first q []) (sym e) (has_read_none 0 first (omega arith));
     lines = [];
     lines_are = refl;
     text_is = ap (λ (q : Progress). begin_lines q.begin ++ []) (sym e);
@@ -209,7 +209,7 @@ begun_text done (Some b) last now events lines d going l kept = append-nil (begi
 pub record Stepped (first after : Option (List ℕ)) (new : Progress) (told_first told_now : Option (List ℕ)) (page : List ℕ) (given : Result (Option (Unit {0})) MidFault) (event : Event) : Type 0 where
   pub text : List ℕ
   pub events : List Event
-  pub read : HasRead first after new (events_after events given event)
+  pub read : HasRead 0 first after new (events_after events given event)
   pub lines : List ℕ
   pub lines_are : AreLinesOf events lines
   pub text_is : text ≡ begin_lines new.begin ++ lines
@@ -221,7 +221,7 @@ pub stepped : (first before after : Option (List ℕ)) (old new : Progress) (tol
 stepped first before after old new told_first told_now told_new page page1 begun given event done p reads is_begun kept passes = record {
   text = p.text ++ new_begin begun new.begin;
   events = p.listing.events;
-  read = reads first p.listing.events p.listing.read;
+  read = reads 0 first p.listing.events p.listing.read;
   lines = p.listing.lines;
   lines_are = p.listing.lines_are;
   text_is = ap (λ (t : List ℕ). t ++ new_begin begun new.begin) p.listing.text_is ∙ ap (λ (b : Bool). (begin_lines old.begin ++ p.listing.lines) ++ new_begin b new.begin) is_begun
@@ -275,13 +275,13 @@ begin_part bytes done rest (Some b) (Some end) events is d =
       };
     }
 
-read_begin : (first now : Option (List ℕ)) (p : Progress) (events : List Event) → HasRead first now p events → IfSome first (λ bytes. IsPart bytes (begin_lines p.begin))
+read_begin : (first now : Option (List ℕ)) (p : Progress) (events : List Event) → HasRead 0 first now p events → IfSome first (λ bytes. IsPart bytes (begin_lines p.begin))
 read_begin None now p events h = tt
 read_begin (Some bytes) now p events h = begin_part bytes h.done h.begins.0 p.begin p.last events h.begins.1 h.is_done
 
 -- the text so far with the line of the begin record is whole lines: the record was read before, or it is the first line
 with_begin : (first before after : Option (List ℕ)) (old new : Progress) (begun : Bool) (text : List ℕ) (b : Option Header) (events : List Event) → Listing first before old text → old.begin ≡ b → old.last ≡ None → begun ≡ is_some b
-    → HasRead first after new events → IfSome first (λ bytes. IsPart bytes (text ++ new_begin begun new.begin))
+    → HasRead 0 first after new events → IfSome first (λ bytes. IsPart bytes (text ++ new_begin begun new.begin))
 with_begin first before after old new begun text None events l fresh going is_begun h =
     let none : l.events ≡ [] = no_events l.read.done old.last l.events (subst (λ (o : Option Header). IsReadSoFar l.read.done o old.last l.events) fresh l.read.is_done) going in
     let empty : text ≡ [] = l.text_is ∙ ap (λ (o : Option Header). begin_lines o ++ l.lines) fresh ∙ no_lines l.events l.lines none l.lines_are in
@@ -296,7 +296,7 @@ pub begin_cut : (first before after : Option (List ℕ)) (old new : Progress) (t
     → Printing first before old told_first told_now page → ReadsOn before after old new given event → begun ≡ is_some old.begin → PassesText told_now told_new page page1 (new_begin begun new.begin) (Err failed) → PrintsSome first told_first told_new
 begin_cut first before after old new told_first told_now told_new page page1 begun given event failed p reads is_begun passes = record {
   text = p.text ++ new_begin begun new.begin;
-  part = with_begin first before after old new begun p.text old.begin (events_after p.listing.events given event) p.listing refl p.going is_begun (reads first p.listing.events p.listing.read);
+  part = with_begin first before after old new begun p.text old.begin (events_after p.listing.events given event) p.listing refl p.going is_begun (reads 0 first p.listing.events p.listing.read);
   written = text_fails told_first told_now told_new page page1 p.text (new_begin begun new.begin) failed p.prints passes;
 }
 
@@ -508,6 +508,7 @@ dumps_source source left at_hand told_old told_new (Input (Mid f)) d h = d
 dumps_source source left at_hand told_old told_new (Input Compressed) d h = d
 dumps_source source left at_hand told_old told_new (Input Missing) d h = d
 dumps_source source left at_hand told_old told_new (Input ScriptTooLong) d h = d
+dumps_source source left at_hand told_old told_new (Input (OtherRun file run)) d h = d
 dumps_source source left at_hand told_old told_new FileFault d h = subst (λ (n : Option (List ℕ)). PrintsRead source n told_old told_new) (no_hand left left at_hand h) d
 dumps_source source left at_hand told_old told_new SinkFault d h = d
 dumps_source source left at_hand told_old told_new NoMemory d h = d

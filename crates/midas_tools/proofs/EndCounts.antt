@@ -4,10 +4,10 @@ use Rattle.daq_io.specs.Counts.{Rose, RoseBy}
 use Rattle.daq_io.specs.Seen.{Seen}
 use Rattle.mid_format.specs.declared.faults.MidFault.{MidFault}
 use Rattle.midas_tools.specs.Dumps.{DumpsTo, ReadCounts}
-use Rattle.midas_tools.specs.Findings.{ReadsTo, SourceByEnd, RefusesFile, SaysWhy, Printed, PrintsClosed, FinishesFile, ClosesWell, ClosedAs, SinkByEnd, FilesByEnd, ClashCounts}
+use Rattle.midas_tools.specs.Findings.{SourceByEnd, RefusesFile, SaysWhy, Printed, ClosesWell, ClosedAs, SinkByEnd, FilesByEnd, ClashCounts}
 use Rattle.midas_tools.specs.declared.opening.Refused.{Refused}
 use Rattle.midas_tools.specs.declared.opening.Refused.TheVariants.{NameCompressed, NameMissing, OpenFailed}
-use Rattle.midas_tools.specs.declared.ends.InputFault.TheVariants.{Mid, Compressed, Missing, ScriptTooLong}
+use Rattle.midas_tools.specs.declared.ends.InputFault.TheVariants.{Mid, Compressed, Missing, ScriptTooLong, OtherRun}
 use Rattle.midas_tools.specs.declared.ends.ToolEnd.{ToolEnd}
 use Rattle.midas_tools.specs.declared.ends.ToolEnd.TheVariants.{Done, Input, FileFault, SinkFault, NoMemory}
 
@@ -40,19 +40,6 @@ module _ (sink_old sink_new : ℕ) where
   refused_sink told_old told_new NameMissing result s = printed_sink _ told_old told_new (Input Missing) result (λ calm. calm) s
   refused_sink told_old told_new OpenFailed result s = by_sink FileFault result s.0 s.2
 
-  module _ (page : List ℕ) (told_old told_new : Option (List ℕ)) (files_old files_new : ℕ) where
-    finished_after : (end result : ToolEnd) → (sink_new ≡ sink_old → SinkByEnd end sink_old sink_new) → PrintsClosed page told_old told_new sink_old sink_new files_old files_new end result → SinkByEnd result sink_old sink_new
-    finished_after end result calm (inl printed) = printed_sink page told_old told_new end result calm printed.0
-    finished_after end result calm (inr failed) = by_sink FileFault result failed.0.0 failed.0.2
-
-    pub finished_sink : (Says : List ℕ → Option MidFault → List ℕ → Type 0) (source : Option (List ℕ)) (end result : ToolEnd) → ReadsTo Says source page end
-        → FinishesFile page told_old told_new sink_old sink_new files_old files_new end result → SinkByEnd result sink_old sink_new
-    finished_sink Says source Done result r f = finished_after Done result (λ calm. calm) f
-    finished_sink Says source (Input fault) result r f = finished_after (Input fault) result (λ calm. calm) f
-    finished_sink Says source FileFault result r f = by_sink FileFault result f.0.0 f.0.2
-    finished_sink Says source SinkFault result r f = absurd r
-    finished_sink Says source NoMemory result r f = by_sink NoMemory result f.0.0 f.0.2
-
   module _ (files_old files_new : ℕ) where
     closed_after : (end result : ToolEnd) → sink_new ≡ sink_old → SinkByEnd end sink_old sink_new → ClosesWell files_old files_new end result → SinkByEnd result sink_old sink_new
     closed_after end result calm counts (inl well) = by_sink end result well.0 counts
@@ -82,18 +69,6 @@ module _ (first new : ℕ) where
   refused_files seen name clashes_old clashes_new told_old told_new sink_old sink_new OpenFailed result r s = by_files FileFault result s.0 r.1
 
   module _ (old : ℕ) where
-    module _ (page : List ℕ) (told_old told_new : Option (List ℕ)) (sink_old sink_new : ℕ) where
-      finished_counts : (end result : ToolEnd) → old ≡ first → (new ≡ first → FilesByEnd end first new) → PrintsClosed page told_old told_new sink_old sink_new old new end result → FilesByEnd result first new
-      finished_counts end result same counts (inl printed) = printed_files page told_old told_new sink_old sink_new end result (printed.1 ∙ same) counts printed.0
-      finished_counts end result same counts (inr failed) = by_files FileFault result failed.0.0 (rose_from first old new same failed.1)
-
-      pub finished_files : (end result : ToolEnd) → SourceByEnd end first old → FinishesFile page told_old told_new sink_old sink_new old new end result → FilesByEnd result first new
-      finished_files Done result s f = finished_counts Done result s (λ same. same) f
-      finished_files (Input fault) result s f = finished_counts (Input fault) result s (λ same. same) f
-      finished_files FileFault result s f = by_files FileFault result f.0.0 (rose_later first old new s f.1)
-      finished_files SinkFault result s f = by_files SinkFault result f.0.0 (later_by_none first old new (stays_by_none first old s) f.1)
-      finished_files NoMemory result s f = by_files NoMemory result f.0.0 (subst (λ (n : ℕ). n ≤ new) s f.1)
-
     closed_counts : (end result : ToolEnd) → old ≡ first → (new ≡ first → FilesByEnd end first new) → ClosesWell old new end result → FilesByEnd result first new
     closed_counts end result same counts (inl well) = by_files end result well.0 (counts (well.1 ∙ same))
     closed_counts end result same counts (inr failed) = by_files FileFault result failed.0 (rose_from first old new same failed.1)
@@ -123,22 +98,6 @@ module _ (clashes_old clashes_new : ℕ) where
   refused_clashes seen name faults_old faults_new told_old told_new sink_old sink_new OpenFailed result r s = by_clashes FileFault result s.0 tt
 
   module _ (files_old files_new : ℕ) where
-    module _ (page : List ℕ) (told_old told_new : Option (List ℕ)) (sink_old sink_new : ℕ) where
-      finished_so : (end result : ToolEnd) → ClashCounts end clashes_old clashes_new → PrintsClosed page told_old told_new sink_old sink_new files_old files_new end result → ClashCounts result clashes_old clashes_new
-      finished_so end result counts (inl printed) = printed_clashes page told_old told_new sink_old sink_new end result counts printed.0
-      finished_so end result counts (inr failed) = by_clashes FileFault result failed.0.0 tt
-
-      pub finished_clashes : (Says : List ℕ → Option MidFault → List ℕ → Type 0) (source : Option (List ℕ)) (end result : ToolEnd) → ReadsTo Says source page end
-          → FinishesFile page told_old told_new sink_old sink_new files_old files_new end result → ClashCounts result clashes_old clashes_new
-      finished_clashes Says source Done result r f = finished_so Done result tt f
-      finished_clashes Says source (Input (Mid fault)) result r f = finished_so (Input (Mid fault)) result tt f
-      finished_clashes Says source (Input Compressed) result r f = absurd r
-      finished_clashes Says source (Input Missing) result r f = absurd r
-      finished_clashes Says source (Input ScriptTooLong) result r f = absurd r
-      finished_clashes Says source FileFault result r f = by_clashes FileFault result f.0.0 tt
-      finished_clashes Says source SinkFault result r f = absurd r
-      finished_clashes Says source NoMemory result r f = by_clashes NoMemory result f.0.0 tt
-
     closed_so : (end result : ToolEnd) → ClashCounts end clashes_old clashes_new → ClosesWell files_old files_new end result → ClashCounts result clashes_old clashes_new
     closed_so end result counts (inl well) = by_clashes end result well.0 counts
     closed_so end result counts (inr failed) = by_clashes FileFault result failed.0 tt
@@ -149,6 +108,7 @@ module _ (clashes_old clashes_new : ℕ) where
     closed_clashes source now told_old told_new (Input Compressed) result d c = absurd d
     closed_clashes source now told_old told_new (Input Missing) result d c = absurd d
     closed_clashes source now told_old told_new (Input ScriptTooLong) result d c = absurd d
+    closed_clashes source now told_old told_new (Input (OtherRun file run)) result d c = absurd d
     closed_clashes source now told_old told_new FileFault result d c = by_clashes FileFault result c.0 tt
     closed_clashes source now told_old told_new SinkFault result d c = by_clashes SinkFault result c.0 tt
     closed_clashes source now told_old told_new NoMemory result d c = absurd d

@@ -1,5 +1,9 @@
 mod Types
-mod Reading
+mod Summing
+mod Pieces
+mod Gathered
+mod Told
+mod OneFile
 mod Ending
 mod EndCounts
 mod Dumping

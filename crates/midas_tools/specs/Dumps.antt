@@ -17,10 +17,10 @@ use Rattle.mid_format.specs.declared.progress.Progress.{Progress}
 use Rattle.midas_tools.specs.Texts.{record_line, bad_line}
 use Rattle.midas_tools.specs.Areas.{AreLinesOf}
 use Rattle.midas_tools.specs.Printing.{PrintsSoFar}
-use Rattle.midas_tools.specs.Findings.{IsThere, WritesAll, WritesPart}
+use Rattle.midas_tools.specs.Findings.{Finds, IsThere, WritesAll, WritesPart}
 use Rattle.midas_tools.specs.declared.halts.Halt.{Halt}
 use Rattle.midas_tools.specs.declared.halts.Halt.TheVariants.{Bad, SinkFailed}
-use Rattle.midas_tools.specs.declared.ends.InputFault.TheVariants.{Mid, Compressed, Missing, ScriptTooLong}
+use Rattle.midas_tools.specs.declared.ends.InputFault.TheVariants.{Mid, Compressed, Missing, ScriptTooLong, OtherRun}
 use Rattle.midas_tools.specs.declared.ends.ToolEnd.{ToolEnd}
 use Rattle.midas_tools.specs.declared.ends.ToolEnd.TheVariants.{Done, Input, FileFault, SinkFault, NoMemory}
 
@@ -110,23 +110,23 @@ pub record WritesRead (seen : Seen) (name : List ℕ) (read_old read_new : ℕ) 
 
 -- All of the text of what was found was written.
 abbrev pub WritesFound : (seen : Seen) (name : List ℕ) (told_old told_new : Option (List ℕ)) → Type 0
-WritesFound seen name told_old told_new = (found : ToolEnd) × WritesAll IsDump seen name told_old told_new found
+WritesFound seen name told_old told_new = (found : ToolEnd) × WritesAll (Finds IsDump seen name) told_old told_new found
 
 -- What `dump` writes, which prints as it reads: its text. Where a call on the files fails, the lines of all that was read
 -- of the file before it, or all of its text; where the sink fails a part of the text, or of the lines of what was read; where
 -- memory is wanting nothing, and nothing was read.
 abbrev pub WritesOn : (seen : Seen) (name : List ℕ) (read_old read_new : ℕ) (told_old told_new : Option (List ℕ)) → ToolEnd → Type 0
-WritesOn seen name read_old read_new told_old told_new Done = WritesAll IsDump seen name told_old told_new Done
-WritesOn seen name read_old read_new told_old told_new (Input fault) = WritesAll IsDump seen name told_old told_new (Input fault)
+WritesOn seen name read_old read_new told_old told_new Done = WritesAll (Finds IsDump seen name) told_old told_new Done
+WritesOn seen name read_old read_new told_old told_new (Input fault) = WritesAll (Finds IsDump seen name) told_old told_new (Input fault)
 WritesOn seen name read_old read_new told_old told_new FileFault =
     (is_compressed name ≡ false) × (WritesRead seen name read_old read_new told_old told_new ⊎ WritesFound seen name told_old told_new)
-WritesOn seen name read_old read_new told_old told_new SinkFault = WritesPart IsDump seen name told_old told_new ⊎ ((is_compressed name ≡ false) × WritesSome seen name told_old told_new)
+WritesOn seen name read_old read_new told_old told_new SinkFault = WritesPart (Finds IsDump seen name) told_old told_new ⊎ ((is_compressed name ≡ false) × WritesSome seen name told_old told_new)
 WritesOn seen name read_old read_new told_old told_new NoMemory = (is_compressed name ≡ false) × Keeps told_old told_new × (read_new ≡ read_old)
 
 -- The text so far: the lines of the begin record and of the events that were read.
 pub record Listing (first now : Option (List ℕ)) (progress : Progress) (text : List ℕ) : Type 0 where
   pub events : List Event
-  pub read : HasRead first now progress events
+  pub read : HasRead 0 first now progress events
   pub lines : List ℕ
   pub lines_are : AreLinesOf events lines
   pub text_is : text ≡ begin_lines progress.begin ++ lines
@@ -234,6 +234,7 @@ DumpsTo source now told_old told_new (Input (Mid fault)) = (text : List ℕ) × 
 DumpsTo source now told_old told_new (Input Compressed) = ⊥
 DumpsTo source now told_old told_new (Input Missing) = ⊥
 DumpsTo source now told_old told_new (Input ScriptTooLong) = ⊥
+DumpsTo source now told_old told_new (Input (OtherRun file run)) = ⊥
 DumpsTo source now told_old told_new FileFault = PrintsRead source now told_old told_new
 DumpsTo source now told_old told_new SinkFault = PrintsSome source told_old told_new ⊎ PrintsDump source told_old told_new
 DumpsTo source now told_old told_new NoMemory = ⊥

@@ -12,7 +12,7 @@ use Rattle.mid_format.specs.declared.faults.MidFault.TheVariants.{ReadFault}
 use Rattle.midas_tools.specs.Texts.{bad_line}
 use Rattle.midas_tools.specs.declared.opening.Refused.{Refused}
 use Rattle.midas_tools.specs.declared.opening.Refused.TheVariants.{NameCompressed, NameMissing, OpenFailed}
-use Rattle.midas_tools.specs.declared.ends.InputFault.TheVariants.{Mid, Compressed, Missing, ScriptTooLong}
+use Rattle.midas_tools.specs.declared.ends.InputFault.TheVariants.{Mid, Compressed, Missing, ScriptTooLong, OtherRun}
 use Rattle.midas_tools.specs.declared.ends.ToolEnd.{ToolEnd}
 use Rattle.midas_tools.specs.declared.ends.ToolEnd.TheVariants.{Done, Input, FileFault, SinkFault, NoMemory}
 
@@ -38,10 +38,10 @@ pub record HasRun (seen : Seen) (name : List ℕ) : Type 0 where
   pub tells : IsTrue seen.tells
   pub there : IsThere seen name IsRun
 
--- A run file leads to the end `Done`, unless a call failed or there was no memory.
-abbrev pub Completes : (seen : Seen) (name : List ℕ) (sink_old sink_new files_old files_new : ℕ) → ToolEnd → Type 0
-Completes seen name sink_old sink_new files_old files_new end =
-    HasRun seen name → ¬ Rose sink_old sink_new → ¬ Rose files_old files_new → (end ≡ Done) ⊎ (end ≡ NoMemory)
+-- What is sound leads to the end `Done`, unless a call failed or there was no memory.
+abbrev pub Completes : (Sound : Type 0) (sink_old sink_new files_old files_new : ℕ) → ToolEnd → Type 0
+Completes Sound sink_old sink_new files_old files_new end =
+    Sound → ¬ Rose sink_old sink_new → ¬ Rose files_old files_new → (end ≡ Done) ⊎ (end ≡ NoMemory)
 
 -- What a tool finds, and its text: `Says bytes fault text` says that the tool prints this text of a file of these bytes,
 -- which is a run file, or has this fault first. A compressed name is not looked for, and a missing one is not opened.
@@ -51,30 +51,31 @@ Finds Says seen name text (Input (Mid fault)) = (is_compressed name ≡ false) �
 Finds Says seen name text (Input Compressed) = IsTrue (is_compressed name) × (text ≡ bad_line Compressed)
 Finds Says seen name text (Input Missing) = (is_compressed name ≡ false) × (text ≡ bad_line Missing) × (IsTrue seen.tells → IsNone (seen.at name))
 Finds Says seen name text (Input ScriptTooLong) = ⊥
+Finds Says seen name text (Input (OtherRun file run)) = ⊥
 Finds Says seen name text FileFault = ⊥
 Finds Says seen name text SinkFault = ⊥
 Finds Says seen name text NoMemory = ⊥
 
--- All of the text was written.
-pub record WritesAll (Says : List ℕ → Option MidFault → List ℕ → Type 0) (seen : Seen) (name : List ℕ) (told_old told_new : Option (List ℕ)) (end : ToolEnd) : Type 0 where
+-- All of the text of what was found was written.
+pub record WritesAll (Found : (text : List ℕ) → ToolEnd → Type 0) (told_old told_new : Option (List ℕ)) (end : ToolEnd) : Type 0 where
   pub text : List ℕ
-  pub finds : Finds Says seen name text end
+  pub finds : Found text end
   pub written : Appends told_old told_new text
 
--- A part of the text was written.
-pub record WritesPart (Says : List ℕ → Option MidFault → List ℕ → Type 0) (seen : Seen) (name : List ℕ) (told_old told_new : Option (List ℕ)) : Type 0 where
+-- A part of the text of what was found was written.
+pub record WritesPart (Found : (text : List ℕ) → ToolEnd → Type 0) (told_old told_new : Option (List ℕ)) : Type 0 where
   pub found : ToolEnd
   pub text : List ℕ
-  pub finds : Finds Says seen name text found
+  pub finds : Found text found
   pub written : AppendsPart told_old told_new text
 
--- What a tool writes that prints when it has read all: its text, a part of it where the sink fails, and nothing where a
+-- What a tool writes of one file that prints when it has read all: its text, a part of it where the sink fails, and nothing where a
 -- call on the files fails or there is no memory, which is so only of a file that is there.
 abbrev pub Writes : (Says : List ℕ → Option MidFault → List ℕ → Type 0) (seen : Seen) (name : List ℕ) (told_old told_new : Option (List ℕ)) → ToolEnd → Type 0
-Writes Says seen name told_old told_new Done = WritesAll Says seen name told_old told_new Done
-Writes Says seen name told_old told_new (Input fault) = WritesAll Says seen name told_old told_new (Input fault)
+Writes Says seen name told_old told_new Done = WritesAll (Finds Says seen name) told_old told_new Done
+Writes Says seen name told_old told_new (Input fault) = WritesAll (Finds Says seen name) told_old told_new (Input fault)
 Writes Says seen name told_old told_new FileFault = (is_compressed name ≡ false) × Keeps told_old told_new
-Writes Says seen name told_old told_new SinkFault = WritesPart Says seen name told_old told_new
+Writes Says seen name told_old told_new SinkFault = WritesPart (Finds Says seen name) told_old told_new
 Writes Says seen name told_old told_new NoMemory = (is_compressed name ≡ false) × Keeps told_old told_new × (IsTrue seen.tells → IsSome (seen.at name))
 
 -- the sink's count of faults: it rose exactly where the sink failed
@@ -101,6 +102,7 @@ ClashCounts (Input (Mid fault)) old new = ⊤
 ClashCounts (Input Compressed) old new = ⊤
 ClashCounts (Input Missing) old new = Rose old new
 ClashCounts (Input ScriptTooLong) old new = ⊥
+ClashCounts (Input (OtherRun file run)) old new = ⊤
 ClashCounts FileFault old new = ⊤
 ClashCounts SinkFault old new = ⊤
 ClashCounts NoMemory old new = ⊤
@@ -130,23 +132,12 @@ call_counts sink_faults faults clashes bytes_read out_old out_new files_old file
 }
 
 -- The end of a tool comes by its cause: a fault exactly where its count rose and no earlier cause holds, a missing file with
--- a clash, and of a run file `Done`, unless a call failed or there was no memory.
-pub record EndsBy (end : ToolEnd) (seen : Seen) (name : List ℕ) (counts : CallCounts) : Type 0 where
+-- a clash, and of what is sound `Done`, unless a call failed or there was no memory.
+pub record EndsBy (end : ToolEnd) (Sound : Type 0) (counts : CallCounts) : Type 0 where
   pub sink : SinkByEnd end counts.sink_old counts.sink_new
   pub files : FilesByEnd end counts.files_old counts.files_new
-  pub completes : Completes seen name counts.sink_old counts.sink_new counts.files_old counts.files_new end
+  pub completes : Completes Sound counts.sink_old counts.sink_new counts.files_old counts.files_new end
   pub clashes : ClashCounts end counts.clashes_old counts.clashes_new
-
--- What was read of the source, by the end that it leads to.
-abbrev pub ReadsTo : (Says : List ℕ → Option MidFault → List ℕ → Type 0) (source : Option (List ℕ)) (text : List ℕ) → ToolEnd → Type 0
-ReadsTo Says source text Done = IfSome source (λ bytes. Says bytes None text)
-ReadsTo Says source text (Input (Mid fault)) = (fault ≢ ReadFault) × IfSome source (λ bytes. Says bytes (Some fault) text)
-ReadsTo Says source text (Input Compressed) = ⊥
-ReadsTo Says source text (Input Missing) = ⊥
-ReadsTo Says source text (Input ScriptTooLong) = ⊥
-ReadsTo Says source text FileFault = ⊤
-ReadsTo Says source text SinkFault = ⊥
-ReadsTo Says source text NoMemory = ⊤
 
 -- the source's count of faults by that end
 abbrev pub SourceByEnd : ToolEnd → (old new : ℕ) → Type 0
@@ -182,32 +173,6 @@ abbrev pub SaysWhy : Refused → (told_old told_new : Option (List ℕ)) (sink_o
 SaysWhy NameCompressed told_old told_new sink_old sink_new result = Printed (bad_line Compressed) told_old told_new sink_old sink_new (Input Compressed) result
 SaysWhy NameMissing told_old told_new sink_old sink_new result = Printed (bad_line Missing) told_old told_new sink_old sink_new (Input Missing) result
 SaysWhy OpenFailed told_old told_new sink_old sink_new result = Unprinted told_old told_new sink_old sink_new FileFault result
-
--- A file that was read to an end is closed, and then the text is printed. Nothing is printed where the reading came to
--- no text, or the close failed.
-abbrev pub PrintsClosed : (text : List ℕ) (told_old told_new : Option (List ℕ)) (sink_old sink_new files_old files_new : ℕ) (end result : ToolEnd) → Type 0
-PrintsClosed text told_old told_new sink_old sink_new files_old files_new end result =
-    (Printed text told_old told_new sink_old sink_new end result × (files_new ≡ files_old)) ⊎ (Unprinted told_old told_new sink_old sink_new FileFault result × Rose files_old files_new)
-
--- A file that was read to this end is closed. Where it has no text, for a fault or for want of memory, that stays the end.
-abbrev pub FinishesFile : (text : List ℕ) (told_old told_new : Option (List ℕ)) (sink_old sink_new files_old files_new : ℕ) (end result : ToolEnd) → Type 0
-FinishesFile text told_old told_new sink_old sink_new files_old files_new Done result = PrintsClosed text told_old told_new sink_old sink_new files_old files_new Done result
-FinishesFile text told_old told_new sink_old sink_new files_old files_new (Input fault) result = PrintsClosed text told_old told_new sink_old sink_new files_old files_new (Input fault) result
-FinishesFile text told_old told_new sink_old sink_new files_old files_new FileFault result = Unprinted told_old told_new sink_old sink_new FileFault result × (files_old ≤ files_new)
-FinishesFile text told_old told_new sink_old sink_new files_old files_new SinkFault result = Unprinted told_old told_new sink_old sink_new SinkFault result × (files_old ≤ files_new)
-FinishesFile text told_old told_new sink_old sink_new files_old files_new NoMemory result = Unprinted told_old told_new sink_old sink_new NoMemory result × (files_old ≤ files_new)
-
--- How the reading of a file ends at this fault of it: its line is put on the page, unless the source failed or there is
--- no memory.
-abbrev pub FaultEnds : MidFault → (page_old page_new : List ℕ) → ToolEnd → Type 0
-FaultEnds fault page_old page_new Done = ⊥
-FaultEnds fault page_old page_new (Input (Mid found)) = (found ≡ fault) × (found ≢ ReadFault) × (page_new ≡ page_old ++ bad_line (Mid found))
-FaultEnds fault page_old page_new (Input Compressed) = ⊥
-FaultEnds fault page_old page_new (Input Missing) = ⊥
-FaultEnds fault page_old page_new (Input ScriptTooLong) = ⊥
-FaultEnds fault page_old page_new FileFault = (fault ≡ ReadFault) × (page_new ≡ page_old)
-FaultEnds fault page_old page_new SinkFault = ⊥
-FaultEnds fault page_old page_new NoMemory = fault ≢ ReadFault
 
 -- A file that was read to this end is closed: the end stays, unless nothing failed before the close and the close did.
 abbrev pub ClosesWell : (files_old files_new : ℕ) (end result : ToolEnd) → Type 0

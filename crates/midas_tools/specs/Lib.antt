@@ -2,6 +2,9 @@ pub mod Texts
 pub mod Areas
 pub mod Printing
 pub mod Findings
+pub mod Pieces
+pub mod Together
+pub mod Gathering
 pub mod Summaries
 pub mod Checks
 pub mod Analyses

@@ -1,7 +1,6 @@
 -- What a tool prints that reads all of a file and then tells of its events together.
 use Rattle.std.specs.Prelude.{◌≡◌, ℕ, List, length, Option, Some, None}
 use Rattle.daq_types.specs.declared.events.Event.{Event}
-use Rattle.event.specs.declared.head.Header.{Header}
 use Rattle.mid_format.specs.HasRead.{HasRead, IsMidFault}
 use Rattle.mid_format.specs.ReadLaws.{IsWholeFile}
 use Rattle.mid_format.specs.declared.faults.MidFault.{MidFault}
@@ -23,23 +22,11 @@ pub record IsGood (Text : (run : ℕ) (events : List Event) (size : ℕ) → Lis
 -- what is printed of a run file, and of bytes with a first fault: then nothing else
 abbrev pub Tells : (Text : (run : ℕ) (events : List Event) (size : ℕ) → List ℕ) (bytes : List ℕ) → Option MidFault → (text : List ℕ) → Type 0
 Tells Text bytes None text = IsGood Text bytes text
-Tells Text bytes (Some fault) text = IsMidFault bytes fault × (text ≡ bad_line (Mid fault))
+Tells Text bytes (Some fault) text = IsMidFault 0 bytes fault × (text ≡ bad_line (Mid fault))
 
 -- It is the summary of the events that were read, and no fault was met.
-pub record SumsSome (Sums : List Event → Type 0) (first now : Option (List ℕ)) (progress : Progress) : Type 0 where
+pub record SumsSome (Sums : List Event → Type 0) (start : ℕ) (first now : Option (List ℕ)) (progress : Progress) : Type 0 where
   pub events : List Event
   pub sums : Sums events
-  pub read : HasRead first now progress events
+  pub read : HasRead start first now progress events
   pub sound : progress.fault ≡ None
-
--- All events were read, and it is the summary of them.
-pub record SumsAll (Sums : List Event → Type 0) (first now : Option (List ℕ)) (progress : Progress) : Type 0 where
-  pub some : SumsSome Sums first now progress
-  pub end : Header
-  pub last : progress.last ≡ Some end
-
--- A fault was met.
-pub record Meets (first now : Option (List ℕ)) (progress : Progress) (fault : MidFault) : Type 0 where
-  pub events : List Event
-  pub read : HasRead first now progress events
-  pub fault_is : progress.fault ≡ Some fault

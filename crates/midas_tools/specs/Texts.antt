@@ -1,5 +1,5 @@
 -- The lines that the tools print. A number is decimal, without zeros in front; each line ends with the byte 10.
-use Rattle.std.specs.Prelude.{ℕ, ◌==◌, List, [], ◌∷◌, ◌++◌, length, map, find, Option, Some, None, codes}
+use Rattle.std.specs.Prelude.{ℕ, ◌==◌, Bool, true, false, List, [], ◌∷◌, ◌++◌, length, map, find, Option, Some, None, codes}
 use Rattle.std.specs.Fmt.{decimal}
 use Rattle.daq_types.specs.Tids.{tid_code, tid_name}
 use Rattle.daq_types.specs.declared.types.Tid.{Tid}
@@ -13,7 +13,7 @@ use Rattle.event_report.specs.Texts.{visible}
 use Rattle.mid_format.specs.declared.faults.MidFault.{MidFault}
 use Rattle.mid_format.specs.declared.faults.MidFault.TheVariants.{Truncated, NoBegin, NoEnd, AfterEnd, TooBig, ReadFault, BadRecord, TooLong}
 use Rattle.midas_tools.specs.declared.ends.InputFault.{InputFault}
-use Rattle.midas_tools.specs.declared.ends.InputFault.TheVariants.{Mid, Compressed, Missing, ScriptTooLong}
+use Rattle.midas_tools.specs.declared.ends.InputFault.TheVariants.{Mid, Compressed, Missing, ScriptTooLong, OtherRun}
 
 -- a number behind a blank
 abbrev pub number_text : ℕ → List ℕ
@@ -36,10 +36,20 @@ input_text (Mid fault) = fault_text fault
 input_text Compressed = codes "Compressed"
 input_text Missing = codes "Missing"
 input_text ScriptTooLong = codes "ScriptTooLong"
+input_text (OtherRun file run) = codes "OtherRun" ++ (number_text file ++ number_text run)
 
 -- what is wrong with the file
 abbrev pub bad_line : InputFault → List ℕ
 bad_line fault = codes "bad " ++ (input_text fault ++ 10 ∷ [])
+
+-- what is wrong, in front of the name of the file
+abbrev pub bad_front : InputFault → List ℕ
+bad_front fault = codes "bad " ++ (input_text fault ++ codes " in ")
+
+-- what is wrong with one of the files that were named, and which it is where these are several
+abbrev pub bad_file_line : (several : Bool) (name : List ℕ) → InputFault → List ℕ
+bad_file_line false name fault = bad_line fault
+bad_file_line true name fault = bad_front fault ++ (name ++ 10 ∷ [])
 
 -- the file is good: the number of its run, how many events it has, and how many bytes
 abbrev pub ok_line : (run events bytes : ℕ) → List ℕ

@@ -1,13 +1,14 @@
-ghost use Rattle.std.specs.Prelude.{◌≡◌};
+ghost use Rattle.std.specs.Prelude.{◌≡◌, ◌≤◌, ◌<◌, length};
 ghost use Rattle.daq_io.specs.Seen.{Same};
 ghost use Rattle.event_report.specs.Reports.{report_of};
-ghost use Rattle.midas_tools.specs.Analyses.{Analyzes, analysis_text};
-ghost use Rattle.midas_tools.specs.Findings.{EndsBy, Writes, call_counts};
+ghost use Rattle.midas_tools.specs.Analyses.{analysis_text};
+ghost use Rattle.midas_tools.specs.Findings.{call_counts};
+ghost use Rattle.midas_tools.specs.Together.{EndsTogether, WritesTogether};
 
 use crate::ends::ToolEnd;
 use crate::lines::add_run;
 use crate::summary::Summary;
-use crate::telling::tell_file;
+use crate::telling::tell_files;
 use daq_io::{Files, Sink};
 use daq_text::TextBuffer;
 use daq_types::{FileName, NoMemory};
@@ -44,22 +45,25 @@ impl Summary for Analysis {
     }
 }
 
-/// Reads the file of this name and prints the number of its run and the report over its events, or what is wrong with it
-/// where it is no run file. Hands the files back, in which every name and every byte is as it was.
+/// Reads the files of these names in order as those of one run and prints its number and the report over their events, or what
+/// is wrong with the first that is none of that run, and, of several, its name. Hands the files back, in which every name and
+/// every byte is as it was.
 pub fn analyze_file<F: Files, K: Sink>(
     alloc: Global,
     files: F,
-    name: &FileName,
+    names: &[FileName],
     out: &mut K,
 ) -> (ToolEnd, F)
+    requires some { 0 < length names.now }
+    requires few { length names.now ≤ 10000 }
     // What was found, and what was written of it.
-    ensures writes { Writes Analyzes (F.seen files) name.now (K.written out.old)
+    ensures writes { WritesTogether analysis_text (F.seen files) names.now (K.written out.old)
         (K.written out.new) result.0 }
-    // A fault is the end exactly where its count rose and no earlier cause holds, and a run file leads to the end `Done`,
-    // unless a call failed or there was no memory.
-    ensures ends { EndsBy result.0 (F.seen files) name.now (call_counts K.faults F.faults F.clashes
-        F.bytes_read out.old out.new files result.1) }
+    // A fault is the end exactly where its count rose and no earlier cause holds, and the files of one run lead to the end
+    // `Done`, unless a call failed or there was no memory.
+    ensures ends { EndsTogether result.0 (F.seen files) names.now (call_counts K.faults F.faults
+        F.clashes F.bytes_read out.old out.new files result.1) }
     ensures same { Same (F.seen files) (F.seen result.1) }
 {
-    tell_file::<_, _, Analysis>(alloc, files, name, out)
+    tell_files::<_, _, Analysis>(alloc, files, names, out)
 }

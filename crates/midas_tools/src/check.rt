@@ -1,12 +1,13 @@
-ghost use Rattle.std.specs.Prelude.{◌≡◌, length};
+ghost use Rattle.std.specs.Prelude.{◌≡◌, ◌≤◌, ◌<◌, length};
 ghost use Rattle.daq_io.specs.Seen.{Same};
-ghost use Rattle.midas_tools.specs.Checks.{Checks, check_text};
-ghost use Rattle.midas_tools.specs.Findings.{EndsBy, Writes, call_counts};
+ghost use Rattle.midas_tools.specs.Checks.{check_text};
+ghost use Rattle.midas_tools.specs.Findings.{call_counts};
+ghost use Rattle.midas_tools.specs.Together.{EndsTogether, WritesTogether};
 
 use crate::ends::ToolEnd;
 use crate::lines::add_ok;
 use crate::summary::Summary;
-use crate::telling::tell_file;
+use crate::telling::tell_files;
 use daq_io::{Files, Sink};
 use daq_text::TextBuffer;
 use daq_types::{FileName, NoMemory};
@@ -40,22 +41,25 @@ impl Summary for EventCount {
     }
 }
 
-/// Reads the file of this name and prints whether it is a run file: the number of its run, its events and its bytes, or
-/// what is wrong with it. Hands the files back, in which every name and every byte is as it was.
+/// Reads the files of these names in order and prints whether they are those of one run: its number, their events and their
+/// bytes together, or what is wrong with the first that is not, and, of several, its name. Hands the files back, in which every
+/// name and every byte is as it was.
 pub fn check_file<F: Files, K: Sink>(
     alloc: Global,
     files: F,
-    name: &FileName,
+    names: &[FileName],
     out: &mut K,
 ) -> (ToolEnd, F)
+    requires some { 0 < length names.now }
+    requires few { length names.now ≤ 10000 }
     // What was found, and what was written of it.
-    ensures writes { Writes Checks (F.seen files) name.now (K.written out.old) (K.written out.new)
-        result.0 }
-    // A fault is the end exactly where its count rose and no earlier cause holds, and a run file leads to the end `Done`,
-    // unless a call failed or there was no memory.
-    ensures ends { EndsBy result.0 (F.seen files) name.now (call_counts K.faults F.faults F.clashes
-        F.bytes_read out.old out.new files result.1) }
+    ensures writes { WritesTogether check_text (F.seen files) names.now (K.written out.old)
+        (K.written out.new) result.0 }
+    // A fault is the end exactly where its count rose and no earlier cause holds, and the files of one run lead to the end
+    // `Done`, unless a call failed or there was no memory.
+    ensures ends { EndsTogether result.0 (F.seen files) names.now (call_counts K.faults F.faults
+        F.clashes F.bytes_read out.old out.new files result.1) }
     ensures same { Same (F.seen files) (F.seen result.1) }
 {
-    tell_file::<_, _, EventCount>(alloc, files, name, out)
+    tell_files::<_, _, EventCount>(alloc, files, names, out)
 }

@@ -1,14 +1,11 @@
 ghost use Rattle.std.specs.Prelude.{IsTrue};
 ghost use Rattle.daq_io.specs.FileLeft.{ReadsFirst};
 ghost use Rattle.daq_io.specs.Seen.{Ends};
-ghost use Rattle.midas_tools.specs.Findings.{ClosedAs, FaultEnds, FinishesFile, Printed, SaysWhy};
+ghost use Rattle.midas_tools.specs.Findings.{ClosedAs, Printed, SaysWhy};
 
 use crate::ends::{InputFault, ToolEnd};
-use crate::lines::bad_line;
 use crate::opening::{Refused, close};
 use daq_io::{FileSource, Files, Sink, write_all};
-use daq_text::TextBuffer;
-use mid_format::MidFault;
 
 /// Writes a text, and answers the end that it tells of, or that the sink failed.
 pub fn print<K: Sink>(end: ToolEnd, text: &[u8], out: &mut K) -> ToolEnd
@@ -39,21 +36,6 @@ pub fn refuse<K: Sink>(refused: Refused, out: &mut K) -> ToolEnd
     }
 }
 
-/// The end at this fault of a file, whose line is put on the page.
-pub fn stop_at(fault: MidFault, page: &mut TextBuffer) -> ToolEnd
-    ensures { FaultEnds fault page.old page.new result }
-{
-    match fault {
-        MidFault::ReadFault => ToolEnd::FileFault,
-        fault => {
-            if page.text(bad_line(fault).as_slice()).is_err() {
-                return ToolEnd::NoMemory;
-            }
-            ToolEnd::Input(InputFault::Mid(fault))
-        }
-    }
-}
-
 /// Closes the file, whose reading came to this end. A close that fails is the end only where nothing else failed.
 pub fn close_file<F: Files>(end: ToolEnd, source: FileSource<F>) -> (ToolEnd, F)
     ensures closed { ClosedAs end (F.faults source.files) (F.faults result.1) result.0 }
@@ -64,25 +46,6 @@ pub fn close_file<F: Files>(end: ToolEnd, source: FileSource<F>) -> (ToolEnd, F)
     let (closed, files) = close(source);
     match (end, closed) {
         (ToolEnd::Done | ToolEnd::Input(_), Err(_)) => (ToolEnd::FileFault, files),
-        _ => (end, files),
-    }
-}
-
-/// Closes the file, whose reading came to this end, and then writes the text on the page, unless there was a fault.
-pub fn finish<F: Files, K: Sink>(
-    end: ToolEnd,
-    source: FileSource<F>,
-    page: &TextBuffer,
-    out: &mut K,
-) -> (ToolEnd, F)
-    ensures finished { FinishesFile page.now (K.written out.old) (K.written out.new)
-        (K.faults out.old) (K.faults out.new) (F.faults source.files) (F.faults result.1) end
-        result.0 }
-    ensures ended { Ends (F.seen source.first) (F.seen result.1) source.number }
-{
-    let (end, files) = close_file(end, source);
-    match end {
-        ToolEnd::Done | ToolEnd::Input(_) => (print(end, page.as_slice(), out), files),
         _ => (end, files),
     }
 }

@@ -6,7 +6,7 @@ ghost use Rattle.daq_io.specs.Streams.{AppendsPart};
 ghost use Rattle.event.specs.Events.{event_limit};
 ghost use Rattle.mid_format.specs.HasRead.{nothing_read};
 ghost use Rattle.midas_tools.specs.Dumps.{DumpsTo, EndsText, HandEnds, HandHalts, ListsTo, Printing, PrintsOn, ReadCounts, SinkHalts, SourceHalts, WritesOn, end_lines, end_of, ended_text, fault_lines, new_begin};
-ghost use Rattle.midas_tools.specs.Findings.{EndsBy, SinkByEnd, call_counts};
+ghost use Rattle.midas_tools.specs.Findings.{EndsBy, HasRun, SinkByEnd, call_counts};
 ghost use Rattle.midas_tools.specs.Printing.{PassesText};
 
 use crate::areas::print_event;
@@ -88,7 +88,7 @@ fn print_fault<K: Sink>(page: &mut Page, fault: Option<MidFault>, out: &mut K) -
         None => Ok(()),
         Some(fault) => match fault {
             MidFault::ReadFault => Ok(()),
-            fault => page.print(&bad_line(fault), out),
+            fault => page.print(&bad_line(InputFault::Mid(fault)), out),
         },
     }
 }
@@ -255,8 +255,8 @@ pub fn dump_file<F: Files, K: Sink>(
         (F.bytes_read result.1) (K.written out.old) (K.written out.new) result.0 }
     // A fault is the end exactly where its count rose and no earlier cause holds, and a run file leads to the end `Done`,
     // unless a call failed or there was no memory.
-    ensures ends { EndsBy result.0 (F.seen files) name.now (call_counts K.faults F.faults F.clashes
-        F.bytes_read out.old out.new files result.1) }
+    ensures ends { EndsBy result.0 (HasRun (F.seen files) name.now) (call_counts K.faults F.faults
+        F.clashes F.bytes_read out.old out.new files result.1) }
     // Where memory is wanting the files were not called.
     ensures uncalled { result.0 ≡ ToolEnd.NoMemory → result.1 ≡ files }
     ensures same { Same (F.seen files) (F.seen result.1) }

@@ -9,6 +9,8 @@ mod check;
 mod closing;
 mod dump;
 mod ends;
+mod extents;
+mod gathering;
 mod halts;
 pub mod laws;
 mod line;
@@ -18,6 +20,7 @@ mod page;
 mod script;
 mod summary;
 mod telling;
+mod wrong;
 
 pub use analyze::analyze_file;
 pub use check::check_file;

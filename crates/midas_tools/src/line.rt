@@ -63,6 +63,16 @@ impl Line {
         }
     }
 
+    /// Nothing: what is made of it ends as it is put.
+    pub fn empty() -> Line
+        ensures { result ≡ [] }
+    {
+        Line {
+            bytes: [b'\n'; LINE_BYTES],
+            start: LINE_BYTES,
+        }
+    }
+
     /// The line as far as it is made.
     pub fn as_slice(&self) -> &[u8]
         ensures made { result.now ≡ self.now }

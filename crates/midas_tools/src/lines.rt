@@ -3,7 +3,7 @@ ghost use Rattle.bank_format.specs.BankAreas.{bank_value};
 ghost use Rattle.daq_io.specs.Counts.{CountsFault};
 ghost use Rattle.event.specs.Headers.{event_of};
 ghost use Rattle.midas_tools.specs.Printing.{PassesText};
-ghost use Rattle.midas_tools.specs.Texts.{area_fault_text, bad_line, bank_line, event_line, fault_text, no_banks_line, number_text, ok_line, record_line, run_number_line};
+ghost use Rattle.midas_tools.specs.Texts.{area_fault_text, bad_front, bad_line, bank_line, event_line, fault_text, input_text, no_banks_line, number_text, ok_line, record_line, run_number_line};
 
 use crate::ends::InputFault;
 use crate::line::Line;
@@ -63,12 +63,41 @@ fn put_fault(line: &mut Line, fault: MidFault)
     }
 }
 
-/// The line that says what is wrong with a run file.
-pub fn bad_line(fault: MidFault) -> Line
-    ensures { result ≡ bad_line (InputFault.Mid fault) }
+/// Puts what is wrong, and its numbers, in front.
+fn put_input(line: &mut Line, fault: InputFault)
+    requires { length line.old ≤ 8 }
+    ensures added { line.new ≡ input_text fault ++ line.old }
+    ensures short { length line.new ≤ length line.old + 51 }
+{
+    match fault {
+        InputFault::Mid(fault) => put_fault(line, fault),
+        InputFault::Compressed => line.put(b"Compressed"),
+        InputFault::Missing => line.put(b"Missing"),
+        InputFault::ScriptTooLong => line.put(b"ScriptTooLong"),
+        InputFault::OtherRun { file, run } => {
+            line.blank_number(run as u64);
+            line.named(b"OtherRun", file as u64);
+        }
+    }
+}
+
+/// The line that says what is wrong with a file.
+pub fn bad_line(fault: InputFault) -> Line
+    ensures { result ≡ bad_line fault }
 {
     let mut line = Line::new();
-    put_fault(&mut line, fault);
+    put_input(&mut line, fault);
+    line.put(b"bad ");
+    line
+}
+
+/// The same as far as the name of the file, which follows.
+pub fn bad_front(fault: InputFault) -> Line
+    ensures { result ≡ bad_front fault }
+{
+    let mut line = Line::empty();
+    line.put(b" in ");
+    put_input(&mut line, fault);
     line.put(b"bad ");
     line
 }

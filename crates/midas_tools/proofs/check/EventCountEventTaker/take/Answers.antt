@@ -1,7 +1,7 @@
 use Rattle.std.proofs.Common.{arith}
 use Rattle.event.specs.Headers.{event_of}
 use Rattle.mid_format.proofs.AtHand.{encoded_more}
-use Rattle.midas_tools.proofs.Reading.{count_within}
+use Rattle.midas_tools.proofs.Summing.{count_within}
 use Rattle.midas_tools.proofs.check.EventCountEventTaker.take.Goals as goal
 
 pub overflow_add-self : goal.overflow_add-self

@@ -1,0 +1,75 @@
+ghost use Rattle.std.specs.Prelude.{◌≡◌, ◌≤◌, ◌<◌, length};
+ghost use Rattle.daq_io.specs.Seen.{Same};
+ghost use Rattle.midas_tools.specs.Findings.{ClashCounts, FilesByEnd, call_counts};
+ghost use Rattle.midas_tools.specs.Gathering.{LooksFor, TellsEnd};
+ghost use Rattle.midas_tools.specs.Together.{EndsTogether, WritesTogether};
+
+use crate::closing::{close_file, print};
+use crate::ends::ToolEnd;
+use crate::gathering::{Gathered, Gathering, gather_all};
+use crate::opening::open;
+use crate::summary::Summary;
+use crate::wrong::{end_refused, say_stop};
+use daq_io::{Files, Sink};
+use daq_text::TextBuffer;
+use daq_types::FileName;
+use std::alloc::Global;
+
+/// Writes what is told of the events together.
+fn tell_run<K: Sink, T: Summary>(alloc: Global, gathered: &Gathered<T>, out: &mut K) -> ToolEnd
+    ensures { TellsEnd T.text (T.has_taken gathered.now.summary) gathered.now.extent
+        (K.written out.old) (K.written out.new) (K.faults out.old) (K.faults out.new) result }
+{
+    let mut page = TextBuffer::new(alloc);
+    let run = gathered.extent.run.unwrap_or(0);
+    if gathered
+        .summary
+        .tell(run, gathered.extent.bytes, &mut page)
+        .is_err()
+    {
+        return ToolEnd::NoMemory;
+    }
+    print(ToolEnd::Done, page.as_slice(), out)
+}
+
+/// Looks for a file that there is no memory to read, and answers the end: what is wrong with its name is told all the same.
+fn look_for<F: Files>(files: F, name: &FileName) -> (ToolEnd, F)
+    ensures looks { LooksFor (F.seen files) name.now result.0 }
+    ensures faults { FilesByEnd result.0 (F.faults files) (F.faults result.1) }
+    ensures clashes { ClashCounts result.0 (F.clashes files) (F.clashes result.1) }
+    ensures same { Same (F.seen files) (F.seen result.1) }
+{
+    match open(files, name) {
+        Ok(source) => close_file(ToolEnd::NoMemory, source),
+        Err((refused, files)) => (end_refused(refused), files),
+    }
+}
+
+/// Reads the files of these names in order as those of one run, and prints what is told of their events together, or what is
+/// wrong with the first of them that is none of that run. Hands the files back, in which every name and every byte is as it
+/// was.
+pub fn tell_files<F: Files, K: Sink, T: Summary>(
+    alloc: Global,
+    files: F,
+    names: &[FileName],
+    out: &mut K,
+) -> (ToolEnd, F)
+    requires some { 0 < length names.now }
+    requires few { length names.now ≤ 10000 }
+    ensures writes { WritesTogether T.text (F.seen files) names.now (K.written out.old)
+        (K.written out.new) result.0 }
+    ensures ends { EndsTogether result.0 (F.seen files) names.now (call_counts K.faults F.faults
+        F.clashes F.bytes_read out.old out.new files result.1) }
+    ensures same { Same (F.seen files) (F.seen result.1) }
+{
+    let several = names.len() > 1;
+    let Ok(mut gathered) = Gathered::<T>::new(alloc) else {
+        let (end, files) = look_for(files, &names[0]);
+        return (say_stop(end, &names[0], several, out), files);
+    };
+    let Gathering { end, at, files } = gather_all(alloc, files, names, &mut gathered);
+    match end {
+        ToolEnd::Done => (tell_run(alloc, &gathered, out), files),
+        end => (say_stop(end, &names[at], several, out), files),
+    }
+}
