@@ -2,3 +2,4 @@ mod Stray
 mod Levels
 mod Reading
 mod Texts
+pub mod FormParts

@@ -19,8 +19,8 @@ use Rattle.clap.proofs.WalkLemmas.{first_value-rows, one_text-rows, walk_stopped
 use Rattle.command_words.specs.declared.forms.Tool.{Tool}
 use Rattle.command_words.specs.declared.forms.Tool.TheVariants.{Check, Dump, Analyze}
 use Rattle.command_words.specs.declared.forms.Form.{Form}
-use Rattle.command_words.specs.declared.forms.Form.TheVariants.{Run, OnFile, Generate}
-use Rattle.command_words.specs.CommandLine.{FormIs, HasForm, is_flag, run_words, tool_word}
+use Rattle.command_words.specs.declared.forms.Form.TheVariants.{Run, OnFiles, Generate}
+use Rattle.command_words.specs.CommandLine.{FormIs, HasForm, IsFileWord, IsOnFiles, is_flag, run_words, tool_word}
 use Rattle.command_words.specs.Reader.{flag_text, has_separator, midas_app}
 use Rattle.command_words.proofs.Levels.{or_false, some_or, run_built, run_taken, word_built, word_taken}
 use Rattle.command_words.proofs.Stray.{level_clean, stray_is_fault, walk_clean}
@@ -114,7 +114,7 @@ pub record Tells (m : ArgMatches) (form : Option Form) : Type 0 where
 no_words : HasForm [] → ⊥
 no_words (Run true, is) = absurd (cc)
 no_words (Run false, is) = absurd (cc)
-no_words (OnFile call, is) = let words = is.words_are in absurd (cc)
+no_words (OnFiles tool, is) = let words = is.1.words_are in absurd (cc)
 no_words (Generate number, is) = let words = is.1 in absurd (cc)
 
 abbrev Fits : ArgMatches → Option Form → List Text → Type 0
@@ -193,6 +193,12 @@ digits_no_flag (d ∷ ds) digits = go (d == 45) refl
         absurd (omega arith)
     go false e = rw e (and_false (nat_lt 1 (length (d ∷ ds))))
 
+-- of two words at most the second is the one file
+one_name : (tool : Tool) (names words : List Text) → length words ≤ 2 → IsOnFiles tool names words → (name : Text) × (words ≡ tool_word tool ∷ name ∷ []) × IsFileWord name
+one_name tool [] words few is = absurd (omega (arith, is.some))
+one_name tool (name ∷ []) words few is = (name, is.words_are, is.files 0 [] (omega arith))
+one_name tool (name ∷ more ∷ rest) words few is = absurd (omega (arith, few, ap (length {A = Text}) is.words_are))
+
 tool_clean : (tool : Tool) (word : Text) → IsPlainWord word → fault_of midas_app (tool_word tool ∷ word ∷ []) ≡ []
 unfolding clap_on_literals
 tool_clean Check word plain = simp (plain.long, plain.short, plain.apart)
@@ -208,10 +214,13 @@ unfolding clap_on_literals
 run_clean true = refl
 run_clean false = refl
 
-pub form_clean : (words : List Text) → HasForm words → fault_of midas_app words ≡ []
-form_clean words (Run cooperative, is) = subst (λ (ws : List Text). fault_of midas_app ws ≡ []) (sym is) (run_clean cooperative)
-form_clean words (OnFile call, is) = subst (λ (ws : List Text). fault_of midas_app ws ≡ []) (sym is.words_are) (tool_clean call.tool call.name (plain_word call.name is.file.no_flag))
-form_clean words (Generate number, is) = subst (λ (ws : List Text). fault_of midas_app ws ≡ []) (sym is.1) (gen_clean is.0 (plain_word is.0 (digits_no_flag is.0 is.2.digits)))
+-- a form of two words at most is taken
+pub form_clean : (words : List Text) → length words ≤ 2 → HasForm words → fault_of midas_app words ≡ []
+form_clean words few (Run cooperative, is) = subst (λ (ws : List Text). fault_of midas_app ws ≡ []) (sym is) (run_clean cooperative)
+form_clean words few (OnFiles tool, is) =
+    let one = one_name tool is.0 words few is.1 in
+    subst (λ (ws : List Text). fault_of midas_app ws ≡ []) (sym one.1) (tool_clean tool one.0 (plain_word one.0 one.2.no_flag))
+form_clean words few (Generate number, is) = subst (λ (ws : List Text). fault_of midas_app ws ≡ []) (sym is.1) (gen_clean is.0 (plain_word is.0 (digits_no_flag is.0 is.2.digits)))
 
 -- ---- what no form has
 
@@ -224,20 +233,13 @@ run_apart : (cooperative : Bool) → has_separator (run_words cooperative) ≡ f
 run_apart true = refl
 run_apart false = refl
 
-pub form_apart : (words : List Text) → HasForm words → has_separator words ≡ false
-form_apart words (Run cooperative, is) = subst (λ (ws : List Text). has_separator ws ≡ false) (sym is) (run_apart cooperative)
-form_apart words (OnFile call, is) = subst (λ (ws : List Text). has_separator ws ≡ false) (sym is.words_are) (tool_apart call.tool call.name (plain_word call.name is.file.no_flag).apart)
-form_apart words (Generate number, is) =
+pub form_apart : (words : List Text) → length words ≤ 2 → HasForm words → has_separator words ≡ false
+form_apart words few (Run cooperative, is) = subst (λ (ws : List Text). has_separator ws ≡ false) (sym is) (run_apart cooperative)
+form_apart words few (OnFiles tool, is) =
+    let one = one_name tool is.0 words few is.1 in
+    subst (λ (ws : List Text). has_separator ws ≡ false) (sym one.1) (tool_apart tool one.0 (plain_word one.0 one.2.no_flag).apart)
+form_apart words few (Generate number, is) =
     subst (λ (ws : List Text). has_separator ws ≡ false) (sym is.1) (rw (plain_word is.0 (digits_no_flag is.0 is.2.digits)).apart refl)
-
-run_few : (cooperative : Bool) → length (run_words cooperative) ≤ 2
-run_few true = omega arith
-run_few false = omega arith
-
-pub form_few : (words : List Text) → HasForm words → length words ≤ 2
-form_few words (Run cooperative, is) = subst (λ (ws : List Text). length ws ≤ 2) (sym is) (run_few cooperative)
-form_few words (OnFile call, is) = subst (λ (ws : List Text). length ws ≤ 2) (sym is.words_are) (omega arith)
-form_few words (Generate number, is) = subst (λ (ws : List Text). length ws ≤ 2) (sym is.1) (omega arith)
 
 -- ---- what the matches hold
 

@@ -1,11 +1,11 @@
 -- The words of the command line.
-use Rattle.std.specs.Prelude.{◌≡◌, ◌≤◌, ℕ, ◌==◌, Bool, true, false, ◌&&◌, nat_lt, List, [], ◌∷◌, length, slice_index, codes, Option, Some, None}
+use Rattle.std.specs.Prelude.{◌≡◌, ◌≤◌, ◌<◌, ℕ, ◌==◌, Bool, true, false, ◌&&◌, nat_lt, List, [], ◌∷◌, length, slice_index, All, codes, Option, Some, None}
 use Rattle.std.specs.Str.Parse.{IsNumeral, digits_value}
 use Rattle.daq_types.specs.Names.{IsFileName}
 use Rattle.command_words.specs.declared.forms.Tool.{Tool}
 use Rattle.command_words.specs.declared.forms.Tool.TheVariants.{Check, Dump, Analyze}
 use Rattle.command_words.specs.declared.forms.Form.{Form}
-use Rattle.command_words.specs.declared.forms.Form.TheVariants.{Run, OnFile, Generate}
+use Rattle.command_words.specs.declared.forms.Form.TheVariants.{Run, OnFiles, Generate}
 
 -- the words of a session: `run`, and behind it `--cooperative` where the session is to be so
 abbrev pub run_words : Bool → List (List ℕ)
@@ -31,10 +31,22 @@ pub record IsFileWord (word : List ℕ) : Type 0 where
   pub is_name : IsFileName word
   pub no_flag : is_flag word ≡ false
 
--- the words are a tool's and the name of a file
-pub record IsOnFile (tool : Tool) (name : List ℕ) (words : List (List ℕ)) : Type 0 where
-  pub words_are : words ≡ tool_word tool ∷ name ∷ []
-  pub file : IsFileWord name
+-- how many files a tool reads at most
+abbrev pub most_files : Tool → ℕ
+most_files Check = 10000
+most_files Dump = 1
+most_files Analyze = 10000
+
+-- the words are a tool's and these names of files, one or more
+pub record IsOnFiles (tool : Tool) (names : List (List ℕ)) (words : List (List ℕ)) : Type 0 where
+  pub words_are : words ≡ tool_word tool ∷ names
+  pub some : 0 < length names
+  pub few : length names ≤ most_files tool
+  pub files : All IsFileWord names
+
+-- the words are a tool's and names of files
+abbrev pub IsToolCall : Tool → List (List ℕ) → Type 0
+IsToolCall tool words = (names : List (List ℕ)) × IsOnFiles tool names words
 
 -- a word that writes a number of 32 bits: decimal digits, one or more, with any zeros in front
 pub record IsNumberWord (number : ℕ) (word : List ℕ) : Type 0 where
@@ -50,7 +62,7 @@ IsGenerate number words =
 -- the words have this form
 abbrev pub IsForm : Form → List (List ℕ) → Type 0
 IsForm (Run cooperative) words = words ≡ run_words cooperative
-IsForm (OnFile call) words = IsOnFile call.tool call.name words
+IsForm (OnFiles tool) words = IsToolCall tool words
 IsForm (Generate number) words = IsGenerate number words
 
 -- the words have a form

@@ -1,7 +1,8 @@
 //! The form of words, told without memory, for where there is none to read them with.
-ghost use Rattle.std.specs.Prelude.{◌∷◌, []};
+ghost use Rattle.std.specs.Prelude.{◌∷◌, [], take};
 ghost use Rattle.command_words.specs.CommandLine.{FormIs};
 
+use crate::files::with_files;
 use crate::forms::{Form, form_generate, form_on_file, tool_of};
 use daq_types::Words;
 
@@ -31,14 +32,20 @@ fn form_of_two(first: &str, second: &str) -> Option<Form>
     None
 }
 
+/// The form of the first two words.
+fn form_of_first(words: &Words) -> Option<Form>
+    ensures { FormIs (take 2 words.now) result }
+{
+    let first = words.get(0)?;
+    match words.get(1) {
+        None => form_of_one(first),
+        Some(second) => form_of_two(first, second),
+    }
+}
+
 /// The form of the words; none exactly where they have none.
 pub(crate) fn direct_form(words: &Words) -> Option<Form>
     ensures { FormIs words.now result }
 {
-    let first = words.get(0)?;
-    match words.len() {
-        1 => form_of_one(first),
-        2 => form_of_two(first, words.get(1)?),
-        _ => None,
-    }
+    with_files(form_of_first(words), words)
 }

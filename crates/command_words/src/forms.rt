@@ -1,9 +1,9 @@
 ghost use Rattle.std.specs.Prelude.{◌≡◌, ◌≢◌, ◌∷◌, [], IfSome, IfNone, MatchOption, codes};
-ghost use Rattle.command_words.specs.CommandLine.{FormIs, IsFileWord, IsNumberWord, is_flag, tool_word};
+ghost use Rattle.command_words.specs.CommandLine.{FormIs, IsFileWord, IsNumberWord, is_flag, most_files, tool_word};
 
 use daq_types::FileName;
 
-/// A tool that reads a run file.
+/// A tool that reads run files.
 #[derive(Clone, Copy, Debug, PartialEq, Eq)]
 pub enum Tool {
     Check,
@@ -11,20 +11,13 @@ pub enum Tool {
     Analyze,
 }
 
-/// A call of a tool on the file of this name.
-#[derive(Clone, Copy, Debug, PartialEq, Eq)]
-pub struct ToolCall {
-    pub tool: Tool,
-    pub name: FileName,
-}
-
 /// A form that the words of the command line may have.
 #[derive(Clone, Copy, Debug, PartialEq, Eq)]
 pub enum Form {
     /// A session is run; `cooperative` says that the main thread gives all members their turns.
     Run { cooperative: bool },
-    /// A tool reads a file.
-    OnFile { call: ToolCall },
+    /// A tool reads the files that the words behind the first name.
+    OnFiles { tool: Tool },
     /// A script is written, the one of this number.
     Generate { number: u32 },
 }
@@ -49,8 +42,18 @@ fn is_flag(word: &[u8]) -> bool
     word.len() > 1 && word[0] == b'-'
 }
 
+/// How many files a tool reads at most: `check` and `analyze` read those of one run.
+pub(crate) fn most_files(tool: Tool) -> usize
+    ensures { result ≡ most_files tool }
+{
+    match tool {
+        Tool::Check | Tool::Analyze => 10_000,
+        Tool::Dump => 1,
+    }
+}
+
 /// The file that a word names; none where the word is no name of a file, or a flag.
-fn file_word(word: &str) -> Option<FileName>
+pub(crate) fn file_word(word: &str) -> Option<FileName>
     ensures { MatchOption result (¬ IsFileWord word.now)
         (λ name. (name ≡ word.now) × IsFileWord word.now) }
 {
@@ -75,9 +78,8 @@ fn number_word(word: &str) -> Option<u32>
 pub(crate) fn form_on_file(tool: Tool, word: &str) -> Option<Form>
     ensures { FormIs (tool_word tool ∷ word.now ∷ []) result }
 {
-    let name = file_word(word)?;
-    let call = ToolCall { tool, name };
-    Some(Form::OnFile { call })
+    let _name = file_word(word)?;
+    Some(Form::OnFiles { tool })
 }
 
 /// The form of the word `gen` and the word behind it.

@@ -2,9 +2,11 @@
 #![tactic(auto)]
 
 mod direct;
+mod files;
 mod forms;
 pub mod laws;
 mod reader;
 
-pub use forms::{Form, Tool, ToolCall};
+pub use files::file_names;
+pub use forms::{Form, Tool};
 pub use reader::form_of;

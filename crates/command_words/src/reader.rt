@@ -1,10 +1,11 @@
-ghost use Rattle.std.specs.Prelude.{◌≡◌, ◌≤◌, ◌∷◌, [], Bool, List, ℕ, IfOk, OnErr, Some, None, false, codes, length, map};
+ghost use Rattle.std.specs.Prelude.{◌≡◌, ◌≤◌, ◌∷◌, [], Bool, List, ℕ, IfOk, OnErr, Some, None, false, codes, length, map, take};
 ghost use Rattle.clap.specs.Words.{Row, app_of, first_of, one_of, shape_of, subcommand_rows_of};
 ghost use Rattle.command_words.specs.CommandLine.{FormIs, HasForm, tool_word};
 ghost use Rattle.command_words.specs.declared.forms.Tool.{Tool};
 ghost use Rattle.command_words.specs.Reader.{flag_text, has_separator, midas_app, one_word, run_shape};
 
 use crate::direct::direct_form;
+use crate::files::with_files;
 use crate::forms::{Form, form_generate, form_on_file, tool_of};
 use clap::error::ErrorKind;
 use clap::{Arg, ArgAction, ArgMatches, Command};
@@ -76,7 +77,8 @@ fn form_in(matches: &ArgMatches<'_>) -> Option<Form>
 
 /// The form of words none of which is `--`, as the command reads them.
 fn form_read(alloc: Global, words: &[&str]) -> Result<Option<Form>, NoMemory>
-    requires { has_separator (map (λ word. word.now) words.now) ≡ false }
+    requires few { length words.now ≤ 2 }
+    requires apart { has_separator (map (λ word. word.now) words.now) ≡ false }
     ensures { IfOk result (FormIs (map (λ word. word.now) words.now)) }
 {
     match command(alloc)?.try_get_matches_from(words) {
@@ -88,13 +90,12 @@ fn form_read(alloc: Global, words: &[&str]) -> Result<Option<Form>, NoMemory>
     }
 }
 
-/// The texts of the words.
-fn texts_of(alloc: Global, words: &Words) -> Result<Vec<&str>, AllocError>
-    requires { length words.now ≤ 4294967295 }
-    ensures { IfOk result (λ texts. map (λ word. word.now) texts.items ≡ words.now) }
+/// The texts of the first two words.
+fn first_texts(alloc: Global, words: &Words) -> Result<Vec<&str>, AllocError>
+    ensures { IfOk result (λ texts. map (λ word. word.now) texts.items ≡ take 2 words.now) }
 {
     let mut texts = Vec::new(alloc);
-    for at in 0..words.len() {
+    for at in 0..words.len().min(2) {
         if let Some(word) = words.get(at as u32) {
             texts.push(word)?;
         }
@@ -102,15 +103,11 @@ fn texts_of(alloc: Global, words: &Words) -> Result<Vec<&str>, AllocError>
     Ok(texts)
 }
 
-/// The form of the words, as the command reads them.
+/// The form of the first two words, as the command reads them. Behind these the words of a form name further files.
 fn read(alloc: Global, words: &Words) -> Result<Option<Form>, NoMemory>
-    ensures { IfOk result (FormIs words.now) }
+    ensures { IfOk result (FormIs (take 2 words.now)) }
 {
-    // No form has more than two words, so that words past the numbers of `Words::get` have none.
-    if words.len() > u32::MAX as usize {
-        return Ok(None);
-    }
-    let texts = texts_of(alloc, words)?;
+    let texts = first_texts(alloc, words)?;
     // To the reader `--` says that flags end, and no form has it.
     if texts.contains(&"--") {
         return Ok(None);
@@ -126,7 +123,8 @@ pub fn form_of(alloc: Global, words: &Words) -> Result<Option<Form>, NoMemory>
     ensures no_memory { OnErr result (HasForm words.now) }
 {
     match read(alloc, words) {
+        Ok(first) => Ok(with_files(first, words)),
         Err(NoMemory) if direct_form(words).is_none() => Ok(None),
-        form => form,
+        Err(NoMemory) => Err(NoMemory),
     }
 }

@@ -1,8 +1,8 @@
-use Rattle.std.proofs.Common.{◌≡◌, ◌∙◌, ◌∷◌, ◌++◌, List, ℕ, map, ap, []}
+use Rattle.std.proofs.Common.{◌≡◌, ◌∙◌, ◌∷◌, ◌++◌, List, ℕ, map, ap, [], arith}
 use Rattle.std.specs.Borrow.{Bor}
 use Rattle.command_words.proofs.Texts.{none_within, texts_next}
-use Rattle.command_words.proofs.reader.texts_of.Goals as goal
-use Rattle.command_words.proofs.reader.texts_of.Goals.{in-Some+in_ok-push, in_default}
+use Rattle.command_words.proofs.reader.first_texts.Goals as goal
+use Rattle.command_words.proofs.reader.first_texts.Goals.{in-Some+in_ok-push, in_default}
 
 pub loop-at-preserved : goal.loop-at-preserved
 loop-at-preserved c =
@@ -11,5 +11,5 @@ loop-at-preserved c =
           let items : c.match-get.texts.items ≡ c.loop-at.texts.items ++ w.in-Some.word ∷ [] = ap (λ t. t.items) w.texts-is ∙ w.in_ok-push.ensures.items in
           ap (map (λ (t : Bor (List ℕ)). t.now)) items ∙ texts_next c.args.words.now c.loop-at.at c.loop-at.texts.items w.in-Some.word c.loop-at.invariant w.in-Some.ensures
       | in_default w ↦
-          absurd (none_within c.args.words.now c.loop-at.at w.in_default.ensures (rw (← c.len-at-end.ensures) c.loop-at-test.true))
+          absurd (none_within c.args.words.now c.loop-at.at w.in_default.ensures (omega (arith, c.loop-at-test.true, c.min-at-end.ensures, c.len.ensures)))
     ]

@@ -1,4 +1,6 @@
-use Rattle.std.proofs.Common.{◌≡◌, ◌∙◌, ◌⊎◌, [], true, map, ap, subst, inl, inr, refl}
+use Rattle.std.proofs.Common.{◌≡◌, ◌∙◌, ◌⊎◌, ℕ, List, [], true, map, ap, subst, arith, inl, inr, refl}
+use Rattle.std.specs.Borrow.{Bor}
+use lib.ListN.{length-map}
 use Rattle.clap.specs.Words.{App, app_of, fault_of, is_simple, is_simple_and_free, subcommand_of}
 use Rattle.command_words.specs.Reader.{midas_app}
 use Rattle.command_words.proofs.Reading.{form_clean, form_fits}
@@ -25,12 +27,12 @@ returns-in-Ok c =
       run = c.form_in.ensures.run;
       file = c.form_in.ensures.file;
       number = c.form_in.ensures.number;
-    }) words c.requires clean found
+    }) words c.requires.apart clean found
 
 pub returns : goal.returns
 returns c = λ has.
     let words = map (λ word. word.now) c.args.words.now in
     let app = c.in_ok-command.ensures in
     let kinds = c.in-Err.ensures.kinds (ap is_simple_and_free app ∙ free) in
-    let none : fault_of (app_of c.in_ok-command.field-0) words ≡ [] = ap (λ (a : App). fault_of a words) app ∙ form_clean words has in
+    let none : fault_of (app_of c.in_ok-command.field-0) words ≡ [] = ap (λ (a : App). fault_of a words) app ∙ form_clean words (omega (arith, c.requires.few, length-map c.args.words.now (λ (word : Bor (List ℕ)). word.now))) has in
     c.in_default.not-OutOfMemory (c.kind.ensures ∙ sure (rw none at kinds))
