@@ -1,10 +1,10 @@
 #!/usr/bin/env python3
-"""Draws a histogram of a bank of a run file, as text and as an SVG file.
+"""Draws a histogram of a bank of the files of a run, as text and as an SVG file.
 
-    python3 histogram.py FILE BANK [--bins N] [--svg FILE]
+    python3 histogram.py FILE.. BANK [--bins N] [--svg FILE]
 
 It reads the bytes of run files as docs/formats.md says, so it shows how to read them in a program of one's own, and needs
-nothing but Python 3.8. A file that is no run file is refused with the words of `midas check`, and with its status 3.
+nothing but Python 3.8. Files that are not those of one run are refused with the words of `midas check`, and with its status 3.
 """
 import argparse
 import os
@@ -35,6 +35,10 @@ class Fault(Exception):
     """What is wrong with a file or with the data of an event, in the words of docs/formats.md."""
 
 
+class OtherRun(Exception):
+    """The run of a file, which is another than that of the first."""
+
+
 def padded(size):
     """A size, raised to a multiple of 8."""
     return (size + 7) // 8 * 8
@@ -50,8 +54,9 @@ def record_fault(place, header, run):
     return None
 
 
-def read_events(file):
-    """The events of a run file: run number, header and data of each. Raises Fault at the first fault."""
+def read_events(file, first_run, before):
+    """The events of a run file behind others that have so many bytes: run number, header and data of each. Raises Fault at the
+    first fault; a file of another run than theirs is one. Gives its run and its length."""
     length = os.fstat(file.fileno()).st_size
     place, run = 0, None
     while True:
@@ -67,7 +72,7 @@ def read_events(file):
         event_id, size = header[0], header[4]
         if size > (RECORD_LIMIT if event_id in (BEGIN, END) else EVENT_LIMIT):
             raise Fault(f'TooBig {place} {size}')
-        if place + HEADER.size + size > FILE_LIMIT:
+        if before + place + HEADER.size + size > FILE_LIMIT:
             raise Fault(f'TooLong {place}')
         data = file.read(size)
         if len(data) < size:
@@ -75,12 +80,15 @@ def read_events(file):
         place += HEADER.size + size
         if event_id == BEGIN:
             run = header[2]
+            if first_run not in (None, run):
+                raise OtherRun(run)
         elif event_id == END:
             break
         else:
             yield run, header, data
     if file.read(1):
         raise Fault(f'AfterEnd {place}')
+    return run, place
 
 
 def read_banks(data):
@@ -115,39 +123,54 @@ def read_items(kind, data):
         yield int.from_bytes(data[at : at + size], 'little', signed=signed)
 
 
-def read_numbers(path, bank, counts):
-    """All numbers of the banks of this name in a run file, whichever their integer types. Counts the events, and those without
-    banks."""
-    with open(path, 'rb') as file:
-        for run, _, data in read_events(file):
-            counts['run'] = run
-            counts['events'] += 1
+def read_files(paths):
+    """The events of the files of a run, in order. Raises Fault at the first fault, with the name of the file where there are
+    several."""
+    run, size = None, 0
+    for at, path in enumerate(paths):
+        place = f' in {path}' if len(paths) > 1 else ''
+        with open(path, 'rb') as file:
             try:
-                banks = read_banks(data)
-            except Fault:
-                counts['bad'] += 1
-                continue
-            for name, kind, content in banks:
-                if name == bank and kind in INTEGERS:
-                    yield from read_items(kind, content)
+                run, length = yield from read_events(file, run, size)
+            except OtherRun as other:
+                raise Fault(f'OtherRun {at} {other}{place}') from other
+            except Fault as fault:
+                raise Fault(f'{fault}{place}') from fault
+        size += length
+
+
+def read_numbers(paths, bank, counts):
+    """All numbers of the banks of this name in the files of a run, whichever their integer types. Counts the events, and those
+    without banks."""
+    for run, _, data in read_files(paths):
+        counts['run'] = run
+        counts['events'] += 1
+        try:
+            banks = read_banks(data)
+        except Fault:
+            counts['bad'] += 1
+            continue
+        for name, kind, content in banks:
+            if name == bank and kind in INTEGERS:
+                yield from read_items(kind, content)
 
 
 def new_counts():
     return {'run': None, 'events': 0, 'bad': 0}
 
 
-def fill(path, bank, bins):
+def fill(paths, bank, bins):
     """The histogram of a bank: what was counted, the bins, each with its least and greatest number and how many numbers it has.
-    Goes over the file twice: for the range of the numbers, and then for their bins."""
+    Goes over the files twice: for the range of the numbers, and then for their bins."""
     counts, low, high = new_counts(), None, None
-    for number in read_numbers(path, bank, counts):
+    for number in read_numbers(paths, bank, counts):
         low = number if low is None else min(low, number)
         high = number if high is None else max(high, number)
     if low is None:
         return counts, []
     width = -(-(high - low + 1) // bins)
     heights = [0] * -(-(high - low + 1) // width)
-    for number in read_numbers(path, bank, new_counts()):
+    for number in read_numbers(paths, bank, new_counts()):
         heights[(number - low) // width] += 1
     edges = [low + at * width for at in range(len(heights))]
     return counts, [(edge, min(edge + width - 1, high), height) for edge, height in zip(edges, heights)]
@@ -218,14 +241,14 @@ def bank_name(word):
 
 
 def main():
-    parser = argparse.ArgumentParser(description='Draws a histogram of a bank of a run file.')
-    parser.add_argument('file', help='the run file, as run00001.mid')
+    parser = argparse.ArgumentParser(description='Draws a histogram of a bank of the files of a run.')
+    parser.add_argument('files', nargs='+', metavar='file', help='a file of the run, as run00001.mid')
     parser.add_argument('bank', type=bank_name, help='the name of the bank, as GEN0')
     parser.add_argument('--bins', type=positive, default=16, help='how many bins there are at most (16)')
     parser.add_argument('--svg', help='the file for a picture')
     words = parser.parse_args()
     try:
-        counts, histogram = fill(words.file, words.bank, words.bins)
+        counts, histogram = fill(words.files, words.bank, words.bins)
         title = title_of(words.bank, counts, histogram)
         if not histogram:
             print(title)

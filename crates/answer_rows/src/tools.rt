@@ -273,9 +273,9 @@ fn run_tool(
     out: &mut MemSink,
 ) -> (ToolEnd, MemFiles) {
     match tool {
-        Tool::Check => check_file(alloc, files, name, out),
+        Tool::Check => check_file(alloc, files, &[*name], out),
         Tool::Dump => dump_file(alloc, files, name, out),
-        Tool::Analyze => analyze_file(alloc, files, name, out),
+        Tool::Analyze => analyze_file(alloc, files, &[*name], out),
     }
 }
 
@@ -351,9 +351,9 @@ fn names_that_are_no_file(rt: HostRuntime) {
 
 /// Whether of the tools, one behind the other over these files, the first alone ends by a fault of the sink.
 fn ends_first(alloc: Global, files: MemFiles, name: &FileName, out: &mut MemSink) -> bool {
-    let (checked, files) = check_file(alloc, files, name, out);
+    let (checked, files) = check_file(alloc, files, &[*name], out);
     let (dumped, files) = dump_file(alloc, files, name, out);
-    let (analyzed, _files) = analyze_file(alloc, files, name, out);
+    let (analyzed, _files) = analyze_file(alloc, files, &[*name], out);
     checked == ToolEnd::SinkFault && dumped == ToolEnd::Done && analyzed == ToolEnd::Done
 }
 

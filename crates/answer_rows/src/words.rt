@@ -1,6 +1,6 @@
 //! Lists of words, and the forms that they have.
-use command_words::{Form, Tool, ToolCall, form_of};
-use daq_types::{BadFileName, FileName, NoMemory, Words};
+use command_words::{Form, Tool, file_names, form_of};
+use daq_types::{FileName, NoMemory, Words};
 use std::alloc::{AllocError, Global};
 
 /// Lists of words that have no form.
@@ -39,7 +39,13 @@ const REFUSED: &[&[&str]] = &[
     &["check", ""],
     &["check", "two words"],
     &["check", "\u{e9}.mid"],
-    &["check", "a.mid", "b.mid"],
+    &["check", "a.mid", "-x"],
+    &["check", "a.mid", "--"],
+    &["check", "a.mid", "b.mid", ""],
+    &["analyze", "a.mid", "b.mid", "two words", "c.mid"],
+    &["dump", "a.mid", "b.mid"],
+    &["run", "a.mid", "b.mid"],
+    &["run", "--cooperative", "a.mid"],
     &["analyse", "a.mid"],
     &["a.mid", "check"],
     &["gen"],
@@ -53,71 +59,74 @@ const REFUSED: &[&[&str]] = &[
     &["gen", "1", "2"],
 ];
 
-/// A form, and what its words name.
-#[derive(Clone, Copy)]
-enum Named {
-    /// A session, with or without the flag.
-    Run(bool),
-    /// A tool on the file of this name.
-    OnFile(Tool, &'static str),
-    /// The script of this number.
-    Generate(u32),
-}
-
-/// Lists of words, and their forms.
-const FORMS: &[(&[&str], Named)] = &[
-    (&["run"], Named::Run(false)),
-    (&["run", "--cooperative"], Named::Run(true)),
+/// Lists of words, and their forms. The words of a tool behind its own name its files.
+const FORMS: &[(&[&str], Form)] = &[
+    (&["run"], Form::Run { cooperative: false }),
+    (&["run", "--cooperative"], Form::Run { cooperative: true }),
     (
         &["check", "run00001.mid"],
-        Named::OnFile(Tool::Check, "run00001.mid"),
+        Form::OnFiles { tool: Tool::Check },
     ),
     (
         &["dump", "run00001.mid.gz"],
-        Named::OnFile(Tool::Dump, "run00001.mid.gz"),
+        Form::OnFiles { tool: Tool::Dump },
     ),
     (
         &["analyze", "data/run00001.mid"],
-        Named::OnFile(Tool::Analyze, "data/run00001.mid"),
+        Form::OnFiles {
+            tool: Tool::Analyze,
+        },
     ),
-    (&["check", "-"], Named::OnFile(Tool::Check, "-")),
-    (&["dump", "a-b"], Named::OnFile(Tool::Dump, "a-b")),
-    (&["check", "check"], Named::OnFile(Tool::Check, "check")),
-    (&["check", "help"], Named::OnFile(Tool::Check, "help")),
+    (&["check", "-"], Form::OnFiles { tool: Tool::Check }),
+    (&["dump", "a-b"], Form::OnFiles { tool: Tool::Dump }),
+    (&["check", "check"], Form::OnFiles { tool: Tool::Check }),
+    (&["check", "help"], Form::OnFiles { tool: Tool::Check }),
     (
         &["analyze", "name=value"],
-        Named::OnFile(Tool::Analyze, "name=value"),
+        Form::OnFiles {
+            tool: Tool::Analyze,
+        },
     ),
-    (&["gen", "0"], Named::Generate(0)),
-    (&["gen", "007"], Named::Generate(7)),
-    (&["gen", "42"], Named::Generate(42)),
-    (&["gen", "4294967295"], Named::Generate(4_294_967_295)),
+    (
+        &["check", "a.mid", "b.mid"],
+        Form::OnFiles { tool: Tool::Check },
+    ),
+    (
+        &["analyze", "b.mid", "-", "run", "b.mid"],
+        Form::OnFiles {
+            tool: Tool::Analyze,
+        },
+    ),
+    (&["gen", "0"], Form::Generate { number: 0 }),
+    (&["gen", "007"], Form::Generate { number: 7 }),
+    (&["gen", "42"], Form::Generate { number: 42 }),
+    (
+        &["gen", "4294967295"],
+        Form::Generate {
+            number: 4_294_967_295,
+        },
+    ),
     (
         &["gen", "00000000004294967295"],
-        Named::Generate(4_294_967_295),
+        Form::Generate {
+            number: 4_294_967_295,
+        },
     ),
 ];
 
-/// The form of these words.
-fn read(alloc: Global, list: &[&str]) -> Result<Option<Form>, NoMemory> {
+/// The words of a list.
+fn words_of(alloc: Global, list: &[&str]) -> Result<Words, NoMemory> {
     let mut words = Words::new(alloc);
     for word in list {
         words.add(alloc, word)?;
     }
-    form_of(alloc, &words)
+    Ok(words)
 }
 
-/// The form that names this.
-fn form_with(named: Named) -> Result<Form, BadFileName> {
-    match named {
-        Named::Run(cooperative) => Ok(Form::Run { cooperative }),
-        Named::OnFile(tool, name) => {
-            let name = FileName::new(name)?;
-            let call = ToolCall { tool, name };
-            Ok(Form::OnFile { call })
-        }
-        Named::Generate(number) => Ok(Form::Generate { number }),
-    }
+/// The form of these words.
+fn read(alloc: Global, list: &[&str]) -> Result<Option<Form>, NoMemory> {
+    let words = words_of(alloc, list)?;
+    form_of(alloc, &words)
 }
 
 /// Whether the words have no form.
@@ -133,18 +142,53 @@ fn words_of_no_form(rt: HostRuntime) {
     }
 }
 
-/// Whether the words have this form.
-fn has(alloc: Global, list: &[&str], named: Named) -> Result<bool, NoMemory> {
-    let found = read(alloc, list)?;
-    Ok(form_with(named).is_ok_and(|form| found == Some(form)))
+/// Whether these are the names of the words behind the first.
+fn are_names(names: &[FileName], list: &[&str]) -> bool {
+    names.len() + 1 == list.len()
+        && names
+            .iter()
+            .zip(list.iter().skip(1))
+            .all(|(name, word)| name.as_slice() == word.as_bytes())
+}
+
+/// Whether the words have this form, and, where it is a tool's, name its files.
+fn has(alloc: Global, list: &[&str], form: Form) -> Result<bool, NoMemory> {
+    let words = words_of(alloc, list)?;
+    let found = form_of(alloc, &words)?;
+    if let Some(Form::OnFiles { .. }) = found {
+        let names = file_names(alloc, &words)?;
+        return Ok(found == Some(form) && are_names(names.as_slice(), list));
+    }
+    Ok(found == Some(form))
 }
 
 #[test]
 fn words_of_each_form(rt: HostRuntime) {
-    for (words, named) in FORMS {
-        let is_right = has(rt.alloc(), words, *named);
+    for (words, form) in FORMS {
+        let is_right = has(rt.alloc(), words, *form);
         assert!(rt; matches!(is_right, Ok(true)), "{words:?}");
     }
+}
+
+/// The form of this word and so many names of files behind it.
+fn read_many(alloc: Global, word: &str, count: usize) -> Result<Option<Form>, NoMemory> {
+    let mut words = words_of(alloc, &[word])?;
+    for _ in 0..count {
+        words.add(alloc, "a.mid")?;
+    }
+    form_of(alloc, &words)
+}
+
+/// Whether a tool takes 10,000 files and no more.
+fn are_many(alloc: Global) -> Result<bool, NoMemory> {
+    let most = read_many(alloc, "check", 10_000)?;
+    let more = read_many(alloc, "analyze", 10_001)?;
+    Ok(most == Some(Form::OnFiles { tool: Tool::Check }) && more.is_none())
+}
+
+#[test]
+fn many_words(rt: HostRuntime) {
+    assert!(rt; matches!(are_many(rt.alloc()), Ok(true)));
 }
 
 /// So many of these bytes, and then this text.

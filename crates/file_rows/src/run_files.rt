@@ -210,6 +210,53 @@ fn a_source_that_fails_in_an_event(rt: HostRuntime) -> Result<(), Fail> {
     Ok(())
 }
 
+/// The most bytes that the files of a run have together.
+const MOST: u64 = 1 << 62;
+
+/// The first two answers of a reader of the file behind others of its run, where so many bytes may follow them.
+fn answers_behind(alloc: Global, left: u32) -> Result<[Result<Option<()>, MidFault>; 2], Fail> {
+    let source = MemSource::new(one_event(alloc)?, Vec::new(alloc));
+    let mut into = EventBuf::new(alloc, MAX_DATA)?;
+    let mut reader = MidReader::behind(source, MOST - left as u64);
+    let first = reader.next(&mut into);
+    let second = reader.next(&mut into);
+    Ok([first, second])
+}
+
+/// How many bytes may follow the files before, and, where the file has more, how many bytes stand in front of the header
+/// whose data would end behind them.
+const TOO_LONG: &[(u32, Option<u32>)] = &[
+    (0, Some(0)),
+    (188, Some(0)),
+    (189, Some(189)),
+    (228, Some(189)),
+    (229, Some(229)),
+    (420, Some(229)),
+    (421, None),
+    (500, None),
+];
+
+/// What a reader answers at the end of the file where so many bytes may follow the files before.
+fn end_behind(left: u32, at: Option<u32>) -> Result<Option<()>, MidFault> {
+    match at {
+        None => Ok(None),
+        Some(at) => Err(MidFault::TooLong {
+            at: MOST - left as u64 + at as u64,
+        }),
+    }
+}
+
+#[test]
+fn a_file_behind_others(rt: HostRuntime) -> Result<(), Fail> {
+    for (left, at) in TOO_LONG {
+        let answers = answers_behind(rt.alloc(), *left)?;
+        let end = end_behind(*left, *at);
+        let first = if *left < 229 { end } else { Ok(Some(())) };
+        assert!(rt; answers == [first, end], "{left}");
+    }
+    Ok(())
+}
+
 /// The file with its event three times.
 fn three_events(alloc: Global) -> Result<Vec<u8>, AllocError> {
     file_of(alloc, &[BEGIN, EVENT, EVENT, EVENT, END])

@@ -3,10 +3,11 @@ use Rattle.std.specs.Prelude.{◌≡◌, ℕ, List, Option, Some}
 use Rattle.daq_io.specs.Seen.{Seen}
 use Rattle.midas_cli.specs.declared.causes.Cause.{Cause}
 use Rattle.midas_cli.specs.declared.causes.Cause.TheVariants as causes
-use Rattle.midas_tools.specs.Analyses.{Analyzes}
-use Rattle.midas_tools.specs.Checks.{Checks}
+use Rattle.midas_tools.specs.Analyses.{analysis_text}
+use Rattle.midas_tools.specs.Checks.{check_text}
 use Rattle.midas_tools.specs.Dumps.{WritesOn}
-use Rattle.midas_tools.specs.Findings.{CallCounts, EndsBy, Writes}
+use Rattle.midas_tools.specs.Findings.{CallCounts, EndsBy, HasRun}
+use Rattle.midas_tools.specs.Together.{EndsTogether, OfFirst, WritesTogether}
 use Rattle.midas_tools.specs.declared.ends.ToolEnd.{ToolEnd}
 use Rattle.midas_tools.specs.declared.ends.ToolEnd.TheVariants.{Done, Input, FileFault, SinkFault, NoMemory}
 use Rattle.command_words.specs.declared.forms.Tool.{Tool}
@@ -20,16 +21,24 @@ IsCauseOf FileFault first cause = (name : List ℕ) × (cause ≡ causes.FileFau
 IsCauseOf SinkFault first cause = cause ≡ causes.SinkFault
 IsCauseOf NoMemory first cause = cause ≡ causes.NoMemory
 
--- what each tool writes; where memory is wanting, `dump` has read nothing of the files, and no call on them failed or met a clash
-abbrev pub ToolWrites : Tool → (seen : Seen) (name : List ℕ) → CallCounts → (told_old told_new : Option (List ℕ)) → ToolEnd → Type 0
-ToolWrites Check seen name counts told_old told_new end = Writes Checks seen name told_old told_new end
-ToolWrites Dump seen name counts told_old told_new end =
-    WritesOn seen name counts.read_old counts.read_new told_old told_new end × (end ≡ NoMemory → (counts.files_new ≡ counts.files_old) × (counts.clashes_new ≡ counts.clashes_old) × (counts.read_new ≡ counts.read_old))
-ToolWrites Analyze seen name counts told_old told_new end = Writes Analyzes seen name told_old told_new end
+-- what each tool writes; where memory is wanting, `dump`, which reads one file, has read nothing of the files, and no call on
+-- them failed or met a clash
+abbrev pub ToolWrites : Tool → (seen : Seen) (names : List (List ℕ)) → CallCounts → (told_old told_new : Option (List ℕ)) → ToolEnd → Type 0
+ToolWrites Check seen names counts told_old told_new end = WritesTogether check_text seen names told_old told_new end
+ToolWrites Dump seen names counts told_old told_new end =
+    OfFirst names (λ name. WritesOn seen name counts.read_old counts.read_new told_old told_new end)
+    × (end ≡ NoMemory → (counts.files_new ≡ counts.files_old) × (counts.clashes_new ≡ counts.clashes_old) × (counts.read_new ≡ counts.read_old))
+ToolWrites Analyze seen names counts told_old told_new end = WritesTogether analysis_text seen names told_old told_new end
 
--- A tool was run on the file of this name, and this is its cause.
-pub record ToolRan (tool : Tool) (seen : Seen) (name : List ℕ) (told_old told_new : Option (List ℕ)) (counts : CallCounts) (first : Option (List ℕ)) (cause : Cause) : Type 0 where
+-- why each tool ends
+abbrev pub ToolEnds : Tool → (seen : Seen) (names : List (List ℕ)) → CallCounts → ToolEnd → Type 0
+ToolEnds Check seen names counts end = EndsTogether end seen names counts
+ToolEnds Dump seen names counts end = OfFirst names (λ name. EndsBy end (HasRun seen name) counts)
+ToolEnds Analyze seen names counts end = EndsTogether end seen names counts
+
+-- A tool was run on the files of these names, and this is its cause.
+pub record ToolRan (tool : Tool) (seen : Seen) (names : List (List ℕ)) (told_old told_new : Option (List ℕ)) (counts : CallCounts) (first : Option (List ℕ)) (cause : Cause) : Type 0 where
   pub end : ToolEnd
   pub cause_is : IsCauseOf end first cause
-  pub writes : ToolWrites tool seen name counts told_old told_new end
-  pub ends : EndsBy end seen name counts
+  pub writes : ToolWrites tool seen names counts told_old told_new end
+  pub ends : ToolEnds tool seen names counts end

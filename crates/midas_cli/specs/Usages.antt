@@ -3,4 +3,4 @@ use Rattle.std.specs.Prelude.{ℕ, List, [], ◌∷◌, ◌++◌, codes}
 
 -- the line that is written where the words have no form: the forms of the finished program, which are those of `IsForm`
 abbrev pub usage_line : List ℕ
-usage_line = codes "usage: midas run [--cooperative] | check FILE | dump FILE | analyze FILE | gen N" ++ 10 ∷ []
+usage_line = codes "usage: midas run [--cooperative] | check FILE.. | dump FILE | analyze FILE.. | gen N" ++ 10 ∷ []

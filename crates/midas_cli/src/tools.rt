@@ -1,14 +1,15 @@
-ghost use Rattle.std.specs.Prelude.{◌≡◌, ◌≢◌, [], None};
+ghost use Rattle.std.specs.Prelude.{◌≡◌, ◌≢◌, ◌≤◌, ◌<◌, ◌⊎◌, ℕ, List, [], None, length};
+ghost use Rattle.command_words.specs.CommandLine.{IsOnFiles, IsToolCall};
 ghost use Rattle.daq_io.specs.Seen.{Same};
 ghost use Rattle.midas_cli.specs.Outcomes.{status_of};
-ghost use Rattle.midas_cli.specs.Tools.{IsCauseOf, ToolRan, ToolWrites};
-ghost use Rattle.midas_tools.specs.Findings.{EndsBy, call_counts};
+ghost use Rattle.midas_cli.specs.Tools.{IsCauseOf, ToolEnds, ToolRan, ToolWrites};
+ghost use Rattle.midas_tools.specs.Findings.{call_counts};
 
 use crate::causes::Cause;
 use crate::outcome::Outcome;
-use command_words::{Tool, ToolCall};
+use command_words::{Tool, file_names};
 use daq_io::{Files, Outside, Sink};
-use daq_types::FileName;
+use daq_types::{FileName, NoMemory, Words};
 use midas_tools::{ToolEnd, analyze_file, check_file, dump_file};
 use std::alloc::Global;
 
@@ -29,36 +30,41 @@ fn cause_of<F: Files>(end: ToolEnd, files: &F) -> Cause
     }
 }
 
-/// Calls a tool on the file of this name.
+/// Calls a tool on the files of these names.
 fn call_tool<F: Files, K: Sink>(
     alloc: Global,
     tool: Tool,
     files: F,
-    name: &FileName,
+    names: &[FileName],
     out: &mut K,
 ) -> (ToolEnd, F)
-    ensures writes { ToolWrites tool (F.seen files) name.now (call_counts K.faults F.faults
+    requires some { 0 < length names.now }
+    requires few { length names.now ≤ 10000 }
+    ensures writes { ToolWrites tool (F.seen files) names.now (call_counts K.faults F.faults
         F.clashes F.bytes_read out.old out.new files result.1) (K.written out.old)
         (K.written out.new) result.0 }
-    ensures ends { EndsBy result.0 (F.seen files) name.now (call_counts K.faults F.faults F.clashes
-        F.bytes_read out.old out.new files result.1) }
+    ensures ends { ToolEnds tool (F.seen files) names.now (call_counts K.faults F.faults F.clashes
+        F.bytes_read out.old out.new files result.1) result.0 }
     ensures same { Same (F.seen files) (F.seen result.1) }
 {
     match tool {
-        Tool::Check => check_file(alloc, files, name, out),
-        Tool::Dump => dump_file(alloc, files, name, out),
-        Tool::Analyze => analyze_file(alloc, files, name, out),
+        Tool::Check => check_file(alloc, files, names, out),
+        Tool::Dump => dump_file(alloc, files, &names[0], out),
+        Tool::Analyze => analyze_file(alloc, files, names, out),
     }
 }
 
-/// Runs a tool on a file.
-pub fn run_tool<S, K: Sink, F: Files, E, C, P>(
+/// Runs a tool on the files of these names.
+fn run_on<S, K: Sink, F: Files, E, C, P>(
     alloc: Global,
-    call: ToolCall,
+    tool: Tool,
+    names: &[FileName],
     outside: Outside<S, K, F, E, C, P>,
 ) -> (Outcome, Outside<S, K, F, E, C, P>)
+    requires some { 0 < length names.now }
+    requires few { length names.now ≤ 10000 }
     ensures status { result.0.status ≡ status_of result.0.cause }
-    ensures ran { ToolRan call.tool (F.seen outside.run_files) call.name (K.written outside.out)
+    ensures ran { ToolRan tool (F.seen outside.run_files) names.now (K.written outside.out)
         (K.written result.1.out)
         (call_counts K.faults F.faults F.clashes F.bytes_read outside.out result.1.out
         outside.run_files result.1.run_files)
@@ -79,7 +85,7 @@ pub fn run_tool<S, K: Sink, F: Files, E, C, P>(
         clock,
         pick,
     } = outside;
-    let (end, run_files) = call_tool(alloc, call.tool, run_files, &call.name, &mut out);
+    let (end, run_files) = call_tool(alloc, tool, run_files, names, &mut out);
     let outcome = Outcome::without_script(alloc, cause_of(end, &run_files));
     let outside = Outside {
         src,
@@ -90,4 +96,34 @@ pub fn run_tool<S, K: Sink, F: Files, E, C, P>(
         pick,
     };
     (outcome, outside)
+}
+
+/// Runs a tool on the files that the words behind its own name. Where there is no memory for their names nothing is done.
+pub fn run_tool<S, K: Sink, F: Files, E, C, P>(
+    alloc: Global,
+    tool: Tool,
+    words: &Words,
+    outside: Outside<S, K, F, E, C, P>,
+) -> (Outcome, Outside<S, K, F, E, C, P>)
+    requires { IsToolCall tool words.now }
+    ensures status { result.0.status ≡ status_of result.0.cause }
+    ensures ran { (called : _) → (names : List (List ℕ)) → IsOnFiles called names words.now
+        → ToolRan called (F.seen outside.run_files) names (K.written outside.out)
+        (K.written result.1.out)
+        (call_counts K.faults F.faults F.clashes F.bytes_read outside.out result.1.out
+        outside.run_files result.1.run_files)
+        (F.first result.1.run_files) result.0.cause
+        ⊎ ((result.0.cause ≡ Cause.NoMemory) × (result.1 ≡ outside)) }
+    ensures same { Same (F.seen outside.run_files) (F.seen result.1.run_files) }
+    ensures session { result.0.session ≡ None }
+    ensures file_replies { result.0.file_replies.replies ≡ [] }
+    ensures source { result.1.src ≡ outside.src }
+    ensures clock { result.1.clock ≡ outside.clock }
+    ensures database_files { result.1.odb_files ≡ outside.odb_files }
+    ensures picks { result.1.pick ≡ outside.pick }
+{
+    match file_names(alloc, words) {
+        Ok(names) => run_on(alloc, tool, names.as_slice(), outside),
+        Err(NoMemory) => (Outcome::without_script(alloc, Cause::NoMemory), outside),
+    }
 }

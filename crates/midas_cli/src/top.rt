@@ -3,7 +3,7 @@ ghost use Rattle.std.specs.Io.KnownBytes.{Appends};
 ghost use Rattle.daq_io.specs.Counts.{Rose};
 ghost use Rattle.daq_io.specs.Seen.{Same};
 ghost use Rattle.daq_io.specs.Streams.{AppendsPart};
-ghost use Rattle.command_words.specs.CommandLine.{HasForm, IsGenerate, IsOnFile, IsRunWords};
+ghost use Rattle.command_words.specs.CommandLine.{HasForm, IsGenerate, IsOnFiles, IsRunWords};
 ghost use Rattle.command_words.specs.declared.forms.Tool.{Tool};
 ghost use Rattle.daq_session.specs.Environments.{outside_told};
 ghost use Rattle.daq_session.specs.Sessions.{RunsScript};
@@ -53,10 +53,11 @@ pub fn midas<
     ensures usage_part { ¬ HasForm words.now → AppendsPart (K.written outside.out)
         (K.written result.1.out) usage_line }
     ensures usage_files { ¬ HasForm words.now → result.1.run_files ≡ outside.run_files }
-    // The words of a tool: what it found and wrote, and why it ended; or nothing was done where the words found no memory.
+    // The words of a tool: what it found under the names behind its own and wrote, and why it ended; or nothing was done where
+    // the words or the names found no memory.
     // Every name and byte of the run files stays.
-    ensures tool { (tool : Tool) → (name : List ℕ) → IsOnFile tool name words.now
-        → ToolRan tool (F.seen outside.run_files) name (K.written outside.out)
+    ensures tool { (tool : Tool) → (names : List (List ℕ)) → IsOnFiles tool names words.now
+        → ToolRan tool (F.seen outside.run_files) names (K.written outside.out)
         (K.written result.1.out)
         (call_counts K.faults F.faults F.clashes F.bytes_read outside.out result.1.out
         outside.run_files result.1.run_files)
@@ -89,7 +90,7 @@ pub fn midas<
     match form_of(alloc, words) {
         Err(NoMemory) => (Outcome::without_script(alloc, Cause::NoMemory), outside),
         Ok(None) => refuse_words(alloc, outside),
-        Ok(Some(Form::OnFile { call })) => run_tool(alloc, call, outside),
+        Ok(Some(Form::OnFiles { tool })) => run_tool(alloc, tool, words, outside),
         Ok(Some(Form::Generate { number })) => generate(alloc, number, outside),
         Ok(Some(Form::Run { cooperative })) => {
             let (end, session, file_replies, outside) = run_script(

@@ -11,7 +11,7 @@ use std::alloc::Global;
 
 /// The line that is written where the words have no form.
 const USAGE: &str =
-    "usage: midas run [--cooperative] | check FILE | dump FILE | analyze FILE | gen N\n";
+    "usage: midas run [--cooperative] | check FILE.. | dump FILE | analyze FILE.. | gen N\n";
 
 /// Writes the line that tells which forms the words may have.
 fn write_usage<K: Sink>(out: &mut K)

@@ -38,7 +38,7 @@ fn files_of(alloc: Global, room: u64, fails: &[FileFail]) -> Result<MemFiles, No
 /// The run files of a row.
 fn run_files_of(alloc: Global, row: &Row) -> Result<MemFiles, NoMemory> {
     let mut files = files_of(alloc, row.room, row.run_fails)?;
-    if let Some((name, parts)) = row.run_file {
+    for (name, parts) in row.old_files {
         add_file(alloc, &mut files, name, parts)?;
     }
     Ok(files)

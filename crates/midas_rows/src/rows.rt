@@ -19,8 +19,8 @@ pub struct Row {
     pub script: &'static str,
     /// What the script ends with.
     pub repeated: Option<Repeated>,
-    /// A run file that is there already: its name, and the parts of its bytes.
-    pub run_file: Option<(&'static str, &'static [&'static [u8]])>,
+    /// Run files that are there already: the name of each, and the parts of its bytes.
+    pub old_files: &'static [(&'static str, &'static [&'static [u8]])],
     /// A file of the database: name and text.
     pub dump: Option<(&'static str, &'static str)>,
     /// How many bytes a file may have.
@@ -46,7 +46,7 @@ pub const PLAIN: Row = Row {
     title: "",
     script: "",
     repeated: None,
-    run_file: None,
+    old_files: &[],
     dump: None,
     room: 2000,
     source_fails: &[],

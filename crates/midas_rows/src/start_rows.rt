@@ -6,7 +6,7 @@ pub static START_ROWS: [Row; 14] = [
     Row {
         title: "A start that is refused for a taken name",
         script: "start\nget \"/Runinfo/Run number\"\n",
-        run_file: Some(("run00001.mid", &[b"as it was"])),
+        old_files: &[("run00001.mid", &[b"as it was"])],
         run_files: &["run00001.mid"],
         ..PLAIN
     },
@@ -14,7 +14,7 @@ pub static START_ROWS: [Row; 14] = [
         title: "A front-end that gets no turn of a start that is refused for a taken name",
         script: "start\nwatch /Equipment\nstart\nnotes 0\nset \"/Runinfo/Run number\" 1\nstart\n\
             notes 0\nstop\n",
-        run_file: Some(("run00001.mid", &[b"as it was"])),
+        old_files: &[("run00001.mid", &[b"as it was"])],
         run_files: &["run00001.mid"],
         ..PLAIN
     },

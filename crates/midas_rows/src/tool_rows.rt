@@ -3,33 +3,41 @@ use crate::rows::{PLAIN, Row};
 use daq_mem::{FileFail, FileOp};
 use worked_dumps::{BEGIN, END, EVENT};
 
+/// The end record of a piece of run 1 behind which another piece follows: at the time of the start, with an empty dump.
+const PIECE_END: &[u8] = b"\x01\x80\x4D\x49\x01\x00\x00\x00\xE8\x03\x00\x00\x00\x00\x00\x00";
+
+/// The file of run 2, which has no events and empty dumps.
+const OTHER_RUN: &[u8] = b"\
+    \x00\x80\x4D\x49\x02\x00\x00\x00\xF2\x03\x00\x00\x00\x00\x00\x00\
+    \x01\x80\x4D\x49\x02\x00\x00\x00\xFC\x03\x00\x00\x00\x00\x00\x00";
+
 /// The rows.
-pub static TOOL_ROWS: [Row; 5] = [
+pub static TOOL_ROWS: [Row; 6] = [
     Row {
         title: "An empty run file",
         script: "",
-        run_file: Some(("run00001.mid", &[])),
+        old_files: &[("run00001.mid", &[])],
         tools: &[&["check", "run00001.mid"]],
         ..PLAIN
     },
     Row {
         title: "The first bytes of a run file",
-        run_file: Some((
+        old_files: &[(
             "run00001.mid",
             &[b"\x00\x80\x4D\x49\x01\x00\x00\x00\xE8\x03"],
-        )),
+        )],
         tools: &[&["check", "run00001.mid"]],
         ..PLAIN
     },
     Row {
         title: "A run file without its end record",
-        run_file: Some(("run00001.mid", &[BEGIN, EVENT])),
+        old_files: &[("run00001.mid", &[BEGIN, EVENT])],
         tools: &[&["check", "run00001.mid"]],
         ..PLAIN
     },
     Row {
         title: "A run file with a byte behind its end",
-        run_file: Some(("run00001.mid", &[BEGIN, EVENT, END, b"\n"])),
+        old_files: &[("run00001.mid", &[BEGIN, EVENT, END, b"\n"])],
         tools: &[&["check", "run00001.mid"]],
         ..PLAIN
     },
@@ -50,6 +58,30 @@ pub static TOOL_ROWS: [Row; 5] = [
             &["check", "-v"],
             &["--help"],
             &["gen", "4294967296"],
+        ],
+        ..PLAIN
+    },
+    Row {
+        title: "Pieces of one run, and a file of another",
+        old_files: &[
+            ("run00001sub0000.mid", &[BEGIN, EVENT, EVENT, PIECE_END]),
+            ("run00001sub0001.mid", &[BEGIN, EVENT, END]),
+            ("run00002sub0000.mid", &[OTHER_RUN]),
+        ],
+        tools: &[
+            &["check", "run00001sub0000.mid", "run00001sub0001.mid"],
+            &["analyze", "run00001sub0000.mid", "run00001sub0001.mid"],
+            &["check", "run00001sub0000.mid"],
+            &["check", "run00001sub0000.mid", "run00002sub0000.mid"],
+            &[
+                "analyze",
+                "run00001sub0000.mid",
+                "run00001sub0001.mid",
+                "no.mid",
+            ],
+            &["check", "no.mid", "run00001sub0000.mid"],
+            &["check", "run00002sub0000.mid", "run00002sub0000.mid.gz"],
+            &["dump", "run00001sub0000.mid", "run00001sub0001.mid"],
         ],
         ..PLAIN
     },
@@ -75,7 +107,7 @@ const TOOL_FAILS: &[FileFail] = &[
 pub static TOOL_FAULT_ROWS: [Row; 3] = [
     Row {
         title: "Calls of `check` on a file that fail",
-        run_file: Some(("run00001.mid", &[BEGIN, EVENT, END])),
+        old_files: &[("run00001.mid", &[BEGIN, EVENT, END])],
         run_fails: TOOL_FAILS,
         tools: &[
             &["check", "run00001.mid"],
@@ -87,7 +119,7 @@ pub static TOOL_FAULT_ROWS: [Row; 3] = [
     },
     Row {
         title: "Calls of `dump` on a file that fail",
-        run_file: Some(("run00001.mid", &[BEGIN, EVENT, END])),
+        old_files: &[("run00001.mid", &[BEGIN, EVENT, END])],
         run_fails: TOOL_FAILS,
         tools: &[
             &["dump", "run00001.mid"],
@@ -99,7 +131,7 @@ pub static TOOL_FAULT_ROWS: [Row; 3] = [
     },
     Row {
         title: "Calls of `analyze` on a file that fail",
-        run_file: Some(("run00001.mid", &[BEGIN, EVENT, END])),
+        old_files: &[("run00001.mid", &[BEGIN, EVENT, END])],
         run_fails: TOOL_FAILS,
         tools: &[
             &["analyze", "run00001.mid"],

@@ -1,5 +1,5 @@
 -- What `analyze` prints of a run file of a session is the report of an analyzer that asked for the same events.
-use Rattle.std.proofs.Common.{◌≡◌, ◌∙◌, ℕ, ◌<◌, ◌^◌, List, [], ◌++◌, length, All, Option, Some, None, ap, sym, subst, get_or}
+use Rattle.std.proofs.Common.{◌≡◌, ◌∙◌, ℕ, ◌<◌, ◌^◌, List, [], ◌∷◌, ◌++◌, length, All, Option, Some, None, ap, sym, subst, get_or}
 use Rattle.std.specs.Prelude.{IsTrue, slice_get}
 use Rattle.std.specs.Io.KnownBytes.{Appends}
 use Rattle.std.proofs.lemmas.List.Elements.{All-map, All-filter, All-contains}
@@ -35,6 +35,7 @@ use Rattle.session_laws.specs.ClosedSessions.{ClosedSession}
 use Rattle.daq_session.specs.ToldRecords.{IsFileOfRun, IsFrontEvent, RunTells, events_of_run}
 use Rattle.midas_tools.specs.Analyses.{Analyzes, analysis_text}
 use Rattle.midas_tools.specs.Findings.{IsThere, Writes}
+use Rattle.midas_tools.specs.Together.{WritesTogether}
 use Rattle.midas_tools.specs.Texts.{run_number_line}
 use Rattle.midas_tools.specs.declared.ends.ToolEnd.{ToolEnd}
 use Rattle.midas_tools.specs.declared.ends.ToolEnd.TheVariants.{Done}
@@ -46,6 +47,11 @@ abbrev pub AnalysisPrinted : Type 0
 AnalysisPrinted = (bytes : List ℕ) → (run time0 : ℕ) → (dump0 : List ℕ) → (events : List Event) → (time1 : ℕ) → (dump1 text : List ℕ)
     → IsRunFile bytes run time0 dump0 events time1 dump1 → run < 2 ^ 32 → All (λ e. e.id < 2 ^ 16) events → Analyzes bytes None text
     → text ≡ analysis_text run events (length bytes)
+
+-- the law that one file is read as one
+abbrev pub OneFileWritten : Type 0
+OneFileWritten = (seen : Seen) → (name : List ℕ) → (told_old told_new : Option (List ℕ)) → (end : ToolEnd)
+    → WritesTogether analysis_text seen (name ∷ []) told_old told_new end → Writes Analyzes seen name told_old told_new end
 
 abbrev HasShortId : Event → Type 0
 HasShortId e = e.id < 2 ^ 16
@@ -77,7 +83,7 @@ module _ (c : ClosedSession) (moments : (client : ℕ) → List ℕ) (own : Main
       (All-filter (λ (at : ℕ × Sent). matches channel.id channel.mask at.1.event) (λ (at : ℕ × Sent). HasShortId at.1.event) whole
       (λ k d inside. event_small channel.buffer b k (get_or whole k d) there (slice_get-get_or whole k d inside)))
 
-  module _ (prints : AnalysisPrinted) (file : FileRecord) (report : Totals) (has : HasFileAndReport declared buffers c.engine run file report) where
+  module _ (prints : AnalysisPrinted) (one : OneFileWritten) (file : FileRecord) (report : Totals) (has : HasFileAndReport declared buffers c.engine run file report) where
     last : (dump : List ℕ) × IsFileOfRun declared buffers c.files run tells.so.fits.start.dump dump file
     last = let its = tells.files has.index file has.file_at has.ended in (its.0, its.2)
 
@@ -112,18 +118,19 @@ module _ (c : ClosedSession) (moments : (client : ℕ) → List ℕ) (own : Main
         printed ∙ ap (λ (t : Totals). run_number_line run.run ++ report_text [] t) same_report
 
     written : (seen : Seen) (told_old told_new : Option (List ℕ)) → IsTrue c.files.tells → IsTrue seen.tells → seen.at file.name ≡ c.files.at file.name
-        → Writes Analyzes seen file.name told_old told_new Done → Appends told_old told_new (run_number_line run.run ++ report_text [] report)
-    written seen told_old told_new files_tell tell at wrote =
+        → WritesTogether analysis_text seen (file.name ∷ []) told_old told_new Done → Appends told_old told_new (run_number_line run.run ++ report_text [] report)
+    written seen told_old told_new files_tell tell at together =
+        let wrote : Writes Analyzes seen file.name told_old told_new Done = one seen file.name told_old told_new Done together in
         let there : IsThere seen file.name (λ bytes. Analyzes bytes None wrote.text) = wrote.finds.1 tell in
         let same : there.file.bytes ≡ its_file.bytes = same_bytes there.file its_file.bytes (sym there.at_is ∙ at ∙ its_file.stored.holds files_tell) in
         subst (λ (t : List ℕ). Appends told_old told_new t) (text_is there.file.bytes wrote.text same there.fact) wrote.written
 
     prints_report : PrintsReport c.files file.name run.run report
     prints_report seen told_old told_new end files_tell tell at wrote done =
-        written seen told_old told_new files_tell tell at (subst (λ (e : ToolEnd). Writes Analyzes seen file.name told_old told_new e) done wrote)
+        written seen told_old told_new files_tell tell at (subst (λ (e : ToolEnd). WritesTogether analysis_text seen (file.name ∷ []) told_old told_new e) done wrote)
 
-pub reports_back : AnalysisPrinted → ReportsReadBack
-reports_back prints = λ c moments own declared buffers first now run sound tells file report has. prints_report c moments own declared buffers first now run sound tells prints file report has
+pub reports_back : AnalysisPrinted → OneFileWritten → ReportsReadBack
+reports_back prints one = λ c moments own declared buffers first now run sound tells file report has. prints_report c moments own declared buffers first now run sound tells prints one file report has
 
 pub session_back : {D F K : Type 0} {g : _} (told : CrewTold Generator F K) (r : SessionRecord D g) → ReportsReadBack → SessionReadsBack told r
 session_back told r back = λ first_files final run_files kept number run at came file report has.

@@ -1,5 +1,5 @@
 -- A run file and a report of one run that came about in a session: what `analyze` prints of the one is the other.
-use Rattle.std.specs.Prelude.{◌≡◌, ℕ, suc, ◌+◌, ◌++◌, IsTrue, List, [], length, slice_get, Contains, Option, Some}
+use Rattle.std.specs.Prelude.{◌≡◌, ℕ, suc, ◌+◌, ◌∷◌, ◌++◌, IsTrue, List, [], length, slice_get, Contains, Option, Some}
 use Rattle.std.specs.Io.KnownBytes.{Appends}
 use Rattle.daq_types.specs.Callers.{caller_of_client}
 use Rattle.daq_types.specs.declared.runs.ChannelState.TheVariants.{Ended}
@@ -26,8 +26,8 @@ use Rattle.session_laws.specs.ClosedSessions.{ClosedSession}
 use Rattle.session_lines.specs.Stages.{SessionStage}
 use Rattle.daq_session.specs.Sessions.{KeepsSession}
 use Rattle.daq_session.specs.ToldRecords.{IsCountedInRun, RunTells}
-use Rattle.midas_tools.specs.Analyses.{Analyzes}
-use Rattle.midas_tools.specs.Findings.{Writes}
+use Rattle.midas_tools.specs.Analyses.{analysis_text}
+use Rattle.midas_tools.specs.Together.{WritesTogether}
 use Rattle.midas_tools.specs.Texts.{run_number_line}
 use Rattle.midas_tools.specs.declared.ends.ToolEnd.{ToolEnd}
 use Rattle.midas_tools.specs.declared.ends.ToolEnd.TheVariants.{Done}
@@ -67,7 +67,7 @@ pub record HasFileAndReport (declared : Declared) (buffers : List BufferRecord) 
 abbrev pub PrintsReport : (files : Seen) (name : List ℕ) (run : ℕ) (report : Totals) → Type 0
 PrintsReport files name run report = (seen : Seen) → (told_old told_new : Option (List ℕ)) → (end : ToolEnd) →
     IsTrue files.tells → IsTrue seen.tells → seen.at name ≡ files.at name →
-    Writes Analyzes seen name told_old told_new end → end ≡ Done →
+    WritesTogether analysis_text seen (name ∷ []) told_old told_new end → end ≡ Done →
     Appends told_old told_new (run_number_line run ++ report_text [] report)
 
 -- Where the declarations are sound and all is so that is told of a run: the file and the report of one request agree.

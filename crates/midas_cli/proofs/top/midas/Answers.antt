@@ -1,11 +1,11 @@
 use Rattle.std.proofs.Common.{inl}
-use Rattle.command_words.specs.declared.forms.Form.TheVariants.{Run, OnFile, Generate}
+use Rattle.command_words.specs.declared.forms.Form.TheVariants.{Run, OnFiles, Generate}
 use Rattle.midas_cli.proofs.Forms.{no_form}
 use Rattle.midas_cli.proofs.top.midas.Goals as goal
 
 pub returns-in-Ok-None-clause-tool : goal.returns-in-Ok-None-clause-tool
-returns-in-Ok-None-clause-tool g c = λ tool name is.
-    absurd (no_form c.in-Ok-None.field-0 c.in-Ok-None.field-0-is c.in-Ok-None.ensures.form (OnFile (record { tool = tool; name = name }), is))
+returns-in-Ok-None-clause-tool g c = λ tool names is.
+    absurd (no_form c.in-Ok-None.field-0 c.in-Ok-None.field-0-is c.in-Ok-None.ensures.form (OnFiles tool, (names, is)))
 
 pub returns-in-Ok-None-clause-generated : goal.returns-in-Ok-None-clause-generated
 returns-in-Ok-None-clause-generated g c = λ number is.
