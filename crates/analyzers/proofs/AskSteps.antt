@@ -12,9 +12,8 @@ use Rattle.buffer_core.specs.declared.entry.BufferEntry.{BufferEntry}
 use Rattle.buffer_core.specs.declared.entry.BufferEntry.TheVariants.{Request}
 use Rattle.buffer_core.specs.Ports.{Access, GotEvent, PortCalled}
 use Rattle.event_report.specs.Reports.{Totals, report_of}
-use Rattle.transitions.specs.declared.answers.Answer.{Answer}
 use Rattle.transitions.specs.declared.answers.Answer.TheVariants.{Yes, No}
-use Rattle.transitions.specs.declared.answers.Tally.{Tally}
+use Rattle.member_model.specs.RunEngines.{Answer, Tally}
 use Rattle.transitions.specs.declared.answers.Tally.TheVariants.{Plain, Report}
 use Rattle.member_model.specs.Turns.{MemberTurn, NoneOpen, latest_answered}
 use Rattle.member_model.specs.OwnCalls.{calls_after}

@@ -14,7 +14,7 @@ use Rattle.buffer_core.specs.declared.replies.RequestRefusal.{RequestRefusal}
 use Rattle.buffer_core.specs.declared.entry.BufferEntry.{BufferEntry}
 use Rattle.buffer_core.specs.Ports.{Access, GotEvent}
 use Rattle.event_report.specs.Reports.{Totals}
-use Rattle.transitions.specs.declared.answers.Answer.{Answer}
+use Rattle.member_model.specs.RunEngines.{Answer}
 use Rattle.transitions.specs.declared.answers.Answer.TheVariants.{Yes, No}
 use Rattle.transitions.specs.declared.answers.Tally.TheVariants.{Plain, Report}
 use Rattle.member_model.specs.Turns.{MemberTurn, IsAcceptedStart, IsNewStart, IsOfRun, IsNextTurn, AreEngineTurns, current_run, latest_answered}

@@ -18,10 +18,10 @@ use buffer_core::{BufferPort, Received};
 use daq_types::{Kind, Name, NoMemory, Order, Transition, Why};
 use event::EventBuf;
 use event_report::Report;
+use member_model::{Answer, Tally};
 use std::alloc::Global;
 use std::marker::Model;
 use std::sync::Wait;
-use transitions::{Answer, Tally};
 
 /// An analyzer: it takes part in runs by its turns, receives the events that it asks for, and counts those of the run. Only
 /// `new` takes memory.

@@ -20,18 +20,15 @@ use Rattle.buffer_core.specs.Window.{opening, no_clients, no_requests, any}
 use Rattle.buffer_core.specs.Histories.{History, IsLegal}
 use Rattle.buffer_core.specs.Samples.{sample_event, longer_event}
 use Rattle.event_report.specs.Reports.{Totals, report_of}
-use Rattle.transitions.specs.declared.sheet.Sheet.{Sheet}
-use Rattle.transitions.specs.declared.answers.Answer.{Answer as ClientAnswer}
 use Rattle.transitions.specs.declared.answers.Answer.TheVariants.{Yes}
 use Rattle.transitions.specs.declared.answers.Tally.TheVariants.{Plain, Channels, Report}
-use Rattle.transitions.specs.declared.entry.EngineEntry.{EngineEntry}
 use Rattle.transitions.specs.declared.entry.EngineEntry.TheVariants.{Register, Begin}
 use Rattle.transitions.specs.Called.{called_list}
 use Rattle.transitions.specs.Engines.{engine_opening}
 use Rattle.transitions.specs.EngineCalls.{order_for}
-use Rattle.transitions.specs.EngineHistories.{EngineHistory, IsLegalEngine, IsSheet}
 use Rattle.transitions.specs.EngineSamples.{at_all}
 use Rattle.transitions.specs.Sequences.{sequence_for}
+use Rattle.member_model.specs.RunEngines.{Sheet, Answer as ClientAnswer, EngineEntry, EngineHistory, IsLegalEngine, IsSheet}
 use Rattle.member_model.specs.Turns.{MemberTurn, HasTurn}
 use Rattle.member_model.specs.SentCalls.{EachCall}
 use Rattle.member_model.specs.OwnCalls.{calls_after, AreOwnCalls, SendsNone, AreGivenBy}

@@ -19,18 +19,15 @@ use Rattle.buffer_core.specs.declared.entry.BufferEntry.TheVariants.{Begin as Bu
 use Rattle.buffer_core.specs.Histories.{History}
 use Rattle.buffer_core.specs.Runs.{segment}
 use Rattle.buffer_core.specs.Readers.{among, places_got, places_of, wanted}
-use Rattle.transitions.specs.declared.sheet.Sheet.{Sheet}
-use Rattle.transitions.specs.declared.answers.ClientTally.{ClientTally}
-use Rattle.transitions.specs.declared.answers.Answer.{Answer}
 use Rattle.transitions.specs.declared.answers.Answer.TheVariants.{Yes, No}
-use Rattle.transitions.specs.declared.answers.Tally.{Tally}
 use Rattle.transitions.specs.declared.answers.Tally.TheVariants.{Plain, Channels}
 use Rattle.transitions.specs.declared.replies.Progress.TheVariants.{Done}
 use Rattle.transitions.specs.declared.entry.EngineEntry.TheVariants.{Begin, Check}
-use Rattle.transitions.specs.Engines.{EngineState, engine_opening}
+use Rattle.transitions.specs.Engines.{engine_opening}
 use Rattle.transitions.specs.EngineCalls.{engine_after}
 use Rattle.transitions.specs.EnginePoints.{tally_of}
-use Rattle.transitions.specs.EngineHistories.{EngineHistory, IsLegalEngine, IsShort, IsSheet}
+use Rattle.transitions.specs.EngineHistories.{IsShort}
+use Rattle.member_model.specs.RunEngines.{Sheet, ClientTally, Answer, Tally, EngineState, EngineHistory, IsLegalEngine, IsSheet}
 use Rattle.member_model.specs.Turns.{MemberTurn, HasTurnOf, IsAcceptedStart, HasAnswer}
 use Rattle.member_model.specs.ReadRuns.{HasReadRun}
 use Rattle.member_model.specs.SentCalls.{EachCall}

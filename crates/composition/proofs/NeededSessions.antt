@@ -29,20 +29,15 @@ use Rattle.odb_watch.specs.declared.entry.WatchEntry.TheVariants.{Watch}
 use Rattle.odb_watch.specs.DatabasePorts.{row_calls}
 use Rattle.odb_runinfo.specs.RunKeys.{sent_path}
 use Rattle.odb_runinfo.specs.RunSets.{AreSets, sent_set}
-use Rattle.transitions.specs.declared.sheet.Sheet.{Sheet}
-use Rattle.transitions.specs.declared.answers.Answer.{Answer as ClientAnswer}
 use Rattle.transitions.specs.declared.answers.Answer.TheVariants.{Yes}
-use Rattle.transitions.specs.declared.answers.Tally.{Tally}
 use Rattle.transitions.specs.declared.answers.Tally.TheVariants.{Plain, Front, Channels, Report}
-use Rattle.transitions.specs.declared.answers.ClientTally.{ClientTally}
-use Rattle.transitions.specs.declared.entry.EngineEntry.{EngineEntry}
 use Rattle.transitions.specs.declared.entry.EngineEntry.TheVariants.{Register, Begin}
 use Rattle.transitions.specs.Called.{called_list}
 use Rattle.transitions.specs.Engines.{engine_opening}
 use Rattle.transitions.specs.EngineCalls.{order_for}
-use Rattle.transitions.specs.EngineHistories.{EngineHistory, IsLegalEngine}
 use Rattle.transitions.specs.EngineSamples.{at_all}
 use Rattle.transitions.specs.Sequences.{sequence_for}
+use Rattle.member_model.specs.RunEngines.{Sheet, Answer as ClientAnswer, Tally, ClientTally, EngineEntry, EngineHistory, IsLegalEngine}
 use Rattle.member_model.specs.Turns.{MemberTurn, HasTurn}
 use Rattle.member_model.specs.Moments.{HasMoment}
 use Rattle.member_model.specs.SentCalls.{own_sent, EachCall}

@@ -11,11 +11,10 @@ use Rattle.buffer_core.specs.Runs.{segment}
 use Rattle.buffer_core.specs.Readers.{wanted}
 use Rattle.buffer_core.specs.Ports.{GotEvent}
 use Rattle.event_report.specs.Reports.{Totals}
-use Rattle.transitions.specs.declared.answers.Answer.{Answer}
 use Rattle.transitions.specs.declared.answers.Answer.TheVariants.{Yes, No}
-use Rattle.transitions.specs.declared.answers.Tally.{Tally}
 use Rattle.transitions.specs.declared.answers.Tally.TheVariants.{Plain, Report}
 use Rattle.transitions.specs.EnginePoints.{tally_of}
+use Rattle.member_model.specs.RunEngines.{Answer, Tally}
 use Rattle.member_model.specs.Turns.{MemberTurn, IsAcceptedStart, AreEngineTurns}
 use Rattle.analyzers.specs.CountedRuns.{counted_calls}
 use Rattle.analyzers.specs.AnalyzerKept.{IsReportOfRun, KeepsAnalyzer}

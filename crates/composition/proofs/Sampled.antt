@@ -26,22 +26,19 @@ use Rattle.buffer_core.specs.Samples.{sample_event}
 use Rattle.odb_value.specs.declared.items.Item.TheVariants.{UInt64}
 use Rattle.odb_tree.specs.declared.entry.DatabaseEntry.TheVariants.{Set}
 use Rattle.odb_runinfo.specs.RunKeys.{sent_path}
-use Rattle.transitions.specs.declared.sheet.Sheet.{Sheet}
-use Rattle.transitions.specs.declared.answers.Answer.{Answer as ClientAnswer}
 use Rattle.transitions.specs.declared.answers.Answer.TheVariants.{Yes}
 use Rattle.transitions.specs.declared.answers.Tally.TheVariants.{Plain, Front, Channels}
-use Rattle.transitions.specs.declared.entry.EngineEntry.{EngineEntry}
 use Rattle.transitions.specs.declared.entry.EngineEntry.TheVariants.{Register, Begin}
 use Rattle.transitions.specs.Called.{called_list}
 use Rattle.transitions.specs.Engines.{engine_opening}
 use Rattle.transitions.specs.EngineCalls.{order_for}
-use Rattle.transitions.specs.EngineHistories.{EngineHistory, IsLegalEngine, IsSheet}
 use Rattle.transitions.specs.EngineSamples.{at_all}
 use Rattle.member_model.specs.Turns.{MemberTurn, HasTurn, HasTurnOf}
 use Rattle.member_model.specs.Moments.{HasMoment}
 use Rattle.member_model.specs.SentCalls.{SendsNotIn, EachCall}
 use Rattle.member_model.specs.OwnCalls.{calls_after, AreOwnCalls, SendsNone}
 use Rattle.transitions.specs.Sequences.{sequence_for}
+use Rattle.member_model.specs.RunEngines.{Sheet, Answer as ClientAnswer, EngineEntry, EngineHistory, IsLegalEngine, IsSheet}
 use Rattle.member_model.specs.ReadRuns.{HasReadRun}
 use Rattle.member_model.specs.LoggerKept.{LoggerChannel, LoggerPort, HasWritten, TellsState, IsStartAnswer, IsStateSo, KeepsLogger}
 use Rattle.front_ends.specs.Spans.{HasSpan}

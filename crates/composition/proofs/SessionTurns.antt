@@ -10,17 +10,14 @@ use Rattle.daq_types.specs.declared.runs.RunState.TheVariants.{Stopped}
 use Rattle.daq_types.specs.declared.runs.StartOutcome.TheVariants.{Completed}
 use Rattle.daq_types.specs.declared.runs.Transition.{Transition}
 use Rattle.daq_types.specs.declared.runs.Transition.TheVariants.{Start, Stop, StartAbort}
-use Rattle.transitions.specs.declared.sheet.Sheet.{Sheet}
-use Rattle.transitions.specs.declared.answers.Tally.{Tally}
 use Rattle.transitions.specs.declared.replies.Polled.TheVariants.{Turn, Idle, Closed as PollClosed, NoClient}
 use Rattle.transitions.specs.declared.replies.Progress.TheVariants.{Done}
-use Rattle.transitions.specs.declared.entry.EngineEntry.{EngineEntry}
 use Rattle.transitions.specs.declared.entry.EngineEntry.TheVariants.{Register, Begin, Poll, Answer, Check, Close}
 use Rattle.transitions.specs.Engines.{engine_opening}
 use Rattle.transitions.specs.EngineCalls.{order_for}
 use Rattle.transitions.specs.EnginePoints.{engine_past, state_at}
-use Rattle.transitions.specs.EngineHistories.{EngineHistory, IsLegalEngine}
 use Rattle.transitions.specs.GivenTurns.{is_of_client, SpeaksFor}
+use Rattle.member_model.specs.RunEngines.{Sheet, Tally, EngineEntry, EngineHistory, IsLegalEngine}
 use Rattle.member_model.specs.Turns.{MemberTurn, HasTurn, HasTurnOf, IsNewStart, IsNextTurn, AreEngineTurns}
 use Rattle.engine_laws.specs.BegunTurns.{IsOfBegin, WasBegun, HasTally, IsTallyOfTurn}
 use Rattle.engine_laws.specs.EngineLaws.{GivesEngineTurns, TurnsWereBegun, StartsFromStopped, TalliesAreAnswers, CalledAreTold}

@@ -9,16 +9,14 @@ use Rattle.daq_types.specs.declared.runs.StartOutcome.TheVariants.{Completed}
 use Rattle.daq_types.specs.declared.runs.Transition.TheVariants.{Start}
 use Rattle.daq_types.specs.declared.runs.Why.{Why}
 use Rattle.daq_types.specs.declared.runs.Why.TheVariants.{NotReady}
-use Rattle.transitions.specs.declared.sheet.Sheet.{Sheet}
 use Rattle.transitions.specs.declared.answers.Answer.TheVariants.{Yes, No}
-use Rattle.transitions.specs.declared.answers.Tally.{Tally}
 use Rattle.transitions.specs.declared.answers.Tally.TheVariants.{Plain}
 use Rattle.transitions.specs.declared.replies.Progress.TheVariants.{Done}
 use Rattle.transitions.specs.declared.entry.EngineEntry.TheVariants.{Check}
 use Rattle.transitions.specs.EngineCalls.{order_for}
-use Rattle.transitions.specs.EngineHistories.{EngineHistory}
 use Rattle.transitions.specs.EnginePoints.{engine_past, state_at}
 use Rattle.transitions.specs.GivenTurns.{SpeaksFor}
+use Rattle.member_model.specs.RunEngines.{Sheet, Answer, Tally, EngineHistory}
 use Rattle.member_model.specs.Turns.{MemberTurn, HasTurn}
 use Rattle.engine_laws.specs.BegunTurns.{IsOfBegin, IsRefusedTurn, IsTallyOfTurn, HasTally}
 use Rattle.engine_laws.specs.EngineLaws.{StartsFromStopped, TalliesAreAnswers, RefusalsAreAnswers, CalledAreTold}
@@ -34,7 +32,7 @@ order_is law s keep client from sheet start turn stands starts of =
     let came : from ≡ Stopped = sym (ap (λ (o : Order). o.from) of.order) ∙ stopped in
     of.order ∙ ap (order_for sheet start) came
 
-refused_so : (takes : Bool) (why : Why) → No why ≡ (if takes then Yes Plain else No NotReady) → (why ≡ NotReady) × (takes ≡ false)
+refused_so : (takes : Bool) (why : Why) → ◌≡◌ {A = Answer} (No why) (if takes then Yes Plain else No NotReady) → (why ≡ NotReady) × (takes ≡ false)
 refused_so true why is = absurd (cc (is))
 refused_so false why is = (cc (is), refl)
 
@@ -48,8 +46,8 @@ fronts_refuse from law s keep f has sheet start why tallies made =
     let came : RunState = state_at (engine_past made.earlier) in
     let r : IsRefusedTurn (turns_of s f.client) came sheet start why = law (caller_of_client f.client) f.client s.engine keep.engine_legal alone sheet start why tallies made in
     let order : r.turn.order ≡ order_for sheet start Stopped = order_is from s keep f.client came sheet start r.turn r.stands r.starts r.of_begin in
-    let answer : No why ≡ (if f.takes r.turn.order then Yes Plain else No NotReady) = (keep.fronts_keep f has).starts r.turn (No why) r.stands r.starts r.answered in
-    refused_so (f.takes (order_for sheet start Stopped)) why (subst (λ (o : Order). No why ≡ (if f.takes o then Yes Plain else No NotReady)) order answer)
+    let answer : ◌≡◌ {A = Answer} (No why) (if f.takes r.turn.order then Yes Plain else No NotReady) = (keep.fronts_keep f has).starts r.turn (No why) r.stands r.starts r.answered in
+    refused_so (f.takes (order_for sheet start Stopped)) why (subst (λ (o : Order). ◌≡◌ {A = Answer} (No why) (if f.takes o then Yes Plain else No NotReady)) order answer)
 
 pub fronts_take : StartsFromStopped → TalliesAreAnswers → CalledAreTold → (s : Session) → MembersKeep s → FrontsTakePart s
 fronts_take from law told s keep sheet start tallies made f has =

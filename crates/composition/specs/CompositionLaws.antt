@@ -11,9 +11,8 @@ use Rattle.daq_types.specs.declared.runs.RunState.TheVariants.{Stopped}
 use Rattle.daq_types.specs.declared.runs.Transition.TheVariants.{Start, Stop, Pause}
 use Rattle.daq_types.specs.declared.runs.Why.{Why}
 use Rattle.daq_types.specs.declared.runs.Why.TheVariants.{NotReady}
-use Rattle.transitions.specs.declared.sheet.Sheet.{Sheet}
-use Rattle.transitions.specs.declared.answers.ClientTally.{ClientTally}
 use Rattle.transitions.specs.EngineCalls.{order_for}
+use Rattle.member_model.specs.RunEngines.{Sheet, ClientTally}
 use Rattle.transitions.specs.declared.answers.Tally.TheVariants.{Channels}
 use Rattle.engine_laws.specs.BegunTurns.{HasTransition}
 use Rattle.buffer_core.specs.declared.entry.BufferEntry.{BufferEntry}

@@ -13,20 +13,18 @@ use Rattle.buffer_core.specs.Window.{any}
 use Rattle.buffer_core.specs.Histories.{History}
 use Rattle.buffer_core.specs.Samples.{sample_event}
 use Rattle.event_report.specs.Reports.{Totals, report_of}
-use Rattle.transitions.specs.declared.sheet.Sheet.{Sheet}
 use Rattle.transitions.specs.declared.answers.Answer.TheVariants.{Yes}
 use Rattle.transitions.specs.declared.answers.Tally.TheVariants.{Plain, Front, Channels, Report}
-use Rattle.transitions.specs.declared.answers.ClientTally.{ClientTally}
 use Rattle.transitions.specs.declared.replies.Polled.TheVariants.{Turn}
 use Rattle.transitions.specs.declared.replies.Progress.TheVariants.{Done}
 use Rattle.transitions.specs.declared.entry.EngineEntry.TheVariants.{Register, Begin, Poll, Answer, Check}
 use Rattle.transitions.specs.EngineCalls.{order_for}
-use Rattle.transitions.specs.EngineHistories.{EngineHistory}
-use Rattle.transitions.specs.EngineSamples.{at_all, plain}
+use Rattle.transitions.specs.EngineSamples.{at_all}
+use Rattle.member_model.specs.RunEngines.{Sheet, ClientTally, EngineHistory}
 use Rattle.caller_laws.specs.CallerSamples.{got_first}
 use Rattle.composition.specs.Sessions.{Session, SessionAnalyzer}
 use Rattle.composition.specs.SessionRuns.{SessionRun}
-use Rattle.composition.specs.SessionSamples.{last_sheet, sample_database, sample_front, sample_files}
+use Rattle.composition.specs.SessionSamples.{last_sheet, plain_by_three, sample_database, sample_front, sample_files}
 
 -- what the start is begun with: there is a blank report for the analyzer
 abbrev pub counted_sheet : Sheet
@@ -36,9 +34,6 @@ counted_sheet = record { run = 1; time = 1000; quota = 1; dump = Some (7 ∷ [])
 
 abbrev pub counted_report : (told : Event) → Totals
 counted_report told = report_of (told ∷ [])
-
-abbrev pub plain_by_three : List ClientTally
-plain_by_three = plain 0 ∷ plain 1 ∷ plain 2 ∷ []
 
 abbrev pub counted_tallies : (report : Totals) → List ClientTally
 counted_tallies report =

@@ -18,13 +18,12 @@ use Rattle.odb_watch.specs.declared.entry.WatchEntry.TheVariants.{Call, Watch}
 use Rattle.odb_runinfo.specs.RunKeys.{sent_path}
 use Rattle.transitions.specs.declared.answers.Answer.TheVariants.{Yes}
 use Rattle.transitions.specs.declared.answers.Tally.TheVariants.{Plain, Channels}
-use Rattle.transitions.specs.declared.answers.ClientTally.{ClientTally}
 use Rattle.transitions.specs.declared.replies.Polled.TheVariants.{Turn}
 use Rattle.transitions.specs.declared.replies.Progress.TheVariants.{Done}
 use Rattle.transitions.specs.declared.entry.EngineEntry.TheVariants.{Register, Begin, Poll, Answer, Check}
 use Rattle.transitions.specs.EngineCalls.{order_for}
-use Rattle.transitions.specs.EngineHistories.{EngineHistory}
 use Rattle.transitions.specs.EngineSamples.{at_all}
+use Rattle.member_model.specs.RunEngines.{ClientTally, EngineHistory}
 use Rattle.caller_laws.specs.CallerSamples.{got_first}
 use Rattle.composition.specs.Sessions.{Session, SessionFront, SessionAnalyzer, BuffersLegal, EngineLegal, NameOwnClients, MembersCall, FrontsKeep, FrontsHaveMoments, FrontsSetNumbers, LoggerKeeps, LoggerGotSent, AnalyzersKeep, AnalyzersGotSent, FrontsRegistered, AnalyzersRegistered, LoggerRegistered, LoggerWantsDump}
 use Rattle.composition.specs.SessionRuns.{SessionRun}

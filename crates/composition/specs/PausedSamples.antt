@@ -23,21 +23,18 @@ use Rattle.odb_tree.specs.declared.entry.DatabaseEntry.TheVariants.{Set}
 use Rattle.odb_watch.specs.declared.entry.WatchEntry.{WatchEntry}
 use Rattle.odb_watch.specs.declared.entry.WatchEntry.TheVariants.{Call}
 use Rattle.odb_runinfo.specs.RunKeys.{sent_path}
-use Rattle.transitions.specs.declared.sheet.Sheet.{Sheet}
 use Rattle.transitions.specs.declared.answers.Answer.TheVariants.{Yes, No}
 use Rattle.transitions.specs.declared.answers.Tally.TheVariants.{Plain, Front, Channels}
-use Rattle.transitions.specs.declared.answers.ClientTally.{ClientTally}
 use Rattle.transitions.specs.declared.replies.Polled.TheVariants.{Turn}
 use Rattle.transitions.specs.declared.replies.Progress.TheVariants.{Done}
 use Rattle.transitions.specs.declared.entry.EngineEntry.TheVariants.{Register, Begin, Poll, Answer, Check}
 use Rattle.transitions.specs.EngineCalls.{order_for}
-use Rattle.transitions.specs.EngineHistories.{EngineHistory}
-use Rattle.transitions.specs.EngineSamples.{plain}
+use Rattle.member_model.specs.RunEngines.{Sheet, ClientTally, EngineHistory}
 use Rattle.member_model.specs.LoggerKept.{LoggerChannel}
 use Rattle.caller_laws.specs.CallerSamples.{got_first}
 use Rattle.composition.specs.Sessions.{Session, SessionFront}
 use Rattle.composition.specs.SessionRuns.{SessionRun}
-use Rattle.composition.specs.SessionSamples.{first_sheet}
+use Rattle.composition.specs.SessionSamples.{first_sheet, plain_by_three}
 
 -- called at this place for each transition but start-abort
 abbrev pub at_each : ℕ → Sequences
@@ -55,9 +52,6 @@ refused_sheet = record { run = 2; time = 3000; quota = 5; dump = Some (9 ∷ [])
 
 -- the front-ends are clients 0 and 1, the logger is client 2
 
-abbrev pub plain_by_all : List ClientTally
-plain_by_all = plain 0 ∷ plain 1 ∷ plain 2 ∷ []
-
 abbrev pub paused_tallies : List ClientTally
 paused_tallies =
     record { client = 0; tally = Front 1 EndedPaused } ∷ record { client = 1; tally = Front 1 EndedPaused }
@@ -71,11 +65,11 @@ paused_engine =
     ∷ (2, Poll 1 (Turn Start (order_for first_sheet 1 Stopped) None None)) ∷ (2, Answer 1 (Yes Plain) (Ok tt))
     ∷ (3, Poll 2 (Turn Start (order_for first_sheet 1 Stopped) (Some (7 ∷ [])) None))
     ∷ (3, Answer 2 (Yes Plain) (Ok tt))
-    ∷ (0, Check (Done Completed) plain_by_all) ∷ (0, Begin Pause pause_sheet (Ok 1))
+    ∷ (0, Check (Done Completed) plain_by_three) ∷ (0, Begin Pause pause_sheet (Ok 1))
     ∷ (1, Poll 0 (Turn Pause (order_for pause_sheet 1 Running) None None)) ∷ (1, Answer 0 (Yes Plain) (Ok tt))
     ∷ (2, Poll 1 (Turn Pause (order_for pause_sheet 1 Running) None None)) ∷ (2, Answer 1 (Yes Plain) (Ok tt))
     ∷ (3, Poll 2 (Turn Pause (order_for pause_sheet 1 Running) None None)) ∷ (3, Answer 2 (Yes Plain) (Ok tt))
-    ∷ (0, Check (Done Completed) plain_by_all) ∷ (0, Begin Stop paused_stop_sheet (Ok 1))
+    ∷ (0, Check (Done Completed) plain_by_three) ∷ (0, Begin Stop paused_stop_sheet (Ok 1))
     ∷ (1, Poll 0 (Turn Stop (order_for paused_stop_sheet 1 Paused) None None))
     ∷ (1, Answer 0 (Yes (Front 1 EndedPaused)) (Ok tt))
     ∷ (2, Poll 1 (Turn Stop (order_for paused_stop_sheet 1 Paused) None None))
@@ -186,6 +180,6 @@ pausing_run = record {
   start = 1;
   first = first_sheet;
   last = paused_stop_sheet;
-  first_tallies = plain_by_all;
+  first_tallies = plain_by_three;
   last_tallies = paused_tallies;
 }

@@ -24,13 +24,11 @@ use Rattle.buffer_core.specs.Ports.{GotEvent}
 use Rattle.buffer_core.specs.Runs.{segment}
 use Rattle.event_report.specs.Reports.{Totals}
 use Rattle.buffer_core.specs.Readers.{among, places_got, places_of, wanted}
-use Rattle.transitions.specs.declared.sheet.Sheet.{Sheet}
-use Rattle.transitions.specs.declared.answers.ClientTally.{ClientTally}
 use Rattle.transitions.specs.declared.answers.Tally.TheVariants.{Front, Channels, Report}
 use Rattle.transitions.specs.declared.entry.EngineEntry.TheVariants.{Begin}
 use Rattle.transitions.specs.EngineCalls.{order_for}
 use Rattle.transitions.specs.EnginePoints.{engine_past, state_at}
-use Rattle.transitions.specs.EngineHistories.{EngineHistory}
+use Rattle.member_model.specs.RunEngines.{Sheet, ClientTally, EngineHistory}
 use Rattle.member_model.specs.Turns.{MemberTurn}
 use Rattle.member_model.specs.Moments.{HasMoment}
 use Rattle.member_model.specs.SentCalls.{own_sent, EachCall, WasSpent}

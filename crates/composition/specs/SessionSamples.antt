@@ -16,16 +16,14 @@ use Rattle.odb_tree.specs.declared.entry.DatabaseEntry.TheVariants.{Set}
 use Rattle.odb_watch.specs.declared.entry.WatchEntry.{WatchEntry}
 use Rattle.odb_watch.specs.declared.entry.WatchEntry.TheVariants.{Call}
 use Rattle.odb_runinfo.specs.RunKeys.{sent_path}
-use Rattle.transitions.specs.declared.sheet.Sheet.{Sheet}
 use Rattle.transitions.specs.declared.answers.Answer.TheVariants.{Yes}
 use Rattle.transitions.specs.declared.answers.Tally.TheVariants.{Plain, Front, Channels}
-use Rattle.transitions.specs.declared.answers.ClientTally.{ClientTally}
 use Rattle.transitions.specs.declared.replies.Polled.TheVariants.{Turn}
 use Rattle.transitions.specs.declared.replies.Progress.TheVariants.{Done}
 use Rattle.transitions.specs.declared.entry.EngineEntry.TheVariants.{Register, Begin, Poll, Answer, Check}
 use Rattle.transitions.specs.EngineCalls.{order_for}
-use Rattle.transitions.specs.EngineHistories.{EngineHistory}
 use Rattle.transitions.specs.EngineSamples.{at_all}
+use Rattle.member_model.specs.RunEngines.{Sheet, ClientTally, EngineHistory}
 use Rattle.member_model.specs.LoggerKept.{LoggerChannel}
 use Rattle.caller_laws.specs.CallerSamples.{reading_history, got_first}
 use Rattle.composition.specs.Sessions.{Session, SessionFront}
@@ -41,6 +39,10 @@ last_sheet = record { run = 1; time = 2000; quota = 1; dump = Some (8 ∷ []); b
 -- what the logger, whose client number is 0, and the front-end, whose is 1, told in the Dones
 abbrev pub first_tallies : List ClientTally
 first_tallies = record { client = 0; tally = Plain } ∷ record { client = 1; tally = Plain } ∷ []
+
+-- three clients tell nothing of a transition
+abbrev pub plain_by_three : List ClientTally
+plain_by_three = record { client = 0; tally = Plain } ∷ record { client = 1; tally = Plain } ∷ record { client = 2; tally = Plain } ∷ []
 
 abbrev pub last_tallies : List ClientTally
 last_tallies = record { client = 0; tally = Channels (Ended ∷ []) } ∷ record { client = 1; tally = Front 1 Quota } ∷ []

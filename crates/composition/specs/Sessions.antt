@@ -13,11 +13,9 @@ use Rattle.buffer_core.specs.Window.{opening}
 use Rattle.buffer_core.specs.Histories.{History, IsLegal}
 use Rattle.buffer_core.specs.Ports.{GotEvent}
 use Rattle.odb_watch.specs.declared.entry.WatchEntry.{WatchEntry}
-use Rattle.transitions.specs.declared.sheet.Sheet.{Sheet}
-use Rattle.transitions.specs.declared.entry.EngineEntry.{EngineEntry}
 use Rattle.transitions.specs.declared.entry.EngineEntry.TheVariants.{Begin, Poll, Answer}
 use Rattle.transitions.specs.Engines.{engine_opening}
-use Rattle.transitions.specs.EngineHistories.{EngineHistory, IsLegalEngine}
+use Rattle.member_model.specs.RunEngines.{Sheet, EngineEntry, EngineHistory, IsLegalEngine}
 use Rattle.member_model.specs.Turns.{MemberTurn, AreEngineTurns}
 use Rattle.member_model.specs.TurnCalls.{member_turns}
 use Rattle.member_model.specs.OwnCalls.{AreGivenBy}

@@ -12,6 +12,7 @@ ghost use Rattle.composition.specs.NeededSamples.{SessionPremise, LegalBuffers, 
 
 use caller_laws::laws as callers;
 use engine_laws::laws as turns;
+use event_report::Report;
 use front_ends::laws as fronts_keep;
 use transitions::laws as engine;
 
@@ -31,7 +32,7 @@ pub fn fronts()
     turns::turns_begun();
     turns::tallies_answered();
     turns::called_told();
-    engine::start_numbers_rise();
+    engine::start_numbers_rise::<Report>();
 }
 
 /// Each front-end set in the database, in its own key alone, 0 at each start, and at each pause and each stop how many
@@ -48,7 +49,7 @@ pub fn sets()
     turns::turns_begun();
     turns::tallies_answered();
     turns::called_told();
-    engine::start_numbers_rise();
+    engine::start_numbers_rise::<Report>();
 }
 
 /// In a run that was not refused and was stopped the logger told in the Done of the stop what became of each channel: that it
@@ -76,7 +77,7 @@ pub fn files()
     turns::turns_begun();
     turns::tallies_answered();
     turns::called_told();
-    engine::start_numbers_rise();
+    engine::start_numbers_rise::<Report>();
 }
 
 /// In a run that was not refused and was stopped each analyzer told in the Done of the stop the report of the events of the run
@@ -95,7 +96,7 @@ pub fn reports()
     turns::turns_begun();
     turns::tallies_answered();
     turns::called_told();
-    engine::start_numbers_rise();
+    engine::start_numbers_rise::<Report>();
 }
 
 /// Only a start is refused: the Done of a stop says that it was completed.

@@ -49,7 +49,7 @@ impl LineLoop {
     ghost use Rattle.console.specs.Reading.{ReadsLineOrEnd, SourceBy};
     ghost use Rattle.console.specs.Playing.{DoesLine, number_behind};
 
-    /// A desk before the first line.
+    /// A loop before the first line.
     pub fn new(alloc: Global) -> Result<LineLoop, NoMemory>
         ensures reader { IfOk result (λ d. d.reader ≡ no_line_read) }
         ensures refusals { IfOk result (λ d. d.refusals ≡ record { count = 0; first = 0 }) }

@@ -9,13 +9,10 @@ use Rattle.daq_types.specs.declared.runs.Why.TheVariants.{NotReady, BufferRefuse
 use Rattle.buffer_core.specs.declared.replies.RequestRefusal.{RequestRefusal}
 use Rattle.buffer_core.specs.Ports.{Access}
 use Rattle.event_report.specs.Reports.{Totals}
-use Rattle.transitions.specs.declared.answers.Answer.{Answer}
 use Rattle.transitions.specs.declared.answers.Answer.TheVariants.{Yes, No}
-use Rattle.transitions.specs.declared.answers.Tally.{Tally}
 use Rattle.transitions.specs.declared.answers.Tally.TheVariants.{Plain}
-use Rattle.transitions.specs.declared.replies.Polled.{Polled}
 use Rattle.transitions.specs.declared.replies.Polled.TheVariants.{Turn}
-use Rattle.transitions.specs.declared.entry.EngineEntry.{EngineEntry}
+use Rattle.member_model.specs.RunEngines.{Answer, Tally, Polled, EngineEntry}
 use Rattle.transitions.specs.declared.entry.EngineEntry.TheVariants.{Poll, Answer as Answers}
 use Rattle.member_model.specs.Turns.{MemberTurn, HasTurn, latest_answered}
 use Rattle.member_model.specs.TurnCalls.{member_turns}

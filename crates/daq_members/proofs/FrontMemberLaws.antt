@@ -9,8 +9,7 @@ use Rattle.buffer_core.specs.declared.entry.BufferEntry.{BufferEntry}
 use Rattle.buffer_core.specs.declared.entry.BufferEntry.TheVariants.{SendInRun}
 use Rattle.buffer_core.specs.Ports.{Access}
 use Rattle.odb_watch.specs.declared.entry.WatchEntry.{WatchEntry}
-use Rattle.transitions.specs.declared.answers.Answer.{Answer}
-use Rattle.transitions.specs.declared.entry.EngineEntry.{EngineEntry}
+use Rattle.member_model.specs.RunEngines.{Answer, EngineEntry}
 use Rattle.member_model.specs.Turns.{MemberTurn, NoneOpen, IsOfRun, AreEngineTurns, latest_answered}
 use Rattle.member_model.specs.TurnCalls.{member_turns}
 use Rattle.member_model.specs.Moments.{moments_answered}

@@ -1,7 +1,7 @@
 -- A turn of the logger in a session keeps which names of run files it leaves.
 use Rattle.std.specs.Prelude.{◌≡◌, ℕ, zero, suc, Bool, List, [], Option, Some, None, refl}
 use Rattle.std.proofs.Common.{ap, sym, subst, ◌∙◌, inl, inr}
-use Rattle.transitions.specs.declared.replies.Polled.{Polled}
+use Rattle.member_model.specs.RunEngines.{Polled}
 use Rattle.transitions.specs.declared.replies.Polled.TheVariants.{Turn, Idle as NoTurn, Closed, NoClient}
 use Rattle.member_model.specs.Turns.{MemberTurn}
 use Rattle.member_model.specs.TurnCalls.{member_turns}

@@ -2,8 +2,7 @@
 use Rattle.std.specs.Prelude.{◌≡◌, ℕ, zero, suc, Bool, List, [], ◌∷◌, Option, Some, None, refl}
 use Rattle.std.proofs.Common.{ap, sym, subst, ◌∙◌}
 use Rattle.buffer_core.specs.Ports.{Access}
-use Rattle.transitions.specs.declared.answers.Answer.{Answer}
-use Rattle.transitions.specs.declared.replies.Polled.{Polled}
+use Rattle.member_model.specs.RunEngines.{Answer, Polled}
 use Rattle.transitions.specs.declared.replies.Polled.TheVariants.{Turn, Idle as NoTurn, Closed, NoClient}
 use Rattle.member_model.specs.Turns.{MemberTurn, latest_answered}
 use Rattle.member_model.specs.TurnCalls.{member_turns}

@@ -3,7 +3,7 @@ use Rattle.std.specs.Prelude.{◌≡◌, ◌≤◌, ℕ, zero, suc, Bool, List, 
 use Rattle.std.proofs.Common.{sym, subst, ◌∙◌, arith, inl}
 use Rattle.std.proofs.lemmas.List.{length-map}
 use Rattle.buffer_core.specs.Ports.{Access}
-use Rattle.transitions.specs.declared.replies.Polled.{Polled}
+use Rattle.member_model.specs.RunEngines.{Polled}
 use Rattle.transitions.specs.declared.replies.Polled.TheVariants.{Turn, Idle as NoTurn, Closed, NoClient}
 use Rattle.loggers.specs.Moments.{LoggerMoment, AreSamePorts}
 use Rattle.loggers.specs.NewLoggers.{NoneTakenBack}

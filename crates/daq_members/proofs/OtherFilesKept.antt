@@ -7,8 +7,7 @@ use Rattle.daq_types.specs.declared.runs.Transition.TheVariants.{Start, Stop, Pa
 use Rattle.daq_io.specs.Seen.{Seen}
 use Rattle.buffer_core.specs.declared.entry.BufferEntry.{BufferEntry}
 use Rattle.buffer_core.specs.Ports.{Access, GotEvent}
-use Rattle.transitions.specs.declared.answers.Answer.{Answer}
-use Rattle.transitions.specs.declared.replies.Polled.{Polled}
+use Rattle.member_model.specs.RunEngines.{Answer, Polled}
 use Rattle.transitions.specs.declared.replies.Polled.TheVariants.{Turn, Idle as NoTurn, Closed, NoClient}
 use Rattle.member_model.specs.Turns.{MemberTurn, HasTurn, latest_answered}
 use Rattle.member_model.specs.TurnCalls.{member_turns}

@@ -9,7 +9,7 @@ use Rattle.odb_tree.specs.declared.entry.DatabaseEntry.{DatabaseEntry}
 use Rattle.odb_watch.specs.declared.entry.WatchEntry.{WatchEntry}
 use Rattle.odb_watch.specs.declared.entry.WatchEntry.TheVariants.{Call}
 use Rattle.odb_runinfo.specs.RunSets.{Assignment, IsSet, AreSets, sent_set}
-use Rattle.transitions.specs.declared.answers.Answer.{Answer}
+use Rattle.member_model.specs.RunEngines.{Answer}
 use Rattle.member_model.specs.Turns.{MemberTurn, HasAnswer, NoneOpen}
 use Rattle.composition.specs.SentSets.{sent_by_moment, numbers_at, numbers_set, AreSetsAlone, AreTurnSets}
 use Rattle.daq_members.specs.SentSets.{number_set_at, AddsNumber, AddsNumberIf, AreNumbersSet}

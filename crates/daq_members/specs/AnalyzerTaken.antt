@@ -5,10 +5,8 @@ use Rattle.daq_types.specs.declared.runs.Transition.{Transition}
 use Rattle.event_report.specs.Reports.{Totals}
 use Rattle.buffer_core.specs.declared.entry.BufferEntry.{BufferEntry}
 use Rattle.buffer_core.specs.Ports.{Access, GotEvent}
-use Rattle.transitions.specs.declared.answers.Answer.{Answer}
-use Rattle.transitions.specs.declared.replies.Polled.{Polled}
 use Rattle.transitions.specs.declared.replies.Polled.TheVariants.{Turn, Idle as NoTurn, Closed, NoClient}
-use Rattle.transitions.specs.declared.entry.EngineEntry.{EngineEntry}
+use Rattle.member_model.specs.RunEngines.{Answer, Polled, EngineEntry}
 use Rattle.member_model.specs.TurnCalls.{member_turns}
 use Rattle.analyzers.specs.declared.analyzer_pull.AnalyzerPull.{AnalyzerPull}
 use Rattle.analyzers.specs.declared.analyzer_pull.AnalyzerPull.TheVariants.{Folded, Dropped, Nothing}

@@ -5,7 +5,7 @@ use Rattle.daq_types.specs.declared.events.Event.{Event}
 use Rattle.daq_types.specs.declared.runs.Order.{Order}
 use Rattle.buffer_core.specs.Ports.{Access}
 use Rattle.odb_watch.specs.DatabasePorts.{DatabaseAccess, IsSamePort, own_watched}
-use Rattle.transitions.specs.declared.entry.EngineEntry.{EngineEntry}
+use Rattle.member_model.specs.RunEngines.{EngineEntry}
 use Rattle.transition_lock.specs.declared.shared.SharedEngine.{SharedEngine}
 use Rattle.front_ends.specs.declared.front_run.FrontRun.{FrontRun}
 use Rattle.loggers.specs.Moments.{IsSameAccess}

@@ -11,10 +11,8 @@ use Rattle.odb_watch.specs.declared.entry.WatchEntry.{WatchEntry}
 use Rattle.odb_watch.specs.DatabasePorts.{DatabaseAccess, AddsCall, own_watched}
 use Rattle.odb_runinfo.specs.RunSets.{IsSet, sent_set}
 use Rattle.turn_lock.specs.Passes.{own_entries}
-use Rattle.transitions.specs.declared.answers.Answer.{Answer}
-use Rattle.transitions.specs.declared.replies.Polled.{Polled}
 use Rattle.transitions.specs.declared.replies.Polled.TheVariants.{Turn, Idle as NoTurn, Closed, NoClient}
-use Rattle.transitions.specs.declared.entry.EngineEntry.{EngineEntry}
+use Rattle.member_model.specs.RunEngines.{Answer, Polled, EngineEntry}
 use Rattle.transitions.specs.declared.entry.EngineEntry.TheVariants.{Poll}
 use Rattle.member_model.specs.Turns.{MemberTurn, AreEngineTurns}
 use Rattle.member_model.specs.TurnCalls.{member_turns}

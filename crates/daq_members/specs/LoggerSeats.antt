@@ -4,7 +4,7 @@ use Rattle.daq_types.specs.Callers.{caller_of_client}
 use Rattle.event.specs.Events.{record_limit}
 use Rattle.daq_io.specs.Seen.{Seen}
 use Rattle.buffer_core.specs.Ports.{Access}
-use Rattle.transitions.specs.declared.entry.EngineEntry.{EngineEntry}
+use Rattle.member_model.specs.RunEngines.{EngineEntry}
 use Rattle.transition_lock.specs.declared.shared.SharedEngine.{SharedEngine}
 use Rattle.member_model.specs.TurnCalls.{member_turns}
 use Rattle.mid_logger.specs.declared.channel.Channel.{Channel}

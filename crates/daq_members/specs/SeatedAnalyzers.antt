@@ -3,7 +3,7 @@ use Rattle.std.specs.Prelude.{◌≡◌, ℕ, ◌-◌, ◌≤◌, min, true, Lis
 use Rattle.daq_types.specs.Callers.{caller_of_client}
 use Rattle.event.specs.Events.{event_limit}
 use Rattle.buffer_core.specs.Ports.{Access}
-use Rattle.transitions.specs.declared.entry.EngineEntry.{EngineEntry}
+use Rattle.member_model.specs.RunEngines.{EngineEntry}
 use Rattle.transition_lock.specs.declared.shared.SharedEngine.{SharedEngine}
 use Rattle.analyzers.specs.Analyzers.{AnalyzerState, IsWithinGot}
 use Rattle.loggers.specs.Moments.{IsSameAccess}

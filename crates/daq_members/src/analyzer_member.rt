@@ -2,7 +2,7 @@ ghost use Rattle.std.specs.Prelude.{◌≡◌, ◌≤◌, ◌-◌, ◌||◌, ℕ
 ghost use Rattle.daq_types.specs.Callers.{caller_of_client};
 ghost use Rattle.event.specs.Events.{event_limit};
 ghost use Rattle.turn_lock.specs.Passes.{own_entries};
-ghost use Rattle.transitions.specs.declared.entry.EngineEntry.{EngineEntry};
+ghost use Rattle.member_model.specs.RunEngines.{EngineEntry};
 ghost use Rattle.analyzers.specs.Analyzers.{IsWithinGot};
 ghost use Rattle.analyzers.specs.AnalyzerPulls.{PullsBy};
 ghost use Rattle.loggers.specs.Moments.{IsSameAccess};
@@ -13,8 +13,8 @@ use crate::{Seat, Turned, turned_by};
 use analyzers::{Analyzer, AnalyzerPull};
 use buffer_core::BufferPort;
 use daq_io::{Gate, Point};
+use member_model::Polled;
 use std::sync::Wait;
-use transitions::Polled;
 
 /// An analyzer as a member of a session: its place at the engine, and the analyzer. Its turns take no memory.
 #[derive(Drop)]

@@ -8,7 +8,7 @@ ghost use Rattle.odb_watch.specs.declared.entry.WatchEntry.{WatchEntry};
 ghost use Rattle.odb_watch.specs.DatabasePorts.{IsSamePort, own_watched};
 ghost use Rattle.odb_runinfo.specs.RunKeys.{sent_path};
 ghost use Rattle.transitions.specs.declared.replies.Polled.TheVariants.{Turn};
-ghost use Rattle.transitions.specs.declared.entry.EngineEntry.{EngineEntry};
+ghost use Rattle.member_model.specs.RunEngines.{EngineEntry};
 ghost use Rattle.transitions.specs.declared.entry.EngineEntry.TheVariants.{Poll};
 ghost use Rattle.event_report.specs.Reports.{Totals};
 ghost use Rattle.front_ends.specs.Fronts.{front_answer, run_after, finish_answer, run_finished, events_sent};
@@ -24,13 +24,13 @@ use buffer_core::BufferPort;
 use daq_io::{Gate, Point};
 use daq_types::{Name, NoMemory, Order, Transition};
 use front_ends::{Equipment, FrontEnd, FrontStep};
+use member_model::Polled;
 use odb_runinfo::sent_path;
 use odb_value::{Item, Path};
 use odb_watch::WatchPort;
 use odb_watch::port_laws::calls_add_up;
 use std::alloc::Global;
 use std::sync::Wait;
-use transitions::Polled;
 
 /// A front-end as a member of a session: its place at the engine, its name, the path of the key in which it says how
 /// many events it sent, and the front-end. Only `new` takes memory.

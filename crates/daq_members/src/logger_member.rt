@@ -3,7 +3,7 @@ ghost use Rattle.std.specs.Option.{option_copied};
 ghost use Rattle.daq_types.specs.Callers.{caller_of_client};
 ghost use Rattle.event.specs.Events.{record_limit};
 ghost use Rattle.buffer_core.specs.Slots.{slot_at};
-ghost use Rattle.transitions.specs.EngineHistories.{IsFairTurn};
+ghost use Rattle.member_model.specs.RunEngines.{IsFairTurn};
 ghost use Rattle.member_model.specs.Turns.{MemberTurn};
 ghost use Rattle.loggers.specs.Moments.{files_by, moment_of, IsLoggerReady, AreSamePorts};
 ghost use Rattle.loggers.specs.SlotPulls.{HasEventRoom, PullsNumbered};
@@ -19,9 +19,9 @@ use crate::turned::Turned;
 use buffer_core::BufferPort;
 use daq_io::{Files, Gate, Point};
 use loggers::{Logger, Ports};
+use member_model::Polled;
 use mid_logger::{Channel, Pulled};
 use std::sync::Wait;
-use transitions::Polled;
 
 /// The numbers of a logger's channels are those below this.
 const CHANNELS: u32 = 16;

@@ -3,13 +3,13 @@ ghost use Rattle.std.specs.Prelude.{◌≡◌, ◌++◌, ◌∷◌, [], None, tr
 ghost use Rattle.daq_types.specs.Callers.{caller_of_client};
 ghost use Rattle.turn_lock.specs.Passes.{number_of, held_by, own_entries, IsOf};
 ghost use Rattle.transition_lock.specs.SharedEngines.{engine_lock_of};
-ghost use Rattle.transitions.specs.EngineHistories.{IsFairTurn};
+ghost use Rattle.member_model.specs.RunEngines.{IsFairTurn};
 ghost use Rattle.transitions.specs.declared.entry.EngineEntry.TheVariants.{Poll};
 ghost use Rattle.daq_members.specs.OwnTurns.{start_owed, owed_by, are_calls_for, GivesAnswer};
 
+use member_model::{Answer, Polled};
 use std::sync::Wait;
 use transition_lock::{EnginePass, SharedEngine};
-use transitions::{Answer, Polled};
 
 /// A member's place at a shared engine: its client number, its pass, and the start number of the turn that it was
 /// given and has not answered. By it the member polls and answers for its own client alone.

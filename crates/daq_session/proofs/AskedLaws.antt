@@ -7,11 +7,9 @@ use Rattle.daq_types.specs.declared.runs.StartOutcome.{StartOutcome}
 use Rattle.daq_types.specs.declared.runs.Transition.{Transition}
 use Rattle.daq_types.specs.declared.runs.Transition.TheVariants.{Start, Stop, Pause, Resume, StartAbort}
 use Rattle.frontend_kit.specs.declared.generator.Generator.{Generator}
-use Rattle.transitions.specs.declared.answers.ClientTally.{ClientTally}
-use Rattle.transitions.specs.declared.entry.EngineEntry.{EngineEntry}
 use Rattle.transitions.specs.declared.entry.EngineEntry.TheVariants.{Register, Begin, Poll, Answer, Check, Close}
 use Rattle.transitions.specs.declared.replies.BeginRefusal.{BeginRefusal}
-use Rattle.transitions.specs.declared.sheet.Sheet.{Sheet}
+use Rattle.member_model.specs.RunEngines.{ClientTally, EngineEntry, Sheet}
 use Rattle.session_runs.specs.declared.records.RunRecord.{RunRecord}
 use Rattle.daq_members.specs.Crews.{CrewTold}
 use Rattle.session_runs.specs.MadeTransitions.{TransitionIn, done_check}

@@ -6,7 +6,7 @@ use Rattle.transitions.specs.declared.sequences.Role.TheVariants.{Analyzer, Fron
 use Rattle.mid_logger.specs.ChannelTurns.{logger_name}
 use Rattle.mid_logger.specs.declared.channel_spec.ChannelSpec.{ChannelSpec}
 use Rattle.transitions.specs.Limits.{most_clients}
-use Rattle.transitions.specs.declared.entry.EngineEntry.{EngineEntry}
+use Rattle.member_model.specs.RunEngines.{EngineEntry}
 use Rattle.transition_lock.specs.declared.shared.SharedEngine.{SharedEngine}
 use Rattle.session_runs.specs.declared.opening.MemberName.{MemberName}
 use Rattle.session_runs.specs.MainKnowledge.{known_from}

@@ -11,10 +11,8 @@ use Rattle.daq_types.specs.declared.runs.Order.{Order}
 use Rattle.daq_types.specs.declared.runs.StartOutcome.TheVariants.{Completed, Refused}
 use Rattle.daq_types.specs.declared.runs.Why.{Why}
 use Rattle.turn_lock.specs.Closing.{history_of}
-use Rattle.transitions.specs.declared.entry.EngineEntry.{EngineEntry}
 use Rattle.transitions.specs.declared.entry.EngineEntry.TheVariants.{Close}
-use Rattle.transitions.specs.Engines.{EngineState}
-use Rattle.transitions.specs.EngineHistories.{IsLegalEngine}
+use Rattle.member_model.specs.RunEngines.{EngineEntry, EngineState, IsLegalEngine}
 use Rattle.frontend_kit.specs.declared.generator.Generator.{Generator}
 use Rattle.odb_runinfo.specs.RunKeys.{session_rows}
 use Rattle.odb_tree.specs.Noting.{Watched}

@@ -25,8 +25,8 @@ use Rattle.buffer_core.specs.CallersView.{given_in}
 use Rattle.caller_laws.specs.CallerLaws.{IsSendOf, SendIsAmong}
 use Rattle.caller_laws.specs.OneCaller.{events_in}
 use Rattle.caller_laws.specs.SentRuns.{events_at_places, places_sent}
-use Rattle.transitions.specs.declared.sheet.Sheet.{Sheet}
 use Rattle.transitions.specs.EngineCalls.{order_for}
+use Rattle.member_model.specs.RunEngines.{Sheet}
 use Rattle.odb_value.specs.Values.{HeldValue}
 use Rattle.odb_value.specs.declared.items.Item.{Item}
 use Rattle.odb_value.specs.declared.items.Item.TheVariants.{Int32}

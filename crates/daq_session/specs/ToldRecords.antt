@@ -21,9 +21,9 @@ use Rattle.caller_laws.specs.OneCaller.{events_in}
 use Rattle.caller_laws.specs.SentRuns.{events_at_places, places_sent}
 use Rattle.transitions.specs.declared.entry.EngineEntry.TheVariants.{Close}
 use Rattle.transitions.specs.EngineCalls.{order_for}
-use Rattle.transitions.specs.EngineHistories.{EngineHistory, IsLegalEngine}
 use Rattle.transitions.specs.Engines.{engine_opening}
 use Rattle.transitions.specs.TurnOrder.{TurnsInOrder}
+use Rattle.member_model.specs.RunEngines.{EngineHistory, IsLegalEngine}
 use Rattle.odb_runinfo.specs.RunKeys.{session_rows}
 use Rattle.odb_watch.specs.Steps.{LeadsDatabase, unwatched}
 use Rattle.member_model.specs.SentCalls.{own_sent}

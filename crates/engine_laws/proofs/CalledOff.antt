@@ -9,16 +9,15 @@ use Rattle.daq_types.specs.declared.runs.StartOutcome.TheVariants.{Refused}
 use Rattle.daq_types.specs.declared.runs.Transition.TheVariants.{Start, StartAbort}
 use Rattle.buffer_core.proofs.SlotLaws.{split}
 use Rattle.transitions.specs.declared.client.Registered.{Registered}
-use Rattle.transitions.specs.declared.answers.Answer.{Answer as ClientAnswer}
 use Rattle.transitions.specs.declared.replies.Polled.TheVariants.{Turn, Idle, Closed as PollClosed, NoClient}
 use Rattle.transitions.specs.declared.replies.Progress.TheVariants.{Going, Done, None as NoneGoing}
-use Rattle.transitions.specs.declared.entry.EngineEntry.{EngineEntry}
 use Rattle.transitions.specs.declared.entry.EngineEntry.TheVariants.{Register, Begin, Poll, Answer, Check, Close}
-use Rattle.transitions.specs.Engines.{Underway, EngineState, engine_opening}
+use Rattle.transitions.specs.Engines.{engine_opening}
 use Rattle.transitions.specs.EngineCalls.{turn_kind, turn_of, stands_in, without, group_of, has_polled, open_of, begun, first_polled, polled_by, is_due_off, called_off, answered_with, answered_by, IsEngineReply, engine_after}
-use Rattle.transitions.specs.EngineHistories.{EngineHistory, IsLegalEngine, engine_replay}
+use Rattle.transitions.specs.EngineHistories.{engine_replay}
 use Rattle.transitions.specs.GivenTurns.{SpeaksFor}
 use Rattle.transitions.specs.Marks.{is_mark}
+use Rattle.member_model.specs.RunEngines.{Answer as ClientAnswer, EngineEntry, Underway, EngineState, EngineHistory, IsLegalEngine}
 use Rattle.member_model.specs.Turns.{MemberTurn}
 use Rattle.member_model.specs.TurnCalls.{turn_answered, turns_with, member_turns}
 use Rattle.engine_laws.specs.BegunTurns.{IsCalledOff}

@@ -7,21 +7,18 @@ use Rattle.daq_types.specs.declared.runs.Transition.{Transition}
 use Rattle.buffer_core.proofs.SlotLaws.{split}
 use Rattle.transitions.specs.declared.client.Registered.{Registered}
 use Rattle.transitions.specs.declared.called.Called.{Called}
-use Rattle.transitions.specs.declared.answers.Answer.{Answer as ClientAnswer}
-use Rattle.transitions.specs.declared.answers.Tally.{Tally}
-use Rattle.transitions.specs.declared.answers.ClientTally.{ClientTally}
 use Rattle.transitions.specs.declared.replies.Polled.TheVariants.{Turn, Idle, Closed as PollClosed, NoClient}
 use Rattle.transitions.specs.declared.replies.Progress.{Progress}
 use Rattle.transitions.specs.declared.replies.Progress.TheVariants.{Going, Done, None as NoneGoing}
-use Rattle.transitions.specs.declared.entry.EngineEntry.{EngineEntry}
 use Rattle.transitions.specs.declared.entry.EngineEntry.TheVariants.{Register, Begin, Poll, Answer, Check, Close}
 use Rattle.transitions.specs.Called.{called_list}
 use Rattle.transitions.specs.CalledOrder.{IsCalledList}
 use Rattle.transitions.specs.Sequences.{sequence_for}
-use Rattle.transitions.specs.Engines.{Underway, EngineState, engine_opening}
+use Rattle.transitions.specs.Engines.{engine_opening}
 use Rattle.transitions.specs.EngineCalls.{stands_in, has_polled, open_of, begun, first_polled, polled_by, told, answered_by, tallies_in, IsEngineReply, engine_after}
-use Rattle.transitions.specs.EngineHistories.{EngineHistory, IsLegalEngine, engine_replay}
+use Rattle.transitions.specs.EngineHistories.{engine_replay}
 use Rattle.transitions.specs.Marks.{is_mark, HasNoMark}
+use Rattle.member_model.specs.RunEngines.{Answer as ClientAnswer, Tally, ClientTally, EngineEntry, Underway, EngineState, EngineHistory, IsLegalEngine}
 use Rattle.engine_laws.specs.BegunTurns.{IsRegisteredIn, HasTally}
 use Rattle.engine_laws.specs.EngineLaws.{CalledAreTold}
 use Rattle.transitions.proofs.Stands.{called_stands}

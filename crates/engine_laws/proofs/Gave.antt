@@ -15,21 +15,18 @@ use Rattle.transitions.specs.States.{is_allowed}
 use Rattle.buffer_core.proofs.SlotLaws.{split}
 use Rattle.transitions.specs.declared.client.Registered.{Registered}
 use Rattle.transitions.specs.declared.called.Called.{Called}
-use Rattle.transitions.specs.declared.sheet.Sheet.{Sheet}
-use Rattle.transitions.specs.declared.answers.Answer.{Answer as ClientAnswer}
-use Rattle.transitions.specs.declared.answers.Tally.{Tally}
 use Rattle.transitions.specs.declared.engine.Refusal.{Refusal}
 use Rattle.transitions.specs.declared.replies.Polled.TheVariants.{Turn, Idle, Closed as PollClosed, NoClient}
 use Rattle.transitions.specs.declared.replies.Progress.TheVariants.{Going, Done, None as NoneGoing}
-use Rattle.transitions.specs.declared.entry.EngineEntry.{EngineEntry}
 use Rattle.transitions.specs.declared.entry.EngineEntry.TheVariants.{Register, Begin, Poll, Answer, Check, Close}
 use Rattle.transitions.specs.Called.{called_list}
-use Rattle.transitions.specs.Engines.{Underway, EngineState, engine_opening}
+use Rattle.transitions.specs.Engines.{engine_opening}
 use Rattle.transitions.specs.EngineCalls.{turn_kind, turn_of, is_start, stands_in, without, has_polled, is_next, open_of, state_with, begun, first_polled, polled_by, told, refused_by, is_due_off, called_off, answered_by, after_poll_by, after_answer_in, with_underway, owes_answer, IsEngineReply, engine_after}
-use Rattle.transitions.specs.EngineHistories.{EngineHistory, IsLegalEngine, engine_replay}
+use Rattle.transitions.specs.EngineHistories.{engine_replay}
 use Rattle.transitions.specs.GivenTurns.{is_of_client, SpeaksFor}
 use Rattle.transitions.specs.Marks.{is_mark, HasNoMark}
 use Rattle.transitions.specs.TurnOrder.{number_with}
+use Rattle.member_model.specs.RunEngines.{Sheet, Answer as ClientAnswer, Tally, EngineEntry, Underway, EngineState, EngineHistory, IsLegalEngine}
 use Rattle.transitions.proofs.Stands.{stands_gone, stands_other}
 use Rattle.member_model.specs.Turns.{MemberTurn, NoneOpen, IsOfRun, IsNextTurn, AreEngineTurns}
 use Rattle.member_model.specs.TurnCalls.{turn_told, turn_answered, turns_with}

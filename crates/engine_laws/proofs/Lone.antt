@@ -8,13 +8,10 @@ use Rattle.transitions.specs.Sequences.{sequence_for}
 use Rattle.buffer_core.proofs.SlotLaws.{split}
 use Rattle.transitions.specs.declared.client.Registered.{Registered}
 use Rattle.transitions.specs.declared.called.Called.{Called}
-use Rattle.transitions.specs.declared.sheet.Sheet.{Sheet}
-use Rattle.transitions.specs.declared.answers.Answer.{Answer as ClientAnswer}
-use Rattle.transitions.specs.declared.answers.Tally.{Tally}
 use Rattle.transitions.specs.declared.engine.Refusal.{Refusal}
 use Rattle.transitions.specs.CalledOrder.{IsCalledIn, IsRegisteredFor}
-use Rattle.transitions.specs.Engines.{Underway, EngineState}
 use Rattle.transitions.specs.EngineCalls.{stands_in, without, group_of, has_polled, is_next, begun, first_polled, polled_by, told, refused_by, answered_by}
+use Rattle.member_model.specs.RunEngines.{Sheet, Answer as ClientAnswer, Tally, Underway, EngineState}
 use Rattle.transitions.proofs.Stands.{or_false, or_parts, stood, stands_push, called_stands, entry_with, with_stands, from_without, in_push}
 use Rattle.engine_laws.proofs.Replies.{answered_case}
 use Rattle.engine_laws.proofs.Tallied.{OnlyIs}

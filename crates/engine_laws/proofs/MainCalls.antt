@@ -5,15 +5,12 @@ use Rattle.std.proofs.lemmas.Bool.Decides.{eqb_tells}
 use Rattle.daq_types.specs.Callers.{entries_by, main_caller}
 use Rattle.daq_types.specs.declared.runs.Transition.{Transition}
 use Rattle.daq_types.specs.declared.runs.StartOutcome.{StartOutcome}
-use Rattle.transitions.specs.declared.sheet.Sheet.{Sheet}
-use Rattle.transitions.specs.declared.answers.ClientTally.{ClientTally}
 use Rattle.transitions.specs.declared.replies.Progress.TheVariants.{Done}
-use Rattle.transitions.specs.declared.entry.EngineEntry.{EngineEntry}
 use Rattle.transitions.specs.declared.entry.EngineEntry.TheVariants.{Register, Begin, Poll, Answer, Check, Close}
-use Rattle.transitions.specs.Engines.{EngineState, engine_opening}
+use Rattle.transitions.specs.Engines.{engine_opening}
 use Rattle.transitions.specs.EngineCalls.{engine_after}
-use Rattle.transitions.specs.EngineHistories.{EngineHistory, IsEngineCaller, IsLegalEngine}
 use Rattle.transitions.specs.Marks.{is_mark, HasNoMark}
+use Rattle.member_model.specs.RunEngines.{Sheet, ClientTally, EngineEntry, EngineState, EngineHistory, IsEngineCaller, IsLegalEngine}
 use Rattle.engine_laws.specs.BegunTurns.{HasTransition, AreUnmarked}
 
 -- A caller's own call in the history.

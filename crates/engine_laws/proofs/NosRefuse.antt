@@ -11,22 +11,19 @@ use Rattle.daq_types.specs.declared.runs.Transition.TheVariants.{Start}
 use Rattle.daq_types.specs.declared.runs.Why.{Why}
 use Rattle.buffer_core.proofs.SlotLaws.{split}
 use Rattle.transitions.specs.declared.client.Registered.{Registered}
-use Rattle.transitions.specs.declared.answers.Answer.{Answer as ClientAnswer}
 use Rattle.transitions.specs.declared.answers.Answer.TheVariants.{Yes, No}
 use Rattle.transitions.specs.declared.engine.Refusal.{Refusal}
 use Rattle.transitions.specs.declared.replies.Polled.TheVariants.{Turn, Idle, Closed as PollClosed, NoClient}
 use Rattle.transitions.specs.declared.replies.Progress.TheVariants.{Going, Done, None as NoneGoing}
-use Rattle.transitions.specs.declared.entry.EngineEntry.{EngineEntry}
 use Rattle.transitions.specs.declared.entry.EngineEntry.TheVariants.{Register, Begin, Poll, Answer, Check, Close}
-use Rattle.transitions.specs.Engines.{Underway, EngineState, engine_opening}
+use Rattle.transitions.specs.Engines.{engine_opening}
 use Rattle.transitions.specs.EngineCalls.{turn_of, is_start, has_polled, begun, first_polled, polled_by, first_refusal, answered_by, after_poll_by, after_answer_in, outcome_of, IsEngineReply, engine_after}
-use Rattle.transitions.specs.EngineHistories.{EngineHistory, IsLegalEngine, engine_replay}
+use Rattle.transitions.specs.EngineHistories.{engine_replay}
 use Rattle.transitions.specs.GivenTurns.{SpeaksFor}
 use Rattle.transitions.specs.Marks.{is_mark}
 use Rattle.member_model.specs.Turns.{MemberTurn, HasTurn}
 use Rattle.member_model.specs.TurnCalls.{turn_told, turn_answered, turns_with, member_turns}
-use Rattle.transitions.specs.declared.answers.ClientTally.{ClientTally}
-use Rattle.transitions.specs.declared.sheet.Sheet.{Sheet}
+use Rattle.member_model.specs.RunEngines.{Answer as ClientAnswer, EngineEntry, Underway, EngineState, EngineHistory, IsLegalEngine, ClientTally, Sheet}
 use Rattle.engine_laws.specs.BegunTurns.{HasTransition}
 use Rattle.engine_laws.specs.EngineLaws.{NosAreRefusals}
 use Rattle.engine_laws.proofs.Replies.{Begins, begins, GivesTurn, gives_turn, Owes, owes, owes_none, Refuses, answered_case, Finishes, finishes}

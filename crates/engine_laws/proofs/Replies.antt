@@ -10,9 +10,7 @@ use Rattle.event_report.specs.Reports.{Totals}
 use Rattle.buffer_core.proofs.SlotLaws.{split}
 use Rattle.transitions.specs.declared.client.Registered.{Registered}
 use Rattle.transitions.specs.declared.called.Called.{Called}
-use Rattle.transitions.specs.declared.answers.Answer.{Answer as ClientAnswer}
 use Rattle.transitions.specs.declared.answers.Answer.TheVariants.{Yes, No}
-use Rattle.transitions.specs.declared.answers.Tally.{Tally}
 use Rattle.transitions.specs.declared.answers.Tally.TheVariants.{Plain}
 use Rattle.transitions.specs.declared.engine.Refusal.{Refusal}
 use Rattle.daq_types.specs.declared.runs.Why.{Why}
@@ -21,10 +19,10 @@ use Rattle.transitions.specs.declared.replies.NotYourTurn.{NotYourTurn}
 use Rattle.transitions.specs.declared.replies.Polled.TheVariants.{Turn, Idle, Closed as PollClosed}
 use Rattle.transitions.specs.declared.replies.Progress.TheVariants.{Done}
 use Rattle.transitions.specs.Limits.{last_start_number}
-use Rattle.transitions.specs.Engines.{Underway, EngineState}
 use Rattle.transitions.specs.EngineCalls.{turn_of, is_start, has_polled, is_next, open_of, same_turn, first_turn, first_polled, polled_by, told, refused_by, is_due_off, called_off, answered_with, answered_by, begin_reply, begin_reply_in, start_reply, poll_reply, poll_reply_to, poll_reply_in, owes_answer, answer_reply, not_your_turn, outcome_of, progress_of, check_reply, check_reply_in}
 use Rattle.transitions.specs.EnginePoints.{tally_of}
 use Rattle.transitions.specs.TurnOrder.{number_with}
+use Rattle.member_model.specs.RunEngines.{Answer as ClientAnswer, Tally, Underway, EngineState}
 
 -- Begin.
 

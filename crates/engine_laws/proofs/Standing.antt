@@ -7,8 +7,8 @@ use Rattle.daq_types.specs.declared.runs.Transition.TheVariants.{Start, Stop, Pa
 use Rattle.transitions.specs.declared.client.Registered.{Registered}
 use Rattle.transitions.specs.declared.called.Called.{Called}
 use Rattle.transitions.specs.declared.engine.Refusal.{Refusal}
-use Rattle.transitions.specs.Engines.{Underway}
 use Rattle.transitions.specs.EngineCalls.{turn_kind, is_start, stands_in, without, group_of, is_next, open_of, first_polled, is_due_off}
+use Rattle.member_model.specs.RunEngines.{Underway}
 use Rattle.transitions.proofs.Stands.{either, or_false, stands_gone, stands_other, stood, stands_push, stands_append, with_stands}
 
 -- The first reply of a turn.

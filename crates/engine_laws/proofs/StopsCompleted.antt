@@ -3,18 +3,17 @@ use Rattle.std.specs.Prelude.{◌≡◌, ◌≢◌, ℕ, Bool, true, false, ◌&
 use Rattle.std.proofs.Common.{ap, sym, ◌∙◌, subst, append_assoc}
 use Rattle.daq_types.specs.declared.runs.Transition.{Transition}
 use Rattle.daq_types.specs.declared.runs.Transition.TheVariants.{Start, Stop, Pause, Resume, StartAbort}
-use Rattle.transitions.specs.declared.answers.Answer.{Answer as ClientAnswer}
+use Rattle.event_report.specs.Reports.{Totals}
 use Rattle.transitions.specs.declared.answers.Answer.TheVariants.{Yes, No}
 use Rattle.transitions.specs.declared.engine.Refusal.{Refusal}
 use Rattle.transitions.specs.declared.replies.Polled.TheVariants.{Turn, Idle, Closed as PollClosed, NoClient}
 use Rattle.transitions.specs.declared.replies.Progress.TheVariants.{Going, Done, None as NoneGoing}
-use Rattle.transitions.specs.declared.entry.EngineEntry.{EngineEntry}
 use Rattle.transitions.specs.declared.entry.EngineEntry.TheVariants.{Register, Begin, Poll, Answer, Check, Close}
 use Rattle.transitions.specs.EngineCalls.{is_start, outcome_of}
 use Rattle.transitions.specs.EnginePoints.{Calling, engine_past_after, engine_past, transition_at, refuses, refusal_from, are_among, opens_off, off_opened, refusal_at, off_at, turned_at, answered_at}
-use Rattle.transitions.specs.EngineHistories.{EngineHistory}
 use Rattle.transitions.specs.Marks.{is_mark, HasNoMark}
 use Rattle.transitions.specs.TurnOrder.{IsRightEnd}
+use Rattle.member_model.specs.RunEngines.{Answer as ClientAnswer, EngineEntry, EngineHistory}
 use Rattle.transitions.proofs.Stands.{and_false}
 use Rattle.engine_laws.specs.EngineLaws.{OthersComplete}
 use Rattle.engine_laws.proofs.StateTold.{Follows}
@@ -35,7 +34,7 @@ record IsUncalled (t : Transition) (past : EngineHistory) : Type 0 where
 -- an answer to a transition that is no start, and of which no start-abort is given, is no refusal
 no_refusal : (t : Transition) (client : ℕ) (answer : ClientAnswer) → is_start t ≡ false → refusal_from (refuses answer (Some t) false) client answer None ≡ None
 no_refusal t client (Yes tally) other = refl
-no_refusal t client (No why) other = ap (λ (b : Bool). refusal_from b client (No why) None) other
+no_refusal t client (No why) other = ap (λ (b : Bool). refusal_from {R = Totals} b client (No why) None) other
 
 -- and opens no start-abort
 not_opened : (c : Calling) → c.refusal ≡ None → c.off ≡ false → ((off_opened c).refusal ≡ None) × ((off_opened c).off ≡ false)

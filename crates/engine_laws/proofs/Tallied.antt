@@ -14,26 +14,23 @@ use Rattle.daq_types.specs.declared.runs.Transition.{Transition}
 use Rattle.daq_types.specs.declared.runs.Transition.TheVariants.{Start, StartAbort}
 use Rattle.daq_types.specs.declared.runs.Why.{Why}
 use Rattle.buffer_core.proofs.SlotLaws.{split}
+use Rattle.event_report.specs.Reports.{Totals}
 use Rattle.transitions.specs.declared.client.Registered.{Registered}
-use Rattle.transitions.specs.declared.sheet.Sheet.{Sheet}
-use Rattle.transitions.specs.declared.answers.Answer.{Answer as ClientAnswer}
 use Rattle.transitions.specs.declared.answers.Answer.TheVariants.{Yes, No}
-use Rattle.transitions.specs.declared.answers.Tally.{Tally}
-use Rattle.transitions.specs.declared.answers.ClientTally.{ClientTally}
 use Rattle.transitions.specs.declared.engine.Refusal.{Refusal}
 use Rattle.transitions.specs.declared.replies.RegisterRefusal.TheVariants.{Closed as RegisterClosed, NoSlot}
 use Rattle.transitions.specs.declared.replies.Polled.TheVariants.{Turn, Idle, Closed as PollClosed, NoClient}
 use Rattle.transitions.specs.declared.replies.Progress.{Progress}
 use Rattle.transitions.specs.declared.replies.Progress.TheVariants.{Going, Done, None as NoneGoing}
-use Rattle.transitions.specs.declared.entry.EngineEntry.{EngineEntry}
 use Rattle.transitions.specs.declared.entry.EngineEntry.TheVariants.{Register, Begin, Poll, Answer, Check, Close}
 use Rattle.transitions.specs.Limits.{most_clients}
-use Rattle.transitions.specs.Engines.{Underway, EngineState, engine_opening}
+use Rattle.transitions.specs.Engines.{engine_opening}
 use Rattle.transitions.specs.EngineCalls.{turn_kind, turn_of, is_start, stands_in, has_polled, begun, first_polled, polled_by, told, first_refusal, refused_by, is_due_off, called_off, answered_by, after_poll_by, after_answer_in, register_reply, register_reply_in, tallies_in, IsEngineReply, engine_after, outcome_of}
-use Rattle.transitions.specs.EngineHistories.{EngineHistory, IsLegalEngine, engine_replay}
+use Rattle.transitions.specs.EngineHistories.{engine_replay}
 use Rattle.transitions.specs.EnginePoints.{engine_past, state_at, tally_of}
 use Rattle.transitions.specs.GivenTurns.{SpeaksFor}
 use Rattle.transitions.specs.Marks.{is_mark, IsEndOf}
+use Rattle.member_model.specs.RunEngines.{Sheet, Answer as ClientAnswer, Tally, ClientTally, EngineEntry, Underway, EngineState, EngineHistory, IsLegalEngine}
 use Rattle.member_model.specs.Turns.{MemberTurn, HasTurn, HasAnswer, NoneOpen}
 use Rattle.member_model.specs.TurnCalls.{turn_told, turn_answered, turns_with, member_turns}
 use Rattle.engine_laws.specs.BegunTurns.{IsOfBegin, HasTransition, IsAlone, WantsAlone, OneWantsDump, IsTallyOfTurn}
@@ -120,7 +117,7 @@ WantsDump c = c.wants_dump ≡ true
 abbrev OnlyWants : (client : ℕ) → List Registered → Type 0
 OnlyWants client clients = OnlyIs WantsDump client clients
 
-count_in : (count n : ℕ) → Ok n ≡ register_reply_in None count → n ≡ count
+count_in : (count n : ℕ) → Ok n ≡ register_reply_in {R = Totals} None count → n ≡ count
 count_in count n e = split (nat_lt count most_clients) (λ b. Ok n ≡ (if b then Ok count else Err NoSlot) → n ≡ count) (λ h e'. cc) (λ h e'. absurd cc) e
 
 register_number_in : (o : Option Underway) (count n : ℕ) → Ok n ≡ register_reply_in o count → (o ≡ None) × (n ≡ count)

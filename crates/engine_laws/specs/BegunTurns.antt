@@ -11,18 +11,13 @@ use Rattle.daq_types.specs.declared.runs.Why.{Why}
 use Rattle.daq_types.specs.declared.runs.StartOutcome.TheVariants.{Completed}
 use Rattle.transitions.specs.States.{is_allowed}
 use Rattle.transitions.specs.declared.client.Registered.{Registered}
-use Rattle.transitions.specs.declared.sheet.Sheet.{Sheet}
-use Rattle.transitions.specs.declared.answers.Answer.{Answer}
 use Rattle.transitions.specs.declared.answers.Answer.TheVariants.{Yes, No}
-use Rattle.transitions.specs.declared.answers.Tally.{Tally}
-use Rattle.transitions.specs.declared.answers.ClientTally.{ClientTally}
 use Rattle.transitions.specs.declared.replies.Progress.TheVariants.{Done}
-use Rattle.transitions.specs.declared.entry.EngineEntry.{EngineEntry}
 use Rattle.transitions.specs.declared.entry.EngineEntry.TheVariants.{Register, Begin, Check}
 use Rattle.transitions.specs.EngineCalls.{order_for}
-use Rattle.transitions.specs.EngineHistories.{EngineHistory}
 use Rattle.transitions.specs.EnginePoints.{engine_past, state_at, tally_of}
 use Rattle.transitions.specs.Marks.{is_mark, HasNoMark}
+use Rattle.member_model.specs.RunEngines.{Sheet, Answer, Tally, ClientTally, EngineEntry, EngineHistory}
 use Rattle.member_model.specs.Turns.{MemberTurn, HasTurn}
 
 -- The turn is one of a transition that was begun from this state with this sheet and this start number: it is of this

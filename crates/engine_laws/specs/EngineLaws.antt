@@ -6,17 +6,13 @@ use Rattle.daq_types.specs.declared.runs.Transition.{Transition}
 use Rattle.daq_types.specs.declared.runs.Transition.TheVariants.{Start, Stop, StartAbort}
 use Rattle.daq_types.specs.declared.runs.StartOutcome.{StartOutcome}
 use Rattle.daq_types.specs.declared.runs.Why.{Why}
-use Rattle.transitions.specs.declared.sheet.Sheet.{Sheet}
 use Rattle.transitions.specs.declared.answers.Answer.TheVariants.{No}
-use Rattle.transitions.specs.declared.answers.Tally.{Tally}
-use Rattle.transitions.specs.declared.answers.ClientTally.{ClientTally}
 use Rattle.transitions.specs.declared.replies.Progress.TheVariants.{Done}
-use Rattle.transitions.specs.declared.entry.EngineEntry.{EngineEntry}
 use Rattle.transitions.specs.declared.entry.EngineEntry.TheVariants.{Begin, Check}
 use Rattle.transitions.specs.Engines.{engine_opening}
 use Rattle.transitions.specs.EnginePoints.{engine_past, state_at}
-use Rattle.transitions.specs.EngineHistories.{EngineHistory, IsLegalEngine}
 use Rattle.transitions.specs.GivenTurns.{SpeaksFor}
+use Rattle.member_model.specs.RunEngines.{Sheet, Tally, ClientTally, EngineEntry, EngineHistory, IsLegalEngine}
 use Rattle.member_model.specs.Turns.{MemberTurn, HasTurn, AreEngineTurns}
 use Rattle.member_model.specs.TurnCalls.{member_turns}
 use Rattle.daq_types.specs.declared.runs.StartOutcome.TheVariants.{Completed, Refused}

@@ -2,6 +2,7 @@
 
 ghost use Rattle.engine_laws.specs.EngineLaws.{GivesEngineTurns, TurnsWereBegun, StartsFromStopped, StopsFromRun, DonesHaveBegins, OthersComplete, TalliesAreAnswers, RefusalsAreAnswers, NosAreRefusals, LoneNosAreRefusals, RefusedAreCalledOff, RunsAreOver, CalledAreTold, MainHasTransition};
 
+use event_report::Report;
 use transitions::laws;
 
 /// The turns that a client's caller reads off its own calls are turns as an engine gives them: each start has a new number,
@@ -17,7 +18,7 @@ pub fn turns_begun()
     ensures starts { StartsFromStopped }
     ensures stops { StopsFromRun }
 {
-    laws::follows();
+    laws::follows::<Report>();
 }
 
 /// Each Done belongs to the begin before it, and each tally of a client in it is what its caller answered to the client's turn
@@ -33,8 +34,8 @@ pub fn tallies_answered()
     ensures lone { LoneNosAreRefusals }
 {
     laws::called_in_order();
-    laws::follows();
-    laws::tallies_belong();
+    laws::follows::<Report>();
+    laws::tallies_belong::<Report>();
 }
 
 /// Where a transition was not refused, each client that is called for it has its tally in the Done.

@@ -5,7 +5,8 @@ use Rattle.std.proofs.lemmas.Bool.{cases_lt, lt-ltb, le-ltb, eq-eqb}
 use Rattle.std.proofs.lemmas.List.{length-map}
 use Rattle.std.proofs.lemmas.List.Sums.{sum_by-append, sum_by-cons}
 use Rattle.std.proofs.lemmas.List.Folds.{list_any-append}
-use Rattle.event_report.specs.Listing.{row_limit, has, listed, placed, in_order, rest_count}
+use Rattle.event_report.specs.Listing.{row_limit, has, listed, rest_count}
+use Rattle.transitions.specs.Placing.{placed, in_order}
 use Rattle.event_report.specs.Steps.{takes, changed_row, rows_with, rest_after}
 use Rattle.event_report.proofs.Listed.{bit, true_or_false, both_false, eqb_flip, there_if_listed, new_if_short, listed_known, listed_new, listed_full, has_in_order, length_in_order, in_order_more}
 

@@ -5,7 +5,8 @@ use Rattle.std.proofs.lemmas.Bool.{eq-eqb, eqb-true, eqb-false}
 use Rattle.std.proofs.lemmas.List.{append-nil}
 use Rattle.std.proofs.lemmas.List.Elements.{filter-append}
 use Rattle.std.proofs.lemmas.List.Sums.{fold-append}
-use Rattle.event_report.specs.Listing.{row_limit, has, firsts, listed, placed, in_order}
+use Rattle.event_report.specs.Listing.{row_limit, has, firsts, listed}
+use Rattle.transitions.specs.Placing.{placed, in_order}
 use Rattle.event_report.proofs.Rising.{unequal}
 
 -- 1 where it is so, and 0 else

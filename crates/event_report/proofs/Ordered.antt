@@ -5,7 +5,8 @@ use Rattle.std.specs.List.{AllByRecursion}
 use Rattle.std.proofs.lemmas.Bool.{ltb-true, ltb-false, eqb-false}
 use Rattle.std.proofs.lemmas.List.{get_or-map, length-map}
 use Rattle.std.proofs.lemmas.List.Elements.{All-cons, All-head, All-tail}
-use Rattle.event_report.specs.Listing.{row_limit, has, firsts, listed, placed, in_order}
+use Rattle.event_report.specs.Listing.{row_limit, has, firsts, listed}
+use Rattle.transitions.specs.Placing.{placed, in_order}
 use Rattle.event_report.specs.Held.{IsRising}
 use Rattle.event_report.proofs.Listed.{true_or_false, both_false, eqb_flip, has_placed}
 

@@ -14,7 +14,8 @@ use Rattle.std.proofs.lemmas.Bool.Decides.{eqb_tells}
 use Rattle.std.proofs.lemmas.List.{get_or-set_same, get_or-set_other}
 use Rattle.std.proofs.lemmas.List.Edits.{length-insert, get_or-insert_at, get_or-insert_below, get_or-insert_above}
 use Rattle.std.proofs.lemmas.List.Elements.{All-append, All-take, All-drop, All-cons}
-use Rattle.event_report.specs.Listing.{row_limit, has, placed}
+use Rattle.event_report.specs.Listing.{row_limit, has}
+use Rattle.transitions.specs.Placing.{placed}
 use Rattle.event_report.specs.Steps.{takes, changed_row, rows_with}
 use Rattle.event_report.specs.Held.{IsRising, IsTable}
 use Rattle.event_report.specs.Found.{IsRowAt, FitsAt}

@@ -1,5 +1,5 @@
--- Which things of a list have a row of their own: the first 256 distinct ones, told apart and put in order by a number.
-use Rattle.std.specs.Prelude.{ℕ, ◌==◌, Bool, not, List, [], ◌∷◌, take, nat_lt, fold, count_by, filter, if◌then◌else◌}
+-- Which things of a list have a row of their own: the first 256 distinct ones, told apart by a number.
+use Rattle.std.specs.Prelude.{ℕ, ◌==◌, Bool, not, List, [], ◌∷◌, take, count_by, filter}
 use Rattle.std.specs.List.{list_any}
 
 -- the rows that a report has for ids, and those that it has for banks
@@ -18,15 +18,6 @@ firsts number (x ∷ xs) = x ∷ filter (λ y. not (number y == number x)) (firs
 -- those that have a row
 abbrev pub listed : {A : Type 0} → (A → ℕ) → List A → List A
 listed number xs = take row_limit (firsts number xs)
-
--- one more at its place, by rising numbers
-abbrev pub placed : {A : Type 0} → (A → ℕ) → A → List A → List A
-placed number x [] = x ∷ []
-placed number x (y ∷ ys) = if nat_lt (number x) (number y) then x ∷ y ∷ ys else y ∷ placed number x ys
-
--- by rising numbers
-abbrev pub in_order : {A : Type 0} → (A → ℕ) → List A → List A
-in_order number xs = fold (λ ys x. placed number x ys) [] xs
 
 -- how many have no row
 abbrev pub rest_count : {A : Type 0} → (A → ℕ) → List A → ℕ

@@ -1,5 +1,5 @@
 -- The report over a list of events.
-use Rattle.std.specs.Prelude.{ℕ, List, length, map, count_by, is_none}
+use Rattle.std.specs.Prelude.{◌≡◌, ℕ, List, [], length, map, count_by, is_none}
 use Rattle.daq_types.specs.declared.events.Event.{Event}
 use Rattle.event.specs.Events.{all_encoded}
 use Rattle.event_report.specs.EventBanks.{banks_of, integer_banks}
@@ -25,3 +25,7 @@ report_of events =
       banks = bank_tally (integer_banks events);
       bad = count_by (λ e. is_none (banks_of e.body)) events;
     }
+
+-- a report of no events
+abbrev pub IsBlank : Totals → Type 0
+IsBlank report = report ≡ report_of []

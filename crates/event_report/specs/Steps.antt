@@ -6,7 +6,8 @@ use Rattle.event_report.specs.declared.rows.Figures.{Figures}
 use Rattle.event_report.specs.declared.rows.IdRow.{IdRow}
 use Rattle.event_report.specs.declared.rows.BankRow.{BankRow}
 use Rattle.event_report.specs.EventBanks.{IntegerBank}
-use Rattle.event_report.specs.Listing.{row_limit, has, placed}
+use Rattle.event_report.specs.Listing.{row_limit, has}
+use Rattle.transitions.specs.Placing.{placed}
 use Rattle.event_report.specs.Tallies.{IdTally, BankTally, order_number, bank_number, figures_of}
 
 -- whether what has this number is counted in a row

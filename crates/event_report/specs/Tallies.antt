@@ -9,7 +9,8 @@ use Rattle.event_report.specs.declared.rows.IdRow.{IdRow}
 use Rattle.event_report.specs.declared.rows.BankRow.{BankRow}
 use Rattle.event_report.specs.Integers.{integer_tid}
 use Rattle.event_report.specs.EventBanks.{IntegerBank}
-use Rattle.event_report.specs.Listing.{listed, in_order, rest_count}
+use Rattle.event_report.specs.Listing.{listed, rest_count}
+use Rattle.transitions.specs.Placing.{in_order}
 
 -- ids: their rows by rising id, and how many events have an id without a row
 pub record IdTally : Type 0 where

@@ -13,6 +13,7 @@ use daq_types::NoMemory;
 use event::{HEADER_BYTES, Header};
 use std::alloc::Global;
 use std::marker::Model;
+use transitions::ClientReport;
 
 /// What is counted of events that come one at a time. Only `new`, `copied` and `print` take memory.
 #[derive(Drop)]
@@ -40,6 +41,13 @@ impl Model for Report {
     } };
 
     ghost invariant = { λ r. IsWithinBytes r.bytes r.events r.ids r.banks r.bad };
+}
+
+/// What a client counts of the events of a run, and tells with its answer to the stop.
+impl ClientReport for Report {
+    ghost use Rattle.event_report.specs.Reports.{IsBlank};
+
+    ghost is_blank = { IsBlank };
 }
 
 impl Report {

@@ -10,7 +10,7 @@ use Rattle.daq_types.specs.declared.runs.Transition.TheVariants.{Stop}
 use Rattle.buffer_core.specs.declared.replies.SendRefusal.{SendRefusal}
 use Rattle.buffer_core.specs.declared.entry.BufferEntry.{BufferEntry}
 use Rattle.buffer_core.specs.declared.entry.BufferEntry.TheVariants.{SendInRun}
-use Rattle.transitions.specs.declared.answers.Answer.{Answer}
+use Rattle.member_model.specs.RunEngines.{Answer}
 use Rattle.member_model.specs.Turns.{MemberTurn, IsAcceptedStart, HasAnswer, IsOfRun, AreEngineTurns, latest_answered}
 use Rattle.member_model.specs.Moments.{AreMoments, moments_answered}
 use Rattle.member_model.specs.SentCalls.{sent_by_call, own_sent, SendsNotIn, EachCall}

@@ -11,7 +11,7 @@ use Rattle.daq_types.specs.declared.runs.FrontEnded.{FrontEnded}
 use Rattle.daq_types.specs.declared.runs.FrontEnded.TheVariants.{Quota, Paused as EndedPaused, Spent as EndedSpent}
 use Rattle.daq_types.specs.declared.runs.Why.TheVariants.{NotReady}
 use Rattle.buffer_core.specs.declared.entry.BufferEntry.{BufferEntry}
-use Rattle.transitions.specs.declared.answers.Answer.{Answer}
+use Rattle.member_model.specs.RunEngines.{Answer}
 use Rattle.transitions.specs.declared.answers.Answer.TheVariants.{Yes, No}
 use Rattle.transitions.specs.declared.answers.Tally.TheVariants.{Plain, Front}
 use Rattle.member_model.specs.Turns.{MemberTurn, IsAcceptedStart, HasTurnOf, HasAnswer, NoneOpen, current_run, IsOfRun, AreEngineTurns, latest_answered}

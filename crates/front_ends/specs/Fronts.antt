@@ -14,9 +14,8 @@ use Rattle.buffer_core.specs.declared.replies.SendRefusal.{SendRefusal}
 use Rattle.buffer_core.specs.declared.replies.SendRefusal.TheVariants.{NotRunning, Full, Spent}
 use Rattle.buffer_core.specs.declared.entry.BufferEntry.TheVariants.{SendInRun}
 use Rattle.buffer_core.specs.Ports.{Access, Calls}
-use Rattle.transitions.specs.declared.answers.Answer.{Answer}
 use Rattle.transitions.specs.declared.answers.Answer.TheVariants.{Yes, No}
-use Rattle.transitions.specs.declared.answers.Tally.{Tally}
+use Rattle.member_model.specs.RunEngines.{Answer, Tally}
 use Rattle.transitions.specs.declared.answers.Tally.TheVariants.{Plain, Front}
 use Rattle.member_model.specs.Turns.{MemberTurn}
 use Rattle.front_ends.specs.declared.front_run.FrontRun.{FrontRun}

@@ -1,7 +1,7 @@
 -- How long a turn of a member was the last that it had answered, told by its calls on a buffer. The latest turn stands first, and so
 -- does its moment.
 use Rattle.std.specs.Prelude.{◌≡◌, ℕ, List, [], ◌∷◌, Option, Some, None, ◌⊎◌}
-use Rattle.transitions.specs.declared.answers.Answer.{Answer}
+use Rattle.member_model.specs.RunEngines.{Answer}
 use Rattle.member_model.specs.Turns.{MemberTurn}
 
 -- the moment of a turn with this answer; how many calls were made so far, while it has none

@@ -21,10 +21,10 @@ use buffer_core::{BufferPort, SendRefusal};
 use daq_types::{FrontEnded, NoMemory, Order, RunState, Transition, Why};
 use event::EventBuf;
 use frontend_kit::EVENT_ROOM;
+use member_model::{Answer, Tally};
 use std::alloc::Global;
 use std::marker::Model;
 use std::sync::Wait;
-use transitions::{Answer, Tally};
 
 /// A front-end: it takes part in runs by its turns, and sends the events of its equipment into a buffer, one a step. Only
 /// `new` takes memory.

@@ -3,18 +3,17 @@ ghost use Rattle.std.specs.Prelude.{◌≡◌, [], ◌∷◌, None, IfOk};
 ghost use Rattle.daq_types.specs.Callers.{main_caller};
 ghost use Rattle.turn_lock.specs.Passes.{passes_of, number_of, held_by, IsOf};
 ghost use Rattle.turn_lock.specs.Roster.{items_of, numbers_of, ArePassesOf, AreFresh, IsFresh};
-ghost use Rattle.transitions.specs.EngineHistories.{IsSheet};
+ghost use Rattle.member_model.specs.RunEngines.{IsSheet};
 ghost use Rattle.transition_lock.specs.SharedEngines.{engine_lock_of};
 
 use daq_types::{Name, NoMemory, StartOutcome, Transition};
+use member_model::{Answer, Engine, Polled, Reports, Sheet, Tallies, Tally};
 use std::alloc::Global;
 use std::process::Abort;
 use std::sync::Wait;
 use std::thread::{Threads, join};
 use transition_lock::{EngineClosed, EnginePass, EnginePasses, SharedEngine};
-use transitions::{
-    Answer, Engine, Polled, Progress, RegisterRefusal, Reports, Sequences, Sheet, Tallies, Tally,
-};
+use transitions::{Progress, RegisterRefusal, Sequences};
 
 /// Shares an idle engine with two passes.
 fn share(alloc: Global) -> Result<(SharedEngine, EnginePasses), NoMemory>

@@ -18,7 +18,7 @@ use Rattle.buffer_core.specs.declared.replies.Received.{Received}
 use Rattle.buffer_core.specs.declared.replies.Received.TheVariants.{Got, Empty, NoClient, SmallBuf}
 use Rattle.buffer_core.specs.Ports.{Access}
 use Rattle.buffer_core.specs.Slots.{slot_at}
-use Rattle.transitions.specs.declared.answers.Answer.{Answer}
+use Rattle.member_model.specs.RunEngines.{Answer}
 use Rattle.member_model.specs.Turns.{MemberTurn, latest_answered}
 use Rattle.member_model.specs.OwnCalls.{calls_after}
 use Rattle.member_model.specs.FairCalls.{has_begun, is_left_open}

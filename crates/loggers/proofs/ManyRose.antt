@@ -10,9 +10,8 @@ use Rattle.daq_types.specs.declared.runs.Why.TheVariants.{NotReady, Exists, Faul
 use Rattle.daq_io.specs.Counts.{Rose, RoseBy}
 use Rattle.daq_io.proofs.Counts.{RoseBy-fewer, RoseBy-then}
 use Rattle.buffer_core.specs.Slots.{slot_at, passes}
-use Rattle.transitions.specs.declared.answers.Answer.{Answer}
 use Rattle.transitions.specs.declared.answers.Answer.TheVariants.{Yes, No}
-use Rattle.transitions.specs.declared.answers.Tally.{Tally}
+use Rattle.member_model.specs.RunEngines.{Answer, Tally}
 use Rattle.transitions.specs.declared.answers.Tally.TheVariants.{Plain, Front, Channels, Report}
 use Rattle.member_model.specs.Turns.{MemberTurn, HasTurn}
 use Rattle.mid_logger.specs.declared.channel.Channel.{Channel}
@@ -20,7 +19,7 @@ use Rattle.mid_logger.specs.declared.stage.ChannelStage.{ChannelStage}
 use Rattle.mid_logger.specs.ChannelTurns.{broken_run}
 use Rattle.loggers.specs.Moments.{RunFiles, noted_channel}
 use Rattle.loggers.specs.Reasons.{IsReasonSo, AreStatesSo, IsAnswerSo, AreAnswersSo, NoneFell, GivesReasons}
-use Rattle.loggers.specs.ToldCounts.{faults_of_state, faults_of_refusal, faults_of_answer, clashes_of_answer, counted_of, faults_told, clashes_told, broken_off}
+use Rattle.loggers.specs.ToldCounts.{faults_of_state, faults_of_refusal, faults_of_answer, clashes_of_answer, count_in_answer, faults_told, clashes_told, broken_off}
 
 -- Counts.
 
@@ -95,9 +94,9 @@ has_counts f (u ∷ us) t stands = elim stands as (λ w. f t ≤ sum_by f (u ∷
   | inr old ↦ omega (arith, has_counts f us t old, sum_by-cons f u us)
 ]
 
-turn_counts : (count : Answer → ℕ) (turns : List MemberTurn) (t : MemberTurn) (answer : Answer) → HasTurn turns t → t.answer ≡ Some answer → count answer ≤ sum_by (λ (u : MemberTurn). counted_of count u.answer) turns
+turn_counts : (count : Answer → ℕ) (turns : List MemberTurn) (t : MemberTurn) (answer : Answer) → HasTurn turns t → t.answer ≡ Some answer → count answer ≤ sum_by (λ (u : MemberTurn). count_in_answer count u.answer) turns
 turn_counts count turns t answer stands is =
-    subst (λ (n : ℕ). n ≤ sum_by (λ (u : MemberTurn). counted_of count u.answer) turns) (ap (counted_of count) is) (has_counts (λ (u : MemberTurn). counted_of count u.answer) turns t stands)
+    subst (λ (n : ℕ). n ≤ sum_by (λ (u : MemberTurn). count_in_answer count u.answer) turns) (ap (count_in_answer count) is) (has_counts (λ (u : MemberTurn). count_in_answer count u.answer) turns t stands)
 
 -- Channels that broke off.
 

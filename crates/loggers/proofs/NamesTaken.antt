@@ -8,7 +8,7 @@ use Rattle.daq_types.specs.declared.runs.Why.{Why}
 use Rattle.daq_types.specs.declared.runs.Why.TheVariants.{NotReady, Exists, Fault, BufferRefused}
 use Rattle.daq_io.specs.Seen.{Seen, Stored}
 use Rattle.buffer_core.specs.Slots.{slot_at}
-use Rattle.transitions.specs.declared.answers.Answer.{Answer}
+use Rattle.member_model.specs.RunEngines.{Answer}
 use Rattle.transitions.specs.declared.answers.Answer.TheVariants.{Yes, No}
 use Rattle.transitions.specs.declared.answers.Tally.TheVariants.{Plain}
 use Rattle.member_model.specs.Turns.{MemberTurn}

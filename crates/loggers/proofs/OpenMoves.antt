@@ -21,7 +21,7 @@ use Rattle.mid_logger.specs.ChannelTurns.{ChannelAt, logger_name, HasClient, Mak
 use Rattle.mid_logger.specs.ChannelEnds.{HasLeftRead}
 use Rattle.mid_logger.specs.RecordFiles.{IsGone}
 use Rattle.mid_logger.specs.Beside.{LeavesRunFile}
-use Rattle.mid_logger.specs.Keeping.{OpensFile, order_head}
+use Rattle.mid_logger.specs.Keeping.{OpensRunFile, order_head}
 use Rattle.loggers.proofs.PullMoves.{EndsNone, GrowsOn, grows_same, grows_both}
 
 -- The head of a file while its run is being opened on one channel after another: that of the order.
@@ -94,7 +94,7 @@ left_not_new state spec head run time dump own got seen name left gone told same
 
 -- It stays behind the opening, whether a file was made or none.
 pub left_stays : (state : ChannelState) (spec : ChannelSpec) (head : FileHead) (run : BegunRun) (time : ℕ) (dump : Option (List ℕ)) (own : List BufferEntry) (got : List GotEvent) (old new : Seen) (name : List ℕ) → HasLeftRead state spec head run time dump own got old
-    → OpensFile name old new → LeavesRunFile spec (Some run.opened) None old new
+    → OpensRunFile name old new → LeavesRunFile spec (Some run.opened) None old new
 left_stays state spec head run time dump own got old new name left opens = record {
   tells = opens.touches.tells;
   at = λ told. elim opens.fresh as (λ w. new.at (file_name_by spec.pattern run.opened.run) ≡ old.at (file_name_by spec.pattern run.opened.run)) [

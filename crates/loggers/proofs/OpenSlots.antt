@@ -18,7 +18,7 @@ use Rattle.mid_logger.specs.Patterns.{file_name_by}
 use Rattle.mid_logger.specs.Channels.{FileHead, IsOpenFile, channel_run, written_run}
 use Rattle.mid_logger.specs.RecordFiles.{IsGone}
 use Rattle.mid_logger.specs.Beside.{LeavesRunFile, FilesBeside, OpensBeside, LeftBeside}
-use Rattle.mid_logger.specs.Keeping.{OpensFile, OpensKeep, OpensAlone, OpensChange, FilesThere, order_head}
+use Rattle.mid_logger.specs.Keeping.{OpensRunFile, OpensKeep, OpensAlone, OpensChange, FilesThere, order_head}
 use Rattle.loggers.specs.Moments.{LoggerMoment, ChannelStep, StepsChannel, StepsSlot, HaveFilesOpen, IsLoggerReady}
 use Rattle.loggers.specs.ChannelSteps.{OpensChannel}
 use Rattle.loggers.specs.Turning.{OpensBelow, RefusesOpen}
@@ -69,7 +69,7 @@ open_self keep order dump (Err why) s opens idle small none k =
     }
 
 -- the file of another channel stays
-open_leaves : (spec : ChannelSpec) (run written : Option ChannelRun) (name : List ℕ) (old new : Seen) → OpensFile name old new → ((s : ChannelRun) → run ≡ Some s → IsTrue old.tells → old.at (file_name_by spec.pattern s.run) ≡ None → ⊥)
+open_leaves : (spec : ChannelSpec) (run written : Option ChannelRun) (name : List ℕ) (old new : Seen) → OpensRunFile name old new → ((s : ChannelRun) → run ≡ Some s → IsTrue old.tells → old.at (file_name_by spec.pattern s.run) ≡ None → ⊥)
     → ((s : ChannelRun) → written ≡ Some s → IsTrue (old.writes s.file)) → LeavesRunFile spec run written old new
 open_leaves spec None written name old new opens there used = tt
 open_leaves spec (Some s) written name old new opens there used = record {
@@ -94,7 +94,7 @@ open_moves keep alone change file_there beside files order dump r turns slots po
     let before : Channel = s.before in
     let H : ChannelRun → FileHead → Type 0 = IsOrderHead order dump in
     let name : List ℕ = file_name_by before.spec.pattern order.run in
-    let file : OpensFile name old new = change before.spec order dump r _ _ opens.opens in
+    let file : OpensRunFile name old new = change before.spec order dump r _ _ opens.opens in
     let grows : GrowsOn s.port s.later_port = open_grows before.spec order dump r _ _ opens.opens in
     let kept : ChannelKept H old before s.port = stands.channels n before s.port there at_port in
     let now : ChannelKept H new s.after s.later_port = open_self keep order dump r s opens idle small none kept in

@@ -20,7 +20,7 @@ use Rattle.mid_logger.specs.declared.stage.ChannelStage.TheVariants.{Idle, Askin
 use Rattle.mid_logger.specs.Channels.{IsOpenFile, channel_run, written_run, stage_begun, stage_ended, place_marked}
 use Rattle.mid_logger.specs.ChannelTurns.{drained_run}
 use Rattle.mid_logger.specs.ChannelEnds.{ClosesFile, stage_settled}
-use Rattle.mid_logger.specs.Keeping.{ChangesFile, OpensFile, PullsChange, AbortsChange, ClosesChange, OpensChange}
+use Rattle.mid_logger.specs.Keeping.{ChangesFile, OpensRunFile, PullsChange, AbortsChange, ClosesChange, OpensChange}
 use Rattle.loggers.specs.Moments.{RunFiles, LoggerMoment, ChannelStep, StepsChannel, StepsSlot, CallsBuffer, MarksBuffer, noted_channel, HaveNumbersApart, HaveFilesOpen, IsLoggerReady}
 use Rattle.loggers.specs.ChannelSteps.{OpensChannel, AbortsChannel, PullsChannel, EndsChannel}
 use Rattle.loggers.specs.SlotPulls.{PullsSlot}
@@ -154,7 +154,7 @@ settled_file spec (Broken run) old new either file = tt
 -- Opening a run.
 
 -- where a channel with no file opens one, or none, the others' files stay, and the new number is none of theirs
-pub opened_files : (slots : List (Option Channel)) (n : ℕ) (before after : Channel) (name : List ℕ) (old new : Seen) → slot_at slots n ≡ Some before → OpensFile name old new → IsOpenFile new after.spec (written_run after.stage)
+pub opened_files : (slots : List (Option Channel)) (n : ℕ) (before after : Channel) (name : List ℕ) (old new : Seen) → slot_at slots n ≡ Some before → OpensRunFile name old new → IsOpenFile new after.spec (written_run after.stage)
     → ((r : ChannelRun) → written_run after.stage ≡ Some r → old.writes r.file ≡ false) → HaveFilesOpen slots old → HaveFilesOpen (slice_set slots n (Some after)) new
 opened_files slots n before after name old new there opens file fresh open_before =
     let used : (m : ℕ) (c : Channel) (s : ChannelRun) → slot_at slots m ≡ Some c → written_run c.stage ≡ Some s → IsTrue (old.writes s.file) =
@@ -190,7 +190,7 @@ open_file order dump (Err why) s opens idle = rw (opens.opens.0, idle) tt
 pub opened_ready : OpensChange → (order : Order) (dump : List ℕ) (r : Result ⊤ Why) (n : ℕ) (before : Channel) (a b : LoggerMoment) → slot_at a.slots n ≡ Some before → before.stage ≡ Idle → StepsChannel (OpensChannel order dump r) n before a b
     → IsLoggerReady a.slots a.ports a.files.seen → IsLoggerReady b.slots b.ports b.files.seen
 opened_ready change order dump r n before a b there idle s ready =
-    let opens : OpensFile _ a.files.seen b.files.seen = change before.spec order dump r _ _ s.step.opens in
+    let opens : OpensRunFile _ a.files.seen b.files.seen = change before.spec order dump r _ _ s.step.opens in
     step_ready (OpensChannel order dump r) n before a b s there s.step.spec
     (opened_files a.slots n before s.after _ a.files.seen b.files.seen there opens
     (subst (λ (sp : ChannelSpec). IsOpenFile b.files.seen sp (written_run s.after.stage)) (sym s.step.spec) (open_file order dump r _ s.step idle))

@@ -21,7 +21,7 @@ use Rattle.buffer_core.specs.declared.replies.Received.{Received}
 use Rattle.buffer_core.specs.declared.replies.Received.TheVariants.{Got, Empty, NoClient, SmallBuf}
 use Rattle.buffer_core.specs.Ports.{Access}
 use Rattle.buffer_core.specs.Slots.{slot_at}
-use Rattle.transitions.specs.declared.answers.Answer.{Answer}
+use Rattle.member_model.specs.RunEngines.{Answer}
 use Rattle.transitions.specs.declared.answers.Answer.TheVariants.{Yes, No}
 use Rattle.transitions.specs.declared.answers.Tally.TheVariants.{Plain, Channels}
 use Rattle.member_model.specs.Turns.{MemberTurn, HasTurn, latest_answered}
@@ -43,7 +43,7 @@ use Rattle.loggers.specs.Finishing.{EndingMoment, EndsSlot, EndsSlotAt, EndsFile
 use Rattle.loggers.specs.Turning.{BeginsBuffer, EndsBuffer, PausesBuffer, ResumesBuffer, LoggerTurn, OpensBelow, BeginsBelow, AbortsAll, UndoesOpens, UndoesBegins, StartsSo, TakesStart, TakesStop, TakesMark, TakesAbort, TakesTurnBy, TakesTurn, is_run_on, is_started, is_of_start, buffers_begun, start_answer}
 use Rattle.loggers.specs.LoggerStands.{logger_turn}
 use Rattle.loggers.specs.NewLoggers.{HasNewChannels}
-use Rattle.loggers.specs.ToldCounts.{faults_of_state, faults_of_refusal, faults_of_answer, clashes_of_answer, undone_by, counted_of, faults_told, clashes_told, starts_undone, broken_off}
+use Rattle.loggers.specs.ToldCounts.{faults_of_state, faults_of_refusal, faults_of_answer, clashes_of_answer, undone_by, count_in_answer, faults_told, clashes_told, starts_undone, broken_off}
 use Rattle.loggers.specs.OtherFiles.{specs_in}
 use Rattle.loggers.specs.Reasons.{IsReasonSo, IsStartSo, NoneFell, NoneClashed, AreTurnsSo, NamesChannels, AnswerFits, IsLatestOpen, HasRefusedAsk, GivesReasons}
 use Rattle.loggers.proofs.InTurns.{turns_keep}
@@ -302,7 +302,7 @@ undone_begins_kept order dump why begun a b undoes =
 
 -- what this answer tells of the faults and the clashes that were counted
 abbrev KeptAnswered : Option Answer → (a b : LoggerMoment) → Type 0
-KeptAnswered answer a b = KeptSo (counted_of faults_of_answer answer) (counted_of clashes_of_answer answer) a b
+KeptAnswered answer a b = KeptSo (count_in_answer faults_of_answer answer) (count_in_answer clashes_of_answer answer) a b
 
 starts_kept : (result : Result ⊤ Why) (order : Order) (dump : List ℕ) (begun : ℕ) (a b : LoggerMoment) → StartsSo result order dump begun a b → KeptAnswered (Some (start_answer result)) a b
 starts_kept (Ok done) order dump begun a b starts =
@@ -500,15 +500,15 @@ later_reasons slots later ports more first old new turns kept rises stay gives =
 }
 
 -- one turn more
-turn_more_reasons : (slots later : List (Option Channel)) (ports more : List Access) (first old new : RunFiles) (turns : List MemberTurn) (t : MemberTurn) → CountsKept (counted_of faults_of_answer t.answer) (counted_of clashes_of_answer t.answer) slots later old new
-    → RisesKept (told_by t.transition t.answer) (counted_of clashes_of_answer t.answer) slots later old new → AnswerFits (specs_in slots) t.transition t.answer
+turn_more_reasons : (slots later : List (Option Channel)) (ports more : List Access) (first old new : RunFiles) (turns : List MemberTurn) (t : MemberTurn) → CountsKept (count_in_answer faults_of_answer t.answer) (count_in_answer clashes_of_answer t.answer) slots later old new
+    → RisesKept (told_by t.transition t.answer) (count_in_answer clashes_of_answer t.answer) slots later old new → AnswerFits (specs_in slots) t.transition t.answer
     → (t.transition ≡ Start → (answer : Answer) → t.answer ≡ Some answer → IsStartSo answer old new) → (t.answer ≡ Some (No BufferRefused) → HasRefusedAsk more) → (HasRefusedAsk ports → HasRefusedAsk more)
     → GivesReasons slots ports first old turns → GivesReasons later more first new (t ∷ turns)
 turn_more_reasons slots later ports more first old new turns t kept rises fits start refused stay gives =
-    let told : ℕ = counted_of faults_of_answer t.answer in
-    let clashes : ℕ = counted_of clashes_of_answer t.answer in
-    let all_told : faults_told (t ∷ turns) ≡ told + faults_told turns = sum_by-cons (λ (u : MemberTurn). counted_of faults_of_answer u.answer) t turns in
-    let all_clashes : clashes_told (t ∷ turns) ≡ clashes + clashes_told turns = sum_by-cons (λ (u : MemberTurn). counted_of clashes_of_answer u.answer) t turns in
+    let told : ℕ = count_in_answer faults_of_answer t.answer in
+    let clashes : ℕ = count_in_answer clashes_of_answer t.answer in
+    let all_told : faults_told (t ∷ turns) ≡ told + faults_told turns = sum_by-cons (λ (u : MemberTurn). count_in_answer faults_of_answer u.answer) t turns in
+    let all_clashes : clashes_told (t ∷ turns) ≡ clashes + clashes_told turns = sum_by-cons (λ (u : MemberTurn). count_in_answer clashes_of_answer u.answer) t turns in
     let all_undone : starts_undone (t ∷ turns) ≡ undone_by t.transition t.answer + starts_undone turns = sum_by-cons (λ (u : MemberTurn). undone_by u.transition u.answer) t turns in
     record {
       faults = subst (λ (many : ℕ). RoseBy (many + broken_off later) first.faults new.faults) (sym all_told) (more_faults (faults_told turns) told clashes slots later first old new kept gives.faults);
@@ -565,11 +565,11 @@ answered_reasons slots later ports first old new states (t ∷ ts) kept rises na
     let answer : Answer = Yes (Channels states) in
     let told : ℕ = sum_by faults_of_state states in
     let stop : t.transition ≡ Stop = open_stop (specs_in slots) t waits (gives.fits t (inl refl)) in
-    let before : faults_told (t ∷ ts) ≡ counted_of faults_of_answer t.answer + faults_told ts = sum_by-cons (λ (u : MemberTurn). counted_of faults_of_answer u.answer) t ts in
-    let none_before : counted_of faults_of_answer t.answer ≡ 0 = ap (counted_of faults_of_answer) waits in
-    let behind : faults_told (record t { answer = Some answer } ∷ ts) ≡ told + faults_told ts = sum_by-cons (λ (u : MemberTurn). counted_of faults_of_answer u.answer) (record t { answer = Some answer }) ts in
-    let clashes_before : clashes_told (t ∷ ts) ≡ counted_of clashes_of_answer t.answer + clashes_told ts = sum_by-cons (λ (u : MemberTurn). counted_of clashes_of_answer u.answer) t ts in
-    let clashes_behind : clashes_told (record t { answer = Some answer } ∷ ts) ≡ 0 + clashes_told ts = sum_by-cons (λ (u : MemberTurn). counted_of clashes_of_answer u.answer) (record t { answer = Some answer }) ts in
+    let before : faults_told (t ∷ ts) ≡ count_in_answer faults_of_answer t.answer + faults_told ts = sum_by-cons (λ (u : MemberTurn). count_in_answer faults_of_answer u.answer) t ts in
+    let none_before : count_in_answer faults_of_answer t.answer ≡ 0 = ap (count_in_answer faults_of_answer) waits in
+    let behind : faults_told (record t { answer = Some answer } ∷ ts) ≡ told + faults_told ts = sum_by-cons (λ (u : MemberTurn). count_in_answer faults_of_answer u.answer) (record t { answer = Some answer }) ts in
+    let clashes_before : clashes_told (t ∷ ts) ≡ count_in_answer clashes_of_answer t.answer + clashes_told ts = sum_by-cons (λ (u : MemberTurn). count_in_answer clashes_of_answer u.answer) t ts in
+    let clashes_behind : clashes_told (record t { answer = Some answer } ∷ ts) ≡ 0 + clashes_told ts = sum_by-cons (λ (u : MemberTurn). count_in_answer clashes_of_answer u.answer) (record t { answer = Some answer }) ts in
     let undone_before : starts_undone (t ∷ ts) ≡ undone_by t.transition t.answer + starts_undone ts = sum_by-cons (λ (u : MemberTurn). undone_by u.transition u.answer) t ts in
     let undone_behind : starts_undone (record t { answer = Some answer } ∷ ts) ≡ undone_by t.transition (Some answer) + starts_undone ts = sum_by-cons (λ (u : MemberTurn). undone_by u.transition u.answer) (record t { answer = Some answer }) ts in
     let undone_none : undone_by t.transition t.answer ≡ 0 = ap (λ (k : Transition). undone_by k t.answer) stop in
@@ -591,7 +591,7 @@ answered_reasons slots later ports first old new states (t ∷ ts) kept rises na
             record {
               start = λ is given told_so. let same : answer ≡ given = cc (told_so) in subst (λ (a : Answer). IsStartSo a so.0 so.1.0) same tt;
               within = last.within;
-              clashes = λ none. last.clashes (ap (counted_of clashes_of_answer) waits);
+              clashes = λ none. last.clashes (ap (count_in_answer clashes_of_answer) waits);
               since = clashed_then so.1.0 old new last.since (record { fell = kept_fell told 0 slots later old new kept; clashes = rises.names refl });
             },
           ),
@@ -631,7 +631,7 @@ clashes_are_told slots ports first now turns gives none = clashes_by turns first
     clashes_by : (ts : List MemberTurn) (f g : RunFiles) → AreTurnsSo ts f g → clashes_told ts ≡ 0 → g.clashes ≡ f.clashes
     clashes_by [] f g so untold = so.clashes
     clashes_by (t ∷ ts) f g so untold =
-        let all : clashes_told (t ∷ ts) ≡ counted_of clashes_of_answer t.answer + clashes_told ts = sum_by-cons (λ (u : MemberTurn). counted_of clashes_of_answer u.answer) t ts in
+        let all : clashes_told (t ∷ ts) ≡ count_in_answer clashes_of_answer t.answer + clashes_told ts = sum_by-cons (λ (u : MemberTurn). count_in_answer clashes_of_answer u.answer) t ts in
         let last = so.1.1.1 in
         last.since.clashes ∙ (last.clashes (omega (arith, all, untold)) ∙ clashes_by ts f so.0 so.1.1.0 (omega (arith, all, untold)))
 

@@ -14,7 +14,7 @@ use Rattle.buffer_core.specs.declared.replies.Received.{Received}
 use Rattle.buffer_core.specs.declared.replies.Received.TheVariants.{Got, Empty, NoClient, SmallBuf}
 use Rattle.buffer_core.specs.Ports.{Access, GotEvent, PortCalled}
 use Rattle.buffer_core.specs.Slots.{slot_at}
-use Rattle.transitions.specs.declared.answers.Answer.{Answer}
+use Rattle.member_model.specs.RunEngines.{Answer}
 use Rattle.transitions.specs.declared.answers.Answer.TheVariants.{Yes, No}
 use Rattle.transitions.specs.declared.answers.Tally.TheVariants.{Plain}
 use Rattle.mid_logger.specs.declared.channel.Channel.{Channel}
@@ -213,7 +213,7 @@ starts_asks (Ok done) order dump begun a b starts = (
   (λ had. stay_begins order.start (length a.ports) starts.opened b starts.begins (stay_opens order dump (length a.slots) a starts.opened starts.opens had)),
   (λ is. absurd (cc (is))),
 )
-starts_asks (Err why) order dump begun a b starts = elim starts as (λ w. Stay a b × (No why ≡ No BufferRefused → HasRefusedAsk b.ports)) [
+starts_asks (Err why) order dump begun a b starts = elim starts as (λ w. Stay a b × (◌≡◌ {A = Answer} (No why) (No BufferRefused) → HasRefusedAsk b.ports)) [
   | inl opens ↦ (let asks = opens_asks order dump why begun a b opens in (asks.0, λ is. asks.1 (let same : why ≡ BufferRefused = cc (is) in same)))
   | inr begins ↦ (let asks = begins_asks order dump why begun a b begins in (asks.0, λ is. asks.1 (let same : why ≡ BufferRefused = cc (is) in same)))
 ]

@@ -16,7 +16,7 @@ use Rattle.buffer_core.specs.declared.entry.BufferEntry.{BufferEntry}
 use Rattle.buffer_core.specs.declared.replies.Received.{Received}
 use Rattle.buffer_core.specs.declared.replies.Received.TheVariants.{Got, Empty, NoClient, SmallBuf}
 use Rattle.buffer_core.specs.Slots.{slot_at, passes}
-use Rattle.transitions.specs.declared.answers.Answer.{Answer}
+use Rattle.member_model.specs.RunEngines.{Answer}
 use Rattle.transitions.specs.declared.answers.Answer.TheVariants.{Yes, No}
 use Rattle.transitions.specs.declared.answers.Tally.TheVariants.{Plain, Channels}
 use Rattle.mid_logger.specs.declared.channel.Channel.{Channel}
@@ -36,7 +36,7 @@ use Rattle.loggers.specs.SlotPulls.{PullsSlot}
 use Rattle.loggers.specs.Finishing.{EndingMoment, EndsSlot, EndsSlotAt, EndsFiles, LoggerFinish, states_idle}
 use Rattle.loggers.specs.Turning.{BeginsBuffer, EndsBuffer, PausesBuffer, ResumesBuffer, LoggerTurn, OpensBelow, BeginsBelow, AbortsAll, StartsAll, UndoesOpens, UndoesBegins, StartsSo, TakesStart, TakesStop, TakesMark, TakesAbort, TakesTurnBy, TakesTurn, is_run_on, is_started, is_of_start, buffers_begun, start_answer}
 use Rattle.loggers.specs.OtherFiles.{specs_in}
-use Rattle.loggers.specs.ToldCounts.{faults_of_state, faults_of_answer, clashes_of_answer, undone_by, counted_of, broken_off}
+use Rattle.loggers.specs.ToldCounts.{faults_of_state, faults_of_answer, clashes_of_answer, undone_by, count_in_answer, broken_off}
 use Rattle.loggers.specs.Reasons.{IsChannelNumber, NamesRefuser, NamesChannels, AnswerFits}
 use Rattle.loggers.proofs.InTurns.{turns_keep}
 use Rattle.loggers.proofs.SlotLists.{same_or_other, got_elsewhere, many_set}
@@ -242,10 +242,10 @@ module _ (told : ℕ) (some : 1 ≤ told) where
 
 -- what is told by this answer to a turn, and what the turn kept
 abbrev pub told_by : Transition → Option Answer → ℕ
-told_by transition answer = counted_of faults_of_answer answer + undone_by transition answer
+told_by transition answer = count_in_answer faults_of_answer answer + undone_by transition answer
 
 abbrev pub RisesAnswered : Transition → Option Answer → (a b : LoggerMoment) → Type 0
-RisesAnswered transition answer a b = RisesSo (told_by transition answer) (counted_of clashes_of_answer answer) a b
+RisesAnswered transition answer a b = RisesSo (told_by transition answer) (count_in_answer clashes_of_answer answer) a b
 
 -- no channel refuses a run as not ready
 never_unready : (order : Order) (dump : List ℕ) (begun : ℕ) (a b : LoggerMoment) → StartsSo (Err NotReady) order dump begun a b → ⊥

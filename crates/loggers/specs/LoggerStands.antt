@@ -11,7 +11,7 @@ use Rattle.buffer_core.specs.declared.entry.BufferEntry.{BufferEntry}
 use Rattle.buffer_core.specs.declared.entry.BufferEntry.TheVariants.{End}
 use Rattle.buffer_core.specs.Ports.{Access}
 use Rattle.buffer_core.specs.Slots.{slot_at}
-use Rattle.transitions.specs.declared.answers.Answer.{Answer}
+use Rattle.member_model.specs.RunEngines.{Answer}
 use Rattle.transitions.specs.declared.answers.Answer.TheVariants.{Yes, No}
 use Rattle.transitions.specs.declared.answers.Tally.TheVariants.{Channels}
 use Rattle.member_model.specs.Turns.{MemberTurn, HasTurn, IsAcceptedStart, NoneOpen, current_run, AreEngineTurns}

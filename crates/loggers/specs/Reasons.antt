@@ -9,7 +9,7 @@ use Rattle.daq_types.specs.declared.runs.Transition.TheVariants.{Start, Stop}
 use Rattle.daq_types.specs.declared.runs.Why.{Why}
 use Rattle.daq_types.specs.declared.runs.Why.TheVariants.{NotReady, Exists, Fault, BufferRefused}
 use Rattle.daq_io.specs.Counts.{Rose, RoseBy}
-use Rattle.transitions.specs.declared.answers.Answer.{Answer}
+use Rattle.member_model.specs.RunEngines.{Answer}
 use Rattle.transitions.specs.declared.answers.Answer.TheVariants.{Yes, No}
 use Rattle.transitions.specs.declared.answers.Tally.TheVariants.{Plain, Channels}
 use Rattle.member_model.specs.Turns.{MemberTurn, HasTurn, latest_answered}
@@ -26,7 +26,7 @@ use Rattle.loggers.specs.Turning.{LoggerTurn, TakesTurn}
 use Rattle.loggers.specs.Finishing.{LoggerFinish, FinishesLogger}
 use Rattle.loggers.specs.LoggerStands.{logger_turn}
 use Rattle.loggers.specs.OtherFiles.{specs_in}
-use Rattle.loggers.specs.ToldCounts.{clashes_of_answer, counted_of, faults_told, clashes_told, starts_undone, broken_off}
+use Rattle.loggers.specs.ToldCounts.{clashes_of_answer, count_in_answer, faults_told, clashes_told, starts_undone, broken_off}
 
 -- Between these two moments of the run files a start may be refused so: for a name, where a clash of names was counted; and
 -- for a fault, where a fault was. A logger that has a run, or that a buffer refuses, does not look at the files.
@@ -73,7 +73,7 @@ pub record NoneClashed (old new : RunFiles) : Type 0 where
 pub record IsTurnSo (t : MemberTurn) (before behind now : RunFiles) : Type 0 where
   pub start : t.transition ≡ Start → (answer : Answer) → t.answer ≡ Some answer → IsStartSo answer before behind
   pub within : NoneFell before behind
-  pub clashes : counted_of clashes_of_answer t.answer ≡ 0 → behind.clashes ≡ before.clashes
+  pub clashes : count_in_answer clashes_of_answer t.answer ≡ 0 → behind.clashes ≡ before.clashes
   pub since : NoneClashed behind now
 
 -- There are moments of the run files, one after another from the first of these to the other, between which the turns may have

@@ -8,7 +8,7 @@ use Rattle.daq_types.specs.declared.runs.Transition.TheVariants.{Start, StartAbo
 use Rattle.daq_types.specs.declared.runs.Why.{Why}
 use Rattle.daq_types.specs.declared.runs.Why.TheVariants.{NotReady, Exists, Fault}
 use Rattle.buffer_core.specs.Slots.{passes}
-use Rattle.transitions.specs.declared.answers.Answer.{Answer}
+use Rattle.member_model.specs.RunEngines.{Answer}
 use Rattle.transitions.specs.declared.answers.Answer.TheVariants.{Yes, No}
 use Rattle.transitions.specs.declared.answers.Tally.TheVariants.{Channels}
 use Rattle.member_model.specs.Turns.{MemberTurn}
@@ -36,17 +36,17 @@ clashes_of_answer (No (Exists channel)) = 1
 clashes_of_answer answer = 0
 
 -- what is counted of an answer, if there is one yet
-abbrev pub counted_of : (count : Answer → ℕ) → Option Answer → ℕ
-counted_of count None = 0
-counted_of count (Some answer) = count answer
+abbrev pub count_in_answer : (count : Answer → ℕ) → Option Answer → ℕ
+count_in_answer count None = 0
+count_in_answer count (Some answer) = count answer
 
 -- the faults of which the answers to these turns tell
 abbrev pub faults_told : List MemberTurn → ℕ
-faults_told turns = sum_by (λ t. counted_of faults_of_answer t.answer) turns
+faults_told turns = sum_by (λ t. count_in_answer faults_of_answer t.answer) turns
 
 -- the clashes of which they tell
 abbrev pub clashes_told : List MemberTurn → ℕ
-clashes_told turns = sum_by (λ t. counted_of clashes_of_answer t.answer) turns
+clashes_told turns = sum_by (λ t. count_in_answer clashes_of_answer t.answer) turns
 
 -- A start that is refused undoes what was opened; but nothing was, where it is refused as not ready.
 abbrev pub undone_of_refusal : Why → ℕ
@@ -59,7 +59,7 @@ undone_of_answer (Yes tally) = 0
 
 -- a turn in which what was opened is undone: that of a start that is refused, or a start-abort
 abbrev pub undone_by : Transition → Option Answer → ℕ
-undone_by Start answer = counted_of undone_of_answer answer
+undone_by Start answer = count_in_answer undone_of_answer answer
 undone_by StartAbort answer = 1
 undone_by transition answer = 0
 

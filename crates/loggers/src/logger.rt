@@ -28,10 +28,10 @@ use crate::steps::pull_at;
 use buffer_core::BufferPort;
 use daq_io::Files;
 use daq_types::{Bytes, NoMemory, Order, Transition, Why};
+use member_model::{Answer, Tally};
 use mid_logger::{Pulled, laws as channel_laws};
 use std::alloc::Global;
 use std::sync::Wait;
-use transitions::{Answer, Tally};
 
 /// The logger: it takes part in runs by its turns, and its channels write the events of each run into run files.
 /// Only `new` takes memory.

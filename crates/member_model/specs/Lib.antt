@@ -1,3 +1,4 @@
+pub mod RunEngines
 pub mod Turns
 pub mod TurnCalls
 pub mod Moments

@@ -2,7 +2,7 @@
 -- had made when it answered the turn, or so far, where the turn has no answer. The latest turn stands first, and so does its
 -- moment.
 use Rattle.std.specs.Prelude.{◌≡◌, ℕ, ◌≤◌, List, [], ◌∷◌, Option, Some, None, ⊤, ◌⊎◌}
-use Rattle.transitions.specs.declared.answers.Answer.{Answer}
+use Rattle.member_model.specs.RunEngines.{Answer}
 use Rattle.member_model.specs.Turns.{MemberTurn}
 
 -- The turns have these moments, one each: no turn has one behind that of a later turn, and none lies behind all calls.

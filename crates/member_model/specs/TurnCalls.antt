@@ -1,9 +1,8 @@
 -- The turns of a member, read off its own calls on the engine, whatever the engine replies. The calls are in order; the latest
 -- turn stands first.
 use Rattle.std.specs.Prelude.{ℕ, ◌==◌, is_some, if◌then◌else◌, List, [], ◌∷◌, fold, Some, None}
-use Rattle.transitions.specs.declared.answers.Answer.{Answer}
 use Rattle.transitions.specs.declared.replies.Polled.TheVariants.{Turn}
-use Rattle.transitions.specs.declared.entry.EngineEntry.{EngineEntry}
+use Rattle.member_model.specs.RunEngines.{Answer, EngineEntry}
 use Rattle.transitions.specs.declared.entry.EngineEntry.TheVariants.{Poll, Answer as Answers}
 use Rattle.member_model.specs.Turns.{MemberTurn}
 

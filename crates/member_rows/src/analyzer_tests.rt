@@ -9,10 +9,10 @@ use daq_text::TextBuffer;
 use daq_types::{Kind, NoMemory, Order, RunState, Transition, Why};
 use event::Header;
 use event_report::Report;
+use member_model::{Answer, Tally};
 use plain_buffer::{OwningPort, PlainBuffer};
 use std::alloc::Global;
 use std::sync::Wait;
-use transitions::{Answer, Tally};
 
 /// The data of the first event that a front-end generates with id 1: a bank of one word.
 const FIRST: &[u8] = b"\x10\0\0\0\x01\0\0\0GEN0\x06\0\x04\0\xac\x6f\x57\x6c\0\0\0\0";

@@ -1,8 +1,8 @@
 //! What the answers of a row tell.
 
 use daq_types::{ChannelState, FileName, Why};
+use member_model::{Answer, Tally};
 use std::alloc::Global;
-use transitions::{Answer, Tally};
 
 /// What an answer tells.
 #[derive(Clone, Copy, PartialEq, Eq)]

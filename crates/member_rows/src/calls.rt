@@ -8,10 +8,10 @@ use daq_io::Files;
 use daq_types::{Bytes, NoMemory, Order, Transition};
 use event::Header;
 use loggers::{Logger, Ports};
+use member_model::Answer;
 use mid_logger::Pulled;
 use std::alloc::Global;
 use std::sync::Wait;
-use transitions::Answer;
 
 /// The dump of every turn: the database with a front-end that has sent nothing.
 const DUMP: &[u8] =

@@ -7,12 +7,12 @@ use crate::making::{Port, new_logger, new_ports};
 use daq_mem::MemFiles;
 use daq_types::{FileName, NoMemory, Order, RunState, Transition};
 use loggers::{Logger, Ports};
+use member_model::Answer;
 use mid_logger::Pulled;
 use std::alloc::Global;
 use std::marker::Model;
 use std::process::Abort;
 use std::sync::Wait;
-use transitions::Answer;
 
 /// A logger with its files and its ports, between two calls. Its run is the first, with start number 1.
 #[derive(Drop)]

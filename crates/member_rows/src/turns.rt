@@ -1,17 +1,16 @@
 //! Worked rows of the engine, as tables of calls with what they answer.
 ghost use Rattle.std.specs.List.{AllByRecursion};
 ghost use Rattle.std.specs.Prelude.{IfOk};
-ghost use Rattle.transitions.specs.EngineHistories.{IsBlank, IsSheet};
+ghost use Rattle.event_report.specs.Reports.{IsBlank};
+ghost use Rattle.member_model.specs.RunEngines.{IsSheet};
 
 use daq_types::{Bytes, FrontEnded, Name, NoMemory, RunState, StartOutcome, Transition, Why};
 use event_report::Report;
+use member_model::{Answer, Engine, Polled, Reports, Sheet, Tallies, Tally};
 use std::alloc::Global;
 use std::process::Abort;
 use std::test::Fail;
-use transitions::{
-    Answer, BeginRefusal, Engine, Polled, Progress, RegisterRefusal, Reports, Sequences, Sheet,
-    Tallies, Tally,
-};
+use transitions::{BeginRefusal, Progress, RegisterRefusal, Sequences};
 
 /// What a poll found; of a turn whether it has the dump and whether it has a blank report.
 #[derive(Clone, Copy, PartialEq, Eq)]

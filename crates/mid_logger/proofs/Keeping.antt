@@ -22,7 +22,7 @@ use Rattle.mid_logger.specs.Channels.{FileHead, ChannelStands, IsOpenFile, chann
 use Rattle.mid_logger.specs.Pulls.{PullOf, LeavesAll, DrainsClient, TakesBy, FindsNone, TakesReply, PullsOnce, PullsIn, Pulls, drains_at_none}
 use Rattle.mid_logger.specs.ChannelTurns.{ChannelAt, OpensBy, RefusesRun, broken_run, drained_run}
 use Rattle.mid_logger.specs.ChannelEnds.{RemovesFile, ClosesRead, ClosesFile}
-use Rattle.mid_logger.specs.Keeping.{ChangesOne, ChangesFile, KeepsRun, OpensFile, order_head}
+use Rattle.mid_logger.specs.Keeping.{ChangesOne, ChangesFile, KeepsRun, OpensRunFile, order_head}
 use Rattle.mid_logger.proofs.PullSteps.{pull_used}
 use Rattle.mid_logger.proofs.OpenSteps.{opened_kept, not_opened_kept}
 
@@ -148,7 +148,7 @@ close_changes spec (Broken run) state time dump old new faults later closes file
 
 -- Opening a run.
 
-refused_changes : (spec : ChannelSpec) (name : List ℕ) (why : Why) (a b : ChannelAt) → RefusesRun why spec name a b → OpensFile name a.files b.files
+refused_changes : (spec : ChannelSpec) (name : List ℕ) (why : Why) (a b : ChannelAt) → RefusesRun why spec name a b → OpensRunFile name a.files b.files
 refused_changes spec name NotReady a b refuses = absurd refuses
 refused_changes spec name (Exists channel) a b refuses = record {
   touches = record { tells = refuses.2.files.tells; others = λ other ne. refuses.2.files.at other };
@@ -158,7 +158,7 @@ refused_changes spec name (Exists channel) a b refuses = record {
 refused_changes spec name (Fault channel) a b refuses = record { touches = refuses.2.touches; fresh = inl refuses.2.fresh; numbers = λ number used. refuses.2.numbers number }
 refused_changes spec name BufferRefused a b refuses = record { touches = refuses.1.touches; fresh = inl refuses.1.fresh; numbers = λ number used. refuses.1.numbers number }
 
-pub open_changes : (spec : ChannelSpec) (order : Order) (dump : List ℕ) (r : Result ⊤ Why) (a b : ChannelAt) → OpensBy r spec order dump a b → OpensFile (file_name_by spec.pattern order.run) a.files b.files
+pub open_changes : (spec : ChannelSpec) (order : Order) (dump : List ℕ) (r : Result ⊤ Why) (a b : ChannelAt) → OpensBy r spec order dump a b → OpensRunFile (file_name_by spec.pattern order.run) a.files b.files
 open_changes spec order dump (Ok done) a b opens = record {
   touches = opens.makes.touches;
   fresh = inl opens.makes.fresh;

@@ -104,7 +104,7 @@ OpensAlone = (spec : ChannelSpec) → (order : Order) → (dump : List ℕ) → 
 
 -- At most the file of this name changed, of which there was none, where names are told; or no file did. Each number
 -- that was in use for writing stays.
-pub record OpensFile (name : List ℕ) (old new : Seen) : Type 0 where
+pub record OpensRunFile (name : List ℕ) (old new : Seen) : Type 0 where
   pub touches : Touches old new name
   pub fresh : IsGone old name ⊎ ((other : List ℕ) → new.at other ≡ old.at other)
   pub numbers : (number : ℕ) → IsTrue (old.writes number) → KeepsNumber old new number
@@ -112,7 +112,7 @@ pub record OpensFile (name : List ℕ) (old new : Seen) : Type 0 where
 abbrev pub OpensChange : Type 0
 OpensChange = (spec : ChannelSpec) → (order : Order) → (dump : List ℕ) → (r : Result ⊤ Why) → (a b : ChannelAt) →
     OpensBy r spec order dump a b →
-    OpensFile (file_name_by spec.pattern order.run) a.files b.files
+    OpensRunFile (file_name_by spec.pattern order.run) a.files b.files
 
 -- Where names are told, there is a file of the run that a channel writes, or broke off.
 abbrev pub FilesThere : Type 0

@@ -7,7 +7,7 @@ ghost use Rattle.midas_tools.specs.Findings.{call_counts};
 
 use crate::causes::Cause;
 use crate::outcome::Outcome;
-use command_words::{Tool, file_names};
+use command_words::{Tool, file_names, laws};
 use daq_io::{Files, Outside, Sink};
 use daq_types::{FileName, NoMemory, Words};
 use midas_tools::{ToolEnd, analyze_file, check_file, dump_file};
@@ -122,6 +122,7 @@ pub fn run_tool<S, K: Sink, F: Files, E, C, P>(
     ensures database_files { result.1.odb_files ≡ outside.odb_files }
     ensures picks { result.1.pick ≡ outside.pick }
 {
+    laws::one_form();
     match file_names(alloc, words) {
         Ok(names) => run_on(alloc, tool, names.as_slice(), outside),
         Err(NoMemory) => (Outcome::without_script(alloc, Cause::NoMemory), outside),

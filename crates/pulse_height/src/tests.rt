@@ -7,11 +7,11 @@ use buffer_core::BufferPort;
 use daq_types::{FrontEnded, NoMemory, Order, RunState, Transition, Why};
 use front_ends::{Equipment, FrontEnd, FrontStep};
 use frontend_kit::Generator;
+use member_model::{Answer, Tally};
 use plain_buffer::{OwningPort, PlainBuffer};
 use std::alloc::Global;
 use std::sync::Wait;
 use std::test::Fail;
-use transitions::{Answer, Tally};
 
 /// An order of run 1 in which each front-end has to send so many events.
 fn order(from: RunState, quota: u32) -> Order {

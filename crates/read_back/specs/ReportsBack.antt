@@ -8,7 +8,7 @@ use Rattle.daq_io.specs.Seen.{Seen}
 use Rattle.turn_lock.specs.Closing.{history_of}
 use Rattle.event_report.specs.Reports.{Totals}
 use Rattle.event_report.specs.Texts.{report_text}
-use Rattle.transitions.specs.EngineHistories.{EngineHistory}
+use Rattle.member_model.specs.RunEngines.{EngineHistory}
 use Rattle.frontend_kit.specs.declared.generator.Generator.{Generator}
 use Rattle.mid_logger.specs.declared.channel_spec.ChannelSpec.{ChannelSpec}
 use Rattle.loggers.specs.Moments.{RunFiles}

@@ -19,10 +19,8 @@ use Rattle.odb_script.specs.declared.commands.DatabaseCommand.{DatabaseCommand}
 use Rattle.odb_script.specs.declared.commands.DatabaseCommand.TheVariants.{Rows, Watches}
 use Rattle.odb_script.specs.declared.refusals.LineRefusal.TheVariants.{BadCommand as no_command}
 use Rattle.odb_script.specs.Forms.{Read, command_of}
-use Rattle.transitions.specs.declared.answers.ClientTally.{ClientTally}
-use Rattle.transitions.specs.declared.entry.EngineEntry.{EngineEntry}
 use Rattle.transitions.specs.declared.entry.EngineEntry.TheVariants.{Begin}
-use Rattle.transitions.specs.declared.sheet.Sheet.{Sheet}
+use Rattle.member_model.specs.RunEngines.{ClientTally, EngineEntry, Sheet}
 use Rattle.session_runs.specs.declared.opening.MemberName.{MemberName}
 use Rattle.session_runs.specs.MadeTransitions.{done_check, going_checks}
 use Rattle.session_runs.specs.Members.{registrations}

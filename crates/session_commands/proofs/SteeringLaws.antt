@@ -9,8 +9,7 @@ use Rattle.daq_types.specs.declared.runs.StartOutcome.TheVariants.{Completed, Re
 use Rattle.daq_types.specs.declared.runs.Transition.{Transition}
 use Rattle.daq_types.specs.declared.runs.Transition.TheVariants.{Pause, Resume}
 use Rattle.transitions.specs.States.{run_state_after}
-use Rattle.transitions.specs.declared.answers.ClientTally.{ClientTally}
-use Rattle.transitions.specs.declared.entry.EngineEntry.{EngineEntry}
+use Rattle.member_model.specs.RunEngines.{ClientTally, EngineEntry}
 use Rattle.odb_watch.specs.DatabasePorts.{DatabaseAccess, row_calls}
 use Rattle.odb_runinfo.specs.RunSets.{state_set}
 use Rattle.session_runs.specs.MadeTransitions.{done_check, going_checks}

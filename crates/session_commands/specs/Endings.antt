@@ -1,7 +1,7 @@
 -- What a script leaves to be asked at its end.
 use Rattle.std.specs.Prelude.{◌≤◌, ◌++◌, ◌∷◌, [], Ok, ℕ, Bool, true, false, count_by, List}
 use Rattle.daq_io.specs.Counts.{Rose, RoseBy}
-use Rattle.transitions.specs.declared.entry.EngineEntry.{EngineEntry}
+use Rattle.member_model.specs.RunEngines.{EngineEntry}
 use Rattle.transitions.specs.declared.entry.EngineEntry.TheVariants.{Close}
 use Rattle.odb_commands.specs.declared.dump_replies.FileReply.{FileReply}
 use Rattle.odb_commands.specs.declared.dump_replies.FileReply.TheVariants as file

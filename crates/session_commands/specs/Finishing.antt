@@ -1,7 +1,7 @@
 -- How the lines of a session's script are played, by where they stand, and by what the main thread has besides its runs.
 use Rattle.std.specs.Prelude.{◌≡◌, ℕ, Bool, List, Option, None}
 use Rattle.daq_io.specs.Seen.{Seen}
-use Rattle.transitions.specs.declared.entry.EngineEntry.{EngineEntry}
+use Rattle.member_model.specs.RunEngines.{EngineEntry}
 use Rattle.odb_watch.specs.DatabasePorts.{DatabaseAccess}
 use Rattle.odb_script.specs.Lines.{Reading}
 use Rattle.session_runs.specs.declared.records.RunRecord.{RunRecord}

@@ -1,7 +1,7 @@
 -- What every line of a script keeps of an open session.
 use Rattle.std.specs.Prelude.{◌≡◌, true, List, ◌++◌, Option, Some, None, IsOk, ⊤}
 use Rattle.std.specs.List.{AllByRecursion}
-use Rattle.transitions.specs.declared.entry.EngineEntry.{EngineEntry}
+use Rattle.member_model.specs.RunEngines.{EngineEntry}
 use Rattle.odb_watch.specs.declared.entry.WatchEntry.{WatchEntry}
 use Rattle.odb_watch.specs.declared.entry.WatchEntry.TheVariants.{Save}
 use Rattle.odb_watch.specs.DatabasePorts.{own_watched}

@@ -4,8 +4,7 @@ use Rattle.daq_types.specs.Callers.{main_caller}
 use Rattle.turn_lock.specs.Passes.{IsOf, held_by, number_of, own_entries}
 use Rattle.odb_watch.specs.DatabasePorts.{IsSamePort}
 use Rattle.transition_lock.specs.SharedEngines.{engine_lock_of}
-use Rattle.transitions.specs.declared.entry.EngineEntry.{EngineEntry}
-use Rattle.transitions.specs.Engines.{EngineState}
+use Rattle.member_model.specs.RunEngines.{EngineEntry, EngineState}
 use Rattle.turn_lock.specs.declared.lock.Pass.{Pass}
 use Rattle.transition_lock.specs.declared.locked.LockedEngine.{LockedEngine}
 use Rattle.session_runs.specs.declared.records.RunRecord.{RunRecord}

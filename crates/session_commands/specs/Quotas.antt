@@ -5,7 +5,7 @@ use Rattle.odb_script.specs.declared.commands.Command.{Command}
 use Rattle.odb_script.specs.declared.commands.Command.TheVariants.{Run}
 use Rattle.odb_script.specs.declared.commands.RunCommand.TheVariants.{Events}
 use Rattle.odb_script.specs.Forms.{Read, command_of}
-use Rattle.transitions.specs.declared.entry.EngineEntry.{EngineEntry}
+use Rattle.member_model.specs.RunEngines.{EngineEntry}
 use Rattle.transitions.specs.declared.entry.EngineEntry.TheVariants.{Begin}
 use Rattle.console.specs.declared.replies.Reply.{Reply}
 use Rattle.console.specs.declared.replies.Reply.TheVariants.{Started, StartRefused}

@@ -19,9 +19,7 @@ use Rattle.buffer_lock.specs.SharedPorts.{ported_by, access_to}
 use Rattle.turn_lock.specs.Passes.{passes_of}
 use Rattle.turn_lock.specs.Closing.{history_of}
 use Rattle.buffer_lock.specs.SharedBuffers.{lock_of}
-use Rattle.transitions.specs.declared.entry.EngineEntry.{EngineEntry}
-use Rattle.transitions.specs.Engines.{EngineState}
-use Rattle.transitions.specs.EngineHistories.{IsLegalEngine}
+use Rattle.member_model.specs.RunEngines.{EngineEntry, EngineState, IsLegalEngine}
 use Rattle.odb_watch.specs.declared.entry.WatchEntry.{WatchEntry}
 use Rattle.odb_watch.specs.DatabasePorts.{own_watched}
 use Rattle.member_model.specs.TurnCalls.{member_turns}

@@ -10,8 +10,7 @@ use Rattle.daq_types.specs.declared.runs.Why.{Why}
 use Rattle.daq_io.specs.Seen.{Seen}
 use Rattle.buffer_core.specs.Ports.{Access}
 use Rattle.buffer_core.specs.Slots.{slot_at}
-use Rattle.transitions.specs.declared.sheet.Sheet.{Sheet}
-use Rattle.transitions.specs.declared.entry.EngineEntry.{EngineEntry}
+use Rattle.member_model.specs.RunEngines.{Sheet, EngineEntry}
 use Rattle.odb_lock.specs.SharedOdbs.{first_database}
 use Rattle.mid_logger.specs.declared.channel.Channel.{Channel}
 use Rattle.mid_logger.specs.declared.channel_spec.ChannelSpec.{ChannelSpec}

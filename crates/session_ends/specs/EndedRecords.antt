@@ -5,7 +5,7 @@ use Rattle.daq_types.specs.Callers.{main_caller}
 use Rattle.daq_types.specs.declared.runs.StartOutcome.TheVariants.{Completed, Refused}
 use Rattle.daq_types.specs.declared.runs.Why.{Why}
 use Rattle.daq_io.specs.Seen.{Seen}
-use Rattle.transitions.specs.declared.entry.EngineEntry.{EngineEntry}
+use Rattle.member_model.specs.RunEngines.{EngineEntry}
 use Rattle.odb_lock.specs.SharedOdbs.{first_database}
 use Rattle.mid_logger.specs.declared.channel_spec.ChannelSpec.{ChannelSpec}
 use Rattle.loggers.specs.Moments.{RunFiles}

@@ -2,8 +2,8 @@
 use Rattle.std.specs.Prelude.{◌≡◌, ℕ, ◌≤◌, List, ◌++◌, length, map, slice_get, Option, Some}
 use Rattle.std.specs.List.{AllByRecursion}
 use Rattle.daq_io.specs.Seen.{Seen}
-use Rattle.transitions.specs.declared.entry.EngineEntry.{EngineEntry}
 use Rattle.transitions.specs.Engines.{engine_opening}
+use Rattle.member_model.specs.RunEngines.{EngineEntry}
 use Rattle.turn_lock.specs.Closing.{history_of}
 use Rattle.transition_lock.specs.SharedEngines.{first_engine}
 use Rattle.odb_tree.specs.Noting.{Watched}

@@ -11,14 +11,11 @@ use Rattle.daq_types.specs.declared.runs.Transition.TheVariants.{Start, Stop}
 use Rattle.daq_types.specs.declared.runs.Why.{Why}
 use Rattle.daq_types.specs.declared.runs.Why.TheVariants.{NotReady, Exists, Fault, BufferRefused}
 use Rattle.daq_io.specs.Counts.{Rose}
-use Rattle.transitions.specs.declared.sheet.Sheet.{Sheet}
-use Rattle.transitions.specs.declared.answers.Answer.{Answer}
 use Rattle.transitions.specs.declared.answers.Answer.TheVariants.{Yes, No}
 use Rattle.transitions.specs.declared.answers.Tally.TheVariants.{Channels}
-use Rattle.transitions.specs.declared.answers.ClientTally.{ClientTally}
-use Rattle.transitions.specs.declared.entry.EngineEntry.{EngineEntry}
 use Rattle.transitions.specs.EngineCalls.{order_for}
 use Rattle.transitions.specs.EnginePoints.{engine_past, state_at}
+use Rattle.member_model.specs.RunEngines.{Sheet, Answer, ClientTally, EngineEntry}
 use Rattle.member_model.specs.Turns.{MemberTurn, HasTurn}
 use Rattle.member_model.specs.TurnCalls.{member_turns}
 use Rattle.member_model.specs.LoggerKept.{LoggerChannel, IsStateSo}

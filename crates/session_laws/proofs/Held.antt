@@ -12,17 +12,15 @@ use Rattle.transitions.specs.declared.sequences.Sequences.{Sequences}
 use Rattle.event_report.specs.Reports.{Totals}
 use Rattle.buffer_core.proofs.SlotLaws.{split}
 use Rattle.transitions.specs.declared.client.Registered.{Registered}
-use Rattle.transitions.specs.declared.sheet.Sheet.{Sheet}
-use Rattle.transitions.specs.declared.answers.Answer.{Answer as ClientAnswer}
 use Rattle.transitions.specs.declared.replies.Polled.TheVariants.{Turn, Idle, Closed as PollClosed, NoClient}
 use Rattle.transitions.specs.declared.replies.Progress.TheVariants.{Going, Done, None as NoneGoing}
 use Rattle.transitions.specs.declared.replies.RegisterRefusal.TheVariants.{Closed as RegisterClosed, NoSlot}
-use Rattle.transitions.specs.declared.entry.EngineEntry.{EngineEntry}
 use Rattle.transitions.specs.declared.entry.EngineEntry.TheVariants.{Register, Begin, Poll, Answer, Check, Close}
 use Rattle.transitions.specs.Limits.{most_clients}
-use Rattle.transitions.specs.Engines.{Underway, EngineState, engine_opening}
+use Rattle.transitions.specs.Engines.{engine_opening}
 use Rattle.transitions.specs.EngineCalls.{is_start, is_next, turn_of, without, begun, first_polled, polled_by, told, refused_by, answered_by, after_poll_by, after_answer_in, register_reply, register_reply_in, IsEngineReply, engine_after}
-use Rattle.transitions.specs.EngineHistories.{EngineHistory, IsEngineCaller, IsLegalEngine, engine_replay}
+use Rattle.transitions.specs.EngineHistories.{engine_replay}
+use Rattle.member_model.specs.RunEngines.{Sheet, Answer as ClientAnswer, EngineEntry, Underway, EngineState, EngineHistory, IsEngineCaller, IsLegalEngine}
 use Rattle.engine_laws.proofs.Standing.{next_called}
 use Rattle.engine_laws.proofs.Replies.{IsGiven, given_case, GivesTurn, gives_turn, Owes, owes, answered_case}
 use Rattle.session_laws.specs.BlankLaws.{asked_by, reports_asked, AsksReports}

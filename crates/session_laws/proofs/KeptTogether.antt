@@ -8,7 +8,6 @@ use Rattle.daq_types.specs.Callers.{main_caller, caller_of_client}
 use Rattle.daq_types.specs.declared.runs.Transition.TheVariants.{Start, Stop}
 use Rattle.transitions.specs.declared.sequences.Role.{Role}
 use Rattle.transitions.specs.Sequences.{sequence_for, sequences_of}
-use Rattle.transitions.specs.declared.entry.EngineEntry.{EngineEntry}
 use Rattle.transitions.specs.declared.entry.EngineEntry.TheVariants.{Register, Begin, Poll, Answer, Check, Close}
 use Rattle.session_runs.specs.declared.opening.MemberName.{MemberName}
 use Rattle.session_runs.specs.Members.{registrations}
@@ -21,6 +20,7 @@ use Rattle.analyzers.specs.AnalyzerKept.{KeepsAnalyzer}
 use Rattle.daq_members.specs.AnalyzerTaken.{MemberAnalyzersKeep}
 use Rattle.caller_laws.specs.CallerLaws.{PortTells}
 use Rattle.transitions.specs.declared.client.Registered.{Registered}
+use Rattle.member_model.specs.RunEngines.{EngineEntry}
 use Rattle.engine_laws.specs.BegunTurns.{IsAlone, OneWantsDump, OneHasNumber}
 use Rattle.composition.specs.Sessions.{Session, SessionAnalyzer, SessionFront, HasAnalyzer, HasFront, NamesOwnClient, IsMemberCaller, IsRegistered, MembersKeep}
 use Rattle.daq_members.specs.OwnTurns.{is_call_for}

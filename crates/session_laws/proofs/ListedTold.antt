@@ -3,8 +3,7 @@ use Rattle.std.specs.Prelude.{◌≡◌, ◌<◌, ◌⊎◌, ℕ, zero, suc, Lis
 use Rattle.std.specs.Option.{option_or}
 use Rattle.std.proofs.Common.{ap, ◌∙◌, arith, inl, inr}
 use Rattle.std.proofs.lemmas.Bool.Decides.{eqb_tells}
-use Rattle.transitions.specs.declared.answers.Tally.{Tally}
-use Rattle.transitions.specs.declared.answers.ClientTally.{ClientTally}
+use Rattle.member_model.specs.RunEngines.{Tally, ClientTally}
 
 pub tally_is : (told : ClientTally) (client : ℕ) (tally : Tally) → told.client ≡ client → told.tally ≡ tally → told ≡ record { client = client; tally = tally }
 tally_is told client tally of is = ap (λ (n : ℕ). record { client = n; tally = told.tally }) of ∙ ap (λ (y : Tally). record { client = client; tally = y }) is

@@ -4,12 +4,10 @@ use Rattle.std.proofs.Common.{ap, sym, subst, ◌∙◌, arith, append_assoc}
 use Rattle.daq_types.specs.Callers.{entries_by, main_caller}
 use Rattle.daq_types.specs.declared.runs.Transition.{Transition}
 use Rattle.transitions.specs.Sequences.{sequence_for, sequences_of}
-use Rattle.transitions.specs.declared.sheet.Sheet.{Sheet}
-use Rattle.transitions.specs.declared.entry.EngineEntry.{EngineEntry}
 use Rattle.transitions.specs.declared.entry.EngineEntry.TheVariants.{Begin}
-use Rattle.transitions.specs.Engines.{EngineState, engine_opening}
+use Rattle.transitions.specs.Engines.{engine_opening}
 use Rattle.transitions.specs.EngineCalls.{engine_after}
-use Rattle.transitions.specs.EngineHistories.{EngineHistory, IsEngineCaller, IsLegalEngine}
+use Rattle.member_model.specs.RunEngines.{Sheet, EngineEntry, EngineState, EngineHistory, IsEngineCaller, IsLegalEngine}
 use Rattle.engine_laws.proofs.MainCalls.{OwnAt, own_at}
 use Rattle.session_runs.specs.declared.opening.MemberName.{MemberName}
 use Rattle.session_runs.specs.Members.{gets_dumps, gets_reports, registration, registrations}

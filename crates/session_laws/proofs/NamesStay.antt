@@ -10,12 +10,10 @@ use Rattle.daq_types.specs.declared.runs.Transition.{Transition}
 use Rattle.daq_types.specs.declared.runs.Transition.TheVariants.{Start, Stop, Pause, Resume, StartAbort}
 use Rattle.transitions.specs.States.{is_allowed}
 use Rattle.buffer_core.specs.Slots.{slot_at}
-use Rattle.transitions.specs.declared.sheet.Sheet.{Sheet}
-use Rattle.transitions.specs.declared.entry.EngineEntry.{EngineEntry}
 use Rattle.transitions.specs.declared.entry.EngineEntry.TheVariants.{Begin}
 use Rattle.transitions.specs.Engines.{engine_opening}
-use Rattle.transitions.specs.EngineHistories.{IsEngineCaller, IsLegalEngine}
 use Rattle.transitions.specs.EnginePoints.{engine_past, state_at}
+use Rattle.member_model.specs.RunEngines.{Sheet, EngineEntry, IsEngineCaller, IsLegalEngine}
 use Rattle.member_model.specs.Turns.{MemberTurn, HasTurn}
 use Rattle.member_model.specs.TurnCalls.{member_turns}
 use Rattle.mid_logger.specs.declared.channel.Channel.{Channel}

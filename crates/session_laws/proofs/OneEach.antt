@@ -18,22 +18,18 @@ use Rattle.daq_types.specs.declared.runs.Why.{Why}
 use Rattle.daq_types.specs.declared.runs.Why.TheVariants.{NotReady, Exists, Fault, BufferRefused}
 use Rattle.daq_io.proofs.Counts.{RoseBy-fewer}
 use Rattle.buffer_core.specs.Slots.{slot_at}
-use Rattle.transitions.specs.declared.sheet.Sheet.{Sheet}
-use Rattle.transitions.specs.declared.answers.Answer.{Answer}
 use Rattle.transitions.specs.declared.answers.Answer.TheVariants.{Yes, No}
-use Rattle.transitions.specs.declared.answers.ClientTally.{ClientTally}
 use Rattle.transitions.specs.declared.answers.Tally.TheVariants.{Channels}
 use Rattle.transitions.specs.declared.replies.BeginRefusal.{BeginRefusal}
-use Rattle.transitions.specs.declared.entry.EngineEntry.{EngineEntry}
 use Rattle.transitions.specs.declared.entry.EngineEntry.TheVariants.{Register, Begin, Poll, Answer as Answered, Check, Close}
 use Rattle.transitions.specs.Engines.{engine_opening}
-use Rattle.transitions.specs.EngineHistories.{EngineHistory, IsLegalEngine}
 use Rattle.transitions.specs.EnginePoints.{engine_past, state_at}
+use Rattle.member_model.specs.RunEngines.{Sheet, Answer, ClientTally, EngineEntry, EngineHistory, IsLegalEngine}
 use Rattle.member_model.specs.Turns.{MemberTurn, HasTurn}
 use Rattle.member_model.specs.TurnCalls.{member_turns}
 use Rattle.mid_logger.specs.declared.channel.Channel.{Channel}
 use Rattle.loggers.specs.Moments.{RunFiles}
-use Rattle.loggers.specs.ToldCounts.{faults_of_state, faults_of_refusal, faults_of_answer, clashes_of_answer, counted_of, faults_told, clashes_told, broken_off}
+use Rattle.loggers.specs.ToldCounts.{faults_of_state, faults_of_refusal, faults_of_answer, clashes_of_answer, count_in_answer, faults_told, clashes_told, broken_off}
 use Rattle.loggers.proofs.ManyRose.{has_counts}
 use Rattle.engine_laws.specs.BegunTurns.{HasTransition, IsRefusedTurn, IsTallyOfTurn}
 use Rattle.engine_laws.specs.EngineLaws.{MainHasTransition, RefusalsAreAnswers, TalliesAreAnswers}
@@ -303,10 +299,10 @@ files_within states run slots numbered =
 -- Records.
 
 abbrev fault_count : MemberTurn → ℕ
-fault_count t = counted_of faults_of_answer t.answer
+fault_count t = count_in_answer faults_of_answer t.answer
 
 abbrev clash_count : MemberTurn → ℕ
-clash_count t = counted_of clashes_of_answer t.answer
+clash_count t = count_in_answer clashes_of_answer t.answer
 
 -- no more is told in the record of a start than in the logger's turns of that start
 record ToldByTurns (ts : List MemberTurn) (r : RunRecord) : Type 0 where
@@ -358,8 +354,8 @@ module _ (laws : OneLaws) (c : ClosedSession) (ends : MembersAtEnd c) (first now
   logger_refused why sheet start tallies made =
       let r = refused_turn sheet start why tallies (has_made laws.main c.engine Start sheet start (Refused (logger_client c) why) tallies ends.engine made) in
       let of : r.turn.order.start ≡ start = ap (λ (o : Order). o.start) r.of_begin.order in
-      let faults : fault_count r.turn ≡ faults_of_refusal why = ap (counted_of faults_of_answer) r.answered in
-      let clashes : clash_count r.turn ≡ clashes_of_answer (No why) = ap (counted_of clashes_of_answer) r.answered in
+      let faults : fault_count r.turn ≡ faults_of_refusal why = ap (count_in_answer faults_of_answer) r.answered in
+      let clashes : clash_count r.turn ≡ clashes_of_answer (No why) = ap (count_in_answer clashes_of_answer) r.answered in
       record {
         faults = omega (arith, faults, told_by_turn fault_count ts r.turn start r.stands of);
         clashes = omega (arith, clashes, told_by_turn clash_count ts r.turn start r.stands of);
@@ -403,7 +399,7 @@ module _ (laws : OneLaws) (c : ClosedSession) (ends : MembersAtEnd c) (first now
         let t : IsTallyOfTurn c.engine n ts (state_at (engine_past has.earlier)) Stop sheet r.start Completed (Channels states) =
         laws.tallies (logger_caller c) n c.engine ends.engine (speaks n c.engine (names_own c ends)) Stop sheet r.start Completed tallies has says.index (Channels states) says.at in
         let answered : t.turn.answer ≡ Some (Yes (Channels states)) = t.answered ∙ ap (λ (a : Answer). Some a) (yes_channels t.answer states t.tally_is) in
-        let count : fault_count t.turn ≡ sum_by faults_of_state states = ap (counted_of faults_of_answer) answered in
+        let count : fault_count t.turn ≡ sum_by faults_of_state states = ap (count_in_answer faults_of_answer) answered in
         let of : t.turn.order.start ≡ r.start = ap (λ (o : Order). o.start) t.of_begin.order in
         let files = files_within states r.run c.slots (ends.logger.stands (none_taken_back c ends)).holds.standing.numbered in
         omega (arith, files, count, told_by_turn fault_count ts t.turn r.start t.stands of)

@@ -4,11 +4,10 @@ use Rattle.std.specs.List.{AllByRecursion}
 use Rattle.std.proofs.Common.{ap, sym, ◌∙◌, inl, inr}
 use Rattle.std.proofs.lemmas.Bool.Decides.{eqb_tells}
 use Rattle.daq_types.specs.Callers.{entries_by}
-use Rattle.transitions.specs.declared.entry.EngineEntry.{EngineEntry}
-use Rattle.transitions.specs.Engines.{EngineState}
 use Rattle.transitions.specs.EngineCalls.{IsEngineReply, engine_after}
-use Rattle.transitions.specs.EngineHistories.{EngineHistory, IsLegalEngine, engine_replay}
+use Rattle.transitions.specs.EngineHistories.{engine_replay}
 use Rattle.transitions.specs.GivenTurns.{SpeaksFor}
+use Rattle.member_model.specs.RunEngines.{EngineEntry, EngineState, EngineHistory, IsLegalEngine}
 
 own_first : (by : ℕ) (x : ℕ × EngineEntry) (h : EngineHistory) → (x.0 == by) ≡ true → entries_by by (x ∷ h) ≡ x.1 ∷ entries_by by h
 own_first by x h is = rw is refl

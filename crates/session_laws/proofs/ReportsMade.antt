@@ -4,9 +4,8 @@ use Rattle.std.specs.Option.{option_or, option_to_list}
 use Rattle.std.proofs.Common.{ap, sym, subst, ◌∙◌, arith, inl, inr, length-append}
 use Rattle.std.proofs.lemmas.Bool.Decides.{eqb_tells}
 use Rattle.event_report.specs.Reports.{Totals}
-use Rattle.transitions.specs.declared.answers.Tally.{Tally}
 use Rattle.transitions.specs.declared.answers.Tally.TheVariants.{Plain, Front, Channels, Report}
-use Rattle.transitions.specs.declared.answers.ClientTally.{ClientTally}
+use Rattle.member_model.specs.RunEngines.{Tally, ClientTally}
 use Rattle.session_runs.specs.declared.records.ReportTally.{ReportTally}
 use Rattle.session_runs.specs.ToldTallies.{report_from, report_by, report_told, reports_told}
 use Rattle.composition.specs.Sessions.{SessionAnalyzer}

@@ -14,13 +14,10 @@ use Rattle.daq_types.specs.declared.runs.Why.{Why}
 use Rattle.daq_types.specs.declared.runs.Why.TheVariants.{NotReady, Exists, Fault, BufferRefused}
 use Rattle.buffer_core.specs.Ports.{Access}
 use Rattle.buffer_core.specs.Slots.{slot_at, passes}
-use Rattle.transitions.specs.declared.sheet.Sheet.{Sheet}
-use Rattle.transitions.specs.declared.answers.Answer.{Answer}
 use Rattle.transitions.specs.declared.answers.Answer.TheVariants.{Yes, No}
-use Rattle.transitions.specs.declared.answers.Tally.{Tally}
 use Rattle.transitions.specs.declared.answers.Tally.TheVariants.{Plain, Front, Channels, Report}
-use Rattle.transitions.specs.declared.entry.EngineEntry.{EngineEntry}
 use Rattle.transitions.specs.EnginePoints.{tally_of}
+use Rattle.member_model.specs.RunEngines.{Sheet, Answer, Tally, EngineEntry}
 use Rattle.member_model.specs.Turns.{MemberTurn, HasTurn, AreEngineTurns}
 use Rattle.member_model.specs.TurnCalls.{member_turns}
 use Rattle.mid_logger.specs.declared.channel.Channel.{Channel}
@@ -37,7 +34,7 @@ use Rattle.loggers.specs.LoggerStands.{LoggerStands, HasEndTurn, IsStageOf, IsSt
 use Rattle.loggers.specs.LeftNames.{IsStartedRun}
 use Rattle.loggers.specs.OtherFiles.{specs_in}
 use Rattle.loggers.specs.Reasons.{AnswerFits, ClashesAreTold}
-use Rattle.loggers.specs.ToldCounts.{faults_of_state, faults_of_answer, clashes_of_answer, undone_of_answer, undone_by, counted_of, faults_told, starts_undone, broken_off}
+use Rattle.loggers.specs.ToldCounts.{faults_of_state, faults_of_answer, clashes_of_answer, undone_of_answer, undone_by, count_in_answer, faults_told, starts_undone, broken_off}
 use Rattle.loggers.proofs.ManyRose.{member_counts, off_of}
 use Rattle.engine_laws.specs.BegunTurns.{HasTransition, HasTally}
 use Rattle.engine_laws.specs.EngineLaws.{LoneNosAreRefusals}
@@ -326,7 +323,7 @@ module _ (laws : RiseLaws) (c : ClosedSession) (ends : MembersAtEnd c) where
           let same : sum_by faults_of_file o.kept.files ≡ sum_by faults_of_file (files_told states o.kept.run (run_channels c.slots)) = ap (λ (l : List FileRecord). sum_by faults_of_file l) files in
           omega (arith, some, same, quiet, member_counts faults_recorded runs o.place o.kept o.at)
 
-      faults_none : (t : MemberTurn) → HasTurn ts t → (answer : Option Answer) → t.answer ≡ answer → counted_of faults_of_answer answer ≡ 0
+      faults_none : (t : MemberTurn) → HasTurn ts t → (answer : Option Answer) → t.answer ≡ answer → count_in_answer faults_of_answer answer ≡ 0
       faults_none t has None is = refl
       faults_none t has (Some (No why)) is = absurd (refuses_none t why has is)
       faults_none t has (Some (Yes Plain)) is = refl
@@ -334,7 +331,7 @@ module _ (laws : RiseLaws) (c : ClosedSession) (ends : MembersAtEnd c) where
       faults_none t has (Some (Yes (Channels states))) is = states_none states (breaks_none t states has is)
       faults_none t has (Some (Yes (Report report))) is = refl
 
-      start_none : (t : MemberTurn) → HasTurn ts t → (answer : Option Answer) → t.answer ≡ answer → counted_of undone_of_answer answer ≡ 0
+      start_none : (t : MemberTurn) → HasTurn ts t → (answer : Option Answer) → t.answer ≡ answer → count_in_answer undone_of_answer answer ≡ 0
       start_none t has None is = refl
       start_none t has (Some (No why)) is = absurd (refuses_none t why has is)
       start_none t has (Some (Yes tally)) is = refl
@@ -380,7 +377,7 @@ module _ (laws : RiseLaws) (c : ClosedSession) (ends : MembersAtEnd c) where
 
       faults_so : now.faults ≡ first.faults
       faults_so =
-          let told : faults_told ts ≡ 0 = turns_none (λ (t : MemberTurn). counted_of faults_of_answer t.answer) ts (λ t has. faults_none t has t.answer refl) in
+          let told : faults_told ts ≡ 0 = turns_none (λ (t : MemberTurn). count_in_answer faults_of_answer t.answer) ts (λ t has. faults_none t has t.answer refl) in
           let undone : starts_undone ts ≡ 0 = turns_none (λ (t : MemberTurn). undone_by t.transition t.answer) ts (λ t has. undone_none t has t.transition refl) in
           let off : broken_off c.slots ≡ 0 = slots_none c.slots off_none in
           reasons.no_fault (omega (arith, told, undone, off))
@@ -403,7 +400,7 @@ module _ (laws : RiseLaws) (c : ClosedSession) (ends : MembersAtEnd c) where
           let one : clashes_recorded o.kept ≡ 1 = ap clashes_of_outcome (is ∙ told) in
           omega (arith, one, quiet, member_counts clashes_recorded runs o.place o.kept o.at)
 
-      clash_none : (t : MemberTurn) → HasTurn ts t → (answer : Option Answer) → t.answer ≡ answer → counted_of clashes_of_answer answer ≡ 0
+      clash_none : (t : MemberTurn) → HasTurn ts t → (answer : Option Answer) → t.answer ≡ answer → count_in_answer clashes_of_answer answer ≡ 0
       clash_none t has None is = refl
       clash_none t has (Some (Yes tally)) is = refl
       clash_none t has (Some (No NotReady)) is = refl
@@ -415,7 +412,7 @@ module _ (laws : RiseLaws) (c : ClosedSession) (ends : MembersAtEnd c) where
       clash_none t has (Some (No BufferRefused)) is = refl
 
       clashes_so : now.clashes ≡ first.clashes
-      clashes_so = laws.names c.slots ends.logger.ports first now ts reasons (turns_none (λ (t : MemberTurn). counted_of clashes_of_answer t.answer) ts (λ t has. clash_none t has t.answer refl))
+      clashes_so = laws.names c.slots ends.logger.ports first now ts reasons (turns_none (λ (t : MemberTurn). count_in_answer clashes_of_answer t.answer) ts (λ t has. clash_none t has t.answer refl))
 
 pub rises_told : RiseLaws → RisesToldEach
 rises_told laws c ends first now reasons own more calls none_more runs fits = record {

@@ -7,10 +7,8 @@ use Rattle.daq_types.specs.declared.runs.StartOutcome.{StartOutcome}
 use Rattle.daq_types.specs.declared.runs.StartOutcome.TheVariants.{Completed}
 use Rattle.daq_types.specs.declared.runs.Transition.{Transition}
 use Rattle.daq_types.specs.declared.runs.Transition.TheVariants.{Start, Stop}
-use Rattle.transitions.specs.declared.sheet.Sheet.{Sheet}
-use Rattle.transitions.specs.declared.answers.ClientTally.{ClientTally}
-use Rattle.transitions.specs.EngineHistories.{EngineHistory, IsLegalEngine}
 use Rattle.transitions.specs.Engines.{engine_opening}
+use Rattle.member_model.specs.RunEngines.{Sheet, ClientTally, EngineHistory, IsLegalEngine}
 use Rattle.member_model.specs.LoggerKept.{LoggerChannel}
 use Rattle.engine_laws.specs.BegunTurns.{HasTransition}
 use Rattle.engine_laws.specs.EngineLaws.{MainHasTransition}

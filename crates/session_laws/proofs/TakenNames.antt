@@ -7,7 +7,7 @@ use Rattle.daq_types.specs.declared.runs.Transition.TheVariants.{Start}
 use Rattle.daq_types.specs.declared.runs.Why.TheVariants.{Exists}
 use Rattle.daq_io.specs.Seen.{Seen}
 use Rattle.transitions.specs.declared.answers.Answer.TheVariants.{No}
-use Rattle.transitions.specs.declared.entry.EngineEntry.{EngineEntry}
+use Rattle.member_model.specs.RunEngines.{EngineEntry}
 use Rattle.member_model.specs.Turns.{MemberTurn, HasTurn}
 use Rattle.member_model.specs.TurnCalls.{member_turns}
 use Rattle.mid_logger.specs.declared.channel_spec.ChannelSpec.{ChannelSpec}

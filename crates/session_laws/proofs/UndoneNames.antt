@@ -11,9 +11,8 @@ use Rattle.daq_io.specs.Seen.{Stored}
 use Rattle.transitions.specs.declared.sequences.Role.{Role}
 use Rattle.transitions.specs.Sequences.{sequence_for, sequences_of}
 use Rattle.buffer_core.specs.Slots.{slot_at}
-use Rattle.transitions.specs.declared.sheet.Sheet.{Sheet}
 use Rattle.transitions.specs.declared.replies.Progress.TheVariants.{Done}
-use Rattle.transitions.specs.declared.entry.EngineEntry.{EngineEntry}
+use Rattle.member_model.specs.RunEngines.{Sheet, EngineEntry}
 use Rattle.transitions.specs.declared.entry.EngineEntry.TheVariants.{Begin, Check}
 use Rattle.member_model.specs.Turns.{MemberTurn, HasTurn, IsNewStart, IsOfRun, IsNextTurn, AreEngineTurns}
 use Rattle.member_model.specs.TurnCalls.{member_turns}

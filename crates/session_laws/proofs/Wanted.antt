@@ -5,7 +5,7 @@ use Rattle.std.proofs.Common.{ap, ◌∙◌, subst, arith}
 use Rattle.std.proofs.lemmas.Bool.{eqb-true}
 use Rattle.daq_types.specs.declared.runs.Transition.{Transition}
 use Rattle.transitions.specs.Sequences.{sequence_for}
-use Rattle.event_report.specs.Listing.{placed}
+use Rattle.transitions.specs.Placing.{placed}
 use Rattle.buffer_core.proofs.SlotLaws.{split}
 use Rattle.transitions.specs.declared.client.Registered.{Registered}
 use Rattle.transitions.specs.declared.called.Called.{Called}

@@ -9,8 +9,7 @@ use Rattle.buffer_core.specs.Window.{opening}
 use Rattle.buffer_core.specs.Histories.{History}
 use Rattle.buffer_core.specs.Ports.{GotEvent}
 use Rattle.buffer_core.specs.CallersView.{given_in}
-use Rattle.transitions.specs.declared.entry.EngineEntry.{EngineEntry}
-use Rattle.transitions.specs.EngineHistories.{EngineHistory}
+use Rattle.member_model.specs.RunEngines.{EngineEntry, EngineHistory}
 use Rattle.odb_tree.specs.Noting.{Watched}
 use Rattle.odb_watch.specs.declared.entry.WatchEntry.{WatchEntry}
 use Rattle.mid_logger.specs.declared.channel.Channel.{Channel}

@@ -7,9 +7,8 @@ use Rattle.buffer_core.specs.Window.{opening}
 use Rattle.buffer_core.specs.Histories.{History, IsLegal}
 use Rattle.buffer_core.specs.Ports.{Access}
 use Rattle.buffer_core.specs.CallersView.{given_in, taken_back_in}
-use Rattle.transitions.specs.declared.entry.EngineEntry.{EngineEntry}
 use Rattle.transitions.specs.Engines.{engine_opening}
-use Rattle.transitions.specs.EngineHistories.{IsLegalEngine}
+use Rattle.member_model.specs.RunEngines.{EngineEntry, IsLegalEngine}
 use Rattle.odb_watch.specs.Steps.{IsLegalDatabase}
 use Rattle.turn_lock.specs.History.{IsPartOf}
 use Rattle.daq_types.specs.Callers.{entries_by}

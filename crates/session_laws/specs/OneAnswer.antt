@@ -6,7 +6,7 @@ use Rattle.daq_types.specs.declared.runs.StartOutcome.{StartOutcome}
 use Rattle.daq_types.specs.declared.runs.StartOutcome.TheVariants.{Completed, Refused}
 use Rattle.daq_types.specs.declared.runs.Why.TheVariants.{Exists}
 use Rattle.daq_io.specs.Counts.{RoseBy}
-use Rattle.transitions.specs.declared.entry.EngineEntry.{EngineEntry}
+use Rattle.member_model.specs.RunEngines.{EngineEntry}
 use Rattle.loggers.specs.Moments.{RunFiles}
 use Rattle.loggers.specs.ToldCounts.{faults_of_state, faults_of_refusal}
 use Rattle.session_runs.specs.declared.records.RunRecord.{RunRecord}

@@ -3,6 +3,7 @@
 ghost use Rattle.session_laws.specs.BlankLaws.{BlanksSuffice};
 
 use engine_laws::laws as turns;
+use event_report::Report;
 use transitions::laws;
 
 /// Where a client that asks for reports refuses a start as not ready only at a turn that came without a blank report, a start
@@ -11,5 +12,5 @@ pub fn blanks_suffice()
     ensures { BlanksSuffice }
 {
     turns::tallies_answered();
-    laws::start_numbers_rise();
+    laws::start_numbers_rise::<Report>();
 }

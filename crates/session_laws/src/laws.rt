@@ -12,6 +12,7 @@ use caller_laws::laws as callers;
 use composition::laws as sessions;
 use daq_members::{analyzer_laws as seats, laws as members};
 use engine_laws::laws as turns;
+use event_report::Report;
 use loggers::laws as loggers_laws;
 use transitions::laws as engine;
 
@@ -96,7 +97,7 @@ pub fn counts_tell()
     turns::called_told();
     turns::called_off();
     turns::runs_over();
-    engine::start_numbers_rise();
+    engine::start_numbers_rise::<Report>();
     loggers_laws::names_kept();
     loggers_laws::reasons_given();
     callers::refuses_for_cause();
@@ -129,7 +130,7 @@ pub fn one_answer()
 {
     turns::main_has_transition();
     turns::tallies_answered();
-    engine::start_numbers_rise();
+    engine::start_numbers_rise::<Report>();
     counts_tell();
 }
 
@@ -144,7 +145,7 @@ pub fn rises_told()
     turns::tallies_answered();
     turns::called_told();
     turns::called_off();
-    engine::start_numbers_rise();
+    engine::start_numbers_rise::<Report>();
     loggers_laws::names_kept();
     loggers_laws::reasons_given();
     members_keep();
@@ -154,5 +155,5 @@ pub fn rises_told()
 pub fn starts_differ()
     ensures { StartsDiffer }
 {
-    engine::start_numbers_rise();
+    engine::start_numbers_rise::<Report>();
 }

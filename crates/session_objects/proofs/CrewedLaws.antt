@@ -7,7 +7,7 @@ use Rattle.daq_io.specs.Seen.{Seen}
 use Rattle.event.specs.Events.{record_limit}
 use Rattle.buffer_core.specs.Ports.{Access}
 use Rattle.turn_lock.specs.Passes.{own_entries}
-use Rattle.transitions.specs.declared.entry.EngineEntry.{EngineEntry}
+use Rattle.member_model.specs.RunEngines.{EngineEntry}
 use Rattle.member_model.specs.Turns.{MemberTurn}
 use Rattle.member_model.specs.TurnCalls.{member_turns}
 use Rattle.odb_lock.specs.declared.shared.SharedOdb.{SharedOdb}

@@ -4,7 +4,7 @@ use Rattle.std.specs.Prelude.{slice_get, Some}
 use Rattle.turn_lock.specs.declared.lock.Pass.{Pass}
 use Rattle.std.proofs.lemmas.Option.{slice_get_within}
 use Rattle.daq_types.specs.Callers.{entries_by}
-use Rattle.transitions.specs.declared.entry.EngineEntry.{EngineEntry}
+use Rattle.member_model.specs.RunEngines.{EngineEntry}
 use Rattle.buffer_core.specs.Ports.{Access}
 use Rattle.turn_lock.specs.Passes.{number_of, seen_by, held_by, own_entries, IsOf}
 use Rattle.turn_lock.specs.Roster.{items_of, room_of}

@@ -23,7 +23,7 @@ use Rattle.ring_buffer.specs.CountedWindows.{CountedWindow}
 use Rattle.buffer_lock.specs.declared.shared.SharedBuffer.{SharedBuffer}
 use Rattle.buffer_lock.specs.SharedBuffers.{first_buffer}
 use Rattle.buffer_lock.specs.SharedPorts.{identity_by, access_to, ported_by}
-use Rattle.transitions.specs.declared.entry.EngineEntry.{EngineEntry}
+use Rattle.member_model.specs.RunEngines.{EngineEntry}
 use Rattle.odb_watch.specs.declared.entry.WatchEntry.{WatchEntry}
 use Rattle.odb_watch.specs.DatabasePorts.{DatabaseAccess}
 use Rattle.odb_lock.specs.declared.shared.SharedOdb.{SharedOdb}

@@ -14,8 +14,9 @@ use Rattle.buffer_core.specs.Delivered.{Delivers}
 use Rattle.buffer_core.specs.Runs.{KeepsRuns}
 use Rattle.buffer_lock.specs.SharedBuffers.{lock_of}
 use Rattle.transitions.specs.Engines.{engine_opening}
-use Rattle.transitions.specs.EngineHistories.{IsLegalEngine, engine_replay}
+use Rattle.transitions.specs.EngineHistories.{engine_replay}
 use Rattle.transitions.specs.TurnOrder.{TurnsInOrder}
+use Rattle.member_model.specs.RunEngines.{IsLegalEngine}
 use Rattle.transition_lock.specs.SharedEngines.{engine_lock_of, first_engine}
 use Rattle.odb_tree.specs.Rows.{Rows}
 use Rattle.odb_tree.specs.declared.notes.Note.{Note}

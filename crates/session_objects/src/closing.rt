@@ -6,7 +6,8 @@ ghost use Rattle.turn_lock.specs.Passes.{number_of, seen_by, passes_of};
 ghost use Rattle.turn_lock.specs.Roster.{items_of};
 ghost use Rattle.turn_lock.specs.Closing.{history_of};
 ghost use Rattle.buffer_lock.specs.SharedBuffers.{lock_of};
-ghost use Rattle.transitions.specs.EngineHistories.{IsLegalEngine, engine_replay};
+ghost use Rattle.transitions.specs.EngineHistories.{engine_replay};
+ghost use Rattle.member_model.specs.RunEngines.{IsLegalEngine};
 ghost use Rattle.transition_lock.specs.SharedEngines.{engine_lock_of, first_engine};
 ghost use Rattle.odb_watch.specs.Steps.{LeadsDatabase};
 ghost use Rattle.odb_lock.specs.SharedOdbs.{odb_lock_of, first_database};
@@ -19,6 +20,7 @@ use crate::objects::{SessionBuffer, SessionObjects};
 use crate::passes::SessionPasses;
 use crate::record::{BufferRecord, BufferRecords, RunRecords, SessionRecord};
 use buffer_lock::BufferPasses;
+use event_report::Report;
 use odb_lock::{OdbClosed, OdbPasses, SharedOdb};
 use odb_tree::Database;
 use odb_watch::laws::notes_are_due;
@@ -117,7 +119,7 @@ impl SessionObjects {
             HoldsCalls fronts analyzers calls self database result }
         ensures runs { result.runs ≡ runs }
     {
-        follows();
+        follows::<Report>();
         notes_are_due();
         let SessionObjects {
             buffers,

@@ -16,6 +16,7 @@ use crate::objects::{SessionBuffer, SessionObjects};
 use crate::passes::{SessionPasses, take_main};
 use buffer_lock::{BufferPasses, SharedBuffer};
 use daq_types::{BoundedList, NoMemory};
+use member_model::Engine;
 use odb_lock::{LockedDatabase, OdbPasses, WatchedSeen};
 use odb_tree::Database;
 use odb_watch::WatchEntry;
@@ -23,7 +24,6 @@ use ring_buffer::{Ring, RingBuffer};
 use session_setup::{BufferDeclared, DeclaredLists};
 use std::alloc::Global;
 use transition_lock::{EnginePass, SharedEngine};
-use transitions::Engine;
 use turn_lock::Machine;
 
 /// How many callers an object has besides the front-ends and the analyzers: the main thread and the logger.

@@ -13,9 +13,7 @@ use Rattle.odb_watch.specs.declared.entry.WatchEntry.{WatchEntry}
 use Rattle.odb_watch.specs.declared.entry.WatchEntry.TheVariants.{Call}
 use Rattle.odb_watch.specs.DatabasePorts.{DatabaseAccess, AddsEntries, own_watched, row_calls}
 use Rattle.odb_runinfo.specs.RunSets.{number_asked}
-use Rattle.transitions.specs.declared.sheet.Sheet.{Sheet}
-use Rattle.transitions.specs.declared.answers.ClientTally.{ClientTally}
-use Rattle.transitions.specs.declared.entry.EngineEntry.{EngineEntry}
+use Rattle.member_model.specs.RunEngines.{Sheet, ClientTally, EngineEntry}
 use Rattle.transitions.specs.declared.entry.EngineEntry.TheVariants.{Begin}
 use Rattle.engine_laws.specs.BegunTurns.{AreUnmarked}
 use Rattle.session_runs.specs.declared.records.RunRecord.{RunRecord}

@@ -4,12 +4,12 @@ use Rattle.std.proofs.Common.{ap, sym, subst, ◌∙◌, inl, inr, append-nil}
 use Rattle.std.proofs.lemmas.Bool.Decides.{eqb_tells}
 use Rattle.daq_types.specs.Callers.{entries_by, main_caller}
 use Rattle.transitions.specs.declared.replies.Polled.TheVariants.{Turn, Idle, Closed as PollClosed, NoClient}
-use Rattle.transitions.specs.declared.entry.EngineEntry.{EngineEntry}
 use Rattle.transitions.specs.declared.entry.EngineEntry.TheVariants.{Register, Begin, Poll, Answer, Check, Close}
-use Rattle.transitions.specs.Engines.{EngineState, engine_opening}
+use Rattle.transitions.specs.Engines.{engine_opening}
 use Rattle.transitions.specs.EngineCalls.{IsEngineReply, engine_after}
-use Rattle.transitions.specs.EngineHistories.{EngineHistory, IsEngineCaller, IsLegalEngine, engine_replay}
+use Rattle.transitions.specs.EngineHistories.{engine_replay}
 use Rattle.transitions.specs.EnginePoints.{engine_past, engine_past_after}
+use Rattle.member_model.specs.RunEngines.{EngineEntry, EngineState, EngineHistory, IsEngineCaller, IsLegalEngine}
 use Rattle.turn_lock.specs.History.{Appends}
 use Rattle.session_runs.specs.MainKnowledge.{MainKnows, known_at, known_from, entry_of_main}
 use Rattle.session_runs.proofs.KnownSteps.{Knows, polled, answered, main_step}

@@ -11,20 +11,18 @@ use Rattle.transitions.specs.States.{is_allowed}
 use Rattle.transitions.specs.declared.client.Registered.{Registered}
 use Rattle.transitions.specs.declared.called.Called.{Called}
 use Rattle.transitions.specs.declared.engine.Refusal.{Refusal}
-use Rattle.transitions.specs.declared.answers.Answer.{Answer as ClientAnswer}
 use Rattle.transitions.specs.declared.replies.BeginRefusal.{BeginRefusal}
 use Rattle.transitions.specs.declared.replies.BeginRefusal.TheVariants.{Closed as BeginClosed, WrongState, LastStart}
 use Rattle.transitions.specs.declared.replies.Polled.TheVariants.{Turn, Idle, Closed as PollClosed, NoClient}
 use Rattle.transitions.specs.declared.replies.NotYourTurn.{NotYourTurn}
 use Rattle.transitions.specs.declared.replies.Progress.TheVariants.{Going, Done, None as NoneGoing}
-use Rattle.transitions.specs.declared.entry.EngineEntry.{EngineEntry}
 use Rattle.transitions.specs.declared.entry.EngineEntry.TheVariants.{Register, Begin, Poll, Answer, Check, Close}
 use Rattle.transitions.specs.Limits.{last_start_number}
 use Rattle.transitions.specs.Called.{called_list}
-use Rattle.transitions.specs.Engines.{Underway, EngineState}
 use Rattle.transitions.specs.EngineCalls.{state_with, stands_in, has_polled, is_next, open_of, owes_answer, not_your_turn, start_reply, begin_reply, begin_reply_in, first_polled, polled_by, after_poll_by, answered_by, after_answer_in, check_reply_in, progress_of, outcome_of, IsEngineReply, engine_after}
 use Rattle.transitions.specs.EnginePoints.{transition_at}
 use Rattle.transitions.specs.TurnOrder.{number_with}
+use Rattle.member_model.specs.RunEngines.{Answer as ClientAnswer, EngineEntry, Underway, EngineState}
 use Rattle.daq_types.specs.Callers.{main_caller}
 use Rattle.daq_types.specs.declared.runs.Order.{Order}
 use Rattle.engine_laws.proofs.Standing.{next_called, open_polled, open_called, first_open}

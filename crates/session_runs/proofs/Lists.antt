@@ -9,9 +9,8 @@ use Rattle.std.proofs.lemmas.List.{take_more, set-get_or}
 use Rattle.std.proofs.lemmas.Option.{get_or_from_slice_get, slice_get_within}
 use Rattle.daq_types.specs.declared.runs.ChannelState.{ChannelState}
 use Rattle.event_report.specs.Reports.{Totals, report_of}
-use Rattle.transitions.specs.EngineHistories.{IsBlank}
-use Rattle.transitions.specs.declared.answers.ClientTally.{ClientTally}
-use Rattle.transitions.specs.declared.answers.Tally.{Tally}
+use Rattle.event_report.specs.Reports.{IsBlank}
+use Rattle.member_model.specs.RunEngines.{ClientTally, Tally}
 use Rattle.transitions.specs.declared.answers.Tally.TheVariants.{Plain, Front, Channels, Report}
 use Rattle.mid_logger.specs.declared.channel_spec.ChannelSpec.{ChannelSpec}
 use Rattle.session_runs.specs.declared.records.FileRecord.{FileRecord}

@@ -12,9 +12,7 @@ use Rattle.odb_watch.specs.declared.entry.WatchEntry.{WatchEntry}
 use Rattle.odb_watch.specs.DatabasePorts.{DatabaseAccess, AddsEntries}
 use Rattle.odb_runinfo.specs.RunSets.{SetsNumbers, state_set}
 use Rattle.event_report.specs.Reports.{Totals}
-use Rattle.transitions.specs.declared.sheet.Sheet.{Sheet}
-use Rattle.transitions.specs.declared.answers.ClientTally.{ClientTally}
-use Rattle.transitions.specs.declared.entry.EngineEntry.{EngineEntry}
+use Rattle.member_model.specs.RunEngines.{Sheet, ClientTally, EngineEntry}
 use Rattle.transition_lock.specs.declared.shared.SharedEngine.{SharedEngine}
 use Rattle.session_runs.specs.declared.records.RunRecord.{RunRecord}
 use Rattle.session_runs.specs.MainKnowledge.{MainKnows, known_from, begin_known}

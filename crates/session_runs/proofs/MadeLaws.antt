@@ -5,28 +5,26 @@ use Rattle.std.proofs.lemmas.Bool.{lt-ltb}
 use Rattle.daq_types.specs.declared.runs.RunState.{RunState}
 use Rattle.daq_types.specs.declared.runs.Transition.{Transition}
 use Rattle.daq_types.specs.declared.runs.StartOutcome.{StartOutcome}
+use Rattle.event_report.specs.Reports.{Totals}
 use Rattle.transitions.specs.declared.sequences.Sequences.{Sequences}
 use Rattle.transitions.specs.declared.client.Registered.{Registered}
 use Rattle.transitions.specs.declared.called.Called.{Called}
 use Rattle.transitions.specs.declared.engine.Refusal.{Refusal}
-use Rattle.transitions.specs.declared.sheet.Sheet.{Sheet}
-use Rattle.transitions.specs.declared.answers.ClientTally.{ClientTally}
 use Rattle.transitions.specs.declared.replies.BeginRefusal.{BeginRefusal}
 use Rattle.transitions.specs.declared.replies.RegisterRefusal.{RegisterRefusal}
 use Rattle.transitions.specs.declared.replies.RegisterRefusal.TheVariants.{Closed as RegisterClosed, NoSlot}
 use Rattle.transitions.specs.declared.replies.InProgress.{InProgress}
 use Rattle.transitions.specs.declared.replies.Progress.{Progress}
 use Rattle.transitions.specs.declared.replies.Progress.TheVariants.{Going, Done, None as NoneGoing}
-use Rattle.transitions.specs.declared.entry.EngineEntry.{EngineEntry}
 use Rattle.transitions.specs.declared.entry.EngineEntry.TheVariants.{Register, Begin, Check, Close}
 use Rattle.transitions.specs.Limits.{most_clients}
-use Rattle.transitions.specs.Engines.{Underway, EngineState}
 use Rattle.transitions.specs.EnginePoints.{engine_past}
 use Rattle.std.proofs.lemmas.List.{length-append, length-take-le, take_more}
 use Rattle.transitions.specs.EngineCalls.{open_of, register_reply_in, close_reply_in, progress_of, check_reply_in, tallies_in}
 use Rattle.session_runs.specs.declared.opening.MemberName.{MemberName}
 use Rattle.session_runs.specs.Members.{gets_dumps, gets_reports, registration, registrations}
 use Rattle.transitions.specs.Sequences.{sequences_of}
+use Rattle.member_model.specs.RunEngines.{Sheet, ClientTally, EngineEntry, Underway, EngineState}
 use Rattle.session_runs.specs.MainKnowledge.{MainKnows, state_behind, known_at, known_from, known_behind, entry_of_main, begin_known}
 use Rattle.session_runs.proofs.KnownSteps.{KnowsTransition, begin_same}
 use Rattle.session_runs.proofs.KnownCalls.{AtCall, known_more}
@@ -45,7 +43,7 @@ pub closes : (own : List EngineEntry) (reply : Result ⊤ InProgress) → AtCall
 closes own reply at none =
     at.reply ∙ ap close_reply_in (none_held (known_from own).going (known_from own).state at.engine.state at.engine.underway at.knows.transition none)
 
-room_reply : (count : ℕ) → count + 1 ≤ most_clients → register_reply_in None count ≡ Ok count
+room_reply : (count : ℕ) → count + 1 ≤ most_clients → register_reply_in {R = Totals} None count ≡ Ok count
 room_reply count room = ap (λ (b : Bool). if b then Ok count else Err NoSlot) (lt-ltb count most_clients (omega (arith, room)))
 
 pub registers : (own : List EngineEntry) (name : List ℕ) (sequences : Sequences) (dump report : Bool) (reply : Result ℕ RegisterRefusal) → AtCall own (Register name sequences dump report reply)
@@ -56,7 +54,7 @@ registers own name sequences dump report reply at open_yet none room =
     at.reply
     ∙ (ap (λ (b : Bool). if b then Err RegisterClosed else register_reply_in s.underway (length s.clients)) (at.knows.closed ∙ open_yet)
     ∙ (ap (λ (u : Option Underway). register_reply_in u (length s.clients)) free
-    ∙ (ap (λ (cs : List Registered). register_reply_in None (length cs)) at.knows.clients ∙ room_reply (length (known_from own).clients) room)))
+    ∙ (ap (λ (cs : List Registered). register_reply_in {R = Totals} None (length cs)) at.knows.clients ∙ room_reply (length (known_from own).clients) room)))
 
 tells_some : (called : List Called) (refusal : Option Refusal) → NoneGoing ≡ progress_of called refusal → ⊥
 tells_some [] refusal is = absurd (cc (is))

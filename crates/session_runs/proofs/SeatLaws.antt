@@ -6,12 +6,9 @@ use Rattle.daq_types.specs.declared.runs.Transition.{Transition}
 use Rattle.daq_types.specs.declared.runs.Transition.TheVariants.{Start}
 use Rattle.daq_types.specs.declared.runs.StartOutcome.{StartOutcome}
 use Rattle.daq_types.specs.declared.runs.StartOutcome.TheVariants.{Completed}
-use Rattle.transitions.specs.declared.sheet.Sheet.{Sheet}
-use Rattle.transitions.specs.declared.answers.ClientTally.{ClientTally}
-use Rattle.transitions.specs.declared.entry.EngineEntry.{EngineEntry}
 use Rattle.transitions.specs.declared.entry.EngineEntry.TheVariants.{Begin}
-use Rattle.transitions.specs.Engines.{EngineState, engine_opening}
-use Rattle.transitions.specs.EngineHistories.{EngineHistory, IsLegalEngine}
+use Rattle.transitions.specs.Engines.{engine_opening}
+use Rattle.member_model.specs.RunEngines.{Sheet, ClientTally, EngineEntry, EngineState, EngineHistory, IsLegalEngine}
 use Rattle.engine_laws.specs.BegunTurns.{AreUnmarked}
 use Rattle.engine_laws.specs.EngineLaws.{MainHasTransition, OthersComplete}
 use Rattle.session_runs.specs.declared.opening.MemberName.{MemberName}

@@ -11,11 +11,11 @@ use Rattle.transitions.specs.States.{is_allowed, run_state_after}
 use Rattle.transitions.specs.declared.client.Registered.{Registered}
 use Rattle.transitions.specs.declared.replies.BeginRefusal.{BeginRefusal}
 use Rattle.transitions.specs.declared.replies.BeginRefusal.TheVariants.{Closed as BeginClosed, InProgress, WrongState}
-use Rattle.transitions.specs.declared.entry.EngineEntry.{EngineEntry}
 use Rattle.transitions.specs.declared.entry.EngineEntry.TheVariants.{Close}
 use Rattle.transitions.specs.EngineCalls.{start_reply}
-use Rattle.transitions.specs.EnginePoints.{EngineNews, Ended, engine_news, engine_past, clients_at, starts_at, transition_at}
+use Rattle.transitions.specs.EnginePoints.{Ended, engine_news, engine_past, clients_at, starts_at, transition_at}
 use Rattle.transitions.specs.TurnOrder.{number_with}
+use Rattle.member_model.specs.RunEngines.{EngineEntry, EngineNews}
 
 -- what the main thread knows
 pub record MainKnows : Type 0 where

@@ -1,7 +1,7 @@
 -- The main thread's place at a shared engine, as contracts see it.
 use Rattle.std.specs.Prelude.{◌≡◌, false, List, None}
 use Rattle.transition_lock.specs.declared.shared.SharedEngine.{SharedEngine}
-use Rattle.transitions.specs.declared.entry.EngineEntry.{EngineEntry}
+use Rattle.member_model.specs.RunEngines.{EngineEntry}
 use Rattle.session_runs.specs.MainKnowledge.{known_from}
 
 -- the engine, and the main thread's own calls on it with their replies, in order

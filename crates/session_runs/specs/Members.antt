@@ -3,7 +3,7 @@ use Rattle.std.specs.Prelude.{ℕ, suc, Bool, true, false, List, [], ◌∷◌, 
 use Rattle.transitions.specs.declared.sequences.Role.{Role}
 use Rattle.transitions.specs.declared.sequences.Role.TheVariants.{FrontEnd, Logger, Analyzer}
 use Rattle.transitions.specs.Sequences.{sequences_of}
-use Rattle.transitions.specs.declared.entry.EngineEntry.{EngineEntry}
+use Rattle.member_model.specs.RunEngines.{EngineEntry}
 use Rattle.transitions.specs.declared.entry.EngineEntry.TheVariants.{Register}
 use Rattle.session_runs.specs.declared.opening.MemberName.{MemberName}
 

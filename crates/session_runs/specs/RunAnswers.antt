@@ -11,10 +11,8 @@ use Rattle.odb_tree.specs.declared.refusals.OdbRefusal.TheVariants.{NoMemory as 
 use Rattle.odb_watch.specs.declared.entry.WatchEntry.{WatchEntry}
 use Rattle.odb_watch.specs.DatabasePorts.{DatabaseAccess, AddsEntries, MayAdd, row_calls}
 use Rattle.odb_runinfo.specs.RunSets.{AreSets, GetsNumber, number_asked, state_set}
-use Rattle.transitions.specs.declared.answers.ClientTally.{ClientTally}
-use Rattle.transitions.specs.declared.sheet.Sheet.{Sheet}
 use Rattle.transitions.specs.declared.replies.BeginRefusal.TheVariants.{WrongState as state_refused, LastStart as number_refused}
-use Rattle.transitions.specs.declared.entry.EngineEntry.{EngineEntry}
+use Rattle.member_model.specs.RunEngines.{ClientTally, Sheet, EngineEntry}
 use Rattle.session_runs.specs.MainKnowledge.{MainKnows, known_from, begin_known}
 use Rattle.session_runs.specs.MadeTransitions.{DrivesTransition}
 use Rattle.session_runs.specs.declared.on.CurrentRun.{CurrentRun}

@@ -14,7 +14,7 @@ use Rattle.odb_watch.specs.declared.entry.WatchEntry.TheVariants.{Call, Save}
 use Rattle.odb_watch.specs.DatabasePorts.{IsSettled, row_calls}
 use Rattle.odb_runinfo.specs.RunSets.{Assignment, AreSets, number_asked, have_of, next_run, start_sets, refused_sets, state_set, stop_sets}
 use Rattle.event_report.specs.Reports.{Totals, report_of}
-use Rattle.transitions.specs.declared.sheet.Sheet.{Sheet}
+use Rattle.member_model.specs.RunEngines.{Sheet}
 use Rattle.session_runs.specs.declared.on.CurrentRun.{CurrentRun}
 
 -- Sheets.

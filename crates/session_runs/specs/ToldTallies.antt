@@ -2,9 +2,8 @@
 use Rattle.std.specs.Prelude.{ℕ, zero, suc, ◌+◌, ◌==◌, if◌then◌else◌, List, [], ◌∷◌, ◌++◌, slice_get, Option, Some, None}
 use Rattle.std.specs.Option.{option_map, option_or, option_to_list}
 use Rattle.daq_types.specs.declared.runs.ChannelState.{ChannelState}
-use Rattle.transitions.specs.declared.answers.Tally.{Tally}
 use Rattle.transitions.specs.declared.answers.Tally.TheVariants.{Front, Channels, Report}
-use Rattle.transitions.specs.declared.answers.ClientTally.{ClientTally}
+use Rattle.member_model.specs.RunEngines.{Tally, ClientTally}
 use Rattle.mid_logger.specs.Patterns.{file_name_by}
 use Rattle.session_runs.specs.declared.records.FrontTally.{FrontTally}
 use Rattle.session_runs.specs.declared.records.FileRecord.{FileRecord}

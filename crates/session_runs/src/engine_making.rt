@@ -5,7 +5,7 @@ ghost use Rattle.daq_types.specs.declared.runs.StartOutcome.TheVariants.{Complet
 ghost use Rattle.daq_types.specs.declared.runs.Transition.TheVariants.{Start};
 ghost use Rattle.turn_lock.specs.Passes.{number_of, held_by, own_entries, seen_by, IsOf};
 ghost use Rattle.transitions.specs.Engines.{engine_opening};
-ghost use Rattle.transitions.specs.EngineHistories.{IsLegalEngine, IsSheet};
+ghost use Rattle.member_model.specs.RunEngines.{IsLegalEngine, IsSheet};
 ghost use Rattle.transition_lock.specs.SharedEngines.{engine_lock_of, first_engine};
 ghost use Rattle.session_runs.specs.MainKnowledge.{known_from, begin_known, known_behind};
 ghost use Rattle.session_runs.specs.MadeTransitions.{WaitsForEnd, DrivesTransition};
@@ -13,9 +13,10 @@ ghost use Rattle.session_runs.specs.MadeTransitions.{WaitsForEnd, DrivesTransiti
 use crate::rounds::Rounds;
 use daq_types::{StartOutcome, Transition};
 use engine_laws::laws::{main_has_transition, tallies_answered};
+use member_model::{Sheet, Tallies};
 use std::sync::Wait;
 use transition_lock::{EnginePass, SharedEngine};
-use transitions::{Progress, Sheet, Tallies};
+use transitions::Progress;
 
 /// A transition that was made.
 #[derive(Clone, Copy, Debug, PartialEq, Eq)]

@@ -3,9 +3,9 @@ ghost use Rattle.std.specs.Prelude.{◌≡◌, ◌≢◌, ◌≤◌, [], List, l
 ghost use Rattle.daq_types.specs.declared.runs.StartOutcome.TheVariants.{Completed};
 ghost use Rattle.daq_types.specs.declared.runs.Transition.TheVariants.{Start};
 ghost use Rattle.odb_text.specs.Dumps.{dump_limit};
-ghost use Rattle.transitions.specs.declared.answers.ClientTally.{ClientTally};
 ghost use Rattle.std.specs.List.{AllByRecursion};
-ghost use Rattle.transitions.specs.EngineHistories.{IsSheet, IsBlank};
+ghost use Rattle.event_report.specs.Reports.{IsBlank};
+ghost use Rattle.member_model.specs.RunEngines.{ClientTally, IsSheet};
 ghost use Rattle.session_runs.specs.RunEntries.{blank_reports};
 ghost use Rattle.session_runs.specs.MainKnowledge.{known_from, begin_known, known_behind};
 ghost use Rattle.session_runs.specs.MadeTransitions.{DrivesTransition};
@@ -13,9 +13,9 @@ ghost use Rattle.session_runs.specs.MadeTransitions.{DrivesTransition};
 use crate::{Made, MainSeat, Rounds};
 use daq_types::{BoundedList, Bytes, NoMemory, Transition};
 use event_report::Report;
+use member_model::{Reports, Sheet, Tallies};
 use std::alloc::Global;
 use std::sync::Wait;
-use transitions::{Reports, Sheet, Tallies};
 
 /// So many reports of no events.
 pub(crate) fn blank_reports(alloc: Global, count: usize) -> Result<Reports, NoMemory>

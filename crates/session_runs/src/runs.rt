@@ -8,10 +8,10 @@ use crate::channels::{RunChannels, channels_of};
 use crate::on::{CurrentRun, OpenRun};
 use crate::{MainSeat, RunRecord};
 use daq_types::{BoundedList, Journal, Name, NoMemory};
+use member_model::Tallies;
 use mid_logger::ChannelSpec;
 use std::alloc::Global;
 use std::marker::Model;
-use transitions::Tallies;
 
 /// The names of the front-ends, which are the first clients, in the order of their numbers.
 pub type FrontNames = BoundedList<Name, 32>;

@@ -7,8 +7,8 @@ ghost use Rattle.transitions.specs.States.{is_allowed};
 ghost use Rattle.turn_lock.specs.Passes.{number_of, held_by, own_entries, IsOf};
 ghost use Rattle.transitions.specs.declared.entry.EngineEntry.TheVariants.{Close};
 ghost use Rattle.transitions.specs.Engines.{engine_opening};
-ghost use Rattle.transitions.specs.EngineHistories.{IsSheet};
 ghost use Rattle.transitions.specs.Limits.{most_clients};
+ghost use Rattle.member_model.specs.RunEngines.{IsSheet};
 ghost use Rattle.transition_lock.specs.SharedEngines.{engine_lock_of, first_engine};
 ghost use Rattle.session_runs.specs.MainKnowledge.{known_from, begin_known, known_behind, state_behind};
 ghost use Rattle.session_runs.specs.MadeTransitions.{DrivesTransition};
@@ -18,10 +18,11 @@ use crate::engine_making::{Made, make_transition};
 use crate::opening::{MemberName, close, register_all};
 use crate::rounds::Rounds;
 use daq_types::{RunState, StartOutcome, Transition};
+use member_model::{Sheet, Tallies};
 use std::marker::Model;
 use std::sync::Wait;
 use transition_lock::{EnginePass, SharedEngine};
-use transitions::{BeginRefusal, Sheet, Tallies, after, allowed};
+use transitions::{BeginRefusal, after, allowed};
 
 /// The main thread's place at a shared engine, by the pass of number 0. From its own calls it knows the run state and the
 /// number of the last start. Between two calls no transition is in progress, and the engine is open.

@@ -7,7 +7,7 @@ ghost use Rattle.odb_watch.specs.DatabasePorts.{AddsEntries};
 ghost use Rattle.odb_runinfo.specs.RunSets.{SetsNumbers};
 ghost use Rattle.daq_types.specs.declared.runs.Transition.TheVariants.{Start};
 ghost use Rattle.session_runs.specs.MainKnowledge.{known_from, begin_known};
-ghost use Rattle.transitions.specs.EngineHistories.{IsSheet};
+ghost use Rattle.member_model.specs.RunEngines.{IsSheet};
 ghost use Rattle.session_runs.specs.KeptRuns.{refused_start};
 ghost use Rattle.session_runs.specs.RunEntries.{AnnounceCalls, outcome_sets};
 ghost use Rattle.session_runs.specs.RunAnswers.{AnnouncesRun, AnswersStart, CutsAnnouncing, CutsStart, AnswersBegin, CutsBegin, ReadsClock, clock_of, point_of};
@@ -20,12 +20,12 @@ use crate::runs::Runs;
 use crate::{Rounds, RunRecord};
 use daq_io::Clock;
 use daq_types::{Bytes, NoMemory, RunState, StartOutcome, Transition};
+use member_model::Sheet;
 use odb_runinfo::{KeyPaths, RunNumber, next_run};
 use odb_watch::WatchPort;
 use odb_watch::port_laws::{calls_add_up, entries_add_up};
 use std::alloc::Global;
 use std::sync::Wait;
-use transitions::Sheet;
 
 /// Announces a run in the database, before it begins: reads the clock, sets the run's parameters, and takes the text of the
 /// database.

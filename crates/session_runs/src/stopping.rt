@@ -19,12 +19,12 @@ use crate::tallied::{take_files, take_fronts, take_reports};
 use crate::{MainSeat, Rounds, RunRecord};
 use daq_io::Clock;
 use daq_types::{Bytes, NoMemory, RunState, StartOutcome, Transition};
+use member_model::Tallies;
 use odb_runinfo::KeyPaths;
 use odb_watch::WatchPort;
 use odb_watch::port_laws::{calls_add_up, entries_add_up};
 use std::alloc::Global;
 use std::sync::Wait;
-use transitions::Tallies;
 
 /// Announces a stop in the database, before it begins: reads the clock, sets the run's parameters, and takes the text of the
 /// database.

@@ -1,14 +1,14 @@
 // What the clients told in the end of a transition, taken into the record of a run.
 ghost use Rattle.std.specs.Prelude.{◌≡◌, ◌≢◌, ◌≤◌, ◌<◌, ◌+◌, ◌++◌, [], ℕ, length, slice_get, Some, IfNone};
 ghost use Rattle.std.specs.Option.{option_map, option_to_list};
-ghost use Rattle.transitions.specs.declared.answers.ClientTally.{ClientTally};
+ghost use Rattle.member_model.specs.RunEngines.{ClientTally};
 ghost use Rattle.session_runs.specs.ToldTallies.{front_told, fronts_told, states_told, files_of, files_told, file_told, front_by, states_by, report_by, report_told, reports_told};
 
 use crate::channels::RunChannel;
 use crate::{FileRecord, FileRecords, FrontTallies, FrontTally, ReportTallies, ReportTally};
 use daq_types::ChannelState;
+use member_model::{ClientTally, Tallies, Tally};
 use std::mem::replace;
-use transitions::{ClientTally, Tallies, Tally};
 
 /// What this client told that it sent.
 fn front_told(client: u32, tallies: &[ClientTally]) -> Option<FrontTally>

@@ -9,11 +9,11 @@ use Rattle.mid_logger.specs.Patterns.{NamePattern}
 use Rattle.session_setup.specs.declared.refusals.SetupRefusal.{SetupRefusal}
 use Rattle.session_setup.specs.declared.refusals.SetupRefusal.TheVariants.{Exists, BadBufferSize, TooMany, SameName, BadId, SameId, NoBuffer, BadChannel, SameChannel, BadPattern}
 use Rattle.session_setup.specs.Setup.{Declared, most_in_all, is_buffer_size, is_front_id, total_size, has_buffer, has_front_id, has_channel, is_member_name}
-use Rattle.session_setup.specs.Refusals.{first_refusal, refused_if, name_refusal}
+use Rattle.session_setup.specs.Refusals.{first_setup_refusal, refused_if, name_refusal}
 use Rattle.session_setup.specs.SetupLines.{buffers_with, is_taken_name, buffer_tests, equip_tests, channel_tests, analyzer_tests, buffer_refusal, equip_refusal, channel_refusal, analyzer_refusal}
 
 -- where a list has no refusal, each of its entries is none
-pub none_of : (list : List (Option SetupRefusal)) → first_refusal list ≡ None → AllByRecursion (λ entry. entry ≡ None) list
+pub none_of : (list : List (Option SetupRefusal)) → first_setup_refusal list ≡ None → AllByRecursion (λ entry. entry ≡ None) list
 none_of [] h = tt
 none_of (None ∷ rest) h = (refl, none_of rest h)
 none_of (Some refusal ∷ rest) h = absurd (none-some refusal (sym h))

@@ -11,10 +11,10 @@ abbrev pub LineTests : Type 0
 LineTests = List (Option SetupRefusal)
 
 -- the first refusal of a list
-abbrev pub first_refusal : LineTests → Option SetupRefusal
-first_refusal [] = None
-first_refusal (None ∷ rest) = first_refusal rest
-first_refusal (Some refusal ∷ rest) = Some refusal
+abbrev pub first_setup_refusal : LineTests → Option SetupRefusal
+first_setup_refusal [] = None
+first_setup_refusal (None ∷ rest) = first_setup_refusal rest
+first_setup_refusal (Some refusal ∷ rest) = Some refusal
 
 -- the refusal where the test holds
 abbrev pub refused_if : Bool → SetupRefusal → Option SetupRefusal

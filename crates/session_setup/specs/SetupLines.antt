@@ -12,7 +12,7 @@ use Rattle.session_setup.specs.declared.declared.FrontDeclared.{FrontDeclared}
 use Rattle.session_setup.specs.declared.refusals.SetupRefusal.{SetupRefusal}
 use Rattle.session_setup.specs.declared.refusals.SetupRefusal.TheVariants.{Opened, Exists, BadBufferSize, TooMany, SameName, BadId, SameId, NoBuffer, BadChannel, SameChannel, BadPattern, Compressed}
 use Rattle.session_setup.specs.Setup.{Declared, system_name, most_in_all, is_buffer_size, is_front_id, total_size, buffer_named, has_buffer, has_front_id, has_channel, is_member_name}
-use Rattle.session_setup.specs.Refusals.{LineTests, first_refusal, refused_if, NameRead, name_refusal}
+use Rattle.session_setup.specs.Refusals.{LineTests, first_setup_refusal, refused_if, NameRead, name_refusal}
 
 -- the buffers where the first has this size
 abbrev pub first_resized : ℕ → List BufferDeclared → List BufferDeclared
@@ -42,7 +42,7 @@ buffer_tests d read name size =
 
 -- why it is refused
 abbrev pub buffer_refusal : Declared → NameRead → (name : List ℕ) (size : ℕ) → Option SetupRefusal
-buffer_refusal d read name size = first_refusal (buffer_tests d read name size)
+buffer_refusal d read name size = first_setup_refusal (buffer_tests d read name size)
 
 -- the declarations behind it
 abbrev pub with_buffer : Declared → (name : List ℕ) (size : ℕ) → Declared
@@ -65,7 +65,7 @@ equip_tests d read name id buffer =
     ∷ []
 
 abbrev pub equip_refusal : Declared → NameRead → (name : List ℕ) (id : ℕ) (buffer : List ℕ) → Option SetupRefusal
-equip_refusal d read name id buffer = first_refusal (equip_tests d read name id buffer)
+equip_refusal d read name id buffer = first_setup_refusal (equip_tests d read name id buffer)
 
 abbrev pub front_declared : (name : List ℕ) → (id mask buffer limit : ℕ) → FrontDeclared
 front_declared name id mask buffer limit = record { name = name; id = id; mask = mask; buffer = buffer; limit = limit }
@@ -93,7 +93,7 @@ channel_tests d number read text buffer =
     ∷ []
 
 abbrev pub channel_refusal : Declared → ℕ → Option NamePattern → (text buffer : List ℕ) → Option SetupRefusal
-channel_refusal d number read text buffer = first_refusal (channel_tests d number read text buffer)
+channel_refusal d number read text buffer = first_setup_refusal (channel_tests d number read text buffer)
 
 abbrev pub channel_declared : (number : ℕ) → NamePattern → (buffer id mask : ℕ) → ChannelSpec
 channel_declared number pattern buffer id mask =
@@ -116,7 +116,7 @@ analyzer_tests d read name buffer =
     ∷ []
 
 abbrev pub analyzer_refusal : Declared → NameRead → (name buffer : List ℕ) → Option SetupRefusal
-analyzer_refusal d read name buffer = first_refusal (analyzer_tests d read name buffer)
+analyzer_refusal d read name buffer = first_setup_refusal (analyzer_tests d read name buffer)
 
 abbrev pub analyzer_declared : (name : List ℕ) → (buffer id mask : ℕ) → Kind → AnalyzerDeclared
 analyzer_declared name buffer id mask kind =

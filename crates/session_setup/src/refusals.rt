@@ -1,5 +1,5 @@
 ghost use Rattle.std.specs.Prelude.{◌≡◌};
-ghost use Rattle.session_setup.specs.Refusals.{first_refusal, refused_if};
+ghost use Rattle.session_setup.specs.Refusals.{first_setup_refusal, refused_if};
 
 use daq_types::NameRefusal;
 
@@ -43,7 +43,7 @@ pub(crate) fn refused_if(test: bool, refusal: SetupRefusal) -> Option<SetupRefus
 
 /// The first refusal of the list.
 pub(crate) fn first_refusal(refusals: &[Option<SetupRefusal>]) -> Option<SetupRefusal>
-    ensures { result ≡ first_refusal refusals.now }
+    ensures { result ≡ first_setup_refusal refusals.now }
 {
     for refusal in refusals {
         if refusal.is_some() {

@@ -1,10 +1,9 @@
 -- What the lock tells of a call, in the words of the engine.
 use Rattle.std.specs.Prelude.{◌≡◌, ℕ, List, [], ◌∷◌}
 use Rattle.std.proofs.Common.{sym, subst}
-use Rattle.transitions.specs.declared.entry.EngineEntry.{EngineEntry}
-use Rattle.transitions.specs.Engines.{EngineState}
 use Rattle.transitions.specs.EngineCalls.{engine_after}
-use Rattle.transitions.specs.EngineHistories.{IsLegalEngine, engine_replay}
+use Rattle.transitions.specs.EngineHistories.{engine_replay}
+use Rattle.member_model.specs.RunEngines.{EngineEntry, EngineState, IsLegalEngine}
 use Rattle.turn_lock.specs.History.{Leads}
 use Rattle.transition_lock.specs.EngineSteps.{StepsEngine}
 

@@ -1,9 +1,7 @@
 -- A call on an engine as one step of its lock.
 use Rattle.std.specs.Prelude.{◌≡◌, ℕ}
-use Rattle.transitions.specs.declared.entry.EngineEntry.{EngineEntry}
-use Rattle.transitions.specs.Engines.{EngineState}
 use Rattle.transitions.specs.EngineCalls.{IsEngineReply, engine_after}
-use Rattle.transitions.specs.EngineHistories.{IsEngineCaller}
+use Rattle.member_model.specs.RunEngines.{EngineEntry, EngineState, IsEngineCaller}
 
 -- the caller may make the call, whose reply is the one that the state before gives, and the state after is the one that the
 -- call leaves

@@ -1,6 +1,5 @@
 -- What contracts see of a shared engine.
-use Rattle.transitions.specs.declared.entry.EngineEntry.{EngineEntry}
-use Rattle.transitions.specs.Engines.{EngineState}
+use Rattle.member_model.specs.RunEngines.{EngineEntry, EngineState}
 use Rattle.turn_lock.specs.declared.lock.Turns.{Turns}
 use Rattle.turn_lock.specs.Passes.{first_value}
 use Rattle.transition_lock.specs.declared.locked.LockedEngine.{LockedEngine}

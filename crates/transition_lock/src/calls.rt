@@ -3,14 +3,12 @@ ghost use Rattle.std.specs.Prelude.{◌≡◌, [], IfErr};
 ghost use Rattle.daq_types.specs.Callers.{main_caller};
 ghost use Rattle.transitions.specs.declared.entry.EngineEntry.TheVariants.{Register as register_of, Begin as begin_of, Poll as poll_of, Answer as answer_of, Check as check_of, Close as close_of};
 ghost use Rattle.transitions.specs.EngineCalls.{without_return};
-ghost use Rattle.transitions.specs.EngineHistories.{IsSheet, IsFairTurn};
+ghost use Rattle.member_model.specs.RunEngines.{IsSheet, IsFairTurn};
 
 use crate::locked::LockedEngine;
 use daq_types::{Name, Transition};
-use transitions::{
-    Answer, BeginRefusal, InProgress, NotYourTurn, Polled, Progress, RegisterRefusal, Sequences,
-    Sheet, Tallies,
-};
+use member_model::{Answer, Polled, Sheet, Tallies};
+use transitions::{BeginRefusal, InProgress, NotYourTurn, Progress, RegisterRefusal, Sequences};
 use turn_lock::Call;
 
 #[derive(Drop)]

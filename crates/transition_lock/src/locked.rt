@@ -1,6 +1,6 @@
 // An engine as the counting lock sees it.
+use member_model::{Engine, EngineEntry};
 use std::marker::Model;
-use transitions::{Engine, EngineEntry};
 use turn_lock::Machine;
 
 /// An engine under the lock. Its data are the engine's state, and its entries the calls with their replies.
@@ -15,7 +15,8 @@ pub struct EngineSeen {
 }
 
 impl Model for EngineSeen {
-    ghost use Rattle.transitions.specs.Engines.{EngineState, engine_opening};
+    ghost use Rattle.transitions.specs.Engines.{engine_opening};
+    ghost use Rattle.member_model.specs.RunEngines.{EngineState};
 
     ghost Value = { EngineState };
 

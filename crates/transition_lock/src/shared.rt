@@ -3,7 +3,8 @@ ghost use Rattle.std.specs.Prelude.{◌≡◌, ◌<◌, ◌≤◌, ℕ, [], None
 ghost use Rattle.daq_types.specs.Callers.{entries_by, main_caller};
 ghost use Rattle.transitions.specs.declared.entry.EngineEntry.TheVariants.{Register as register_of, Begin as begin_of, Poll as poll_of, Answer as answer_of, Check as check_of, Close as close_of};
 ghost use Rattle.transitions.specs.EngineCalls.{without_return};
-ghost use Rattle.transitions.specs.EngineHistories.{IsSheet, IsFairTurn, IsLegalEngine, engine_replay};
+ghost use Rattle.transitions.specs.EngineHistories.{engine_replay};
+ghost use Rattle.member_model.specs.RunEngines.{IsSheet, IsFairTurn, IsLegalEngine};
 ghost use Rattle.turn_lock.specs.Passes.{passes_of, number_of, seen_by, held_by, IsOf};
 ghost use Rattle.turn_lock.specs.History.{IsPartOf, entries_below};
 ghost use Rattle.turn_lock.specs.Closing.{AreComplete, IsLeastMissing, opened_with, history_of};
@@ -13,12 +14,10 @@ ghost use Rattle.turn_lock.specs.Entered.{Enters};
 use crate::calls::{AnswerTurn, Begin, Check, Close, Poll, Register};
 use crate::locked::LockedEngine;
 use daq_types::{Name, NoMemory, Transition};
+use member_model::{Answer, Engine, Polled, Sheet, Tallies};
 use std::alloc::Global;
 use std::sync::Wait;
-use transitions::{
-    Answer, BeginRefusal, Engine, InProgress, NotYourTurn, Polled, Progress, RegisterRefusal,
-    Sequences, Sheet, Tallies,
-};
+use transitions::{BeginRefusal, InProgress, NotYourTurn, Progress, RegisterRefusal, Sequences};
 use turn_lock::{Call, Closed, MissingPass, Pass, Passes, Turns};
 
 /// One caller's place at a shared engine, with its number. Number 0 is the main thread's.

@@ -3,7 +3,6 @@ use Rattle.std.proofs.Common.{◌≡◌, ℕ, ◌+◌, ◌≤◌, ◌<◌, Bool,
 use Rattle.std.specs.Prelude.{if◌then◌else◌}
 use Rattle.daq_types.specs.declared.runs.RunState.{RunState}
 use Rattle.daq_types.specs.declared.runs.Transition.{Transition}
-use Rattle.event_report.specs.Reports.{Totals}
 use Rattle.transitions.specs.declared.called.Called.{Called}
 use Rattle.transitions.specs.declared.answers.ClientTally.{ClientTally}
 use Rattle.transitions.specs.declared.engine.Refusal.{Refusal}
@@ -27,11 +26,12 @@ open_progress (p ∷ ps) called r some = refl
 open_progress [] (c ∷ cs) r some = refl
 open_progress [] [] r some = absurd (omega (arith, some))
 
--- a client that owes an answer is one of those that polled
-pub owes_stands : (o : Option Stage) (dump : Option (List ℕ)) (blanks : List Totals) (called polled : List Called) (tallies : List ClientTally) (client : ℕ)
-    → owes_answer (underway_of o dump blanks called polled tallies) client ≡ true → stands_in polled client ≡ true
-owes_stands None dump blanks called polled tallies client e = absurd cc
-owes_stands (Some stage) dump blanks called polled tallies client e = e
+module _ {R : Type 0} where
+  -- a client that owes an answer is one of those that polled
+  pub owes_stands : (o : Option Stage) (dump : Option (List ℕ)) (blanks : List R) (called polled : List Called) (tallies : List (ClientTally R)) (client : ℕ)
+      → owes_answer (underway_of o dump blanks called polled tallies) client ≡ true → stands_in polled client ≡ true
+  owes_stands None dump blanks called polled tallies client e = absurd cc
+  owes_stands (Some stage) dump blanks called polled tallies client e = e
 
 -- Refusals.
 
@@ -70,11 +70,12 @@ most_within stage = within stage.off
     within true = omega arith
     within false = omega arith
 
--- there is room for the tally of a client that owes an answer
-pub tally_fits : (o : Option Stage) (dump : Option (List ℕ)) (blanks : List Totals) (called polled : List Called) (tallies : List ClientTally) (client : ℕ)
-    → owes_answer (underway_of o dump blanks called polled tallies) client ≡ true → ((now : Stage) → o ≡ Some now → length tallies + (length polled + length called) ≤ most_at now) → length tallies < most_tallies
-tally_fits None dump blanks called polled tallies client e fits = absurd cc
-tally_fits (Some stage) dump blanks called polled tallies client e fits =
-    let some : 0 < length polled = stands_some polled client e in
-    let all = fits stage refl in
-    omega (arith, some, all, most_within stage)
+module _ {R : Type 0} where
+  -- there is room for the tally of a client that owes an answer
+  pub tally_fits : (o : Option Stage) (dump : Option (List ℕ)) (blanks : List R) (called polled : List Called) (tallies : List (ClientTally R)) (client : ℕ)
+      → owes_answer (underway_of o dump blanks called polled tallies) client ≡ true → ((now : Stage) → o ≡ Some now → length tallies + (length polled + length called) ≤ most_at now) → length tallies < most_tallies
+  tally_fits None dump blanks called polled tallies client e fits = absurd cc
+  tally_fits (Some stage) dump blanks called polled tallies client e fits =
+      let some : 0 < length polled = stands_some polled client e in
+      let all = fits stage refl in
+      omega (arith, some, all, most_within stage)

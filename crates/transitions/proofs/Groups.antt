@@ -5,7 +5,6 @@ use Rattle.std.proofs.lemmas.Bool.{eqb-true}
 use Rattle.daq_types.specs.declared.runs.Transition.{Transition}
 use Rattle.daq_types.specs.declared.runs.Transition.TheVariants.{StartAbort}
 use Rattle.daq_types.specs.declared.runs.Why.{Why}
-use Rattle.event_report.specs.Reports.{Totals}
 use Rattle.transitions.specs.declared.client.Registered.{Registered}
 use Rattle.transitions.specs.declared.called.Called.{Called}
 use Rattle.transitions.specs.declared.sheet.Sheet.{Sheet}
@@ -13,12 +12,12 @@ use Rattle.transitions.specs.declared.answers.Answer.{Answer as ClientAnswer}
 use Rattle.transitions.specs.declared.answers.Answer.TheVariants.{Yes, No}
 use Rattle.transitions.specs.declared.answers.Tally.TheVariants.{Plain}
 use Rattle.transitions.specs.declared.engine.Refusal.{Refusal}
-use Rattle.transitions.specs.Called.{called_list, clients_of}
+use Rattle.transitions.specs.Called.{called_list, called_numbers}
 use Rattle.transitions.specs.CalledOrder.{AreInOrder, IsCalledIn}
 use Rattle.transitions.specs.Engines.{Underway, EngineState}
 use Rattle.transitions.specs.EngineCalls.{turn_kind, turn_of, is_start, stands_in, stands_with, without, group_of, has_polled, is_next, begun, first_polled, told, first_refusal, refused_by, is_due_off, called_off, settled, answered_with}
 use Rattle.transitions.specs.EnginePoints.{Calling, uncalled, refuses, refusal_from, is_among, are_among, opens_off, off_opened, turned_more, calling_after, GaveTurn}
-use Rattle.transitions.specs.TurnOrder.{IsGroupReached, IsReached, AreApart}
+use Rattle.transitions.specs.TurnOrder.{IsGroupReached, IsClientReached, AreDistinct}
 use Rattle.transitions.proofs.Apart.{split}
 use Rattle.transitions.proofs.Stands.{none, either, or_false, or_assoc, and_false, and_true, or_parts, neither, stands_other, stood, stands_push, called_stands, entry_with, with_stands, kept_without, from_without, in_push, ordered_without, front_least, among_push, among_last, among_longer, among_stands, apart_push, all_among, not_all_among}
 use Rattle.transitions.proofs.CalledOrdered.{called_list_is}
@@ -29,11 +28,11 @@ pub record Stand (all : List Called) (turned answered : List ℕ) (called polled
   pub turned_is : (n : ℕ) → is_among n turned ≡ (is_among n answered || stands_in polled n)
   pub owes : (n : ℕ) → stands_in polled n ≡ true → is_among n answered ≡ false
   pub fresh : (n : ℕ) → stands_in called n ≡ true → is_among n turned ≡ false
-  pub once : AreApart answered
+  pub once : AreDistinct answered
   pub in_order : AreInOrder called
   pub waits : (x : Called) → IsCalledIn x called → IsCalledIn x all
   pub groups : (x : Called) → IsCalledIn x polled → IsGroupReached all answered x
-  pub reached : (n : ℕ) → is_among n turned ≡ true → IsReached all answered n
+  pub reached : (n : ℕ) → is_among n turned ≡ true → IsClientReached all answered n
   pub whole : refused ≡ false → (x : Called) → IsCalledIn x all → (is_among x.client turned ≡ true) ⊎ IsCalledIn x called
   pub dropped : refused ≡ true → called ≡ []
 
@@ -211,92 +210,91 @@ all_answered all turned answered called polled refused s un done x among =
 
 -- and where somebody is left, not all have
 pub not_all_answered : (all : List Called) (turned answered : List ℕ) (called polled : List Called) (refused : Bool) (o : Called) (os : List Called) → Stand all turned answered called polled refused → polled ++ called ≡ o ∷ os
-    → are_among (clients_of all) answered ≡ false
+    → are_among (called_numbers all) answered ≡ false
 not_all_answered all turned answered called (p ∷ ps) refused o os s left =
-    let here : is_among p.client (clients_of all) ≡ true = among_stands p.client all ∙ called_stands p all (s.groups p (inl refl)).among in
-    not_all_among p.client (clients_of all) answered here (s.owes p.client (called_stands p (p ∷ ps) (inl refl)))
+    let here : is_among p.client (called_numbers all) ≡ true = among_stands p.client all ∙ called_stands p all (s.groups p (inl refl)).among in
+    not_all_among p.client (called_numbers all) answered here (s.owes p.client (called_stands p (p ∷ ps) (inl refl)))
 not_all_answered all turned answered (c ∷ cs) [] refused o os s left =
-    let here : is_among c.client (clients_of all) ≡ true = among_stands c.client all ∙ called_stands c all (s.waits c (inl refl)) in
-    not_all_among c.client (clients_of all) answered here (fresh_owes all turned answered (c ∷ cs) [] refused c.client s (called_stands c (c ∷ cs) (inl refl)))
+    let here : is_among c.client (called_numbers all) ≡ true = among_stands c.client all ∙ called_stands c all (s.waits c (inl refl)) in
+    not_all_among c.client (called_numbers all) answered here (fresh_owes all turned answered (c ∷ cs) [] refused c.client s (called_stands c (c ∷ cs) (inl refl)))
 not_all_answered all turned answered [] [] refused o os s left = absurd cc
 
--- What the turns and answers tell stands to what the engine holds.
+module _ {R : Type 0} where
+  -- What the turns and answers tell stands to what the engine holds.
 
-abbrev pub is_refused : Underway → Bool
-is_refused u = not u.is_off && is_some u.refusal
+  abbrev pub is_refused : Underway R → Bool
+  is_refused u = not u.is_off && is_some u.refusal
 
-pub record Keeps (c : Calling) (clients : List Registered) (u : Underway) : Type 0 where
-  pub refusal : c.refusal ≡ u.refusal
-  pub off : c.off ≡ u.is_off
-  pub stand : Stand (called_list (turn_of u) clients) c.turned c.answered u.called u.polled (is_refused u)
+  pub record Keeps (c : Calling) (clients : List Registered) (u : Underway R) : Type 0 where
+    pub refusal : c.refusal ≡ u.refusal
+    pub off : c.off ≡ u.is_off
+    pub stand : Stand (called_list (turn_of u) clients) c.turned c.answered u.called u.polled (is_refused u)
 
-pub keeps_begun : (s : EngineState) (t : Transition) (sheet : Sheet) (n : ℕ) → Keeps uncalled s.clients (begun s t sheet n)
-keeps_begun s t sheet n = record { refusal = refl; off = refl; stand = stand_begun t s.clients }
+  pub keeps_begun : (s : EngineState R) (t : Transition) (sheet : Sheet R) (n : ℕ) → Keeps uncalled s.clients (begun s t sheet n)
+  keeps_begun s t sheet n = record { refusal = refl; off = refl; stand = stand_begun t s.clients }
 
-pub keeps_polled : (c : Calling) (clients : List Registered) (u : Underway) (client : ℕ) (k : Registered) (blank : Option Totals) (t : Option Transition) → Keeps c clients u → is_next u.polled u.called client ≡ true
-    → Keeps (calling_after (GaveTurn client blank) t c) clients (first_polled client k u)
-keeps_polled c clients u client k blank t s e = record {
-  refusal = s.refusal;
-  off = s.off;
-  stand = stand_polled (called_list (turn_of u) clients) c.turned c.answered u.called u.polled (is_refused u) client s.stand e;
-}
+  pub keeps_polled : (c : Calling) (clients : List Registered) (u : Underway R) (client : ℕ) (k : Registered) (blank : Option R) (t : Option Transition) → Keeps c clients u → is_next u.polled u.called client ≡ true
+      → Keeps (calling_after (GaveTurn client blank) t c) clients (first_polled client k u)
+  keeps_polled c clients u client k blank t s e = record {
+    refusal = s.refusal;
+    off = s.off;
+    stand = stand_polled (called_list (turn_of u) clients) c.turned c.answered u.called u.polled (is_refused u) client s.stand e;
+  }
 
-pub keeps_again : (c : Calling) (clients : List Registered) (u : Underway) (client : ℕ) (blank : Option Totals) (t : Option Transition) → Keeps c clients u → has_polled u client ≡ true
-    → Keeps (calling_after (GaveTurn client blank) t c) clients u
-keeps_again c clients u client blank t s e =
-    let turned : is_among client c.turned ≡ true = polled_turned (called_list (turn_of u) clients) c.turned c.answered u.called u.polled (is_refused u) client s.stand e in
-    let same : turned_more client c.turned ≡ c.turned = ap (λ (b : Bool). if b then c.turned else c.turned ++ client ∷ []) turned in
-    record {
-      refusal = s.refusal;
-      off = s.off;
-      stand = subst (λ (xs : List ℕ). Stand (called_list (turn_of u) clients) xs c.answered u.called u.polled (is_refused u)) (sym same) s.stand;
-    }
+  pub keeps_again : (c : Calling) (clients : List Registered) (u : Underway R) (client : ℕ) (blank : Option R) (t : Option Transition) → Keeps c clients u → has_polled u client ≡ true
+      → Keeps (calling_after (GaveTurn client blank) t c) clients u
+  keeps_again c clients u client blank t s e =
+      let turned : is_among client c.turned ≡ true = polled_turned (called_list (turn_of u) clients) c.turned c.answered u.called u.polled (is_refused u) client s.stand e in
+      let same : turned_more client c.turned ≡ c.turned = ap (λ (b : Bool). if b then c.turned else c.turned ++ client ∷ []) turned in
+      record {
+        refusal = s.refusal;
+        off = s.off;
+        stand = subst (λ (xs : List ℕ). Stand (called_list (turn_of u) clients) xs c.answered u.called u.polled (is_refused u)) (sym same) s.stand;
+      }
 
--- what is told right behind an answer
-abbrev pub answered_calling : (client : ℕ) → ClientAnswer → Option Transition → Calling → Calling
-answered_calling client answer t c = record {
-  refusal = refusal_from (refuses answer t c.off) client answer c.refusal;
-  off = c.off;
-  turned = c.turned;
-  answered = c.answered ++ client ∷ [];
-}
+  -- what is told right behind an answer
+  abbrev pub answered_calling : (client : ℕ) → ClientAnswer R → Option Transition → Calling → Calling
+  answered_calling client answer t c = record {
+    refusal = refusal_from (refuses answer t c.off) client answer c.refusal;
+    off = c.off;
+    turned = c.turned;
+    answered = c.answered ++ client ∷ [];
+  }
 
-first_is : (r : Option Refusal) (client : ℕ) (why : Why) → refusal_from true client (No why) r ≡ Some (first_refusal r client why)
-first_is None client why = refl
-first_is (Some r) client why = refl
-
-unrefusing : (client : ℕ) (why : Why) (r : Option Refusal) → refusal_from false client (No why) r ≡ r
-unrefusing client why r = refl
+first_is : (R : Type 0) (r : Option Refusal) (client : ℕ) (why : Why) → refusal_from {R = R} true client (No why) r ≡ Some (first_refusal r client why)
+first_is R None client why = refl
+first_is R (Some r) client why = refl
 
 start_not_off : (t : Transition) (off : Bool) → is_start (turn_kind t off) ≡ true → off ≡ false
 start_not_off t false e = refl
 start_not_off t true e = absurd cc
 
-pub keeps_answered : (c : Calling) (clients : List Registered) (u : Underway) (client : ℕ) (answer : ClientAnswer) → Keeps c clients u → has_polled u client ≡ true
-    → Keeps (answered_calling client answer (Some u.transition) c) clients (answered_with client answer u)
-keeps_answered c clients u client (Yes tally) s e = record {
-  refusal = s.refusal;
-  off = s.off;
-  stand = stand_told (called_list (turn_of u) clients) c.turned c.answered u.called u.polled (is_refused u) client s.stand e;
-}
-keeps_answered c clients u client (No why) s e =
-    let after : Stand (called_list (turn_of u) clients) c.turned (c.answered ++ client ∷ []) u.called (without client u.polled) (is_refused u) =
-    stand_told (called_list (turn_of u) clients) c.turned c.answered u.called u.polled (is_refused u) client s.stand e in
-    let refusing : refuses (No why) (Some u.transition) c.off ≡ is_start (turn_of u) = ap (λ (b : Bool). is_start (turn_kind u.transition b)) s.off in
-    split (is_start (turn_of u)) (λ b. is_start (turn_of u) ≡ b → Keeps (answered_calling client (No why) (Some u.transition) c) clients (if b then refused_by client why u else told client Plain u))
-    (λ h g. record {
-      refusal = ap (λ (b : Bool). refusal_from b client (No why) c.refusal) (refusing ∙ g) ∙ (first_is c.refusal client why ∙ ap (λ (r : Option Refusal). Some (first_refusal r client why)) s.refusal);
-      off = s.off;
-      stand = subst (Stand (called_list (turn_of u) clients) c.turned (c.answered ++ client ∷ []) [] (without client u.polled))
-          (sym (ap (λ (b : Bool). not b && true) (start_not_off u.transition u.is_off g)))
-          (stand_dropped (called_list (turn_of u) clients) c.turned (c.answered ++ client ∷ []) u.called (without client u.polled) (is_refused u) after);
-    })
-    (λ h g. record {
-      refusal = ap (λ (b : Bool). refusal_from b client (No why) c.refusal) (refusing ∙ g) ∙ s.refusal;
-      off = s.off;
-      stand = after;
-    })
-    refl
+module _ {R : Type 0} where
+  pub keeps_answered : (c : Calling) (clients : List Registered) (u : Underway R) (client : ℕ) (answer : ClientAnswer R) → Keeps c clients u → has_polled u client ≡ true
+      → Keeps (answered_calling client answer (Some u.transition) c) clients (answered_with client answer u)
+  keeps_answered c clients u client (Yes tally) s e = record {
+    refusal = s.refusal;
+    off = s.off;
+    stand = stand_told (called_list (turn_of u) clients) c.turned c.answered u.called u.polled (is_refused u) client s.stand e;
+  }
+  keeps_answered c clients u client (No why) s e =
+      let after : Stand (called_list (turn_of u) clients) c.turned (c.answered ++ client ∷ []) u.called (without client u.polled) (is_refused u) =
+      stand_told (called_list (turn_of u) clients) c.turned c.answered u.called u.polled (is_refused u) client s.stand e in
+      let refusing : refuses {R = R} (No why) (Some u.transition) c.off ≡ is_start (turn_of u) = ap (λ (b : Bool). is_start (turn_kind u.transition b)) s.off in
+      split (is_start (turn_of u)) (λ b. is_start (turn_of u) ≡ b → Keeps (answered_calling {R = R} client (No why) (Some u.transition) c) clients (if b then refused_by client why u else told client Plain u))
+      (λ h g. record {
+        refusal = ap (λ (b : Bool). refusal_from {R = R} b client (No why) c.refusal) (refusing ∙ g) ∙ (first_is R c.refusal client why ∙ ap (λ (r : Option Refusal). Some (first_refusal r client why)) s.refusal);
+        off = s.off;
+        stand = subst (Stand (called_list (turn_of u) clients) c.turned (c.answered ++ client ∷ []) [] (without client u.polled))
+            (sym (ap (λ (b : Bool). not b && true) (start_not_off u.transition u.is_off g)))
+            (stand_dropped (called_list (turn_of u) clients) c.turned (c.answered ++ client ∷ []) u.called (without client u.polled) (is_refused u) after);
+      })
+      (λ h g. record {
+        refusal = ap (λ (b : Bool). refusal_from {R = R} b client (No why) c.refusal) (refusing ∙ g) ∙ s.refusal;
+        off = s.off;
+        stand = after;
+      })
+      refl
 
 -- The calling off.
 
@@ -317,36 +315,37 @@ due_none None polled off e = absurd cc
 due_none (Some r) [] off e = refl
 due_none (Some r) (p ∷ ps) off e = absurd cc
 
-pub keeps_settled : (c : Calling) (clients : List Registered) (u : Underway) → Keeps c clients u → Keeps (off_opened c) clients (settled clients u)
-keeps_settled c clients u s =
-    let test : opens_off c ≡ is_due_off u.refusal u.polled u.is_off =
-    opens_is (called_list (turn_of u) clients) c.turned c.answered u.called u.polled (is_refused u) c.refusal c.off s.stand
-    ∙ (ap (λ (r : Option Refusal). is_due_off r u.polled c.off) s.refusal ∙ ap (is_due_off u.refusal u.polled) s.off) in
-    split (is_due_off u.refusal u.polled u.is_off)
-    (λ b. is_due_off u.refusal u.polled u.is_off ≡ b → Keeps (off_opened c) clients (if b then called_off clients u else u))
-    (λ h g.
-    let opened : Calling = record { refusal = c.refusal; off = true; turned = []; answered = [] } in
-    let is : off_opened c ≡ opened = ap (λ (b : Bool). if b then opened else c) (test ∙ g) in
-    subst (λ (x : Calling). Keeps x clients (called_off clients u)) (sym is) (record {
-      refusal = s.refusal;
-      off = refl;
-      stand = subst (λ (ps : List Called). Stand (called_list StartAbort clients) [] [] (called_list StartAbort clients) ps false)
-          (sym (due_none u.refusal u.polled u.is_off g)) (stand_begun StartAbort clients);
-    }))
-    (λ h g.
-    let is : off_opened c ≡ c = ap (λ (b : Bool). if b then record { refusal = c.refusal; off = true; turned = []; answered = [] } else c) (test ∙ g) in
-    subst (λ (x : Calling). Keeps x clients u) (sym is) s)
-    refl
+module _ {R : Type 0} where
+  pub keeps_settled : (c : Calling) (clients : List Registered) (u : Underway R) → Keeps c clients u → Keeps (off_opened c) clients (settled clients u)
+  keeps_settled c clients u s =
+      let test : opens_off c ≡ is_due_off u.refusal u.polled u.is_off =
+      opens_is (called_list (turn_of u) clients) c.turned c.answered u.called u.polled (is_refused u) c.refusal c.off s.stand
+      ∙ (ap (λ (r : Option Refusal). is_due_off r u.polled c.off) s.refusal ∙ ap (is_due_off u.refusal u.polled) s.off) in
+      split (is_due_off u.refusal u.polled u.is_off)
+      (λ b. is_due_off u.refusal u.polled u.is_off ≡ b → Keeps (off_opened c) clients (if b then called_off clients u else u))
+      (λ h g.
+      let opened : Calling = record { refusal = c.refusal; off = true; turned = []; answered = [] } in
+      let is : off_opened c ≡ opened = ap (λ (b : Bool). if b then opened else c) (test ∙ g) in
+      subst (λ (x : Calling). Keeps x clients (called_off clients u)) (sym is) (record {
+        refusal = s.refusal;
+        off = refl;
+        stand = subst (λ (ps : List Called). Stand (called_list StartAbort clients) [] [] (called_list StartAbort clients) ps false)
+            (sym (due_none u.refusal u.polled u.is_off g)) (stand_begun StartAbort clients);
+      }))
+      (λ h g.
+      let is : off_opened c ≡ c = ap (λ (b : Bool). if b then record { refusal = c.refusal; off = true; turned = []; answered = [] } else c) (test ∙ g) in
+      subst (λ (x : Calling). Keeps x clients u) (sym is) s)
+      refl
 
--- behind it start-abort is not due
-pub settled_not_due : (clients : List Registered) (u : Underway) → is_due_off (settled clients u).refusal (settled clients u).polled (settled clients u).is_off ≡ false
-settled_not_due clients u =
-    split (is_due_off u.refusal u.polled u.is_off)
-    (λ b. is_due_off u.refusal u.polled u.is_off ≡ b
-    → is_due_off (if b then called_off clients u else u).refusal (if b then called_off clients u else u).polled (if b then called_off clients u else u).is_off ≡ false)
-    (λ h g. off_not_due u.refusal u.polled) (λ h g. g) refl
-  where
-    off_not_due : (r : Option Refusal) (polled : List Called) → is_due_off r polled true ≡ false
-    off_not_due None polled = refl
-    off_not_due (Some r) [] = refl
-    off_not_due (Some r) (p ∷ ps) = refl
+  -- behind it start-abort is not due
+  pub settled_not_due : (clients : List Registered) (u : Underway R) → is_due_off (settled clients u).refusal (settled clients u).polled (settled clients u).is_off ≡ false
+  settled_not_due clients u =
+      split (is_due_off u.refusal u.polled u.is_off)
+      (λ b. is_due_off u.refusal u.polled u.is_off ≡ b
+      → is_due_off (if b then called_off clients u else u).refusal (if b then called_off clients u else u).polled (if b then called_off clients u else u).is_off ≡ false)
+      (λ h g. off_not_due u.refusal u.polled) (λ h g. g) refl
+    where
+      off_not_due : (r : Option Refusal) (polled : List Called) → is_due_off r polled true ≡ false
+      off_not_due None polled = refl
+      off_not_due (Some r) [] = refl
+      off_not_due (Some r) (p ∷ ps) = refl

@@ -1,5 +1,5 @@
 -- What the law of turns rules out.
-use Rattle.std.proofs.Common.{◌≡◌, ℕ, ◌<◌, ◌≤◌, true, false, eqb, List, [], ◌∷◌, ◌++◌, length, Some, None, refl, ap, sym, ◌∙◌, arith, inl, inr}
+use Rattle.std.proofs.Common.{◌≡◌, ℕ, ◌<◌, ◌≤◌, true, false, eqb, List, [], ◌∷◌, ◌++◌, length, Option, Some, None, refl, ap, sym, ◌∙◌, arith, inl, inr}
 use Rattle.std.specs.Prelude.{Ok, Err, ◌⊎◌}
 use Rattle.std.specs.List.{AllByRecursion}
 use Rattle.std.proofs.lemmas.Bool.{eqb-false}
@@ -9,7 +9,6 @@ use Rattle.daq_types.specs.declared.runs.StartOutcome.{StartOutcome}
 use Rattle.daq_types.specs.declared.runs.StartOutcome.TheVariants.{Completed, Refused}
 use Rattle.daq_types.specs.declared.runs.Why.TheVariants.{NotReady}
 use Rattle.event.specs.Events.{record_limit}
-use Rattle.event_report.specs.Reports.{Totals, report_of}
 use Rattle.transitions.specs.declared.replies.BeginRefusal.TheVariants.{WrongState}
 use Rattle.transitions.specs.declared.replies.Polled.TheVariants.{Idle}
 use Rattle.transitions.specs.declared.replies.Progress.TheVariants.{Done}
@@ -21,21 +20,21 @@ use Rattle.transitions.specs.EngineHistories.{IsLegalEngine, IsSheet}
 use Rattle.transitions.specs.declared.called.Called.{Called}
 use Rattle.transitions.specs.CalledOrder.{IsCalledIn}
 use Rattle.transitions.specs.EnginePoints.{is_among}
-use Rattle.transitions.specs.TurnOrder.{IsReached, TurnsInOrder}
-use Rattle.transitions.specs.EngineSamples.{sheet_with, turn_for, plain, with_dump, refused_by_second, out_of_order, before_the_answer, after_the_refusal, dump_given, both_answered, started, with_blank, blank_given, called_off, joins, dump_waits, called_off_by, stop_answered_no, yes_by, refused_in_group, before_the_group, one_refused, two_refused, refused_twice, one_turned}
+use Rattle.transitions.specs.TurnOrder.{IsClientReached, TurnsInOrder}
+use Rattle.transitions.specs.EngineSamples.{is_none, sheet_with, turn_for, plain, with_dump, refused_by_second, out_of_order, before_the_answer, after_the_refusal, dump_given, both_answered, started, with_blank, blank_given, abort_answered, joins, dump_waits, called_off_by, stop_answered_no, yes_by, refused_in_group, before_the_group, one_refused, two_refused, refused_twice, one_turned}
 
-bare : IsSheet (sheet_with None)
+bare : IsSheet is_none (sheet_with None)
 bare = record { short = λ bytes e. absurd cc; blank = tt }
 
-pub refused_is_legal : IsLegalEngine engine_opening refused_by_second
+pub refused_is_legal : IsLegalEngine is_none engine_opening refused_by_second
 unfolding called_list
 refused_is_legal =
     (refl, refl, (refl, refl, ((refl, bare), refl, (tt, refl, (tt, refl, (tt, refl, (tt, refl, (tt, refl, (tt, refl, (tt, refl, (tt, refl, (refl, (refl, refl), tt))))))))))))
 
-pub stop_is_legal : IsLegalEngine engine_opening stop_answered_no
+pub stop_is_legal : IsLegalEngine is_none engine_opening stop_answered_no
 unfolding called_list
 stop_is_legal =
-    let given : IsSheet (record { run = 1; time = 1000; quota = 0; dump = Some (7 ∷ []); blanks = report_of [] ∷ [] }) =
+    let given : IsSheet is_none (record { run = 1; time = 1000; quota = 0; dump = Some (7 ∷ []); blanks = 0 ∷ [] }) =
     record { short = λ bytes e. seven_short bytes e; blank = (refl, tt) } in
     (refl, refl, ((refl, given), refl, (tt, refl, (tt, refl, (refl, (refl, refl), ((refl, bare), refl, (tt, refl, (tt, refl, (refl, (refl, refl), tt)))))))))
   where
@@ -44,12 +43,12 @@ stop_is_legal =
         let same : 7 ∷ [] ≡ bytes = cc in
         omega (arith, sym (ap length same))
 
-pub group_is_legal : IsLegalEngine engine_opening refused_in_group
+pub group_is_legal : IsLegalEngine is_none engine_opening refused_in_group
 unfolding called_list
 group_is_legal =
     (refl, refl, (refl, refl, (refl, refl, ((refl, bare), refl, (tt, refl, (tt, refl, (tt, refl, (tt, refl, (tt, refl, (tt, refl, (tt, refl, (tt, refl, (tt, refl, (tt, refl, (tt, refl, (tt, refl, (tt, refl, (tt, refl, (tt, refl, (refl, (refl, refl), tt))))))))))))))))))))
 
-pub twice_is_legal : IsLegalEngine engine_opening refused_twice
+pub twice_is_legal : IsLegalEngine is_none engine_opening refused_twice
 unfolding called_list
 twice_is_legal =
     (refl, refl, (refl, refl, (refl, refl, ((refl, bare), refl, (tt, refl, (tt, refl, (tt, refl, (tt, refl, (tt, refl, (tt, refl, (tt, refl, (tt, refl, (tt, refl, (tt, refl, (refl, (refl, refl), tt)))))))))))))))
@@ -63,7 +62,7 @@ all_behind q one (c ∷ cs) all (inl e) =
     omega (arith, less, same)
 all_behind q one (c ∷ cs) all (inr h) = all_behind q one cs all.1 h
 
-first_answered : (a : Called) (cs : List Called) (answered : List ℕ) (client : ℕ) → AllByRecursion (λ (c : Called). a.sequence < c.sequence) cs → eqb a.client client ≡ false → IsReached (a ∷ cs) answered client → is_among a.client answered ≡ true
+first_answered : (a : Called) (cs : List Called) (answered : List ℕ) (client : ℕ) → AllByRecursion (λ (c : Called). a.sequence < c.sequence) cs → eqb a.client client ≡ false → IsClientReached (a ∷ cs) answered client → is_among a.client answered ≡ true
 first_answered a cs answered client all ne reached = by reached.group.among
   where
     by : (reached.one ≡ a) ⊎ IsCalledIn reached.one cs → is_among a.client answered ≡ true
@@ -73,7 +72,7 @@ first_answered a cs answered client all ne reached = by reached.group.among
 abbrev called_as : (client sequence : ℕ) → Called
 called_as client sequence = record { client = client; sequence = sequence }
 
-first_client : List ClientTally → ℕ
+first_client : List (ClientTally ℕ) → ℕ
 first_client [] = 9
 first_client (t ∷ ts) = t.client
 
@@ -100,7 +99,7 @@ never_after_the_refusal law =
 pub never_dump_twice : TurnsInOrder (dump_given ++ with_dump 1 ∷ []) → ⊥
 never_dump_twice law =
     let right = law.right dump_given [] 1 (with_dump 1).1 refl in
-    let same : Some (7 ∷ []) ≡ None = right.dump_is in
+    let same : ◌≡◌ {A = Option (List ℕ)} (Some (7 ∷ [])) None = right.dump_is in
     absurd cc
 
 pub never_done_before_all : TurnsInOrder (before_the_answer ++ (0, Check (Done Completed) []) ∷ []) → ⊥
@@ -129,15 +128,15 @@ never_number_twice law =
     let same : 1 ≡ 2 = right.number in
     absurd (omega (arith, same))
 
-pub never_blank_twice : (blank : Totals) → TurnsInOrder (blank_given blank ++ with_blank blank ∷ []) → ⊥
+pub never_blank_twice : (blank : ℕ) → TurnsInOrder (blank_given blank ++ with_blank blank ∷ []) → ⊥
 never_blank_twice blank law =
     let right = law.right (blank_given blank) [] 0 (with_blank blank).1 refl in
     let same : Some blank ≡ None = right.blank_is in
     absurd cc
 
-pub never_completed : TurnsInOrder (called_off ++ (0, Check (Done Completed) (plain 0 ∷ plain 1 ∷ [])) ∷ []) → ⊥
+pub never_completed : TurnsInOrder (abort_answered ++ (0, Check (Done Completed) (plain 0 ∷ plain 1 ∷ [])) ∷ []) → ⊥
 never_completed law =
-    let right = law.right called_off [] 0 (Check (Done Completed) (plain 0 ∷ plain 1 ∷ [])) refl in
+    let right = law.right abort_answered [] 0 (Check (Done Completed) (plain 0 ∷ plain 1 ∷ [])) refl in
     let same : Completed ≡ Refused 0 NotReady = right.outcome_is in
     absurd cc
 
@@ -157,23 +156,23 @@ refuser_in : StartOutcome → ℕ
 refuser_in Completed = 9
 refuser_in (Refused client why) = client
 
-pub never_other_named : TurnsInOrder (called_off ++ called_off_by 1 (plain 0 ∷ plain 1 ∷ []) ∷ []) → ⊥
+pub never_other_named : TurnsInOrder (abort_answered ++ called_off_by 1 (plain 0 ∷ plain 1 ∷ []) ∷ []) → ⊥
 unfolding refuser_in
 never_other_named law =
-    let right = law.right called_off [] 0 (called_off_by 1 (plain 0 ∷ plain 1 ∷ [])).1 refl in
+    let right = law.right abort_answered [] 0 (called_off_by 1 (plain 0 ∷ plain 1 ∷ [])).1 refl in
     let same : 1 ≡ 0 = ap refuser_in right.outcome_is in
     absurd (omega (arith, same))
 
-pub never_refusal_told : TurnsInOrder (called_off ++ called_off_by 0 (plain 0 ∷ plain 0 ∷ plain 1 ∷ []) ∷ []) → ⊥
+pub never_refusal_told : TurnsInOrder (abort_answered ++ called_off_by 0 (plain 0 ∷ plain 0 ∷ plain 1 ∷ []) ∷ []) → ⊥
 never_refusal_told law =
-    let right = law.right called_off [] 0 (called_off_by 0 (plain 0 ∷ plain 0 ∷ plain 1 ∷ [])).1 refl in
+    let right = law.right abort_answered [] 0 (called_off_by 0 (plain 0 ∷ plain 0 ∷ plain 1 ∷ [])).1 refl in
     let count : 3 ≡ 2 = ap length right.tallies_is in
     absurd (omega (arith, count))
 
 pub never_dump_withheld : TurnsInOrder (dump_waits ++ turn_for 0 Start ∷ []) → ⊥
 never_dump_withheld law =
     let right = law.right dump_waits [] 0 (turn_for 0 Start).1 refl in
-    let same : None ≡ Some (7 ∷ []) = right.dump_is in
+    let same : ◌≡◌ {A = Option (List ℕ)} None (Some (7 ∷ [])) = right.dump_is in
     absurd cc
 
 pub never_pause_stopped : TurnsInOrder ((0, Begin Pause (sheet_with None) (Ok 0)) ∷ []) → ⊥

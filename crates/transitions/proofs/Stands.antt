@@ -4,11 +4,11 @@ use Rattle.std.specs.Prelude.{◌||◌, ◌&&◌, not, ◌⊎◌, if◌then◌el
 use Rattle.std.specs.List.{AllByRecursion}
 use Rattle.std.proofs.lemmas.Bool.{eqb-true, eqb-false, eq-eqb, ne_eqb, and_parts}
 use Rattle.transitions.specs.declared.called.Called.{Called}
-use Rattle.transitions.specs.Called.{clients_of}
+use Rattle.transitions.specs.Called.{called_numbers}
 use Rattle.transitions.specs.CalledOrder.{IsBefore, AreInOrder, IsCalledIn}
 use Rattle.transitions.specs.EngineCalls.{stands_in, stands_with, without}
 use Rattle.transitions.specs.EnginePoints.{is_among, are_among}
-use Rattle.transitions.specs.TurnOrder.{AreApart}
+use Rattle.transitions.specs.TurnOrder.{AreDistinct}
 use Rattle.transitions.proofs.Apart.{split}
 
 -- Truth values.
@@ -211,11 +211,11 @@ among_last n xs = among_push n n xs ∙ (ap (λ (b : Bool). is_among n xs || b) 
 pub among_longer : (n x : ℕ) (xs : List ℕ) → is_among n xs ≡ true → is_among n (xs ++ x ∷ []) ≡ true
 among_longer n x xs e = among_push n x xs ∙ ap (λ (b : Bool). b || eqb x n) e
 
-pub among_stands : (n : ℕ) (cs : List Called) → is_among n (clients_of cs) ≡ stands_in cs n
+pub among_stands : (n : ℕ) (cs : List Called) → is_among n (called_numbers cs) ≡ stands_in cs n
 among_stands n [] = refl
 among_stands n (c ∷ cs) = ap (λ (b : Bool). eqb c.client n || b) (among_stands n cs)
 
-pub apart_push : (n : ℕ) (xs : List ℕ) → is_among n xs ≡ false → AreApart xs → AreApart (xs ++ n ∷ [])
+pub apart_push : (n : ℕ) (xs : List ℕ) → is_among n xs ≡ false → AreDistinct xs → AreDistinct (xs ++ n ∷ [])
 apart_push n [] new apart = (refl, tt)
 apart_push n (x ∷ xs) new apart =
     let parts = neither (eqb x n) (is_among n xs) new in

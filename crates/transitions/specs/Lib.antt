@@ -2,6 +2,7 @@ pub mod States
 pub mod Sequences
 pub mod Limits
 pub mod Rooms
+pub mod Placing
 pub mod Called
 pub mod Engines
 pub mod EngineCalls
@@ -13,3 +14,4 @@ pub mod EngineSamples
 pub mod GivenTurns
 pub mod CalledOrder
 pub mod Marks
+pub mod EngineLaws

@@ -13,10 +13,10 @@ use crate::answers::{Answer, ClientTally, Tallies, Tally};
 use crate::called::{Called, call_clients};
 use crate::client::{ENGINE_CLIENTS, Registered};
 use crate::replies::{BeginRefusal, InProgress, NotYourTurn, Polled, Progress, RegisterRefusal};
+use crate::report::ClientReport;
 use crate::sheet::{Reports, Sheet};
 use crate::{Sequences, after, allowed};
 use daq_types::{Bytes, Name, NoMemory, Order, RunState, StartOutcome, Transition, Why};
-use event_report::Report;
 use std::alloc::Global;
 use std::marker::Model;
 use std::mem::swap;
@@ -39,27 +39,27 @@ pub struct Stage {
     off: bool,
 }
 
-/// The engine of run transitions. A transition in progress has its dump, its blank reports, the clients that were given no
+/// The engine of run transitions, of clients that make reports of this type. A transition in progress has its dump, its blank reports, the clients that were given no
 /// turn yet, those that have polled and not answered, and the tallies beside its stage. Only `new` takes memory.
 #[derive(Drop)]
-pub struct Engine {
+pub struct Engine<R: ClientReport + Drop> {
     closed: bool,
     state: RunState,
     start: u32,
     clients: Vec<Registered>,
     stage: Option<Stage>,
     dump: Option<Bytes>,
-    blanks: Reports,
+    blanks: Reports<R>,
     called: Vec<Called>,
     polled: Vec<Called>,
-    tallies: Tallies,
+    tallies: Tallies<R>,
 }
 
-impl Model for Engine {
+impl<R: ClientReport + Drop> Model for Engine<R> {
     ghost use Rattle.transitions.specs.Engines.{EngineState};
     ghost use Rattle.transitions.specs.EngineInside.{underway_of, IsEngine};
 
-    ghost Value = { EngineState };
+    ghost Value = { EngineState R };
 
     ghost view = { λ e. record {
       closed = e.closed;
@@ -70,7 +70,7 @@ impl Model for Engine {
     } };
 
     ghost invariant = { λ e.
-        IsEngine e.state e.clients e.stage e.dump e.blanks e.called e.polled e.tallies };
+        IsEngine R.is_blank e.state e.clients e.stage e.dump e.blanks e.called e.polled e.tallies };
 }
 
 /// The transition whose turns are given: a refused start is called off.
@@ -92,14 +92,14 @@ fn is_start(transition: Transition) -> bool
 }
 
 /// Whether this client is one of these.
-fn is_among(called: &[Called], client: u32) -> bool
+fn stands_in(called: &[Called], client: u32) -> bool
     ensures { result ≡ stands_in called.now client }
 {
     called.iter().any(|one| one.client == client)
 }
 
 /// Whether this client is one of these, with this sequence number.
-fn is_among_with(sequence: u32, called: &[Called], client: u32) -> bool
+fn stands_with(sequence: u32, called: &[Called], client: u32) -> bool
     ensures { result ≡ stands_with sequence called.now client }
 {
     called
@@ -198,8 +198,7 @@ fn find_client(clients: &[Registered], client: u32) -> Option<Registered>
 
 /// Whether a client that is given its turn is given a blank report.
 fn gets_blank(client: &Registered, stage: &Stage) -> bool
-    ensures { let turn = turn_kind stage.now.transition stage.now.off in
-        result ≡ (client.now.wants_report && is_start turn) }
+    ensures { result ≡ (client.now.wants_report && is_start (turn_kind stage.now.transition stage.now.off)) }
 {
     client.wants_report && is_start(find_turn(stage))
 }
@@ -213,16 +212,16 @@ fn give_dump(dump: &mut Option<Bytes>, due: bool) -> Option<Bytes>
 }
 
 /// A blank report, where one is due.
-fn give_blank(blanks: &mut Reports, due: bool) -> Option<Report>
+fn give_blank<R>(blanks: &mut Reports<R>, due: bool) -> Option<R>
     ensures given { result ≡ (if due then slice_get blanks.old 0 else None) }
     ensures left { blanks.new ≡ (if due then drop 1 blanks.old else blanks.old) }
 {
     if due { blanks.take_first() } else { None }
 }
 
-impl Engine {
+impl<R: ClientReport + Drop> Engine<R> {
     /// Stopped, start number 0, no client.
-    pub fn new(alloc: Global) -> Result<Engine, NoMemory>
+    pub fn new(alloc: Global) -> Result<Engine<R>, NoMemory>
         ensures { IfOk result (λ engine. engine ≡ engine_opening) }
     {
         Ok(Engine {
@@ -301,9 +300,9 @@ impl Engine {
     pub fn begin(
         &mut self,
         transition: Transition,
-        sheet: Sheet,
-    ) -> Result<u32, (BeginRefusal, Sheet)>
-        requires { IsSheet sheet }
+        sheet: Sheet<R>,
+    ) -> Result<u32, (BeginRefusal, Sheet<R>)>
+        requires { IsSheet R.is_blank sheet }
         ensures reply { without_return result ≡ begin_reply self.old transition }
         ensures state { self.new ≡
             engine_after self.old (Begin transition sheet (without_return result)) }
@@ -346,10 +345,10 @@ impl Engine {
     /// Whether this client has its turn: all clients of a group of equal sequence number have it at once, until each answers.
     /// The dump goes to the first client that wants it and is given its turn, once; a blank report goes to each client that
     /// wants one, with the first reply of its turn of a start. Takes no memory.
-    pub fn poll(&mut self, client: u32) -> Polled
+    pub fn poll(&mut self, client: u32) -> Polled<R>
         ensures reply { result ≡ poll_reply self.old client }
         ensures state { self.new ≡ engine_after self.old (Poll client result) }
-        ensures fair { IsFairTurn result }
+        ensures fair { IsFairTurn R.is_blank result }
     {
         let Some(wishes) = find_client(self.clients.as_slice(), client) else {
             return Polled::NoClient;
@@ -362,7 +361,7 @@ impl Engine {
         };
         let transition = find_turn(&stage);
         let order = stage.order;
-        if is_among(self.polled.as_slice(), client) {
+        if stands_in(self.polled.as_slice(), client) {
             return Polled::Turn {
                 transition,
                 order,
@@ -371,7 +370,7 @@ impl Engine {
             };
         }
         let sequence = find_group(self.polled.as_slice(), self.called.as_slice());
-        if !is_among_with(sequence, self.called.as_slice(), client) {
+        if !stands_with(sequence, self.called.as_slice(), client) {
             return Polled::Idle { state: self.state };
         }
         take_out(&mut self.called, client);
@@ -387,7 +386,7 @@ impl Engine {
     /// The client's answer to its turn, which it has polled; else the answer is handed back. A No to a start refuses it: no
     /// further client is given its turn of the start, and once each that was given it has answered, all clients are called
     /// for start-abort. The first No counts, and a No to anything else is a Yes. Takes no memory.
-    pub fn answer(&mut self, client: u32, answer: Answer) -> Result<(), (NotYourTurn, Answer)>
+    pub fn answer(&mut self, client: u32, answer: Answer<R>) -> Result<(), (NotYourTurn, Answer<R>)>
         ensures reply { without_return result ≡ answer_reply self.old client }
         ensures state { self.new ≡
             engine_after self.old (AnswerCall client answer (without_return result)) }
@@ -396,7 +395,7 @@ impl Engine {
         let Some(stage) = self.stage else {
             return Err((NotYourTurn, answer));
         };
-        if !is_among(self.polled.as_slice(), client) {
+        if !stands_in(self.polled.as_slice(), client) {
             return Err((NotYourTurn, answer));
         }
         match answer {
@@ -413,7 +412,7 @@ impl Engine {
     }
 
     /// The client's turn is answered with this tally.
-    fn tell(&mut self, client: u32, tally: Tally)
+    fn tell(&mut self, client: u32, tally: Tally<R>)
         requires { IsTrue (owes_answer self.old.underway client) }
         ensures { self.new ≡ after_answer_in self.old client (Yes tally) self.old.underway }
     {
@@ -468,7 +467,7 @@ impl Engine {
 
     /// How far the transition is. At the end of it the tallies move out, once, into a list that is empty, and so has room
     /// for all of them. Takes no memory.
-    pub fn check(&mut self, tallies: &mut Tallies) -> Progress
+    pub fn check(&mut self, tallies: &mut Tallies<R>) -> Progress
         requires { tallies.old ≡ [] }
         ensures reply { result ≡ check_reply self.old }
         ensures moved { tallies.new ≡ tallies_given self.old }

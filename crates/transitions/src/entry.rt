@@ -6,7 +6,7 @@ use daq_types::{Name, Transition};
 
 /// A call on the engine, with its arguments and its reply.
 #[derive(Drop)]
-pub enum EngineEntry {
+pub enum EngineEntry<R> {
     Register {
         name: Name,
         sequences: Sequences,
@@ -16,22 +16,22 @@ pub enum EngineEntry {
     },
     Begin {
         transition: Transition,
-        sheet: Sheet,
+        sheet: Sheet<R>,
         reply: Result<u32, BeginRefusal>,
     },
     Poll {
         client: u32,
-        reply: Polled,
+        reply: Polled<R>,
     },
     Answer {
         client: u32,
-        answer: Answer,
+        answer: Answer<R>,
         reply: Result<(), NotYourTurn>,
     },
     /// `tallies` are those that the call moved out.
     Check {
         reply: Progress,
-        tallies: Tallies,
+        tallies: Tallies<R>,
     },
     Close {
         reply: Result<(), InProgress>,

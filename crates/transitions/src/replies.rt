@@ -1,5 +1,4 @@
 use daq_types::{Bytes, Order, RunState, StartOutcome, Transition};
-use event_report::Report;
 
 /// Why a client was not registered.
 #[derive(Clone, Copy, Debug, PartialEq, Eq)]
@@ -25,13 +24,13 @@ pub enum BeginRefusal {
 
 /// What a client finds that asks whether it has its turn.
 #[derive(Drop)]
-pub enum Polled {
+pub enum Polled<R> {
     /// It has its turn of this transition and is to answer.
     Turn {
         transition: Transition,
         order: Order,
         dump: Option<Bytes>,
-        blank: Option<Report>,
+        blank: Option<R>,
     },
     Idle {
         state: RunState,

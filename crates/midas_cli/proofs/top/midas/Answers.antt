@@ -1,5 +1,6 @@
 use Rattle.std.proofs.Common.{inl}
 use Rattle.command_words.specs.declared.forms.Form.TheVariants.{Run, OnFiles, Generate}
+use Rattle.midas_cli.proofs.Calls.{called, never_usage}
 use Rattle.midas_cli.proofs.Forms.{no_form}
 use Rattle.midas_cli.proofs.top.midas.Goals as goal
 
@@ -14,6 +15,12 @@ returns-in-Ok-None-clause-generated g c = λ number is.
 pub returns-in-Ok-None-clause-ran : goal.returns-in-Ok-None-clause-ran
 returns-in-Ok-None-clause-ran g c = λ is.
     absurd (no_form c.in-Ok-None.field-0 c.in-Ok-None.field-0-is c.in-Ok-None.ensures.form (Run is.0, is.1))
+
+pub returns-in-Ok-Some-OnFiles-clause-usage : goal.returns-in-Ok-Some-OnFiles-clause-usage
+returns-in-Ok-Some-OnFiles-clause-usage g c =
+    let i = c.in-Ok-Some-OnFiles in
+    let call = called i.field-0 i.field-0-0 i.tool i.field-0-is i.field-0-0-is i.ensures.form in
+    (λ usage. absurd (never_usage _ (c.run_tool.ensures.ran i.tool call.0 call.1) usage), λ none. absurd (none (OnFiles i.tool, call)))
 
 pub returns-in-Ok-Some-Run-clause-ran : goal.returns-in-Ok-Some-Run-clause-ran
 returns-in-Ok-Some-Run-clause-ran g c = λ is. inl (c.run_script-end.result.0, c.from-cause.ensures, c.run_script-end.ensures.ran)

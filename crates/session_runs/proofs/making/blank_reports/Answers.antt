@@ -2,7 +2,7 @@ use Rattle.std.specs.Prelude.{◌++◌, ◌∷◌, [], ℕ, List}
 use Rattle.std.specs.List.{AllByRecursion}
 use Rattle.std.proofs.Common.{ap, sym, subst, ◌∙◌}
 use Rattle.event_report.specs.Reports.{Totals}
-use Rattle.transitions.specs.EngineHistories.{IsBlank}
+use Rattle.event_report.specs.Reports.{IsBlank}
 use Rattle.session_runs.specs.RunEntries.{blank_reports}
 use Rattle.session_runs.proofs.Lists.{all_blank, blanks_next}
 use Rattle.session_runs.proofs.making.blank_reports.Goals as goal

@@ -1,6 +1,6 @@
 use Rattle.std.specs.Prelude.{◌++◌, [], ◌∷◌, length}
 use Rattle.std.proofs.Common.{ap, ◌∙◌}
-use Rattle.transitions.specs.declared.entry.EngineEntry.{EngineEntry}
+use Rattle.member_model.specs.RunEngines.{EngineEntry}
 use Rattle.transitions.specs.declared.entry.EngineEntry.TheVariants.{Register}
 use Rattle.turn_lock.specs.Passes.{number_of, seen_by, own_entries}
 use Rattle.transition_lock.specs.SharedEngines.{first_engine}

@@ -1,7 +1,7 @@
 use Rattle.std.specs.Prelude.{◌≡◌, ◌≤◌, List, Option, None, IfNone, length}
 use Rattle.std.proofs.Common.{ap, sym, subst, ◌∙◌, arith}
 use Rattle.std.proofs.lemmas.List.{at_drop_all}
-use Rattle.transitions.specs.declared.answers.ClientTally.{ClientTally}
+use Rattle.member_model.specs.RunEngines.{ClientTally}
 use Rattle.session_runs.specs.declared.records.ReportTally.{ReportTally}
 use Rattle.session_runs.specs.ToldTallies.{report_told}
 use Rattle.session_runs.proofs.Lists.{no_report, report_found, report_further}

@@ -2,4 +2,4 @@ use Rattle.transitions.proofs.Marked.{answer_closes}
 use Rattle.transitions.proofs.laws.answer_closes.Goals as goal
 
 pub returns : goal.returns
-returns c = answer_closes
+returns g c = answer_closes g.R.ClientReport.is_blank

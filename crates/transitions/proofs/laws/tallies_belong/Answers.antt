@@ -2,4 +2,4 @@ use Rattle.transitions.proofs.Marked.{end_of}
 use Rattle.transitions.proofs.laws.tallies_belong.Goals as goal
 
 pub returns : goal.returns
-returns c = end_of
+returns g c = end_of g.R.ClientReport.is_blank

@@ -1,6 +1,6 @@
 use Rattle.std.specs.Prelude.{refl, List}
 use Rattle.std.proofs.Common.{ap}
-use Rattle.transitions.specs.declared.entry.EngineEntry.{EngineEntry}
+use Rattle.member_model.specs.RunEngines.{EngineEntry}
 use Rattle.member_model.specs.TurnCalls.{member_turns}
 use Rattle.daq_members.proofs.LoggerSeatLaws.{begun_mapped}
 use Rattle.daq_members.proofs.LoggerNames.{idle_names}

@@ -1,6 +1,6 @@
 use Rattle.std.proofs.Common.{◌≡◌, rules, subst}
 use Rattle.std.specs.Prelude.{Option, Some}
-use Rattle.transitions.specs.declared.answers.Answer.{Answer}
+use Rattle.member_model.specs.RunEngines.{Answer}
 use Rattle.member_model.specs.Turns.{latest_answered}
 use Rattle.front_ends.specs.Fronts.{finish_answer, run_finished}
 use Rattle.front_ends.specs.FrontKept.{FrontStands}

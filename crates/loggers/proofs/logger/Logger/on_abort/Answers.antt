@@ -1,5 +1,5 @@
 use Rattle.std.proofs.Common.{Some, map, ap, refl}
-use Rattle.transitions.specs.declared.answers.Answer.{Answer}
+use Rattle.member_model.specs.RunEngines.{Answer}
 use Rattle.loggers.specs.Turning.{buffers_begun, is_of_start}
 use Rattle.loggers.proofs.InTurns.{turns_as_many}
 use Rattle.loggers.proofs.TurnParts.{abort_taken, found_of, found_is}

@@ -1,6 +1,6 @@
 use Rattle.std.proofs.Common.{Some, ap, sym, refl}
 use Rattle.std.proofs.lemmas.List.{length-map}
-use Rattle.transitions.specs.declared.answers.Answer.{Answer}
+use Rattle.member_model.specs.RunEngines.{Answer}
 use Rattle.loggers.proofs.InTurns.{turns_as_many}
 use Rattle.loggers.proofs.TurnParts.{mark_taken}
 use Rattle.loggers.proofs.logger.Logger.on_pause.Goals as goal

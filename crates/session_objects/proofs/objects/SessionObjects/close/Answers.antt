@@ -1,7 +1,6 @@
 use Rattle.std.proofs.Common.{◌≡◌, ◌<◌, ℕ, List, length, subst, arith}
 use Rattle.turn_lock.specs.Closing.{history_of}
-use Rattle.transitions.specs.Engines.{EngineState}
-use Rattle.transitions.specs.EngineHistories.{IsLegalEngine}
+use Rattle.member_model.specs.RunEngines.{EngineState, IsLegalEngine}
 use Rattle.odb_tree.specs.Noting.{Watched}
 use Rattle.odb_watch.specs.declared.entry.WatchEntry.{WatchEntry}
 use Rattle.odb_watch.specs.Steps.{LeadsDatabase, unwatched}

@@ -1,6 +1,6 @@
 use Rattle.std.specs.Prelude.{◌≡◌, List, length}
 use Rattle.std.proofs.Common.{ap, subst, sym, ◌∙◌, ◌++◌}
-use Rattle.transitions.specs.declared.entry.EngineEntry.{EngineEntry}
+use Rattle.member_model.specs.RunEngines.{EngineEntry}
 use Rattle.turn_lock.specs.Passes.{own_entries}
 use Rattle.session_runs.specs.declared.opening.MemberName.{MemberName}
 use Rattle.session_runs.specs.MainKnowledge.{known_from}

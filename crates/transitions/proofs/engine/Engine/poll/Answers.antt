@@ -5,11 +5,11 @@ use Rattle.transitions.proofs.Stands.{with_stands, without_less}
 use Rattle.transitions.proofs.engine.Engine.poll.Goals as goal
 
 pub invariant_of-self : goal.invariant_of-self
-invariant_of-self c =
+invariant_of-self g c =
     let kept = c.self.invariant in
     let i = c.self.inside in
     let next : stands_with c.find_group-sequence.result i.called.items c.args.client ≡ true =
-    sym (c.if-not-is_among_with.ensures ∙ ap (λ (cs : List Called). stands_with c.find_group-sequence.result cs c.args.client) c.as_slice-5.ensures.value) in
+    sym (c.if-not-stands_with.ensures ∙ ap (λ (cs : List Called). stands_with c.find_group-sequence.result cs c.args.client) c.as_slice-5.ensures.value) in
     let left : length c.take_out.new.called.items ≡ length (without c.args.client i.called.items) = ap length c.take_out.ensures.left in
     let less : length (without c.args.client i.called.items) < length i.called.items = without_less c.args.client i.called.items (with_stands c.find_group-sequence.result i.called.items c.args.client next) in
     let more : length c.push_reserved.new.self.items ≡ length i.polled.items + 1 = ap length c.push_reserved.ensures.items ∙ length-append i.polled.items _ in

@@ -6,7 +6,7 @@ use Rattle.transitions.proofs.EngineKept.{never_unrefused, most_in}
 use Rattle.transitions.proofs.engine.Engine.refuse.Goals as goal
 
 pub invariant_of-self : goal.invariant_of-self
-invariant_of-self c =
+invariant_of-self g c =
     let kept = c.self.invariant in
     let i = c.self.inside in
     let left : length c.take_out.new.called.items ≡ length (without c.args.client i.polled.items) = ap length c.take_out.ensures.left in

@@ -13,7 +13,7 @@ use Rattle.transitions.proofs.engine.Engine.settle.Goals as goal
 use Rattle.transitions.proofs.engine.Engine.settle.Goals.{then-is_due, else-is_due}
 
 pub invariant_of-self : goal.invariant_of-self
-invariant_of-self c =
+invariant_of-self g c =
     let kept = c.self.invariant in
     let i = c.self.inside in
     let stage = c.in-Some.stage in
@@ -23,7 +23,7 @@ invariant_of-self c =
           sym (w.if-is_due.ensures ∙ ap (λ (ps : List Called). is_due_off stage.refusal ps stage.off) c.as_slice.ensures.value) in
           let nobody : length i.polled.items ≡ 0 = ap length (due_none stage.refusal i.polled.items stage.off due) in
           let before : most_at stage ≡ most_clients = ap (λ (off : _). if off then most_tallies else most_clients) (due_not_off stage.refusal i.polled.items stage.off due) in
-          subst (λ (x : Inside). IsEngine c.find_state-self-inside.result x.clients x.stage x.dump x.blanks x.called x.polled x.tallies) (sym w.self-inside-is) (record {
+          subst (λ (x : Inside _). IsEngine g.R.ClientReport.is_blank c.find_state-self-inside.result x.clients x.stage x.dump x.blanks x.called x.polled x.tallies) (sym w.self-inside-is) (record {
             clients_fit = kept.clients_fit;
             called_fit = w.call_clients.ensures.room;
             polled_fit = kept.polled_fit;
@@ -37,7 +37,7 @@ invariant_of-self c =
             blank = kept.blank;
           })
       | else-is_due w ↦
-          subst (λ (x : Inside). IsEngine c.find_state-self-inside.result x.clients x.stage x.dump x.blanks x.called x.polled x.tallies) (sym w.self-inside-is) (record {
+          subst (λ (x : Inside _). IsEngine g.R.ClientReport.is_blank c.find_state-self-inside.result x.clients x.stage x.dump x.blanks x.called x.polled x.tallies) (sym w.self-inside-is) (record {
             clients_fit = kept.clients_fit;
             called_fit = kept.called_fit;
             polled_fit = kept.polled_fit;
@@ -48,7 +48,7 @@ invariant_of-self c =
                 c.find_state-self-inside.ensures
                 ∙ (ap (λ (ps : List Called). state_with c.if-is_due.self-inside.state stage.transition stage.refusal (ps ++ c.as_slice-3.result.now)) c.as_slice-2.ensures.value
                 ∙ (ap (λ (cs : List Called). state_with c.if-is_due.self-inside.state stage.transition stage.refusal (c.if-is_due.self-inside.polled.items ++ cs)) c.as_slice-3.ensures.value
-                ∙ (ap (λ (x : Inside). state_with x.state stage.transition stage.refusal (x.polled.items ++ x.called.items)) w.self-inside-is
+                ∙ (ap (λ (x : Inside _). state_with x.state stage.transition stage.refusal (x.polled.items ++ x.called.items)) w.self-inside-is
                 ∙ open_state i.state stage.transition stage.refusal i.polled.items i.called.items more))) in
                 subst (λ (s : RunState). IsTrue (is_allowed s now.transition)) (sym state_is) (kept.allowed now e none more);
             short = kept.short;

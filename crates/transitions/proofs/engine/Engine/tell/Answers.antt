@@ -7,19 +7,19 @@ use Rattle.transitions.proofs.EngineKept.{owes_stands, tally_fits}
 use Rattle.transitions.proofs.engine.Engine.tell.Goals as goal
 
 pub push-requires : goal.push-requires
-push-requires c =
+push-requires g c =
     let kept = c.self.invariant in
     let i = c.self.inside in
     let owes : owes_answer (underway_of i.stage i.dump i.blanks i.called.items i.polled.items i.tallies) c.args.client ≡ true =
-    ap (λ (s : EngineState). owes_answer s.underway c.args.client) c.self.view_is ∙ c.requires in
+    ap (λ (s : EngineState _). owes_answer s.underway c.args.client) c.self.view_is ∙ c.requires in
     (omega arith, tally_fits i.stage i.dump i.blanks i.called.items i.polled.items i.tallies c.args.client owes kept.tallies_fit)
 
 pub invariant_of-self : goal.invariant_of-self
-invariant_of-self c =
+invariant_of-self g c =
     let kept = c.self.invariant in
     let i = c.self.inside in
     let owes : owes_answer (underway_of i.stage i.dump i.blanks i.called.items i.polled.items i.tallies) c.args.client ≡ true =
-    ap (λ (s : EngineState). owes_answer s.underway c.args.client) c.self.view_is ∙ c.requires in
+    ap (λ (s : EngineState _). owes_answer s.underway c.args.client) c.self.view_is ∙ c.requires in
     let stands : stands_in i.polled.items c.args.client ≡ true = owes_stands i.stage i.dump i.blanks i.called.items i.polled.items i.tallies c.args.client owes in
     let left : length c.take_out.new.called.items ≡ length (without c.args.client i.polled.items) = ap length c.take_out.ensures.left in
     let less : length (without c.args.client i.polled.items) < length i.polled.items = without_less c.args.client i.polled.items stands in
