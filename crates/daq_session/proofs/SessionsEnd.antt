@@ -256,7 +256,7 @@ module _ {D F K : Type 0} {g : _} (told : CrewTold Generator F K) (takes : told.
   numbers laws holds =
       let c : ClosedSession = session_told told final.declared kept.crew.logger.slots first_files run_files r in
       subst (λ (calls : List WatchEntry). AllByRecursion GivesNumber calls) main_calls.database
-      (calls_give laws.stays laws.given main_caller (unwatched session_rows) (history_of r.database) r.database.value.database histories.database
+      (calls_give laws.stays laws.unlinked laws.given main_caller (unwatched session_rows) (history_of r.database) r.database.value.database refl histories.database
       (session_spares laws.sets laws.listed c holds own main_calls.database kept.spares) laws.opens)
 
   channels : AreDeclared final.declared.channels kept.crew.logger.slots

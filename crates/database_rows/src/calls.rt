@@ -150,7 +150,7 @@ fn reply<D: Database>(alloc: Global, database: &mut D, path: &Path, call: Call) 
         Call::SetLong(index, len) => set_long(alloc, database, path, index, len),
         Call::SetAll(tid, len) => set_all(alloc, database, path, tid, len),
         Call::Get => items_in(database.get(alloc, path)),
-        Call::Find => database.find(path),
+        Call::Find => database.find(alloc, path),
         Call::List => children_in(database.list(alloc, path)),
         Call::Child(place, name) => child(alloc, database, path, place, name),
         Call::Delete => database.delete(path),

@@ -72,7 +72,7 @@ fn call_noted(
         Call::Set(index, tid, text) => set_by_member(alloc, database, path, index, tid, text),
         Call::SetAll(tid, len) => set_all(alloc, database, path, tid, len),
         Call::Get => items_in(database.get(alloc, main, path)),
-        Call::Find => database.find(main, path),
+        Call::Find => database.find(alloc, main, path),
         Call::List => children_in(database.list(alloc, main, path)),
         Call::Delete => database.delete(path),
         Call::Resize(len) => database.resize(alloc, path, len),

@@ -107,7 +107,7 @@ fn make_rows_and_close<R: Wait>(
     let (mut main, other) = two_passes(&shared, &mut passes);
     let replies = make_rows(&shared, rt, &mut main, alloc, path);
     let closed = close_two(shared, passes, main, other);
-    Ok((replies, closed.value.database.find(path).is_err()))
+    Ok((replies, closed.value.database.find(alloc, path).is_err()))
 }
 
 #[test]
@@ -173,7 +173,7 @@ fn call_by_ports<R: Wait>(
     let set = load_and_set(rt, alloc, main, &mut other, &path);
     let noted = take_notes(rt, alloc, &mut other);
     let saved = is_set(rt, alloc, main);
-    let found = main.find(rt, path);
+    let found = main.find(rt, alloc, path);
     (
         (set, noted) == ((Some(0), true, Ok(2)), Ok((Some(0), 3, true))),
         (saved, found, other.into_pass().number()) == (Ok(true), Ok(2), 1),
@@ -224,7 +224,7 @@ fn make_meet_and_find<R: Wait>(
     let kind = &NewKey::Dir;
     let made = shared.call(rt, &mut main, calls::Create { alloc, path, kind }, &mut ());
     meet_what_was_seen(&shared, &mut main, &mut other);
-    let found = shared.call(rt, &mut other, calls::Find { path }, &mut ());
+    let found = shared.call(rt, &mut other, calls::Find { alloc, path }, &mut ());
     Ok([made, found])
 }
 

@@ -1,5 +1,5 @@
 -- What is known where a call is not refused.
-use Rattle.std.proofs.Common.{◌≡◌, ℕ, ◌<◌, cond, List, [], ◌∷◌, length, Option, Some, None, refl, sym, ap, ◌∙◌, subst, arith}
+use Rattle.std.proofs.Common.{◌≡◌, ℕ, ◌<◌, false, cond, List, [], ◌∷◌, length, Option, Some, None, refl, sym, ap, ◌∙◌, subst, arith}
 use Rattle.std.specs.Option.{option_or, is_some}
 use Rattle.odb_value.specs.Paths.{IsPath}
 use Rattle.odb_value.specs.Values.{HeldValue, IsValue}
@@ -12,7 +12,7 @@ use Rattle.odb_tree.specs.Limits.{limit_fault}
 use Rattle.odb_tree.specs.Calls.{exists_fault, kept_fault, items_fault, create_fault, after_create, new_value, set_all_fault, value_fault, directory_fault}
 use Rattle.odb_tree.specs.Databases.{IsDatabase}
 use Rattle.odb_tree.proofs.Limited.{or_none_left, or_none_right}
-use Rattle.odb_tree.proofs.Sound.{database_created, database_made}
+use Rattle.odb_tree.proofs.Sound.{database_created, unlinked_key, database_made}
 use Rattle.odb_arena.specs.Growth.{CanMake}
 
 is_free : (rows : List Row) (p : List (List ℕ)) → exists_fault rows p ≡ None → (0 < length p) × (row_at rows p ≡ None)
@@ -24,17 +24,18 @@ is_free rows (name ∷ names) h = (omega arith, absent (row_at rows (name ∷ na
     absent (Some r) x k = absurd (cc)
 
 -- a row may be made where `create` is not refused
-pub can_create : (s : Rows) (p : List (List ℕ)) (kind : NewKey) (r : Option OdbRefusal) (value : Option HeldValue) → IsDatabase s → IsPath p → r ≡ create_fault s p kind → r ≡ None → value ≡ new_value kind
+pub can_create : (s : Rows) (p : List (List ℕ)) (kind : NewKey) (r : Option OdbRefusal) (value : Option HeldValue) → s.links ≡ false → IsDatabase s → IsPath p → r ≡ create_fault s p kind → r ≡ None
+    → value ≡ new_value kind
     → CanMake s p value
-can_create s p kind r value h path is none same =
+can_create s p kind r value unlinked h path is none same =
     let whole : create_fault s p kind ≡ None = sym is ∙ none in
-    let there : option_or (exists_fault s.rows p) (option_or (kept_fault kind) (limit_fault (items_fault kind) (after_create s p kind))) ≡ None = or_none_right (obstacle_to_new s.rows p) _ whole in
+    let there : option_or (exists_fault s.rows p) (option_or (kept_fault s.links kind) (limit_fault (items_fault kind) (after_create s p kind))) ≡ None = or_none_right (obstacle_to_new s.rows p) _ whole in
     let free = is_free s.rows p (or_none_left (exists_fault s.rows p) _ there) in
     subst (CanMake s p) (sym same) (record {
       some = free.0;
       clear = or_none_left (obstacle_to_new s.rows p) _ whole;
       free = free.1;
-      database = database_created s p kind r h path is none;
+      database = database_created s p kind r h path (unlinked_key s p kind r unlinked is none) is none;
     })
 
 named : (rows : List Row) (p : List (List ℕ)) → value_fault rows p ≡ None → 0 < length p

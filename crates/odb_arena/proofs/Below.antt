@@ -4,7 +4,7 @@ use Rattle.std.specs.List.{find, filter}
 use Rattle.std.specs.Option.{option_map, option_or, option_to_list}
 use Rattle.std.proofs.lemmas.Bool.Decides.{nat_tests}
 use Rattle.odb_tree.specs.declared.rows.Row.{Row}
-use Rattle.odb_tree.specs.Rows.{row_numbered}
+use Rattle.odb_tree.specs.Rows.{Rows, no_rows, row_numbered}
 use Rattle.odb_tree.specs.Calls.{path_with}
 use Rattle.odb_tree.proofs.WalkLaws.{filter_append, map_append}
 use Rattle.odb_arena.specs.Arena.{rows_below, path_at, IsNumbered}
@@ -142,3 +142,9 @@ unfolding rows_below
 below_none f zero h = refl
 below_none f (suc n) h =
     ap (λ (l : List Row). l ++ option_to_list (f n)) (below_none f n h) ∙ ap option_to_list (h n)
+
+-- the same rows, next number and flag make the same database
+pub same_whole : (xs ys : List Row) (n m : ℕ) (a b : Bool) → xs ≡ ys → n ≡ m → a ≡ b → record no_rows { rows = xs; next = n; links = a } ≡ (let s : Rows = record no_rows { rows = ys; next = m; links = b } in s)
+same_whole xs ys n m a b e f g =
+    let make : List Row → ℕ → Bool → Rows = (λ l k t. record no_rows { rows = l; next = k; links = t }) in
+    ap (λ (l : List Row). make l n a) e ∙ (ap (λ (k : ℕ). make ys k a) f ∙ ap (make ys m) g)

@@ -29,7 +29,7 @@ use Rattle.odb_tree.specs.declared.refusals.OdbRefusal.TheVariants.{NotDir}
 use Rattle.std.specs.Option.{option_to_list}
 use Rattle.odb_tree.specs.declared.children.Child.{Child}
 use Rattle.odb_arena.specs.Arena.{rows_below, all_rows, entries_in, IsArena}
-use Rattle.odb_arena.proofs.Below.{below_next}
+use Rattle.odb_arena.proofs.Below.{same_whole, below_next}
 use Rattle.odb_arena.proofs.Growing.{own_row, found_some, row_there, rising_least}
 use Rattle.odb_arena.proofs.Leading.{obstacle_is, no_dir, none_under, none_deep, more_some, rising_found, found_or, behind_none, path_found, any_last}
 
@@ -160,13 +160,15 @@ pub last_taken : (s s1 s2 : Rows) (number : ℕ) (last : IsLastRow s number) →
 last_taken s s1 s2 number last tree e f =
     let rows : s1.rows ≡ last.before.rows = ap (λ (x : Rows). x.rows) e ∙ last_gone s number last tree in
     let next : s1.next - 1 ≡ last.before.next = omega (arith, ap (λ (x : Rows). x.next) e, ap (λ (x : Rows). x.next) last.made) in
-    f ∙ (same_rows s1 s1.rows last.before.rows (s1.next - 1) last.before.next rows next ∙ sym (ap without_last last.made ∙ without_is last.before last.row))
+    let links : s1.links ≡ last.before.links = ap (λ (x : Rows). x.links) e ∙ ap (λ (x : Rows). x.links) last.made in
+    f ∙ (same_whole s1.rows last.before.rows (s1.next - 1) last.before.next s1.links last.before.links rows next links ∙ sym (ap without_last last.made ∙ without_is last.before last.row))
 
 pub taken_before : (s s1 : Rows) (number : ℕ) (last : IsLastRow s number) → IsTree s → s1 ≡ after_delete s last.row.path → IsDatabase (record s1 { next = s1.next - 1 })
 taken_before s s1 number last tree e =
     let rows : s1.rows ≡ last.before.rows = ap (λ (x : Rows). x.rows) e ∙ last_gone s number last tree in
     let next : s1.next - 1 ≡ last.before.next = omega (arith, ap (λ (x : Rows). x.next) e, ap (λ (x : Rows). x.next) last.made) in
-    subst IsDatabase (sym (same_rows s1 s1.rows last.before.rows (s1.next - 1) last.before.next rows next)) last.database
+    let links : s1.links ≡ last.before.links = ap (λ (x : Rows). x.links) e ∙ ap (λ (x : Rows). x.links) last.made in
+    subst IsDatabase (sym (same_whole s1.rows last.before.rows (s1.next - 1) last.before.next s1.links last.before.links rows next links)) last.database
 
 pub taken_next : (s s1 : Rows) (number : ℕ) (last : IsLastRow s number) → s1 ≡ after_delete s last.row.path → 1 ≤ s1.next
 taken_next s s1 number last e = omega (arith, ap (λ (x : Rows). x.next) e, ap (λ (x : Rows). x.next) last.made)
@@ -185,7 +187,7 @@ all_first P (x ∷ xs) ys h = All-cons P x xs (All-head P x (xs ++ ys) h) (all_f
 database_first : (s : Rows) (d : Row) (more : List Row) → IsDatabase s → AreNew s (d ∷ more) → IsDatabase (with_rows s (d ∷ more)) → IsDatabase (with_rows s (d ∷ []))
 database_first s d more h new all = record {
   tree = tree_more s d h.tree new.0;
-  rows = All-push IsRow s.rows d h.rows (all_second IsRow s.rows more d all.rows);
+  rows = All-push (IsRow s.links) s.rows d h.rows (all_second (IsRow s.links) s.rows more d all.rows);
   within = record {
     rows = omega (arith, all.within.rows, length-append s.rows (d ∷ []), length-append s.rows (d ∷ more));
     total = omega (arith, all.within.total, sum_by-append bytes_of_row s.rows (d ∷ []), sum_by-append bytes_of_row s.rows (d ∷ more), sum_by-cons bytes_of_row d [], sum_by-cons bytes_of_row d more);

@@ -258,7 +258,7 @@ arena_less row row' names names' next count bytes k0 at p u name r0 h here root 
         ∙ kept_listed row keys q (λ (r : Row). not (is_front r0.path r.path)) (rows_below row next) own
         (λ r o l. not_false (not (is_front r0.path r.path)) (λ f. none (subst (λ (x : Row). is_listed keys q x ≡ true) (it_goes r o f) l))))
 
-    is_name : (r : Row) (v : List (List ℕ)) (m : List ℕ) → IsRow r → r.path ≡ v ++ m ∷ [] → IsName m
+    is_name : (r : Row) (v : List (List ℕ)) (m : List ℕ) → IsRow false r → r.path ≡ v ++ m ∷ [] → IsName m
     is_name r v m h e = all_last IsName v m (subst (λ (x : List (List ℕ)). All IsName x) e h.path.names)
 
     not_not : (t : Bool) → not (not t) ≡ t
@@ -269,7 +269,7 @@ arena_less row row' names names' next count bytes k0 at p u name r0 h here root 
     there_at r o = row_there row names next count bytes r.number r h o
 
     name_is : IsName name
-    name_is = is_name r0 u name (row_has IsRow (rows_below row next) r0.path r0 h.database.rows (row_there row names next count bytes k0 r0 h here)) path
+    name_is = is_name r0 u name (row_has (IsRow false) (rows_below row next) r0.path r0 h.database.rows (row_there row names next count bytes k0 r0 h here)) path
 
     -- of what stands in the row's directory just that row has its name
     by_name : (keys : Bool) (q : List (List ℕ)) → p ≡ q → (r : Row) → row r.number ≡ Some r → is_listed keys q r ≡ true
@@ -281,7 +281,7 @@ arena_less row row' names names' next count bytes k0 at p u name r0 h here root 
         let sv : same_path v q ≡ true = child_parent q v m (subst (λ (x : List (List ℕ)). is_child q x ≡ true) placed.path (and_right (is_kind keys r) (is_child q r.path) l)) in
         let uq : same_path u q ≡ true = same_sym q u (subst (λ (x : List (List ℕ)). same_path x u ≡ true) e same) in
         let uv : same_path u v ≡ true = same_trans u q v uq (same_sym v q sv) in
-        let m_is : IsName m = is_name r v m (row_has IsRow (rows_below row next) r.path r h.database.rows (there_at r o)) placed.path in
+        let m_is : IsName m = is_name r v m (row_has (IsRow false) (rows_below row next) r.path r h.database.rows (there_at r o)) placed.path in
         ap (λ (x : List ℕ). pointwise nat_eq (folded name) (folded x)) (ap last_name placed.path ∙ last_push v m)
         ∙ (folded_same name m name_is m_is
         ∙ (ap (λ (t : Bool). t && same_name name m) (sym (same_front u v uv))

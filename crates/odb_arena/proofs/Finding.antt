@@ -145,12 +145,12 @@ none_row p [] h = refl
 none_row p (r ∷ rs) h = ap (λ (t : Bool). cond t (Some r) (row_at rs p)) h.0 ∙ none_row p rs h.1
 
 -- what stands under a name in a directory
-pub child_found : (rows : List Row) (p : List (List ℕ)) (n : List ℕ) → HaveLasts rows → All IsRow rows → AreApart rows → IsName n
+pub child_found : (links : Bool) (rows : List Row) (p : List (List ℕ)) (n : List ℕ) → HaveLasts rows → All (IsRow links) rows → AreApart rows → IsName n
     → child_in (folded n) (entries_in true rows p) (entries_in false rows p) ≡ option_map child_of (row_at rows (p ++ n ∷ []))
-child_found [] p n h are apart name = refl
-child_found (r ∷ rs) p n h are apart name =
+child_found links [] p n h are apart name = refl
+child_found links (r ∷ rs) p n h are apart name =
     let last = h.0 in
-    let named : All IsName (last.parent ++ last.name ∷ []) = subst (λ (q : List (List ℕ)). All IsName q) last.whole (All-head IsRow r rs are).path.names in
+    let named : All IsName (last.parent ++ last.name ∷ []) = subst (λ (q : List (List ℕ)). All IsName q) last.whole (All-head (IsRow links) r rs are).path.names in
     let is_name : IsName last.name = all_last IsName last.parent last.name named in
     let last_is : last_name r.path ≡ last.name = ap last_name last.whole ∙ last_push last.parent last.name in
     let w : pointwise nat_eq (folded n) (folded (last_name r.path)) ≡ same_name last.name n =
@@ -159,6 +159,6 @@ child_found (r ∷ rs) p n h are apart name =
     ap (λ (q : List (List ℕ)). same_path q (p ++ n ∷ [])) last.whole
     ∙ (at_child p last.parent last.name n ∙ ap (λ (q : List (List ℕ)). is_child p q && same_name last.name n) (sym last.whole)) in
     step (folded n) (is_child p r.path) (is_key r) (same_name last.name n) r (filter (is_listed true p) rs) (filter (is_listed false p) rs) (row_at rs (p ++ n ∷ [])) w
-    (child_found rs p n h.1 (All-tail IsRow r rs are) apart.1 name)
+    (child_found links rs p n h.1 (All-tail (IsRow links) r rs are) apart.1 name)
     (λ e. none_row (p ++ n ∷ []) rs (none_same r.path (p ++ n ∷ []) rs (at ∙ e) apart.0))
     ∙ ap (λ (t : Bool). option_map child_of (cond t (Some r) (row_at rs (p ++ n ∷ [])))) (sym at)

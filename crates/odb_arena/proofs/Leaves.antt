@@ -10,7 +10,7 @@ use Rattle.odb_value.specs.Paths.{is_front, same_path, depth_limit}
 use Rattle.odb_tree.specs.declared.rows.Row.{Row}
 use Rattle.odb_tree.specs.declared.children.Child.{Child}
 use Rattle.odb_tree.specs.declared.refusals.OdbRefusal.{OdbRefusal}
-use Rattle.odb_tree.specs.Rows.{Rows, no_rows, row_at, row_numbered, rows_outside, is_key, is_kind, is_child, is_listed}
+use Rattle.odb_tree.specs.Rows.{Rows, row_at, row_numbered, rows_outside, is_key, is_kind, is_child, is_listed}
 use Rattle.odb_tree.specs.Lookups.{obstacle_to, found_row, seek, not_there, absent_fault}
 use Rattle.odb_tree.specs.Calls.{path_with, child_of, after_delete, count_gone, delete_reply, find_reply, number_reply, reply_or}
 use Rattle.odb_tree.specs.Trees.{IsDir, ArePlaced, AreRising, IsTree}
@@ -23,7 +23,7 @@ use Rattle.odb_arena.specs.Arena.{row_of, names_at, path_at, entries_in}
 use Rattle.odb_arena.specs.Inside.{rows_of, IsWholeArena}
 use Rattle.odb_arena.specs.Growth.{IsLeaf}
 use Rattle.odb_arena.specs.Leaves.{HasPath, StandsIn, IsWayDown, IsLeafBelow, AreRemoved}
-use Rattle.odb_arena.proofs.Below.{number_is, lt_or_le}
+use Rattle.odb_arena.proofs.Below.{same_whole, number_is, lt_or_le}
 use Rattle.odb_arena.proofs.Finding.{iff}
 use Rattle.odb_arena.proofs.Leading.{found_or, path_found, found_passes}
 use Rattle.odb_arena.proofs.Growing.{some_is, one_number, path_there}
@@ -166,9 +166,9 @@ above_all q before (r ∷ rs) h none above = (first, above_all q (before ++ r �
     first f = elim (lt_or_le (length h.0.parent) (length q)) [ inl w ↦ omega (arith, w, long) | inr w ↦ deeper f w ]
 
 -- nor is anything below the longest paths
-above_deep : (q : List (List ℕ)) (rows : List Row) → All IsRow rows → depth_limit ≤ length q → AreAbove q rows
-above_deep q [] are l = tt
-above_deep q (r ∷ rs) are l = (λ f. omega (arith, (All-head IsRow r rs are).path.short, l), above_deep q rs (All-tail IsRow r rs are) l)
+above_deep : (links : Bool) (q : List (List ℕ)) (rows : List Row) → All (IsRow links) rows → depth_limit ≤ length q → AreAbove q rows
+above_deep links q [] are l = tt
+above_deep links q (r ∷ rs) are l = (λ f. omega (arith, (All-head (IsRow links) r rs are).path.short, l), above_deep links q rs (All-tail (IsRow links) r rs are) l)
 
 above_found : (q : List (List ℕ)) (rows : List Row) (k : ℕ) (r : Row) → AreAbove q rows → row_numbered rows k ≡ Some r → is_front q r.path ≡ true → length r.path ≤ length q
 above_found q [] k r h e f = absurd (cc)
@@ -226,7 +226,7 @@ way_stops t s p depth at h is way none =
 -- a path cannot be longer
 pub way_deepest : (t : Inside) (s : Rows) (p : List (List ℕ)) (depth at : ℕ) → IsWholeArena t → rows_of t ≡ s → depth_limit ≤ depth → IsWayDown s p depth at → IsLeafBelow s p at
 way_deepest t s p depth at h is l way =
-    way_ends t s p depth at h is way (above_deep way.path s.rows (subst IsDatabase is h.database).rows (omega (arith, way.long, l)))
+    way_ends t s p depth at h is way (above_deep s.links way.path s.rows (subst IsDatabase is h.database).rows (omega (arith, way.long, l)))
 
 -- one row after the other is removed
 
@@ -298,7 +298,7 @@ outside_twice (r ∷ rs) p q h = cases (is_front q r.path) (is_front p r.path) r
         ap (λ (v : Bool). cond (not v) (r ∷ rows_outside (rows_outside rs q) p) (rows_outside (rows_outside rs q) p)) f ∙ ap (λ (l : List Row). r ∷ l) ih
 
 pub removal_begins : (s : Rows) (number : ℕ) → HasPath s number → AreRemoved s s number 0
-removal_begins s number h = record { path = h.0; was = h.1; there = h.1; left = refl; next = refl; fewer = omega arith }
+removal_begins s number h = record { path = h.0; was = h.1; there = h.1; left = refl; next = refl; links = refl; fewer = omega arith }
 
 -- the rows without a leaf
 without_leaf : (s s' : Rows) (p : List (List ℕ)) (n : ℕ) (leaf : IsLeafBelow s p n) → (n ≡ 0 → ⊥) → ((r : Row) → row_numbered s.rows n ≡ Some r → s' ≡ after_delete s r.path) → s' ≡ after_delete s leaf.path
@@ -314,6 +314,7 @@ removal_goes_on old s s' number gone n done leaf some other h = record {
   there = ap (λ (x : Rows). path_with x.rows number) cut ∙ still (eqb number 0) refl;
   left = ap (λ (x : Rows). rows_outside x.rows done.path) cut ∙ (outside_twice s.rows done.path leaf.path leaf.below ∙ done.left);
   next = ap (λ (x : Rows). x.next) cut ∙ done.next;
+  links = ap (λ (x : Rows). x.links) cut ∙ done.links;
   fewer = omega (arith, done.fewer, ap (λ (x : Rows). length x.rows) cut, one_fewer (λ (r : Row). not (is_front leaf.path r.path)) s.rows n row.0 row.1 goes);
 }
   where
@@ -340,13 +341,10 @@ removal_goes_on old s s' number gone n done leaf some other h = record {
         ∙ (ap (option_map (λ (r : Row). r.path)) (stays_numbered (λ (r : Row). not (is_front leaf.path r.path)) s.rows number top.0 top.1 (ap not apart))
         ∙ ap (λ (q : List (List ℕ)). Some q) top.2)
 
-same_whole : (xs ys : List Row) (n m : ℕ) → xs ≡ ys → n ≡ m → record no_rows { rows = xs; next = n } ≡ (let s : Rows = record no_rows { rows = ys; next = m } in s)
-same_whole xs ys n m e f = let make : List Row → ℕ → Rows = (λ l k. record no_rows { rows = l; next = k }) in ap (λ (l : List Row). make l n) e ∙ ap (make ys) f
-
 -- no rows are left
 removal_empty : (old s : Rows) (number gone : ℕ) (done : AreRemoved old s number gone) → s.rows ≡ [] → s ≡ after_delete old done.path
 removal_empty old s number gone done none =
-    same_whole s.rows (rows_outside old.rows done.path) s.next old.next (none ∙ (sym (ap (λ (l : List Row). rows_outside l done.path) none) ∙ done.left)) done.next
+    same_whole s.rows (rows_outside old.rows done.path) s.next old.next s.links old.links (none ∙ (sym (ap (λ (l : List Row). rows_outside l done.path) none) ∙ done.left)) done.next done.links
 
 path_is_top : (old s : Rows) (number gone : ℕ) (p : List (List ℕ)) (done : AreRemoved old s number gone) → path_with old.rows number ≡ Some p → done.path ≡ p
 path_is_top old s number gone p done e = some_is done.path p (sym done.was ∙ e)
@@ -370,7 +368,7 @@ removal_of_top old s s' number gone n p done leaf some e h is =
     let same : leaf.path ≡ done.path = some_is leaf.path done.path (sym leaf.there ∙ (ap (path_with s.rows) e ∙ done.there)) in
     without_leaf s s' done.path n leaf some h
     ∙ (ap (after_delete s) same
-    ∙ (same_whole (rows_outside s.rows done.path) (rows_outside old.rows done.path) s.next old.next done.left done.next ∙ ap (after_delete old) (path_is_top old s number gone p done is)))
+    ∙ (same_whole (rows_outside s.rows done.path) (rows_outside old.rows done.path) s.next old.next s.links old.links done.left done.next done.links ∙ ap (after_delete old) (path_is_top old s number gone p done is)))
 
 -- `delete`, from what `find` replies
 

@@ -4,6 +4,7 @@ pub mod Below
 pub mod Finding
 pub mod Whole
 pub mod Leading
+pub mod Walking
 pub mod Growing
 pub mod Cutting
 pub mod Steps

@@ -83,7 +83,7 @@ new_path s at name value can = ap (λ (o : Option (List (List ℕ))). unwrap_or 
 
 new_name : (s : Rows) (at : ℕ) (name : List ℕ) (value : Option HeldValue) → CanAdd s at name value → IsName name
 new_name s at name value can =
-    all_last IsName (dir_path s at) name (all_last IsRow s.rows (row_in_dir s at name value) can.database.rows).path.names
+    all_last IsName (dir_path s at) name (all_last (IsRow s.links) s.rows (row_in_dir s at name value) can.database.rows).path.names
 
 -- where a row may be made the name is free
 pub free_under : (t : Inside) (s : Rows) (at : ℕ) (name : List ℕ) (value : Option HeldValue) (es : List (ℕ × Node)) → IsWholeArena t → rows_of t ≡ s → CanAdd s at name value → es ≡ t.nodes.entries
@@ -202,7 +202,7 @@ leaf_path t s number leaf h is =
 database_outside : (s : Rows) (p : List (List ℕ)) → IsDatabase s → IsDatabase (after_delete s p)
 database_outside s p h = record {
   tree = tree_outside s p h.tree;
-  rows = All-filter (λ (r : Row). not (is_front p r.path)) IsRow s.rows h.rows;
+  rows = All-filter (λ (r : Row). not (is_front p r.path)) (IsRow s.links) s.rows h.rows;
   within = outside_within s p (rows_outside s.rows p) refl h.within;
 }
 

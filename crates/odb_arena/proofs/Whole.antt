@@ -51,7 +51,7 @@ child_is row names next count bytes at p n h name e =
     let there : path_at row at ≡ Some p = sym (path_is row next at h.numbered) ∙ e in
     ap (λ (o : Option (List (List ℕ × Child))). child_in (folded n) (unwrap_or o []) (unwrap_or (names false at) [])) (h.named true at p there)
     ∙ (ap (λ (o : Option (List (List ℕ × Child))). child_in (folded n) (entries_in true (rows_below row next) p) (unwrap_or o [])) (h.named false at p there)
-    ∙ child_found (rows_below row next) p n (lasts [] (rows_below row next) h.database.tree.placed) h.database.rows h.database.tree.apart name)
+    ∙ child_found false (rows_below row next) p n (lasts [] (rows_below row next) h.database.tree.placed) h.database.rows h.database.tree.apart name)
 
 -- the row of what stands there
 pub row_is : (t : Inside) (s : Rows) (q : List (List ℕ)) (x : Child) → IsWholeArena t → rows_of t ≡ s → Some x ≡ option_map child_of (row_at s.rows q) → row_of t.nodes.entries x.row ≡ row_at s.rows q

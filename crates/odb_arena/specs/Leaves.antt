@@ -38,4 +38,5 @@ pub record AreRemoved (old s : Rows) (number gone : ℕ) : Type 0 where
   pub there : path_with s.rows number ≡ Some path
   pub left : rows_outside s.rows path ≡ rows_outside old.rows path
   pub next : s.next ≡ old.next
+  pub links : s.links ≡ old.links
   pub fewer : length s.rows + gone ≤ length old.rows

@@ -1,14 +1,17 @@
-ghost use Rattle.std.specs.Prelude.{◌≡◌, ◌<◌, ◌≤◌, ◌+◌, ◌-◌, ◌^◌, Option, ◌∷◌, ◌++◌, [], List, ℕ, length, Some, None, Ok, Err, IfOk, IfErr, IfSome, OnOk, OnErr};
+ghost use Rattle.std.specs.Prelude.{◌≡◌, ◌≢◌, ◌<◌, ◌≤◌, ◌+◌, ◌-◌, ◌^◌, Option, ◌∷◌, ◌++◌, [], List, ℕ, length, Some, None, Ok, Err, IfOk, IfErr, IfSome, OnOk, OnErr};
 ghost use Rattle.std.specs.Option.{option_map, option_or, option_copied};
 ghost use Rattle.odb_value.specs.Paths.{depth_limit};
 ghost use Rattle.odb_tree.specs.declared.rows.Row.{Row};
 ghost use Rattle.odb_tree.specs.Rows.{no_rows, row_at, row_numbered, bytes_in, total_of};
 ghost use Rattle.odb_tree.specs.Lookups.{parent_of, obstacle_to_new, dir_fault, seek, seek_key};
 ghost use Rattle.odb_tree.specs.Making.{missing_from, new_number, created};
-ghost use Rattle.odb_tree.specs.Calls.{path_with, child_of, after_delete, after_resize, exists_fault, create_fault, set_fault, tid_fault, set_all_fault};
+ghost use Rattle.odb_tree.specs.declared.entry.DatabaseEntry.TheVariants.{Create, Set, SetAll, Get, Find, ListDir, Resize};
+ghost use Rattle.odb_tree.specs.Calls.{IsReplyThere, rows_there, path_with, child_of, after_delete, after_resize, exists_fault, create_fault, set_fault, tid_fault, set_all_fault};
 ghost use Rattle.odb_tree.specs.Changes.{IsKeyAt};
 ghost use Rattle.odb_tree.specs.Limits.{passed, len_fault, limit_fault};
-ghost use Rattle.odb_tree.specs.declared.refusals.OdbRefusal.TheVariants.{Limit};
+ghost use Rattle.odb_tree.specs.declared.refusals.OdbRefusal.TheVariants.{Limit, NoMemory as no_memory};
+ghost use Rattle.daq_types.specs.declared.types.Tid.{Tid};
+ghost use Rattle.odb_value.specs.Items.{tid_of};
 ghost use Rattle.odb_value.specs.Values.{HeldValue};
 ghost use Rattle.odb_tree.specs.Trees.{with_rows};
 ghost use Rattle.odb_arena.specs.Reaching.{IsReached};
@@ -473,6 +476,7 @@ impl ArenaTree {
         requires reached { IsReached self.now.rows (parent_of names.now) reached }
         ensures { result ≡ create_fault self.now names.now kind.now }
     {
+        let _ = &self.root;
         if let Some(refusal) = self.obstacle(names, reached) {
             return Some(refusal);
         }
@@ -554,14 +558,12 @@ impl ArenaTree {
         let bytes = bytes_with(len, value.size());
         self.change_fault(len_fault(len), bytes_of(value), bytes)
     }
-}
 
-impl Database for ArenaTree {
-    ghost rows = { λ s. s };
-
-    ghost watches = { λ _. [] };
-
-    fn create(&mut self, alloc: Global, path: &Path, kind: &NewKey) -> Result<u32, OdbRefusal> {
+    /// Makes a key or a directory at the path as it is.
+    fn create_there(&mut self, alloc: Global, path: &Path, kind: &NewKey) -> Result<u32, OdbRefusal>
+        ensures reply { IsReplyThere self.old (Create path.now kind.now result) }
+        ensures after { self.new ≡ rows_there self.old (Create path.now kind.now result) }
+    {
         let _ = &self.root;
         let names = path.names();
         let reached = self.reach_parent(names);
@@ -573,13 +575,18 @@ impl Database for ArenaTree {
         Ok(number)
     }
 
-    fn set(
+    /// Writes one item of the key at the path as it is.
+    fn set_there(
         &mut self,
         alloc: Global,
         path: &Path,
         index: u32,
         item: &Item,
-    ) -> Result<u32, OdbRefusal> {
+    ) -> Result<u32, OdbRefusal>
+        ensures reply { IsReplyThere self.old (Set path.now index item.now result) }
+        ensures memory { result ≡ Err no_memory → tid_of item.now ≡ Tid.Text }
+        ensures after { self.new ≡ rows_there self.old (Set path.now index item.now result) }
+    {
         let _ = &self.root;
         let names = path.names();
         let key = self.seek_key(names)?;
@@ -595,7 +602,16 @@ impl Database for ArenaTree {
         Ok(number)
     }
 
-    fn set_all(&mut self, alloc: Global, path: &Path, value: &Value) -> Result<u32, OdbRefusal> {
+    /// Replaces the value of the key at the path as it is, or makes the key with it.
+    fn set_all_there(
+        &mut self,
+        alloc: Global,
+        path: &Path,
+        value: &Value,
+    ) -> Result<u32, OdbRefusal>
+        ensures reply { IsReplyThere self.old (SetAll path.now value.now result) }
+        ensures after { self.new ≡ rows_there self.old (SetAll path.now value.now result) }
+    {
         let _ = &self.root;
         let names = path.names();
         let reached = self.reach_parent(names);
@@ -619,13 +635,21 @@ impl Database for ArenaTree {
         }
     }
 
-    fn get(&self, alloc: Global, path: &Path) -> Result<Value, OdbRefusal> {
+    /// The value of the key at the path as it is.
+    fn get_there(&self, alloc: Global, path: &Path) -> Result<Value, OdbRefusal>
+        ensures { IsReplyThere self.now (Get path.now result) }
+    {
         let key = self.seek_key(path.names())?;
         let value = key.value.try_clone(alloc)?;
         Ok(value)
     }
 
-    fn find(&self, path: &Path) -> Result<u32, OdbRefusal> {
+    /// The number of the row at the path as it is. Takes no memory.
+    fn find_there(&self, path: &Path) -> Result<u32, OdbRefusal>
+        ensures reply { IsReplyThere self.now (Find path.now result) }
+        ensures memory { result ≢ Err no_memory }
+        ensures database { IsDatabase self.now }
+    {
         let _ = &self.root;
         let names = path.names();
         if names.is_empty() {
@@ -635,7 +659,11 @@ impl Database for ArenaTree {
         Ok(row.number)
     }
 
-    fn list(&self, alloc: Global, path: &Path) -> Result<Children, OdbRefusal> {
+    /// What stands in the directory at the path as it is.
+    fn list_there(&self, alloc: Global, path: &Path) -> Result<Children, OdbRefusal>
+        ensures reply { IsReplyThere self.now (ListDir path.now result) }
+        ensures database { IsDatabase self.now }
+    {
         let _ = &self.root;
         let names = path.names();
         self.check_dir(names)?;
@@ -644,14 +672,11 @@ impl Database for ArenaTree {
         Ok(children)
     }
 
-    fn delete(&mut self, path: &Path) -> Result<u32, OdbRefusal> {
-        let number = self.find(path)?;
-        let before = self.len();
-        self.remove_below(number);
-        Ok((before - self.len()) as u32)
-    }
-
-    fn resize(&mut self, alloc: Global, path: &Path, len: u32) -> Result<u32, OdbRefusal> {
+    /// Gives the key at the path as it is so many items.
+    fn resize_there(&mut self, alloc: Global, path: &Path, len: u32) -> Result<u32, OdbRefusal>
+        ensures reply { IsReplyThere self.old (Resize path.now len result) }
+        ensures after { self.new ≡ rows_there self.old (Resize path.now len result) }
+    {
         let _ = &self.root;
         let names = path.names();
         let key = self.seek_key(names)?;
@@ -663,6 +688,88 @@ impl Database for ArenaTree {
         resize_in(&mut self.nodes, alloc, number, len)?;
         self.bytes = self.bytes - had + bytes_at(&self.nodes, number);
         Ok(number)
+    }
+}
+
+impl Database for ArenaTree {
+    ghost rows = { λ s. s };
+
+    ghost watches = { λ _. [] };
+
+    fn create(&mut self, alloc: Global, path: &Path, kind: &NewKey) -> Result<u32, OdbRefusal> {
+        let _ = &self.root;
+        self.create_there(alloc, path, kind)
+    }
+
+    fn set(
+        &mut self,
+        alloc: Global,
+        path: &Path,
+        index: u32,
+        item: &Item,
+    ) -> Result<u32, OdbRefusal> {
+        let _ = &self.root;
+        self.set_there(alloc, path, index, item)
+    }
+
+    fn set_all(&mut self, alloc: Global, path: &Path, value: &Value) -> Result<u32, OdbRefusal> {
+        let _ = &self.root;
+        self.set_all_there(alloc, path, value)
+    }
+
+    fn put(&mut self, alloc: Global, path: &Path, value: &Value) -> Result<u32, OdbRefusal> {
+        let _ = &self.root;
+        self.set_all_there(alloc, path, value)
+    }
+
+    fn get(&self, alloc: Global, path: &Path) -> Result<Value, OdbRefusal> {
+        let _ = &self.root;
+        self.get_there(alloc, path)
+    }
+
+    fn raw(&self, alloc: Global, path: &Path) -> Result<Value, OdbRefusal> {
+        self.get_there(alloc, path)
+    }
+
+    fn find(&self, _alloc: Global, path: &Path) -> Result<u32, OdbRefusal> {
+        let _ = &self.root;
+        self.find_there(path)
+    }
+
+    fn list(&self, alloc: Global, path: &Path) -> Result<Children, OdbRefusal> {
+        let _ = &self.root;
+        self.list_there(alloc, path)
+    }
+
+    fn delete(&mut self, path: &Path) -> Result<u32, OdbRefusal> {
+        let number = self.find_there(path)?;
+        let before = self.len();
+        self.remove_below(number);
+        Ok((before - self.len()) as u32)
+    }
+
+    fn resize(&mut self, alloc: Global, path: &Path, len: u32) -> Result<u32, OdbRefusal> {
+        let _ = &self.root;
+        self.resize_there(alloc, path, len)
+    }
+
+    fn keeps_links(&self) -> bool {
+        let _ = &self.root;
+        false
+    }
+
+    fn walk(&self, path: &Path, numbers: &mut [u32; 32]) -> u32 {
+        let _ = &self.root;
+        let names = path.names();
+        let mut at = 0;
+        for depth in 0..names.len() {
+            let Some(child) = self.child(at, &names[depth]) else {
+                return depth as u32;
+            };
+            numbers[depth] = child.row;
+            at = child.row;
+        }
+        names.len() as u32
     }
 
     fn path_of(&self, alloc: Global, row: u32) -> Result<Option<Path>, NoMemory> {

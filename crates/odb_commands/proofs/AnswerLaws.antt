@@ -17,7 +17,9 @@ use Rattle.odb_tree.specs.declared.refusals.OdbRefusal.{OdbRefusal}
 use Rattle.odb_tree.specs.declared.rows.NewKey.{NewKey}
 use Rattle.odb_tree.specs.declared.rows.NewKey.TheVariants.{Dir, Keys}
 use Rattle.odb_tree.specs.Rows.{Rows}
-use Rattle.odb_tree.specs.Calls.{Gives, GivesItem, create_reply, set_reply, get_reply, find_reply, list_reply, delete_reply, path_with, rows_after}
+use Rattle.odb_tree.specs.Links.{meets_link}
+use Rattle.odb_tree.specs.Calls.{Gives, GivesIf, GivesItem, delete_reply, path_with, rows_after}
+use Rattle.odb_commands.specs.LedReplies.{create_led, set_led, get_led, find_led, list_led}
 use Rattle.odb_tree.specs.Histories.{IsLegalRows, IsLegalCall}
 use Rattle.odb_watch.specs.DatabasePorts.{IsSettled, calls_by}
 use Rattle.odb_script.specs.declared.commands.RowCommand.{RowCommand}
@@ -35,9 +37,14 @@ given_is : {X : Type 0} (given reply : Result X OdbRefusal) → Gives given repl
 given_is (Ok x) reply gives settled = sym gives
 given_is (Err why) reply gives settled = sym (gives settled)
 
-item_given : (type : Tid) (given reply : Result ℕ OdbRefusal) → GivesItem type given reply → IsSettled given → given ≡ reply
-item_given tid.Text given reply gives settled = given_is given reply gives settled
-item_given _ given reply gives settled = gives
+given_if : {X : Type 0} (met : Bool) (given reply : Result X OdbRefusal) → GivesIf met given reply → IsSettled given → given ≡ reply
+given_if true given reply gives settled = given_is given reply gives settled
+given_if false given reply gives settled = gives
+
+item_given : (met : Bool) (type : Tid) (given reply : Result ℕ OdbRefusal) → GivesItem met type given reply → IsSettled given → given ≡ reply
+item_given met tid.Text given reply gives settled = given_is given reply gives settled
+item_given true _ given reply gives settled = given_is given reply gives settled
+item_given false _ given reply gives settled = gives
 
 -- the same calls are legal
 legal_as : (s : Rows) (calls more : List DatabaseEntry) → calls ≡ more → IsLegalRows s (calls_by 0 calls) → IsLegalRows s (calls_by 0 more)
@@ -48,7 +55,7 @@ legal_as s calls more is legal = subst (λ (es : List DatabaseEntry). IsLegalRow
 create_answered : (s : Rows) (kind : NewKey) (p : List (List ℕ)) (calls : List DatabaseEntry) (reply : CommandReply) → IsLegalRows s (calls_by 0 calls) → CreatesKey kind p calls reply → IsAnswered (create_at s kind p) calls reply
 create_answered s kind p calls reply legal does =
     let here = legal_as s calls (call.Create p kind does.0 ∷ []) does.1 legal in
-    let same : does.0 ≡ create_reply s p kind = given_is does.0 (create_reply s p kind) here.0.reply does.2 in
+    let same : does.0 ≡ create_led s p kind = given_is does.0 (create_led s p kind) here.0.reply does.2 in
     (does.1 ∙ ap (λ (got : Result ℕ OdbRefusal). call.Create p kind got ∷ []) same, does.3 ∙ ap done_or same)
 
 item_answered : (s : Rows) (p : List (List ℕ)) (index : ℕ) (item : Result Item CommandRefusal) (calls : List DatabaseEntry) (reply : CommandReply) → IsLegalRows s (calls_by 0 calls) → SetsItem p index item calls reply
@@ -56,7 +63,7 @@ item_answered : (s : Rows) (p : List (List ℕ)) (index : ℕ) (item : Result It
 item_answered s p index (Err why) calls reply legal does = does
 item_answered s p index (Ok item) calls reply legal does =
     let here = legal_as s calls (call.Set p index item does.0 ∷ []) does.1 legal in
-    let same : does.0 ≡ set_reply s p index item = item_given (tid_of item) does.0 (set_reply s p index item) here.0.reply does.2 in
+    let same : does.0 ≡ set_led s p index item = item_given (meets_link s p true) (tid_of item) does.0 (set_led s p index item) here.0.reply does.2 in
     (does.1 ∙ ap (λ (got : Result ℕ OdbRefusal). call.Set p index item got ∷ []) same, does.3 ∙ ap done_or same)
 
 set_in_answered : (s : Rows) (p : List (List ℕ)) (index : ℕ) (text : List ℕ) (got : Result HeldValue OdbRefusal) (calls : List DatabaseEntry) (reply : CommandReply) → IsLegalRows s (calls_by 0 calls) → SetsIn p index text got calls reply
@@ -67,12 +74,12 @@ set_in_answered s p index text (Ok v) calls reply legal does = item_answered s p
 set_answered : (s : Rows) (index : ℕ) (text : List ℕ) (p : List (List ℕ)) (calls : List DatabaseEntry) (reply : CommandReply) → IsLegalRows s (calls_by 0 calls) → Sets index text p calls reply → IsAnswered (set_at s index text p) calls reply
 set_answered s index text p calls reply legal does =
     let here = legal_as s calls (call.Get p does.0 ∷ does.1) does.2 legal in
-    let same : does.0 ≡ get_reply s p = given_is does.0 (get_reply s p) here.0.reply does.3 in
-    let rest : IsAnswered (set_in s p index text (get_reply s p)) does.1 reply =
+    let same : does.0 ≡ get_led s p = given_is does.0 (get_led s p) here.0.reply does.3 in
+    let rest : IsAnswered (set_in s p index text (get_led s p)) does.1 reply =
     subst (λ (got : Result HeldValue OdbRefusal). IsAnswered (set_in s p index text got) does.1 reply) same (set_in_answered s p index text does.0 does.1 reply here.1 does.4) in (
       does.2
           ∙ (ap (λ (got : Result HeldValue OdbRefusal). call.Get p got ∷ does.1) same
-          ∙ ap (λ (more : List DatabaseEntry). call.Get p (get_reply s p) ∷ more) rest.0),
+          ∙ ap (λ (more : List DatabaseEntry). call.Get p (get_led s p) ∷ more) rest.0),
       rest.1,
     )
 
@@ -88,12 +95,12 @@ found_answered s v (Ok row) calls reply legal does =
 shown_answered : (s : Rows) (p : List (List ℕ)) (index : Option ℕ) (v : HeldValue) (calls : List DatabaseEntry) (reply : CommandReply) → IsLegalRows s (calls_by 0 calls) → Shows p index v calls reply → IsAnswered (shown_value s p index v) calls reply
 shown_answered s p None v calls reply legal does =
     let here = legal_as s calls (call.Find p does.0 ∷ does.1) does.2 legal in
-    let same : does.0 ≡ find_reply s p = here.0.reply in
-    let rest : IsAnswered (key_found s v (find_reply s p)) does.1 reply =
+    let same : does.0 ≡ find_led s p = given_if (meets_link s p true) does.0 (find_led s p) here.0.reply does.3 in
+    let rest : IsAnswered (key_found s v (find_led s p)) does.1 reply =
     subst (λ (found : Result ℕ OdbRefusal). IsAnswered (key_found s v found) does.1 reply) same (found_answered s v does.0 does.1 reply here.1 does.4) in (
       does.2
           ∙ (ap (λ (found : Result ℕ OdbRefusal). call.Find p found ∷ does.1) same
-          ∙ ap (λ (more : List DatabaseEntry). call.Find p (find_reply s p) ∷ more) rest.0),
+          ∙ ap (λ (more : List DatabaseEntry). call.Find p (find_led s p) ∷ more) rest.0),
       rest.1,
     )
 shown_answered s p (Some index) v calls reply legal does = does
@@ -106,19 +113,19 @@ get_in_answered s p index (Ok v) calls reply legal does = shown_answered s p ind
 get_answered : (s : Rows) (index : Option ℕ) (p : List (List ℕ)) (calls : List DatabaseEntry) (reply : CommandReply) → IsLegalRows s (calls_by 0 calls) → Gets index p calls reply → IsAnswered (get_at s index p) calls reply
 get_answered s index p calls reply legal does =
     let here = legal_as s calls (call.Get p does.0 ∷ does.1) does.2 legal in
-    let same : does.0 ≡ get_reply s p = given_is does.0 (get_reply s p) here.0.reply does.3 in
-    let rest : IsAnswered (get_in s p index (get_reply s p)) does.1 reply =
+    let same : does.0 ≡ get_led s p = given_is does.0 (get_led s p) here.0.reply does.3 in
+    let rest : IsAnswered (get_in s p index (get_led s p)) does.1 reply =
     subst (λ (got : Result HeldValue OdbRefusal). IsAnswered (get_in s p index got) does.1 reply) same (get_in_answered s p index does.0 does.1 reply here.1 does.4) in (
       does.2
           ∙ (ap (λ (got : Result HeldValue OdbRefusal). call.Get p got ∷ does.1) same
-          ∙ ap (λ (more : List DatabaseEntry). call.Get p (get_reply s p) ∷ more) rest.0),
+          ∙ ap (λ (more : List DatabaseEntry). call.Get p (get_led s p) ∷ more) rest.0),
       rest.1,
     )
 
 list_answered : (s : Rows) (p : List (List ℕ)) (calls : List DatabaseEntry) (reply : CommandReply) → IsLegalRows s (calls_by 0 calls) → Lists p calls reply → IsAnswered (list_at s p) calls reply
 list_answered s p calls reply legal does =
     let here = legal_as s calls (call.ListDir p does.0 ∷ []) does.1 legal in
-    let same : does.0 ≡ list_reply s p = given_is does.0 (list_reply s p) here.0.reply does.2 in
+    let same : does.0 ≡ list_led s p = given_is does.0 (list_led s p) here.0.reply does.2 in
     (does.1 ∙ ap (λ (got : Result (List Child) OdbRefusal). call.ListDir p got ∷ []) same, does.3 ∙ ap listed_or same)
 
 remove_answered : (s : Rows) (p : List (List ℕ)) (b : Bool) (calls : List DatabaseEntry) (reply : CommandReply) → IsLegalRows s (calls_by 0 calls) → RemovesIf b p calls reply

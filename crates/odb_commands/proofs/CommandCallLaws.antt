@@ -1,26 +1,28 @@
 -- Laws of what a command does: its calls where the rows give their replies, what they leave alone, and its calls where
-use Rattle.std.specs.Prelude.{◌≡◌, ◌≢◌, ℕ, Bool, true, false, if◌then◌else◌, List, [], ◌∷◌, ◌++◌, length, Option, Some, None, Result, Ok, Err, codes, refl}
+use Rattle.std.specs.Prelude.{◌≡◌, ◌≢◌, ℕ, zero, suc, ◌+◌, nat_lt, Bool, true, false, if◌then◌else◌, List, [], ◌∷◌, ◌++◌, length, Option, Some, None, Result, Ok, Err, codes, refl}
 use Rattle.std.specs.Option.{option_or, option_map, is_some}
 use Rattle.std.proofs.Common.{sym, subst}
 use Rattle.daq_types.specs.declared.types.Tid.{Tid}
+use Rattle.daq_types.specs.declared.types.Tid.TheVariants as tid
 use Rattle.odb_value.specs.declared.path_refusals.PathRefusal.{PathRefusal}
-use Rattle.odb_value.specs.Paths.{same_name}
+use Rattle.odb_value.specs.Paths.{same_name, depth_limit}
 use Rattle.odb_value.specs.PathText.{path_reply}
 use Rattle.odb_value.specs.declared.items.Item.{Item}
 use Rattle.odb_value.specs.Items.{tid_of, is_kept}
 use Rattle.odb_value.specs.Values.{HeldValue}
 use Rattle.odb_tree.specs.declared.rows.Row.{Row}
 use Rattle.odb_tree.specs.declared.rows.NewKey.{NewKey}
-use Rattle.odb_tree.specs.declared.rows.NewKey.TheVariants.{Dir, Keys}
+use Rattle.odb_tree.specs.declared.rows.NewKey.TheVariants.{Dir, Keys, Link}
 use Rattle.odb_tree.specs.declared.entry.DatabaseEntry.{DatabaseEntry}
 use Rattle.odb_tree.specs.declared.entry.DatabaseEntry.TheVariants as call
 use Rattle.odb_tree.specs.declared.refusals.OdbRefusal.{OdbRefusal}
-use Rattle.odb_tree.specs.declared.refusals.OdbRefusal.TheVariants.{Exists, NotDir, NoKey, NotValue, NotKept, TypeMismatch, BadIndex, Limit, NoMemory as no_memory}
+use Rattle.odb_tree.specs.declared.refusals.OdbRefusal.TheVariants.{Exists, NotDir, NoKey, NotValue, NotKept, TypeMismatch, BadIndex, Limit, BadLink, NoMemory as no_memory}
 use Rattle.odb_tree.specs.declared.refusals.What.{What}
 use Rattle.odb_tree.specs.Rows.{Rows, row_at, is_key}
 use Rattle.odb_tree.specs.Lookups.{obstacle_at, obstacle_from, obstacle_to, obstacle_to_new, parent_of, found_row, seek, key_of, key_or_refusal as found_key, seek_key, not_dir, dir_fault, not_there, absent_fault}
+use Rattle.odb_tree.specs.Links.{Met, first_link, follow, lead, links_limit, resolved, through}
 use Rattle.odb_tree.specs.Limits.{limit_fault, text_fault}
-use Rattle.odb_tree.specs.Calls.{reply_or, exists_fault, kept_fault, items_fault, create_fault, create_reply, after_create, type_fault, index_fault, set_fault, set_reply_to, set_reply, after_set, value_reply, get_reply, number_reply, find_reply, children_or, list_reply, delete_reply, path_with, count_gone}
+use Rattle.odb_tree.specs.Calls.{reply_or, exists_fault, link_fault, kept_fault, items_fault, create_fault, create_reply, after_create, type_fault, index_fault, set_fault, set_reply_to, set_reply, after_set, value_reply, get_reply, number_reply, find_reply, children_or, list_reply, delete_reply, path_with, count_gone}
 use Rattle.odb_tree.specs.Making.{new_number}
 use Rattle.odb_watch.specs.DatabasePorts.{IsSettled}
 use Rattle.odb_script.specs.declared.commands.RowCommand.{RowCommand}
@@ -28,6 +30,7 @@ use Rattle.odb_script.specs.declared.commands.RowCommand.TheVariants as command
 use Rattle.odb_commands.specs.declared.replies.CommandRefusal.{CommandRefusal}
 use Rattle.odb_commands.specs.declared.replies.CommandRefusal.TheVariants.{Protected}
 use Rattle.odb_commands.specs.declared.replies.CommandReply.{CommandReply}
+use Rattle.odb_commands.specs.LedReplies.{create_led, set_led, get_led, find_led, list_led}
 use Rattle.odb_commands.specs.Answers.{CommandAnswer, refused, at_path, create_at, item_for, set_item, set_in, set_at, key_found, shown_value, get_in, get_at, list_at, is_protected, removed, remove_at, answer_of}
 use Rattle.odb_commands.specs.CommandCalls.{AtPath, CreatesKey, SetsItem, SetsIn, Sets, NamesFound, Shows, GetsIn, Gets, Lists, RemovesIf, RemovesKey, Performs}
 use Rattle.odb_commands.specs.CommandCallLaws.{Spares}
@@ -131,19 +134,24 @@ exists_fault_other : (rows : List Row) (p : List (List ℕ)) → IsOther (exists
 exists_fault_other rows [] = exists_other
 exists_fault_other rows (name ∷ names) = if_some_other (is_some (row_at rows (name ∷ names))) Exists exists_other
 
-kept_fault_other : (kind : NewKey) → IsOther (kept_fault kind)
-kept_fault_other Dir = tt
-kept_fault_other (Keys type len) = if_none_other (is_kept type) (NotKept type) (not_kept_other type)
+link_fault_other : (links : Bool) → IsOther (link_fault links tid.Link)
+link_fault_other true = tt
+link_fault_other false = not_kept_other tid.Link
+
+kept_fault_other : (links : Bool) (kind : NewKey) → IsOther (kept_fault links kind)
+kept_fault_other links Dir = tt
+kept_fault_other links (Keys type len) = if_none_other (is_kept type) (NotKept type) (not_kept_other type)
+kept_fault_other links (Link target) = link_fault_other links
 
 pub create_settled : (s : Rows) (p : List (List ℕ)) (kind : NewKey) → IsSettled (create_reply s p kind)
 create_settled s p kind =
     let limits : Option OdbRefusal = limit_fault (items_fault kind) (after_create s p kind) in
-    let kinds : Option OdbRefusal = option_or (kept_fault kind) limits in
+    let kinds : Option OdbRefusal = option_or (kept_fault s.links kind) limits in
     let there : Option OdbRefusal = option_or (exists_fault s.rows p) kinds in
     reply_settled (create_fault s p kind) (new_number s p)
     (or_other (obstacle_to_new s.rows p) there (along_other None s.rows [] (parent_of p) tt)
     (or_other (exists_fault s.rows p) kinds (exists_fault_other s.rows p)
-    (or_other (kept_fault kind) limits (kept_fault_other kind) (mapped_other _))))
+    (or_other (kept_fault s.links kind) limits (kept_fault_other s.links kind) (mapped_other _))))
 
 set_to_settled : (s : Rows) (p : List (List ℕ)) (index : ℕ) (item : Item) (key : Result (ℕ × HeldValue) OdbRefusal) → IsSettled key → IsSettled (set_reply_to s p index item key)
 set_to_settled s p index item (Err refusal) settled = settled
@@ -183,11 +191,54 @@ absent_fault_other rows (name ∷ names) = absent_other (seek rows (name ∷ nam
 delete_settled : (s : Rows) (p : List (List ℕ)) → IsSettled (delete_reply s p)
 delete_settled s p = reply_settled (absent_fault s.rows p) (count_gone s p) (absent_fault_other s.rows p)
 
+-- The same at the path after its links.
+
+bad_link_other : (steps : ℕ) → BadLink steps ≢ no_memory
+bad_link_other steps e = cc
+
+follow_settled : (next : List (List ℕ) → Result (List (List ℕ)) OdbRefusal) (steps : ℕ) (p : List (List ℕ)) (o : Option Met) → ((q : List (List ℕ)) → IsSettled (next q)) → IsSettled (follow next steps p o)
+follow_settled next steps p None h = tt
+follow_settled next steps p (Some m) h = by_length (nat_lt depth_limit (length m.target + length m.rest))
+  where
+    by_length : (t : Bool) → IsSettled (if t then Err (BadLink steps) else next (m.target ++ m.rest))
+    by_length true = bad_link_other steps
+    by_length false = h (m.target ++ m.rest)
+
+lead_settled : (more : ℕ) (rows : List Row) (last : Bool) (steps : ℕ) (p : List (List ℕ)) → IsSettled (lead more rows last steps p)
+lead_settled zero rows last steps p = follow_settled (λ _. Err (BadLink steps)) steps p (first_link rows last [] p) (λ q. bad_link_other steps)
+lead_settled (suc more) rows last steps p = follow_settled (lead more rows last (steps + 1)) steps p (first_link rows last [] p) (lead_settled more rows last (steps + 1))
+
+resolved_settled : (s : Rows) (p : List (List ℕ)) (last : Bool) → IsSettled (resolved s p last)
+resolved_settled s p last = by_flag s.links
+  where
+    by_flag : (links : Bool) → IsSettled (if links then lead links_limit s.rows last 0 p else Ok p)
+    by_flag true = lead_settled links_limit s.rows last 0 p
+    by_flag false = tt
+
+through_settled : {X : Type 0} (r : Result (List (List ℕ)) OdbRefusal) (reply : List (List ℕ) → Result X OdbRefusal) → IsSettled r → ((q : List (List ℕ)) → IsSettled (reply q)) → IsSettled (through r reply)
+through_settled (Ok q) reply h each = each q
+through_settled (Err why) reply h each = h
+
+pub create_led_settled : (s : Rows) (p : List (List ℕ)) (kind : NewKey) → IsSettled (create_led s p kind)
+create_led_settled s p kind = through_settled (resolved s p false) (λ q. create_reply s q kind) (resolved_settled s p false) (λ q. create_settled s q kind)
+
+set_led_settled : (s : Rows) (p : List (List ℕ)) (index : ℕ) (item : Item) → IsSettled (set_led s p index item)
+set_led_settled s p index item = through_settled (resolved s p true) (λ q. set_reply s q index item) (resolved_settled s p true) (λ q. set_settled s q index item)
+
+pub get_led_settled : (s : Rows) (p : List (List ℕ)) → IsSettled (get_led s p)
+get_led_settled s p = through_settled (resolved s p true) (λ q. get_reply s q) (resolved_settled s p true) (get_settled s)
+
+find_led_settled : (s : Rows) (p : List (List ℕ)) → IsSettled (find_led s p)
+find_led_settled s p = through_settled (resolved s p true) (λ q. find_reply s q) (resolved_settled s p true) (find_settled s)
+
+list_led_settled : (s : Rows) (p : List (List ℕ)) → IsSettled (list_led s p)
+list_led_settled s p = through_settled (resolved s p true) (λ q. list_reply s q) (resolved_settled s p true) (list_settled s)
+
 -- With the replies that the rows give, a command makes the calls of its answer, and is answered so.
 
 item_performs : (s : Rows) (p : List (List ℕ)) (index : ℕ) (item : Result Item CommandRefusal) → SetsItem p index item (set_item s p index item).calls (set_item s p index item).reply
 item_performs s p index (Err why) = (refl, refl)
-item_performs s p index (Ok item) = (set_reply s p index item, refl, set_settled s p index item, refl)
+item_performs s p index (Ok item) = (set_led s p index item, refl, set_led_settled s p index item, refl)
 
 set_performs : (s : Rows) (p : List (List ℕ)) (index : ℕ) (text : List ℕ) (got : Result HeldValue OdbRefusal) → SetsIn p index text got (set_in s p index text got).calls (set_in s p index text got).reply
 set_performs s p index text (Err why) = (refl, refl)
@@ -198,7 +249,7 @@ found_performs s v (Err why) = (refl, refl)
 found_performs s v (Ok row) = (path_with s.rows row, refl, refl)
 
 shown_performs : (s : Rows) (p : List (List ℕ)) (index : Option ℕ) (v : HeldValue) → Shows p index v (shown_value s p index v).calls (shown_value s p index v).reply
-shown_performs s p None v = (find_reply s p, (key_found s v (find_reply s p)).calls, refl, find_settled s p, found_performs s v (find_reply s p))
+shown_performs s p None v = (find_led s p, (key_found s v (find_led s p)).calls, refl, find_led_settled s p, found_performs s v (find_led s p))
 shown_performs s p (Some index) v = (refl, refl)
 
 get_performs : (s : Rows) (p : List (List ℕ)) (index : Option ℕ) (got : Result HeldValue OdbRefusal) → GetsIn p index got (get_in s p index got).calls (get_in s p index got).reply
@@ -215,13 +266,13 @@ path_performs (Err why) answer Then each = (refl, refl)
 path_performs (Ok p) answer Then each = each p
 
 pub performs_answer : (s : Rows) (c : RowCommand) → Performs c (answer_of s c).calls (answer_of s c).reply
-performs_answer s (command.Create tid path len) = path_performs (path_reply path) (create_at s (Keys tid len)) (CreatesKey (Keys tid len)) (λ p. (create_reply s p (Keys tid len), refl, create_settled s p (Keys tid len), refl))
-performs_answer s (command.CreateDir path) = path_performs (path_reply path) (create_at s Dir) (CreatesKey Dir) (λ p. (create_reply s p Dir, refl, create_settled s p Dir, refl))
+performs_answer s (command.Create tid path len) = path_performs (path_reply path) (create_at s (Keys tid len)) (CreatesKey (Keys tid len)) (λ p. (create_led s p (Keys tid len), refl, create_led_settled s p (Keys tid len), refl))
+performs_answer s (command.CreateDir path) = path_performs (path_reply path) (create_at s Dir) (CreatesKey Dir) (λ p. (create_led s p Dir, refl, create_led_settled s p Dir, refl))
 performs_answer s (command.Set path index value) = path_performs (path_reply path) (set_at s index value) (Sets index value)
-    (λ p. (get_reply s p, (set_in s p index value (get_reply s p)).calls, refl, get_settled s p, set_performs s p index value (get_reply s p)))
+    (λ p. (get_led s p, (set_in s p index value (get_led s p)).calls, refl, get_led_settled s p, set_performs s p index value (get_led s p)))
 performs_answer s (command.Get path index) = path_performs (path_reply path) (get_at s index) (Gets index)
-    (λ p. (get_reply s p, (get_in s p index (get_reply s p)).calls, refl, get_settled s p, get_performs s p index (get_reply s p)))
-performs_answer s (command.List path) = path_performs (path_reply path) (list_at s) Lists (λ p. (list_reply s p, refl, list_settled s p, refl))
+    (λ p. (get_led s p, (get_in s p index (get_led s p)).calls, refl, get_led_settled s p, get_performs s p index (get_led s p)))
+performs_answer s (command.List path) = path_performs (path_reply path) (list_at s) Lists (λ p. (list_led s p, refl, list_led_settled s p, refl))
 performs_answer s (command.Remove path) = path_performs (path_reply path) (remove_at s) RemovesKey (λ p. remove_performs s p (is_protected p))
 
 spares_by : (calls more : List DatabaseEntry) → calls ≡ more → Spares more → Spares calls

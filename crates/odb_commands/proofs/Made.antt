@@ -187,6 +187,10 @@ pub list_cut : (a b : DatabaseAccess) (p : List (List ℕ)) (got : Result (List 
 list_cut a b p got called wanting = cut_at_first a b (Lists p) (call.ListDir p (Err NoKey)) (call.ListDir p got) (listed_or (Err NoKey)) (Err NoKey, refl, no_key, refl)
     (ap (λ (r : Result (List Child) OdbRefusal). call.ListDir p r) wanting) (λ same. cc) called
 
+pub find_cut : (a b : DatabaseAccess) (p : List (List ℕ)) (v : HeldValue) (got : Result ℕ OdbRefusal) → AddsCall a b (call.Find p got) → got ≡ Err no_memory → CutsAnswer a b (Shows p None v)
+find_cut a b p v got called wanting = cut_at_first a b (Shows p None v) (call.Find p (Err NoKey)) (call.Find p got) (Refused (Database NoKey)) (Err NoKey, [], refl, no_key, (refl, refl))
+    (ap (λ (r : Result ℕ OdbRefusal). call.Find p r) wanting) (λ same. cc) called
+
 -- the key that was got, by a path that is this one
 got_at : (a b : DatabaseAccess) (p copy : List (List ℕ)) (given got : Result HeldValue OdbRefusal) → AddsCall a b (call.Get copy given) → copy ≡ p → got ≡ given → AddsCall a b (call.Get p got)
 got_at a b p copy given got called is same = subst (AddsCall a b) (ap (λ (q : List (List ℕ)). call.Get q given) is ∙ ap (λ (r : Result HeldValue OdbRefusal). call.Get p r) (sym same)) called

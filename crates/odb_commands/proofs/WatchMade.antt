@@ -103,6 +103,11 @@ path_watched a b c p given found result called same settled rest =
     first_then a b c (WatchesFound found) (WatchesPath p) (call.Call (Find p found)) result (subst (λ (r : Result ℕ OdbRefusal). AddsEntry a b (call.Call (Find p r))) (sym same) called)
     (λ calls answer does. (found, calls, refl, settled, does)) rest
 
+pub find_cut : (a b : DatabaseAccess) (p : List (List ℕ)) (got : Result ℕ OdbRefusal) → AddsEntry a b (call.Call (Find p got)) → got ≡ Err odb.NoMemory → CutsWatch a b (WatchesPath p)
+find_cut a b p got called wanting =
+    cut_at_first a b (WatchesPath p) (call.Call (Find p got)) (call.Call (Find p (Err odb.NoKey))) (refused_for (Database odb.NoKey)) (Err odb.NoKey, [], refl, no_key, (refl, refl))
+    (ap (λ (r : Result ℕ OdbRefusal). call.Call (Find p r)) wanting) (λ same. cc) called
+
 abbrev pub some_watch : (p : List (List ℕ)) → Some_does (WatchesPath p)
 some_watch p = (call.Call (Find p (Err odb.NoKey)) ∷ [], refused_for (Database odb.NoKey), (Err odb.NoKey, [], refl, no_key, (refl, refl)))
 

@@ -17,7 +17,8 @@ use Rattle.odb_tree.specs.declared.refusals.OdbRefusal.TheVariants.{BadIndex}
 use Rattle.odb_tree.specs.declared.rows.NewKey.{NewKey}
 use Rattle.odb_tree.specs.declared.rows.NewKey.TheVariants.{Dir, Keys}
 use Rattle.odb_tree.specs.Rows.{Rows}
-use Rattle.odb_tree.specs.Calls.{create_reply, set_reply, get_reply, find_reply, list_reply, delete_reply, path_with}
+use Rattle.odb_tree.specs.Calls.{delete_reply, path_with}
+use Rattle.odb_commands.specs.LedReplies.{create_led, set_led, get_led, find_led, list_led}
 use Rattle.odb_script.specs.declared.commands.RowCommand.{RowCommand}
 use Rattle.odb_script.specs.declared.commands.RowCommand.TheVariants as command
 use Rattle.odb_commands.specs.declared.replies.CommandRefusal.{CommandRefusal}
@@ -50,7 +51,7 @@ at_path (Ok p) answer = answer p
 
 -- `create`: one call.
 abbrev pub create_at : Rows → NewKey → List (List ℕ) → CommandAnswer
-create_at s kind p = record { calls = call.Create p kind (create_reply s p kind) ∷ []; reply = done_or (create_reply s p kind) }
+create_at s kind p = record { calls = call.Create p kind (create_led s p kind) ∷ []; reply = done_or (create_led s p kind) }
 
 -- `set`: the key is got; then the index is tested, and the text; then the item is set.
 
@@ -64,14 +65,14 @@ item_for v index text = if nat_lt index (length v.items) then item_or (item_read
 
 abbrev pub set_item : Rows → List (List ℕ) → (index : ℕ) → Result Item CommandRefusal → CommandAnswer
 set_item s p index (Err why) = refused why
-set_item s p index (Ok item) = record { calls = call.Set p index item (set_reply s p index item) ∷ []; reply = done_or (set_reply s p index item) }
+set_item s p index (Ok item) = record { calls = call.Set p index item (set_led s p index item) ∷ []; reply = done_or (set_led s p index item) }
 
 abbrev pub set_in : Rows → List (List ℕ) → (index : ℕ) → (text : List ℕ) → Result HeldValue OdbRefusal → CommandAnswer
 set_in s p index text (Err why) = refused (Database why)
 set_in s p index text (Ok v) = set_item s p index (item_for v index text)
 
 abbrev pub set_at : Rows → (index : ℕ) → (text : List ℕ) → List (List ℕ) → CommandAnswer
-set_at s index text p = with_first_call (call.Get p (get_reply s p)) (set_in s p index text (get_reply s p))
+set_at s index text p = with_first_call (call.Get p (get_led s p)) (set_in s p index text (get_led s p))
 
 -- `get`: the key is got; for its lines it is also found, and the path of its row gives the name as it is spelled in the
 -- database.
@@ -88,7 +89,7 @@ one_or len None = Refused (Database (BadIndex len))
 one_or len (Some item) = One item
 
 abbrev pub shown_value : Rows → List (List ℕ) → Option ℕ → HeldValue → CommandAnswer
-shown_value s p None v = with_first_call (call.Find p (find_reply s p)) (key_found s v (find_reply s p))
+shown_value s p None v = with_first_call (call.Find p (find_led s p)) (key_found s v (find_led s p))
 shown_value s p (Some index) v = record { calls = []; reply = one_or (length v.items) (slice_get v.items index) }
 
 abbrev pub get_in : Rows → List (List ℕ) → Option ℕ → Result HeldValue OdbRefusal → CommandAnswer
@@ -96,7 +97,7 @@ get_in s p index (Err why) = refused (Database why)
 get_in s p index (Ok v) = shown_value s p index v
 
 abbrev pub get_at : Rows → Option ℕ → List (List ℕ) → CommandAnswer
-get_at s index p = with_first_call (call.Get p (get_reply s p)) (get_in s p index (get_reply s p))
+get_at s index p = with_first_call (call.Get p (get_led s p)) (get_in s p index (get_led s p))
 
 -- `ls`: one call.
 
@@ -105,7 +106,7 @@ listed_or (Err why) = Refused (Database why)
 listed_or (Ok children) = Listed children
 
 abbrev pub list_at : Rows → List (List ℕ) → CommandAnswer
-list_at s p = record { calls = call.ListDir p (list_reply s p) ∷ []; reply = listed_or (list_reply s p) }
+list_at s p = record { calls = call.ListDir p (list_led s p) ∷ []; reply = listed_or (list_led s p) }
 
 -- `rm`: one call, and none for what is protected.
 

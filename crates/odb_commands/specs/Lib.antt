@@ -1,3 +1,4 @@
+pub mod LedReplies
 pub mod Texts
 pub mod Answers
 pub mod CommandCalls

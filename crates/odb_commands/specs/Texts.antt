@@ -64,6 +64,7 @@ odb_text (odb.TypeMismatch have) = codes "TypeMismatch " ++ tid_name have
 odb_text (odb.BadIndex len) = codes "BadIndex " ++ decimal len
 odb_text (odb.Limit what) = codes "Limit " ++ limit_name what
 odb_text (odb.NotKept tid) = codes "NotKept " ++ tid_name tid
+odb_text (odb.BadLink steps) = codes "BadLink " ++ decimal steps
 odb_text odb.NoMemory = codes "NoMemory"
 
 -- a refusal within another stands in its place

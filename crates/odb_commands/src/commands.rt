@@ -209,7 +209,7 @@ fn shown<R: Wait, P: DatabasePort>(
     match index {
         Some(index) => one_of(alloc, &value, index),
         None => {
-            let found = settled(port.find(rt, path))?;
+            let found = settled(port.find(rt, alloc, path))?;
             key_found(rt, alloc, port, value, found)
         }
     }

@@ -121,6 +121,10 @@ fn add_odb_refusal(text: &mut TextBuffer, why: OdbRefusal) -> Result<(), NoMemor
             text.text(name_of_limit(what))
         }
         OdbRefusal::NotKept { tid } => add_with_type(text, b"NotKept ", tid),
+        OdbRefusal::BadLink { steps } => {
+            text.text(b"BadLink ")?;
+            text.number(steps as u64)
+        }
         OdbRefusal::NoMemory => text.text(b"NoMemory"),
     }
 }

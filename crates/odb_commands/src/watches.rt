@@ -92,7 +92,7 @@ fn watch_at<R: Wait, P: WatchPort>(
     ensures { EndsWatchCommand (P.access port.old) (P.access port.new)
         (WatchesPath path) result }
 {
-    let found = settled(port.find(rt, path))?;
+    let found = settled(port.find(rt, alloc, path))?;
     watch_found(rt, alloc, port, found)
 }
 

@@ -117,7 +117,7 @@ impl<D: Database> LocalDatabase<D> {
         ensures history { result.history ≡ [] }
     {
         // The look-up tells that the rows are those of a database.
-        let _ = database.find(&Path::root(alloc));
+        let _ = database.find(alloc, &Path::root(alloc));
         let start = Snapshot::of(&database);
         LocalDatabase {
             start,
@@ -166,6 +166,7 @@ impl<D: Database> LocalDatabase<D> {
         ensures did { NotesCall self.old self.new main_caller (Create path kind result) }
     {
         let _ = path.names();
+        let _ = kind.target();
         let reply = self.database.create(alloc, &path, &kind);
         let entry = DatabaseEntry::Create { path, kind, reply };
         self.entries.push_reserved((Caller::MAIN, entry));
@@ -183,7 +184,6 @@ impl<D: Database> LocalDatabase<D> {
     ) -> Result<u32, OdbRefusal>
         requires room { 1 ≤ self.old.room }
         ensures did { NotesCall self.old self.new caller (Set path index item result) }
-        ensures memory { result ≡ Err no_memory → tid_of item ≡ Tid.Text }
     {
         let _ = path.names();
         let _ = item.tid();
@@ -233,14 +233,13 @@ impl<D: Database> LocalDatabase<D> {
         }
     }
 
-    /// As `Database::find`. Takes no memory.
-    pub fn find(&mut self, caller: Caller, path: Path) -> Result<u32, OdbRefusal>
+    /// As `Database::find`.
+    pub fn find(&mut self, alloc: Global, caller: Caller, path: Path) -> Result<u32, OdbRefusal>
         requires room { 1 ≤ self.old.room }
         ensures did { NotesCall self.old self.new caller (Find path result) }
-        ensures memory { result ≢ Err no_memory }
     {
         let _ = path.names();
-        let reply = self.database.find(&path);
+        let reply = self.database.find(alloc, &path);
         let entry = DatabaseEntry::Find { path, reply };
         self.entries.push_reserved((caller, entry));
         reply

@@ -98,8 +98,8 @@ impl<D: Database> DatabasePort for OwningAccess<D> {
         self.database.call(rt, &mut self.pass, call, &mut ())
     }
 
-    fn find<R: Wait>(&mut self, rt: &R, path: Path) -> Result<u32, OdbRefusal> {
-        let call = calls::Find { path: &path };
+    fn find<R: Wait>(&mut self, rt: &R, alloc: Global, path: Path) -> Result<u32, OdbRefusal> {
+        let call = calls::Find { alloc, path: &path };
         self.database.call(rt, &mut self.pass, call, &mut ())
     }
 

@@ -116,8 +116,8 @@ impl<'a, D: Database> DatabasePort for SharedAccess<'a, D> {
         self.shared.call(rt, &mut self.pass, call, &mut ())
     }
 
-    fn find<R: Wait>(&mut self, rt: &R, path: Path) -> Result<u32, OdbRefusal> {
-        let call = calls::Find { path: &path };
+    fn find<R: Wait>(&mut self, rt: &R, alloc: Global, path: Path) -> Result<u32, OdbRefusal> {
+        let call = calls::Find { alloc, path: &path };
         self.shared.call(rt, &mut self.pass, call, &mut ())
     }
 

@@ -1,9 +1,7 @@
 //! The calls on a shared database, each with its arguments. Each is the call of that name of `Database`, `Watches` or
 //! `odb_text`. The main thread alone makes those that may make, remove or resize a row.
 ghost use Rattle.std.specs.Prelude.{◌≡◌, ◌≢◌, ◌≤◌, length, IfOk, OnOk, OnErr, Err};
-ghost use Rattle.daq_types.specs.declared.types.Tid.{Tid};
 ghost use Rattle.daq_types.specs.Callers.{main_caller};
-ghost use Rattle.odb_value.specs.Items.{tid_of};
 ghost use Rattle.odb_tree.specs.declared.refusals.OdbRefusal.TheVariants.{NoMemory as no_memory};
 ghost use Rattle.odb_tree.specs.declared.entry.DatabaseEntry.TheVariants.{Create as create_of, Set as set_of, SetAll as set_all_of, Get as get_of, Find as find_of, ListDir as list_of, Delete as delete_of, Resize as resize_of, PathOf as path_of};
 ghost use Rattle.odb_tree.specs.Noting.{notes_limit};
@@ -40,6 +38,7 @@ impl<'a, D: Database> Call<LockedDatabase<D>> for Create<'a> {
     #[tactic(auto, using(crate::proofs::SharedLaws::call_step))]
     fn make(self, value: &mut LockedDatabase<D>, _into: &mut ()) -> Result<u32, OdbRefusal> {
         let _ = self.path.names();
+        let _ = self.kind.target();
         value.database.create(self.alloc, self.path, self.kind)
     }
 }
@@ -59,9 +58,6 @@ impl<'a, D: Database> Call<LockedDatabase<D>> for Set<'a> {
 
     ghost entry = { λ call _ reply _. call_of (set_of call.path.now call.index call.item.now
         reply) };
-
-    // Only an item that is a text takes memory.
-    ghost tells = { λ call _ reply _ _. reply ≡ Err no_memory → tid_of call.item.now ≡ Tid.Text };
 
     #[tactic(auto, using(crate::proofs::SharedLaws::call_step))]
     fn make(self, value: &mut LockedDatabase<D>, _into: &mut ()) -> Result<u32, OdbRefusal> {
@@ -117,9 +113,9 @@ impl<'a, D: Database> Call<LockedDatabase<D>> for Get<'a> {
     }
 }
 
-/// It takes no memory.
 #[derive(Drop)]
 pub struct Find<'a> {
+    pub alloc: Global,
     pub path: &'a Path,
 }
 
@@ -130,11 +126,9 @@ impl<'a, D: Database> Call<LockedDatabase<D>> for Find<'a> {
 
     ghost entry = { λ call _ reply _. call_of (find_of call.path.now reply) };
 
-    ghost tells = { λ _ _ reply _ _. reply ≢ Err no_memory };
-
     fn make(self, value: &mut LockedDatabase<D>, _into: &mut ()) -> Result<u32, OdbRefusal> {
         let _ = self.path.names();
-        value.database.find(self.path)
+        value.database.find(self.alloc, self.path)
     }
 }
 

@@ -56,7 +56,7 @@ impl<D: Database> SharedOdb<D> {
         ensures fresh { IfOk result (λ made. AreFresh made.1) }
     {
         // The look-up tells that the rows are those of a database.
-        let _ = database.find(&Path::root(alloc));
+        let _ = database.find(alloc, &Path::root(alloc));
         let database = Watches::new(alloc, database);
         let (turns, passes) = Turns::new(alloc, LockedDatabase { database }, passes)?;
         Ok((SharedOdb { turns }, passes))

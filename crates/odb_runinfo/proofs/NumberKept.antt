@@ -23,13 +23,15 @@ use Rattle.odb_tree.specs.declared.entry.DatabaseEntry.TheVariants.{Create, Set,
 use Rattle.odb_tree.specs.Rows.{Rows, row_at, change_row, change_at, rows_outside}
 use Rattle.odb_tree.specs.Lookups.{obstacle_to_new, seek_key}
 use Rattle.odb_tree.specs.Limits.{len_fault, limit_fault}
-use Rattle.odb_tree.specs.Calls.{IsRowsReply, after_resize, after_set_all_at, get_reply, number_at, replace_fault, resize_reply_to, rows_after, set_all_fault, set_all_reply, set_fault, set_reply, set_reply_to, there_fault, tid_fault, value_fault}
+use Rattle.odb_tree.specs.Calls.{after_create, after_set, after_set_all, resize_reply, IsRowsReply, after_resize, after_set_all_at, get_reply, number_at, replace_fault, resize_reply_to, rows_after, set_all_fault, set_all_reply, set_fault, set_reply, set_reply_to, there_fault, tid_fault, value_fault}
 use Rattle.odb_tree.specs.Changes.{IsKeyAt}
 use Rattle.odb_tree.specs.Histories.{IsLegalRows, rows_replay}
 use Rattle.odb_tree.specs.Databases.{IsSoundCall}
 use Rattle.odb_tree.proofs.Limited.{or_none_left, or_none_right, own_none}
 use Rattle.odb_tree.proofs.CallLemmas.{can_put, sought_key, types_agree}
-use Rattle.odb_tree.proofs.Sound.{ok_none, given_item}
+use Rattle.odb_tree.specs.Links.{resolved, meets_link, through, led_to}
+use Rattle.odb_tree.proofs.Sound.{ok_none}
+use Rattle.odb_tree.proofs.Led.{item_gives}
 use Rattle.odb_runinfo.specs.declared.keys.RunKey.TheVariants.{RunNumber}
 use Rattle.odb_runinfo.specs.RunKeys.{key_path, key_row, session_rows}
 use Rattle.odb_runinfo.specs.RunSets.{have_of, number_in}
@@ -237,21 +239,35 @@ replaced s q v n (Some r) e reply value has = changed s.rows q (λ _. v) (λ w a
 -- The calls.
 
 number_kept : (s : Rows) (e : DatabaseEntry) → IsSoundCall e → IsRowsReply s e → SparesRuninfo e → HasRunNumber s.rows → HasRunNumber (rows_after s e).rows
-number_kept s (Create p kind (Ok n)) sound reply spares has = appended s.rows _ has
+number_kept s (Create p kind (Ok n)) sound reply spares has = at (resolved s p false)
+  where
+    at : (r : Result (List (List ℕ)) OdbRefusal) → HasRunNumber (led_to s r (λ q. after_create s q kind)).rows
+    at (Err why) = has
+    at (Ok q) = appended s.rows _ has
 number_kept s (Create p kind (Err why)) sound reply spares has = has
 number_kept s (Set p index item (Ok n)) sound reply spares has =
-    let given : set_reply s p index item ≡ Ok n = given_item (tid_of item) n (set_reply s p index item) reply in
-    changed s.rows p (λ (v : HeldValue). put_in v index item) (λ v at. put_number v index item (set_type s p index item n v (seek_key s.rows p) refl given at)) has
+    at (resolved s p true) (item_gives (meets_link s p true) (tid_of item) n (through (resolved s p true) (λ q. set_reply s q index item)) reply)
+  where
+    at : (r : Result (List (List ℕ)) OdbRefusal) → through r (λ q. set_reply s q index item) ≡ Ok n → HasRunNumber (led_to s r (λ q. after_set s q index item)).rows
+    at (Err why) given = has
+    at (Ok q) given = changed s.rows q (λ (v : HeldValue). put_in v index item) (λ v at. put_number v index item (set_type s q index item n v (seek_key s.rows q) refl given at)) has
 number_kept s (Set p index item (Err why)) sound reply spares has = has
-number_kept s (SetAll p v (Ok n)) sound reply spares has = replaced s p v n (row_at s.rows p) refl reply sound.1 has
+number_kept s (SetAll p v (Ok n)) sound reply spares has = at (resolved s p true) reply
+  where
+    at : (r : Result (List (List ℕ)) OdbRefusal) → through r (λ q. set_all_reply s q v) ≡ Ok n → HasRunNumber (led_to s r (λ q. after_set_all s q v)).rows
+    at (Err why) given = has
+    at (Ok q) given = replaced s q v n (row_at s.rows q) refl given sound.1 has
 number_kept s (SetAll p v (Err why)) sound reply spares has = has
 number_kept s (Get p answer) sound reply spares has = has
 number_kept s (Find p answer) sound reply spares has = has
 number_kept s (ListDir p answer) sound reply spares has = has
 number_kept s (Delete p (Ok n)) sound reply spares has = outside s.rows p spares has
 number_kept s (Delete p (Err why)) sound reply spares has = has
-number_kept s (Resize p len (Ok n)) sound reply spares has =
-    changed s.rows p (λ (v : HeldValue). resized v len) (λ v at. resized_number v len (resize_fits s p len n (seek_key s.rows p) reply)) has
+number_kept s (Resize p len (Ok n)) sound reply spares has = at (resolved s p true) reply
+  where
+    at : (r : Result (List (List ℕ)) OdbRefusal) → through r (λ q. resize_reply s q len) ≡ Ok n → HasRunNumber (led_to s r (λ q. after_resize s q len)).rows
+    at (Err why) given = has
+    at (Ok q) given = changed s.rows q (λ (v : HeldValue). resized v len) (λ v at. resized_number v len (resize_fits s q len n (seek_key s.rows q) given)) has
 number_kept s (Resize p len (Err why)) sound reply spares has = has
 number_kept s (PathOf row answer) sound reply spares has = has
 

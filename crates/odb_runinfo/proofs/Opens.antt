@@ -97,13 +97,13 @@ is_one item sound size fits short = record {
   shorter = All-cons (IsShorter size) item [] short (All-nil (IsShorter size));
 }
 
-row_of : (number : ℕ) (key : RunKey) (item : Item) → IsSound item → IsSizeOf (tid_of item) 4 → IsShorter 4 item → IsRow (key_row number key item)
+row_of : (number : ℕ) (key : RunKey) (item : Item) → IsSound item → IsSizeOf (tid_of item) 4 → IsShorter 4 item → IsRow false (key_row number key item)
 row_of number key item sound fits short = record { path = path_of key; value = is_one item sound 4 fits short }
 
 pub database_opens : IsDatabase session_rows
 database_opens = record {
   tree = tree_opens;
-  rows = All-from_recursion IsRow session_rows.rows (
+  rows = All-from_recursion (IsRow false) session_rows.rows (
     record { path = record { short = omega arith; names = All-cons IsName (codes "Runinfo") [] directory_name (All-nil IsName) }; value = tt },
     (
       row_of 2 State (Int32 (pos 1)) (search rules) refl tt,

@@ -9,7 +9,11 @@ use Rattle.odb_tree.specs.declared.entry.DatabaseEntry.{DatabaseEntry}
 use Rattle.odb_tree.specs.declared.entry.DatabaseEntry.TheVariants.{Set}
 use Rattle.odb_tree.specs.declared.refusals.OdbRefusal.{OdbRefusal}
 use Rattle.odb_tree.specs.Rows.{Rows}
-use Rattle.odb_tree.specs.Calls.{IsRowsReply, rows_after, set_reply}
+use Rattle.odb_value.specs.Items.{tid_of}
+use Rattle.odb_tree.specs.Links.{resolved, meets_link, through}
+use Rattle.odb_tree.specs.Calls.{GivesItem, IsRowsReply, rows_after, set_reply}
+use Rattle.odb_tree.proofs.Led.{unmet}
+use Rattle.odb_tree.proofs.Sound.{links_after}
 use Rattle.odb_tree.specs.Histories.{IsLegalRows}
 use Rattle.odb_watch.specs.DatabasePorts.{calls_by}
 use Rattle.odb_runinfo.specs.RunNumberKept.{AllSpareRuninfo, SparesRuninfo}
@@ -33,21 +37,27 @@ pub number_spares : (got : Result HeldValue OdbRefusal) → SparesRuninfo (numbe
 number_spares got = tt
 
 -- the reply to a set of a number is that of the rows
-number_set : (s : Rows) (path : List (List ℕ)) (item : Item) (reply : Result ℕ OdbRefusal) → is_number item ≡ true → IsRowsReply s (Set path 0 item reply) → reply ≡ set_reply s path 0 item
-number_set s path (Text bytes) reply number is = absurd (false≢true number)
-number_set s path _ reply number is = is
+number_gives : (met : Bool) (item : Item) (given reply : Result ℕ OdbRefusal) → is_number item ≡ true → met ≡ false → GivesItem met (tid_of item) given reply → given ≡ reply
+number_gives met (Text bytes) given reply number none is = absurd (false≢true number)
+number_gives true _ given reply number none is = absurd (false≢true (sym none))
+number_gives false _ given reply number none is = is
 
-one_assigned : (s : Rows) (a : Assignment) (entry : DatabaseEntry) → IsSet a entry → is_number a.item ≡ true → IsRowsReply s entry → entry ≡ assigned s a
-one_assigned s a entry set number is =
-    set.is ∙ ap (λ (r : Result ℕ OdbRefusal). Set a.path 0 a.item r) (number_set s a.path a.item set.reply number (subst (λ (e : DatabaseEntry). IsRowsReply s e) set.is is))
+number_set : (s : Rows) (path : List (List ℕ)) (item : Item) (reply : Result ℕ OdbRefusal) → s.links ≡ false → is_number item ≡ true → IsRowsReply s (Set path 0 item reply)
+    → reply ≡ through (resolved s path true) (λ q. set_reply s q 0 item)
+number_set s path item reply none number is =
+    number_gives (meets_link s path true) item reply (through (resolved s path true) (λ q. set_reply s q 0 item)) number (unmet s path true none) is
 
-pub sets_assigned : (s : Rows) (caller : ℕ) (sets : List Assignment) (calls : List DatabaseEntry) → AreSets sets calls → AreNumbers sets → IsLegalRows s (calls_by caller calls) → calls ≡ assignments s sets
-sets_assigned s caller [] [] are numbers legal = refl
-sets_assigned s caller [] (entry ∷ calls) are numbers legal = absurd are
-sets_assigned s caller (a ∷ sets) [] are numbers legal = absurd are
-sets_assigned s caller (a ∷ sets) (entry ∷ calls) are numbers legal =
-    let here : entry ≡ assigned s a = one_assigned s a entry are.0 numbers.0 legal.0.reply in
-    let rest : calls ≡ assignments (rows_after s entry) sets = sets_assigned (rows_after s entry) caller sets calls are.1 numbers.1 legal.1 in
+one_assigned : (s : Rows) (a : Assignment) (entry : DatabaseEntry) → s.links ≡ false → IsSet a entry → is_number a.item ≡ true → IsRowsReply s entry → entry ≡ assigned s a
+one_assigned s a entry none set number is =
+    set.is ∙ ap (λ (r : Result ℕ OdbRefusal). Set a.path 0 a.item r) (number_set s a.path a.item set.reply none number (subst (λ (e : DatabaseEntry). IsRowsReply s e) set.is is))
+
+pub sets_assigned : (s : Rows) (caller : ℕ) (sets : List Assignment) (calls : List DatabaseEntry) → s.links ≡ false → AreSets sets calls → AreNumbers sets → IsLegalRows s (calls_by caller calls) → calls ≡ assignments s sets
+sets_assigned s caller [] [] none are numbers legal = refl
+sets_assigned s caller [] (entry ∷ calls) none are numbers legal = absurd are
+sets_assigned s caller (a ∷ sets) [] none are numbers legal = absurd are
+sets_assigned s caller (a ∷ sets) (entry ∷ calls) none are numbers legal =
+    let here : entry ≡ assigned s a = one_assigned s a entry none are.0 numbers.0 legal.0.reply in
+    let rest : calls ≡ assignments (rows_after s entry) sets = sets_assigned (rows_after s entry) caller sets calls (links_after s entry legal.0.reply ∙ none) are.1 numbers.1 legal.1 in
     ap (λ (more : List DatabaseEntry). entry ∷ more) rest ∙ ap (λ (e : DatabaseEntry). e ∷ assignments (rows_after s e) sets) here
 
 -- the number before the next one

@@ -6,7 +6,7 @@ use Rattle.odb_value.specs.Items.{tid_of}
 use Rattle.odb_value.specs.Values.{HeldValue}
 use Rattle.odb_value.specs.ValueChanges.{new_held, put_in}
 use Rattle.odb_tree.specs.declared.rows.Row.{Row}
-use Rattle.odb_tree.specs.Rows.{Rows}
+use Rattle.odb_tree.specs.Rows.{no_rows, Rows}
 use Rattle.odb_tree.specs.Calls.{after_set_all}
 use Rattle.odb_runinfo.specs.declared.keys.RunKey.{RunKey}
 use Rattle.odb_runinfo.specs.declared.keys.RunKey.TheVariants.{State, RunNumber, StartTime, StopTime}
@@ -38,10 +38,10 @@ with_key s key item = after_set_all s (key_path key) (value_of_one item)
 abbrev pub key_row : (number : ℕ) → RunKey → Item → Row
 key_row number key item = record { number = number; path = key_path key; value = Some (record { tid = tid_of item; size = 4; items = item ∷ [] }) }
 
--- the database of a session before its first call: the directory, and in it the state, 1, and 0 for the run number and
+-- the database of a session before its first call, which keeps no links: the directory, and in it the state, 1, and 0 for the run number and
 -- for the times of the start and the stop
 abbrev pub session_rows : Rows
-session_rows = record {
+session_rows = record no_rows {
   rows =
       record { number = 1; path = codes "Runinfo" ∷ []; value = None }
       ∷ key_row 2 State (Int32 (pos 1))

@@ -11,6 +11,7 @@ use Rattle.odb_tree.specs.declared.entry.DatabaseEntry.TheVariants.{Create, Get,
 use Rattle.odb_tree.specs.declared.refusals.OdbRefusal.{OdbRefusal}
 use Rattle.odb_tree.specs.declared.rows.NewKey.TheVariants.{Keys}
 use Rattle.odb_tree.specs.Rows.{Rows}
+use Rattle.odb_tree.specs.Links.{resolved, through}
 use Rattle.odb_tree.specs.Calls.{set_reply, rows_after}
 use Rattle.odb_watch.specs.DatabasePorts.{DatabaseAccess, AddsCall, AddsCalls, IsSettled}
 use Rattle.odb_runinfo.specs.declared.keys.RunKey.{RunKey}
@@ -121,7 +122,7 @@ stop_sets state time = key_set State (state_item state) ∷ key_set StopTime (UI
 
 -- the call, with the reply that the rows give
 abbrev pub assigned : Rows → Assignment → DatabaseEntry
-assigned s a = Set a.path 0 a.item (set_reply s a.path 0 a.item)
+assigned s a = Set a.path 0 a.item (through (resolved s a.path true) (λ q. set_reply s q 0 a.item))
 
 -- such calls one after the other
 abbrev pub assignments : Rows → List Assignment → List DatabaseEntry

@@ -1,6 +1,6 @@
 //! The run number is there throughout a session, and its database stays one.
 ghost use Rattle.odb_tree.specs.Databases.{IsDatabase};
-ghost use Rattle.std.specs.Prelude.{◌≡◌, ℕ, List, Ok, Result};
+ghost use Rattle.std.specs.Prelude.{◌≡◌, ℕ, false, List, Ok, Result};
 ghost use Rattle.odb_tree.specs.declared.entry.DatabaseEntry.{DatabaseEntry};
 ghost use Rattle.odb_tree.specs.declared.refusals.OdbRefusal.{OdbRefusal};
 ghost use Rattle.odb_value.specs.Values.{HeldValue};
@@ -48,9 +48,11 @@ pub fn own_calls_spare()
     ensures number { (got : Result HeldValue OdbRefusal) → SparesRuninfo (number_asked got) }
 {}
 
-/// Where the calls that set numbers are legal from some rows, each has the reply that these rows give at its point.
+/// Where the calls that set numbers are legal from some rows, which keep no links, each has the reply that these rows give
+/// at its point.
 pub fn sets_are_legal()
     ensures { (s : Rows) (caller : ℕ) (sets : List Assignment) (calls : List DatabaseEntry)
-        → AreSets sets calls → AreNumbers sets → IsLegalRows s (calls_by caller calls)
+        → s.links ≡ false → AreSets sets calls → AreNumbers sets
+        → IsLegalRows s (calls_by caller calls)
         → calls ≡ assignments s sets }
 {}

@@ -1,4 +1,4 @@
-ghost use Rattle.std.specs.Prelude.{◌≡◌, IfOk, OnOk, IsTrue, None};
+ghost use Rattle.std.specs.Prelude.{◌≡◌, false, IfOk, OnOk, IsTrue, None};
 ghost use Rattle.odb_value.specs.Items.{is_kept, tid_of};
 ghost use Rattle.odb_value.specs.Values.{IsShorter, size_limit};
 ghost use Rattle.odb_tree.specs.Rows.{no_rows};
@@ -22,13 +22,14 @@ fn value_of_one(alloc: Global, item: Item) -> Result<Value, NoMemory>
     Ok(value)
 }
 
-/// Sets the value of the key at this path, where nothing refuses it.
+/// Sets the value of the key at this path, where nothing refuses it and no links are kept.
 fn set_key<D: Database>(
     alloc: Global,
     database: &mut D,
     path: &Path,
     value: &Value,
 ) -> Result<(), NoMemory>
+    requires plain { (D.rows database.old).links ≡ false }
     requires free { set_all_fault (D.rows database.old) path.now value.now ≡ None }
     ensures { OnOk result (D.rows database.new ≡ after_set_all (D.rows database.old) path.now value.now) }
 {
@@ -39,7 +40,7 @@ fn set_key<D: Database>(
     }
 }
 
-/// Makes the key with this one item, where nothing refuses it.
+/// Makes the key with this one item, where nothing refuses it and no links are kept.
 fn add_key<D: Database>(
     alloc: Global,
     database: &mut D,
@@ -48,6 +49,7 @@ fn add_key<D: Database>(
 ) -> Result<(), NoMemory>
     requires kept { IsTrue (is_kept (tid_of item)) }
     requires short { IsShorter size_limit item }
+    requires plain { (D.rows database.old).links ≡ false }
     requires free { set_all_fault (D.rows database.old) (key_path key) (value_of_one item) ≡ None }
     ensures { OnOk result (D.rows database.new ≡ with_key (D.rows database.old) key item) }
 {

@@ -2,6 +2,8 @@ pub mod Splitting
 pub mod KeyLines
 pub mod Texts
 pub mod Found
+pub mod Unled
+pub mod Plain
 pub mod Parts
 pub mod Growing
 pub mod Sizes

@@ -1,5 +1,5 @@
 -- The steps of a text, none of which is refused, keep a database.
-use Rattle.std.proofs.Common.{◌≡◌, ℕ, ◌+◌, ◌<◌, ◌≤◌, Bool, true, false, cond, List, [], ◌∷◌, ◌++◌, length, map, Option, Some, None, Ok, refl, sym, ap, ◌∙◌, subst, arith, inl, inr}
+use Rattle.std.proofs.Common.{◌≡◌, ℕ, ◌+◌, ◌<◌, ◌≤◌, Bool, true, false, cond, List, [], ◌∷◌, ◌++◌, length, map, Option, Some, None, Result, Ok, Err, refl, sym, ap, ◌∙◌, subst, arith, inl, inr}
 use Rattle.std.specs.Prelude.{nat_lt}
 use Rattle.std.specs.Option.{option_or}
 use Rattle.std.specs.List.{AllByRecursion}
@@ -24,15 +24,17 @@ use Rattle.odb_tree.specs.declared.refusals.OdbRefusal.TheVariants.{Limit}
 use Rattle.odb_tree.specs.declared.refusals.What.TheVariants.{Items, Size}
 use Rattle.odb_tree.specs.Rows.{Rows, row_at}
 use Rattle.odb_tree.specs.Making.{new_number}
-use Rattle.odb_tree.specs.Calls.{reply_or, number_at, create_fault, set_all_fault, after_set_all, rows_after}
+use Rattle.odb_tree.specs.Calls.{reply_or, number_at, create_fault, after_create, set_all_fault, after_set_all, rows_after}
 use Rattle.odb_tree.specs.Histories.{IsLegalRows, rows_replay}
 use Rattle.odb_tree.specs.Databases.{IsDatabase}
-use Rattle.odb_tree.proofs.Sound.{database_created, database_set_all}
+use Rattle.odb_tree.specs.Links.{resolved, led_to}
+use Rattle.odb_tree.proofs.Sound.{database_created, database_set_all, links_replayed}
+use Rattle.odb_tree.proofs.Led.{unlinked, reply_unlinked, after_unlinked, resolved_path}
 use Rattle.odb_text.specs.ItemLines.{is_string, IsFrontNumber, IsItemLine, IsAloneText}
 use Rattle.odb_text.specs.LineForms.{behind_blank}
 use Rattle.odb_text.specs.declared.acts.Act.{Act}
 use Rattle.odb_text.specs.declared.acts.Act.TheVariants.{Make, Write, Skip}
-use Rattle.odb_text.specs.TextSteps.{TextStep, after_make_by, many_fault, wide_fault, act_fault, after_act, or_refused, run_steps, dir_after}
+use Rattle.odb_text.specs.TextSteps.{TextStep, fault_through, dir_refusal, after_make_by, many_fault, wide_fault, act_fault, after_act, or_refused, run_steps, dir_after}
 use Rattle.odb_text.specs.Grammar.{SizedItem, AreItemLines, size_given, size_for, held_with, IsSingleKey, IsArrayHead, IsKeptKey, SpellsAct, SpellsSteps}
 use Rattle.odb_text.specs.TextCalls.{IsTextCall, LeadTextCalls}
 use Rattle.odb_text.proofs.Written.{key_is_value}
@@ -158,8 +160,12 @@ record Keeps (s : Rows) (dir : List (List ℕ)) (act : Act) : Type 0 where
   database : IsDatabase (after_act s act)
   path : IsPath (dir_after dir act)
 
-make_keeps : (s : Rows) (p : List (List ℕ)) (o : Option OdbRefusal) → create_fault s p Dir ≡ o → IsDatabase s → IsPath p → IsDatabase (after_make_by s p o)
-make_keeps s p None e h path = database_created s p Dir None h path (sym e) refl
+make_keeps : (s : Rows) (p : List (List ℕ)) (o : Option OdbRefusal) → dir_refusal s p ≡ o → IsDatabase s → IsPath p → IsDatabase (after_make_by s p o)
+make_keeps s p None e h path = at (resolved s p false) refl e
+  where
+    at : (r : Result (List (List ℕ)) OdbRefusal) → resolved s p false ≡ r → fault_through r (λ q. create_fault s q Dir) ≡ None → IsDatabase (led_to s r (λ q. after_create s q Dir))
+    at (Err why) is k = absurd (cc)
+    at (Ok q) is k = database_created s q Dir None h (resolved_path s p q false h.rows path is) tt (sym k) refl
 make_keeps s p (Some refusal) e h path = h
 
 write_keeps : (s : Rows) (dir : List (List ℕ)) (name : List ℕ) (type : Tid) (xs : List SizedItem) → IsDatabase s → IsPath dir → IsGoodKey dir name type xs
@@ -173,7 +179,7 @@ write_keeps s dir name type xs h path good free =
 act_keeps : (s : Rows) (dir own : List (List ℕ)) (act : Act) → IsDatabase s → IsPath dir → SpellsAct dir own act → act_fault s act ≡ None → Keeps s dir act
 act_keeps s dir own (Make p) h path spells free =
     let good : IsPath p = path_sound spells.2.text p spells.2.path in
-    record { database = make_keeps s p (create_fault s p Dir) refl h good; path = good }
+    record { database = make_keeps s p (dir_refusal s p) refl h good; path = good }
 act_keeps s dir own (Write p v) h path spells free =
     let name : List ℕ = spells.0 in
     let type : Tid = spells.1 in
@@ -232,19 +238,27 @@ calls_behind s mid after h k = record {
   leads = both_lead s h.calls k.calls ∙ (ap (λ (r : Rows). rows_replay r k.calls) h.leads ∙ k.leads);
 }
 
-make_calls : (s : Rows) (p : List (List ℕ)) (o : Option OdbRefusal) → create_fault s p Dir ≡ o → IsPath p → LeadTextCalls s (after_make_by s p o)
-make_calls s p None e path = record {
+make_calls : (s : Rows) (p : List (List ℕ)) (o : Option OdbRefusal) → s.links ≡ false → dir_refusal s p ≡ o → IsPath p → LeadTextCalls s (after_make_by s p o)
+make_calls s p None none e path = record {
   calls = (0, Create p Dir (Ok (new_number s p))) ∷ [];
   main = (refl, tt);
   plain = (tt, tt);
-  legal = (record { may = λ _. refl; sound = path; reply = ap (λ (o : Option OdbRefusal). reply_or o (new_number s p)) e }, tt);
+  legal = (
+    record {
+      may = λ _. refl;
+      sound = (path, tt);
+      reply = reply_unlinked s (Create p Dir (Ok (new_number s p))) none
+          (ap (λ (o : Option OdbRefusal). reply_or o (new_number s p)) (ap (λ (r : Result (List (List ℕ)) OdbRefusal). fault_through r (λ q. create_fault s q Dir)) (sym (unlinked s p false none)) ∙ e));
+    },
+    tt,
+  );
   leads = refl;
 }
-make_calls s p (Some refusal) e path = no_calls s
+make_calls s p (Some refusal) none e path = no_calls s
 
-write_calls : (s : Rows) (dir : List (List ℕ)) (name : List ℕ) (type : Tid) (xs : List SizedItem) → IsPath dir → IsGoodKey dir name type xs → act_fault s (Write (dir ++ name ∷ []) (held_with type xs)) ≡ None
+write_calls : (s : Rows) (dir : List (List ℕ)) (name : List ℕ) (type : Tid) (xs : List SizedItem) → s.links ≡ false → IsPath dir → IsGoodKey dir name type xs → act_fault s (Write (dir ++ name ∷ []) (held_with type xs)) ≡ None
     → LeadTextCalls s (after_set_all s (dir ++ name ∷ []) (held_with type xs))
-write_calls s dir name type xs path good free =
+write_calls s dir name type xs none path good free =
     let p : List (List ℕ) = dir ++ name ∷ [] in
     let v : HeldValue = held_with type xs in
     let own : Option OdbRefusal = option_or (many_fault (length v.items)) (wide_fault v.size) in
@@ -258,43 +272,47 @@ write_calls s dir name type xs path good free =
         record {
           may = λ _. refl;
           sound = (is_path_push dir name path good.deep good.name_is, value_sound type xs good.read good.some (none_left own rows free));
-          reply = ap (λ (o : Option OdbRefusal). reply_or o n) (none_right own rows free);
+          reply = reply_unlinked s (SetAll p v (Ok n)) none (ap (λ (o : Option OdbRefusal). reply_or o n) (none_right own rows free));
         },
         tt,
       );
-      leads = refl;
+      leads = after_unlinked s (SetAll p v (Ok n)) none;
     }
 
 record Calls (s : Rows) (dir : List (List ℕ)) (act : Act) : Type 0 where
   calls : LeadTextCalls s (after_act s act)
   path : IsPath (dir_after dir act)
 
-act_calls : (s : Rows) (dir own : List (List ℕ)) (act : Act) → IsPath dir → SpellsAct dir own act → act_fault s act ≡ None → Calls s dir act
-act_calls s dir own (Make p) path spells free =
-    let good : IsPath p = path_sound spells.2.text p spells.2.path in record { calls = make_calls s p (create_fault s p Dir) refl good; path = good }
-act_calls s dir own (Write p v) path spells free =
+act_calls : (s : Rows) (dir own : List (List ℕ)) (act : Act) → s.links ≡ false → IsPath dir → SpellsAct dir own act → act_fault s act ≡ None → Calls s dir act
+act_calls s dir own (Make p) none path spells free =
+    let good : IsPath p = path_sound spells.2.text p spells.2.path in record { calls = make_calls s p (dir_refusal s p) none refl good; path = good }
+act_calls s dir own (Write p v) none path spells free =
     let name : List ℕ = spells.0 in
     let type : Tid = spells.1 in
     let xs : List SizedItem = spells.2 in
     let is : Write p v ≡ Write (dir ++ name ∷ []) (held_with type xs) = ap (λ (q : List (List ℕ)). Write q v) spells.4 ∙ ap (λ (w : HeldValue). Write (dir ++ name ∷ []) w) spells.5 in
     record {
       calls = subst (λ (a : Act). LeadTextCalls s (after_act s a)) (sym is)
-          (write_calls s dir name type xs path (key_good dir own name type xs spells.3) (subst (λ (a : Act). act_fault s a ≡ None) is free));
+          (write_calls s dir name type xs none path (key_good dir own name type xs spells.3) (subst (λ (a : Act). act_fault s a ≡ None) is free));
       path = path;
     }
-act_calls s dir own (Skip items) path spells free = record { calls = no_calls s; path = path }
+act_calls s dir own (Skip items) none path spells free = record { calls = no_calls s; path = path }
 
-steps_calls : (number : ℕ) (dir lines : List (List ℕ)) (steps : List TextStep) (s after : Rows) → IsPath dir → SpellsSteps number dir lines steps → run_steps steps s ≡ Ok after → LeadTextCalls s after
-steps_calls number dir lines [] s after path reads ran = (let same : s ≡ after = cc in subst (LeadTextCalls s) same (no_calls s))
-steps_calls number dir lines (step ∷ steps) s after path reads ran =
+-- the calls leave it that no links are kept
+calls_plain : (s after : Rows) → LeadTextCalls s after → s.links ≡ false → after.links ≡ false
+calls_plain s after h none = sym (ap (λ (r : Rows). r.links) h.leads) ∙ (links_replayed s h.calls h.legal ∙ none)
+
+steps_calls : (number : ℕ) (dir lines : List (List ℕ)) (steps : List TextStep) (s after : Rows) → s.links ≡ false → IsPath dir → SpellsSteps number dir lines steps → run_steps steps s ≡ Ok after → LeadTextCalls s after
+steps_calls number dir lines [] s after none path reads ran = (let same : s ≡ after = cc in subst (LeadTextCalls s) same (no_calls s))
+steps_calls number dir lines (step ∷ steps) s after none path reads ran =
     cases (act_fault s step.act) refl ran (λ (now : Calls s dir step.act) (k : run_steps steps (after_act s step.act) ≡ Ok after).
     calls_behind s (after_act s step.act) after now.calls
-    (steps_calls (number + length reads.0 + length reads.1) (dir_after dir step.act) reads.2 steps (after_act s step.act) after now.path reads.7 k))
+    (steps_calls (number + length reads.0 + length reads.1) (dir_after dir step.act) reads.2 steps (after_act s step.act) after (calls_plain s (after_act s step.act) now.calls none) now.path reads.7 k))
   where
     cases : (o : Option OdbRefusal) → act_fault s step.act ≡ o → or_refused step.line o (run_steps steps (after_act s step.act)) ≡ Ok after
         → (Calls s dir step.act → run_steps steps (after_act s step.act) ≡ Ok after → LeadTextCalls s after) → LeadTextCalls s after
     cases (Some why) e k rest = absurd (cc)
-    cases None e k rest = rest (act_calls s dir reads.1 step.act path reads.6 e) k
+    cases None e k rest = rest (act_calls s dir reads.1 step.act none path reads.6 e) k
 
-pub text_calls : (s after : Rows) (lines : List (List ℕ)) (steps : List TextStep) → SpellsSteps 1 [] lines steps → run_steps steps s ≡ Ok after → LeadTextCalls s after
-text_calls s after lines steps reads ran = steps_calls 1 [] lines steps s after root_is_path reads ran
+pub text_calls : (s after : Rows) (lines : List (List ℕ)) (steps : List TextStep) → s.links ≡ false → SpellsSteps 1 [] lines steps → run_steps steps s ≡ Ok after → LeadTextCalls s after
+text_calls s after lines steps none reads ran = steps_calls 1 [] lines steps s after none root_is_path reads ran

@@ -16,7 +16,7 @@ use Rattle.odb_text.specs.declared.acts.LoadRefusal.TheVariants.{BadLine, KeyRef
 use Rattle.std.specs.Option.{option_or}
 use Rattle.std.specs.Str.Lines.{lines}
 use Rattle.daq_types.specs.declared.types.Tid.{Tid}
-use Rattle.odb_tree.specs.declared.refusals.OdbRefusal.TheVariants.{NoKey, Exists, NotDir, NotValue, TypeMismatch, BadIndex, Limit, NotKept, NoMemory as none_left}
+use Rattle.odb_tree.specs.declared.refusals.OdbRefusal.TheVariants.{NoKey, Exists, NotDir, NotValue, TypeMismatch, BadIndex, Limit, NotKept, BadLink, NoMemory as none_left}
 use Rattle.odb_value.specs.Values.{items_limit}
 use Rattle.odb_text.specs.declared.faults.BlockFault.{BlockFault}
 use Rattle.odb_text.specs.declared.faults.BlockFault.TheVariants.{Bad, Refused, NoMemory as no_memory}
@@ -227,6 +227,7 @@ refused_fault bytes line dir loaded now ls rest act count (TypeMismatch have) e 
 refused_fault bytes line dir loaded now ls rest act count (BadIndex len) e b h = (first_refused bytes line dir loaded now ls rest act count (BadIndex len) e b (h (λ (k : (BadIndex len) ≡ none_left). absurd (cc))), refl)
 refused_fault bytes line dir loaded now ls rest act count (Limit what) e b h = (first_refused bytes line dir loaded now ls rest act count (Limit what) e b (h (λ (k : (Limit what) ≡ none_left). absurd (cc))), refl)
 refused_fault bytes line dir loaded now ls rest act count (NotKept kind) e b h = (first_refused bytes line dir loaded now ls rest act count (NotKept kind) e b (h (λ (k : (NotKept kind) ≡ none_left). absurd (cc))), refl)
+refused_fault bytes line dir loaded now ls rest act count (BadLink steps) e b h = (first_refused bytes line dir loaded now ls rest act count (BadLink steps) e b (h (λ (k : (BadLink steps) ≡ none_left). absurd (cc))), refl)
 refused_fault bytes line dir loaded now ls rest act count none_left e b h = tt
 
 pub refused_at-is : (line : ℕ) (why : OdbRefusal) → why ≢ none_left → refused_at line why ≡ KeyRefused line why
@@ -238,6 +239,7 @@ refused_at-is line (TypeMismatch have) h = refl
 refused_at-is line (BadIndex len) h = refl
 refused_at-is line (Limit what) h = refl
 refused_at-is line (NotKept kind) h = refl
+refused_at-is line (BadLink steps) h = refl
 refused_at-is line none_left h = absurd (h refl)
 
 own_some : (dir own : List (List ℕ)) (act : Act) → SpellsAct dir own act → 1 ≤ length own

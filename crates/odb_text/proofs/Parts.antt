@@ -95,7 +95,7 @@ pub keys_whole : (s : Rows) (p : List (List ℕ)) → IsDatabase s → IsDir s.r
 keys_whole s p h dir =
     flat_map-append (key_part s p) (map child_of (keys_in s.rows p)) (map child_of (dirs_in s.rows p))
     ∙ (ap (λ (l : List ℕ). l ++ flat_map (key_part s p) (map child_of (dirs_in s.rows p)))
-    (keys_parts s p (keys_in s.rows p) (listed_stand s p true [] s.rows refl h.tree (short_rows s.rows h.rows) dir) (listed_kind true p s.rows))
+    (keys_parts s p (keys_in s.rows p) (listed_stand s p true [] s.rows refl h.tree (short_rows s.links s.rows h.rows) dir) (listed_kind true p s.rows))
     ∙ (ap (λ (l : List ℕ). keys_text (keys_in s.rows p) ++ l) (dirs_no_keys s p (dirs_in s.rows p) (listed_kind false p s.rows))
     ∙ append-nil (keys_text (keys_in s.rows p))))
 
@@ -104,7 +104,7 @@ unfolding dirs_text
 dirs_whole depth s p h dir =
     flat_map-append (dir_part depth s p) (map child_of (keys_in s.rows p)) (map child_of (dirs_in s.rows p))
     ∙ (ap (λ (l : List ℕ). l ++ flat_map (dir_part depth s p) (map child_of (dirs_in s.rows p))) (keys_no_dirs depth s p (keys_in s.rows p) (listed_kind true p s.rows))
-    ∙ (dirs_parts depth s p (dirs_in s.rows p) (listed_stand s p false [] s.rows refl h.tree (short_rows s.rows h.rows) dir) (listed_kind false p s.rows)
+    ∙ (dirs_parts depth s p (dirs_in s.rows p) (listed_stand s p false [] s.rows refl h.tree (short_rows s.links s.rows h.rows) dir) (listed_kind false p s.rows)
     ∙ ap (λ (n : ℕ). dirs_text n s.rows p) {x = suc depth} {y = depth + 1} (omega arith)))
 
 -- Each child stands in the directory.
@@ -134,7 +134,7 @@ no_more s p (r ∷ rs) h = (child_stands s p r h.0, no_more s p rs h.1)
 
 pub all_stand : (s : Rows) (p : List (List ℕ)) → IsDatabase s → IsDir s.rows p → All (IsChildIn s p) (children_of s.rows p)
 all_stand s p h dir =
-    let short = short_rows s.rows h.rows in
+    let short = short_rows s.links s.rows h.rows in
     all_of s p (children_of s.rows p)
     (children_stand s p (keys_in s.rows p) (map child_of (dirs_in s.rows p)) (listed_stand s p true [] s.rows refl h.tree short dir)
     (no_more s p (dirs_in s.rows p) (listed_stand s p false [] s.rows refl h.tree short dir)))

@@ -1,5 +1,5 @@
 -- A row that may be made next is made by the step that a dump has for it: nothing refuses it, and the row alone comes.
-use Rattle.std.proofs.Common.{◌≡◌, ℕ, zero, suc, ◌+◌, ◌-◌, ◌≤◌, Bool, false, cond, eqb, List, [], ◌∷◌, ◌++◌, length, drop, Option, Some, None, inl, inr, refl, sym, ap, ◌∙◌, arith, append_assoc, append-nil, length-append, ne_eqb}
+use Rattle.std.proofs.Common.{◌≡◌, ℕ, zero, suc, ◌+◌, ◌-◌, ◌≤◌, Bool, false, cond, eqb, List, [], ◌∷◌, ◌++◌, length, drop, Option, Some, None, Result, inl, inr, refl, sym, ap, ◌∙◌, arith, append_assoc, append-nil, length-append, ne_eqb}
 use Rattle.std.specs.Prelude.{◌^◌, IfSome}
 use Rattle.std.specs.Option.{option_or, option_map, is_some}
 use Rattle.std.proofs.lemmas.Bool.{le-ltb}
@@ -15,13 +15,15 @@ use Rattle.odb_tree.specs.Limits.{rows_limit, total_limit, limit_fault, number_f
 use Rattle.odb_tree.specs.Lookups.{parent_of, obstacle_from, obstacle_to_new}
 use Rattle.odb_tree.specs.Making.{Way, further, go_on, no_way, way_to, last_of, created}
 use Rattle.odb_tree.specs.Places.{made_for}
-use Rattle.odb_tree.specs.Calls.{exists_fault, create_fault, set_all_fault, after_set_all_at}
+use Rattle.odb_tree.specs.Calls.{exists_fault, create_fault, after_create, set_all_fault, after_set_all_at}
+use Rattle.odb_tree.specs.Links.{led_to}
+use Rattle.odb_tree.proofs.Led.{unlinked}
 use Rattle.odb_tree.specs.Trees.{IsDir, IsPlaced, ArePlaced, AreApart, IsTree, IsNewRow, with_rows}
 use Rattle.odb_tree.specs.WalkLaws.{NoneAt}
 use Rattle.odb_tree.proofs.Kept.{created_with}
 use Rattle.odb_tree.proofs.FaultLemmas.{create_is, set_all_new, tid_right}
 use Rattle.odb_text.specs.declared.acts.Act.{Act}
-use Rattle.odb_text.specs.TextSteps.{make_fault_by, after_make_by, many_fault, wide_fault, act_fault, after_act}
+use Rattle.odb_text.specs.TextSteps.{fault_through, dir_refusal, make_fault_by, after_make_by, many_fault, wide_fault, act_fault, after_act}
 use Rattle.odb_text.specs.DumpSteps.{act_with, act_for}
 use Rattle.odb_text.proofs.Found.{row_found, placed_in, clear_to, parent_is, or_nothing}
 use Rattle.odb_text.proofs.DumpKeys.{own_size_small}
@@ -123,14 +125,18 @@ pub record StepRuns (s : Rows) (act : Act) (after : Rows) : Type 0 where
   pub clear : act_fault s act ≡ None
   pub next : after_act s act ≡ after
 
-runs_with : (s : Rows) (q : List (List ℕ)) (o : Option HeldValue) (after : Rows) → IsTree s → IsPlaced s.rows q → row_at s.rows q ≡ None → created s q o ≡ after → IsWithin after → IfSome o IsValue
+runs_with : (s : Rows) (q : List (List ℕ)) (o : Option HeldValue) (after : Rows) → s.links ≡ false → IsTree s → IsPlaced s.rows q → row_at s.rows q ≡ None → created s q o ≡ after → IsWithin after → IfSome o IsValue
     → StepRuns s (act_with q o) after
-runs_with s q None after tree k free is within value =
+runs_with s q None after none tree k free is within value =
     let limits : limit_fault None (created s q None) ≡ None = ap (limit_fault None) is ∙ fits after within in
     let fault : create_fault s q Dir ≡ None =
     sym (create_is s q Dir None None None None (sym (clear_way s q tree k)) no_other (sym (not_there s.rows q (long_path s.rows q k) free)) no_other refl no_other (sym limits)) in
-    record { clear = ap (make_fault_by s q) fault; next = ap (after_make_by s q) fault ∙ is }
-runs_with s q (Some v) after tree k free is within value =
+    let refusal : dir_refusal s q ≡ None = ap (λ (r : Result (List (List ℕ)) OdbRefusal). fault_through r (λ x. create_fault s x Dir)) (unlinked s q false none) ∙ fault in
+    record {
+      clear = ap (make_fault_by s q) refusal;
+      next = ap (after_make_by s q) refusal ∙ (ap (λ (r : Result (List (List ℕ)) OdbRefusal). led_to s r (λ x. after_create s x Dir)) (unlinked s q false none) ∙ is);
+    }
+runs_with s q (Some v) after none tree k free is within value =
     let limits : limit_fault None (created s q (Some v)) ≡ None = ap (limit_fault None) is ∙ fits after within in
     let fault : set_all_fault s q v ≡ None =
     sym (set_all_new s q v None None (long_path s.rows q k) free value (sym (clear_way s q tree k)) no_other
@@ -140,9 +146,9 @@ runs_with s q (Some v) after tree k free is within value =
       next = ap (after_set_all_at s q v) free ∙ is;
     }
 
-pub row_remade : (s : Rows) (new : Row) → IsTree s → IsNewRow s new → IsWithin (with_rows s (new ∷ [])) → IfSome new.value IsValue → StepRuns s (act_for new) (with_rows s (new ∷ []))
-row_remade s new tree h within value =
-    runs_with s new.path new.value (with_rows s (new ∷ [])) tree h.placed (none_found s.rows new.path h.free) (created_alone s new tree h) within value
+pub row_remade : (s : Rows) (new : Row) → s.links ≡ false → IsTree s → IsNewRow s new → IsWithin (with_rows s (new ∷ [])) → IfSome new.value IsValue → StepRuns s (act_for new) (with_rows s (new ∷ []))
+row_remade s new none tree h within value =
+    runs_with s new.path new.value (with_rows s (new ∷ [])) none tree h.placed (none_found s.rows new.path h.free) (created_alone s new tree h) within value
 
 -- no limit is passed with it, where there is room for it and further ones
 pub record HasSpace (s : Rows) (count bytes : ℕ) : Type 0 where

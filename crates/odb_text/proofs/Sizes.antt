@@ -1,5 +1,5 @@
 -- A dump has few bytes: each row adds at most 1,028 and 13 times the bytes of its value.
-use Rattle.std.proofs.Common.{◌≡◌, ℕ, zero, suc, ◌+◌, ◌-◌, ◌*◌, ◌^◌, ◌<◌, ◌≤◌, Bool, true, false, not, cond, ◌==◌, List, [], ◌∷◌, ◌++◌, length, All, Option, Some, None, IfSome, sum_by, refl, sym, ap, subst, arith, length-append}
+use Rattle.std.proofs.Common.{◌≡◌, ℕ, zero, suc, ◌+◌, ◌-◌, ◌*◌, ◌^◌, ◌<◌, ◌≤◌, Bool, true, false, not, cond, ◌==◌, List, [], ◌∷◌, ◌++◌, length, All, Option, Some, None, IfSome, sum_by, inl, inr, refl, sym, ap, subst, arith, length-append}
 use Rattle.std.specs.Option.{is_some}
 use Rattle.std.specs.List.{filter, flat_map}
 use Rattle.std.specs.Fmt.{decimal}
@@ -25,7 +25,8 @@ use Rattle.odb_tree.specs.Calls.{last_name}
 use Rattle.odb_tree.specs.Walks.{walk_below, walk}
 use Rattle.odb_tree.proofs.WalkLaws.{and_left, and_right}
 use Rattle.odb_tree.specs.Trees.{AreShort}
-use Rattle.odb_tree.specs.Databases.{IsRow, IsDatabase}
+use Rattle.odb_tree.specs.Links.{IsLink}
+use Rattle.odb_tree.specs.Databases.{IsHeld, IsRow, IsDatabase}
 use Rattle.odb_tree.proofs.EachRow.{short_rows}
 use Rattle.odb_tree.proofs.Whole.{has_rows}
 use Rattle.odb_value.specs.PathText.{path_text}
@@ -178,6 +179,29 @@ key_small name v short h =
       short,
     )
 
+-- a link's line is that of a STRING
+link_small : (name : List ℕ) (v : HeldValue) → length name ≤ 31 → IsLink v → length (key_text name v) ≤ 1028 + 13 * bytes_of v
+link_small name v short h =
+    let wide : v.size ≤ 1024 = omega (arith, h.size, h.short) in
+    omega (
+      arith,
+      length-append name (32 ∷ 61 ∷ 32 ∷ (tid_name v.tid ++ items_text v.size v.items)),
+      length-append (tid_name v.tid) (items_text v.size v.items),
+      name_small v.tid,
+      ap (λ (items : List Item). length (items_text v.size items)) h.one,
+      ap (λ (items : List Item). length items * v.size) h.one,
+      length-append (item_alone v.size (Text h.text)) (10 ∷ []),
+      alone_small v.size (Text h.text) wide,
+      suc-mul 0 v.size,
+      h.size,
+      short,
+    )
+
+held_small : (links : Bool) (name : List ℕ) (v : HeldValue) → length name ≤ 31 → IsHeld links v → length (key_text name v) ≤ 1028 + 13 * bytes_of v
+held_small false name v short h = key_small name v short h
+held_small true name v short (inl h) = key_small name v short h
+held_small true name v short (inr h) = link_small name v short h
+
 -- Paths.
 
 abbrev pub AllNames : List (List ℕ) → Type 0
@@ -213,15 +237,15 @@ cost_of p (Some v) = length (key_text (last_name p) v)
 abbrev pub row_cost : Row → ℕ
 row_cost r = cost_of r.path r.value
 
-cost_small : (p : List (List ℕ)) (o : Option HeldValue) → IsPath p → IfSome o IsValue → cost_of p o ≤ 1028 + 13 * bytes_in o
-cost_small p None h k = omega (arith, line_long p, path_small p h)
-cost_small p (Some v) h k = key_small (last_name p) v (last_small p h) k
+cost_small : (links : Bool) (p : List (List ℕ)) (o : Option HeldValue) → IsPath p → IfSome o (IsHeld links) → cost_of p o ≤ 1028 + 13 * bytes_in o
+cost_small links p None h k = omega (arith, line_long p, path_small p h)
+cost_small links p (Some v) h k = held_small links (last_name p) v (last_small p h) k
 
-costs_small : (rows : List Row) → All IsRow rows → sum_by row_cost rows ≤ 1028 * length rows + 13 * sum_by bytes_of_row rows
-costs_small [] h = omega arith
-costs_small (r ∷ rs) h =
+costs_small : (links : Bool) (rows : List Row) → All (IsRow links) rows → sum_by row_cost rows ≤ 1028 * length rows + 13 * sum_by bytes_of_row rows
+costs_small links [] h = omega arith
+costs_small links (r ∷ rs) h =
     let here = h 0 r (omega arith) in
-    omega (arith, sum_by-cons row_cost r rs, sum_by-cons bytes_of_row r rs, cost_small r.path r.value here.path here.value, costs_small rs (λ i d l. h (suc i) d (omega (arith, l))))
+    omega (arith, sum_by-cons row_cost r rs, sum_by-cons bytes_of_row r rs, cost_small links r.path r.value here.path here.value, costs_small links rs (λ i d l. h (suc i) d (omega (arith, l))))
 
 -- The dump adds up what the rows of the walk add.
 
@@ -308,14 +332,14 @@ root_long rows (r ∷ rs) e = omega (arith, section_long rows [], ap (λ (l : Li
 pub dump_small : (s : Rows) → IsDatabase s → length (dump_text s) ≤ dump_limit
 unfolding walk
 dump_small s h =
-    let short = short_rows s.rows h.rows in
+    let short = short_rows s.links s.rows h.rows in
     omega (
       arith,
       length-append (root_text s.rows) (dirs_text depth_limit s.rows []),
       root_long s.rows (keys_in s.rows []) refl,
       below_cost depth_limit s.rows [] short (omega arith),
       sum_by-IsPermutation row_cost (walk_below depth_limit s.rows []) s.rows (has_rows s h.tree short),
-      costs_small s.rows h.rows,
+      costs_small s.links s.rows h.rows,
       h.within.rows,
       h.within.total,
     )

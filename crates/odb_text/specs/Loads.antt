@@ -13,7 +13,7 @@ use Rattle.odb_text.specs.declared.acts.LoadRefusal.TheVariants.{BadLine, KeyRef
 use Rattle.odb_text.specs.TextSteps.{TextStep, run_steps, act_fault, watched_act, changes_in_steps, written, skipped, keys_written, keys_skipped, dir_after, dirs_after}
 use Rattle.odb_text.specs.Grammar.{SpellsAct, SpellsSteps}
 use Rattle.odb_text.specs.TextFaults.{IsRefused}
-use Rattle.odb_tree.specs.declared.refusals.OdbRefusal.TheVariants.{NoKey, Exists, NotDir, NotValue, TypeMismatch, BadIndex, Limit, NotKept, NoMemory as none_left}
+use Rattle.odb_tree.specs.declared.refusals.OdbRefusal.TheVariants.{NoKey, Exists, NotDir, NotValue, TypeMismatch, BadIndex, Limit, NotKept, BadLink, NoMemory as none_left}
 use Rattle.odb_text.specs.declared.faults.BlockFault.{BlockFault}
 use Rattle.odb_text.specs.declared.faults.BlockFault.TheVariants.{Bad, Refused, NoMemory as no_memory}
 use Rattle.odb_text.specs.Dumps.{dump_limit}
@@ -121,4 +121,5 @@ refused_at line (TypeMismatch have) = KeyRefused line (TypeMismatch have)
 refused_at line (BadIndex len) = KeyRefused line (BadIndex len)
 refused_at line (Limit what) = KeyRefused line (Limit what)
 refused_at line (NotKept type) = KeyRefused line (NotKept type)
+refused_at line (BadLink steps) = KeyRefused line (BadLink steps)
 refused_at line none_left = NoMemory

@@ -2,7 +2,7 @@
 use Rattle.std.specs.Prelude.{◌≡◌, ℕ, List}
 use Rattle.std.specs.List.{AllByRecursion}
 use Rattle.daq_types.specs.Callers.{main_caller}
-use Rattle.odb_tree.specs.declared.rows.NewKey.TheVariants.{Dir, Keys}
+use Rattle.odb_tree.specs.declared.rows.NewKey.TheVariants.{Dir, Keys, Link}
 use Rattle.odb_tree.specs.declared.entry.DatabaseEntry.{DatabaseEntry}
 use Rattle.odb_tree.specs.declared.entry.DatabaseEntry.TheVariants.{Create, Set, SetAll, Get, Find, ListDir, Delete, Resize, PathOf}
 use Rattle.odb_tree.specs.Rows.{Rows}
@@ -12,6 +12,7 @@ use Rattle.odb_tree.specs.Histories.{IsLegalRows, rows_replay}
 abbrev pub IsTextCall : DatabaseEntry → Type 0
 IsTextCall (Create p Dir reply) = Unit {0}
 IsTextCall (Create p (Keys type len) reply) = ⊥
+IsTextCall (Create p (Link target) reply) = ⊥
 IsTextCall (Set p index item reply) = ⊥
 IsTextCall (SetAll p v reply) = Unit {0}
 IsTextCall (Get p reply) = ⊥

@@ -4,13 +4,13 @@ use Rattle.std.specs.Option.{option_or}
 use Rattle.odb_value.specs.Values.{HeldValue, size_limit, items_limit}
 use Rattle.odb_tree.specs.declared.rows.NewKey.TheVariants.{Dir}
 use Rattle.odb_tree.specs.declared.refusals.OdbRefusal.{OdbRefusal}
-use Rattle.odb_tree.specs.declared.refusals.OdbRefusal.TheVariants.{NoKey, Exists, NotDir, NotValue, TypeMismatch, BadIndex, Limit, NotKept, NoMemory}
+use Rattle.odb_tree.specs.declared.refusals.OdbRefusal.TheVariants.{NoKey, Exists, NotDir, NotValue, TypeMismatch, BadIndex, Limit, NotKept, BadLink, NoMemory}
 use Rattle.odb_tree.specs.declared.refusals.What.TheVariants.{Items, Size}
 use Rattle.odb_tree.specs.Rows.{Rows}
 use Rattle.odb_tree.specs.Lookups.{seek_key}
+use Rattle.odb_tree.specs.Links.{resolved, through, led_to}
 use Rattle.odb_tree.specs.Calls.{create_fault, after_create, set_all_fault, after_set_all, set_all_reply}
-use Rattle.odb_tree.specs.declared.entry.DatabaseEntry.TheVariants.{SetAll}
-use Rattle.odb_tree.specs.Noting.{Change, Watched, changes_of, all_noted}
+use Rattle.odb_tree.specs.Noting.{Change, Watched, changes_of_put, all_noted}
 use Rattle.odb_text.specs.declared.acts.Act.{Act}
 use Rattle.odb_text.specs.declared.acts.Act.TheVariants.{Make, Write, Skip}
 
@@ -19,7 +19,7 @@ pub record TextStep : Type 0 where
   pub line : ℕ
   pub act : Act
 
--- Making a directory.
+-- Making a directory, at the path after its links.
 
 -- where something stands at the path already, a key is refused, and a directory stays
 abbrev pub there_already : Result (ℕ × HeldValue) OdbRefusal → Option OdbRefusal
@@ -35,23 +35,32 @@ is_exists (TypeMismatch have) = false
 is_exists (BadIndex len) = false
 is_exists (Limit what) = false
 is_exists (NotKept type) = false
+is_exists (BadLink steps) = false
 is_exists NoMemory = false
+
+-- why `create` makes no directory
+abbrev pub fault_through : Result (List (List ℕ)) OdbRefusal → (List (List ℕ) → Option OdbRefusal) → Option OdbRefusal
+fault_through (Ok q) fault = fault q
+fault_through (Err refusal) fault = Some refusal
+
+abbrev pub dir_refusal : Rows → List (List ℕ) → Option OdbRefusal
+dir_refusal s p = fault_through (resolved s p false) (λ q. create_fault s q Dir)
 
 -- the refusal of `create`, but for what is there already
 abbrev pub make_fault_by : Rows → List (List ℕ) → Option OdbRefusal → Option OdbRefusal
 make_fault_by s p None = None
-make_fault_by s p (Some refusal) = if is_exists refusal then there_already (seek_key s.rows p) else Some refusal
+make_fault_by s p (Some refusal) = if is_exists refusal then there_already (through (resolved s p true) (λ q. seek_key s.rows q)) else Some refusal
 
 abbrev pub make_fault : Rows → List (List ℕ) → Option OdbRefusal
-make_fault s p = make_fault_by s p (create_fault s p Dir)
+make_fault s p = make_fault_by s p (dir_refusal s p)
 
 -- the directory and those above it are made where they are missing
 abbrev pub after_make_by : Rows → List (List ℕ) → Option OdbRefusal → Rows
-after_make_by s p None = after_create s p Dir
+after_make_by s p None = led_to s (resolved s p false) (λ q. after_create s q Dir)
 after_make_by s p (Some refusal) = s
 
 abbrev pub after_make : Rows → List (List ℕ) → Rows
-after_make s p = after_make_by s p (create_fault s p Dir)
+after_make s p = after_make_by s p (dir_refusal s p)
 
 -- Refusals.
 
@@ -81,10 +90,10 @@ after_act s (Make p) = after_make s p
 after_act s (Write p v) = after_set_all s p v
 after_act s (Skip items) = s
 
--- the changes that a step makes: writing a key is one `set_all`
+-- the changes that a step makes: writing a key is one `put`
 abbrev pub changes_of_act : Rows → Act → List Change
 changes_of_act s (Make p) = []
-changes_of_act s (Write p v) = changes_of s (SetAll p v (set_all_reply s p v))
+changes_of_act s (Write p v) = changes_of_put s p v (set_all_reply s p v)
 changes_of_act s (Skip items) = []
 
 -- a watched database after a step

@@ -39,7 +39,7 @@ fn add_key<D: Database>(
         return Ok(());
     }
     let own = path_of_child(alloc, database, path, child)?;
-    match database.get(alloc, &own) {
+    match database.raw(alloc, &own) {
         Ok(value) => print_key(child.name.as_slice(), &value, text),
         Err(_) => Err(NoMemory),
     }

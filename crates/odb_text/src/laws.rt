@@ -1,6 +1,6 @@
 //! Laws of dumps and of texts that are loaded: each function does nothing, and its contract is the law.
 
-ghost use Rattle.std.specs.Prelude.{◌≡◌, ◌≢◌, ◌≤◌, ℕ, List, [], length, Ok};
+ghost use Rattle.std.specs.Prelude.{◌≡◌, ◌≢◌, ◌≤◌, ℕ, false, List, [], length, Ok};
 ghost use Rattle.std.specs.Str.Lines.{lines};
 ghost use Rattle.odb_tree.specs.Rows.{Rows};
 ghost use Rattle.odb_tree.specs.Databases.{IsDatabase};
@@ -18,9 +18,10 @@ pub fn dump_is_small()
     ensures { (s : Rows) → IsDatabase s → length (dump_text s) ≤ dump_limit }
 {}
 
-/// The lines of a dump ask for each row of the walk, in its order, and before them for the root where it has keys.
+/// The lines of the dump of a database that keeps no links ask for each row of the walk, in its order, and before them for
+/// the root where it has keys.
 pub fn dump_follows_walk()
-    ensures { (s : Rows) → IsDatabase s → DumpFollowsWalk s }
+    ensures { (s : Rows) → IsDatabase s → s.links ≡ false → DumpFollowsWalk s }
 {}
 
 /// A text that is loaded into a database leaves a database.
@@ -30,18 +31,19 @@ pub fn loading_keeps_a_database()
         → IsDatabase after }
 {}
 
-/// What a text asks for, where none of it is refused, is what some legal calls of the main thread do, each of which makes a
-/// directory or writes a key whole.
+/// What a text asks for of a database that keeps no links, where none of it is refused, is what some legal calls of the main
+/// thread do, each of which makes a directory or writes a key whole.
 pub fn texts_are_calls()
     ensures { (s : Rows) (after : Rows) (text : List (List ℕ)) (steps : List TextStep)
-        → SpellsSteps 1 [] text steps → run_steps steps s ≡ Ok after → LeadTextCalls s after }
+        → s.links ≡ false → SpellsSteps 1 [] text steps → run_steps steps s ≡ Ok after
+        → LeadTextCalls s after }
 {}
 
-/// A dump loads again: its lines ask for steps, and whatever steps they ask for lead from a new database to the same
+/// The dump of a database that keeps no links loads again: its lines ask for steps, and whatever steps they ask for lead from a new database to the same
 /// paths and values in the order of the walk; none of them is refused, and none skips a key.
 pub fn loads_again()
-    ensures steps { (s : Rows) → IsDatabase s → LoadsAgain s }
-    ensures remade { (s : Rows) (steps : List TextStep) → IsDatabase s
+    ensures steps { (s : Rows) → IsDatabase s → s.links ≡ false → LoadsAgain s }
+    ensures remade { (s : Rows) (steps : List TextStep) → IsDatabase s → s.links ≡ false
         → SpellsSteps 1 [] (lines (dump_text s)) steps → RemakesRows s steps }
 {}
 

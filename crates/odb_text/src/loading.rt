@@ -1,6 +1,7 @@
-ghost use Rattle.std.specs.Prelude.{◌≡◌, ◌≢◌, ◌≤◌, ◌<◌, ◌+◌, ◌∷◌, ◌^◌, None, Some, length, IfOk, IfErr, OnOk, OnErr};
+ghost use Rattle.std.specs.Prelude.{◌≡◌, ◌≢◌, ◌≤◌, ◌<◌, ◌+◌, ◌∷◌, ◌^◌, true, None, Some, length, IfOk, IfErr, OnOk, OnErr};
 ghost use Rattle.std.specs.Str.Lines.{lines};
 ghost use Rattle.odb_tree.specs.Lookups.{seek_key};
+ghost use Rattle.odb_tree.specs.Links.{resolved, through};
 ghost use Rattle.odb_tree.specs.declared.refusals.OdbRefusal.TheVariants.{NoMemory as no_memory};
 ghost use Rattle.odb_text.specs.LineForms.{IsPassed};
 ghost use Rattle.odb_text.specs.Dumps.{dump_limit};
@@ -53,14 +54,16 @@ fn is_exists(refusal: OdbRefusal) -> bool
 /// That a directory is at the path, where something is there.
 fn is_dir_there<D: Database>(alloc: Global, database: &D, path: &Path) -> Result<(), OdbRefusal>
     ensures dir { OnOk result
-        (there_already (seek_key (D.rows database.now).rows path.now) ≡ None) }
+        (there_already (through (resolved (D.rows database.now) path.now true)
+        (λ q. seek_key (D.rows database.now).rows q)) ≡ None) }
     ensures key { IfErr result (λ why. why ≢ no_memory
-        → there_already (seek_key (D.rows database.now).rows path.now) ≡ Some why) }
+        → there_already (through (resolved (D.rows database.now) path.now true)
+        (λ q. seek_key (D.rows database.now).rows q)) ≡ Some why) }
 {
-    match database.get(alloc, path) {
-        Ok(_) => Err(OdbRefusal::NotDir),
-        Err(refusal) => has_reason(refusal),
-    }
+    let Err(refusal) = database.get(alloc, path) else {
+        return Err(OdbRefusal::NotDir);
+    };
+    has_reason(refusal)
 }
 
 /// Makes a directory where it is missing.
@@ -101,7 +104,8 @@ fn write_key<D: Database>(
     ensures refused { IfErr result (λ why. why ≢ no_memory
         → set_all_fault (D.rows database.old) path.now value.now ≡ Some why) }
 {
-    match database.set_all(alloc, path, value) {
+    let _ = value.tid();
+    match database.put(alloc, path, value) {
         Ok(_) => Ok(()),
         Err(refusal) => Err(refusal),
     }

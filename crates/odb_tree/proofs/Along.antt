@@ -1,10 +1,11 @@
 -- Going along the names of a path.
-use Rattle.std.proofs.Common.{◌≡◌, ℕ, ◌+◌, ◌<◌, ◌≤◌, Bool, true, false, cond, List, [], ◌∷◌, ◌++◌, length, get_or, take, drop, Option, Some, None, ◌⊎◌, inl, inr, ◌^◌, ◌&&◌, ◌==◌, refl, sym, ap, ◌∙◌, subst, arith}
+use Rattle.std.proofs.Common.{◌≡◌, ℕ, ◌+◌, ◌<◌, ◌≤◌, Bool, true, false, cond, List, [], ◌∷◌, ◌++◌, length, get_or, set, take, drop, append_assoc, append-nil, Option, Some, None, ◌⊎◌, inl, inr, ◌^◌, ◌&&◌, ◌==◌, refl, sym, ap, ◌∙◌, subst, arith}
 use Rattle.std.specs.Option.{option_or, is_some}
 use Rattle.std.specs.List.{find}
 use Rattle.std.proofs.lemmas.Bool.Decides.{nat_tests}
 use Rattle.odb_value.specs.Paths.{same_path, is_front}
-use Rattle.std.proofs.lemmas.List.{length-take-le, drop_more, take_more, drop_all, length_push}
+use Rattle.odb_tree.specs.Links.{number_and, numbers_along}
+use Rattle.std.proofs.lemmas.List.{length-set, take_more_set, drop-set-lt, drop-drop, take-append-drop, length-take-le, drop_more, take_more, drop_all, length_push}
 use Rattle.odb_tree.specs.declared.rows.Row.{Row}
 use Rattle.odb_tree.specs.declared.refusals.OdbRefusal.{OdbRefusal}
 use Rattle.odb_tree.specs.Rows.{row_at}
@@ -26,6 +27,19 @@ pub obstacle_more : (missing : Option OdbRefusal) (rows : List Row) (names : Lis
 obstacle_more missing rows names i h =
     ap (obstacle_from missing rows (take i names)) (drop_more names i [] h)
     ∙ ap (λ (q : List (List ℕ)). option_or (obstacle_at missing (row_at rows q)) (obstacle_from missing rows q (drop (i + 1) names))) (sym (take_more names i [] h))
+
+-- the same of the numbers
+pub numbers_more : (rows : List Row) (names : List (List ℕ)) (i : ℕ) → i < length names
+    → numbers_along rows (take i names) (drop i names) ≡ number_and (row_at rows (take (i + 1) names)) (numbers_along rows (take (i + 1) names) (drop (i + 1) names))
+numbers_more rows names i h =
+    ap (numbers_along rows (take i names)) (drop_more names i [] h)
+    ∙ ap (λ (q : List (List ℕ)). number_and (row_at rows q) (numbers_along rows q (drop (i + 1) names))) (sym (take_more names i [] h))
+
+pub numbers_end : (rows : List Row) (names : List (List ℕ)) (i : ℕ) → i < length names → row_at rows (take (i + 1) names) ≡ None → numbers_along rows (take i names) (drop i names) ≡ []
+numbers_end rows names i h none = numbers_more rows names i h ∙ ap (λ (o : Option Row). number_and o (numbers_along rows (take (i + 1) names) (drop (i + 1) names))) none
+
+pub numbers_done : (rows : List Row) (names : List (List ℕ)) (i : ℕ) → length names ≤ i → numbers_along rows (take i names) (drop i names) ≡ []
+numbers_done rows names i h = ap (numbers_along rows (take i names)) (drop_all i names h)
 
 pub obstacle_met : (missing : Option OdbRefusal) (rows : List Row) (names : List (List ℕ)) (i : ℕ) (found : Option OdbRefusal) → i < length names
     → obstacle_from missing rows [] names ≡ obstacle_from missing rows (take i names) (drop i names)
@@ -136,3 +150,29 @@ gone_more rows next names name i way row h is at k =
 
 pub gone_all : (rows : List Row) (next : ℕ) (names : List (List ℕ)) (i : ℕ) (way : Way) → length names ≤ i → IsGone rows next names i way → way ≡ go_on rows next [] names no_way
 gone_all rows next names i way h k = sym (k.gone ∙ ap (λ (ns : List (List ℕ)). go_on rows next (take i names) ns way) (drop_all i names h))
+
+-- the numbers of the rows at the first of these names are written
+pub record IsNumbered (rows : List Row) (names : List (List ℕ)) (i : ℕ) (first now : List ℕ) : Type 0 where
+  pub along : numbers_along rows [] names ≡ take i now ++ numbers_along rows (take i names) (drop i names)
+  pub rest : drop i now ≡ drop i first
+  pub long : length now ≡ length first
+
+-- one row more
+pub numbered_more : (rows : List Row) (names : List (List ℕ)) (i : ℕ) (first now : List ℕ) (r : Row) → i < length names → i < length now → IsNumbered rows names i first now
+    → row_at rows (take (i + 1) names) ≡ Some r → IsNumbered rows names (i + 1) first (set now i r.number)
+numbered_more rows names i first now r h room is there = record {
+  along = is.along ∙ (ap (λ (l : List ℕ). take i now ++ l) (numbers_more rows names i h ∙ ap (λ (o : Option Row). number_and o (numbers_along rows (take (i + 1) names) (drop (i + 1) names))) there)
+      ∙ (sym (append_assoc (take i now) (r.number ∷ []) (numbers_along rows (take (i + 1) names) (drop (i + 1) names)))
+      ∙ ap (λ (l : List ℕ). l ++ numbers_along rows (take (i + 1) names) (drop (i + 1) names)) (sym (take_more_set now i r.number room))));
+  rest = drop-set-lt (i + 1) now i r.number (omega arith) ∙ (sym (drop-drop 1 i now) ∙ (ap (λ (l : List ℕ). drop 1 l) is.rest ∙ drop-drop 1 i first));
+  long = length-set now i r.number ∙ is.long;
+}
+
+-- the last row was passed
+pub numbered_all : (rows : List Row) (names : List (List ℕ)) (i : ℕ) (first now : List ℕ) → i ≤ length now → IsNumbered rows names i first now → numbers_along rows (take i names) (drop i names) ≡ []
+    → (i ≡ length (numbers_along rows [] names)) × (now ≡ numbers_along rows [] names ++ drop i first)
+numbered_all rows names i first now room is none =
+    let all : numbers_along rows [] names ≡ take i now = is.along ∙ (ap (λ (l : List ℕ). take i now ++ l) none ∙ append-nil (take i now)) in (
+      sym (ap (λ (l : List ℕ). length l) all ∙ length-take-le i now room),
+      sym (take-append-drop i now) ∙ (ap (λ (l : List ℕ). l ++ drop i now) (sym all) ∙ ap (λ (l : List ℕ). numbers_along rows [] names ++ l) is.rest),
+    )

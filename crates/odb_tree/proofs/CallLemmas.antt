@@ -22,7 +22,7 @@ use Rattle.odb_tree.specs.Rows.{Rows, row_at, bytes_of_row, total_of, rows_outsi
 use Rattle.odb_tree.specs.Limits.{IsWithin, text_fault, limit_fault}
 use Rattle.odb_tree.specs.Lookups.{obstacle_to, obstacle_to_new, found_row, key_of, key_or_refusal, seek_key}
 use Rattle.odb_tree.specs.Changes.{CanPut, IsKeyAt}
-use Rattle.odb_tree.specs.Calls.{set_fault, set_all_fault, after_set, after_set_all, type_fault, index_fault, value_fault, tid_fault, there_fault, own_fault, create_fault, exists_fault, kept_fault, items_fault, after_create}
+use Rattle.odb_tree.specs.Calls.{set_fault, set_all_fault, after_set, after_set_all, type_fault, index_fault, value_fault, tid_fault, link_fault, put_fault, there_fault, own_fault, create_fault, exists_fault, kept_fault, items_fault, after_create}
 use Rattle.odb_tree.proofs.Limited.{or_none_left, or_none_right, own_none, within}
 
 -- create
@@ -30,9 +30,9 @@ use Rattle.odb_tree.proofs.Limited.{or_none_left, or_none_right, own_none, withi
 pub create_within : (s : Rows) (p : List (List ℕ)) (kind : NewKey) (r : Option OdbRefusal) → r ≡ create_fault s p kind → r ≡ None → IsWithin (after_create s p kind)
 create_within s p kind r is none =
     let whole : create_fault s p kind ≡ None = sym is ∙ none in
-    let there : option_or (exists_fault s.rows p) (option_or (kept_fault kind) (limit_fault (items_fault kind) (after_create s p kind))) ≡ None = or_none_right (obstacle_to_new s.rows p) _ whole in
-    let kept : option_or (kept_fault kind) (limit_fault (items_fault kind) (after_create s p kind)) ≡ None = or_none_right (exists_fault s.rows p) _ there in
-    within (items_fault kind) (after_create s p kind) (or_none_right (kept_fault kind) _ kept)
+    let there : option_or (exists_fault s.rows p) (option_or (kept_fault s.links kind) (limit_fault (items_fault kind) (after_create s p kind))) ≡ None = or_none_right (obstacle_to_new s.rows p) _ whole in
+    let kept : option_or (kept_fault s.links kind) (limit_fault (items_fault kind) (after_create s p kind)) ≡ None = or_none_right (exists_fault s.rows p) _ there in
+    within (items_fault kind) (after_create s p kind) (or_none_right (kept_fault s.links kind) _ kept)
 
 -- delete
 
@@ -166,3 +166,8 @@ set_all_within s p v r is none =
     let whole : set_all_fault s p v ≡ None = sym is ∙ none in
     within (own_fault v) (after_set_all s p v)
     (or_none_right (there_fault v.tid (row_at s.rows p)) _ (or_none_right (tid_fault v.tid) _ (or_none_right (value_fault s.rows p) _ (or_none_right (obstacle_to_new s.rows p) _ whole))))
+
+pub put_within : (s : Rows) (p : List (List ℕ)) (v : HeldValue) → put_fault s p v ≡ None → IsWithin (after_set_all s p v)
+put_within s p v whole =
+    within (own_fault v) (after_set_all s p v)
+    (or_none_right (there_fault v.tid (row_at s.rows p)) _ (or_none_right (link_fault s.links v.tid) _ (or_none_right (value_fault s.rows p) _ (or_none_right (obstacle_to_new s.rows p) _ whole))))

@@ -1,16 +1,14 @@
 -- What holds of each row, also after a call.
-use Rattle.std.proofs.Common.{◌≡◌, ℕ, ◌+◌, ◌-◌, ◌<◌, ◌≤◌, Bool, true, false, not, cond, eqb, ltb, ◌||◌, List, [], ◌∷◌, ◌++◌, length, get_or, set, drop, Option, Some, None, Ok, Err, refl, sym, ap, ◌∙◌, subst, arith, rules}
+use Rattle.std.proofs.Common.{◌≡◌, ℕ, ◌+◌, ◌-◌, ◌<◌, ◌≤◌, Bool, true, false, cond, List, [], ◌∷◌, ◌++◌, length, Option, Some, None, refl, sym, ap, ◌∙◌, subst, arith, rules}
 use Rattle.std.proofs.lemmas.Bool.Decides.{nat_tests}
 use Rattle.odb_tree.specs.Limits.{len_fault}
-use Rattle.std.specs.Prelude.{All, IfSome, IsTrue, replicate, max}
-use Rattle.std.specs.Option.{option_or, option_map}
-use Rattle.std.specs.List.{filter}
+use Rattle.std.specs.Prelude.{All, IfSome, IsTrue, max}
 use Rattle.std.proofs.lemmas.List.{length-replicate, length-set}
-use Rattle.std.proofs.lemmas.List.Elements.{All-nil, All-cons, All-head, All-tail, All-append, All-push, All-take, All-drop, All-filter, All-set, All-weaker, All-replicate}
+use Rattle.std.proofs.lemmas.List.Elements.{All-nil, All-cons, All-head, All-tail, All-append, All-push, All-take, All-drop, All-set, All-weaker, All-replicate}
 use Rattle.daq_types.specs.declared.types.Tid.{Tid}
 use Rattle.daq_types.specs.declared.types.Tid.TheVariants as tid
 use Rattle.daq_types.specs.Names.{IsName}
-use Rattle.odb_value.specs.Paths.{depth_limit, IsPath, is_front, same_path}
+use Rattle.odb_value.specs.Paths.{depth_limit, IsPath, same_path}
 use Rattle.odb_value.specs.declared.items.Item.{Item}
 use Rattle.odb_value.specs.declared.items.Item.TheVariants.{Text}
 use Rattle.odb_value.specs.Items.{tid_of, is_kept, IsSound, IsItem}
@@ -24,7 +22,7 @@ use Rattle.odb_tree.specs.Lookups.{parent_of}
 use Rattle.odb_tree.specs.Places.{made_for}
 use Rattle.odb_tree.specs.Changes.{CanPut}
 use Rattle.odb_tree.specs.Trees.{AreShort}
-use Rattle.odb_tree.specs.Databases.{IsRow}
+use Rattle.odb_tree.specs.Databases.{IsHeld, IsRow}
 
 -- changed rows
 
@@ -44,27 +42,27 @@ all_changed P (r ∷ rs) p f h new =
 
 -- paths
 
-pub short_rows : (rows : List Row) → All IsRow rows → AreShort depth_limit rows
-short_rows [] h = tt
-short_rows (r ∷ rs) h = ((All-head IsRow r rs h).path.short, short_rows rs (All-tail IsRow r rs h))
+pub short_rows : (links : Bool) (rows : List Row) → All (IsRow links) rows → AreShort depth_limit rows
+short_rows links [] h = tt
+short_rows links (r ∷ rs) h = ((All-head (IsRow links) r rs h).path.short, short_rows links rs (All-tail (IsRow links) r rs h))
 
--- a row whose names are by the rule, and whose value is one; how many names it has is said apart
-record IsNamed (r : Row) : Type 0 where
+-- a row whose names are by the rule, and which holds something if it is a key; how many names it has is said apart
+record IsNamed (links : Bool) (r : Row) : Type 0 where
   names : All IsName r.path
-  value : IfSome r.value IsValue
+  value : IfSome r.value (IsHeld links)
 
-named_rows : (rows : List Row) → All IsRow rows → All IsNamed rows
-named_rows rows h = All-weaker IsRow IsNamed (λ r k. record { names = k.path.names; value = k.value }) rows h
+named_rows : (links : Bool) (rows : List Row) → All (IsRow links) rows → All (IsNamed links) rows
+named_rows links rows h = All-weaker (IsRow links) (IsNamed links) (λ r k. record { names = k.path.names; value = k.value }) rows h
 
-rows_named : (rows : List Row) → All IsNamed rows → AreShort depth_limit rows → All IsRow rows
-rows_named [] h short = All-nil IsRow
-rows_named (r ∷ rs) h short =
-    let here = All-head IsNamed r rs h in
-    All-cons IsRow r rs (record { path = record { short = short.0; names = here.names }; value = here.value }) (rows_named rs (All-tail IsNamed r rs h) short.1)
+rows_named : (links : Bool) (rows : List Row) → All (IsNamed links) rows → AreShort depth_limit rows → All (IsRow links) rows
+rows_named links [] h short = All-nil (IsRow links)
+rows_named links (r ∷ rs) h short =
+    let here = All-head (IsNamed links) r rs h in
+    All-cons (IsRow links) r rs (record { path = record { short = short.0; names = here.names }; value = here.value }) (rows_named links rs (All-tail (IsNamed links) r rs h) short.1)
 
-record IsNamedWay (way : Way) : Type 0 where
+record IsNamedWay (links : Bool) (way : Way) : Type 0 where
   path : All IsName way.path
-  dirs : All IsNamed way.dirs
+  dirs : All (IsNamed links) way.dirs
 
 at_head : (P : Row → Type 0) (t : Bool) (x r : Row) (o : Option Row) → cond t (Some x) o ≡ Some r → P x → (o ≡ Some r → P r) → P r
 at_head P true x r o e h rest = let same : x ≡ r = cc in subst P same h
@@ -75,27 +73,29 @@ pub row_has : (P : Row → Type 0) (rows : List Row) (p : List (List ℕ)) (r : 
 row_has P [] p r h e = absurd (cc)
 row_has P (x ∷ xs) p r h e = at_head P (same_path x.path p) x r (row_at xs p) e (All-head P x xs h) (λ k. row_has P xs p r (All-tail P x xs h) k)
 
-further_named : (rows : List Row) (next : ℕ) (name : List ℕ) (way : Way) (p : List (List ℕ)) (o : Option Row) → All IsNamed rows → row_at rows p ≡ o → IsName name → IsNamedWay way
-    → IsNamedWay (further next name way o)
-further_named rows next name way p None h e is k =
+further_named : (links : Bool) (rows : List Row) (next : ℕ) (name : List ℕ) (way : Way) (p : List (List ℕ)) (o : Option Row) → All (IsNamed links) rows → row_at rows p ≡ o → IsName name
+    → IsNamedWay links way → IsNamedWay links (further next name way o)
+further_named links rows next name way p None h e is k =
     let path : All IsName (way.path ++ name ∷ []) = All-push IsName way.path name k.path is in record {
       path = path;
-      dirs = All-push IsNamed way.dirs (record { number = next + length way.dirs; path = way.path ++ name ∷ []; value = None }) k.dirs (record { names = path; value = tt });
+      dirs = All-push (IsNamed links) way.dirs (record { number = next + length way.dirs; path = way.path ++ name ∷ []; value = None }) k.dirs (record { names = path; value = tt });
     }
-further_named rows next name way p (Some r) h e is k = record { path = (row_has IsNamed rows p r h e).names; dirs = k.dirs }
+further_named links rows next name way p (Some r) h e is k = record { path = (row_has (IsNamed links) rows p r h e).names; dirs = k.dirs }
 
-go_named : (rows : List Row) (next : ℕ) (reached names : List (List ℕ)) (way : Way) → All IsNamed rows → All IsName names → IsNamedWay way → IsNamedWay (go_on rows next reached names way)
-go_named rows next reached [] way h are k = k
-go_named rows next reached (name ∷ names) way h are k =
-    go_named rows next (reached ++ name ∷ []) names (further next name way (row_at rows (reached ++ name ∷ []))) h (All-tail IsName name names are)
-    (further_named rows next name way (reached ++ name ∷ []) (row_at rows (reached ++ name ∷ [])) h refl (All-head IsName name names are) k)
+go_named : (links : Bool) (rows : List Row) (next : ℕ) (reached names : List (List ℕ)) (way : Way) → All (IsNamed links) rows → All IsName names → IsNamedWay links way
+    → IsNamedWay links (go_on rows next reached names way)
+go_named links rows next reached [] way h are k = k
+go_named links rows next reached (name ∷ names) way h are k =
+    go_named links rows next (reached ++ name ∷ []) names (further next name way (row_at rows (reached ++ name ∷ []))) h (All-tail IsName name names are)
+    (further_named links rows next name way (reached ++ name ∷ []) (row_at rows (reached ++ name ∷ [])) h refl (All-head IsName name names are) k)
 
 -- the rows that a call makes
-pub made_rows : (s : Rows) (p : List (List ℕ)) (value : Option HeldValue) → All IsRow s.rows → IsPath p → IfSome value IsValue → AreShort depth_limit (made_for s p value) → All IsRow (made_for s p value)
+pub made_rows : (s : Rows) (p : List (List ℕ)) (value : Option HeldValue) → All (IsRow s.links) s.rows → IsPath p → IfSome value (IsHeld s.links) → AreShort depth_limit (made_for s p value)
+    → All (IsRow s.links) (made_for s p value)
 made_rows s p value h path is short =
-    let way = go_named s.rows s.next [] (parent_of p) no_way (named_rows s.rows h) (All-take IsName (length p - 1) p path.names) (record { path = All-nil IsName; dirs = All-nil IsNamed }) in
-    rows_named (made_for s p value)
-    (All-push IsNamed (way_to s p).dirs (new_row s p value) way.dirs
+    let way = go_named s.links s.rows s.next [] (parent_of p) no_way (named_rows s.links s.rows h) (All-take IsName (length p - 1) p path.names) (record { path = All-nil IsName; dirs = All-nil (IsNamed s.links) }) in
+    rows_named s.links (made_for s p value)
+    (All-push (IsNamed s.links) (way_to s p).dirs (new_row s p value) way.dirs
     (record { names = All-append IsName (way_to s p).path (last_of p) way.path (All-drop IsName (length p - 1) p path.names); value = is })) short
 
 -- values

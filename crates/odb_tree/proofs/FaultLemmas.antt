@@ -156,7 +156,7 @@ set_all_there s p v had row obstacle type r named there held sound is free type_
 
 pub create_is : (s : Rows) (p : List (List ℕ)) (kind : NewKey) (obstacle there kept r : Option OdbRefusal)
     → obstacle ≡ obstacle_to_new s.rows p → ((x : OdbRefusal) → obstacle ≡ Some x → ⊥) → there ≡ exists_fault s.rows p → ((x : OdbRefusal) → there ≡ Some x → ⊥)
-    → kept ≡ kept_fault kind → ((x : OdbRefusal) → kept ≡ Some x → ⊥) → r ≡ limit_fault (items_fault kind) (after_create s p kind) → r ≡ create_fault s p kind
+    → kept ≡ kept_fault s.links kind → ((x : OdbRefusal) → kept ≡ Some x → ⊥) → r ≡ limit_fault (items_fault kind) (after_create s p kind) → r ≡ create_fault s p kind
 create_is s p kind obstacle there kept r is free there_is new kept_is known fault =
     let limits : Option OdbRefusal = limit_fault (items_fault kind) (after_create s p kind) in
     or_next obstacle (option_or there (option_or kept limits)) r free (or_next there (option_or kept limits) r new (or_next kept limits r known fault))

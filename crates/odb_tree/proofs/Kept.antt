@@ -14,12 +14,13 @@ use Rattle.odb_tree.specs.Rows.{Rows, no_rows, is_key, row_at}
 use Rattle.odb_tree.specs.Lookups.{parent_of, obstacle_at, obstacle_from, obstacle_to_new}
 use Rattle.odb_tree.specs.Making.{Way, last_of, further, go_on, no_way, way_to, new_number, new_row, created}
 use Rattle.odb_tree.specs.Limits.{limit_fault}
-use Rattle.odb_tree.specs.Calls.{IsRowsReply, rows_after, reply_or, exists_fault, kept_fault, items_fault, create_fault, create_reply, after_create, value_fault, set_all_fault, set_all_reply, after_set_all, after_set_all_at, number_at, new_value}
+use Rattle.odb_tree.specs.Calls.{IsReplyThere, rows_there, IsRowsReply, rows_after, reply_or, exists_fault, kept_fault, items_fault, create_fault, create_reply, after_create, value_fault, put_fault, set_all_fault, set_all_reply, after_set_all_at, number_at, new_value}
 use Rattle.odb_tree.specs.Histories.{IsLegalRows, rows_replay}
 use Rattle.odb_tree.proofs.WalkLaws.{not_true}
 use Rattle.odb_tree.specs.WalkLaws.{NoneAt}
 use Rattle.odb_tree.specs.Trees.{HasDir, IsDir, IsTree, with_rows, IsNewRow, AreNew, AreShort}
 use Rattle.odb_tree.specs.Places.{made_for}
+use Rattle.odb_tree.proofs.Led.{lifted}
 use Rattle.odb_tree.proofs.Limited.{or_none_left, or_none_right}
 use Rattle.odb_tree.proofs.Trees.{same_long, same_sym, same_add, none_append, none_same, none_there, is_dir_append, tree_with, tree_outside, tree_changed, with_more, same_rows}
 
@@ -187,7 +188,7 @@ pub create_makes : (s : Rows) (p : List (List ℕ)) (kind : NewKey) (n : ℕ) �
     → AreNew s (made_for s p (new_value kind)) × AreShort (length p) (made_for s p (new_value kind))
 create_makes s p kind n h =
     let whole : create_fault s p kind ≡ None = ok_none (create_fault s p kind) (new_number s p) n h in
-    let there : option_or (exists_fault s.rows p) (option_or (kept_fault kind) (limit_fault (items_fault kind) (after_create s p kind))) ≡ None = or_none_right (obstacle_to_new s.rows p) _ whole in
+    let there : option_or (exists_fault s.rows p) (option_or (kept_fault s.links kind) (limit_fault (items_fault kind) (after_create s p kind))) ≡ None = or_none_right (obstacle_to_new s.rows p) _ whole in
     let free = not_there s.rows p (or_none_left (exists_fault s.rows p) _ there) in
     let clear : obstacle_to_new s.rows p ≡ None = or_none_left (obstacle_to_new s.rows p) _ whole in
     (made_new s p (new_value kind) free.some clear free.free, made_short s p (new_value kind) free.some clear)
@@ -206,26 +207,39 @@ set_all_makes s p v n h free =
     let some : 0 < length p = not_root s.rows p (or_none_left (value_fault s.rows p) _ rest) in
     (made_new s p (Some v) some clear free, made_short s p (Some v) some clear)
 
-tree_set_all : (s : Rows) (p : List (List ℕ)) (v : HeldValue) (n : ℕ) (o : Option Row) → row_at s.rows p ≡ o → IsTree s → set_all_reply s p v ≡ Ok n → IsTree (after_set_all_at s p v o)
-tree_set_all s p v n None e h k = tree_created s p (Some v) h (set_all_makes s p v n k e).0
-tree_set_all s p v n (Some r) e h k = tree_changed s p (λ _. v) h
+-- what an accepted `put` of a path without a row makes
+pub put_makes : (s : Rows) (p : List (List ℕ)) (v : HeldValue) → put_fault s p v ≡ None → row_at s.rows p ≡ None → AreNew s (made_for s p (Some v)) × AreShort (length p) (made_for s p (Some v))
+put_makes s p v whole free =
+    let rest = or_none_right (obstacle_to_new s.rows p) _ whole in
+    let clear : obstacle_to_new s.rows p ≡ None = or_none_left (obstacle_to_new s.rows p) _ whole in
+    let some : 0 < length p = not_root s.rows p (or_none_left (value_fault s.rows p) _ rest) in
+    (made_new s p (Some v) some clear free, made_short s p (Some v) some clear)
 
--- each call keeps a tree
+pub tree_set_all_at : (s : Rows) (p : List (List ℕ)) (v : HeldValue) (o : Option Row) → row_at s.rows p ≡ o → IsTree s
+    → (row_at s.rows p ≡ None → AreNew s (made_for s p (Some v)) × AreShort (length p) (made_for s p (Some v))) → IsTree (after_set_all_at s p v o)
+tree_set_all_at s p v None e h makes = tree_created s p (Some v) h (makes e).0
+tree_set_all_at s p v (Some r) e h makes = tree_changed s p (λ _. v) h
+
+-- each step at a path keeps a tree
+pub tree_there : (s : Rows) (entry : DatabaseEntry) → IsTree s → IsReplyThere s entry → IsTree (rows_there s entry)
+tree_there s (Create p kind (Ok n)) h k = tree_created s p (new_value kind) h (create_makes s p kind n k).0
+tree_there s (Create p kind (Err refusal)) h k = h
+tree_there s (Set p index item (Ok n)) h k = tree_changed s p (λ v. put_in v index item) h
+tree_there s (Set p index item (Err refusal)) h k = h
+tree_there s (SetAll p v (Ok n)) h k = tree_set_all_at s p v (row_at s.rows p) refl h (set_all_makes s p v n k)
+tree_there s (SetAll p v (Err refusal)) h k = h
+tree_there s (Get p reply) h k = h
+tree_there s (Find p reply) h k = h
+tree_there s (ListDir p reply) h k = h
+tree_there s (Delete p (Ok n)) h k = tree_outside s p h
+tree_there s (Delete p (Err refusal)) h k = h
+tree_there s (Resize p len (Ok n)) h k = tree_changed s p (λ v. resized v len) h
+tree_there s (Resize p len (Err refusal)) h k = h
+tree_there s (PathOf row reply) h k = h
+
+-- so each call keeps one
 pub tree_after : (s : Rows) (entry : DatabaseEntry) → IsTree s → IsRowsReply s entry → IsTree (rows_after s entry)
-tree_after s (Create p kind (Ok n)) h k = tree_created s p (new_value kind) h (create_makes s p kind n k).0
-tree_after s (Create p kind (Err refusal)) h k = h
-tree_after s (Set p index item (Ok n)) h k = tree_changed s p (λ v. put_in v index item) h
-tree_after s (Set p index item (Err refusal)) h k = h
-tree_after s (SetAll p v (Ok n)) h k = tree_set_all s p v n (row_at s.rows p) refl h k
-tree_after s (SetAll p v (Err refusal)) h k = h
-tree_after s (Get p reply) h k = h
-tree_after s (Find p reply) h k = h
-tree_after s (ListDir p reply) h k = h
-tree_after s (Delete p (Ok n)) h k = tree_outside s p h
-tree_after s (Delete p (Err refusal)) h k = h
-tree_after s (Resize p len (Ok n)) h k = tree_changed s p (λ v. resized v len) h
-tree_after s (Resize p len (Err refusal)) h k = h
-tree_after s (PathOf row reply) h k = h
+tree_after s entry h reply = lifted IsTree s entry h (λ step k. tree_there s step h k) reply
 
 -- a legal history keeps a tree
 pub tree_replayed : (s : Rows) (history : List (ℕ × DatabaseEntry)) → IsTree s → IsLegalRows s history → IsTree (rows_replay s history)

@@ -6,6 +6,7 @@ pub mod Made
 pub mod CallLemmas
 pub mod Trees
 pub mod Kept
+pub mod Led
 pub mod Changed
 pub mod Placed
 pub mod Whole

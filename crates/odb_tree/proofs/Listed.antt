@@ -1,6 +1,5 @@
 -- What stands in a directory is what the walk meets directly below it.
-use Rattle.std.proofs.Common.{◌≡◌, ℕ, zero, suc, ◌+◌, ◌-◌, ◌<◌, ◌≤◌, Bool, true, false, not, cond, ◌&&◌, ◌==◌, List, [], ◌∷◌, ◌++◌, length, map, sum_by, Option, Some, None, Ok, Err, Result, ◌⊎◌, inl, inr, refl, sym, ap, ◌∙◌, subst, arith, append-nil, length-append}
-use Rattle.std.specs.Option.{option_or}
+use Rattle.std.proofs.Common.{◌≡◌, ℕ, zero, suc, ◌+◌, ◌-◌, ◌<◌, ◌≤◌, Bool, true, false, not, cond, ◌&&◌, ◌==◌, List, [], ◌∷◌, ◌++◌, length, map, sum_by, Option, Some, None, Ok, inl, inr, refl, sym, ap, ◌∙◌, subst, arith, append-nil, length-append}
 use Rattle.std.specs.List.{filter, flat_map}
 use Rattle.std.proofs.lemmas.List.{map-append}
 use Rattle.std.proofs.lemmas.List.Elements.{filter_agree}
@@ -13,15 +12,15 @@ use Rattle.odb_tree.specs.declared.children.Child.{Child}
 use Rattle.odb_tree.specs.declared.refusals.OdbRefusal.{OdbRefusal}
 use Rattle.odb_tree.specs.declared.refusals.OdbRefusal.TheVariants.{NotDir}
 use Rattle.odb_tree.specs.Rows.{Rows, row_at, is_key, is_kind, is_child, is_listed, keys_in, dirs_in}
-use Rattle.odb_tree.specs.Lookups.{obstacle_to, found_row, seek, not_dir, dir_fault}
+use Rattle.odb_tree.specs.Lookups.{obstacle_to, found_row, not_dir, dir_fault}
 use Rattle.odb_tree.specs.Calls.{child_of, children_of, children_or}
 use Rattle.odb_tree.specs.Walks.{walk_below, walk, directly_below}
-use Rattle.odb_tree.proofs.WalkLaws.{and_left, and_right, both, front_trans, filter_append, not_true, true_false, walk_is}
+use Rattle.odb_tree.proofs.WalkLaws.{and_left, and_right, front_trans, filter_append, not_true, walk_is}
 use Rattle.odb_tree.specs.WalkLaws.{below_dirs}
 use Rattle.odb_tree.specs.Trees.{IsTree, IsDir, AreShort}
 use Rattle.odb_tree.proofs.Trees.{same_long, same_front, same_sym}
 use Rattle.odb_tree.proofs.Kept.{found_there}
-use Rattle.odb_tree.proofs.Placed.{HasPart, directory_part}
+use Rattle.odb_tree.proofs.Placed.{directory_part}
 use Rattle.odb_tree.proofs.Whole.{has_rows}
 
 child_long : (p q : List (List ℕ)) → is_child p q ≡ true → length q ≡ length p + 1

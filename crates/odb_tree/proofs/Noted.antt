@@ -1,5 +1,5 @@
 -- Watches note changes one after the other.
-use Rattle.std.proofs.Common.{◌≡◌, ℕ, List, [], ◌∷◌, ◌++◌, Option, Some, None, refl, sym, ap, ◌∙◌}
+use Rattle.std.proofs.Common.{◌≡◌, List, [], ◌∷◌, ◌++◌, Option, Some, None, refl, ap, ◌∙◌}
 use Rattle.odb_tree.specs.declared.notes.Watch.{Watch}
 use Rattle.odb_tree.specs.Noting.{Change, with_change, noted_all, all_noted}
 

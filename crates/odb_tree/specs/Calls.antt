@@ -1,25 +1,30 @@
--- The calls of the database: the reply of each, and the rows after it.
-use Rattle.std.specs.Prelude.{◌≡◌, ◌≢◌, ℕ, ◌-◌, ◌==◌, Bool, false, not, nat_lt, if◌then◌else◌, List, [], ◌∷◌, ◌++◌, length, map, slice_index_or, Option, Some, None, Result, Ok, Err}
+-- The calls of the database: the reply of each, and the rows after it. First each at the path as it is, where no link is
+-- followed; then as they are, at the path after its links.
+use Rattle.std.specs.Prelude.{◌≡◌, ◌≢◌, ℕ, ◌-◌, ◌==◌, Bool, true, false, not, nat_lt, if◌then◌else◌, List, [], ◌∷◌, ◌++◌, length, map, slice_index_or, Option, Some, None, Result, Ok, Err}
 use Rattle.std.specs.Option.{option_or, option_map, is_some}
 use Rattle.daq_types.specs.declared.types.Tid.{Tid}
 use Rattle.daq_types.specs.declared.types.Tid.TheVariants as tid
 use Rattle.daq_types.specs.declared.memory.NoMemory.{NoMemory}
 use Rattle.daq_types.specs.Tids.{tid_code}
 use Rattle.odb_value.specs.Paths.{is_front}
+use Rattle.odb_value.specs.PathText.{path_text}
+use Rattle.odb_value.specs.ItemTexts.{text_limit}
 use Rattle.odb_value.specs.declared.items.Item.{Item}
 use Rattle.odb_value.specs.Items.{tid_of, is_kept}
 use Rattle.odb_value.specs.Values.{HeldValue}
 use Rattle.odb_value.specs.ValueChanges.{new_held, put_in, resized}
 use Rattle.odb_tree.specs.declared.rows.Row.{Row}
 use Rattle.odb_tree.specs.declared.rows.NewKey.{NewKey}
-use Rattle.odb_tree.specs.declared.rows.NewKey.TheVariants.{Dir, Keys}
+use Rattle.odb_tree.specs.declared.rows.NewKey.TheVariants.{Dir, Keys, Link}
 use Rattle.odb_tree.specs.declared.children.Child.{Child}
 use Rattle.odb_tree.specs.declared.refusals.OdbRefusal.{OdbRefusal}
 use Rattle.odb_tree.specs.declared.refusals.OdbRefusal.TheVariants.{Exists, NotValue, NotKept, TypeMismatch, BadIndex, NoMemory as no_memory}
 use Rattle.odb_tree.specs.declared.refusals.What.{What}
+use Rattle.odb_tree.specs.declared.refusals.What.TheVariants.{Size}
 use Rattle.odb_tree.specs.declared.entry.DatabaseEntry.{DatabaseEntry}
 use Rattle.odb_tree.specs.declared.entry.DatabaseEntry.TheVariants.{Create, Set, SetAll, Get, Find, ListDir, Delete, Resize, PathOf}
 use Rattle.odb_tree.specs.Rows.{Rows, row_at, row_numbered, is_key, change_at, rows_outside, keys_in, dirs_in}
+use Rattle.odb_tree.specs.Links.{link_to, resolved, meets_link, through, led_to}
 use Rattle.odb_tree.specs.Lookups.{obstacle_to_new, seek, seek_key, dir_fault, absent_fault}
 use Rattle.odb_tree.specs.Limits.{len_fault, text_fault, texts_fault, limit_fault}
 use Rattle.odb_tree.specs.Making.{new_number, created}
@@ -41,25 +46,33 @@ exists_fault rows (name ∷ names) = if is_some (row_at rows (name ∷ names)) t
 abbrev pub tid_fault : Tid → Option OdbRefusal
 tid_fault type = if is_kept type then None else Some (NotKept type)
 
-abbrev pub kept_fault : NewKey → Option OdbRefusal
-kept_fault Dir = None
-kept_fault (Keys type len) = tid_fault type
+-- the same for a call that may write a link, where the database keeps links
+abbrev pub link_fault : (links : Bool) → Tid → Option OdbRefusal
+link_fault true tid.Link = None
+link_fault links type = tid_fault type
 
--- what is wrong with the number of items
+abbrev pub kept_fault : (links : Bool) → NewKey → Option OdbRefusal
+kept_fault links Dir = None
+kept_fault links (Keys type len) = tid_fault type
+kept_fault links (Link target) = link_fault links tid.Link
+
+-- what is wrong with the number of items, or with the text of a link
 abbrev pub items_fault : NewKey → Option What
 items_fault Dir = None
 items_fault (Keys type len) = len_fault len
+items_fault (Link target) = if nat_lt text_limit (length (path_text target)) then Some Size else None
 
 abbrev pub new_value : NewKey → Option HeldValue
 new_value Dir = None
 new_value (Keys type len) = Some (new_held type len)
+new_value (Link target) = Some (link_to target)
 
 abbrev pub after_create : Rows → List (List ℕ) → NewKey → Rows
 after_create s p kind = created s p (new_value kind)
 
 abbrev pub create_fault : Rows → List (List ℕ) → NewKey → Option OdbRefusal
 create_fault s p kind =
-    option_or (obstacle_to_new s.rows p) (option_or (exists_fault s.rows p) (option_or (kept_fault kind) (limit_fault (items_fault kind) (after_create s p kind))))
+    option_or (obstacle_to_new s.rows p) (option_or (exists_fault s.rows p) (option_or (kept_fault s.links kind) (limit_fault (items_fault kind) (after_create s p kind))))
 
 abbrev pub create_reply : Rows → List (List ℕ) → NewKey → Result ℕ OdbRefusal
 create_reply s p kind = reply_or (create_fault s p kind) (new_number s p)
@@ -131,6 +144,21 @@ set_all_fault s p v =
 abbrev pub set_all_reply : Rows → List (List ℕ) → HeldValue → Result ℕ OdbRefusal
 set_all_reply s p v = reply_or (set_all_fault s p v) (number_at s p (row_at s.rows p))
 
+-- The same for a call that may write a link.
+
+abbrev pub put_fault : Rows → List (List ℕ) → HeldValue → Option OdbRefusal
+put_fault s p v =
+    option_or (obstacle_to_new s.rows p) (option_or (value_fault s.rows p) (option_or (link_fault s.links v.tid)
+    (option_or (there_fault v.tid (row_at s.rows p)) (limit_fault (own_fault v) (after_set_all s p v)))))
+
+abbrev pub put_reply : Rows → List (List ℕ) → HeldValue → Result ℕ OdbRefusal
+put_reply s p v = reply_or (put_fault s p v) (number_at s p (row_at s.rows p))
+
+-- the rows after a call with this reply
+abbrev pub after_put : Rows → List (List ℕ) → HeldValue → Result ℕ OdbRefusal → Rows
+after_put s p v (Ok number) = after_set_all s p v
+after_put s p v (Err refusal) = s
+
 -- More or fewer items of a key.
 
 abbrev pub after_resize : Rows → List (List ℕ) → (len : ℕ) → Rows
@@ -151,6 +179,10 @@ value_reply (Ok key) = Ok key.1
 
 abbrev pub get_reply : Rows → List (List ℕ) → Result HeldValue OdbRefusal
 get_reply s p = value_reply (seek_key s.rows p)
+
+-- the value at the path as it is, also that of a link
+abbrev pub raw_reply : Rows → List (List ℕ) → Result HeldValue OdbRefusal
+raw_reply s p = get_reply s p
 
 abbrev pub number_reply : Result Row OdbRefusal → Result ℕ OdbRefusal
 number_reply (Err refusal) = Err refusal
@@ -215,28 +247,57 @@ abbrev pub GivesPath : Result (Option (List (List ℕ))) NoMemory → Option (Li
 GivesPath (Ok path) is = is ≡ path
 GivesPath (Err _) is = Unit {0}
 
--- a text takes memory, any other item none
-abbrev pub GivesItem : Tid → Result ℕ OdbRefusal → Result ℕ OdbRefusal → Type 0
-GivesItem tid.Text given reply = Gives given reply
-GivesItem type given reply = given ≡ reply
+-- the same where memory is wanted, and else this very reply
+abbrev pub GivesIf : {X : Type 0} → (memory : Bool) → Result X OdbRefusal → Result X OdbRefusal → Type 0
+GivesIf true given reply = Gives given reply
+GivesIf false given reply = given ≡ reply
 
--- the entry's reply is the one that the database gives, or memory was wanting; `find` and `delete` take none
+-- a text takes memory, and so does a link that is met; any other item none
+abbrev pub GivesItem : (met : Bool) → Tid → Result ℕ OdbRefusal → Result ℕ OdbRefusal → Type 0
+GivesItem met tid.Text given reply = Gives given reply
+GivesItem met type given reply = GivesIf met given reply
+
+-- Calls at the path as it is: the entry's reply is the one that the database gives there, or memory was wanting; `find`
+-- and `delete` take none.
+abbrev pub IsReplyThere : Rows → DatabaseEntry → Type 0
+IsReplyThere s (Create p kind reply) = Gives reply (create_reply s p kind)
+IsReplyThere s (Set p index item reply) = GivesItem false (tid_of item) reply (set_reply s p index item)
+IsReplyThere s (SetAll p v reply) = Gives reply (set_all_reply s p v)
+IsReplyThere s (Get p reply) = Gives reply (get_reply s p)
+IsReplyThere s (Find p reply) = reply ≡ find_reply s p
+IsReplyThere s (ListDir p reply) = Gives reply (list_reply s p)
+IsReplyThere s (Delete p reply) = reply ≡ delete_reply s p
+IsReplyThere s (Resize p len reply) = Gives reply (resize_reply s p len)
+IsReplyThere s (PathOf row reply) = GivesPath reply (path_with s.rows row)
+
+-- the rows after such a call with this reply: a refusal, want of memory too, leaves them as they were
+abbrev pub rows_there : Rows → DatabaseEntry → Rows
+rows_there s (Create p kind (Ok n)) = after_create s p kind
+rows_there s (Set p index item (Ok n)) = after_set s p index item
+rows_there s (SetAll p v (Ok n)) = after_set_all s p v
+rows_there s (Delete p (Ok n)) = after_delete s p
+rows_there s (Resize p len (Ok n)) = after_resize s p len
+rows_there s entry = s
+
+-- Each call but `delete` and `path_of` goes to the path after its links, and to a link at its end but for `create`. The
+-- entry's reply is the one that the database gives there, or memory was wanting; `find` takes some only where a link is
+-- met, and `delete` none.
 abbrev pub IsRowsReply : Rows → DatabaseEntry → Type 0
-IsRowsReply s (Create p kind reply) = Gives reply (create_reply s p kind)
-IsRowsReply s (Set p index item reply) = GivesItem (tid_of item) reply (set_reply s p index item)
-IsRowsReply s (SetAll p v reply) = Gives reply (set_all_reply s p v)
-IsRowsReply s (Get p reply) = Gives reply (get_reply s p)
-IsRowsReply s (Find p reply) = reply ≡ find_reply s p
-IsRowsReply s (ListDir p reply) = Gives reply (list_reply s p)
+IsRowsReply s (Create p kind reply) = Gives reply (through (resolved s p false) (λ q. create_reply s q kind))
+IsRowsReply s (Set p index item reply) = GivesItem (meets_link s p true) (tid_of item) reply (through (resolved s p true) (λ q. set_reply s q index item))
+IsRowsReply s (SetAll p v reply) = Gives reply (through (resolved s p true) (λ q. set_all_reply s q v))
+IsRowsReply s (Get p reply) = Gives reply (through (resolved s p true) (λ q. get_reply s q))
+IsRowsReply s (Find p reply) = GivesIf (meets_link s p true) reply (through (resolved s p true) (λ q. find_reply s q))
+IsRowsReply s (ListDir p reply) = Gives reply (through (resolved s p true) (λ q. list_reply s q))
 IsRowsReply s (Delete p reply) = reply ≡ delete_reply s p
-IsRowsReply s (Resize p len reply) = Gives reply (resize_reply s p len)
+IsRowsReply s (Resize p len reply) = Gives reply (through (resolved s p true) (λ q. resize_reply s q len))
 IsRowsReply s (PathOf row reply) = GivesPath reply (path_with s.rows row)
 
 -- the rows after a call with this reply: a refusal, want of memory too, leaves them as they were
 abbrev pub rows_after : Rows → DatabaseEntry → Rows
-rows_after s (Create p kind (Ok n)) = after_create s p kind
-rows_after s (Set p index item (Ok n)) = after_set s p index item
-rows_after s (SetAll p v (Ok n)) = after_set_all s p v
+rows_after s (Create p kind (Ok n)) = led_to s (resolved s p false) (λ q. after_create s q kind)
+rows_after s (Set p index item (Ok n)) = led_to s (resolved s p true) (λ q. after_set s q index item)
+rows_after s (SetAll p v (Ok n)) = led_to s (resolved s p true) (λ q. after_set_all s q v)
 rows_after s (Delete p (Ok n)) = after_delete s p
-rows_after s (Resize p len (Ok n)) = after_resize s p len
+rows_after s (Resize p len (Ok n)) = led_to s (resolved s p true) (λ q. after_resize s q len)
 rows_after s entry = s

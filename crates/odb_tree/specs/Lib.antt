@@ -1,4 +1,5 @@
 pub mod Rows
+pub mod Links
 pub mod Lookups
 pub mod Limits
 pub mod Making

@@ -1,14 +1,15 @@
 -- Changes of a database, and the watches that note them.
-use Rattle.std.specs.Prelude.{ℕ, zero, suc, ◌+◌, ◌-◌, ◌^◌, min, nat_lt, if◌then◌else◌, Bool, List, [], ◌∷◌, ◌++◌, length, map, Option, Some, None, Result, Ok, Err}
+use Rattle.std.specs.Prelude.{ℕ, zero, suc, ◌+◌, ◌-◌, ◌^◌, min, nat_lt, if◌then◌else◌, Bool, List, [], ◌∷◌, ◌++◌, length, map, Option, Result, Ok, Err}
 use Rattle.std.specs.Option.{option_map}
 use Rattle.odb_tree.specs.declared.notes.Note.{Note}
 use Rattle.odb_tree.specs.declared.notes.Watch.{Watch}
-use Rattle.odb_tree.specs.declared.rows.NewKey.TheVariants.{Dir, Keys}
+use Rattle.odb_tree.specs.declared.rows.NewKey.TheVariants.{Dir, Keys, Link}
 use Rattle.odb_tree.specs.declared.entry.DatabaseEntry.{DatabaseEntry}
 use Rattle.odb_tree.specs.declared.entry.DatabaseEntry.TheVariants.{Create, Set, SetAll, Get, Find, ListDir, Delete, Resize, PathOf}
 use Rattle.odb_tree.specs.declared.refusals.OdbRefusal.{OdbRefusal}
 use Rattle.odb_tree.specs.Rows.{Rows}
-use Rattle.odb_tree.specs.Calls.{rows_after, is_row_below}
+use Rattle.odb_value.specs.Values.{HeldValue}
+use Rattle.odb_tree.specs.Calls.{rows_after, after_put, is_row_below}
 
 -- A change: an item of a row was written. It has the row, the index of the item, and the rows just after.
 pub record Change : Type 0 where
@@ -26,11 +27,12 @@ abbrev pub changes_for : (after : Rows) → Result ℕ OdbRefusal → (first cou
 changes_for after (Ok row) first count = changes_from after row first count
 changes_for after (Err refusal) first count = []
 
--- The changes that a call with this reply makes: the first item of a new key, the item that was set, each item of a value
+-- The changes that a call with this reply makes: the first item of a new key or link, the item that was set, each item of a value
 -- that was set whole, and the last item of a key that got another number of items. No other call makes any.
 abbrev pub changes_of : Rows → DatabaseEntry → List Change
 changes_of s (Create p Dir reply) = []
 changes_of s (Create p (Keys type len) reply) = changes_for (rows_after s (Create p (Keys type len) reply)) reply 0 1
+changes_of s (Create p (Link target) reply) = changes_for (rows_after s (Create p (Link target) reply)) reply 0 1
 changes_of s (Set p index item reply) = changes_for (rows_after s (Set p index item reply)) reply index 1
 changes_of s (SetAll p v reply) = changes_for (rows_after s (SetAll p v reply)) reply 0 (length v.items)
 changes_of s (Get p reply) = []
@@ -39,6 +41,10 @@ changes_of s (ListDir p reply) = []
 changes_of s (Delete p reply) = []
 changes_of s (Resize p len reply) = changes_for (rows_after s (Resize p len reply)) reply (len - 1) 1
 changes_of s (PathOf row reply) = []
+
+-- the changes that `put` with this reply makes: each item of the value
+abbrev pub changes_of_put : Rows → List (List ℕ) → HeldValue → Result ℕ OdbRefusal → List Change
+changes_of_put s p v reply = changes_for (after_put s p v reply) reply 0 (length v.items)
 
 -- the most notes that a watch keeps
 abbrev pub notes_limit : ℕ

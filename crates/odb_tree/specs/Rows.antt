@@ -7,14 +7,15 @@ use Rattle.odb_value.specs.Values.{HeldValue}
 use Rattle.odb_tree.specs.declared.rows.Row.{Row}
 
 -- A database: its rows in order of making, which is the order of their numbers, and the number of the next row.
--- Numbers begin with 1 and are never used again.
+-- Numbers begin with 1 and are never used again. A database keeps links, or none.
 pub record Rows : Type 0 where
   pub rows : List Row
   pub next : ℕ
+  pub links : Bool
 
--- the new database
+-- the new database, which keeps no links
 abbrev pub no_rows : Rows
-no_rows = record { rows = []; next = 1 }
+no_rows = record { rows = []; next = 1; links = false }
 
 -- a row with a value is a key, any other a directory
 abbrev pub is_key : Row → Bool

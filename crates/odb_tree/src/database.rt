@@ -1,11 +1,12 @@
-ghost use Rattle.std.specs.Prelude.{◌≡◌, ◌≢◌, Err, IfOk};
+ghost use Rattle.std.specs.Prelude.{◌≡◌, ◌≢◌, ◌++◌, ◌⊎◌, [], true, drop, length, Err, IfOk};
 ghost use Rattle.daq_types.specs.declared.types.Tid.{Tid};
 ghost use Rattle.odb_value.specs.Items.{tid_of};
 ghost use Rattle.odb_tree.specs.declared.refusals.OdbRefusal.TheVariants.{NoMemory as no_memory};
 ghost use Rattle.odb_tree.specs.Databases.{IsDatabase};
 ghost use Rattle.odb_tree.specs.declared.entry.DatabaseEntry.TheVariants.{Create, Set, SetAll, Get, Find, ListDir, Delete, Resize, PathOf};
-ghost use Rattle.odb_tree.specs.Calls.{IsRowsReply, rows_after, is_row_below};
-ghost use Rattle.odb_tree.specs.Noting.{changes_of, all_noted};
+ghost use Rattle.odb_tree.specs.Links.{IsLink, is_link_type, meets_link, numbers_along};
+ghost use Rattle.odb_tree.specs.Calls.{Gives, IsRowsReply, rows_after, raw_reply, put_reply, after_put, is_row_below};
+ghost use Rattle.odb_tree.specs.Noting.{changes_of, changes_of_put, all_noted};
 
 use crate::children::Children;
 use crate::refusals::OdbRefusal;
@@ -17,6 +18,11 @@ use std::alloc::Global;
 /// An online database, seen as a list of rows. Each call replies what `IsRowsReply` says of the rows before it, and leaves
 /// `rows_after` of them. Want of memory is the one answer that no clause ties to the rows; it leaves them as they were.
 /// The rows are always those of a database, which `find` and `list` tell.
+///
+/// A database may keep links: keys of type LINK with the text of a path. Each call but `delete`, `raw`, `put`, `walk`,
+/// `path_of`, `is_below` and `copy` goes to the path after its links. It follows a link with names behind it, and all but
+/// `create` one at the path's end too. In `delete`, `raw` and `put` a link within the path is a key where a directory is
+/// needed.
 ///
 /// A database may keep watches beside its rows. Each call that writes an item leaves all of them with a note of it,
 /// which `changes_of` tells, and no other call touches them. A database that has none has none after each call.
@@ -37,7 +43,7 @@ pub trait Database: Drop {
             (Create path.now kind.now result)) (watches self.old) };
 
     /// Writes one item of a key, and answers the number of its row. A text as long as the item size or longer raises
-    /// that to its length plus 1. Takes memory for a text alone.
+    /// that to its length plus 1. Takes memory for a text, and else only where a link is met.
     fn set(
         &mut self,
         alloc: Global,
@@ -46,7 +52,8 @@ pub trait Database: Drop {
         item: &Item,
     ) -> Result<u32, OdbRefusal>
         ensures reply { IsRowsReply (rows self.old) (Set path.now index item.now result) }
-        ensures memory { result ≡ Err no_memory → tid_of item.now ≡ Tid.Text }
+        ensures memory { result ≡ Err no_memory → (tid_of item.now ≡ Tid.Text)
+            ⊎ (meets_link (rows self.old) path.now true ≡ true) }
         ensures after { rows self.new ≡ rows_after (rows self.old)
             (Set path.now index item.now result) }
         ensures notes { watches self.new ≡ all_noted (changes_of (rows self.old)
@@ -60,14 +67,27 @@ pub trait Database: Drop {
         ensures notes { watches self.new ≡ all_noted (changes_of (rows self.old)
             (SetAll path.now value.now result)) (watches self.old) };
 
+    /// What `set_all` does, but at the path as it is: a link at its end is itself the key. A value of type LINK is
+    /// written where the database keeps links.
+    fn put(&mut self, alloc: Global, path: &Path, value: &Value) -> Result<u32, OdbRefusal>
+        requires link { is_link_type value.now.tid ≡ true → IsLink value.now }
+        ensures reply { Gives result (put_reply (rows self.old) path.now value.now) }
+        ensures after { rows self.new ≡ after_put (rows self.old) path.now value.now result }
+        ensures notes { watches self.new ≡ all_noted (changes_of_put (rows self.old) path.now
+            value.now result) (watches self.old) };
+
     /// The value of a key.
     fn get(&self, alloc: Global, path: &Path) -> Result<Value, OdbRefusal>
         ensures { IsRowsReply (rows self.now) (Get path.now result) };
 
-    /// The number of the row of a key or a directory; 0 for the root. Takes no memory.
-    fn find(&self, path: &Path) -> Result<u32, OdbRefusal>
+    /// What `get` does, but at the path as it is: a link at its end is itself the key, with a value of type LINK.
+    fn raw(&self, alloc: Global, path: &Path) -> Result<Value, OdbRefusal>
+        ensures { Gives result (raw_reply (rows self.now) path.now) };
+
+    /// The number of the row of a key or a directory; 0 for the root. Takes memory only where a link is met.
+    fn find(&self, alloc: Global, path: &Path) -> Result<u32, OdbRefusal>
         ensures reply { IsRowsReply (rows self.now) (Find path.now result) }
-        ensures memory { result ≢ Err no_memory }
+        ensures memory { result ≡ Err no_memory → meets_link (rows self.now) path.now true ≡ true }
         ensures database { IsDatabase (rows self.now) };
 
     /// What stands in a directory: its keys, and then its directories, each in order of making.
@@ -88,6 +108,17 @@ pub trait Database: Drop {
         ensures after { rows self.new ≡ rows_after (rows self.old) (Resize path.now len result) }
         ensures notes { watches self.new ≡ all_noted (changes_of (rows self.old)
             (Resize path.now len result)) (watches self.old) };
+
+    /// Whether the database keeps links.
+    fn keeps_links(&self) -> bool
+        ensures { result ≡ (rows self.now).links };
+
+    /// Writes the numbers of the rows at the first name of the path, the first two and so on, as far as rows are there,
+    /// and answers how many. The rest of `numbers` stays. No link is followed. Takes no memory.
+    fn walk(&self, path: &Path, numbers: &mut [u32; 32]) -> u32
+        ensures count { result ≡ length (numbers_along (rows self.now).rows [] path.now) }
+        ensures numbers { numbers.new ≡ numbers_along (rows self.now).rows [] path.now
+            ++ drop result numbers.old };
 
     /// The path of the row with this number, and of the root for 0; None exactly where there is none.
     fn path_of(&self, alloc: Global, row: u32) -> Result<Option<Path>, NoMemory>

@@ -1,4 +1,4 @@
-ghost use Rattle.std.specs.Prelude.{◌≡◌, ◌≤◌, ◌<◌, ◌^◌, ◌*◌, length, None, IfOk, OnOk};
+ghost use Rattle.std.specs.Prelude.{◌≡◌, false, ◌≤◌, ◌<◌, ◌^◌, ◌*◌, length, None, IfOk, OnOk};
 ghost use Rattle.std.specs.Option.{option_or};
 ghost use Rattle.daq_types.specs.declared.types.Tid.{Tid};
 ghost use Rattle.odb_value.specs.Items.{is_kept};
@@ -44,45 +44,48 @@ pub fn tid_fault(tid: Tid) -> Option<OdbRefusal>
     Some(OdbRefusal::NotKept { tid })
 }
 
-/// Whether the database keeps no values of the new key's type.
+/// Whether a database without links keeps no values of the new key's type.
 pub fn kept_fault(kind: &NewKey) -> Option<OdbRefusal>
-    ensures { result ≡ kept_fault kind.now }
+    ensures { result ≡ kept_fault false kind.now }
 {
     match kind {
         NewKey::Dir => None,
         NewKey::Keys { tid, .. } => tid_fault(*tid),
+        NewKey::Link { .. } => tid_fault(Tid::Link),
     }
 }
 
-/// What is wrong with the number of items.
+/// What is wrong with the number of items, in a database without links.
 pub fn items_fault(kind: &NewKey) -> Option<What>
+    requires { kept_fault false kind.now ≡ None }
     ensures { result ≡ items_fault kind.now }
 {
     match kind {
-        NewKey::Dir => None,
+        NewKey::Dir | NewKey::Link { .. } => None,
         NewKey::Keys { len, .. } => len_fault(*len),
     }
 }
 
-/// The bytes of the new value.
+/// The bytes of the new value, in a database without links.
 pub fn bytes_of_new(kind: &NewKey) -> u64
+    requires { kept_fault false kind.now ≡ None }
     ensures bytes { items_fault kind.now ≡ None → bytes_in (new_value kind.now) ≡ result }
     ensures small { result < 2 ^ 49 }
 {
     match kind {
-        NewKey::Dir => 0,
+        NewKey::Dir | NewKey::Link { .. } => 0,
         NewKey::Keys { tid, len } => bytes_with(*len, new_size(*tid)),
     }
 }
 
-/// The new value.
+/// The new value, in a database without links.
 pub fn new_value(alloc: Global, kind: &NewKey) -> Result<Option<Value>, NoMemory>
-    requires kept { kept_fault kind.now ≡ None }
+    requires kept { kept_fault false kind.now ≡ None }
     requires items { items_fault kind.now ≡ None }
     ensures { IfOk result (λ value. value ≡ new_value kind.now) }
 {
     match kind {
-        NewKey::Dir => Ok(None),
+        NewKey::Dir | NewKey::Link { .. } => Ok(None),
         NewKey::Keys { tid, len } => Ok(Some(Value::new(alloc, *tid, *len)?)),
     }
 }

@@ -1,6 +1,6 @@
 //! Laws of the walk through the database, over its definitions alone.
-ghost use Rattle.std.specs.Prelude.{◌≡◌, ◌≢◌, ℕ, suc, None, List, [], ◌∷◌, ◌++◌, map, true, false, ◌≤◌, length, Some, Ok, IsPermutation};
-ghost use Rattle.odb_value.specs.Paths.{is_front, depth_limit};
+ghost use Rattle.std.specs.Prelude.{◌≡◌, ◌≢◌, ℕ, Bool, Result, suc, None, List, [], ◌∷◌, ◌++◌, map, true, false, ◌≤◌, length, Some, Ok, IsPermutation};
+ghost use Rattle.odb_value.specs.Paths.{is_front, depth_limit, IsPath};
 ghost use Rattle.odb_tree.specs.declared.rows.Row.{Row};
 ghost use Rattle.odb_tree.specs.declared.children.Child.{Child};
 ghost use Rattle.odb_tree.specs.Trees.{IsTree, IsDir, with_rows};
@@ -8,8 +8,10 @@ ghost use Rattle.odb_tree.specs.declared.entry.DatabaseEntry.{DatabaseEntry};
 ghost use Rattle.odb_tree.specs.declared.entry.DatabaseEntry.TheVariants.{Create, SetAll, ListDir};
 ghost use Rattle.odb_tree.specs.declared.rows.NewKey.{NewKey};
 ghost use Rattle.odb_tree.specs.Places.{AreInserted, made_for};
-ghost use Rattle.odb_tree.specs.Calls.{IsRowsReply, child_of, rows_after, after_delete, after_set, after_set_all, after_resize, after_create, new_value};
-ghost use Rattle.odb_tree.specs.Databases.{IsDatabase, IsSoundCall};
+ghost use Rattle.odb_tree.specs.declared.refusals.OdbRefusal.{OdbRefusal};
+ghost use Rattle.odb_tree.specs.Links.{is_link, links_limit, lead, resolved};
+ghost use Rattle.odb_tree.specs.Calls.{Gives, put_reply, after_put, IsRowsReply, child_of, rows_after, after_delete, after_set, after_set_all, after_resize, after_create, new_value};
+ghost use Rattle.odb_tree.specs.Databases.{IsHeld, IsDatabase, IsSoundCall};
 ghost use Rattle.odb_tree.specs.Histories.{IsLegalRows, rows_replay};
 ghost use Rattle.odb_tree.specs.Rows.{Rows, no_rows, is_listed, keys_in, dirs_in, rows_outside, change_at, row_at};
 ghost use Rattle.odb_value.specs.declared.items.Item.{Item};
@@ -77,22 +79,23 @@ pub fn walk_after_change()
         → walk (after_resize s p len) ≡ map (changed_at p (λ v. resized v len)) (walk s) }
 {}
 
-/// In a tree the rows that `create` makes, the missing directories from the top and then the row, come into the walk
+/// In a tree the rows that `create` makes at the path after its links, the missing directories from the top and then the row, come into the walk
 /// one after the other: a key right behind the keys of its directory, a directory right behind everything below its
 /// parent. All other rows keep their places. A path has at most 32 names.
 pub fn walk_after_create()
-    ensures inserted { (s : Rows) (p : List (List ℕ)) (kind : NewKey) (number : ℕ) → IsTree s
-        → length p ≤ depth_limit → IsRowsReply s (Create p kind (Ok number))
-        → AreInserted s (made_for s p (new_value kind)) }
+    ensures inserted { (s : Rows) (p q : List (List ℕ)) (kind : NewKey) (number : ℕ) → IsTree s
+        → length p ≤ depth_limit → resolved s p false ≡ Ok q
+        → IsRowsReply s (Create p kind (Ok number)) → AreInserted s (made_for s q (new_value kind)) }
     ensures rows { (s : Rows) (p : List (List ℕ)) (kind : NewKey) → after_create s p kind
         ≡ with_rows s (made_for s p (new_value kind)) }
 {}
 
 /// In a tree the rows that `set_all` makes where there is no row come into the walk just like those of `create`.
 pub fn walk_after_set_all()
-    ensures inserted { (s : Rows) (p : List (List ℕ)) (v : HeldValue) (number : ℕ) → IsTree s
-        → length p ≤ depth_limit → IsRowsReply s (SetAll p v (Ok number)) → row_at s.rows p ≡ None
-        → AreInserted s (made_for s p (Some v)) }
+    ensures inserted { (s : Rows) (p q : List (List ℕ)) (v : HeldValue) (number : ℕ) → IsTree s
+        → length p ≤ depth_limit → resolved s p true ≡ Ok q
+        → IsRowsReply s (SetAll p v (Ok number)) → row_at s.rows q ≡ None
+        → AreInserted s (made_for s q (Some v)) }
     ensures rows { (s : Rows) (p : List (List ℕ)) (v : HeldValue) → row_at s.rows p ≡ None
         → after_set_all s p v ≡ with_rows s (made_for s p (Some v)) }
 {}
@@ -104,6 +107,25 @@ pub fn databases_stay()
         → IsRowsReply s entry → IsDatabase (rows_after s entry) }
     ensures stays { (s : Rows) (history : List (ℕ × DatabaseEntry)) → IsDatabase s
         → IsLegalRows s history → IsDatabase (rows_replay s history) }
+    ensures put { (s : Rows) (p : List (List ℕ)) (v : HeldValue) (reply : Result ℕ OdbRefusal)
+        → IsDatabase s → IsPath p → IsHeld s.links v → Gives reply (put_reply s p v)
+        → IsDatabase (after_put s p v reply) }
+{}
+
+/// A call or a legal history leaves it as it is whether links are kept.
+pub fn links_stay()
+    ensures after { (s : Rows) (entry : DatabaseEntry) → IsRowsReply s entry
+        → (rows_after s entry).links ≡ s.links }
+    ensures stays { (s : Rows) (history : List (ℕ × DatabaseEntry)) → IsLegalRows s history
+        → (rows_replay s history).links ≡ s.links }
+{}
+
+/// A database that keeps no links has no row of type LINK, and so each path in it is itself after its links.
+pub fn paths_without_links()
+    ensures rows { (s : Rows) (p : List (List ℕ)) (r : Row) → IsDatabase s → s.links ≡ false
+        → row_at s.rows p ≡ Some r → is_link r ≡ false }
+    ensures paths { (s : Rows) (p : List (List ℕ)) (last : Bool) → IsDatabase s → s.links ≡ false
+        → lead links_limit s.rows last 0 p ≡ Ok p }
 {}
 
 /// The walk through a database has its rows, each once, and so at most one row at a path.
@@ -112,11 +134,12 @@ pub fn walk_has_all_rows()
     ensures one { (s : Rows) (p : List (List ℕ)) → IsDatabase s → OneAt p (walk s) }
 {}
 
-/// What `list` answers are the rows that the walk meets directly below the directory, in order.
+/// What `list` answers are the rows that the walk meets directly below the directory at the path after its links, in
+/// order.
 pub fn list_follows_walk()
-    ensures { (s : Rows) (p : List (List ℕ)) (children : List Child) → IsDatabase s
-        → IsRowsReply s (ListDir p (Ok children)) → children
-        ≡ map child_of (directly_below p (walk s)) }
+    ensures { (s : Rows) (p q : List (List ℕ)) (children : List Child) → IsDatabase s
+        → resolved s p true ≡ Ok q → IsRowsReply s (ListDir p (Ok children)) → children
+        ≡ map child_of (directly_below q (walk s)) }
 {}
 
 /// Directly below a directory the walk meets its keys and then its directories, each kind in order of making.

@@ -1,7 +1,8 @@
-ghost use Rattle.std.specs.Prelude.{◌≡◌, ◌<◌, ◌≤◌, ◌==◌, ◌++◌, ◌∷◌, [], ℕ, length, map, not, ◌&&◌, Some, None, Ok, Err, IfOk, IfErr, IfSome, OnOk, MatchOption, filter};
+ghost use Rattle.std.specs.Prelude.{◌≡◌, ◌<◌, ◌≤◌, ◌==◌, ◌++◌, ◌∷◌, [], ℕ, length, drop, map, not, ◌&&◌, Some, None, Ok, Err, IfOk, IfErr, IfSome, OnOk, MatchOption, filter};
 ghost use Rattle.std.specs.Option.{option_copied};
 ghost use Rattle.odb_value.specs.Paths.{depth_limit};
 ghost use Rattle.odb_tree.specs.Rows.{row_at, row_numbered, is_key, is_child, keys_in, dirs_in, bytes_of, total_of};
+ghost use Rattle.odb_tree.specs.Links.{numbers_along};
 ghost use Rattle.odb_tree.specs.Lookups.{dir_fault, absent_fault, parent_of, obstacle_at, obstacle_from, obstacle_to, obstacle_to_new, seek, seek_key};
 ghost use Rattle.odb_tree.specs.Calls.{child_of, children_of, path_with};
 
@@ -135,4 +136,20 @@ pub fn check_there(rows: &[Row], names: &[Name]) -> Result<(), OdbRefusal>
     }
     let _row = seek(rows, names)?;
     Ok(())
+}
+
+/// Writes the numbers of the rows at the first of these names, the first two and so on, as far as rows are there, and
+/// answers how many.
+pub fn number_rows(rows: &[Row], names: &[Name], numbers: &mut [u32; 32]) -> u32
+    requires { length names.now ≤ depth_limit }
+    ensures count { result ≡ length (numbers_along rows.now [] names.now) }
+    ensures numbers { numbers.new ≡ numbers_along rows.now [] names.now ++ drop result numbers.old }
+{
+    for i in 0..names.len() {
+        let Some(row) = row_at(rows, &names[..i + 1]) else {
+            return i as u32;
+        };
+        numbers[i] = row.number;
+    }
+    names.len() as u32
 }

@@ -1,14 +1,17 @@
-ghost use Rattle.std.specs.Prelude.{◌≡◌, ◌≤◌, ◌<◌, ◌^◌, ◌+◌, ◌-◌, [], length, Some, None, IfOk, OnOk, OnErr, Option};
+ghost use Rattle.std.specs.Prelude.{◌≡◌, ◌≢◌, ◌≤◌, ◌<◌, ◌^◌, ◌+◌, ◌-◌, [], length, Some, None, Err, IfOk, OnOk, OnErr, Option};
 ghost use Rattle.std.specs.Option.{option_map, option_or};
 ghost use Rattle.odb_value.specs.Paths.{depth_limit};
 ghost use Rattle.odb_value.specs.Values.{HeldValue};
-ghost use Rattle.odb_tree.specs.declared.refusals.OdbRefusal.TheVariants.{Limit};
+ghost use Rattle.daq_types.specs.declared.types.Tid.{Tid};
+ghost use Rattle.odb_value.specs.Items.{tid_of};
+ghost use Rattle.odb_tree.specs.declared.refusals.OdbRefusal.TheVariants.{Limit, NoMemory as no_memory};
 ghost use Rattle.odb_tree.specs.Rows.{no_rows, bytes_in, total_of};
 ghost use Rattle.odb_tree.specs.Limits.{len_fault, passed, limit_fault};
 ghost use Rattle.odb_tree.specs.Making.{new_number, created};
 ghost use Rattle.odb_tree.specs.Changes.{IsKeyAt};
 ghost use Rattle.odb_tree.specs.Databases.{IsDatabase};
-ghost use Rattle.odb_tree.specs.Calls.{create_fault, set_fault, tid_fault, set_all_fault, after_resize};
+ghost use Rattle.odb_tree.specs.declared.entry.DatabaseEntry.TheVariants.{Create, Set, SetAll, Get, Find, ListDir, Resize};
+ghost use Rattle.odb_tree.specs.Calls.{IsReplyThere, rows_there, create_fault, set_fault, tid_fault, set_all_fault, after_resize};
 
 use crate::changes::{copy_rows, put_at, remove_at, replace_at, resize_at};
 use crate::children::Children;
@@ -19,7 +22,9 @@ use crate::faults::{
 };
 use crate::limits::{bytes_of, bytes_with, len_fault, limit_fault, raised_size, text_fault, total};
 use crate::listing::children_of;
-use crate::lookups::{check_dir, check_there, obstacle, parent, path_with, row_at, seek, seek_key};
+use crate::lookups::{
+    check_dir, check_there, number_rows, obstacle, parent, path_with, row_at, seek, seek_key,
+};
 use crate::new_rows::{count_missing, new_rows};
 use crate::refusals::{OdbRefusal, What};
 use crate::rows::{NewKey, Row};
@@ -189,14 +194,12 @@ impl PlainTree {
         self.next += count;
         Ok((self.next - 1) as u32)
     }
-}
 
-impl Database for PlainTree {
-    ghost rows = { λ s. s };
-
-    ghost watches = { λ _. [] };
-
-    fn create(&mut self, alloc: Global, path: &Path, kind: &NewKey) -> Result<u32, OdbRefusal> {
+    /// Makes a key or a directory at the path as it is.
+    fn create_there(&mut self, alloc: Global, path: &Path, kind: &NewKey) -> Result<u32, OdbRefusal>
+        ensures reply { IsReplyThere self.old (Create path.now kind.now result) }
+        ensures after { self.new ≡ rows_there self.old (Create path.now kind.now result) }
+    {
         let _ = &self.rows;
         let names = path.names();
         if let Some(refusal) = self.create_fault(names, kind) {
@@ -207,13 +210,18 @@ impl Database for PlainTree {
         Ok(number)
     }
 
-    fn set(
+    /// Writes one item of the key at the path as it is.
+    fn set_there(
         &mut self,
         alloc: Global,
         path: &Path,
         index: u32,
         item: &Item,
-    ) -> Result<u32, OdbRefusal> {
+    ) -> Result<u32, OdbRefusal>
+        ensures reply { IsReplyThere self.old (Set path.now index item.now result) }
+        ensures memory { result ≡ Err no_memory → tid_of item.now ≡ Tid.Text }
+        ensures after { self.new ≡ rows_there self.old (Set path.now index item.now result) }
+    {
         let names = path.names();
         let key = seek_key(self.rows.as_slice(), names)?;
         let number = key.number;
@@ -226,7 +234,16 @@ impl Database for PlainTree {
         Ok(number)
     }
 
-    fn set_all(&mut self, alloc: Global, path: &Path, value: &Value) -> Result<u32, OdbRefusal> {
+    /// Replaces the value of the key at the path as it is, or makes the key with it.
+    fn set_all_there(
+        &mut self,
+        alloc: Global,
+        path: &Path,
+        value: &Value,
+    ) -> Result<u32, OdbRefusal>
+        ensures reply { IsReplyThere self.old (SetAll path.now value.now result) }
+        ensures after { self.new ≡ rows_there self.old (SetAll path.now value.now result) }
+    {
         let names = path.names();
         if let Some(refusal) = self.set_all_fault(names, value) {
             return Err(refusal);
@@ -246,13 +263,20 @@ impl Database for PlainTree {
         }
     }
 
-    fn get(&self, alloc: Global, path: &Path) -> Result<Value, OdbRefusal> {
+    /// The value of the key at the path as it is.
+    fn get_there(&self, alloc: Global, path: &Path) -> Result<Value, OdbRefusal>
+        ensures { IsReplyThere self.now (Get path.now result) }
+    {
         let key = seek_key(self.rows.as_slice(), path.names())?;
         let value = key.value.try_clone(alloc)?;
         Ok(value)
     }
 
-    fn find(&self, path: &Path) -> Result<u32, OdbRefusal> {
+    /// The number of the row at the path as it is. Takes no memory.
+    fn find_there(&self, path: &Path) -> Result<u32, OdbRefusal>
+        ensures reply { IsReplyThere self.now (Find path.now result) }
+        ensures memory { result ≢ Err no_memory }
+    {
         let rows = self.rows.as_slice();
         let names = path.names();
         if names.is_empty() {
@@ -262,11 +286,81 @@ impl Database for PlainTree {
         Ok(row.number)
     }
 
-    fn list(&self, alloc: Global, path: &Path) -> Result<Children, OdbRefusal> {
+    /// What stands in the directory at the path as it is.
+    fn list_there(&self, alloc: Global, path: &Path) -> Result<Children, OdbRefusal>
+        ensures { IsReplyThere self.now (ListDir path.now result) }
+    {
         let names = path.names();
         check_dir(self.rows.as_slice(), names)?;
         let children = children_of(alloc, self.rows.as_slice(), names)?;
         Ok(children)
+    }
+
+    /// Gives the key at the path as it is so many items.
+    fn resize_there(&mut self, alloc: Global, path: &Path, len: u32) -> Result<u32, OdbRefusal>
+        ensures reply { IsReplyThere self.old (Resize path.now len result) }
+        ensures after { self.new ≡ rows_there self.old (Resize path.now len result) }
+    {
+        let names = path.names();
+        let key = seek_key(self.rows.as_slice(), names)?;
+        let number = key.number;
+        if let Some(refusal) = self.resize_fault(names, key.value, len) {
+            return Err(refusal);
+        }
+        resize_at(&mut self.rows, alloc, names, len)?;
+        Ok(number)
+    }
+}
+
+impl Database for PlainTree {
+    ghost rows = { λ s. s };
+
+    ghost watches = { λ _. [] };
+
+    fn create(&mut self, alloc: Global, path: &Path, kind: &NewKey) -> Result<u32, OdbRefusal> {
+        let _ = &self.rows;
+        self.create_there(alloc, path, kind)
+    }
+
+    fn set(
+        &mut self,
+        alloc: Global,
+        path: &Path,
+        index: u32,
+        item: &Item,
+    ) -> Result<u32, OdbRefusal> {
+        let _ = &self.rows;
+        self.set_there(alloc, path, index, item)
+    }
+
+    fn set_all(&mut self, alloc: Global, path: &Path, value: &Value) -> Result<u32, OdbRefusal> {
+        let _ = &self.rows;
+        self.set_all_there(alloc, path, value)
+    }
+
+    fn put(&mut self, alloc: Global, path: &Path, value: &Value) -> Result<u32, OdbRefusal> {
+        let _ = &self.rows;
+        self.set_all_there(alloc, path, value)
+    }
+
+    fn get(&self, alloc: Global, path: &Path) -> Result<Value, OdbRefusal> {
+        let _ = &self.rows;
+        self.get_there(alloc, path)
+    }
+
+    fn raw(&self, alloc: Global, path: &Path) -> Result<Value, OdbRefusal> {
+        let _ = &self.rows;
+        self.get_there(alloc, path)
+    }
+
+    fn find(&self, _alloc: Global, path: &Path) -> Result<u32, OdbRefusal> {
+        let _ = &self.rows;
+        self.find_there(path)
+    }
+
+    fn list(&self, alloc: Global, path: &Path) -> Result<Children, OdbRefusal> {
+        let _ = &self.rows;
+        self.list_there(alloc, path)
     }
 
     fn delete(&mut self, path: &Path) -> Result<u32, OdbRefusal> {
@@ -277,14 +371,18 @@ impl Database for PlainTree {
     }
 
     fn resize(&mut self, alloc: Global, path: &Path, len: u32) -> Result<u32, OdbRefusal> {
-        let names = path.names();
-        let key = seek_key(self.rows.as_slice(), names)?;
-        let number = key.number;
-        if let Some(refusal) = self.resize_fault(names, key.value, len) {
-            return Err(refusal);
-        }
-        resize_at(&mut self.rows, alloc, names, len)?;
-        Ok(number)
+        let _ = &self.rows;
+        self.resize_there(alloc, path, len)
+    }
+
+    fn keeps_links(&self) -> bool {
+        let _ = &self.rows;
+        false
+    }
+
+    fn walk(&self, path: &Path, numbers: &mut [u32; 32]) -> u32 {
+        let _ = &self.rows;
+        number_rows(self.rows.as_slice(), path.names(), numbers)
     }
 
     fn path_of(&self, alloc: Global, row: u32) -> Result<Option<Path>, NoMemory> {

@@ -35,6 +35,8 @@ pub enum OdbRefusal {
     Limit { what: What },
     /// The database keeps no values of this type.
     NotKept { tid: Tid },
+    /// The path has no end within 16 links, or comes to more than 32 names by a link. So many links were followed.
+    BadLink { steps: u32 },
     /// There was no memory for the call.
     NoMemory,
 }

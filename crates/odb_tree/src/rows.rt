@@ -1,4 +1,8 @@
-use daq_types::Tid;
+ghost use Rattle.std.specs.Prelude.{◌≡◌, IfSome};
+ghost use Rattle.odb_tree.specs.declared.rows.NewKey.TheVariants.{Link};
+ghost use Rattle.odb_tree.specs.Databases.{IsSoundKey};
+
+use daq_types::{Name, Tid};
 use odb_value::{Path, Value};
 
 /// A row of the database: a key with its value, or a directory.
@@ -19,4 +23,19 @@ pub enum NewKey {
     Dir,
     /// A key of so many items of this type: 0, n or empty texts, with the item size 32.
     Keys { tid: Tid, len: u32 },
+    /// A link to this path: a key of type LINK with the path's text.
+    Link { target: Path },
+}
+
+impl NewKey {
+    /// The names of the path to which a new link goes; None for anything else.
+    pub fn target(&self) -> Option<&[Name]>
+        ensures sound { IsSoundKey self.now }
+        ensures link { IfSome result (λ names. self.now ≡ Link names.now) }
+    {
+        match self {
+            NewKey::Link { target } => Some(target.names()),
+            NewKey::Dir | NewKey::Keys { .. } => None,
+        }
+    }
 }

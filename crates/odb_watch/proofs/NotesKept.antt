@@ -6,7 +6,7 @@ use Rattle.odb_tree.proofs.Noted.{none_noted}
 use Rattle.odb_tree.specs.Calls.{is_row_below}
 use Rattle.odb_tree.specs.declared.notes.Note.{Note}
 use Rattle.odb_tree.specs.declared.notes.Watch.{Watch}
-use Rattle.odb_tree.specs.Noting.{changes_from, changes_for, all_noted, with_note, noted_all, notes_limit, counted}
+use Rattle.odb_tree.specs.Noting.{Watched, changes_from, changes_for, all_noted, with_note, noted_all, notes_limit, counted}
 use Rattle.odb_watch.specs.Keeping.{with_notes}
 
 pub note_keeps_row : (k : Watch) (note : Note) → (with_note k note).row ≡ k.row
@@ -63,3 +63,12 @@ all_next f xs now i old new h so_far at is =
 pub refused_notes : (after : Rows) (reply : Result ℕ OdbRefusal) (first count : ℕ) (slots : List (Option Watch)) → ((row : ℕ) → reply ≡ Ok row → ⊥) → slots ≡ all_noted (changes_for after reply first count) slots
 refused_notes after (Ok row) first count slots h = absurd (h row refl)
 refused_notes after (Err refusal) first count slots h = sym (none_noted slots)
+
+-- what the code notes is what the call wrote
+pub noted_as : (s : Watched) (rows now : Rows) (slots noted : List (Option Watch)) (after : Rows → Rows) (reply : Result ℕ OdbRefusal) (first count at many : ℕ) → record { rows = rows; slots = slots } ≡ s → now ≡ after rows
+    → first ≡ at → count ≡ many → noted ≡ all_noted (changes_for now reply first count) slots → noted ≡ all_noted (changes_for (after s.rows) reply at many) s.slots
+noted_as s rows now slots noted after reply first count at many view left e f h =
+    h ∙ (ap (λ (r : Rows). all_noted (changes_for r reply first count) slots) left
+    ∙ (ap (λ (n : ℕ). all_noted (changes_for (after rows) reply n count) slots) e
+    ∙ (ap (λ (n : ℕ). all_noted (changes_for (after rows) reply at n) slots) f
+    ∙ ap (λ (w : Watched). all_noted (changes_for (after w.rows) reply at many) w.slots) view)))

@@ -1,8 +1,8 @@
 -- What a port to a database tells its caller.
-use Rattle.std.specs.Prelude.{◌≡◌, ◌≢◌, ◌⊎◌, ℕ, ◌+◌, List, [], ◌∷◌, ◌++◌, map, Result, Ok, Err}
+use Rattle.std.specs.Prelude.{◌≡◌, ◌≢◌, ◌⊎◌, ℕ, List, [], ◌∷◌, ◌++◌, map, Result, Ok, Err}
 use Rattle.daq_types.specs.Callers.{entries_by}
 use Rattle.odb_tree.specs.declared.entry.DatabaseEntry.{DatabaseEntry}
-use Rattle.odb_tree.specs.declared.entry.DatabaseEntry.TheVariants.{Create, Set, SetAll, Get, ListDir, Resize, PathOf}
+use Rattle.odb_tree.specs.declared.entry.DatabaseEntry.TheVariants.{Create, Set, SetAll, Get, Find, ListDir, Resize, PathOf}
 use Rattle.odb_tree.specs.declared.refusals.OdbRefusal.{OdbRefusal}
 use Rattle.odb_tree.specs.declared.refusals.OdbRefusal.TheVariants.{NoMemory as no_memory}
 use Rattle.odb_tree.specs.Noting.{Watched}
@@ -93,12 +93,13 @@ abbrev pub IsSettled : {X : Type 0} → Result X OdbRefusal → Type 0
 IsSettled (Ok x) = Unit {0}
 IsSettled (Err refusal) = refusal ≢ no_memory
 
--- the call where memory was wanting for it; a look-up and a removal take none
+-- the call where memory was wanting for it; a removal takes none
 abbrev pub unanswered : DatabaseEntry → DatabaseEntry
 unanswered (Create p kind reply) = Create p kind (Err no_memory)
 unanswered (Set p index item reply) = Set p index item (Err no_memory)
 unanswered (SetAll p v reply) = SetAll p v (Err no_memory)
 unanswered (Get p reply) = Get p (Err no_memory)
+unanswered (Find p reply) = Find p (Err no_memory)
 unanswered (ListDir p reply) = ListDir p (Err no_memory)
 unanswered (Resize p len reply) = Resize p len (Err no_memory)
 unanswered (PathOf row reply) = PathOf row (Err (record {}))

@@ -1,7 +1,5 @@
 ghost use Rattle.std.specs.Prelude.{◌≡◌, ◌≢◌, Err};
 ghost use Rattle.daq_types.specs.Callers.{main_caller};
-ghost use Rattle.daq_types.specs.declared.types.Tid.{Tid};
-ghost use Rattle.odb_value.specs.Items.{tid_of};
 ghost use Rattle.odb_tree.specs.declared.refusals.OdbRefusal.TheVariants.{NoMemory as no_memory};
 ghost use Rattle.odb_tree.specs.declared.entry.DatabaseEntry.TheVariants.{Create, Set, SetAll, Get, Find, ListDir, Delete, Resize, PathOf};
 ghost use Rattle.odb_watch.specs.DatabasePorts.{AddsCall};
@@ -40,8 +38,7 @@ pub trait DatabasePort {
         index: u32,
         item: Item,
     ) -> Result<u32, OdbRefusal>
-        ensures called { AddsCall (access self.old) (access self.new) (Set path index item result) }
-        ensures memory { result ≡ Err no_memory → tid_of item ≡ Tid.Text };
+        ensures called { AddsCall (access self.old) (access self.new) (Set path index item result) };
 
     /// As `Database::set_all`, by the main thread.
     fn set_all<R: Wait>(
@@ -58,10 +55,9 @@ pub trait DatabasePort {
     fn get<R: Wait>(&mut self, rt: &R, alloc: Global, path: Path) -> Result<Value, OdbRefusal>
         ensures { AddsCall (access self.old) (access self.new) (Get path result) };
 
-    /// As `Database::find`. Takes no memory.
-    fn find<R: Wait>(&mut self, rt: &R, path: Path) -> Result<u32, OdbRefusal>
-        ensures called { AddsCall (access self.old) (access self.new) (Find path result) }
-        ensures memory { result ≢ Err no_memory };
+    /// As `Database::find`.
+    fn find<R: Wait>(&mut self, rt: &R, alloc: Global, path: Path) -> Result<u32, OdbRefusal>
+        ensures called { AddsCall (access self.old) (access self.new) (Find path result) };
 
     /// As `Database::list`. Where there is no memory to note the list, the call is refused for that, and so noted.
     fn list<R: Wait>(&mut self, rt: &R, alloc: Global, path: Path) -> Result<Children, OdbRefusal>

@@ -1,11 +1,12 @@
-ghost use Rattle.std.specs.Prelude.{◌≡◌, ◌≢◌, ◌≤◌, [], length, map, Err, IfOk, OnErr, OnOk};
+ghost use Rattle.std.specs.Prelude.{◌≡◌, ◌≢◌, ◌≤◌, ◌⊎◌, true, [], length, map, Err, IfOk, OnErr, OnOk};
 ghost use Rattle.daq_types.specs.declared.types.Tid.{Tid};
 ghost use Rattle.odb_value.specs.Items.{tid_of};
 ghost use Rattle.odb_tree.specs.declared.refusals.OdbRefusal.TheVariants.{NoMemory as no_memory};
 ghost use Rattle.odb_tree.specs.declared.entry.DatabaseEntry.TheVariants.{Create, Set, SetAll, Get, Find, ListDir, Delete, Resize, PathOf};
 ghost use Rattle.odb_tree.specs.Databases.{IsDatabase};
-ghost use Rattle.odb_tree.specs.Calls.{IsRowsReply, rows_after, is_row_below};
-ghost use Rattle.odb_tree.specs.Noting.{changes_of, all_noted, notes_limit};
+ghost use Rattle.odb_tree.specs.Links.{IsLink, is_link_type, meets_link};
+ghost use Rattle.odb_tree.specs.Calls.{Gives, IsRowsReply, rows_after, put_reply, after_put, is_row_below};
+ghost use Rattle.odb_tree.specs.Noting.{changes_of, changes_of_put, all_noted, notes_limit};
 ghost use Rattle.odb_watch.specs.declared.entry.WatchEntry.TheVariants.{Watch as begin_of, Notes as notes_of, Unwatch as end_of};
 ghost use Rattle.odb_watch.specs.Steps.{StepsWatched, moved_out};
 
@@ -100,7 +101,7 @@ impl<D: Database> Database for Watches<D> {
         let reply = self.database.create(alloc, path, kind);
         match kind {
             NewKey::Dir => {}
-            NewKey::Keys { tid: _, len: _ } => {
+            NewKey::Keys { .. } | NewKey::Link { .. } => {
                 note_reply(&self.database, &mut self.slots, reply, 0, 1);
             }
         }
@@ -115,7 +116,8 @@ impl<D: Database> Database for Watches<D> {
         item: &Item,
     ) -> Result<u32, OdbRefusal>
         ensures reply { IsRowsReply self.old.rows (Set path.now index item.now result) }
-        ensures memory { result ≡ Err no_memory → tid_of item.now ≡ Tid.Text }
+        ensures memory { result ≡ Err no_memory → (tid_of item.now ≡ Tid.Text)
+            ⊎ (meets_link self.old.rows path.now true ≡ true) }
         ensures after { self.new.rows ≡ rows_after self.old.rows
             (Set path.now index item.now result) }
         ensures notes { self.new.slots ≡ all_noted (changes_of self.old.rows
@@ -144,12 +146,34 @@ impl<D: Database> Database for Watches<D> {
         reply
     }
 
+    fn put(&mut self, alloc: Global, path: &Path, value: &Value) -> Result<u32, OdbRefusal>
+        requires link { is_link_type value.now.tid ≡ true → IsLink value.now }
+        ensures reply { Gives result (put_reply self.old.rows path.now value.now) }
+        ensures after { self.new.rows ≡ after_put self.old.rows path.now value.now result }
+        ensures notes { self.new.slots ≡ all_noted (changes_of_put self.old.rows path.now value.now
+            result) self.old.slots }
+    {
+        let reply = self.database.put(alloc, path, value);
+        note_reply(
+            &self.database,
+            &mut self.slots,
+            reply,
+            0,
+            value.items().len() as u32,
+        );
+        reply
+    }
+
     fn get(&self, alloc: Global, path: &Path) -> Result<Value, OdbRefusal> {
         self.database.get(alloc, path)
     }
 
-    fn find(&self, path: &Path) -> Result<u32, OdbRefusal> {
-        self.database.find(path)
+    fn raw(&self, alloc: Global, path: &Path) -> Result<Value, OdbRefusal> {
+        self.database.raw(alloc, path)
+    }
+
+    fn find(&self, alloc: Global, path: &Path) -> Result<u32, OdbRefusal> {
+        self.database.find(alloc, path)
     }
 
     fn list(&self, alloc: Global, path: &Path) -> Result<Children, OdbRefusal> {
@@ -180,6 +204,14 @@ impl<D: Database> Database for Watches<D> {
             1,
         );
         reply
+    }
+
+    fn keeps_links(&self) -> bool {
+        self.database.keeps_links()
+    }
+
+    fn walk(&self, path: &Path, numbers: &mut [u32; 32]) -> u32 {
+        self.database.walk(path, numbers)
     }
 
     fn path_of(&self, alloc: Global, row: u32) -> Result<Option<Path>, NoMemory> {

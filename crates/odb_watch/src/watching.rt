@@ -1,8 +1,5 @@
-ghost use Rattle.std.specs.Prelude.{◌≡◌, ◌≤◌, length, Err, IfOk, OnErr, OnOk};
+ghost use Rattle.std.specs.Prelude.{◌≡◌, ◌≤◌, length, IfOk, OnErr, OnOk};
 ghost use Rattle.daq_types.specs.Callers.{main_caller};
-ghost use Rattle.daq_types.specs.declared.types.Tid.{Tid};
-ghost use Rattle.odb_value.specs.Items.{tid_of};
-ghost use Rattle.odb_tree.specs.declared.refusals.OdbRefusal.TheVariants.{NoMemory as no_memory};
 ghost use Rattle.odb_tree.specs.declared.entry.DatabaseEntry.TheVariants.{Set};
 ghost use Rattle.odb_tree.specs.Noting.{notes_limit};
 ghost use Rattle.odb_text.specs.Dumps.{dump_limit};
@@ -31,8 +28,7 @@ pub trait WatchPort: DatabasePort {
         item: &Item,
     ) -> Result<u32, OdbRefusal>
         ensures called { AddsCall (Self.access self.old) (Self.access self.new)
-            (Set path.now index item.now result) }
-        ensures memory { result ≡ Err no_memory → tid_of item.now ≡ Tid.Text };
+            (Set path.now index item.now result) };
 
     /// Begins to watch a row, 0 for the root, and what is below it, as `Watches::watch`.
     fn watch<R: Wait>(&mut self, rt: &R, alloc: Global, row: u32) -> Result<u32, WatchRefusal>

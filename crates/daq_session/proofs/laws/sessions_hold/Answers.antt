@@ -6,7 +6,8 @@ use Rattle.daq_session.proofs.laws.sessions_hold.Goals as goal
 pub returns : goal.returns
 returns g c = λ first_files final run_files is.
     let laws : RunLaws = record {
-      stays = c.run_number_stays_watched.ensures;
+      stays = c.run_number_stays_watched.ensures.number;
+      unlinked = c.run_number_stays_watched.ensures.unlinked;
       given = c.run_number_given.ensures.value;
       opens = c.run_number_opens.ensures;
       sets = c.own_calls_spare.ensures.sets;

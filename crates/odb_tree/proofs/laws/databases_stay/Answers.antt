@@ -1,4 +1,4 @@
-use Rattle.odb_tree.proofs.Sound.{database_begins, database_after, database_replayed}
+use Rattle.odb_tree.proofs.Sound.{database_begins, database_after, database_replayed, database_put}
 use Rattle.odb_tree.proofs.laws.databases_stay.Goals as goal
 
 pub returns-clause-begins : goal.returns-clause-begins
@@ -9,3 +9,6 @@ returns-clause-after c = database_after
 
 pub returns-clause-stays : goal.returns-clause-stays
 returns-clause-stays c = database_replayed
+
+pub returns-clause-put : goal.returns-clause-put
+returns-clause-put c = database_put

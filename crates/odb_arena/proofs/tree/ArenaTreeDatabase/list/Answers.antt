@@ -1,7 +1,8 @@
-use Rattle.odb_arena.proofs.Shown.{listed}
+use Rattle.std.proofs.Common.{sym, ap}
+use Rattle.odb_tree.specs.Rows.{Rows}
+use Rattle.odb_tree.specs.declared.entry.DatabaseEntry.TheVariants.{ListDir}
+use Rattle.odb_tree.proofs.Led.{reply_unlinked}
 use Rattle.odb_arena.proofs.tree.ArenaTreeDatabase.list.Goals as goal
 
 pub returns-clause-reply : goal.returns-clause-reply
-returns-clause-reply c =
-    listed c.self.inside c.args.self.now c.names-names.result.now c.args.path.now c.reach-at.result c.in_ok-children.children c.self.invariant c.self.view_is c.names-names.ensures.names c.reach-at.ensures
-    c.in_ok-check_dir.ensures.dir c.in_ok-children.ensures
+returns-clause-reply c = reply_unlinked c.args.self.now (ListDir c.args.path.now c.list_there.result) (sym (ap (λ (s : Rows). s.links) c.self.view_is)) c.list_there.ensures.reply

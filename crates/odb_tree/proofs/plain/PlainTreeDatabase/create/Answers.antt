@@ -1,13 +1,11 @@
-use Rattle.std.proofs.Common.{Option, sym, subst}
-use Rattle.odb_value.specs.Paths.{IsPath}
-use Rattle.odb_value.specs.Values.{HeldValue}
-use Rattle.odb_tree.specs.Making.{created}
-use Rattle.odb_tree.specs.Databases.{IsDatabase}
-use Rattle.odb_tree.proofs.Sound.{database_created}
+use Rattle.std.proofs.Common.{sym, ap, ◌∙◌}
+use Rattle.odb_tree.specs.Rows.{Rows}
+use Rattle.odb_tree.specs.declared.entry.DatabaseEntry.TheVariants.{Create}
+use Rattle.odb_tree.proofs.Led.{reply_unlinked, after_unlinked}
 use Rattle.odb_tree.proofs.plain.PlainTreeDatabase.create.Goals as goal
 
-pub make-requires-clause-database : goal.make-requires-clause-database
-make-requires-clause-database c =
-    subst (λ (v : Option HeldValue). IsDatabase (created c.args.self.now c.names-names.result.now v)) (sym c.in_ok-value.ensures)
-    (database_created c.args.self.now c.names-names.result.now c.args.kind.now c.create_fault.result
-    (subst IsDatabase c.self.view_is c.self.invariant) (subst IsPath (sym c.names-names.ensures.names) c.names-names.ensures.is_path) c.create_fault.ensures c.in_default.is)
+pub returns-clause-reply : goal.returns-clause-reply
+returns-clause-reply c = reply_unlinked c.args.self.now (Create c.args.path.now c.args.kind.now c.create_there.result) (sym (ap (λ (s : Rows). s.links) c.self.view_is)) c.create_there.ensures.reply
+
+pub returns-clause-after : goal.returns-clause-after
+returns-clause-after c = c.create_there.ensures.after ∙ sym (after_unlinked c.args.self.now (Create c.args.path.now c.args.kind.now c.create_there.result) (sym (ap (λ (s : Rows). s.links) c.self.view_is)))

@@ -1,12 +1,8 @@
-use Rattle.std.proofs.Common.{Err, ap, ◌∙◌}
-use Rattle.std.proofs.lemmas.Result.{err_from_is_err_and}
-use Rattle.odb_tree.specs.declared.refusals.OdbRefusal.{OdbRefusal}
-use Rattle.odb_tree.specs.Lookups.{seek}
-use Rattle.odb_tree.proofs.Lasting.{sought, handed}
+use Rattle.std.proofs.Common.{sym, ap}
+use Rattle.odb_tree.specs.Rows.{Rows}
+use Rattle.odb_tree.specs.declared.entry.DatabaseEntry.TheVariants.{Find}
+use Rattle.odb_tree.proofs.Led.{reply_unlinked}
 use Rattle.odb_tree.proofs.plain.PlainTreeDatabase.find.Goals as goal
 
-pub returns-in_err-row-clause-memory : goal.returns-in_err-row-clause-memory
-returns-in_err-row-clause-memory c =
-    let p = err_from_is_err_and c.from_residual.result c.from_residual.ensures.1 in
-    handed c.in_err-row.field-0.0 (seek c.as_slice-rows.result.now c.names-names.result.now) c.from_residual.result c.in_err-row.ensures.refused
-    (sought c.as_slice-rows.result.now c.names-names.result.now) (p.1 ∙ ap (λ (x : OdbRefusal). Err x) p.2)
+pub returns-clause-reply : goal.returns-clause-reply
+returns-clause-reply c = reply_unlinked c.args.self.now (Find c.args.path.now c.find_there.result) (sym (ap (λ (s : Rows). s.links) c.self.view_is)) c.find_there.ensures.reply

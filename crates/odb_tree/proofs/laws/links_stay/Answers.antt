@@ -1,0 +1,8 @@
+use Rattle.odb_tree.proofs.Sound.{links_after, links_replayed}
+use Rattle.odb_tree.proofs.laws.links_stay.Goals as goal
+
+pub returns-clause-after : goal.returns-clause-after
+returns-clause-after c = links_after
+
+pub returns-clause-stays : goal.returns-clause-stays
+returns-clause-stays c = links_replayed
