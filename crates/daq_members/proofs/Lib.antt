@@ -1,6 +1,7 @@
 pub mod OwnTurnLaws
 pub mod SetLaws
 pub mod FrontMemberLaws
+pub mod FrontSeatLaws
 pub mod TakenLaws
 pub mod LoggerLaws
 pub mod LoggerSeatLaws
@@ -10,5 +11,6 @@ pub mod LoggerReasons
 pub mod LoggerNames
 pub mod BareLaws
 pub mod AnalyzerLaws
+pub mod AnalyzerSeatLaws
 pub mod ManyLaws
 pub mod CrewLaws

@@ -1,4 +1,5 @@
 pub mod OwnTurns
+pub mod EngineClients
 pub mod SentSets
 pub mod FrontTaken
 pub mod LoggerTaken

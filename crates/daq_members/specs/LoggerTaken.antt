@@ -18,10 +18,17 @@ use Rattle.loggers.specs.Turning.{TakesTurn}
 use Rattle.loggers.specs.Finishing.{FinishesLogger}
 use Rattle.loggers.specs.SlotPulls.{PullsNumbered}
 use Rattle.daq_members.specs.declared.logger_member.LoggerMember.{LoggerMember}
+use Rattle.daq_members.specs.declared.seat.Seat.{Seat}
 use Rattle.daq_members.specs.declared.turned.Turned.{Turned}
 use Rattle.daq_members.specs.declared.turned.Turned.TheVariants.{Worked, Idle, Ended}
-use Rattle.daq_members.specs.OwnTurns.{start_owed, GivesAnswer}
-use Rattle.daq_members.specs.FrontTaken.{asked_so, turned_by}
+use Rattle.daq_members.specs.OwnTurns.{start_owed, asked_so, GivesAnswer}
+use Rattle.daq_members.specs.FrontTaken.{turned_by}
+
+-- At this place, where the turn with this start number was owed, if one was, the engine was asked and replied so.
+pub record Asked (before after : Seat) (owed : Option ℕ) (reply : Polled) : Type 0 where
+  pub client : after.client ≡ before.client
+  pub calls : own_entries after.pass ≡ asked_so before.client (own_entries before.pass) reply
+  pub owed_is : start_owed before.client (own_entries before.pass) ≡ owed
 
 -- how many channels are pulled
 abbrev pub pulled_channels : ℕ

@@ -2,7 +2,7 @@
 ghost use Rattle.std.specs.Prelude.{◌≡◌, ◌<◌, ℕ, slice_get, Some, length};
 ghost use Rattle.daq_members.specs.FrontSeats.{FrontSeen, IsSeated};
 
-use crate::{AnalyzerSeats, FrontSeat, LoggerSeat, Turned, ask_all as ask_analyzers, turn_at};
+use crate::{AnalyzerSeats, FrontMember, LoggerSeat, Turned, ask_all as ask_analyzers, turn_at};
 use buffer_core::BufferPort;
 use daq_io::{Files, Gate, Pick};
 use front_ends::Equipment;
@@ -14,14 +14,14 @@ use std::sync::Wait;
 /// The members of a session and the pick, each for itself. A seat gives back what its member called with.
 #[derive(Drop)]
 pub struct CrewParts<'a, E: Equipment, P: BufferPort, D: WatchPort, F: Files, K: Pick> {
-    pub fronts: Vec<FrontSeat<'a, E, P, D>>,
+    pub fronts: Vec<FrontMember<'a, E, P, D>>,
     pub logger: LoggerSeat<'a, P, F>,
     pub analyzers: AnalyzerSeats<'a, P>,
     pub pick: K,
 }
 
 /// Learns what each of these front-ends keeps.
-fn ask_all<'a, E: Equipment, P: BufferPort, D: WatchPort>(fronts: &[FrontSeat<'a, E, P, D>])
+fn ask_all<'a, E: Equipment, P: BufferPort, D: WatchPort>(fronts: &[FrontMember<'a, E, P, D>])
     ensures { (number : ℕ) → (front : FrontSeen E) → slice_get fronts.now number ≡ Some front →
         IsSeated E.takes E.makes front }
 {
@@ -35,7 +35,7 @@ fn ask_all<'a, E: Equipment, P: BufferPort, D: WatchPort>(fronts: &[FrontSeat<'a
 /// most 64. In each round the pick names the member that has its turn first.
 #[derive(Drop)]
 pub struct Crew<'a, E: Equipment, P: BufferPort, D: WatchPort, F: Files, K: Pick, G: Gate> {
-    fronts: Vec<FrontSeat<'a, E, P, D>>,
+    fronts: Vec<FrontMember<'a, E, P, D>>,
     logger: LoggerSeat<'a, P, F>,
     analyzers: AnalyzerSeats<'a, P>,
     pick: K,
@@ -72,7 +72,7 @@ impl<'a, E: Equipment, P: BufferPort, D: WatchPort, F: Files, K: Pick, G: Gate> 
 
     /// A crew of these members, of which each asks the same engine by the client number that is its place.
     pub fn new(
-        fronts: Vec<FrontSeat<'a, E, P, D>>,
+        fronts: Vec<FrontMember<'a, E, P, D>>,
         logger: LoggerSeat<'a, P, F>,
         analyzers: AnalyzerSeats<'a, P>,
         pick: K,

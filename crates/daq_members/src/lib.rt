@@ -6,25 +6,25 @@
 
 pub mod analyzer_laws;
 mod analyzer_member;
-mod analyzer_seat;
 mod crew;
 pub mod crew_laws;
+mod engine_client;
 mod front_member;
-mod front_seat;
 pub mod laws;
 mod logger_member;
 mod logger_seat;
 mod seat;
 mod seats;
+mod sent_key;
 mod turned;
 
-pub use analyzer_member::AnalyzerMember;
-pub use analyzer_seat::{AnalyzerParts, AnalyzerSeat};
+pub use analyzer_member::{AnalyzerMember, AnalyzerParts};
 pub use crew::{Crew, CrewParts};
-pub use front_member::{FrontMember, turned_by};
-pub use front_seat::{FrontParts, FrontSeat};
+pub use engine_client::EngineClient;
+pub use front_member::{FrontMember, FrontParts, turned_by};
 pub use logger_member::LoggerMember;
 pub use logger_seat::{LoggerParts, LoggerSeat};
 pub use seat::Seat;
 pub use seats::{AnalyzerSeats, ask_all, turn_at};
+pub use sent_key::SentKey;
 pub use turned::Turned;

@@ -10,8 +10,8 @@ ghost use Rattle.loggers.specs.SlotPulls.{HasEventRoom, PullsNumbered};
 ghost use Rattle.loggers.specs.Turning.{IsIdleOutside, buffers_begun};
 ghost use Rattle.loggers.specs.LoggerStands.{LoggerStands};
 ghost use Rattle.daq_members.specs.declared.seat.Seat.{Seat as Place};
-ghost use Rattle.daq_members.specs.FrontTaken.{Asked, turned_by};
-ghost use Rattle.daq_members.specs.LoggerTaken.{TakesLogger, KeepsLoggerMember, logger_member_taken, HaveCaller, PullsBelow, pulled_channels, has_pulled};
+ghost use Rattle.daq_members.specs.FrontTaken.{turned_by};
+ghost use Rattle.daq_members.specs.LoggerTaken.{Asked, TakesLogger, KeepsLoggerMember, logger_member_taken, HaveCaller, PullsBelow, pulled_channels, has_pulled};
 
 use crate::front_member::turned_by;
 use crate::seat::Seat;

@@ -4,14 +4,14 @@ ghost use Rattle.daq_members.specs.SeatedAnalyzers.{AnalyzerSeen, IsAnalyzerSeat
 ghost use Rattle.daq_members.specs.ManyAnalyzers.{TurnsAnalyzer};
 
 use crate::Turned;
-use crate::analyzer_seat::AnalyzerSeat;
+use crate::analyzer_member::AnalyzerMember;
 use buffer_core::BufferPort;
 use daq_io::Gate;
 use daq_types::BoundedList;
 use std::sync::Wait;
 
 /// The analyzers of a session, each at its place. There is room for 8.
-pub type AnalyzerSeats<'a, P> = BoundedList<AnalyzerSeat<'a, P>, 8>;
+pub type AnalyzerSeats<'a, P> = BoundedList<AnalyzerMember<'a, P>, 8>;
 
 /// One turn of the analyzer at this place.
 pub fn turn_at<'a, R: Wait, P: BufferPort, G: Gate>(
@@ -30,7 +30,7 @@ pub fn turn_at<'a, R: Wait, P: BufferPort, G: Gate>(
 }
 
 /// Learns what each of these analyzers keeps.
-pub fn ask_all<'a, P: BufferPort>(seats: &[AnalyzerSeat<'a, P>])
+pub fn ask_all<'a, P: BufferPort>(seats: &[AnalyzerMember<'a, P>])
     ensures { (place : ℕ) → (seen : AnalyzerSeen) → slice_get seats.now place ≡ Some seen →
         IsAnalyzerSeated seen }
 {

@@ -11,7 +11,7 @@ use crate::scattered::{Room, play_scattered};
 use buffer_core::BufferPort;
 use daq_io::{Files, Gate, Pick};
 use daq_members::crew_laws::members_stay;
-use daq_members::{AnalyzerSeat, Crew, CrewParts, FrontSeat, LoggerSeat};
+use daq_members::{AnalyzerMember, Crew, CrewParts, FrontMember, LoggerSeat};
 use daq_types::BoundedList;
 use front_ends::Equipment;
 use odb_watch::WatchPort;
@@ -20,9 +20,9 @@ use std::thread::Threads;
 
 /// Room for the members of a session while they have threads of their own.
 pub type ThreadRoom<'a, E, P, D, F> = Room<
-    FrontSeat<'a, E, P, D>,
+    FrontMember<'a, E, P, D>,
     LoggerSeat<'a, P, F>,
-    AnalyzerSeat<'a, P>,
+    AnalyzerMember<'a, P>,
 >;
 
 /// Plays the main thread's part while each member has its turns in a thread of its own, or here, where no thread could be had

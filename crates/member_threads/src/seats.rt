@@ -2,12 +2,12 @@
 use crate::member::Member;
 use buffer_core::BufferPort;
 use daq_io::{Files, Gate};
-use daq_members::{AnalyzerSeat, FrontSeat, LoggerSeat, Turned};
+use daq_members::{AnalyzerMember, FrontMember, LoggerSeat, Turned};
 use front_ends::Equipment;
 use odb_watch::WatchPort;
 use std::sync::Wait;
 
-impl<'a, E: Equipment, P: BufferPort, D: WatchPort> Member for FrontSeat<'a, E, P, D> {
+impl<'a, E: Equipment, P: BufferPort, D: WatchPort> Member for FrontMember<'a, E, P, D> {
     ghost use Rattle.member_threads.specs.MemberTurns.{FrontTurns};
 
     ghost turns = { FrontTurns E.takes E.makes };
@@ -28,7 +28,7 @@ impl<'a, P: BufferPort, F: Files> Member for LoggerSeat<'a, P, F> {
     }
 }
 
-impl<'a, P: BufferPort> Member for AnalyzerSeat<'a, P> {
+impl<'a, P: BufferPort> Member for AnalyzerMember<'a, P> {
     ghost use Rattle.member_threads.specs.MemberTurns.{AnalyzerTurns};
 
     ghost turns = { AnalyzerTurns };

@@ -21,11 +21,12 @@ use buffer_core::BufferPort;
 use buffer_lock::SharedPort;
 use daq_io::{Files, Gate, Pick};
 use daq_members::{
-    AnalyzerMember, AnalyzerSeat, AnalyzerSeats, Crew, FrontMember, FrontSeat, LoggerMember,
-    LoggerSeat, Seat,
+    AnalyzerMember, AnalyzerSeats, Crew, EngineClient, FrontMember, LoggerMember, LoggerSeat, Seat,
+    SentKey,
 };
 use daq_types::{BoundedList, Caller, NoMemory};
 use event::MAX_DATA;
+use front_ends::FrontEnd;
 use frontend_kit::Generator;
 use loggers::{ChannelSpecs, Logger, Ports};
 use mid_logger::ChannelSpec;
@@ -47,28 +48,28 @@ pub struct Unmanned<F: Files, K: Pick> {
     pub pick: K,
 }
 
-/// What a front-end calls by: its place at the engine, its port to its buffer, and its access to the database.
+/// What a front-end calls by: its client at the engine, its port to its buffer, and its access to the database.
 #[derive(Drop)]
 struct FrontPlaces<'a, D: Database>
 where
     LockedDatabase<D>: Machine<State = WatchedSeen, Entry = WatchEntry>,
 {
-    seat: Seat<'a>,
+    engine: EngineClient<'a>,
     port: SharedPort<'a, RingBuffer>,
     access: SharedAccess<'a, D>,
 }
 
-/// What an analyzer calls by: its place at the engine, and its port to its buffer.
+/// What an analyzer calls by: its client at the engine, and its port to its buffer.
 #[derive(Drop)]
 struct AnalyzerPlaces<'a> {
-    seat: Seat<'a>,
+    engine: EngineClient<'a>,
     port: SharedPort<'a, RingBuffer>,
 }
 
 /// The members, but for the run files and the pick.
 #[derive(Drop)]
 struct BareMembers<'a, P: BufferPort, A: WatchPort> {
-    fronts: Vec<FrontSeat<'a, Generator, P, A>>,
+    fronts: Vec<FrontMember<'a, Generator, P, A>>,
     logger: LoggerMember<'a>,
     ports: Ports<P>,
     analyzers: AnalyzerSeats<'a, P>,
@@ -153,9 +154,9 @@ impl<'a, 's, D: Database> Seating<'a, 's, D> {
             self.now.database.now passes.old }
         ensures out { HasFreshBut (out_to_fronts self.now.fronts.now (client + 1))
             self.now.objects.now self.now.database.now passes.new }
-        ensures client { result.seat.client ≡ client }
-        ensures engine { result.seat.engine.now ≡ self.now.objects.now.engine }
-        ensures calls { own_entries result.seat.pass ≡ [] }
+        ensures client { result.engine.client ≡ client }
+        ensures engine { result.engine.engine ≡ self.now.objects.now.engine }
+        ensures calls { result.engine.calls ≡ [] }
         ensures port { IsNewFrontPort self.now.objects.now.buffers.items self.now.fronts.now client
             (access_by ring_window result.port) }
         ensures access { access_by_pass result.access
@@ -166,12 +167,16 @@ impl<'a, 's, D: Database> Seating<'a, 's, D> {
         let pass = passes.take_of_buffer(number, caller);
         let port = SharedPort::new(&self.objects.buffers[number].shared, pass);
         let access = SharedAccess::new(self.database, take_fresh(&mut passes.database, caller));
-        let seat = Seat::new(
+        let engine = EngineClient::new(
             &self.objects.engine,
             take_fresh(&mut passes.engine, caller),
             client,
         );
-        FrontPlaces { seat, port, access }
+        FrontPlaces {
+            engine,
+            port,
+            access,
+        }
     }
 
     /// The front-end with this client number.
@@ -192,10 +197,15 @@ impl<'a, 's, D: Database> Seating<'a, 's, D> {
         ensures front { IfOk result (IsNewFrontAt self.now.objects.now self.now.database.now
             self.now.fronts.now client) }
     {
-        let FrontPlaces { seat, port, access } = self.place_front(client, passes);
+        let FrontPlaces {
+            engine,
+            port,
+            access,
+        } = self.place_front(client, passes);
         let front = &self.fronts[client as usize];
-        let member = FrontMember::new(alloc, seat, front.name, generator_of(front))?;
-        Ok(FrontSeat::new(member, port, access))
+        let key = SentKey::new(alloc, front.name)?;
+        let front = FrontEnd::new(alloc, generator_of(front))?;
+        Ok(FrontMember::new(engine, key, front, port, access))
     }
 
     /// All front-ends.
@@ -279,9 +289,9 @@ impl<'a, 's, D: Database> Seating<'a, 's, D> {
         ensures out { HasFreshBut (out_to_analyzers self.now.fronts.now self.now.analyzers.now
             (length self.now.objects.now.buffers.items) (place + 1)) self.now.objects.now
             self.now.database.now passes.new }
-        ensures client { result.seat.client ≡ first_analyzer self.now.fronts.now + place }
-        ensures engine { result.seat.engine.now ≡ self.now.objects.now.engine }
-        ensures calls { own_entries result.seat.pass ≡ [] }
+        ensures client { result.engine.client ≡ first_analyzer self.now.fronts.now + place }
+        ensures engine { result.engine.engine ≡ self.now.objects.now.engine }
+        ensures calls { result.engine.calls ≡ [] }
         ensures port { IsNewAnalyzerPort self.now.objects.now.buffers.items self.now.analyzers.now
             place (first_analyzer self.now.fronts.now + place) (access_by ring_window result.port) }
     {
@@ -291,8 +301,8 @@ impl<'a, 's, D: Database> Seating<'a, 's, D> {
         let pass = passes.take_of_buffer(number, caller);
         let port = SharedPort::new(&self.objects.buffers[number].shared, pass);
         let pass = take_fresh(&mut passes.engine, caller);
-        let seat = Seat::new(&self.objects.engine, pass, client);
-        AnalyzerPlaces { seat, port }
+        let engine = EngineClient::new(&self.objects.engine, pass, client);
+        AnalyzerPlaces { engine, port }
     }
 
     /// The analyzer at this place of the list.
@@ -319,9 +329,8 @@ impl<'a, 's, D: Database> Seating<'a, 's, D> {
             &self.objects.buffers,
             &self.analyzers[place as usize],
         )?;
-        let AnalyzerPlaces { seat, port } = self.place_analyzer(place, passes);
-        let member = AnalyzerMember::new(seat, analyzer);
-        Ok(AnalyzerSeat::new(member, port))
+        let AnalyzerPlaces { engine, port } = self.place_analyzer(place, passes);
+        Ok(AnalyzerMember::new(engine, analyzer, port))
     }
 
     /// All analyzers.

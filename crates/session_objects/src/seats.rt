@@ -1,12 +1,12 @@
 // The members of a session, by what they are made of.
 use buffer_lock::SharedPort;
-use daq_members::{AnalyzerSeat, AnalyzerSeats, Crew, CrewParts, FrontSeat, LoggerSeat};
+use daq_members::{AnalyzerMember, AnalyzerSeats, Crew, CrewParts, FrontMember, LoggerSeat};
 use frontend_kit::Generator;
 use odb_lock::SharedAccess;
 use ring_buffer::RingBuffer;
 
 /// A front-end of a session, which generates its events.
-pub type SessionFront<'a, D> = FrontSeat<
+pub type SessionFront<'a, D> = FrontMember<
     'a,
     Generator,
     SharedPort<'a, RingBuffer>,
@@ -17,7 +17,7 @@ pub type SessionFront<'a, D> = FrontSeat<
 pub type SessionLogger<'a, F> = LoggerSeat<'a, SharedPort<'a, RingBuffer>, F>;
 
 /// An analyzer of a session.
-pub type SessionAnalyzer<'a> = AnalyzerSeat<'a, SharedPort<'a, RingBuffer>>;
+pub type SessionAnalyzer<'a> = AnalyzerMember<'a, SharedPort<'a, RingBuffer>>;
 
 /// The analyzers of a session, in the order of their declaration.
 pub type SessionAnalyzers<'a> = AnalyzerSeats<'a, SharedPort<'a, RingBuffer>>;

@@ -63,8 +63,8 @@ take_fresh-pass-requires g c =
     (rw has_number (analyzer_has_engine c.args.self.now.objects.now c.args.self.now.database.now c.args.self.now.fronts.now c.args.self.now.analyzers.now (length c.args.self.now.objects.now.buffers.items) c.args.place c.args.passes.now
     c.requires.out (omega arith)))
 
-pub new-seat-requires-clause-own : goal.new-seat-requires-clause-own
-new-seat-requires-clause-own g c =
+pub new-engine-requires-clause-own : goal.new-engine-requires-clause-own
+new-engine-requires-clause-own g c =
     let P : Passes _ _ _ _ → Type 0 = λ en. ArePassesOf (engine_lock_of c.args.self.now.objects.now.engine) en in
     c.take_fresh-pass.ensures.own (engine_lock_of c.args.self.now.objects.now.engine) (subst P (sym c.take_of_buffer-pass.ensures.engine) c.requires.out.engine.keeps.own)
 
