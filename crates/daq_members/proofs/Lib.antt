@@ -14,3 +14,4 @@ pub mod AnalyzerLaws
 pub mod AnalyzerSeatLaws
 pub mod ManyLaws
 pub mod CrewLaws
+pub mod SendLaws

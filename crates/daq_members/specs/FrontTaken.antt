@@ -1,6 +1,6 @@
 -- What a front-end does in one turn of its own: its calls on the engine, on its buffer and on the database, and what
 -- it came to.
-use Rattle.std.specs.Prelude.{◌≡◌, ℕ, Bool, true, false, ◌||◌, is_some, if◌then◌else◌, List, [], ◌∷◌, ◌++◌, Option, Some, None}
+use Rattle.std.specs.Prelude.{◌≡◌, ℕ, Bool, true, false, ◌||◌, is_some, if◌then◌else◌, List, Option, Some, None}
 use Rattle.daq_types.specs.declared.events.Event.{Event}
 use Rattle.daq_types.specs.declared.runs.Order.{Order}
 use Rattle.daq_types.specs.declared.runs.Transition.{Transition}
@@ -8,7 +8,7 @@ use Rattle.buffer_core.specs.declared.entry.BufferEntry.{BufferEntry}
 use Rattle.buffer_core.specs.Ports.{Access}
 use Rattle.odb_tree.specs.declared.entry.DatabaseEntry.{DatabaseEntry}
 use Rattle.odb_watch.specs.declared.entry.WatchEntry.{WatchEntry}
-use Rattle.odb_watch.specs.DatabasePorts.{DatabaseAccess, AddsCall, own_watched}
+use Rattle.odb_watch.specs.DatabasePorts.{DatabaseAccess, AddsCall}
 use Rattle.odb_runinfo.specs.RunSets.{IsSet, sent_set}
 use Rattle.transitions.specs.declared.replies.Polled.TheVariants.{Turn, Idle as NoTurn, Closed, NoClient}
 use Rattle.member_model.specs.RunEngines.{Answer, Polled, EngineEntry}

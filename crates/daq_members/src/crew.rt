@@ -2,7 +2,7 @@
 ghost use Rattle.std.specs.Prelude.{◌≡◌, ◌<◌, ℕ, slice_get, Some, length};
 ghost use Rattle.daq_members.specs.FrontSeats.{FrontSeen, IsSeated};
 
-use crate::{AnalyzerSeats, FrontMember, LoggerSeat, Turned, ask_all as ask_analyzers, turn_at};
+use crate::{AnalyzerSeats, FrontMember, LoggerMember, Turned, ask_all as ask_analyzers, turn_at};
 use buffer_core::BufferPort;
 use daq_io::{Files, Gate, Pick};
 use front_ends::Equipment;
@@ -15,7 +15,7 @@ use std::sync::Wait;
 #[derive(Drop)]
 pub struct CrewParts<'a, E: Equipment, P: BufferPort, D: WatchPort, F: Files, K: Pick> {
     pub fronts: Vec<FrontMember<'a, E, P, D>>,
-    pub logger: LoggerSeat<'a, P, F>,
+    pub logger: LoggerMember<'a, P, F>,
     pub analyzers: AnalyzerSeats<'a, P>,
     pub pick: K,
 }
@@ -36,7 +36,7 @@ fn ask_all<'a, E: Equipment, P: BufferPort, D: WatchPort>(fronts: &[FrontMember<
 #[derive(Drop)]
 pub struct Crew<'a, E: Equipment, P: BufferPort, D: WatchPort, F: Files, K: Pick, G: Gate> {
     fronts: Vec<FrontMember<'a, E, P, D>>,
-    logger: LoggerSeat<'a, P, F>,
+    logger: LoggerMember<'a, P, F>,
     analyzers: AnalyzerSeats<'a, P>,
     pick: K,
     gate: &'a G,
@@ -73,7 +73,7 @@ impl<'a, E: Equipment, P: BufferPort, D: WatchPort, F: Files, K: Pick, G: Gate> 
     /// A crew of these members, of which each asks the same engine by the client number that is its place.
     pub fn new(
         fronts: Vec<FrontMember<'a, E, P, D>>,
-        logger: LoggerSeat<'a, P, F>,
+        logger: LoggerMember<'a, P, F>,
         analyzers: AnalyzerSeats<'a, P>,
         pick: K,
         gate: &'a G,

@@ -32,17 +32,17 @@ impl SentKey {
     }
 
     /// Sets the number in the key, if there is one. A refusal is passed over.
-    pub fn set<R: Wait, D: WatchPort>(&self, rt: &R, database: &mut D, number: Option<u64>)
-        ensures sets { SetsSent self.now.name number (D.access database.old)
-            (D.access database.new) }
-        ensures own { AddsNumberIf self.now.name number (own_watched (D.access database.old))
-            (own_watched (D.access database.new)) }
-        ensures same { IsSamePort (D.access database.old) (D.access database.new) }
+    pub fn set<R: Wait, D: WatchPort>(&self, rt: &R, port: &mut D, number: Option<u64>)
+        ensures sets { SetsSent self.now.name number (D.access port.old)
+            (D.access port.new) }
+        ensures own { AddsNumberIf self.now.name number (own_watched (D.access port.old))
+            (own_watched (D.access port.new)) }
+        ensures same { IsSamePort (D.access port.old) (D.access port.new) }
     {
         calls_add_up();
         let Some(sent) = number else {
             return;
         };
-        let _ = database.set_lent(rt, self.alloc, &self.path, 0, &Item::UInt64(sent));
+        let _ = port.set_lent(rt, self.alloc, &self.path, 0, &Item::UInt64(sent));
     }
 }

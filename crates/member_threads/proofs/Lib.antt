@@ -3,5 +3,4 @@ pub mod HandleLaws
 pub mod EndLaws
 pub mod EachLaws
 pub mod MemberLaws
-pub mod SendLaws
 pub mod RoundLaws

@@ -11,7 +11,7 @@ use crate::scattered::{Room, play_scattered};
 use buffer_core::BufferPort;
 use daq_io::{Files, Gate, Pick};
 use daq_members::crew_laws::members_stay;
-use daq_members::{AnalyzerMember, Crew, CrewParts, FrontMember, LoggerSeat};
+use daq_members::{AnalyzerMember, Crew, CrewParts, FrontMember, LoggerMember};
 use daq_types::BoundedList;
 use front_ends::Equipment;
 use odb_watch::WatchPort;
@@ -21,7 +21,7 @@ use std::thread::Threads;
 /// Room for the members of a session while they have threads of their own.
 pub type ThreadRoom<'a, E, P, D, F> = Room<
     FrontMember<'a, E, P, D>,
-    LoggerSeat<'a, P, F>,
+    LoggerMember<'a, P, F>,
     AnalyzerMember<'a, P>,
 >;
 

@@ -2,7 +2,7 @@
 use crate::member::Member;
 use buffer_core::BufferPort;
 use daq_io::{Files, Gate};
-use daq_members::{AnalyzerMember, FrontMember, LoggerSeat, Turned};
+use daq_members::{AnalyzerMember, FrontMember, LoggerMember, Turned};
 use front_ends::Equipment;
 use odb_watch::WatchPort;
 use std::sync::Wait;
@@ -17,7 +17,7 @@ impl<'a, E: Equipment, P: BufferPort, D: WatchPort> Member for FrontMember<'a, E
     }
 }
 
-impl<'a, P: BufferPort, F: Files> Member for LoggerSeat<'a, P, F> {
+impl<'a, P: BufferPort, F: Files> Member for LoggerMember<'a, P, F> {
     ghost use Rattle.loggers.specs.Moments.{files_by};
     ghost use Rattle.member_threads.specs.MemberTurns.{LoggerTurns};
 

@@ -12,8 +12,7 @@ use Rattle.loggers.specs.LoggerFaults.{HasFailed}
 use Rattle.loggers.specs.OtherFiles.{AreDeclared}
 use Rattle.loggers.specs.Reasons.{GivesReasons}
 use Rattle.loggers.specs.declared.logger.Logger.{Logger}
-use Rattle.turn_lock.specs.Passes.{own_entries}
-use Rattle.daq_members.specs.declared.logger_member.LoggerMember.{LoggerMember}
+use Rattle.daq_members.specs.EngineClients.{EngineClientSeen}
 use Rattle.loggers.specs.SlotPulls.{HasEventRoom}
 use Rattle.loggers.specs.LoggerStands.{LoggerStands}
 use Rattle.daq_io.specs.Seen.{Seen}
@@ -316,15 +315,15 @@ pub record AreNewMembers {D F K : Type 0} (fronts : List FrontDeclared) (analyze
   pub analyzers_are : AreNewAnalyzers objects (first_analyzer fronts) analyzers crew.analyzers
   pub has_pick : crew.pick ≡ pick
 
--- The members, before the run files are the logger's: the front-ends; the logger with its place at the engine; what its
+-- The members, before the run files are the logger's: the front-ends; the logger's client at the engine, the logger, and what its
 -- ports tell; and the analyzers.
 pub record AreBareMembers {D : Type 0} (fronts : List FrontDeclared) (analyzers : List AnalyzerDeclared) (channels : List ChannelSpec)
-    (objects : SessionObjects) (shared : SharedOdb D) (seats : List (FrontSeen Generator)) (logger : LoggerMember)
+    (objects : SessionObjects) (shared : SharedOdb D) (seats : List (FrontSeen Generator)) (client : EngineClientSeen) (logger : Logger)
     (accesses : List Access) (seated_analyzers : List AnalyzerSeen) : Type 0 where
   pub fronts_are : AreNewFronts objects shared fronts seats
-  pub made : IsMadeLogger objects.buffers.items channels logger.logger
-  pub engine : logger.seat.engine.now ≡ objects.engine
-  pub is : logger.seat.client ≡ length fronts
-  pub calls : own_entries logger.seat.pass ≡ []
+  pub made : IsMadeLogger objects.buffers.items channels logger
+  pub engine : client.engine ≡ objects.engine
+  pub is : client.client ≡ length fronts
+  pub calls : client.calls ≡ []
   pub ports : accesses ≡ new_ports objects.buffers.items (caller_of_client (length fronts))
   pub analyzers_are : AreNewAnalyzers objects (first_analyzer fronts) analyzers seated_analyzers

@@ -1,7 +1,6 @@
 // Making the members of a session.
 ghost use Rattle.std.specs.Prelude.{◌≡◌, ◌<◌, ◌+◌, ◌-◌, [], length, map, min, slice_get, IfOk, OnOk, IfErr};
 ghost use Rattle.daq_types.specs.Callers.{caller_of_client};
-ghost use Rattle.turn_lock.specs.Passes.{own_entries};
 ghost use Rattle.buffer_lock.specs.SharedPorts.{access_by};
 ghost use Rattle.odb_lock.specs.SharedAccesses.{access_by_pass};
 ghost use Rattle.analyzers.specs.AnalyzerKept.{AnalyzerStands, AnalyzerTells};
@@ -21,8 +20,7 @@ use buffer_core::BufferPort;
 use buffer_lock::SharedPort;
 use daq_io::{Files, Gate, Pick};
 use daq_members::{
-    AnalyzerMember, AnalyzerSeats, Crew, EngineClient, FrontMember, LoggerMember, LoggerSeat, Seat,
-    SentKey,
+    AnalyzerMember, AnalyzerSeats, Crew, EngineClient, FrontMember, LoggerMember, SentKey,
 };
 use daq_types::{BoundedList, Caller, NoMemory};
 use event::MAX_DATA;
@@ -66,11 +64,12 @@ struct AnalyzerPlaces<'a> {
     port: SharedPort<'a, RingBuffer>,
 }
 
-/// The members, but for the run files and the pick.
+/// The members, but for the run files and the pick: the logger is yet its client at the engine, the logger and its ports.
 #[derive(Drop)]
 struct BareMembers<'a, P: BufferPort, A: WatchPort> {
     fronts: Vec<FrontMember<'a, Generator, P, A>>,
-    logger: LoggerMember<'a>,
+    engine: EngineClient<'a>,
+    logger: Logger,
     ports: Ports<P>,
     analyzers: AnalyzerSeats<'a, P>,
 }
@@ -258,8 +257,8 @@ impl<'a, 's, D: Database> Seating<'a, 's, D> {
         Ok(ports)
     }
 
-    /// The logger's place at the engine, with its pass of that.
-    fn place_logger(&self, passes: &mut SessionPasses<D>) -> Seat<'a>
+    /// The logger's client at the engine, with its pass of that.
+    fn place_logger(&self, passes: &mut SessionPasses<D>) -> EngineClient<'a>
         requires seats { CanBeSeated self.now.fronts.now self.now.analyzers.now self.now.objects.now
             self.now.database.now }
         requires out { HasFreshBut (out_to_ports self.now.fronts.now
@@ -269,13 +268,13 @@ impl<'a, 's, D: Database> Seating<'a, 's, D> {
             (length self.now.objects.now.buffers.items)) self.now.objects.now self.now.database.now
             passes.new }
         ensures client { result.client ≡ length self.now.fronts.now }
-        ensures engine { result.engine.now ≡ self.now.objects.now.engine }
-        ensures calls { own_entries result.pass ≡ [] }
+        ensures engine { result.engine ≡ self.now.objects.now.engine }
+        ensures calls { result.calls ≡ [] }
     {
         let client = self.fronts.len() as u32;
         let caller = Caller::of_client(client).number();
         let pass = take_fresh(&mut passes.engine, caller);
-        Seat::new(&self.objects.engine, pass, client)
+        EngineClient::new(&self.objects.engine, pass, client)
     }
 
     /// The places of the analyzer at this place of the list, with its passes of its objects.
@@ -374,16 +373,18 @@ impl<'a, 's, D: Database> Seating<'a, 's, D> {
             self.now.database.now passes.new) }
         ensures members { IfOk result (λ bare. AreBareMembers self.now.fronts.now
             self.now.analyzers.now channels self.now.objects.now self.now.database.now
-            bare.fronts.items bare.logger (map (access_by ring_window) bare.ports) bare.analyzers) }
+            bare.fronts.items bare.engine bare.logger (map (access_by ring_window) bare.ports)
+            bare.analyzers) }
     {
         let logger = make_logger(alloc, &self.objects.buffers, channels)?;
         let fronts = self.seat_fronts(alloc, passes)?;
         let ports = self.open_ports(alloc, passes)?;
-        let seat = self.place_logger(passes);
+        let engine = self.place_logger(passes);
         let analyzers = self.seat_analyzers(alloc, passes)?;
         Ok(BareMembers {
             fronts,
-            logger: LoggerMember::new(seat, logger),
+            engine,
+            logger,
             ports,
             analyzers,
         })
@@ -427,7 +428,7 @@ impl SessionObjects {
         };
         match seating.bare_members(alloc, channels, passes) {
             Ok(bare) => {
-                let logger = LoggerSeat::new(bare.logger, bare.ports, files);
+                let logger = LoggerMember::new(bare.engine, bare.logger, bare.ports, files);
                 Ok(Crew::new(bare.fronts, logger, bare.analyzers, pick, gate))
             }
             Err(NoMemory) => Err(Unmanned { files, pick }),

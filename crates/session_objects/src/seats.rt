@@ -1,6 +1,6 @@
 // The members of a session, by what they are made of.
 use buffer_lock::SharedPort;
-use daq_members::{AnalyzerMember, AnalyzerSeats, Crew, CrewParts, FrontMember, LoggerSeat};
+use daq_members::{AnalyzerMember, AnalyzerSeats, Crew, CrewParts, FrontMember, LoggerMember};
 use frontend_kit::Generator;
 use odb_lock::SharedAccess;
 use ring_buffer::RingBuffer;
@@ -14,7 +14,7 @@ pub type SessionFront<'a, D> = FrontMember<
 >;
 
 /// The logger of a session.
-pub type SessionLogger<'a, F> = LoggerSeat<'a, SharedPort<'a, RingBuffer>, F>;
+pub type SessionLogger<'a, F> = LoggerMember<'a, SharedPort<'a, RingBuffer>, F>;
 
 /// An analyzer of a session.
 pub type SessionAnalyzer<'a> = AnalyzerMember<'a, SharedPort<'a, RingBuffer>>;

@@ -3,7 +3,7 @@ use Rattle.std.proofs.Common.{arith, ap, sym, subst, ◌∙◌}
 use Rattle.daq_members.specs.Crews.{CrewSeen, IsSameCrew, NotesRunFaults, crew_seen, crew_told}
 use Rattle.member_threads.proofs.MemberLaws.{crew_stays, logger_notes, still_members, had_seen, ended_seen}
 use denote.Param.Send.{sendable}
-use Rattle.member_threads.proofs.SendLaws.{logger_send}
+use Rattle.daq_members.proofs.SendLaws.{logger_send}
 use Rattle.member_threads.proofs.in_threads.play_in_threads.Goals as goal
 
 pub play_scattered-played-requires-clause-few : goal.play_scattered-played-requires-clause-few

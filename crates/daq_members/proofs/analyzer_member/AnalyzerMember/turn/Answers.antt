@@ -1,8 +1,6 @@
-use Rattle.std.specs.Prelude.{refl}
 use Rattle.std.proofs.Common.{ap, sym, subst, ◌∙◌}
 use Rattle.member_model.specs.TurnCalls.{member_turns}
 use Rattle.analyzers.specs.Analyzers.{AnalyzerState, IsWithinGot}
-use Rattle.daq_members.specs.AnalyzerTaken.{analyzer_at}
 use Rattle.daq_members.proofs.OwnTurnLaws.{none_open}
 use Rattle.daq_members.proofs.AnalyzerLaws.{turn_same, blank_so, reported_within}
 use Rattle.daq_members.proofs.AnalyzerSeatLaws.{seated_taken, seated_finished}

@@ -1,4 +1,4 @@
-use Rattle.std.specs.Prelude.{◌≡◌, true, refl}
+use Rattle.std.specs.Prelude.{refl}
 use Rattle.std.proofs.Common.{ap, sym, ◌∙◌, eq-eqb}
 use Rattle.turn_lock.specs.Passes.{own_entries}
 use Rattle.transitions.specs.EngineCalls.{without_return}

@@ -1,4 +1,3 @@
-use Rattle.std.specs.Prelude.{refl}
 use Rattle.std.proofs.Common.{ap, sym}
 use Rattle.daq_members.specs.OwnTurns.{start_owed, are_calls_for}
 use Rattle.daq_members.proofs.engine_client.EngineClient.new.Goals as goal

@@ -1,9 +1,8 @@
-use Rattle.std.specs.Prelude.{◌≡◌, ℕ, Option, true, refl}
+use Rattle.std.specs.Prelude.{ℕ, Option, refl}
 use Rattle.std.proofs.Common.{ap, sym, ◌∙◌, eq-eqb}
 use Rattle.turn_lock.specs.Passes.{own_entries}
 use Rattle.transitions.specs.declared.entry.EngineEntry.TheVariants.{Poll}
 use Rattle.daq_members.specs.OwnTurns.{start_owed, owed_by, are_calls_for}
-use Rattle.daq_members.specs.EngineClients.{EngineClientSeen}
 use Rattle.daq_members.proofs.OwnTurnLaws.{owed_polled, calls_for-push}
 use Rattle.daq_members.proofs.engine_client.EngineClient.poll.Goals as goal
 

@@ -1,11 +1,10 @@
-use Rattle.std.specs.Prelude.{◌≡◌, Bool, ◌||◌, refl}
+use Rattle.std.specs.Prelude.{Bool, ◌||◌, refl}
 use Rattle.std.proofs.Common.{ap, sym, ◌∙◌}
 use Rattle.transitions.specs.declared.replies.Polled.TheVariants.{Idle}
 use Rattle.member_model.specs.TurnCalls.{member_turns}
 use Rattle.front_ends.specs.Fronts.{FrontState}
 use Rattle.odb_watch.specs.DatabasePorts.{own_watched}
 use Rattle.daq_members.specs.FrontTaken.{turned_by, is_sent}
-use Rattle.daq_members.specs.FrontSeats.{FrontSeen, IsSameFront, front_seen}
 use Rattle.daq_members.proofs.OwnTurnLaws.{none_open, idle_turns}
 use Rattle.daq_members.proofs.FrontSeatLaws.{seated_asked, seated_taken, seated_finished}
 use Rattle.daq_members.proofs.TakenLaws.{front_taken, front_finished}

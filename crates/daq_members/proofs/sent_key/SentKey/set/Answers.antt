@@ -18,7 +18,7 @@ returns-clause-own g c =
     rw c.in-Some.is (record {
       entry = entry;
       sets = record { reply = c.set_lent.result; is = ap (λ (p : List (List ℕ)). Set p 0 (UInt64 c.in-Some.sent) c.set_lent.result) c.args.self.now.path_is };
-      whole = c.calls_add_up.ensures.watched (g.D.DatabasePort.access c.args.database.now) (g.D.DatabasePort.access c.set_lent.new.self) (entry ∷ [])
+      whole = c.calls_add_up.ensures.watched (g.D.DatabasePort.access c.args.port.now) (g.D.DatabasePort.access c.set_lent.new.self) (entry ∷ [])
           (g.D.DatabasePort.access c.set_lent.new.self, c.set_lent.ensures.called, refl);
     })
 
