@@ -1,16 +1,50 @@
 use Rattle.std.specs.Prelude.{Bool, ◌||◌, refl}
 use Rattle.std.proofs.Common.{ap, sym, ◌∙◌}
-use Rattle.transitions.specs.declared.replies.Polled.TheVariants.{Idle}
+use Rattle.transitions.specs.declared.replies.Polled.TheVariants.{Idle, Closed, NoClient}
 use Rattle.member_model.specs.TurnCalls.{member_turns}
 use Rattle.front_ends.specs.Fronts.{FrontState}
 use Rattle.odb_watch.specs.DatabasePorts.{own_watched}
 use Rattle.daq_members.specs.FrontTaken.{turned_by, is_sent}
-use Rattle.daq_members.proofs.OwnTurnLaws.{none_open, idle_turns}
+use Rattle.daq_members.proofs.OwnTurnLaws.{none_open, idle_turns, closed_turns, unknown_turns}
 use Rattle.daq_members.proofs.FrontSeatLaws.{seated_asked, seated_taken, seated_finished}
 use Rattle.daq_members.proofs.TakenLaws.{front_taken, front_finished}
 use Rattle.daq_members.proofs.front_member.FrontMember.turn.Goals as goal
 
 -- `c.poll` is the client's poll; the exit without a name is that where a turn was owed.
+
+-- No turn is given, and nothing is done.
+
+pub invariant_of-self : goal.invariant_of-self
+invariant_of-self g c =
+    let was = c.self.inside.engine in
+    seated_asked g.E.Equipment.takes g.E.Equipment.makes _ _ c.self.invariant
+    (record { engine = c.poll.ensures.engine; client = c.poll.ensures.client; name = refl; takes_as = refl; makes_as = refl; port = (refl, refl, refl); database = record { database = refl; caller = refl } })
+    c.poll.ensures.speaks Closed (rw c.in-Closed.is at c.poll.ensures.asked) (closed_turns was.client was.calls) c.self.invariant.stands
+
+pub returns-in-Closed-clause-keeps : goal.returns-in-Closed-clause-keeps
+returns-in-Closed-clause-keeps g c = invariant_of-self g c
+
+pub returns-in-Closed-clause-takes : goal.returns-in-Closed-clause-takes
+returns-in-Closed-clause-takes g c = rw (← c.self.view_is) (record {
+  reply = Closed;
+  takes = record { asks = rw c.in-Closed.is at c.poll.ensures.asked; run = refl; port = refl; database = refl; turned_is = refl };
+})
+
+pub invariant_of-self-in-NoClient : goal.invariant_of-self-in-NoClient
+invariant_of-self-in-NoClient g c =
+    let was = c.self.inside.engine in
+    seated_asked g.E.Equipment.takes g.E.Equipment.makes _ _ c.self.invariant
+    (record { engine = c.poll.ensures.engine; client = c.poll.ensures.client; name = refl; takes_as = refl; makes_as = refl; port = (refl, refl, refl); database = record { database = refl; caller = refl } })
+    c.poll.ensures.speaks NoClient (rw c.in-NoClient.is at c.poll.ensures.asked) (unknown_turns was.client was.calls) c.self.invariant.stands
+
+pub returns-in-NoClient-clause-keeps : goal.returns-in-NoClient-clause-keeps
+returns-in-NoClient-clause-keeps g c = invariant_of-self-in-NoClient g c
+
+pub returns-in-NoClient-clause-takes : goal.returns-in-NoClient-clause-takes
+returns-in-NoClient-clause-takes g c = rw (← c.self.view_is) (record {
+  reply = NoClient;
+  takes = record { asks = rw c.in-NoClient.is at c.poll.ensures.asked; run = refl; port = refl; database = refl; turned_is = refl };
+})
 
 -- No turn is given: the front-end makes its step.
 
