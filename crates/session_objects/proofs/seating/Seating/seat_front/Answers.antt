@@ -14,14 +14,14 @@ use Rattle.session_objects.proofs.ChangeLaws.{some_same}
 use Rattle.session_objects.proofs.SeatLaws.{seen_same, front_stands_yet, wide_enough}
 use Rattle.session_objects.proofs.seating.Seating.seat_front.Goals as goal
 
-pub new-requires : goal.new-requires
-new-requires g c =
+pub new-requires-2 : goal.new-requires-2
+new-requires-2 g c =
     let d : FrontDeclared = get_or c.args.self.now.fronts.now c.args.client c.index-self-client.result in
     let at : slice_get c.args.self.now.fronts.now c.args.client ≡ Some d = slice_get-get_or c.args.self.now.fronts.now c.args.client c.index-self-client.result c.requires.client in
     let P : Generator → Type 0 = λ e. IsFrontId e.id in subst P (sym c.generator_of.ensures) (c.requires.ids c.args.client d at)
 
-pub new-requires-2 : goal.new-requires-2
-new-requires-2 g c =
+pub new-requires-3 : goal.new-requires-3
+new-requires-3 g c =
     let place = c.place_front-engine.ensures in
     let engine = c.place_front-engine.result.engine in
     let made = c.in_ok-front.ensures in
