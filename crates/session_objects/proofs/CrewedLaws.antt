@@ -10,7 +10,6 @@ use Rattle.member_model.specs.RunEngines.{EngineEntry}
 use Rattle.member_model.specs.Turns.{MemberTurn}
 use Rattle.member_model.specs.TurnCalls.{member_turns}
 use Rattle.odb_lock.specs.declared.shared.SharedOdb.{SharedOdb}
-use Rattle.mid_logger.specs.declared.channel.Channel.{Channel}
 use Rattle.mid_logger.specs.declared.channel_spec.ChannelSpec.{ChannelSpec}
 use Rattle.loggers.specs.declared.logged_run.LoggedRun.{LoggedRun}
 use Rattle.loggers.specs.declared.logger.Logger.{Logger}
@@ -19,8 +18,6 @@ use Rattle.loggers.specs.SlotPulls.{HasEventRoom}
 use Rattle.loggers.specs.Turning.{buffers_begun}
 use Rattle.loggers.specs.LoggerStands.{LoggerStands}
 use Rattle.loggers.specs.Reasons.{GivesReasons}
-use Rattle.loggers.specs.NewLoggers.{HasNewChannels}
-use Rattle.loggers.specs.LoggerFaults.{HasFailed}
 use Rattle.frontend_kit.specs.declared.generator.Generator.{Generator}
 use Rattle.session_setup.specs.declared.declared.AnalyzerDeclared.{AnalyzerDeclared}
 use Rattle.session_setup.specs.declared.declared.FrontDeclared.{FrontDeclared}
@@ -31,7 +28,7 @@ use Rattle.daq_members.specs.LoggerTaken.{HaveCaller}
 use Rattle.daq_members.specs.SeatedAnalyzers.{AnalyzerSeen}
 use Rattle.daq_members.specs.Crews.{CrewSeen, crew_seen, AreMembers}
 use Rattle.session_objects.specs.declared.objects.SessionObjects.{SessionObjects}
-use Rattle.session_objects.specs.Members.{new_ports, event_rooms, IsNewFront, IsNewAnalyzer, IsNewLogger, AreBareMembers, AreNewMembers}
+use Rattle.session_objects.specs.Members.{new_ports, IsNewFront, IsNewAnalyzer, IsNewLogger, AreBareMembers, AreNewMembers}
 use Rattle.session_objects.proofs.BareLaws.{new_port_callers}
 use Rattle.session_objects.proofs.ChangeLaws.{there_below}
 
