@@ -12,6 +12,9 @@ pub mod LoggerNames
 pub mod BareLaws
 pub mod AnalyzerLaws
 pub mod AnalyzerSeatLaws
-pub mod ManyLaws
 pub mod CrewLaws
+pub mod TurnLaws
+pub mod StayLaws
+pub mod MovedLaws
+pub mod LoggerSend
 pub mod SendLaws

@@ -14,8 +14,8 @@ use Rattle.analyzers.specs.Analyzers.{AnalyzerState, AnalyzerAt}
 use Rattle.analyzers.specs.AnalyzerTurns.{TurnsBy, report_answer, run_reported}
 use Rattle.analyzers.specs.AnalyzerPulls.{PullsBy}
 use Rattle.analyzers.specs.AnalyzerKept.{AnalyzerStands, AnalyzerTells, KeepsAnalyzer}
-use Rattle.daq_members.specs.declared.turned.Turned.{Turned}
-use Rattle.daq_members.specs.declared.turned.Turned.TheVariants.{Worked, Idle, Ended}
+use Rattle.member_crew.specs.declared.turned.Turned.{Turned}
+use Rattle.member_crew.specs.declared.turned.Turned.TheVariants.{Worked, Idle, Ended}
 use Rattle.daq_members.specs.OwnTurns.{start_owed, asked_so, GivesAnswer}
 use Rattle.daq_members.specs.FrontTaken.{turned_by}
 use Rattle.daq_members.specs.BareTurns.{AreBare}

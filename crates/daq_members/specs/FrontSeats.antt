@@ -10,7 +10,7 @@ use Rattle.transition_lock.specs.declared.shared.SharedEngine.{SharedEngine}
 use Rattle.front_ends.specs.declared.front_run.FrontRun.{FrontRun}
 use Rattle.front_ends.specs.Fronts.{FrontState}
 use Rattle.loggers.specs.Moments.{IsSameAccess}
-use Rattle.daq_members.specs.declared.turned.Turned.{Turned}
+use Rattle.member_crew.specs.declared.turned.Turned.{Turned}
 use Rattle.daq_members.specs.OwnTurns.{are_calls_for}
 use Rattle.daq_members.specs.EngineClients.{EngineClientSeen}
 use Rattle.daq_members.specs.FrontTaken.{FrontTaken, FrontMemberStands}

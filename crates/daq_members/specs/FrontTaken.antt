@@ -20,8 +20,8 @@ use Rattle.front_ends.specs.declared.front_step.FrontStep.TheVariants.{Sent, NoW
 use Rattle.front_ends.specs.Fronts.{FrontState, front_answer, run_after, finish_answer, run_finished, is_at_work, SendsNext, events_sent}
 use Rattle.front_ends.specs.FrontKept.{FrontStands, KeepsFront, KeepsMoments}
 use Rattle.composition.specs.SentSets.{AreTurnSets}
-use Rattle.daq_members.specs.declared.turned.Turned.{Turned}
-use Rattle.daq_members.specs.declared.turned.Turned.TheVariants.{Worked, Idle, Ended}
+use Rattle.member_crew.specs.declared.turned.Turned.{Turned}
+use Rattle.member_crew.specs.declared.turned.Turned.TheVariants.{Worked, Idle, Ended}
 use Rattle.daq_members.specs.OwnTurns.{start_owed, asked_so, GivesAnswer}
 use Rattle.daq_members.specs.SentSets.{number_set_at, number_if, AreNumbersSet}
 

@@ -9,5 +9,7 @@ pub mod LoggerSeats
 pub mod BareTurns
 pub mod AnalyzerTaken
 pub mod SeatedAnalyzers
-pub mod ManyAnalyzers
+pub mod Members
+pub mod Kinds
+pub mod Stay
 pub mod Crews

@@ -18,7 +18,7 @@ use Rattle.loggers.specs.LoggerStands.{LoggerStands}
 use Rattle.loggers.specs.Reasons.{GivesReasons}
 use Rattle.loggers.specs.LeftNames.{KeepsNames}
 use Rattle.loggers.specs.OtherFiles.{specs_in, KeepsOtherFiles}
-use Rattle.daq_members.specs.declared.turned.Turned.{Turned}
+use Rattle.member_crew.specs.declared.turned.Turned.{Turned}
 use Rattle.daq_members.specs.OwnTurns.{are_calls_for}
 use Rattle.daq_members.specs.EngineClients.{EngineClientSeen}
 use Rattle.daq_members.specs.StartedRuns.{started_runs}

@@ -17,8 +17,8 @@ use Rattle.loggers.specs.LoggerStands.{LoggerStands}
 use Rattle.loggers.specs.Turning.{TakesTurn}
 use Rattle.loggers.specs.Finishing.{FinishesLogger}
 use Rattle.loggers.specs.SlotPulls.{PullsNumbered}
-use Rattle.daq_members.specs.declared.turned.Turned.{Turned}
-use Rattle.daq_members.specs.declared.turned.Turned.TheVariants.{Worked, Idle, Ended}
+use Rattle.member_crew.specs.declared.turned.Turned.{Turned}
+use Rattle.member_crew.specs.declared.turned.Turned.TheVariants.{Worked, Idle, Ended}
 use Rattle.daq_members.specs.OwnTurns.{start_owed, asked_so, GivesAnswer}
 use Rattle.daq_members.specs.EngineClients.{EngineClientSeen}
 use Rattle.daq_members.specs.FrontTaken.{turned_by}

@@ -8,10 +8,11 @@ ghost use Rattle.loggers.specs.Moments.{IsSameAccess};
 ghost use Rattle.daq_members.specs.FrontTaken.{turned_by};
 ghost use Rattle.daq_members.specs.AnalyzerTaken.{has_got, PullsAnalyzer, TakesAnalyzer, KeepsAtPull};
 
-use crate::{EngineClient, Turned, turned_by};
+use crate::{EngineClient, turned_by};
 use analyzers::{Analyzer, AnalyzerPull};
 use buffer_core::BufferPort;
 use daq_io::{Gate, Point};
+use member_crew::Turned;
 use member_model::Polled;
 use std::marker::Model;
 use std::sync::Wait;

@@ -8,11 +8,11 @@ ghost use Rattle.daq_members.specs.FrontTaken.{turned_by, is_sent, StepsOnce, Ta
 
 use crate::engine_client::EngineClient;
 use crate::sent_key::SentKey;
-use crate::turned::Turned;
 use buffer_core::BufferPort;
 use daq_io::{Gate, Point};
 use daq_types::{Name, Transition};
 use front_ends::{Equipment, FrontEnd, FrontStep};
+use member_crew::Turned;
 use member_model::Polled;
 use odb_watch::WatchPort;
 use std::marker::Model;

@@ -16,10 +16,10 @@ ghost use Rattle.daq_members.specs.LoggerTaken.{TakesLogger, KeepsLoggerMember, 
 
 use crate::engine_client::EngineClient;
 use crate::front_member::turned_by;
-use crate::turned::Turned;
 use buffer_core::BufferPort;
 use daq_io::{Files, Gate, Point};
 use loggers::{Logger, Ports, laws as logger_laws};
+use member_crew::Turned;
 use member_model::Polled;
 use mid_logger::{Channel, Pulled};
 use std::marker::Model;

@@ -1,7 +1,6 @@
 -- The members of a session as their crew is made.
-use Rattle.std.proofs.Common.{◌≡◌, ◌∙◌, ℕ, ◌<◌, ◌≤◌, ◌+◌, List, [], length, ap, sym, refl, subst, arith}
-use Rattle.std.specs.Prelude.{slice_get, Option, Some, None, IfSome}
-use Rattle.std.proofs.lemmas.Option.{slice_get_within}
+use Rattle.std.proofs.Common.{◌≡◌, ◌∙◌, ℕ, ◌≤◌, List, [], length, ap, sym, refl, subst}
+use Rattle.std.specs.Prelude.{slice_get, Option, None, IfSome}
 use Rattle.daq_types.specs.Callers.{caller_of_client}
 use Rattle.daq_io.specs.Seen.{Seen}
 use Rattle.event.specs.Events.{record_limit}
@@ -26,11 +25,10 @@ use Rattle.daq_members.specs.FrontSeats.{FrontSeen}
 use Rattle.daq_members.specs.LoggerSeats.{LoggerSeen, IsFirstLogger, logger_seen}
 use Rattle.daq_members.specs.LoggerTaken.{HaveCaller}
 use Rattle.daq_members.specs.SeatedAnalyzers.{AnalyzerSeen}
-use Rattle.daq_members.specs.Crews.{CrewSeen, crew_seen, AreMembers}
+use Rattle.daq_members.specs.Crews.{crew_seen}
 use Rattle.session_objects.specs.declared.objects.SessionObjects.{SessionObjects}
-use Rattle.session_objects.specs.Members.{new_ports, IsNewFront, IsNewAnalyzer, IsNewLogger, AreBareMembers, AreNewMembers}
+use Rattle.session_objects.specs.Members.{new_ports, IsNewLogger, AreBareMembers, AreNewMembers}
 use Rattle.session_objects.proofs.BareLaws.{new_port_callers}
-use Rattle.session_objects.proofs.ChangeLaws.{there_below}
 
 module _ {D : Type 0} (fronts : List FrontDeclared) (analyzers : List AnalyzerDeclared) (channels : List ChannelSpec) (objects : SessionObjects) (shared : SharedOdb D)
     (seats : List (FrontSeen Generator)) (asking : EngineClientSeen) (kept : Logger) (accesses : List Access) (seated_analyzers : List AnalyzerSeen)
@@ -82,35 +80,6 @@ module _ {D : Type 0} (fronts : List FrontDeclared) (analyzers : List AnalyzerDe
     reasons = reasons_bare;
   }
 
-  front_at : (number : ℕ) (front : FrontSeen Generator) → slice_get seats number ≡ Some front → (d : FrontDeclared) × IsNewFront objects shared number d front
-  front_at number front at =
-      let l : number < length seats = slice_get_within seats number front at in
-      let many : length seats ≡ length fronts = bare.fronts_are.many in
-      let d = there_below fronts number (omega arith) in (d.0, bare.fronts_are.each number d.0 front d.1 at)
-
-  analyzer_at : (place : ℕ) (analyzer : AnalyzerSeen) → slice_get seated_analyzers place ≡ Some analyzer →
-      (d : AnalyzerDeclared) × IsNewAnalyzer objects (length fronts + 1 + place) d analyzer
-  analyzer_at place analyzer at =
-      let l : place < length seated_analyzers = slice_get_within seated_analyzers place analyzer at in
-      let many : length seated_analyzers ≡ length analyzers = bare.analyzers_are.many in
-      let d = there_below analyzers place (omega arith) in (d.0, bare.analyzers_are.each place d.0 analyzer d.1 at)
-
-  -- And with it the members are a crew.
-  pub members_bare : {F : Type 0} (logger : LoggerSeen F) → length fronts ≤ 32 → length analyzers ≤ 8 → logger.engine ≡ asking.engine →
-      logger.client ≡ asking.client → AreMembers seats logger seated_analyzers
-  members_bare logger few few_analyzers engine client =
-      let many : length seats ≡ length fronts = bare.fronts_are.many in
-      let many_analyzers : length seated_analyzers ≡ length analyzers = bare.analyzers_are.many in record {
-        few = omega arith;
-        numbers = λ number front at. (let f = front_at number front at in ap (λ (z : FrontSeen Generator). z.client) f.1.is);
-        logger_number = client ∙ bare.is ∙ sym many;
-        engine = λ number front at. (let f = front_at number front at in ap (λ (z : FrontSeen Generator). z.engine) f.1.is ∙ sym (engine ∙ bare.engine));
-        analyzer_numbers = λ place analyzer at. (let a = analyzer_at place analyzer at in
-            ap (λ (z : AnalyzerSeen). z.client) a.1.is ∙ ap (λ (n : ℕ). n + 1 + place) (sym many));
-        analyzer_engine = λ place analyzer at. (let a = analyzer_at place analyzer at in
-            ap (λ (z : AnalyzerSeen). z.engine) a.1.is ∙ sym (engine ∙ bare.engine));
-      }
-
   pub logger_bare : {F : Type 0} (files : F) (logger : LoggerSeen F) → logger ≡ logger_seen asking kept accesses files files → IsNewLogger objects (length fronts) channels files logger
   logger_bare files logger is =
       let P : LoggerSeen _ → Type 0 = λ l. IsNewLogger objects (length fronts) channels files l in
@@ -127,14 +96,11 @@ module _ {D : Type 0} (fronts : List FrontDeclared) (analyzers : List AnalyzerDe
         had_files = refl;
       })
 
-  -- So are the members of the crew that is made of them.
-  pub crewed : {F K : Type 0} (files : F) (pick : K) (logger : LoggerSeen F) (crew : CrewSeen Generator F K) → crew ≡ crew_seen seats logger seated_analyzers pick →
-      IsNewLogger objects (length fronts) channels files logger → AreNewMembers fronts analyzers channels objects shared files pick crew
-  crewed files pick logger crew is new =
-      let P : CrewSeen Generator _ _ → Type 0 = λ c. AreNewMembers fronts analyzers channels objects shared files pick c in
-      subst P (sym is) (record {
-        fronts_are = bare.fronts_are;
-        logger = new;
-        analyzers_are = bare.analyzers_are;
-        has_pick = refl;
-      })
+  -- So are the members that are made of them.
+  pub crewed : {F : Type 0} (files : F) (logger : LoggerSeen F) → IsNewLogger objects (length fronts) channels files logger →
+      AreNewMembers fronts analyzers channels objects shared files (crew_seen seats logger seated_analyzers)
+  crewed files logger new = record {
+    fronts_are = bare.fronts_are;
+    logger = new;
+    analyzers_are = bare.analyzers_are;
+  }

@@ -7,20 +7,22 @@ ghost use Rattle.analyzers.specs.AnalyzerKept.{AnalyzerStands, AnalyzerTells};
 ghost use Rattle.loggers.specs.NewLoggers.{HaveNumbers};
 ghost use Rattle.loggers.specs.OtherFiles.{AreDeclared};
 ghost use Rattle.session_objects.specs.Objects.{first_analyzer, HaveFrontIds, HaveBuffers, SuitMembers};
-ghost use Rattle.session_objects.specs.Seating.{CanBeSeated};
+ghost use Rattle.daq_members.specs.Crews.{crew_seen};
+ghost use Rattle.session_objects.specs.Memberships.{CanBeSeated};
 ghost use Rattle.session_objects.specs.Kept.{out_to_fronts, out_to_ports, out_to_logger, out_to_analyzers, out_to_members, HasFreshBut};
 ghost use Rattle.session_objects.specs.Members.{ring_window, new_port, new_access, generator_of, event_room_of, event_rooms, idle_analyzer, IsNewFrontPort, IsNewAnalyzerPort, IsNewFrontAt, AreNewFronts, IsNewAnalyzerAt, AreNewAnalyzers, IsMadeLogger, AreBareMembers, AreNewMembers, AreMembersOf};
 
+use crate::membership::Membership;
 use crate::objects::{SessionBuffer, SessionObjects};
 use crate::passes::{SessionPasses, take_fresh};
-use crate::seating::Seating;
-use crate::seats::{SessionAnalyzer, SessionAnalyzers, SessionCrew, SessionFront};
+use crate::seats::{SessionAnalyzer, SessionAnalyzers, SessionFront, SessionMembers};
 use analyzers::Analyzer;
 use buffer_core::BufferPort;
 use buffer_lock::SharedPort;
-use daq_io::{Files, Gate, Pick};
+use daq_io::Files;
 use daq_members::{
-    AnalyzerMember, AnalyzerSeats, Crew, EngineClient, FrontMember, LoggerMember, SentKey,
+    AnalyzerMember, AnalyzerMembers, EngineClient, FrontMember, LoggerMember, MembersByKind,
+    SentKey,
 };
 use daq_types::{BoundedList, Caller, NoMemory};
 use event::MAX_DATA;
@@ -38,13 +40,6 @@ use turn_lock::Machine;
 
 /// How many bytes of its slot in a buffer are not an event's data.
 const SLOT_HEAD: u32 = 24;
-
-/// The members could not be made for want of memory: what they were to have.
-#[derive(Drop)]
-pub struct Unmanned<F: Files, K: Pick> {
-    pub files: F,
-    pub pick: K,
-}
 
 /// What a front-end calls by: its client at the engine, its port to its buffer, and its access to the database.
 #[derive(Drop)]
@@ -71,7 +66,7 @@ struct BareMembers<'a, P: BufferPort, A: WatchPort> {
     engine: EngineClient<'a>,
     logger: Logger,
     ports: Ports<P>,
-    analyzers: AnalyzerSeats<'a, P>,
+    analyzers: AnalyzerMembers<'a, P>,
 }
 
 /// The equipment that was declared.
@@ -143,7 +138,7 @@ fn make_analyzer(
     Ok(analyzer)
 }
 
-impl<'a, 's, D: Database> Seating<'a, 's, D> {
+impl<'a, 's, D: Database> Membership<'a, 's, D> {
     /// The places of the front-end with this client number, with its passes of its objects.
     fn place_front(&self, client: u32, passes: &mut SessionPasses<D>) -> FrontPlaces<'a, D>
         requires client { client < length self.now.fronts.now }
@@ -389,49 +384,43 @@ impl<'a, 's, D: Database> Seating<'a, 's, D> {
             analyzers,
         })
     }
-}
 
-impl SessionObjects {
-    /// The members of a session of these declarations, none of which made a call: its front-ends, in their order, the logger
-    /// with these channels, and its analyzers, in their order. Their passes are taken out of those that are kept. The run
-    /// files and the pick come back where memory is wanting for the members.
-    pub fn crew<'a, D: Database, F: Files, K: Pick, G: Gate>(
-        &'a self,
+    /// The members of a session, none of which made a call: its front-ends, in their order, the logger with these channels, and
+    /// its analyzers, in their order. Their passes are taken out of those that are kept. The run files come back where memory is
+    /// wanting for the members.
+    pub fn members<F: Files>(
+        &self,
         alloc: Global,
-        database: &'a SharedOdb<D>,
-        declared: &[FrontDeclared],
-        analyzers: &[AnalyzerDeclared],
         channels: ChannelSpecs,
         passes: &mut SessionPasses<D>,
         files: F,
-        pick: K,
-        gate: &'a G,
-    ) -> Result<SessionCrew<'a, D, F, K, G>, Unmanned<F, K>>
-        requires suit { SuitMembers declared.now analyzers.now channels self.now database.now }
-        requires out { HasFreshBut (out_to_fronts declared.now 0) self.now database.now
-            passes.old }
-        ensures members { IfOk result (λ crew. AreNewMembers declared.now analyzers.now channels
-            self.now database.now files pick crew) }
-        ensures are { IfOk result (λ crew. AreMembersOf declared.now analyzers.now self.now
-            database.now crew.fronts crew.logger crew.analyzers) }
-        ensures channels { IfOk result (λ crew. AreDeclared channels crew.logger.slots) }
-        ensures out { OnOk result (HasFreshBut (out_to_members declared.now analyzers.now
-            (length self.now.buffers.items)) self.now database.now passes.new) }
-        ensures files { IfErr result (λ unmanned. unmanned.files ≡ files) }
-        ensures pick { IfErr result (λ unmanned. unmanned.pick ≡ pick) }
+    ) -> Result<SessionMembers<'a, D, F>, F>
+        requires suit { SuitMembers self.now.fronts.now self.now.analyzers.now channels
+            self.now.objects.now self.now.database.now }
+        requires out { HasFreshBut (out_to_fronts self.now.fronts.now 0) self.now.objects.now
+            self.now.database.now passes.old }
+        ensures members { IfOk result (λ members. AreNewMembers self.now.fronts.now
+            self.now.analyzers.now channels self.now.objects.now self.now.database.now files
+            (crew_seen members.fronts.items members.logger members.analyzers)) }
+        ensures are { IfOk result (λ members. AreMembersOf self.now.fronts.now
+            self.now.analyzers.now self.now.objects.now self.now.database.now members.fronts.items
+            members.logger members.analyzers) }
+        ensures channels { IfOk result (λ members. AreDeclared channels members.logger.slots) }
+        ensures out { OnOk result (HasFreshBut (out_to_members self.now.fronts.now
+            self.now.analyzers.now (length self.now.objects.now.buffers.items)) self.now.objects.now
+            self.now.database.now passes.new) }
+        ensures files { IfErr result (λ back. back ≡ files) }
     {
-        let seating = Seating {
-            objects: self,
-            database,
-            fronts: declared,
-            analyzers,
-        };
-        match seating.bare_members(alloc, channels, passes) {
+        match self.bare_members(alloc, channels, passes) {
             Ok(bare) => {
                 let logger = LoggerMember::new(bare.engine, bare.logger, bare.ports, files);
-                Ok(Crew::new(bare.fronts, logger, bare.analyzers, pick, gate))
+                Ok(MembersByKind {
+                    fronts: bare.fronts,
+                    logger,
+                    analyzers: bare.analyzers,
+                })
             }
-            Err(NoMemory) => Err(Unmanned { files, pick }),
+            Err(NoMemory) => Err(files),
         }
     }
 }

@@ -1,4 +1,4 @@
-use Rattle.std.specs.Prelude.{◌≡◌, Bool, ◌||◌, refl}
+use Rattle.std.specs.Prelude.{Bool, ◌||◌, refl}
 use Rattle.std.proofs.Common.{ap, sym, subst, ◌∙◌}
 use Rattle.transitions.specs.declared.replies.Polled.TheVariants.{Idle, Closed, NoClient}
 use Rattle.member_model.specs.TurnCalls.{member_turns}
