@@ -1,353 +1,144 @@
--- A session's members behind a turn of one of them, behind several, and behind rounds.
-use Rattle.std.specs.Prelude.{◌≡◌, ◌≢◌, ℕ, zero, suc, ◌+◌, ◌-◌, ◌<◌, ◌%◌, Bool, IsTrue, List, [], ◌∷◌, slice_get, slice_set, length, Some, refl}
-use Rattle.std.proofs.Common.{ap, sym, subst, ◌∙◌, arith, inl, inr, get_or, add-one}
-use Rattle.std.proofs.lemmas.List.{length-set}
-use Rattle.std.proofs.lemmas.Option.{slice_get_within, slice_get_read}
-use Rattle.std.proofs.lemmas.Bool.Decides.{eqb_tells, leb_tells}
-use Rattle.buffer_core.specs.Ports.{Access}
-use Rattle.loggers.specs.Moments.{IsSameAccess}
-use Rattle.odb_watch.specs.DatabasePorts.{DatabaseAccess, IsSamePort}
-use Rattle.session_runs.specs.MadeTransitions.{HadRounds}
-use Rattle.daq_members.specs.declared.turned.Turned.{Turned}
-use Rattle.daq_members.specs.FrontTaken.{TakesFront}
-use Rattle.daq_members.specs.FrontSeats.{FrontSeen, IsSameFront, front_taken}
-use Rattle.daq_members.specs.LoggerSeats.{LoggerSeen, IsSameLogger, logger_taken}
+-- The members of a session by their kinds, and all in one list.
+use Rattle.std.specs.Prelude.{◌≡◌, ℕ, zero, suc, List, [], ◌∷◌, ◌++◌, map, slice_get, Option, Some, All, refl}
+use Rattle.std.specs.List.{AllZip, AllByRecursion}
+use Rattle.std.proofs.Common.{ap, sym, subst, ◌∙◌, append-nil}
+use Rattle.std.proofs.lemmas.List.Elements.{length_all_zip, recursion_from_All}
+use Rattle.daq_members.specs.FrontSeats.{FrontSeen, IsSameFront}
+use Rattle.daq_members.specs.LoggerSeats.{LoggerSeen}
 use Rattle.daq_members.specs.SeatedAnalyzers.{AnalyzerSeen, IsSameAnalyzer}
-use Rattle.daq_members.specs.ManyAnalyzers.{TurnsAnalyzer, AreSameAnalyzers}
-use Rattle.daq_members.proofs.ManyLaws.{same_analyzers, one_analyzer, analyzers_then}
-use Rattle.daq_members.specs.Crews.{CrewSeen, CrewTold, AreMembers, TurnsFront, TurnsLogger, TurnsMember, TurnFrom, TakesRound, AreSameFronts, IsSameCrew, NotesRunFaults, KeptByRounds, MembersStay, member_count}
-use Rattle.daq_members.proofs.LoggerLaws.{same_ports, same_then}
-use Rattle.daq_members.proofs.LoggerSeatLaws.{NotedLaws, notes_same, taken_noted}
+use Rattle.daq_members.specs.Members.{MemberSeen, MemberTold, FrontEnd, Logger, Analyzer, KeepsContract, TurnsMember}
+use Rattle.daq_members.specs.Stay.{laid, StillLaid, MembersStay}
+use Rattle.daq_members.specs.Crews.{CrewSeen, crew_seen, fronts_in, last_logger, analyzers_in, members_of, KeepContracts, StaysCrew, CrewsStay}
+use Rattle.member_crew.specs.Turns.{CameBack}
 
--- Lists.
+some_same : {X : Type 0} (x y : X) → Some x ≡ Some y → x ≡ y
+some_same x y e = cc (e)
 
-get_set_here : {X : Type 0} (xs : List X) (i : ℕ) (x : X) → i < length xs → slice_get (slice_set xs i x) i ≡ Some x
-get_set_here [] i x within = absurd (omega arith)
-get_set_here (y ∷ ys) zero x within = refl
-get_set_here (y ∷ ys) (suc i) x within = get_set_here ys i x (omega arith)
+-- Members of which some stand before others.
+module _ (E F : Type 0) where
+  fronts_first : (fronts : List (FrontSeen E)) (members : List (MemberSeen E F)) → fronts_in (map FrontEnd fronts ++ members) ≡ fronts ++ fronts_in members
+  fronts_first [] members = refl
+  fronts_first (f ∷ fs) members = ap (λ (xs : List (FrontSeen E)). f ∷ xs) (fronts_first fs members)
 
-get_set_else : {X : Type 0} (xs : List X) (i k : ℕ) (x : X) → k ≢ i → slice_get (slice_set xs i x) k ≡ slice_get xs k
-get_set_else [] i k x other = refl
-get_set_else (y ∷ ys) zero zero x other = absurd (other refl)
-get_set_else (y ∷ ys) zero (suc k) x other = refl
-get_set_else (y ∷ ys) (suc i) zero x other = refl
-get_set_else (y ∷ ys) (suc i) (suc k) x other = get_set_else ys i k x (λ e. other (ap suc e))
+  no_fronts : (analyzers : List AnalyzerSeen) → fronts_in {E = E} {F = F} (map Analyzer analyzers) ≡ []
+  no_fronts [] = refl
+  no_fronts (a ∷ rest) = no_fronts rest
 
-some_there : {X : Type 0} (xs : List X) (i : ℕ) → i < length xs → (x : X) × (slice_get xs i ≡ Some x)
-some_there [] i within = absurd (omega arith)
-some_there (x ∷ xs) zero within = (x, refl)
-some_there (x ∷ xs) (suc i) within = some_there xs i (omega arith)
+  logger_behind : (found : Option (LoggerSeen F)) (fronts : List (FrontSeen E)) (members : List (MemberSeen E F)) → last_logger found (map FrontEnd fronts ++ members) ≡ last_logger found members
+  logger_behind found [] members = refl
+  logger_behind found (f ∷ fs) members = logger_behind found fs members
 
-one_there : {X : Type 0} (xs ys : List X) (n : ℕ) (x y : X) → ys ≡ xs → slice_get xs n ≡ Some x → slice_get ys n ≡ Some y → x ≡ y
-one_there {X = X} xs ys n x y same at is =
-    let left : slice_get xs n ≡ Some y = subst (λ (l : List X). slice_get l n ≡ Some y) same is in
-    cc (at, left)
+  logger_before : (found : Option (LoggerSeen F)) (analyzers : List AnalyzerSeen) → last_logger {E = E} found (map Analyzer analyzers) ≡ found
+  logger_before found [] = refl
+  logger_before found (a ∷ rest) = logger_before found rest
 
--- what holds of each element below this place, and of that at it, holds of each below the next
-pub all_asked : {X : Type 0} (P : X → Type 0) (xs : List X) (i : ℕ) (x : X) → i < length xs → x ≡ get_or xs i x → P x → ((k : ℕ) → k < i → (y : X) → slice_get xs k ≡ Some y → P y)
-    → (k : ℕ) → k < i + 1 → (y : X) → slice_get xs k ≡ Some y → P y
-all_asked {X = X} P xs i x within is here so_far k below y at = elim (eqb_tells k i) as (λ w. P y) [
-  | inl same ↦
-      let there : slice_get xs i ≡ Some x = slice_get_read xs (length xs) i x refl within is in
-      let that : slice_get xs i ≡ Some y = subst (λ (n : ℕ). slice_get xs n ≡ Some y) same.1 at in
-      let one : x ≡ y = cc (there, that) in
-      subst P one here
-  | inr differs ↦
-      let other : k ≢ i = differs.1 in
-      so_far k (omega arith) y at
-]
+  analyzers_behind : (fronts : List (FrontSeen E)) (members : List (MemberSeen E F)) → analyzers_in (map FrontEnd fronts ++ members) ≡ analyzers_in members
+  analyzers_behind [] members = refl
+  analyzers_behind (f ∷ fs) members = analyzers_behind fs members
 
--- what holds of each element with its place holds behind a set, where it holds of the new one
-set_each : {X : Type 0} (P : ℕ → X → Type 0) (xs : List X) (i : ℕ) (later : X) → i < length xs → P i later → ((k : ℕ) → (x : X) → slice_get xs k ≡ Some x → P k x)
-    → (k : ℕ) → (x : X) → slice_get (slice_set xs i later) k ≡ Some x → P k x
-set_each {X = X} P xs i later within here each k x at = elim (eqb_tells k i) as (λ w. P k x) [
-  | inl same ↦
-      let there : slice_get (slice_set xs i later) i ≡ Some x = subst (λ (n : ℕ). slice_get (slice_set xs i later) n ≡ Some x) same.1 at in
-      let new : slice_get (slice_set xs i later) i ≡ Some later = get_set_here xs i later within in
-      let is : later ≡ x = cc (there, new) in
-      subst (λ (n : ℕ). P n x) (sym same.1) (subst (P i) is here)
-  | inr differs ↦ each k x (sym (get_set_else xs i k later differs.1) ∙ at)
-]
+  all_analyzers : (analyzers : List AnalyzerSeen) → analyzers_in {E = E} {F = F} (map Analyzer analyzers) ≡ analyzers
+  all_analyzers [] = refl
+  all_analyzers (a ∷ rest) = ap (λ (xs : List AnalyzerSeen). a ∷ xs) (all_analyzers rest)
 
--- Accesses.
+-- So the members of a crew are by their kinds what the crew has.
+module _ {E F : Type 0} (fronts : List (FrontSeen E)) (logger : LoggerSeen F) (analyzers : List AnalyzerSeen) where
+  pub fronts_laid : fronts_in (laid fronts logger analyzers) ≡ fronts
+  fronts_laid = fronts_first E F fronts (Logger logger ∷ map Analyzer analyzers) ∙ (ap (λ (xs : List (FrontSeen E)). fronts ++ xs) (no_fronts E F analyzers) ∙ append-nil fronts)
 
-same_access : (a : Access) → IsSameAccess a a
-same_access a = (refl, refl, refl)
+  pub logger_laid : (found : Option (LoggerSeen F)) → last_logger found (laid fronts logger analyzers) ≡ Some logger
+  logger_laid found = logger_behind E F found fronts (Logger logger ∷ map Analyzer analyzers) ∙ logger_before E F (Some logger) analyzers
 
-access_then : (a b c : Access) → IsSameAccess a b → IsSameAccess b c → IsSameAccess a c
-access_then a b c first then_ = (then_.0 ∙ first.0, then_.1 ∙ first.1, then_.2 ∙ first.2)
+  pub analyzers_laid : analyzers_in (laid fronts logger analyzers) ≡ analyzers
+  analyzers_laid = analyzers_behind E F fronts (Logger logger ∷ map Analyzer analyzers) ∙ all_analyzers E F analyzers
 
-same_port : (a : DatabaseAccess) → IsSamePort a a
-same_port a = record { database = refl; caller = refl }
+-- what holds of the elements at each place of two lists holds of those at one
+zip_at : {X Y : Type 0} (R : X → Y → Type 0) (xs : List X) (ys : List Y) (n : ℕ) (x : X) (y : Y) → AllZip R xs ys → slice_get xs n ≡ Some x → slice_get ys n ≡ Some y → R x y
+zip_at R [] ys n x y all at is = absurd (cc (at))
+zip_at R (z ∷ xs) [] n x y all at is = absurd all
+zip_at R (z ∷ xs) (w ∷ ys) zero x y all at is = subst (λ v. R v y) (some_same z x at) (subst (λ v. R z v) (some_same w y is) all.0)
+zip_at R (z ∷ xs) (w ∷ ys) (suc n) x y all at is = zip_at R xs ys n x y all.1 at is
 
-port_then : (a b c : DatabaseAccess) → IsSamePort a b → IsSamePort b c → IsSamePort a c
-port_then a b c first then_ = record { database = then_.database ∙ first.database; caller = then_.caller ∙ first.caller }
+module _ {E F : Type 0} (told : MemberTold E F) where
+  -- Each member of a crew keeps its contract where all members do.
+  front_keeps : (fronts : List (FrontSeen E)) (members : List (MemberSeen E F)) → AllByRecursion (KeepsContract told) (map FrontEnd fronts ++ members)
+      → (number : ℕ) (front : FrontSeen E) → slice_get fronts number ≡ Some front → KeepsContract told (FrontEnd front)
+  front_keeps [] members all number front at = absurd (cc (at))
+  front_keeps (f ∷ fs) members all zero front at = subst (λ (g : FrontSeen E). KeepsContract told (FrontEnd g)) (some_same f front at) all.0
+  front_keeps (f ∷ fs) members all (suc n) front at = front_keeps fs members all.1 n front at
 
--- Loggers.
+  rest_keeps : (fronts : List (FrontSeen E)) (members : List (MemberSeen E F)) → AllByRecursion (KeepsContract told) (map FrontEnd fronts ++ members) → AllByRecursion (KeepsContract told) members
+  rest_keeps [] members all = all
+  rest_keeps (f ∷ fs) members all = rest_keeps fs members all.1
 
-same_logger : {F : Type 0} (a : LoggerSeen F) → IsSameLogger a a
-same_logger a = record { engine = refl; client = refl; ports = same_ports a.ports; specs = refl; first = refl }
+  analyzer_keeps : (analyzers : List AnalyzerSeen) → AllByRecursion (KeepsContract told) (map Analyzer analyzers)
+      → (place : ℕ) (analyzer : AnalyzerSeen) → slice_get analyzers place ≡ Some analyzer → KeepsContract told (Analyzer analyzer)
+  analyzer_keeps [] all place analyzer at = absurd (cc (at))
+  analyzer_keeps (a ∷ as_) all zero analyzer at = subst (λ (b : AnalyzerSeen). KeepsContract told (Analyzer b)) (some_same a analyzer at) all.0
+  analyzer_keeps (a ∷ as_) all (suc n) analyzer at = analyzer_keeps as_ all.1 n analyzer at
 
-logger_then : {F : Type 0} (a b c : LoggerSeen F) → IsSameLogger a b → IsSameLogger b c → IsSameLogger a c
-logger_then a b c first then_ = record {
-  engine = then_.engine ∙ first.engine;
-  client = then_.client ∙ first.client;
-  ports = same_then a.ports b.ports c.ports first.ports then_.ports;
-  specs = then_.specs ∙ first.specs;
-  first = then_.first ∙ first.first;
-}
-
--- Analyzers.
-
-same_analyzer : (a : AnalyzerSeen) → IsSameAnalyzer a a
-same_analyzer a = record { engine = refl; client = refl; wanted = refl; room = refl; port = same_access a.port }
-
-analyzer_then : (a b c : AnalyzerSeen) → IsSameAnalyzer a b → IsSameAnalyzer b c → IsSameAnalyzer a c
-analyzer_then a b c first then_ = record {
-  engine = then_.engine ∙ first.engine;
-  client = then_.client ∙ first.client;
-  wanted = then_.wanted ∙ first.wanted;
-  room = then_.room ∙ first.room;
-  port = access_then a.port b.port c.port first.port then_.port;
-}
-
-module _ {E F K : Type 0} (told : CrewTold E F K) where
-  -- Front-ends.
-
-  same_front : (a : FrontSeen E) → IsSameFront told.takes told.makes a a
-  same_front a = record {
-    engine = refl;
-    client = refl;
-    name = refl;
-    takes_as = refl;
-    makes_as = refl;
-    port = same_access a.port;
-    database = same_port a.database;
-  }
-
-  front_then : (a b c : FrontSeen E) → IsSameFront told.takes told.makes a b → IsSameFront told.takes told.makes b c → IsSameFront told.takes told.makes a c
-  front_then a b c first then_ = record {
-    engine = then_.engine ∙ first.engine;
-    client = then_.client ∙ first.client;
-    name = then_.name ∙ first.name;
-    takes_as = then_.takes_as ∙ first.takes_as;
-    makes_as = then_.makes_as ∙ first.makes_as;
-    port = access_then a.port b.port c.port first.port then_.port;
-    database = port_then a.database b.database c.database first.database then_.database;
-  }
-
-  -- the members behind a turn of a front-end
-  pub front_members : (number : ℕ) (fronts : List (FrontSeen E)) (front later : FrontSeen E) (logger : LoggerSeen F) (analyzers : List AnalyzerSeen) → number < length fronts → slice_get fronts number ≡ Some front
-      → IsSameFront told.takes told.makes front later → AreMembers fronts logger analyzers → AreMembers (slice_set fronts number later) logger analyzers
-  front_members number fronts front later logger analyzers within there same are =
-      let count : length (slice_set fronts number later) ≡ length fronts = length-set fronts number later in
-      let few = are.few in
-      record {
-        few = omega (arith, count, few);
-        numbers = set_each (λ (k : ℕ) (f : FrontSeen E). f.client ≡ k) fronts number later within (same.client ∙ are.numbers number front there) are.numbers;
-        logger_number = are.logger_number ∙ sym count;
-        engine = set_each (λ (k : ℕ) (f : FrontSeen E). f.engine ≡ logger.engine) fronts number later within (same.engine ∙ are.engine number front there) are.engine;
-        analyzer_numbers = λ place a at. are.analyzer_numbers place a at ∙ ap (λ (n : ℕ). n + 1 + place) (sym count);
-        analyzer_engine = are.analyzer_engine;
+  keep_contracts : (crew : CrewSeen E F) → AllByRecursion (KeepsContract told) (members_of crew) → KeepContracts told crew
+  keep_contracts crew all =
+      let rest : AllByRecursion (KeepsContract told) (Logger crew.logger ∷ map Analyzer crew.analyzers) = rest_keeps crew.fronts (Logger crew.logger ∷ map Analyzer crew.analyzers) all in record {
+        fronts = front_keeps crew.fronts (Logger crew.logger ∷ map Analyzer crew.analyzers) all;
+        logger = rest.0.seated;
+        reasons = rest.0.reasons;
+        names = rest.0.names;
+        analyzers = analyzer_keeps crew.analyzers rest.1;
       }
 
-  -- one front-end took a turn
-  pub turns_one : (number : ℕ) (before : List (FrontSeen E)) (front later : FrontSeen E) (turned : Turned) → number < length before → slice_get before number ≡ Some front
-      → TakesFront (front_taken told.takes told.makes front later turned) → IsSameFront told.takes told.makes front later → TurnsFront told number before (slice_set before number later) turned
-  turns_one number before front later turned within there turn same = record {
-    count = length-set before number later;
-    front = front;
-    later = later;
-    stands = there;
-    is = get_set_here before number later within;
-    turn = turn;
-    same = same;
-    others = λ other differs. get_set_else before number other later differs;
-  }
+  -- A crew stays the same over the turns of its members.
+  pub crews_stay : MembersStay told → CrewsStay told
+  crews_stay stay crew after back all =
+      let still : StillLaid told crew.fronts crew.logger crew.analyzers after = stay.laid_out crew.fronts crew.logger crew.analyzers after (stay.same (members_of crew) after back.had) in
+      let later : CrewSeen E F = crew_seen still.later_fronts still.later_logger still.later_analyzers in
+      let kept : AllByRecursion (KeepsContract told) (members_of later) = recursion_from_All (KeepsContract told) (members_of later) (subst (λ (ms : List (MemberSeen E F)). All (KeepsContract told) ms) still.is all) in (
+        later,
+        still.is,
+        record {
+          same = record {
+            fronts = record {
+              count = sym (length_all_zip (IsSameFront told.takes told.makes) crew.fronts later.fronts still.same_fronts);
+              each = λ number front next at is. zip_at (IsSameFront told.takes told.makes) crew.fronts later.fronts number front next still.same_fronts at is;
+            };
+            logger = still.same_logger.same;
+            analyzers = record {
+              count = sym (length_all_zip IsSameAnalyzer crew.analyzers later.analyzers still.same_analyzers);
+              each = λ place analyzer next at is. zip_at IsSameAnalyzer crew.analyzers later.analyzers place analyzer next still.same_analyzers at is;
+            };
+          };
+          faults = still.same_logger.faults;
+          keep = keep_contracts later kept;
+        },
+      )
 
-  same_fronts : (before after : List (FrontSeen E)) → after ≡ before → AreSameFronts told before after
-  same_fronts before after is = record {
-    count = ap length is;
-    each = λ number front later there at.
-        let one : front ≡ later = one_there before after number front later is there at in
-        subst (λ (x : FrontSeen E). IsSameFront told.takes told.makes front x) one (same_front front);
-  }
+-- The members that came back as one list.
+module _ {E F : Type 0} (told : MemberTold E F) (crew : CrewSeen E F) where
+  -- They are a crew still, which is the same.
+  pub record Stays (after : List (MemberSeen E F)) : Type 0 where
+    pub later : CrewSeen E F
+    pub are : after ≡ members_of later
+    pub stays : StaysCrew told crew later
 
-  fronts_then : (before between after : List (FrontSeen E)) → AreSameFronts told before between → AreSameFronts told between after → AreSameFronts told before after
-  fronts_then before between after first then_ = record {
-    count = then_.count ∙ first.count;
-    each = λ number front later there is.
-        let within : number < length between = subst (λ (n : ℕ). number < n) (sym first.count) (slice_get_within before number front there) in
-        let middle : (x : FrontSeen E) × (slice_get between number ≡ Some x) = some_there between number within in
-        front_then front middle.0 later (first.each number front middle.0 there middle.1) (then_.each number middle.0 later middle.1 is);
-  }
+  pub stays_so : (list before after seen : List (MemberSeen E F)) → CrewsStay told → list ≡ members_of crew → before ≡ list → CameBack (TurnsMember told) before after →
+      seen ≡ after → All (KeepsContract told) seen → Stays after
+  stays_so list before after seen law is made back same all =
+      let came : CameBack (TurnsMember told) (members_of crew) after = subst (λ (ms : List (MemberSeen E F)). CameBack (TurnsMember told) ms after) (made ∙ is) back in
+      let so = law crew after came (subst (λ (ms : List (MemberSeen E F)). All (KeepsContract told) ms) same all) in
+      record { later = so.0; are = so.1; stays = so.2 }
 
-  one_front : (number : ℕ) (before after : List (FrontSeen E)) (turned : Turned) → TurnsFront told number before after turned → AreSameFronts told before after
-  one_front number before after turned turns = record {
-    count = turns.count;
-    each = λ n front later there is. elim (eqb_tells n number) as (λ w. IsSameFront told.takes told.makes front later) [
-      | inl here ↦
-          let at : slice_get before number ≡ Some front = subst (λ (k : ℕ). slice_get before k ≡ Some front) here.1 there in
-          let behind : slice_get after number ≡ Some later = subst (λ (k : ℕ). slice_get after k ≡ Some later) here.1 is in
-          let one : turns.front ≡ front = cc (at, turns.stands) in
-          let other : turns.later ≡ later = cc (behind, turns.is) in
-          subst (λ (x : FrontSeen E). IsSameFront told.takes told.makes x later) one (subst (λ (y : FrontSeen E). IsSameFront told.takes told.makes turns.front y) other turns.same)
-      | inr differs ↦
-          let left : slice_get after n ≡ slice_get before n = turns.others n differs.1 in
-          let one : front ≡ later = cc (left, there, is) in
-          subst (λ (x : FrontSeen E). IsSameFront told.takes told.makes front x) one (same_front front)
-    ];
-  }
+  module _ (after : List (MemberSeen E F)) (stay : Stays after) where
+    pub fronts_in_stay : fronts_in after ≡ stay.later.fronts
+    fronts_in_stay = ap (λ (ms : List (MemberSeen E F)). fronts_in ms) stay.are ∙ fronts_laid stay.later.fronts stay.later.logger stay.later.analyzers
 
-  -- The members behind a turn.
+    pub logger_in_stay : (found : Option (LoggerSeen F)) → last_logger found after ≡ Some stay.later.logger
+    logger_in_stay found = ap (λ (ms : List (MemberSeen E F)). last_logger found ms) stay.are ∙ logger_laid stay.later.fronts stay.later.logger stay.later.analyzers found
 
-  still_logger : (before after : LoggerSeen F) → after ≡ before → IsSameLogger before after
-  still_logger before after is = subst (λ (l : LoggerSeen F). IsSameLogger before l) (sym is) (same_logger before)
+    pub analyzers_in_stay : analyzers_in after ≡ stay.later.analyzers
+    analyzers_in_stay = ap (λ (ms : List (MemberSeen E F)). analyzers_in ms) stay.are ∙ analyzers_laid stay.later.fronts stay.later.logger stay.later.analyzers
 
-  still_analyzers : (before after : List AnalyzerSeen) → after ≡ before → AreSameAnalyzers before after
-  still_analyzers before after is = subst (λ (l : List AnalyzerSeen). AreSameAnalyzers before l) (sym is) (same_analyzers before)
-
-  pub same_crew : (before after : CrewSeen E F K) → after.fronts ≡ before.fronts → after.logger ≡ before.logger → after.analyzers ≡ before.analyzers → IsSameCrew told before after
-  same_crew before after fronts logger analyzers = record {
-    fronts = same_fronts before.fronts after.fronts fronts;
-    logger = still_logger before.logger after.logger logger;
-    analyzers = still_analyzers before.analyzers after.analyzers analyzers;
-  }
-
-  -- members that are all the same ones
-  all_same : (before after : CrewSeen E F K) → after ≡ before → IsSameCrew told before after
-  all_same before after all = same_crew before after (ap (λ (c : CrewSeen E F K). c.fronts) all) (ap (λ (c : CrewSeen E F K). c.logger) all) (ap (λ (c : CrewSeen E F K). c.analyzers) all)
-
-  crew_then : (before between after : CrewSeen E F K) → IsSameCrew told before between → IsSameCrew told between after → IsSameCrew told before after
-  crew_then before between after first then_ = record {
-    fronts = fronts_then before.fronts between.fronts after.fronts first.fronts then_.fronts;
-    logger = logger_then before.logger between.logger after.logger first.logger then_.logger;
-    analyzers = analyzers_then before.analyzers between.analyzers after.analyzers first.analyzers then_.analyzers;
-  }
-
-  -- A number is that of a front-end, of the logger, or of an analyzer.
-  member_cases : {A : Type 0} (number fronts : ℕ) → (number < fronts → A) → (number ≡ fronts → A) → ((place : ℕ) → number ≡ fronts + 1 + place → A) → A
-  member_cases {A} number fronts front logger analyzer = elim (leb_tells fronts number) as (λ w. A) [
-    | inl above ↦ elim (eqb_tells number fronts) as (λ w. A) [
-      | inl here ↦ logger here.1
-      | inr differs ↦
-          let behind : fronts < number = omega (arith, above.1, differs.1) in
-          let is : number ≡ fronts + 1 + (number - fronts - 1) = omega (arith, behind) in
-          analyzer (number - fronts - 1) is
-    ]
-    | inr below ↦ front below.1
-  ]
-
-  one_member : (number : ℕ) (before after : CrewSeen E F K) (turned : Turned) → TurnsMember told number before after turned → IsSameCrew told before after
-  one_member number before after turned turns = member_cases number (length before.fronts)
-      (λ below.
-      let did : TurnsFront told number before.fronts after.fronts turned × (after.logger ≡ before.logger) × (after.analyzers ≡ before.analyzers) = turns.front below in
-      record {
-        fronts = one_front number before.fronts after.fronts turned did.0;
-        logger = still_logger before.logger after.logger did.1;
-        analyzers = still_analyzers before.analyzers after.analyzers did.2;
-      })
-      (λ here.
-      let did : TurnsLogger told before.logger after.logger turned × (after.fronts ≡ before.fronts) × (after.analyzers ≡ before.analyzers) = turns.logger here in
-      record {
-        fronts = same_fronts before.fronts after.fronts did.1;
-        logger = did.0.same;
-        analyzers = still_analyzers before.analyzers after.analyzers did.2;
-      })
-      (λ place is.
-      let did : TurnsAnalyzer place before.analyzers after.analyzers turned × (after.fronts ≡ before.fronts) × (after.logger ≡ before.logger) = turns.analyzer place is in
-      record {
-        fronts = same_fronts before.fronts after.fronts did.1;
-        logger = still_logger before.logger after.logger did.2;
-        analyzers = one_analyzer place before.analyzers after.analyzers turned did.0;
-      })
-
-  -- Several turns of as many members.
-  turns_same : (first count turns : ℕ) (before after : CrewSeen E F K) → TurnFrom told first count turns before after → IsSameCrew told before after × (after.pick ≡ before.pick)
-  turns_same first count zero before after all = (all_same before after all, ap (λ (c : CrewSeen E F K). c.pick) all)
-  turns_same first count (suc n) before after all =
-      let so_far : IsSameCrew told before all.0 × (all.0.pick ≡ before.pick) = turns_same first count n before all.0 all.2 in
-      (crew_then before all.0 after so_far.0 (one_member ((first + n) % count) all.0 after all.1 all.3), all.3.pick ∙ so_far.1)
-
-  -- as many members stay behind a turn of one
-  pub turn_counts : (number : ℕ) (before after : CrewSeen E F K) (turned : Turned) → TurnsMember told number before after turned → member_count after ≡ member_count before
-  turn_counts number before after turned turns =
-      let same : IsSameCrew told before after = one_member number before after turned turns in
-      let fronts : length after.fronts ≡ length before.fronts = same.fronts.count in
-      let analyzers : length after.analyzers ≡ length before.analyzers = same.analyzers.count in
-      omega (arith, fronts, analyzers)
-
-  -- one turn more
-  pub turn_more : (first count n : ℕ) (before between after : CrewSeen E F K) (turned : Turned) → TurnFrom told first count n before between → TurnsMember told ((first + n) % count) between after turned → TurnFrom told first count (n + 1) before after
-  turn_more first count n before between after turned so_far turn = rw add-one (between, turned, so_far, turn)
-
-  -- The faults of the run files.
-
-  still_noted : (before after : LoggerSeen F) → after ≡ before → NotesRunFaults told before after
-  still_noted before after same = subst (λ (l : LoggerSeen F). NotesRunFaults told before l) (sym same) (notes_same before.slots (told.read before.files).faults)
-
-  noted_then : NotedLaws → (a b c : LoggerSeen F) → NotesRunFaults told a b → NotesRunFaults told b c → NotesRunFaults told a c
-  noted_then laws a b c first then_ = laws.follow a.slots b.slots c.slots (told.read a.files).faults (told.read b.files).faults (told.read c.files).faults first then_
-
-  one_noted : NotedLaws → (number : ℕ) (before after : CrewSeen E F K) (turned : Turned) → TurnsMember told number before after turned → NotesRunFaults told before.logger after.logger
-  one_noted laws number before after turned turns = member_cases number (length before.fronts)
-      (λ below. still_noted before.logger after.logger (turns.front below).1)
-      (λ here. taken_noted laws (logger_taken told.read before.logger after.logger turned) (turns.logger here).0.turn)
-      (λ place is. still_noted before.logger after.logger (turns.analyzer place is).2)
-
-  turns_noted : NotedLaws → (first count turns : ℕ) (before after : CrewSeen E F K) → TurnFrom told first count turns before after → NotesRunFaults told before.logger after.logger
-  turns_noted laws first count zero before after all = still_noted before.logger after.logger (ap (λ (c : CrewSeen E F K). c.logger) all)
-  turns_noted laws first count (suc n) before after all =
-      noted_then laws before.logger all.0.logger after.logger (turns_noted laws first count n before all.0 all.2) (one_noted laws ((first + n) % count) all.0 after all.1 all.3)
-
-  -- Turns of the members, one by one.
-
-  pub members_stay_so : NotedLaws → MembersStay told
-  members_stay_so laws = record {
-    front = same_front;
-    front_follows = front_then;
-    logger = same_logger;
-    logger_follows = logger_then;
-    analyzer = same_analyzer;
-    analyzer_follows = analyzer_then;
-    crew_follows = crew_then;
-    unturned = λ logger. still_noted logger logger refl;
-    notes = λ before after turned turns. taken_noted laws (logger_taken told.read before after turned) turns.turn;
-    notes_follow = noted_then laws;
-  }
-
-  -- Rounds.
-
-  round_kept : NotedLaws → (before after : CrewSeen E F K) → TakesRound told before after → KeptByRounds told 1 before after
-  round_kept laws before after round =
-      let picks = round.picks in
-      let chosen : IsSameCrew told before round.picked = same_crew before round.picked picks.fronts picks.logger picks.analyzers in
-      let turned : IsSameCrew told round.picked after × (after.pick ≡ round.picked.pick) =
-      turns_same round.first (member_count round.picked) (member_count round.picked) round.picked after round.turns in
-      record {
-        same = crew_then before round.picked after chosen turned.0;
-        faults = noted_then laws before.logger round.picked.logger after.logger (still_noted before.logger round.picked.logger picks.logger)
-            (turns_noted laws round.first (member_count round.picked) (member_count round.picked) round.picked after round.turns);
-        tells = ap told.tells turned.1 ∙ picks.tells;
-        picks = λ told_ n. ap (λ (k : K). told.ahead k n) turned.1 ∙ picks.later told_ n;
-      }
-
-  pub rounds_kept : NotedLaws → (count : ℕ) (before after : CrewSeen E F K) → HadRounds (TakesRound told) count before after → KeptByRounds told count before after
-  rounds_kept laws zero before after all = record {
-    same = all_same before after all;
-    faults = still_noted before.logger after.logger (ap (λ (c : CrewSeen E F K). c.logger) all);
-    tells = ap (λ (c : CrewSeen E F K). told.tells c.pick) all;
-    picks = λ tells n. ap (λ (c : CrewSeen E F K). told.ahead c.pick n) all ∙ ap (λ (m : ℕ). told.ahead before.pick m) (omega arith);
-  }
-  rounds_kept laws (suc n) before after all =
-      let so_far : KeptByRounds told n before all.0 = rounds_kept laws n before all.0 all.1 in
-      let round : KeptByRounds told 1 all.0 after = round_kept laws all.0 after all.2 in
-      record {
-        same = crew_then before all.0 after so_far.same round.same;
-        faults = noted_then laws before.logger all.0.logger after.logger so_far.faults round.faults;
-        tells = round.tells ∙ so_far.tells;
-        picks = λ tells k.
-            let still : IsTrue (told.tells all.0.pick) = subst (λ (b : Bool). IsTrue b) (sym so_far.tells) tells in
-            let there : (k + 1) + n ≡ k + suc n = omega arith in
-            round.picks still k ∙ (so_far.picks tells (k + 1) ∙ ap (λ (m : ℕ). told.ahead before.pick m) there);
-      }
+    pub stays_with : (fronts : List (FrontSeen E)) (logger : LoggerSeen F) (analyzers : List AnalyzerSeen) → fronts ≡ stay.later.fronts → Some logger ≡ Some stay.later.logger → analyzers ≡ stay.later.analyzers
+        → StaysCrew told crew (crew_seen fronts logger analyzers)
+    stays_with fronts logger analyzers same_fronts same_logger same_analyzers =
+        subst (λ (fs : List (FrontSeen E)). StaysCrew told crew (crew_seen fs logger analyzers)) (sym same_fronts)
+        (subst (λ (l : LoggerSeen F). StaysCrew told crew (crew_seen stay.later.fronts l analyzers)) (sym (some_same logger stay.later.logger same_logger))
+        (subst (λ (rs : List AnalyzerSeen). StaysCrew told crew (crew_seen stay.later.fronts stay.later.logger rs)) (sym same_analyzers) stay.stays))

@@ -1,6 +1,7 @@
 pub mod OwnTurnLaws
 pub mod SetLaws
 pub mod FrontMemberLaws
+pub mod FrontSeatLaws
 pub mod TakenLaws
 pub mod LoggerLaws
 pub mod LoggerSeatLaws
@@ -10,5 +11,10 @@ pub mod LoggerReasons
 pub mod LoggerNames
 pub mod BareLaws
 pub mod AnalyzerLaws
-pub mod ManyLaws
+pub mod AnalyzerSeatLaws
 pub mod CrewLaws
+pub mod TurnLaws
+pub mod StayLaws
+pub mod MovedLaws
+pub mod LoggerSend
+pub mod SendLaws

@@ -14,10 +14,10 @@ use Rattle.analyzers.specs.Analyzers.{AnalyzerState, AnalyzerAt}
 use Rattle.analyzers.specs.AnalyzerTurns.{TurnsBy, report_answer, run_reported}
 use Rattle.analyzers.specs.AnalyzerPulls.{PullsBy}
 use Rattle.analyzers.specs.AnalyzerKept.{AnalyzerStands, AnalyzerTells, KeepsAnalyzer}
-use Rattle.daq_members.specs.declared.turned.Turned.{Turned}
-use Rattle.daq_members.specs.declared.turned.Turned.TheVariants.{Worked, Idle, Ended}
-use Rattle.daq_members.specs.OwnTurns.{start_owed, GivesAnswer}
-use Rattle.daq_members.specs.FrontTaken.{asked_so, turned_by}
+use Rattle.member_crew.specs.declared.turned.Turned.{Turned}
+use Rattle.member_crew.specs.declared.turned.Turned.TheVariants.{Worked, Idle, Ended}
+use Rattle.daq_members.specs.OwnTurns.{start_owed, asked_so, GivesAnswer}
+use Rattle.daq_members.specs.FrontTaken.{turned_by}
 use Rattle.daq_members.specs.BareTurns.{AreBare}
 
 -- A turn of an analyzer: its client number; its calls on the engine, the analyzer, and its access to its buffer, before and
@@ -42,6 +42,11 @@ has_got Nothing = false
 abbrev pub analyzer_at : AnalyzerState → Access → AnalyzerAt
 analyzer_at a port = record { client = a.client; run = a.run; port = port }
 
+-- the analyzer pulls once, by this port
+abbrev pub PullsAnalyzer : (before after : AnalyzerState) → (port later_port : Access) → AnalyzerPull → Type 0
+PullsAnalyzer before after port later_port pulled =
+    PullsBy before.run before.room (analyzer_at before port) (analyzer_at after later_port) pulled
+
 -- Nothing is done but to ask.
 pub record LeavesAnalyzer (t : AnalyzerTaken) (reply : Polled) (turned : Turned) : Type 0 where
   pub asks : t.later_calls ≡ asked_so t.client t.calls reply
@@ -53,7 +58,7 @@ pub record LeavesAnalyzer (t : AnalyzerTaken) (reply : Polled) (turned : Turned)
 pub record WorksAnalyzer (t : AnalyzerTaken) (reply : Polled) : Type 0 where
   pub asks : t.later_calls ≡ asked_so t.client t.calls reply
   pub pulled : AnalyzerPull
-  pub pulls : PullsBy t.analyzer.run t.analyzer.room (analyzer_at t.analyzer t.port) (analyzer_at t.later t.later_port) pulled
+  pub pulls : PullsAnalyzer t.analyzer t.later t.port t.later_port pulled
   pub turned_is : t.turned ≡ turned_by (has_got pulled)
 
 -- The analyzer is given a turn: it takes it, and gives the answer, if there is one yet.
@@ -70,7 +75,7 @@ pub record TakesAnalyzerTurn (t : AnalyzerTaken) (transition : Transition) (orde
 pub record FinishesAnalyzer (t : AnalyzerTaken) (reply : Polled) : Type 0 where
   pub pulled : AnalyzerPull
   pub reading : AnalyzerState
-  pub pulls : PullsBy t.analyzer.run t.analyzer.room (analyzer_at t.analyzer t.port) (analyzer_at reading t.later_port) pulled
+  pub pulls : PullsAnalyzer t.analyzer reading t.port t.later_port pulled
   pub answer : Option Answer
   pub answer_is : answer ≡ report_answer reading.run
   pub gives : GivesAnswer t.client answer (asked_so t.client t.calls reply) t.later_calls
@@ -102,6 +107,12 @@ pub record AnalyzerMemberStands (client : ℕ) (analyzer : AnalyzerState) (calls
   pub stands : AnalyzerStands analyzer.wanted analyzer.client analyzer.run own got (member_turns client calls)
   pub tells : AnalyzerTells analyzer.run (member_turns client calls)
   pub blanks : AreBare client calls
+
+-- Where that held before a pull, it holds behind it, whatever the calls on the engine are.
+abbrev pub KeepsAtPull : (before after : AnalyzerState) → (port later_port : Access) → Type 0
+KeepsAtPull before after port later_port = (client : ℕ) → (calls : List EngineEntry) →
+    AnalyzerMemberStands client before calls port.own port.got →
+    AnalyzerMemberStands client after calls later_port.own later_port.got
 
 -- So each analyzer that is a member has the analyzer's contract over its own calls.
 abbrev pub MemberAnalyzersKeep : Type 0

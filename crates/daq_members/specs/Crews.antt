@@ -1,122 +1,55 @@
--- The members of a session, one beside the other.
-use Rattle.std.specs.Prelude.{◌≡◌, ◌≢◌, ℕ, zero, suc, ◌+◌, ◌<◌, ◌≤◌, ◌%◌, Bool, IsTrue, List, slice_get, Option, Some, length}
-use Rattle.daq_types.specs.declared.events.Event.{Event}
-use Rattle.daq_types.specs.declared.runs.Order.{Order}
-use Rattle.daq_io.specs.Seen.{Seen}
-use Rattle.transitions.specs.Limits.{most_clients}
+-- The members of a session by their kinds: what stays the same of them, and what they keep.
+use Rattle.std.specs.Prelude.{◌≡◌, ℕ, List, [], ◌∷◌, slice_get, Option, Some, length, All}
 use Rattle.loggers.specs.LoggerFaults.{NotesFaults}
-use Rattle.loggers.specs.Moments.{RunFiles, files_by}
-use Rattle.daq_members.specs.declared.turned.Turned.{Turned}
-use Rattle.daq_members.specs.FrontTaken.{TakesFront}
-use Rattle.daq_members.specs.LoggerTaken.{TakesLogger}
-use Rattle.daq_members.specs.FrontSeats.{FrontSeen, IsSameFront, IsSeated, front_taken}
-use Rattle.daq_members.specs.LoggerSeats.{LoggerSeen, IsSameLogger, IsLoggerSeated, HasLoggerReasons, KeepsLoggerNames, logger_taken}
+use Rattle.daq_members.specs.FrontSeats.{FrontSeen, IsSeated, IsSameFront}
+use Rattle.daq_members.specs.LoggerSeats.{LoggerSeen, IsLoggerSeated, HasLoggerReasons, KeepsLoggerNames, IsSameLogger}
 use Rattle.daq_members.specs.SeatedAnalyzers.{AnalyzerSeen, IsAnalyzerSeated, IsSameAnalyzer}
-use Rattle.daq_members.specs.ManyAnalyzers.{TurnsAnalyzer, AreSameAnalyzers}
+use Rattle.daq_members.specs.Members.{MemberSeen, MemberTold, FrontEnd, Logger, Analyzer, KeepsContract, TurnsMember}
+use Rattle.daq_members.specs.Stay.{laid}
+use Rattle.member_crew.specs.Turns.{CameBack}
 
--- A crew: the front-ends, the logger, the analyzers, and the choice of the member that has the first turn of a round.
-pub record CrewSeen (E F K : Type 0) : Type 0 where
+-- The members of a session by their kinds: its front-ends, its logger and its analyzers, each in the order of their numbers.
+pub record CrewSeen (E F : Type 0) : Type 0 where
   pub fronts : List (FrontSeen E)
   pub logger : LoggerSeen F
   pub analyzers : List AnalyzerSeen
-  pub pick : K
 
-abbrev pub crew_seen : {E F K : Type 0} → List (FrontSeen E) → LoggerSeen F → List AnalyzerSeen → K → CrewSeen E F K
-crew_seen fronts logger analyzers pick =
-    record { fronts = fronts; logger = logger; analyzers = analyzers; pick = pick }
+abbrev pub crew_seen : {E F : Type 0} → List (FrontSeen E) → LoggerSeen F → List AnalyzerSeen → CrewSeen E F
+crew_seen fronts logger analyzers = record { fronts = fronts; logger = logger; analyzers = analyzers }
 
--- how many members a crew has
-abbrev pub member_count : {E F K : Type 0} → CrewSeen E F K → ℕ
-member_count crew = length crew.fronts + 1 + length crew.analyzers
+-- the front-ends among these members
+abbrev pub fronts_in : {E F : Type 0} → List (MemberSeen E F) → List (FrontSeen E)
+fronts_in [] = []
+fronts_in (FrontEnd front ∷ members) = front ∷ fronts_in members
+fronts_in (Logger logger ∷ members) = fronts_in members
+fronts_in (Analyzer analyzer ∷ members) = fronts_in members
 
--- The members are not more than an engine has clients; each has its client number as its number, the front-ends the
--- first ones, the logger the next, and the analyzers those behind it; and all ask one engine.
-pub record AreMembers {E F : Type 0} (fronts : List (FrontSeen E)) (logger : LoggerSeen F) (analyzers : List AnalyzerSeen) : Type 0 where
-  pub few : length fronts + 1 + length analyzers ≤ most_clients
-  pub numbers : (number : ℕ) → (front : FrontSeen E) → slice_get fronts number ≡ Some front → front.client ≡ number
-  pub logger_number : logger.client ≡ length fronts
-  pub engine : (number : ℕ) → (front : FrontSeen E) → slice_get fronts number ≡ Some front →
-      front.engine ≡ logger.engine
-  pub analyzer_numbers : (place : ℕ) → (analyzer : AnalyzerSeen) → slice_get analyzers place ≡ Some analyzer →
-      analyzer.client ≡ length fronts + 1 + place
-  pub analyzer_engine : (place : ℕ) → (analyzer : AnalyzerSeen) → slice_get analyzers place ≡ Some analyzer →
-      analyzer.engine ≡ logger.engine
+-- the last logger among these members, or this one, if there is none
+abbrev pub last_logger : {E F : Type 0} → Option (LoggerSeen F) → List (MemberSeen E F) → Option (LoggerSeen F)
+last_logger logger [] = logger
+last_logger logger (FrontEnd front ∷ members) = last_logger logger members
+last_logger logger (Logger later ∷ members) = last_logger (Some later) members
+last_logger logger (Analyzer analyzer ∷ members) = last_logger logger members
 
--- What is told of equipments, run files and picks: which runs an equipment takes part in, and which events it makes;
--- what is told of run files; and whether a pick tells its choices, and those that lie ahead.
-pub record CrewTold (E F K : Type 0) : Type 0 where
-  pub takes : E → Order → Bool
-  pub makes : E → Order → ℕ → Event
-  pub seen : F → Seen
-  pub read : F → RunFiles
-  pub tells : K → Bool
-  pub ahead : K → ℕ → ℕ
+-- the analyzers among these members
+abbrev pub analyzers_in : {E F : Type 0} → List (MemberSeen E F) → List AnalyzerSeen
+analyzers_in [] = []
+analyzers_in (FrontEnd front ∷ members) = analyzers_in members
+analyzers_in (Logger logger ∷ members) = analyzers_in members
+analyzers_in (Analyzer analyzer ∷ members) = analyzer ∷ analyzers_in members
 
-abbrev pub crew_told : {E F K : Type 0} → (takes : E → Order → Bool) → (makes : E → Order → ℕ → Event) →
-    (seen : F → Seen) → (faults clashes : F → ℕ) → (first : F → Option (List ℕ)) → (tells : K → Bool) →
-    (ahead : K → ℕ → ℕ) → CrewTold E F K
-crew_told takes makes seen faults clashes first tells ahead = record {
-  takes = takes;
-  makes = makes;
-  seen = seen;
-  read = files_by seen faults clashes first;
-  tells = tells;
-  ahead = ahead;
-}
+-- all of them, by their client numbers
+abbrev pub members_of : {E F : Type 0} → CrewSeen E F → List (MemberSeen E F)
+members_of crew = laid crew.fronts crew.logger crew.analyzers
 
-module _ {E F K : Type 0} (told : CrewTold E F K) where
-  -- The front-end of this number takes one turn; all others are as they were.
-  pub record TurnsFront (number : ℕ) (before after : List (FrontSeen E)) (turned : Turned) : Type 0 where
-    pub count : length after ≡ length before
-    pub front : FrontSeen E
-    pub later : FrontSeen E
-    pub stands : slice_get before number ≡ Some front
-    pub is : slice_get after number ≡ Some later
-    pub turn : TakesFront (front_taken told.takes told.makes front later turned)
-    pub same : IsSameFront told.takes told.makes front later
-    pub others : (other : ℕ) → other ≢ number → slice_get after other ≡ slice_get before other
+-- There are as many analyzers, and each is the same analyzer.
+pub record AreSameAnalyzers (before after : List AnalyzerSeen) : Type 0 where
+  pub count : length after ≡ length before
+  pub each : (place : ℕ) → (analyzer later : AnalyzerSeen) → slice_get before place ≡ Some analyzer →
+      slice_get after place ≡ Some later → IsSameAnalyzer analyzer later
 
-  -- The logger takes one turn.
-  pub record TurnsLogger (before after : LoggerSeen F) (turned : Turned) : Type 0 where
-    pub turn : TakesLogger (logger_taken told.read before after turned)
-    pub same : IsSameLogger before after
-
-  -- The member of this number takes one turn, a front-end, the logger or an analyzer; all others are as they were.
-  pub record TurnsMember (number : ℕ) (before after : CrewSeen E F K) (turned : Turned) : Type 0 where
-    pub front : number < length before.fronts → TurnsFront number before.fronts after.fronts turned
-        × (after.logger ≡ before.logger) × (after.analyzers ≡ before.analyzers)
-    pub logger : number ≡ length before.fronts → TurnsLogger before.logger after.logger turned
-        × (after.fronts ≡ before.fronts) × (after.analyzers ≡ before.analyzers)
-    pub analyzer : (place : ℕ) → number ≡ length before.fronts + 1 + place →
-        TurnsAnalyzer place before.analyzers after.analyzers turned
-        × (after.fronts ≡ before.fronts) × (after.logger ≡ before.logger)
-    pub pick : after.pick ≡ before.pick
-
-  -- So many members take one turn each: the first of them is that of this number, of so many, and the others come
-  -- behind it in cyclic order.
-  abbrev pub TurnFrom : (first count : ℕ) → (turns : ℕ) → (before after : CrewSeen E F K) → Type 0
-  TurnFrom first count zero before after = after ≡ before
-  TurnFrom first count (suc n) before after = (between : CrewSeen E F K) × (turned : Turned) ×
-      TurnFrom first count n before between × TurnsMember ((first + n) % count) between after turned
-
-  -- The pick is read once, and gives the number of a member: the next one that is told, where choices are told.
-  pub record PicksMember (number : ℕ) (before after : CrewSeen E F K) : Type 0 where
-    pub within : number < member_count before
-    pub next : IsTrue (told.tells before.pick) → number ≡ told.ahead before.pick 0 % member_count before
-    pub tells : told.tells after.pick ≡ told.tells before.pick
-    pub later : IsTrue (told.tells before.pick) → (n : ℕ) → told.ahead after.pick n ≡ told.ahead before.pick (n + 1)
-    pub fronts : after.fronts ≡ before.fronts
-    pub logger : after.logger ≡ before.logger
-    pub analyzers : after.analyzers ≡ before.analyzers
-
-  -- One round: the pick is read once, and each member takes one turn, the picked one first and the others behind it in
-  -- cyclic order.
-  pub record TakesRound (before after : CrewSeen E F K) : Type 0 where
-    pub first : ℕ
-    pub picked : CrewSeen E F K
-    pub picks : PicksMember first before picked
-    pub turns : TurnFrom first (member_count picked) (member_count picked) picked after
-
+-- By what is told of their equipments and of the run files.
+module _ {E F : Type 0} (told : MemberTold E F) where
   -- There are as many front-ends, and each is the same front-end.
   pub record AreSameFronts (before after : List (FrontSeen E)) : Type 0 where
     pub count : length after ≡ length before
@@ -124,48 +57,14 @@ module _ {E F K : Type 0} (told : CrewTold E F K) where
         slice_get after number ≡ Some later → IsSameFront told.takes told.makes front later
 
   -- The same members: the same front-ends, the same logger, and the same analyzers.
-  pub record IsSameCrew (before after : CrewSeen E F K) : Type 0 where
+  pub record IsSameCrew (before after : CrewSeen E F) : Type 0 where
     pub fronts : AreSameFronts before.fronts after.fronts
     pub logger : IsSameLogger before.logger after.logger
     pub analyzers : AreSameAnalyzers before.analyzers after.analyzers
 
-  -- The logger noted each fault of the run files meanwhile.
-  abbrev pub NotesRunFaults : (before after : LoggerSeen F) → Type 0
-  NotesRunFaults before after =
-      NotesFaults before.slots after.slots (told.read before.files).faults (told.read after.files).faults
-
-  -- A member stays the same one where it takes no turn, and where turns follow that leave it the same one; and the logger
-  -- notes each fault of the run files where it takes none, where it takes one, and where several follow.
-  pub record MembersStay : Type 0 where
-    pub front : (front : FrontSeen E) → IsSameFront told.takes told.makes front front
-    pub front_follows : (before between after : FrontSeen E) → IsSameFront told.takes told.makes before between →
-        IsSameFront told.takes told.makes between after → IsSameFront told.takes told.makes before after
-    pub logger : (logger : LoggerSeen F) → IsSameLogger logger logger
-    pub logger_follows : (before between after : LoggerSeen F) → IsSameLogger before between →
-        IsSameLogger between after → IsSameLogger before after
-    pub analyzer : (analyzer : AnalyzerSeen) → IsSameAnalyzer analyzer analyzer
-    pub analyzer_follows : (before between after : AnalyzerSeen) → IsSameAnalyzer before between →
-        IsSameAnalyzer between after → IsSameAnalyzer before after
-    pub crew_follows : (before between after : CrewSeen E F K) → IsSameCrew before between → IsSameCrew between after →
-        IsSameCrew before after
-    pub unturned : (logger : LoggerSeen F) → NotesRunFaults logger logger
-    pub notes : (before after : LoggerSeen F) → (turned : Turned) → TurnsLogger before after turned →
-        NotesRunFaults before after
-    pub notes_follow : (before between after : LoggerSeen F) → NotesRunFaults before between →
-        NotesRunFaults between after → NotesRunFaults before after
-
-  -- What so many rounds leave: the same members, of which the logger noted the faults of the run files; and a pick of
-  -- which so many choices were read.
-  pub record KeptByRounds (count : ℕ) (before after : CrewSeen E F K) : Type 0 where
-    pub same : IsSameCrew before after
-    pub faults : NotesRunFaults before.logger after.logger
-    pub tells : told.tells after.pick ≡ told.tells before.pick
-    pub picks : IsTrue (told.tells before.pick) → (n : ℕ) →
-        told.ahead after.pick n ≡ told.ahead before.pick (n + count)
-
   -- Each member of the crew keeps its contract over its own calls; what the logger answered rests on the counts of the run
   -- files; and where no fault was counted it left no file of a run that did not come about.
-  pub record KeepContracts (crew : CrewSeen E F K) : Type 0 where
+  pub record KeepContracts (crew : CrewSeen E F) : Type 0 where
     pub fronts : (number : ℕ) → (front : FrontSeen E) → slice_get crew.fronts number ≡ Some front →
         IsSeated told.takes told.makes front
     pub logger : IsLoggerSeated told.seen crew.logger
@@ -173,3 +72,17 @@ module _ {E F K : Type 0} (told : CrewTold E F K) where
     pub names : KeepsLoggerNames told.read crew.logger
     pub analyzers : (place : ℕ) → (analyzer : AnalyzerSeen) → slice_get crew.analyzers place ≡ Some analyzer →
         IsAnalyzerSeated analyzer
+
+  -- The same crew, behind turns of its members: the logger noted each fault of the run files meanwhile, and each member keeps its
+  -- contract.
+  pub record StaysCrew (before after : CrewSeen E F) : Type 0 where
+    pub same : IsSameCrew before after
+    pub faults : NotesFaults before.logger.slots after.logger.slots (told.read before.logger.files).faults
+        (told.read after.logger.files).faults
+    pub keep : KeepContracts after
+
+  -- Members that came back behind turns of their own, and each keep their contract, are a crew still, which is the same.
+  abbrev pub CrewsStay : Type 0
+  CrewsStay = (crew : CrewSeen E F) → (after : List (MemberSeen E F)) →
+      CameBack (TurnsMember told) (members_of crew) after → All (KeepsContract told) after →
+      (later : CrewSeen E F) × (after ≡ members_of later) × StaysCrew crew later

@@ -8,9 +8,11 @@ use Rattle.odb_watch.specs.DatabasePorts.{DatabaseAccess, IsSamePort, own_watche
 use Rattle.member_model.specs.RunEngines.{EngineEntry}
 use Rattle.transition_lock.specs.declared.shared.SharedEngine.{SharedEngine}
 use Rattle.front_ends.specs.declared.front_run.FrontRun.{FrontRun}
+use Rattle.front_ends.specs.Fronts.{FrontState}
 use Rattle.loggers.specs.Moments.{IsSameAccess}
-use Rattle.daq_members.specs.declared.turned.Turned.{Turned}
+use Rattle.member_crew.specs.declared.turned.Turned.{Turned}
 use Rattle.daq_members.specs.OwnTurns.{are_calls_for}
+use Rattle.daq_members.specs.EngineClients.{EngineClientSeen}
 use Rattle.daq_members.specs.FrontTaken.{FrontTaken, FrontMemberStands}
 
 -- A front-end in a session: the engine that it asks, its client number, its name, its equipment, and its run; its
@@ -24,6 +26,19 @@ pub record FrontSeen (E : Type 0) : Type 0 where
   pub calls : List EngineEntry
   pub port : Access
   pub database : DatabaseAccess
+
+-- what is seen of a front-end, by its client at the engine, its name, what it does, its port and its access
+abbrev pub front_seen : {E : Type 0} → EngineClientSeen → (name : List ℕ) → FrontState E → Access → DatabaseAccess → FrontSeen E
+front_seen engine name front port database = record {
+  engine = engine.engine;
+  client = engine.client;
+  name = name;
+  equipment = front.equipment;
+  run = front.run;
+  calls = engine.calls;
+  port = port;
+  database = database;
+}
 
 -- On the engine the front-end polls and answers for its own client alone; the port and the access are the client's own, an
 -- event fits into the buffer, and the front-end keeps its contract over its own calls on engine, buffer and database.

@@ -1,6 +1,6 @@
 -- What a front-end does in one turn of its own: its calls on the engine, on its buffer and on the database, and what
 -- it came to.
-use Rattle.std.specs.Prelude.{◌≡◌, ℕ, Bool, true, false, ◌||◌, is_some, if◌then◌else◌, List, [], ◌∷◌, ◌++◌, Option, Some, None}
+use Rattle.std.specs.Prelude.{◌≡◌, ℕ, Bool, true, false, ◌||◌, is_some, if◌then◌else◌, List, Option, Some, None}
 use Rattle.daq_types.specs.declared.events.Event.{Event}
 use Rattle.daq_types.specs.declared.runs.Order.{Order}
 use Rattle.daq_types.specs.declared.runs.Transition.{Transition}
@@ -8,12 +8,10 @@ use Rattle.buffer_core.specs.declared.entry.BufferEntry.{BufferEntry}
 use Rattle.buffer_core.specs.Ports.{Access}
 use Rattle.odb_tree.specs.declared.entry.DatabaseEntry.{DatabaseEntry}
 use Rattle.odb_watch.specs.declared.entry.WatchEntry.{WatchEntry}
-use Rattle.odb_watch.specs.DatabasePorts.{DatabaseAccess, AddsCall, own_watched}
+use Rattle.odb_watch.specs.DatabasePorts.{DatabaseAccess, AddsCall}
 use Rattle.odb_runinfo.specs.RunSets.{IsSet, sent_set}
-use Rattle.turn_lock.specs.Passes.{own_entries}
 use Rattle.transitions.specs.declared.replies.Polled.TheVariants.{Turn, Idle as NoTurn, Closed, NoClient}
 use Rattle.member_model.specs.RunEngines.{Answer, Polled, EngineEntry}
-use Rattle.transitions.specs.declared.entry.EngineEntry.TheVariants.{Poll}
 use Rattle.member_model.specs.Turns.{MemberTurn, AreEngineTurns}
 use Rattle.member_model.specs.TurnCalls.{member_turns}
 use Rattle.front_ends.specs.declared.front_run.FrontRun.{FrontRun}
@@ -22,10 +20,9 @@ use Rattle.front_ends.specs.declared.front_step.FrontStep.TheVariants.{Sent, NoW
 use Rattle.front_ends.specs.Fronts.{FrontState, front_answer, run_after, finish_answer, run_finished, is_at_work, SendsNext, events_sent}
 use Rattle.front_ends.specs.FrontKept.{FrontStands, KeepsFront, KeepsMoments}
 use Rattle.composition.specs.SentSets.{AreTurnSets}
-use Rattle.daq_members.specs.declared.seat.Seat.{Seat}
-use Rattle.daq_members.specs.declared.turned.Turned.{Turned}
-use Rattle.daq_members.specs.declared.turned.Turned.TheVariants.{Worked, Idle, Ended}
-use Rattle.daq_members.specs.OwnTurns.{start_owed, GivesAnswer}
+use Rattle.member_crew.specs.declared.turned.Turned.{Turned}
+use Rattle.member_crew.specs.declared.turned.Turned.TheVariants.{Worked, Idle, Ended}
+use Rattle.daq_members.specs.OwnTurns.{start_owed, asked_so, GivesAnswer}
 use Rattle.daq_members.specs.SentSets.{number_set_at, number_if, AreNumbersSet}
 
 -- A turn of a front-end: its client number, its name, and what its equipment does; its run, its calls on the engine,
@@ -45,26 +42,6 @@ pub record FrontTaken : Type 0 where
   pub later_database : DatabaseAccess
   pub turned : Turned
 
--- a turn of a front-end of this name that is a member, with its access to its buffer and to the database, before and behind
-abbrev pub front_member_taken : {E : Type 0} → (takes : E → Order → Bool) → (makes : E → Order → ℕ → Event) → (name : List ℕ) →
-    (seat later_seat : Seat) → (front later_front : FrontState E) → (port later_port : Access) →
-    (database later_database : DatabaseAccess) → Turned → FrontTaken
-front_member_taken takes makes name seat later_seat front later_front port later_port database later_database turned = record {
-  client = seat.client;
-  name = name;
-  takes = takes front.equipment;
-  makes = makes front.equipment;
-  run = front.run;
-  later_run = later_front.run;
-  calls = own_entries seat.pass;
-  later_calls = own_entries later_seat.pass;
-  port = port;
-  later_port = later_port;
-  database = database;
-  later_database = later_database;
-  turned = turned;
-}
-
 -- Worked, where something was done
 abbrev pub turned_by : Bool → Turned
 turned_by worked = if worked then Worked else Idle
@@ -72,16 +49,6 @@ turned_by worked = if worked then Worked else Idle
 abbrev pub is_sent : FrontStep → Bool
 is_sent (Sent place) = true
 is_sent step = false
-
--- the calls on the engine, once it was asked and replied so
-abbrev pub asked_so : (client : ℕ) → List EngineEntry → Polled → List EngineEntry
-asked_so client calls reply = calls ++ Poll client reply ∷ []
-
--- At this place, where the turn with this start number was owed, if one was, the engine was asked and replied so.
-pub record Asked (before after : Seat) (owed : Option ℕ) (reply : Polled) : Type 0 where
-  pub client : after.client ≡ before.client
-  pub calls : own_entries after.pass ≡ asked_so before.client (own_entries before.pass) reply
-  pub owed_is : start_owed before.client (own_entries before.pass) ≡ owed
 
 -- The number is set in the front-end's key, if there is one.
 abbrev pub SetsSent : (name : List ℕ) → Option ℕ → (a b : DatabaseAccess) → Type 0
@@ -97,6 +64,12 @@ StepsBy true makes run later a b step = SendsNext makes run later a b step
 abbrev pub StepsFront : (makes : Order → ℕ → Event) → (run later : Option FrontRun) → (a b : Access) →
     FrontStep → Type 0
 StepsFront makes run later a b step = StepsBy (is_at_work run) makes run later a b step
+
+-- the same, of a front-end with this equipment
+abbrev pub StepsOnce : {E : Type 0} → (makes : E → Order → ℕ → Event) → (before after : FrontState E) → (port later_port : Access) →
+    FrontStep → Type 0
+StepsOnce makes before after port later_port step =
+    StepsFront (makes before.equipment) before.run after.run port later_port step
 
 -- Nothing is done but to ask.
 pub record LeavesFront (t : FrontTaken) (reply : Polled) (turned : Turned) : Type 0 where
@@ -167,11 +140,13 @@ pub record FrontMemberStands (client : ℕ) (name : List ℕ) (takes : Order →
   pub told : AreEngineTurns (member_turns client calls) →
       AreNumbersSet name own (member_turns client calls) moments sets
 
--- Where that held before the turn, it holds behind it.
-abbrev pub KeepsFrontStanding : FrontTaken → Type 0
-KeepsFrontStanding t =
-    FrontMemberStands t.client t.name t.takes t.makes t.run t.calls t.port.own (own_watched t.database) →
-    FrontMemberStands t.client t.name t.takes t.makes t.later_run t.later_calls t.later_port.own (own_watched t.later_database)
+-- Where that held before a step, it holds behind it, whatever the calls on the engine and on the database are.
+abbrev pub KeepsAtStep : {E : Type 0} → (takes : E → Order → Bool) → (makes : E → Order → ℕ → Event) →
+    (before after : FrontState E) → (port later_port : Access) → Type 0
+KeepsAtStep takes makes before after port later_port = (client : ℕ) → (name : List ℕ) → (calls : List EngineEntry) →
+    (sets : List WatchEntry) →
+    FrontMemberStands client name (takes before.equipment) (makes before.equipment) before.run calls port.own sets →
+    FrontMemberStands client name (takes before.equipment) (makes before.equipment) after.run calls later_port.own sets
 
 -- It keeps the front-end's contract, its turns have moments, and all its calls on the database are the sets of its
 -- turns.

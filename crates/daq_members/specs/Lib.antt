@@ -1,4 +1,5 @@
 pub mod OwnTurns
+pub mod EngineClients
 pub mod SentSets
 pub mod FrontTaken
 pub mod LoggerTaken
@@ -8,5 +9,7 @@ pub mod LoggerSeats
 pub mod BareTurns
 pub mod AnalyzerTaken
 pub mod SeatedAnalyzers
-pub mod ManyAnalyzers
+pub mod Members
+pub mod Kinds
+pub mod Stay
 pub mod Crews

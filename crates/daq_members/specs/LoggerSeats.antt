@@ -1,5 +1,5 @@
 -- The logger in a session, with its own ports to the buffers and the run files.
-use Rattle.std.specs.Prelude.{◌≡◌, ◌≤◌, ℕ, true, IfSome, List, length, Option}
+use Rattle.std.specs.Prelude.{◌≡◌, ◌≤◌, ℕ, true, IfSome, List, [], length, Option}
 use Rattle.daq_types.specs.Callers.{caller_of_client}
 use Rattle.event.specs.Events.{record_limit}
 use Rattle.daq_io.specs.Seen.{Seen}
@@ -9,7 +9,8 @@ use Rattle.transition_lock.specs.declared.shared.SharedEngine.{SharedEngine}
 use Rattle.member_model.specs.TurnCalls.{member_turns}
 use Rattle.mid_logger.specs.declared.channel.Channel.{Channel}
 use Rattle.loggers.specs.declared.logged_run.LoggedRun.{LoggedRun}
-use Rattle.loggers.specs.Moments.{RunFiles, IsLoggerReady, AreSamePorts}
+use Rattle.loggers.specs.declared.logger.Logger.{Logger}
+use Rattle.loggers.specs.Moments.{RunFiles, IsLoggerReady, AreSamePorts, AreIdleChannels}
 use Rattle.loggers.specs.NewLoggers.{NoneTakenBack}
 use Rattle.loggers.specs.SlotPulls.{HasEventRoom}
 use Rattle.loggers.specs.Turning.{IsIdleOutside, buffers_begun}
@@ -17,8 +18,9 @@ use Rattle.loggers.specs.LoggerStands.{LoggerStands}
 use Rattle.loggers.specs.Reasons.{GivesReasons}
 use Rattle.loggers.specs.LeftNames.{KeepsNames}
 use Rattle.loggers.specs.OtherFiles.{specs_in, KeepsOtherFiles}
-use Rattle.daq_members.specs.declared.turned.Turned.{Turned}
+use Rattle.member_crew.specs.declared.turned.Turned.{Turned}
 use Rattle.daq_members.specs.OwnTurns.{are_calls_for}
+use Rattle.daq_members.specs.EngineClients.{EngineClientSeen}
 use Rattle.daq_members.specs.StartedRuns.{started_runs}
 use Rattle.daq_members.specs.LoggerTaken.{LoggerTaken, HaveCaller}
 
@@ -35,6 +37,21 @@ pub record LoggerSeen (F : Type 0) : Type 0 where
   pub ports : List Access
   pub files : F
   pub first : F
+
+-- what is seen of a logger, by its client at the engine, the logger, its ports, and the run files, as they are and as they were
+-- when it took its seat
+abbrev pub logger_seen : {F : Type 0} → EngineClientSeen → Logger → List Access → (files first : F) → LoggerSeen F
+logger_seen engine logger ports files first = record {
+  engine = engine.engine;
+  client = engine.client;
+  run = logger.run;
+  stop_dump = logger.stop_dump;
+  calls = engine.calls;
+  slots = logger.channels;
+  ports = ports;
+  files = files;
+  first = first;
+}
 
 -- On the engine the logger polls and answers for its own client alone; the ports are the client's own, and it is ready for
 -- each turn. Where no client of it is known to be detached by another, it keeps its contract over its own calls on engine,
@@ -75,6 +92,22 @@ pub record IsLoggerAtSeat {F : Type 0} (seen : F → Seen) (read : F → RunFile
   pub seated : IsLoggerSeated seen logger
   pub reasons : HasLoggerReasons read logger
   pub names : KeepsLoggerNames read logger
+
+-- A logger that made no call on the engine yet, and whose channels are idle, is ready for its seat: the ports are its client's own,
+-- it is ready for each turn and keeps its contract over its calls, and its answers rest on the counts of any run files.
+pub record IsFirstLogger {F : Type 0} (seen : F → Seen) (logger : LoggerSeen F) : Type 0 where
+  pub stands : NoneTakenBack logger.ports →
+      LoggerStands logger.run logger.stop_dump logger.slots logger.ports (member_turns logger.client logger.calls)
+      (seen logger.files)
+  pub caller : HaveCaller (caller_of_client logger.client) logger.ports
+  pub ready : IsLoggerReady logger.slots logger.ports (seen logger.files)
+  pub room : (number : ℕ) → HasEventRoom number logger.slots logger.ports
+  pub fresh : logger.calls ≡ []
+  pub idle : AreIdleChannels logger.slots
+  pub begun : buffers_begun logger.run ≤ length logger.ports
+  pub small : IfSome logger.stop_dump (λ bytes. length bytes ≤ record_limit)
+  pub reasons : (told : RunFiles) →
+      GivesReasons logger.slots logger.ports told told (member_turns logger.client logger.calls)
 
 -- a turn of the logger, by what is seen of it before and behind
 abbrev pub logger_taken : {F : Type 0} → (read : F → RunFiles) → (before after : LoggerSeen F) → Turned → LoggerTaken

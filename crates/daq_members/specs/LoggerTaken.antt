@@ -4,24 +4,24 @@ use Rattle.std.specs.Prelude.{◌≡◌, ℕ, zero, suc, Bool, true, false, ◌|
 use Rattle.daq_types.specs.declared.runs.Order.{Order}
 use Rattle.daq_types.specs.declared.runs.Transition.{Transition}
 use Rattle.buffer_core.specs.Ports.{Access}
-use Rattle.turn_lock.specs.Passes.{own_entries}
 use Rattle.transitions.specs.declared.replies.Polled.TheVariants.{Turn, Idle as NoTurn, Closed, NoClient}
 use Rattle.member_model.specs.RunEngines.{Answer, Polled, EngineEntry}
 use Rattle.member_model.specs.TurnCalls.{member_turns}
 use Rattle.mid_logger.specs.declared.pulled.Pulled.{Pulled}
 use Rattle.mid_logger.specs.declared.pulled.Pulled.TheVariants.{Wrote, Dropped, Nothing, Broke, NoChannel}
 use Rattle.loggers.specs.declared.logged_run.LoggedRun.{LoggedRun}
+use Rattle.loggers.specs.declared.logger.Logger.{Logger}
 use Rattle.loggers.specs.Moments.{RunFiles, LoggerMoment, moment_of}
 use Rattle.loggers.specs.NewLoggers.{NoneTakenBack}
 use Rattle.loggers.specs.LoggerStands.{LoggerStands}
 use Rattle.loggers.specs.Turning.{TakesTurn}
 use Rattle.loggers.specs.Finishing.{FinishesLogger}
 use Rattle.loggers.specs.SlotPulls.{PullsNumbered}
-use Rattle.daq_members.specs.declared.logger_member.LoggerMember.{LoggerMember}
-use Rattle.daq_members.specs.declared.turned.Turned.{Turned}
-use Rattle.daq_members.specs.declared.turned.Turned.TheVariants.{Worked, Idle, Ended}
-use Rattle.daq_members.specs.OwnTurns.{start_owed, GivesAnswer}
-use Rattle.daq_members.specs.FrontTaken.{asked_so, turned_by}
+use Rattle.member_crew.specs.declared.turned.Turned.{Turned}
+use Rattle.member_crew.specs.declared.turned.Turned.TheVariants.{Worked, Idle, Ended}
+use Rattle.daq_members.specs.OwnTurns.{start_owed, asked_so, GivesAnswer}
+use Rattle.daq_members.specs.EngineClients.{EngineClientSeen}
+use Rattle.daq_members.specs.FrontTaken.{turned_by}
 
 -- how many channels are pulled
 abbrev pub pulled_channels : ℕ
@@ -59,19 +59,19 @@ pub record LoggerTaken : Type 0 where
   pub after : LoggerMoment
   pub turned : Turned
 
--- a turn of a logger that is a member, with its ports and the run files, before and behind
-abbrev pub logger_member_taken : {F : Type 0} → (read : F → RunFiles) → (before after : LoggerMember) →
-    (ports later_ports : List Access) → (files later_files : F) → Turned → LoggerTaken
-logger_member_taken read before after ports later_ports files later_files turned = record {
-  client = before.seat.client;
-  calls = own_entries before.seat.pass;
-  later_calls = own_entries after.seat.pass;
-  run = before.logger.run;
-  later_run = after.logger.run;
-  stop_dump = before.logger.stop_dump;
-  later_stop_dump = after.logger.stop_dump;
-  before = moment_of before.logger.channels ports (read files);
-  after = moment_of after.logger.channels later_ports (read later_files);
+-- a turn of a logger with its client at the engine, its ports and the run files, before and behind
+abbrev pub logger_member_taken : {F : Type 0} → (read : F → RunFiles) → (engine later_engine : EngineClientSeen) →
+    (logger later_logger : Logger) → (ports later_ports : List Access) → (files later_files : F) → Turned → LoggerTaken
+logger_member_taken read engine later_engine logger later_logger ports later_ports files later_files turned = record {
+  client = engine.client;
+  calls = engine.calls;
+  later_calls = later_engine.calls;
+  run = logger.run;
+  later_run = later_logger.run;
+  stop_dump = logger.stop_dump;
+  later_stop_dump = later_logger.stop_dump;
+  before = moment_of logger.channels ports (read files);
+  after = moment_of later_logger.channels later_ports (read later_files);
   turned = turned;
 }
 

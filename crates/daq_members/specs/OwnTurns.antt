@@ -38,6 +38,10 @@ is_call_for client entry = false
 abbrev pub are_calls_for : (client : ℕ) → List EngineEntry → Bool
 are_calls_for client calls = list_all (is_call_for client) calls
 
+-- the calls on the engine, once the client asked it and it replied so
+abbrev pub asked_so : (client : ℕ) → List EngineEntry → Polled → List EngineEntry
+asked_so client calls reply = calls ++ Poll client reply ∷ []
+
 -- The answer was given for the client, if there is one, and no other call was made.
 abbrev pub GivesAnswer : (client : ℕ) → Option Answer → (calls later : List EngineEntry) → Type 0
 GivesAnswer client None calls later = later ≡ calls

@@ -7,8 +7,9 @@ use Rattle.member_model.specs.RunEngines.{EngineEntry}
 use Rattle.transition_lock.specs.declared.shared.SharedEngine.{SharedEngine}
 use Rattle.analyzers.specs.Analyzers.{AnalyzerState, IsWithinGot}
 use Rattle.loggers.specs.Moments.{IsSameAccess}
-use Rattle.daq_members.specs.declared.turned.Turned.{Turned}
+use Rattle.member_crew.specs.declared.turned.Turned.{Turned}
 use Rattle.daq_members.specs.OwnTurns.{are_calls_for}
+use Rattle.daq_members.specs.EngineClients.{EngineClientSeen}
 use Rattle.daq_members.specs.AnalyzerTaken.{AnalyzerTaken, AnalyzerMemberStands}
 
 -- An analyzer in a session: the engine that it asks, its client number, the analyzer, its calls on the engine, and its
@@ -19,6 +20,16 @@ pub record AnalyzerSeen : Type 0 where
   pub analyzer : AnalyzerState
   pub calls : List EngineEntry
   pub port : Access
+
+-- what is seen of an analyzer, by its client at the engine, what it counts, and its port
+abbrev pub analyzer_seen : EngineClientSeen → AnalyzerState → Access → AnalyzerSeen
+analyzer_seen engine analyzer port = record {
+  engine = engine.engine;
+  client = engine.client;
+  analyzer = analyzer;
+  calls = engine.calls;
+  port = port;
+}
 
 -- On the engine the analyzer polls and answers for its own client alone; the port is the client's own, each event of the
 -- buffer fits into the analyzer's room, and what it counted is no more than it got; and it keeps its contract over its own

@@ -1,26 +1,50 @@
-ghost use Rattle.std.specs.Prelude.{◌≡◌, ◌≤◌, ◌-◌, ◌||◌, ℕ, List, min};
+ghost use Rattle.std.specs.Prelude.{◌≡◌, ◌≤◌, ◌-◌, ◌||◌, None, min};
 ghost use Rattle.daq_types.specs.Callers.{caller_of_client};
 ghost use Rattle.event.specs.Events.{event_limit};
-ghost use Rattle.turn_lock.specs.Passes.{own_entries};
-ghost use Rattle.member_model.specs.RunEngines.{EngineEntry};
+ghost use Rattle.turn_lock.specs.Passes.{number_of, held_by, own_entries, IsOf};
+ghost use Rattle.transition_lock.specs.SharedEngines.{engine_lock_of};
 ghost use Rattle.analyzers.specs.Analyzers.{IsWithinGot};
-ghost use Rattle.analyzers.specs.AnalyzerPulls.{PullsBy};
 ghost use Rattle.loggers.specs.Moments.{IsSameAccess};
 ghost use Rattle.daq_members.specs.FrontTaken.{turned_by};
-ghost use Rattle.daq_members.specs.AnalyzerTaken.{has_got, analyzer_at, TakesAnalyzer, AnalyzerMemberStands};
+ghost use Rattle.daq_members.specs.AnalyzerTaken.{has_got, PullsAnalyzer, TakesAnalyzer, KeepsAtPull};
 
-use crate::{Seat, Turned, turned_by};
+use crate::{EngineClient, turned_by};
 use analyzers::{Analyzer, AnalyzerPull};
 use buffer_core::BufferPort;
 use daq_io::{Gate, Point};
+use member_crew::Turned;
 use member_model::Polled;
+use std::marker::Model;
 use std::sync::Wait;
+use transition_lock::EnginePass;
 
-/// An analyzer as a member of a session: its place at the engine, and the analyzer. Its turns take no memory.
+/// What an analyzer gives back at its end.
 #[derive(Drop)]
-pub struct AnalyzerMember<'a> {
-    pub seat: Seat<'a>,
-    pub analyzer: Analyzer,
+pub struct AnalyzerParts<P> {
+    /// Its pass of the engine.
+    pub pass: EnginePass,
+    /// Its port to its buffer.
+    pub port: P,
+}
+
+/// An analyzer as a member of a session: its client at the engine, the analyzer, and its own port to its buffer. Its
+/// turns take no memory.
+#[derive(Drop)]
+pub struct AnalyzerMember<'a, P: BufferPort> {
+    engine: EngineClient<'a>,
+    analyzer: Analyzer,
+    port: P,
+}
+
+impl<'a, P: BufferPort> Model for AnalyzerMember<'a, P> {
+    ghost use Rattle.daq_members.specs.SeatedAnalyzers.{AnalyzerSeen, IsAnalyzerSeated, analyzer_seen};
+
+    ghost Value = { AnalyzerSeen };
+
+    ghost view = { λ m. analyzer_seen m.engine m.analyzer (P.access m.port) };
+
+    ghost invariant = { λ m. IsAnalyzerSeated
+        (analyzer_seen m.engine m.analyzer (P.access m.port)) };
 }
 
 /// Whether the pull got an event.
@@ -40,55 +64,64 @@ fn turned_by_pull(answered: bool, pulled: AnalyzerPull) -> Turned
     turned_by(answered || has_got(pulled))
 }
 
-impl<'a> AnalyzerMember<'a> {
-    /// An analyzer that takes this place at the engine.
-    pub fn new(seat: Seat<'a>, analyzer: Analyzer) -> AnalyzerMember<'a>
-        ensures seat { result.seat ≡ seat.entry }
-        ensures analyzer { result.analyzer ≡ analyzer }
+/// Pulls once for the analyzer with this client number, between the two points of the gate.
+fn pull_between<R: Wait, P: BufferPort, G: Gate>(
+    rt: &R,
+    gate: &G,
+    client: u32,
+    analyzer: &mut Analyzer,
+    port: &mut P,
+) -> AnalyzerPull
+    requires room { min event_limit ((P.access port.old).size - 24) ≤ analyzer.old.room }
+    requires counted { IsWithinGot analyzer.old.run (P.access port.old).got }
+    ensures pulls { PullsAnalyzer analyzer.old analyzer.new (P.access port.old)
+        (P.access port.new) result }
+    ensures wanted { analyzer.new.wanted ≡ analyzer.old.wanted }
+    ensures room { analyzer.new.room ≡ analyzer.old.room }
+    ensures same_port { IsSameAccess (P.access port.old) (P.access port.new) }
+    ensures counted { IsWithinGot analyzer.new.run (P.access port.new).got }
+    ensures keeps { KeepsAtPull analyzer.old analyzer.new (P.access port.old)
+        (P.access port.new) }
+{
+    gate.at(client, Point::BeforeReceive);
+    let pulled = analyzer.pull(rt, port);
+    gate.at(client, Point::AfterReceive);
+    pulled
+}
+
+impl<'a, P: BufferPort> AnalyzerMember<'a, P> {
+    ghost use Rattle.daq_members.specs.SeatedAnalyzers.{IsAnalyzerSeated, IsSameAnalyzer, analyzer_seen, analyzer_taken};
+
+    /// An analyzer that is ready for its turns, with its client at the engine and its own port to its buffer.
+    pub fn new(engine: EngineClient<'a>, analyzer: Analyzer, port: P) -> AnalyzerMember<'a, P>
+        requires { IsAnalyzerSeated (analyzer_seen engine analyzer (P.access port)) }
+        ensures { result ≡ analyzer_seen engine.entry analyzer (P.access port) }
     {
-        AnalyzerMember { seat, analyzer }
+        AnalyzerMember {
+            engine,
+            analyzer,
+            port,
+        }
     }
 
     /// One turn: the engine is asked once. A turn that it gives is taken, and answered where that can be at once; else the
     /// analyzer pulls once, and then a stop is answered that waited for it. Worked exactly where a new turn was given, one was
     /// answered, or an event was got; Ended exactly where the engine is closed. The calls are those of the member's own number.
     /// Takes no memory.
-    pub fn turn<R: Wait, P: BufferPort, G: Gate>(
-        &mut self,
-        rt: &R,
-        port: &mut P,
-        gate: &G,
-    ) -> Turned
-        requires caller { (P.access port.old).caller ≡ caller_of_client self.old.seat.client }
-        requires room { min event_limit ((P.access port.old).size - 24)
-            ≤ self.old.analyzer.room }
-        requires counted { IsWithinGot self.old.analyzer.run (P.access port.old).got }
-        ensures takes { TakesAnalyzer (record {
-          client = self.old.seat.client;
-          calls = own_entries self.old.seat.pass;
-          later_calls = own_entries self.new.seat.pass;
-          analyzer = self.old.analyzer;
-          later = self.new.analyzer;
-          port = P.access port.old;
-          later_port = P.access port.new;
-          turned = result;
-        }) }
-        ensures client { self.new.seat.client ≡ self.old.seat.client }
-        ensures engine { self.new.seat.engine.now ≡ self.old.seat.engine.now }
-        ensures wanted { self.new.analyzer.wanted ≡ self.old.analyzer.wanted }
-        ensures room { self.new.analyzer.room ≡ self.old.analyzer.room }
-        ensures same_port { IsSameAccess (P.access port.old) (P.access port.new) }
-        ensures counted { IsWithinGot self.new.analyzer.run (P.access port.new).got }
-        ensures keeps { AnalyzerMemberStands self.old.seat.client self.old.analyzer
-            (own_entries self.old.seat.pass) (P.access port.old).own (P.access port.old).got →
-            AnalyzerMemberStands self.old.seat.client self.new.analyzer
-            (own_entries self.new.seat.pass) (P.access port.new).own (P.access port.new).got }
+    pub fn turn<R: Wait, G: Gate>(&mut self, rt: &R, gate: &G) -> Turned
+        ensures takes { TakesAnalyzer (analyzer_taken self.old self.new result) }
+        ensures same { IsSameAnalyzer self.old self.new }
+        ensures keeps { IsAnalyzerSeated self.new }
     {
-        let owed = self.seat.owed;
-        match self.seat.poll(rt) {
+        let client = self.engine.number();
+        let owed = self.engine.owed();
+        match self.engine.poll(rt) {
             Polled::Closed => Turned::Ended,
             Polled::NoClient => Turned::Idle,
-            Polled::Idle { .. } => turned_by(has_got(self.pull(rt, port, gate))),
+            Polled::Idle { .. } => {
+                let pulled = pull_between(rt, gate, client, &mut self.analyzer, &mut self.port);
+                turned_by(has_got(pulled))
+            }
             Polled::Turn {
                 transition,
                 order,
@@ -96,49 +129,45 @@ impl<'a> AnalyzerMember<'a> {
                 ..
             } => match owed {
                 None => {
-                    let answer = self.analyzer.on_turn(rt, port, transition, &order, blank);
-                    self.seat.give(rt, answer);
+                    let answer = self
+                        .analyzer
+                        .on_turn(rt, &mut self.port, transition, &order, blank);
+                    self.engine.give(rt, answer);
                     Turned::Worked
                 }
                 Some(_) => {
-                    let pulled = self.pull(rt, port, gate);
+                    let pulled = pull_between(rt, gate, client, &mut self.analyzer, &mut self.port);
                     let answer = self.analyzer.finish();
-                    let answered = answer.is_some();
-                    self.seat.give(rt, answer);
-                    turned_by_pull(answered, pulled)
+                    let turned = turned_by_pull(answer.is_some(), pulled);
+                    self.engine.give(rt, answer);
+                    turned
                 }
             },
         }
     }
 
-    /// Pulls once, between the two points of the gate.
-    fn pull<R: Wait, P: BufferPort, G: Gate>(
-        &mut self,
-        rt: &R,
-        port: &mut P,
-        gate: &G,
-    ) -> AnalyzerPull
-        requires room { min event_limit ((P.access port.old).size - 24)
-            ≤ self.old.analyzer.room }
-        requires counted { IsWithinGot self.old.analyzer.run (P.access port.old).got }
-        ensures pulls { PullsBy self.old.analyzer.run self.old.analyzer.room
-            (analyzer_at self.old.analyzer (P.access port.old))
-            (analyzer_at self.new.analyzer (P.access port.new)) result }
-        ensures seat { self.new.seat ≡ self.old.seat }
-        ensures wanted { self.new.analyzer.wanted ≡ self.old.analyzer.wanted }
-        ensures room { self.new.analyzer.room ≡ self.old.analyzer.room }
-        ensures same_port { IsSameAccess (P.access port.old) (P.access port.new) }
-        ensures counted { IsWithinGot self.new.analyzer.run (P.access port.new).got }
-        ensures keeps { (client : ℕ) → (calls : List EngineEntry) →
-            AnalyzerMemberStands client self.old.analyzer calls
-            (P.access port.old).own (P.access port.old).got →
-            AnalyzerMemberStands client self.new.analyzer calls
-            (P.access port.new).own (P.access port.new).got }
+    /// The analyzer's client number. It keeps its contract at every moment.
+    pub fn client(&self) -> u32
+        ensures number { result ≡ self.now.client }
+        ensures seated { IsAnalyzerSeated self.now }
     {
-        let member = self.seat.client;
-        gate.at(member, Point::BeforeReceive);
-        let pulled = self.analyzer.pull(rt, port);
-        gate.at(member, Point::AfterReceive);
-        pulled
+        self.engine.number()
+    }
+
+    /// What the analyzer called with, given back: its pass of the engine it is asking, and its port with the calls that it
+    /// made. Over these it keeps its contract.
+    pub fn into_parts(self) -> AnalyzerParts<P>
+        ensures calls { own_entries result.pass ≡ self.entry.calls }
+        ensures number { number_of result.pass ≡ caller_of_client self.entry.client }
+        ensures own { IsOf (engine_lock_of self.entry.engine) result.pass }
+        ensures idle { held_by result.pass ≡ None }
+        ensures port { P.access result.port ≡ self.entry.port }
+        ensures seated { IsAnalyzerSeated self.entry }
+    {
+        let AnalyzerMember { engine, port, .. } = self;
+        AnalyzerParts {
+            pass: engine.into_pass(),
+            port,
+        }
     }
 }

@@ -1,30 +1,27 @@
 //! Members of a session. Each has its place at the engine, where it asks for its turns and answers them, and goes on with its
 //! work by what it hears there: a front-end sends its events and says in the database how many it sent, the logger writes the
-//! run files, and an analyzer reads the events that it asks for and tells at the stop of a run what it counted. The members of
-//! a session stand one beside the other, and have their turns round by round.
+//! run files, and an analyzer reads the events that it asks for and tells at the stop of a run what it counted. A `Member` is one
+//! of these: it keeps its contract over its own calls, and has one kind of turn.
 #![tactic(auto)]
 
 pub mod analyzer_laws;
 mod analyzer_member;
-mod analyzer_seat;
-mod crew;
+mod by_kind;
 pub mod crew_laws;
+mod engine_client;
 mod front_member;
-mod front_seat;
 pub mod laws;
 mod logger_member;
-mod logger_seat;
-mod seat;
-mod seats;
-mod turned;
+mod member;
+pub mod member_laws;
+mod play;
+mod sent_key;
 
-pub use analyzer_member::AnalyzerMember;
-pub use analyzer_seat::{AnalyzerParts, AnalyzerSeat};
-pub use crew::{Crew, CrewParts};
-pub use front_member::{FrontMember, turned_by};
-pub use front_seat::{FrontParts, FrontSeat};
-pub use logger_member::LoggerMember;
-pub use logger_seat::{LoggerParts, LoggerSeat};
-pub use seat::Seat;
-pub use seats::{AnalyzerSeats, ask_all, turn_at};
-pub use turned::Turned;
+pub use analyzer_member::{AnalyzerMember, AnalyzerParts};
+pub use by_kind::{AnalyzerMembers, MembersByKind};
+pub use engine_client::EngineClient;
+pub use front_member::{FrontMember, FrontParts, turned_by};
+pub use logger_member::{LoggerMember, LoggerParts};
+pub use member::{Member, MemberKind, ask_all};
+pub use play::{MemberRoom, play_members};
+pub use sent_key::SentKey;

@@ -10,7 +10,7 @@ use Rattle.daq_types.specs.Callers.{entries_by, main_caller}
 use Rattle.frontend_kit.specs.declared.generator.Generator.{Generator}
 use Rattle.odb_watch.specs.declared.entry.WatchEntry.{WatchEntry}
 use Rattle.odb_lock.specs.declared.shared.SharedOdb.{SharedOdb}
-use Rattle.daq_members.specs.Crews.{CrewTold}
+use Rattle.daq_members.specs.Members.{MemberTold}
 use Rattle.session_objects.specs.Calls.{HoldsParts}
 use Rattle.session_lines.specs.Stages.{SessionStage}
 use Rattle.console.specs.declared.endings.Ending.{Ending}
@@ -59,7 +59,7 @@ main_alone callers seen history some holds =
     all_main seen begins.0 (λ by other. ap (entries_by by) whole ∙ others_none callers seen history holds by other)
 
 -- What a script leaves that opened no session.
-pub unopened_ends : {D F K : Type 0} {g : _} (told : CrewTold Generator F K) (shared : SharedOdb D) (first_files : F) (final : SessionStage) (ending : Ending) (run_files : F) (left : LeftBehind D g)
+pub unopened_ends : {D F : Type 0} {g : _} (told : MemberTold Generator F) (shared : SharedOdb D) (first_files : F) (final : SessionStage) (ending : Ending) (run_files : F) (left : LeftBehind D g)
     → final.runs ≡ None → run_files ≡ first_files → IsMainAlone shared final.database.access.seen left → SessionEnds told shared first_files final ending run_files left
 unopened_ends told shared first_files final ending run_files (Session ended) closed files alone = absurd alone
 unopened_ends told shared first_files final ending run_files (Unopened passes) closed files alone = (closed, files, alone)

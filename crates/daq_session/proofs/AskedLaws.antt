@@ -11,7 +11,7 @@ use Rattle.transitions.specs.declared.entry.EngineEntry.TheVariants.{Register, B
 use Rattle.transitions.specs.declared.replies.BeginRefusal.{BeginRefusal}
 use Rattle.member_model.specs.RunEngines.{ClientTally, EngineEntry, Sheet}
 use Rattle.session_runs.specs.declared.records.RunRecord.{RunRecord}
-use Rattle.daq_members.specs.Crews.{CrewTold}
+use Rattle.daq_members.specs.Members.{MemberTold}
 use Rattle.session_runs.specs.MadeTransitions.{TransitionIn, done_check}
 use Rattle.session_objects.specs.declared.record.SessionRecord.{SessionRecord}
 use Rattle.session_runs.specs.KeptRuns.{RunsSeen}
@@ -85,7 +85,7 @@ made_at own first more sheet start outcome tallies is made =
 begun_are : (final : SessionStage) (asked : List ℕ) → quotas_so_far final.runs ≡ asked → (last : RunsSeen) → final.runs ≡ Some last → quotas_begun last.main.own ≡ asked
 begun_are final asked so_far last is_open = ap quotas_so_far (sym is_open) ∙ so_far
 
-module _ {D F K : Type 0} {g : _} (told : CrewTold Generator F K) (first_files : F) (final : SessionStage) (run_files : F) (asked : List ℕ) (so_far : quotas_so_far final.runs ≡ asked) where
+module _ {D F : Type 0} {g : _} (told : MemberTold Generator F) (first_files : F) (final : SessionStage) (run_files : F) (asked : List ℕ) (so_far : quotas_so_far final.runs ≡ asked) where
   -- the quota of a start is at the place of its record
   at_record : (r : SessionRecord D g) (keeps : KeepsSession told first_files final run_files r) (number : ℕ) (run : RunRecord) (quota : ℕ) → slice_get r.runs number ≡ Some run → BegunAt keeps.last.main.own run.start quota → slice_get asked number ≡ Some quota
   at_record r keeps number run quota at begun =

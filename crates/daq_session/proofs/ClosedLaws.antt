@@ -6,7 +6,7 @@ use Rattle.odb_watch.specs.Steps.{unwatched}
 use Rattle.odb_watch.specs.DatabasePorts.{own_watched}
 use Rattle.odb_lock.specs.declared.shared.SharedOdb.{SharedOdb}
 use Rattle.odb_lock.specs.SharedOdbs.{first_database}
-use Rattle.daq_members.specs.Crews.{CrewTold}
+use Rattle.daq_members.specs.Members.{MemberTold}
 use Rattle.session_setup.specs.declared.declared.AnalyzerDeclared.{AnalyzerDeclared}
 use Rattle.session_setup.specs.declared.declared.FrontDeclared.{FrontDeclared}
 use Rattle.session_objects.specs.declared.record.SessionRecord.{SessionRecord}
@@ -29,7 +29,7 @@ use Rattle.daq_session.specs.declared.left.LeftBehind.TheVariants.{Session, Unop
 use Rattle.session_commands.specs.Keeping.{EndsOver, MayKeep, StageKept, StageSpares}
 use Rattle.daq_session.specs.Played.{IsBack, IsEndedSession, IsSessionRecord, SessionEnds}
 
-module _ {D F K : Type 0} {g : _} (told : CrewTold Generator F K) (shared : SharedOdb D) (first_files : F) (final : SessionStage) (run_files : F) where
+module _ {D F : Type 0} {g : _} (told : MemberTold Generator F) (shared : SharedOdb D) (first_files : F) (final : SessionStage) (run_files : F) where
   -- The passes of what a script leaves are back.
   pub is_back : (ending : Ending) (left : LeftBehind D g) → SessionEnds told shared first_files final ending run_files left → IsBack shared left
   is_back ending (Session ended) ends = (ends.lists.fronts, ends.lists.analyzers, _, ends.ends.calls)

@@ -9,7 +9,7 @@ use Rattle.odb_watch.specs.declared.entry.WatchEntry.{WatchEntry}
 use Rattle.odb_watch.specs.declared.entry.WatchEntry.TheVariants.{Save}
 use Rattle.odb_watch.specs.DatabasePorts.{row_calls}
 use Rattle.session_runs.specs.declared.records.RunRecord.{RunRecord}
-use Rattle.daq_members.specs.Crews.{CrewTold}
+use Rattle.daq_members.specs.Members.{MemberTold}
 use Rattle.session_objects.specs.declared.record.SessionRecord.{SessionRecord}
 use Rattle.session_runs.specs.RunEntries.{StopCalls, dump_saved}
 use Rattle.session_runs.specs.RunsFit.{MainOwn, StandCalls}
@@ -44,7 +44,7 @@ ended_by_dump : (saved : Result (List ℕ) NoMemory) → IsOk saved → state_by
 ended_by_dump (Ok dump) is = refl
 ended_by_dump (Err wanting) is = absurd (cc is)
 
-module _ {D F K : Type 0} {g : _} (told : CrewTold Generator F K) (first_files : F) (final : SessionStage) (run_files : F) (all : StageSaved final) where
+module _ {D F : Type 0} {g : _} (told : MemberTold Generator F) (first_files : F) (final : SessionStage) (run_files : F) (all : StageSaved final) where
   runs_ended : (r : SessionRecord D g) (keeps : KeepsSession told first_files final run_files r) → RunsEnded told first_files final run_files r keeps
   runs_ended r keeps = record {
     saved = λ number run at whole. record_saved _ _ _ run (keeps.tells.runs number run at whole).so all;

@@ -10,7 +10,7 @@ use Rattle.daq_session.specs.Environments.{OutsideTold}
 use Rattle.daq_session.specs.LinesEnded.{outside_left}
 use Rattle.daq_session.specs.Sessions.{RunsScript}
 
-pub lines_left : {D S O F E C K : Type 0} {g : _} (told : OutsideTold S O F E C K) (before : Outside S O F E C K) (lines : LinesEnd S O E C F K) (after : Outside S O F E C K) (end : ScriptEnd) (replies : NotedReplies) (kept : Option (SessionRecord D g))
+pub lines_left : {D S O F E C K : Type 0} {g : _} (told : OutsideTold S O F E C) (before : Outside S O F E C K) (lines : LinesEnd S O E C F K) (after : Outside S O F E C K) (end : ScriptEnd) (replies : NotedReplies) (kept : Option (SessionRecord D g))
     → after ≡ outside_left lines → replies ≡ lines.replies → RunsScript told before (outside_left lines) end lines.replies.replies kept → RunsScript told before after end replies.replies kept
 lines_left {D} {S} {O} {F} {E} {C} {K} told before lines after end replies kept outside same ran =
     subst (λ (o : Outside S O F E C K). RunsScript told before o end replies.replies kept) (sym outside)

@@ -10,3 +10,4 @@ pub mod ScriptLaws
 pub mod NothingLaws
 pub mod MembersLaws
 pub mod PlayedLaws
+pub mod FailedLaws

@@ -57,7 +57,7 @@ nothing_played files clock source told = record {
 }
 
 -- Nothing was done.
-pub nothing_ran : {D S O F E C K : Type 0} {g : _} (told : OutsideTold S O F E C K) (outside : Outside S O F E C K) (replies : List (ℕ × FileReply)) → replies ≡ []
+pub nothing_ran : {D S O F E C K : Type 0} {g : _} (told : OutsideTold S O F E C) (outside : Outside S O F E C K) (replies : List (ℕ × FileReply)) → replies ≡ []
     → RunsScript {D = D} {g = g} told outside outside NoMemory replies None
 unfolding nothing_played
 nothing_ran told outside replies none =

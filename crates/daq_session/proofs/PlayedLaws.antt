@@ -73,7 +73,7 @@ module _ (quota : ℕ) (declared : Declared) (lists : DeclaredLists) (database :
   }
 
 -- A session was to open, and there was no memory for it: nothing was read, written or done to the run files.
-pub cut_tells : {S O F E C K : Type 0} (told : OutsideTold S O F E C K) (script : Script S O) (run_files : F) (pick : K) (replies : NotedReplies) (odb_files : E) (clock : C) (final : SessionStage)
+pub cut_tells : {S O F E C K : Type 0} (told : OutsideTold S O F E C) (script : Script S O) (run_files : F) (pick : K) (replies : NotedReplies) (odb_files : E) (clock : C) (final : SessionStage)
     → final.database.files ≡ told.dumps odb_files → final.database.replies ≡ replies.replies → final.clock ≡ told.clock clock
     → TellsEnd told script run_files (record { ending = Halted no_memory; closing = None; failed = false; replies = replies; odb_files = odb_files; clock = clock; run_files = run_files; pick = pick; script = script }) final
 cut_tells told script run_files pick replies odb_files clock final files_are replies_are clock_is = record {

@@ -6,7 +6,7 @@ use Rattle.mid_logger.specs.declared.channel_spec.ChannelSpec.{ChannelSpec}
 use Rattle.turn_lock.specs.Passes.{passes_of}
 use Rattle.odb_lock.specs.declared.shared.SharedOdb.{SharedOdb}
 use Rattle.odb_lock.specs.SharedOdbs.{odb_lock_of}
-use Rattle.daq_members.specs.Crews.{CrewTold}
+use Rattle.daq_members.specs.Members.{MemberTold}
 use Rattle.session_runs.specs.declared.records.RunRecord.{RunRecord}
 use Rattle.session_setup.specs.Setup.{AreSound, Declared, declared_by}
 use Rattle.session_setup.specs.SetupLines.{opened_with_defaults}
@@ -77,7 +77,7 @@ nothing_opened quota declared database clock = record {
 }
 
 -- The objects of an open session, behind its script.
-module _ {D F K : Type 0} {g : _} (told : CrewTold Generator F K) (lists : DeclaredLists) (objects : SessionObjects) (shared : SharedOdb D) (first_files : F) (final : SessionStage) (ending : Ending) (run_files : F) where
+module _ {D F : Type 0} {g : _} (told : MemberTold Generator F) (lists : DeclaredLists) (objects : SessionObjects) (shared : SharedOdb D) (first_files : F) (final : SessionStage) (ending : Ending) (run_files : F) where
   pub none_ended : (session : Option (SessionPasses D g × List RunRecord)) → session ≡ None → ObjectsEnd told lists objects shared first_files final ending run_files session → (final.runs ≡ None) × (run_files ≡ first_files) × (ending ≡ Halted no_memory)
   none_ended session is ends = subst (ObjectsEnd told lists objects shared first_files final ending run_files) is ends
 

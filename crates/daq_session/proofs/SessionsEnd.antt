@@ -35,7 +35,7 @@ use Rattle.session_runs.specs.declared.on.CurrentRun.{CurrentRun}
 use Rattle.session_runs.specs.KeptRuns.{channels_of}
 use Rattle.session_runs.specs.RunsFit.{FitsRun, MainOwn, RecordsFit, RunClients, SteersEngine, run_clients, start_of, start_on, starts_begun}
 use Rattle.session_lines.specs.Stages.{SessionStage, analyzer_names, front_names, members_declared}
-use Rattle.daq_members.specs.Crews.{CrewTold}
+use Rattle.daq_members.specs.Members.{MemberTold}
 use Rattle.daq_members.specs.FrontSeats.{FrontSeen, IsSeated}
 use Rattle.session_objects.specs.declared.record.BufferRecord.{BufferRecord}
 use Rattle.session_objects.specs.declared.record.SessionRecord.{SessionRecord}
@@ -73,7 +73,7 @@ record LawsHold (c : ClosedSession) (first now : RunFiles) (own : MainOwn) (runs
   so : (number : ℕ) → (run : RunRecord) → slice_get runs number ≡ Some run → run.outcome ≡ Completed → RecordSo c holds.moments own run
   refused : (number : ℕ) → (run : RunRecord) → slice_get runs number ≡ Some run → (client : ℕ) → (why : Why) → run.outcome ≡ Refused client why → RefusalSo c first now own run client why
 
-module _ {D F K : Type 0} {g : _} (told : CrewTold Generator F K) (takes : told.takes ≡ generator_takes) (makes : told.makes ≡ generator_makes)
+module _ {D F : Type 0} {g : _} (told : MemberTold Generator F) (takes : told.takes ≡ generator_takes) (makes : told.makes ≡ generator_makes)
     (first_files : F) (final : SessionStage) (run_files : F) (r : SessionRecord D g) (kept : IsSessionRecord told first_files final run_files r) where
   names : members_declared final.declared ≡ member_names kept.lists.fronts kept.lists.analyzers
   names = ap members_declared (sym kept.declared)

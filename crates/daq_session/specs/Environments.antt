@@ -4,7 +4,7 @@ use Rattle.daq_io.specs.Seen.{Seen}
 use Rattle.daq_io.specs.declared.objects.Outside.{Outside}
 use Rattle.loggers.specs.Moments.{RunFiles}
 use Rattle.frontend_kit.specs.declared.generator.Generator.{Generator}
-use Rattle.daq_members.specs.Crews.{CrewTold, crew_told}
+use Rattle.daq_members.specs.Members.{MemberTold, member_told}
 use Rattle.session_objects.specs.Members.{generator_makes, generator_takes}
 use Rattle.console.specs.DatabaseStages.{DumpFiles, dump_files}
 use Rattle.session_runs.specs.RunAnswers.{ClockTold, clock_of}
@@ -21,34 +21,34 @@ pub record Environment : Type 0 where
   pub clock : ClockTold
 
 -- What the parts of the outside tell of themselves: a source what is left of it, a sink what was written, both how many calls
--- failed; run files and picks, with what the equipments of front-ends do; the files of the database; and a clock.
-pub record OutsideTold (S O F E C K : Type 0) : Type 0 where
+-- failed; run files, with what the equipments of front-ends do; the files of the database; and a clock.
+pub record OutsideTold (S O F E C : Type 0) : Type 0 where
   pub left : S → Option (List ℕ)
   pub source_faults : S → ℕ
   pub written : O → Option (List ℕ)
   pub sink_faults : O → ℕ
-  pub crew : CrewTold Generator F K
+  pub crew : MemberTold Generator F
   pub dumps : E → DumpFiles
   pub clock : C → ClockTold
 
 -- the same, of what is told in this order
-abbrev pub outside_told : {S O F E C K : Type 0} → (left : S → Option (List ℕ)) → (source_faults : S → ℕ) →
+abbrev pub outside_told : {S O F E C : Type 0} → (left : S → Option (List ℕ)) → (source_faults : S → ℕ) →
     (written : O → Option (List ℕ)) → (sink_faults : O → ℕ) → (seen : F → Seen) → (faults clashes : F → ℕ) →
     (first : F → Option (List ℕ)) → (dump_seen : E → Seen) → (dump_faults dump_clashes : E → ℕ) →
-    (dump_first : E → Option (List ℕ)) → (tells : C → Bool) → (ahead : C → ℕ → ℕ) → (picks_told : K → Bool) →
-    (picks_ahead : K → ℕ → ℕ) → OutsideTold S O F E C K
-outside_told left source_faults written sink_faults seen faults clashes first dump_seen dump_faults dump_clashes dump_first tells ahead picks_told picks_ahead = record {
+    (dump_first : E → Option (List ℕ)) → (tells : C → Bool) → (ahead : C → ℕ → ℕ) →
+    OutsideTold S O F E C
+outside_told left source_faults written sink_faults seen faults clashes first dump_seen dump_faults dump_clashes dump_first tells ahead = record {
   left = left;
   source_faults = source_faults;
   written = written;
   sink_faults = sink_faults;
-  crew = crew_told generator_takes generator_makes seen faults clashes first picks_told picks_ahead;
+  crew = member_told generator_takes generator_makes seen faults clashes first;
   dumps = λ files. dump_files (dump_seen files) (dump_faults files) (dump_clashes files) (dump_first files);
   clock = λ clock. clock_of (tells clock) (ahead clock);
 }
 
 -- the outside as it is, by what its parts tell
-abbrev pub environment : {S O F E C K : Type 0} → OutsideTold S O F E C K → Outside S O F E C K → Environment
+abbrev pub environment : {S O F E C K : Type 0} → OutsideTold S O F E C → Outside S O F E C K → Environment
 environment told outside = record {
   source = told.left outside.src;
   source_faults = told.source_faults outside.src;

@@ -12,7 +12,8 @@ use Rattle.odb_lock.specs.declared.shared.SharedOdb.{SharedOdb}
 use Rattle.odb_lock.specs.SharedAccesses.{access_by_pass, odb_identity, shared_access}
 use Rattle.odb_lock.specs.SharedOdbs.{first_database, odb_lock_of}
 use Rattle.session_runs.specs.declared.records.RunRecord.{RunRecord}
-use Rattle.daq_members.specs.Crews.{CrewSeen, CrewTold, KeepContracts}
+use Rattle.daq_members.specs.Members.{MemberTold}
+use Rattle.daq_members.specs.Crews.{CrewSeen, KeepContracts}
 use Rattle.session_setup.specs.declared.declared.AnalyzerDeclared.{AnalyzerDeclared}
 use Rattle.session_setup.specs.declared.declared.DeclaredLists.{DeclaredLists}
 use Rattle.session_setup.specs.declared.declared.FrontDeclared.{FrontDeclared}
@@ -49,11 +50,11 @@ use Rattle.daq_session.specs.Sessions.{KeepsSession, SessionKept}
 -- The script and the lines of its end.
 
 -- where the lines of a script stand
-abbrev pub lines_at : {S O F E C K : Type 0} → OutsideTold S O F E C K → Script S O → ScriptAt
+abbrev pub lines_at : {S O F E C : Type 0} → OutsideTold S O F E C → Script S O → ScriptAt
 lines_at told script = script_point told.left told.written script
 
 -- what the main thread's port to a shared database, the files of the dumps and the clock tell
-abbrev pub side_of : {D S O F E C K : Type 0} {g : _} → OutsideTold S O F E C K → SideTold (SharedAccess D g) E C
+abbrev pub side_of : {D S O F E C : Type 0} {g : _} → OutsideTold S O F E C → SideTold (SharedAccess D g) E C
 side_of told = record { access = access_by_pass; files = told.dumps; clock = told.clock }
 
 -- what is left of a script that opened no session
@@ -73,7 +74,7 @@ unopened_lines ending side run_files pick script = record {
 -- The lines ended so over this last stage, and what is behind them: the counts of faults of source and sink are those of such an
 -- end; that of the run files rose exactly where it was noted; and what the outside tells, and what came of the lines that called
 -- the files of the dumps, stand in the stage.
-pub record TellsEnd {S O F E C K : Type 0} (told : OutsideTold S O F E C K) (before : Script S O) (first_files : F)
+pub record TellsEnd {S O F E C K : Type 0} (told : OutsideTold S O F E C) (before : Script S O) (first_files : F)
     (lines : LinesEnd S O E C F K) (final : SessionStage) : Type 0 where
   pub counts : EndCounts lines.ending lines.closing (told.source_faults before.src) (told.source_faults lines.script.src)
       (told.sink_faults before.out) (told.sink_faults lines.script.out)
@@ -87,13 +88,13 @@ pub record TellsEnd {S O F E C K : Type 0} (told : OutsideTold S O F E C K) (bef
 -- Behind the script of an open session, as the main thread knows it: its members are those of its declarations, and each keeps
 -- its contract; its logger took its seat at the first run files, and has the channels that were declared; and all passes of its
 -- objects are back, which tell the calls of its main thread and of its members.
-pub record OpenedEnds {D F K : Type 0} {g : _} (told : CrewTold Generator F K) (lists : DeclaredLists) (objects : SessionObjects)
+pub record OpenedEnds {D F : Type 0} {g : _} (told : MemberTold Generator F) (lists : DeclaredLists) (objects : SessionObjects)
     (shared : SharedOdb D) (first_files : F) (access : DatabaseAccess) (last : RunsSeen) (passes : SessionPasses D g)
     (records : List RunRecord) (run_files : F) : Type 0 where
   pub kept : records ≡ last.runs
   pub knows : KnowsRuns last
   pub caller : access.caller ≡ main_caller
-  pub crew : CrewSeen Generator F K
+  pub crew : CrewSeen Generator F
   pub members : AreMembersOf lists.fronts lists.analyzers objects shared crew.fronts crew.logger crew.analyzers
   pub keep : KeepContracts told crew
   pub calls : HasCalls lists.fronts lists.analyzers
@@ -104,7 +105,7 @@ pub record OpenedEnds {D F K : Type 0} {g : _} (told : CrewTold Generator F K) (
 
 -- All passes are back, and the records of the runs; or there are none, where memory was wanting to open the session, and the run
 -- files are what they were.
-abbrev pub ObjectsEnd : {D F K : Type 0} {g : _} → CrewTold Generator F K → DeclaredLists → SessionObjects → SharedOdb D →
+abbrev pub ObjectsEnd : {D F : Type 0} {g : _} → MemberTold Generator F → DeclaredLists → SessionObjects → SharedOdb D →
     (first_files : F) → (final : SessionStage) → Ending → (run_files : F) → Option (SessionPasses D g × List RunRecord) → Type 0
 ObjectsEnd told lists objects shared first_files final ending run_files None =
     (final.runs ≡ None) × (run_files ≡ first_files) × (ending ≡ Halted no_memory)
@@ -113,7 +114,7 @@ ObjectsEnd told lists objects shared first_files final ending run_files (Some (p
     × OpenedEnds told lists objects shared first_files final.database.access last passes records run_files)
 
 -- An open session was played from the line that opened it to the end of its script, over its objects.
-pub record PlaysOpened {D S O F E C K : Type 0} {g : _} {d : _} {e : _} (told : OutsideTold S O F E C K) (lists : DeclaredLists)
+pub record PlaysOpened {D S O F E C K : Type 0} {g : _} {d : _} {e : _} (told : OutsideTold S O F E C) (lists : DeclaredLists)
     (objects : SessionObjects) (shared : SharedOdb D) (first_files : F) (runs : RunsSeen) (side : MainSide (SharedAccess D g) E C d e)
     (before : Script S O) (end : OpenedEnd D S O E C F K g) : Type 0 where
   pub final : SessionStage
@@ -123,7 +124,7 @@ pub record PlaysOpened {D S O F E C K : Type 0} {g : _} {d : _} {e : _} (told : 
       end.lines.ending end.lines.closing
 
 -- A session of these declarations was opened over its objects, and played to the end of its script, from its first start on.
-pub record PlaysObjects {D S O F E C K : Type 0} {g : _} {d : _} {e : _} (told : OutsideTold S O F E C K) (lists : DeclaredLists)
+pub record PlaysObjects {D S O F E C K : Type 0} {g : _} {d : _} {e : _} (told : OutsideTold S O F E C) (lists : DeclaredLists)
     (objects : SessionObjects) (shared : SharedOdb D) (first_files : F) (quota : ℕ) (declared : Declared)
     (side : MainSide (SharedAccess D g) E C d e) (before : Script S O) (end : OpenedEnd D S O E C F K g) : Type 0 where
   pub final : SessionStage
@@ -135,7 +136,7 @@ pub record PlaysObjects {D S O F E C K : Type 0} {g : _} {d : _} {e : _} (told :
 -- What is left behind a script.
 
 -- The objects of the session that a script opened, before they are closed.
-pub record IsEndedSession {D F K : Type 0} {g : _} (told : CrewTold Generator F K) (shared : SharedOdb D) (first_files : F)
+pub record IsEndedSession {D F : Type 0} {g : _} (told : MemberTold Generator F) (shared : SharedOdb D) (first_files : F)
     (final : SessionStage) (run_files : F) (ended : EndedObjects D g) : Type 0 where
   pub lists : DeclaredLists
   pub declared : declared_by lists ≡ final.declared
@@ -159,7 +160,7 @@ IsMainAlone shared calls Nothing = ⊥
 
 -- What is left behind a script that ended so: the objects of its session; or the database alone, which only the main thread
 -- called; or nothing, where there was no memory to open a session. Where none was opened, the run files are what they were.
-abbrev pub SessionEnds : {D F K : Type 0} {g : _} → CrewTold Generator F K → SharedOdb D → (first_files : F) → (final : SessionStage) →
+abbrev pub SessionEnds : {D F : Type 0} {g : _} → MemberTold Generator F → SharedOdb D → (first_files : F) → (final : SessionStage) →
     Ending → (run_files : F) → LeftBehind D g → Type 0
 SessionEnds told shared first_files final ending run_files (Session ended) =
     IsEndedSession told shared first_files final run_files ended
@@ -169,7 +170,7 @@ SessionEnds told shared first_files final ending run_files Nothing =
     (final.runs ≡ None) × (run_files ≡ first_files) × (ending ≡ Halted no_memory)
 
 -- A session of these declarations was to be opened, and its script was played to the end from its first start on.
-pub record PlaysSession {D S O F E C K : Type 0} {g : _} {d : _} {e : _} (told : OutsideTold S O F E C K) (shared : SharedOdb D) (first_files : F)
+pub record PlaysSession {D S O F E C K : Type 0} {g : _} {d : _} {e : _} (told : OutsideTold S O F E C) (shared : SharedOdb D) (first_files : F)
     (quota : ℕ) (declared : Declared) (side : MainSide (SharedAccess D g) E C d e) (before : Script S O)
     (lines : LinesEnd S O E C F K) (left : LeftBehind D g) : Type 0 where
   pub final : SessionStage
@@ -179,7 +180,7 @@ pub record PlaysSession {D S O F E C K : Type 0} {g : _} {d : _} {e : _} (told :
       final lines.ending lines.closing
 
 -- A script was played from its beginning to its end, over a database that its main thread had not called before.
-pub record PlaysAll {D S O F E C K : Type 0} {g : _} (told : OutsideTold S O F E C K) (shared : SharedOdb D) (odb_files : E) (clock : C)
+pub record PlaysAll {D S O F E C K : Type 0} {g : _} (told : OutsideTold S O F E C) (shared : SharedOdb D) (odb_files : E) (clock : C)
     (first_files : F) (before : Script S O) (lines : LinesEnd S O E C F K) (left : LeftBehind D g) : Type 0 where
   pub final : SessionStage
   pub tells : TellsEnd told before first_files lines final
@@ -200,7 +201,7 @@ IsBack shared Nothing = ⊤
 -- The record of a session: the histories of its objects, which are those of its declarations, and hold the calls of its main
 -- thread and of its members, each of which keeps its contract; and the records of its runs. Its logger took its seat at the
 -- first run files, and has the channels that were declared.
-pub record IsSessionRecord {D F K : Type 0} {g : _} (told : CrewTold Generator F K) (first_files : F) (final : SessionStage) (run_files : F)
+pub record IsSessionRecord {D F : Type 0} {g : _} (told : MemberTold Generator F) (first_files : F) (final : SessionStage) (run_files : F)
     (r : SessionRecord D g) : Type 0 where
   pub lists : DeclaredLists
   pub declared : declared_by lists ≡ final.declared
@@ -217,7 +218,7 @@ pub record IsSessionRecord {D F K : Type 0} {g : _} (told : CrewTold Generator F
   pub spares : StageSpares final
   pub kept : r.runs ≡ last.runs
   pub caller : final.database.access.caller ≡ main_caller
-  pub crew : CrewSeen Generator F K
+  pub crew : CrewSeen Generator F
   pub members : AreMembersOf lists.fronts lists.analyzers objects shared crew.fronts crew.logger crew.analyzers
   pub keep : KeepContracts told crew
   pub channels : AreDeclared lists.channels crew.logger.slots
@@ -229,13 +230,13 @@ pub record IsSessionRecord {D F K : Type 0} {g : _} (told : CrewTold Generator F
       objects shared r
 
 -- such a record keeps the session
-abbrev pub RecordsKeep : {D F K : Type 0} {g : _} → CrewTold Generator F K → SessionRecord D g → Type 0
+abbrev pub RecordsKeep : {D F : Type 0} {g : _} → MemberTold Generator F → SessionRecord D g → Type 0
 RecordsKeep {D} {F} told r = (first_files : F) → (final : SessionStage) → (run_files : F) →
     IsSessionRecord told first_files final run_files r → KeepsSession told first_files final run_files r
 
 -- This is what is kept of a script, by what it left: its last stage is one that a script leaves, and it ended for want of memory
 -- where its lines did.
-abbrev pub KeepsLeft : {D F K : Type 0} {g : _} → CrewTold Generator F K → SharedOdb D → LeftBehind D g → Option (SessionRecord D g) → Type 0
+abbrev pub KeepsLeft : {D F : Type 0} {g : _} → MemberTold Generator F → SharedOdb D → LeftBehind D g → Option (SessionRecord D g) → Type 0
 KeepsLeft {D} {F} told shared left kept = (first_files : F) → (final : SessionStage) → (ending : Ending) → (end : ScriptEnd) → (run_files : F) →
     first_database shared ≡ unwatched session_rows → StageKept final → EndsOver final → StageSpares final →
     (ending ≡ Halted no_memory → end ≡ NoMemory) → SessionEnds told shared first_files final ending run_files left →

@@ -14,7 +14,7 @@ use Rattle.odb_watch.specs.Steps.{unwatched}
 use Rattle.loggers.specs.LeftNames.{NoneRose}
 use Rattle.session_runs.specs.declared.records.FileRecord.{FileRecord}
 use Rattle.session_runs.specs.declared.records.RunRecord.{RunRecord}
-use Rattle.daq_members.specs.Crews.{CrewTold}
+use Rattle.daq_members.specs.Members.{MemberTold}
 use Rattle.session_setup.specs.Setup.{AreSound}
 use Rattle.session_objects.specs.declared.record.SessionRecord.{SessionRecord}
 use Rattle.session_runs.specs.KeptRuns.{RunsSeen}
@@ -41,7 +41,7 @@ main_own final last = record { engine = last.main.own; database = own_watched fi
 
 -- What is kept of a session that was opened, with declarations that are sound: the records of its runs are those that the main
 -- thread kept, behind the last of which no run is on; and the record tells all that was called, by whom, and what came of it.
-pub record KeepsSession {D F K : Type 0} {g : _} (told : CrewTold Generator F K) (first_files : F) (final : SessionStage) (run_files : F)
+pub record KeepsSession {D F : Type 0} {g : _} (told : MemberTold Generator F) (first_files : F) (final : SessionStage) (run_files : F)
     (r : SessionRecord D g) : Type 0 where
   pub sound : AreSound final.declared
   pub last : RunsSeen
@@ -58,14 +58,14 @@ pub record LacksSession {F : Type 0} (first_files : F) (final : SessionStage) (e
   pub alone : end ≢ NoMemory → AllByRecursion (λ call. call.0 ≡ main_caller) final.database.access.seen
 
 -- There is a record exactly where a session was opened.
-abbrev pub SessionKept : {D F K : Type 0} {g : _} → CrewTold Generator F K → (first_files : F) → (final : SessionStage) → ScriptEnd →
+abbrev pub SessionKept : {D F : Type 0} {g : _} → MemberTold Generator F → (first_files : F) → (final : SessionStage) → ScriptEnd →
     (run_files : F) → Option (SessionRecord D g) → Type 0
 SessionKept told first_files final end run_files None = LacksSession first_files final end run_files
 SessionKept told first_files final end run_files (Some r) = KeepsSession told first_files final run_files r
 
 -- Of the runs of a session that came about, each had its dump saved as it was stopped; and where no fault of the run files was
 -- counted, each file of theirs ended.
-pub record RunsEnded {D F K : Type 0} {g : _} (told : CrewTold Generator F K) (first_files : F) (final : SessionStage) (run_files : F)
+pub record RunsEnded {D F : Type 0} {g : _} (told : MemberTold Generator F) (first_files : F) (final : SessionStage) (run_files : F)
     (r : SessionRecord D g) (keeps : KeepsSession told first_files final run_files r) : Type 0 where
   pub saved : (number : ℕ) → (run : RunRecord) → (at : slice_get r.runs number ≡ Some run) → (whole : run.outcome ≡ Completed) →
       IsOk (keeps.tells.runs number run at whole).so.fits.stop.saved
@@ -74,14 +74,14 @@ pub record RunsEnded {D F K : Type 0} {g : _} (told : CrewTold Generator F K) (f
       slice_get run.files place ≡ Some file → file.state ≡ Ended
 
 -- So it is with the session of which this is kept, if one was opened.
-abbrev pub KeptRunsEnded : {D F K : Type 0} {g : _} → (told : CrewTold Generator F K) → (first_files : F) → (final : SessionStage) →
+abbrev pub KeptRunsEnded : {D F : Type 0} {g : _} → (told : MemberTold Generator F) → (first_files : F) → (final : SessionStage) →
     (end : ScriptEnd) → (run_files : F) → (kept : Option (SessionRecord D g)) →
     SessionKept told first_files final end run_files kept → Type 0
 KeptRunsEnded told first_files final end run_files None keeps = ⊤
 KeptRunsEnded told first_files final end run_files (Some r) keeps = RunsEnded told first_files final run_files r keeps
 
 -- Each record of a session is of a start that was begun with the quota that stands at its place among these.
-pub record RunsAsked {D F K : Type 0} {g : _} (told : CrewTold Generator F K) (first_files : F) (final : SessionStage) (run_files : F)
+pub record RunsAsked {D F : Type 0} {g : _} (told : MemberTold Generator F) (first_files : F) (final : SessionStage) (run_files : F)
     (asked : List ℕ) (r : SessionRecord D g) (keeps : KeepsSession told first_files final run_files r) : Type 0 where
   pub completed : (number : ℕ) → (run : RunRecord) → (at : slice_get r.runs number ≡ Some run) → (whole : run.outcome ≡ Completed) →
       slice_get asked number ≡ Some (keeps.tells.runs number run at whole).so.quota
@@ -90,7 +90,7 @@ pub record RunsAsked {D F K : Type 0} {g : _} (told : CrewTold Generator F K) (f
       slice_get asked number ≡ Some (keeps.tells.refusals number run at client why is).quota
 
 -- So it is with the session of which this is kept, if one was opened.
-abbrev pub KeptRunsAsked : {D F K : Type 0} {g : _} → (told : CrewTold Generator F K) → (first_files : F) → (final : SessionStage) →
+abbrev pub KeptRunsAsked : {D F : Type 0} {g : _} → (told : MemberTold Generator F) → (first_files : F) → (final : SessionStage) →
     (end : ScriptEnd) → (run_files : F) → (asked : List ℕ) → (kept : Option (SessionRecord D g)) →
     SessionKept told first_files final end run_files kept → Type 0
 KeptRunsAsked told first_files final end run_files asked None keeps = ⊤
@@ -136,7 +136,7 @@ pub record PlaysScript (before after : Environment) (end : ScriptEnd) (replies :
 -- A whole call, from the one outside to the other: a script was played, which told of them what their parts tell, and ended so,
 -- with these replies of the lines that called the files of the database; this is what is kept of its session, if it opened one, with
 -- the quotas that the lines asked for; and where memory was not wanting, the runs of the session ended.
-pub record RunsScript {D S O F E C K : Type 0} {g : _} (told : OutsideTold S O F E C K) (before after : Outside S O F E C K)
+pub record RunsScript {D S O F E C K : Type 0} {g : _} (told : OutsideTold S O F E C) (before after : Outside S O F E C K)
     (end : ScriptEnd) (replies : List (ℕ × FileReply)) (kept : Option (SessionRecord D g)) : Type 0 where
   pub final : SessionStage
   pub plays : PlaysScript (environment told before) (environment told after) end replies final

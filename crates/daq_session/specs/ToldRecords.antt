@@ -40,7 +40,7 @@ use Rattle.session_runs.specs.declared.records.FileRecord.{FileRecord}
 use Rattle.session_runs.specs.declared.records.FrontTally.{FrontTally}
 use Rattle.session_runs.specs.declared.records.ReportTally.{ReportTally}
 use Rattle.session_runs.specs.declared.records.RunRecord.{RunRecord}
-use Rattle.daq_members.specs.Crews.{CrewTold}
+use Rattle.daq_members.specs.Members.{MemberTold}
 use Rattle.session_runs.specs.RunEntries.{dump_saved, start_sheet}
 use Rattle.session_runs.specs.RunsFit.{MainOwn, RecordsFit}
 use Rattle.session_setup.specs.Setup.{Declared}
@@ -193,7 +193,7 @@ pub record RunTells (c : ClosedSession) (moments : (client : ℕ) → List ℕ) 
 
 -- The session of a record as its laws see it: its database had the keys of runs; and its logger, with these channels, had the
 -- run files as they were at first and are now.
-abbrev pub session_told : {D F K : Type 0} {g : _} → CrewTold Generator F K → Declared → List (Option Channel) → (first_files files : F) → SessionRecord D g → ClosedSession
+abbrev pub session_told : {D F : Type 0} {g : _} → MemberTold Generator F → Declared → List (Option Channel) → (first_files files : F) → SessionRecord D g → ClosedSession
 session_told told declared slots first_files files r =
     closed_session (unwatched session_rows) declared.fronts declared.analyzers slots (told.seen first_files) (told.seen files) r
 
@@ -205,7 +205,7 @@ session_told told declared slots first_files files r =
 -- counted without one, and no fault but where a start was refused; that each run file that is in no record is as it was, where no
 -- fault was counted; each of its runs that came about; and that each other start was refused by a front-end whose equipment takes no
 -- part in the run, or by the logger for a fault or a clash of names that was counted.
-pub record RecordTells {D F K : Type 0} {g : _} (told : CrewTold Generator F K) (declared : Declared) (own : MainOwn)
+pub record RecordTells {D F : Type 0} {g : _} (told : MemberTold Generator F) (declared : Declared) (own : MainOwn)
     (first_files files : F) (r : SessionRecord D g) : Type 0 where
   pub histories : AreHistoriesOf declared r
   pub main : AreMainCalls own r

@@ -1,10 +1,10 @@
 //! What the record of a session says. The function does nothing, and its contract is the law.
-ghost use Rattle.daq_members.specs.Crews.{crew_told};
+ghost use Rattle.daq_members.specs.Members.{member_told};
 ghost use Rattle.session_objects.specs.Members.{generator_makes, generator_takes};
 ghost use Rattle.daq_session.specs.Played.{RecordsKeep};
 
 use caller_laws::laws::sent_by;
-use daq_io::{Files, Pick};
+use daq_io::Files;
 use odb_commands::watch_laws::run_number_stays_watched;
 use odb_lock::{LockedDatabase, WatchedSeen};
 use odb_runinfo::laws::{own_calls_spare, run_number_given, run_number_opens};
@@ -19,11 +19,11 @@ use session_objects::SessionRecord;
 use turn_lock::Machine;
 
 /// Of a session of which a record is kept, all laws of closed sessions hold, and the record tells what they say.
-pub fn sessions_hold<D: Database, F: Files, K: Pick>(kept: &SessionRecord<D>)
+pub fn sessions_hold<D: Database, F: Files>(kept: &SessionRecord<D>)
 where
     LockedDatabase<D>: Machine<State = WatchedSeen, Entry = WatchEntry>,
-    ensures { RecordsKeep (crew_told generator_takes generator_makes F.seen F.faults F.clashes
-        F.first K.tells K.ahead) kept.now }
+    ensures { RecordsKeep (member_told generator_takes generator_makes F.seen F.faults F.clashes
+        F.first) kept.now }
 {
     run_number_stays_watched();
     run_number_given();

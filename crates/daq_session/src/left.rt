@@ -6,7 +6,7 @@ ghost use Rattle.turn_lock.specs.Passes.{passes_of};
 ghost use Rattle.odb_watch.specs.declared.entry.WatchEntry.{WatchEntry as Called};
 ghost use Rattle.odb_lock.specs.SharedAccesses.{access_by_pass, odb_identity};
 ghost use Rattle.odb_lock.specs.SharedOdbs.{odb_lock_of};
-ghost use Rattle.daq_members.specs.Crews.{crew_told};
+ghost use Rattle.daq_members.specs.Members.{member_told};
 ghost use Rattle.session_objects.specs.Members.{generator_makes, generator_takes};
 ghost use Rattle.session_objects.specs.Records.{AreAllPasses};
 ghost use Rattle.session_objects.specs.Rosters.{KeepsFresh, KeepsPasses};
@@ -127,13 +127,13 @@ fn close_database<D: Database>(shared: SharedOdb<D>, passes: OdbPasses<D>)
 }
 
 /// Closes the objects of a session that was open, whose passes are all here, and keeps their record.
-fn close_objects<D: Database, F: Files, K: Pick>(
+fn close_objects<D: Database, F: Files>(
     shared: SharedOdb<D>,
     ended: EndedObjects<D>,
 ) -> SessionRecord<D>
     requires back { IsBack shared (LeftBehind.Session ended) }
-    ensures kept { KeepsLeft (crew_told generator_takes generator_makes F.seen F.faults F.clashes
-        F.first K.tells K.ahead) shared (LeftBehind.Session ended) (Some result) }
+    ensures kept { KeepsLeft (member_told generator_takes generator_makes F.seen F.faults F.clashes
+        F.first) shared (LeftBehind.Session ended) (Some result) }
 {
     let EndedObjects {
         objects,
@@ -141,22 +141,22 @@ fn close_objects<D: Database, F: Files, K: Pick>(
         runs,
     } = ended;
     let record = objects.close(shared, passes, runs);
-    sessions_hold::<D, F, K>(&record);
+    sessions_hold::<D, F>(&record);
     record
 }
 
 /// What is kept of a script, whose passes are all here: the record of its session, if it opened one.
-pub fn close_left<D: Database, F: Files, K: Pick>(
+pub fn close_left<D: Database, F: Files>(
     shared: SharedOdb<D>,
     left: LeftBehind<D>,
 ) -> Option<SessionRecord<D>>
     requires some { 0 < passes_of (odb_lock_of shared) }
     requires back { IsBack shared left }
-    ensures kept { KeepsLeft (crew_told generator_takes generator_makes F.seen F.faults F.clashes
-        F.first K.tells K.ahead) shared left result }
+    ensures kept { KeepsLeft (member_told generator_takes generator_makes F.seen F.faults F.clashes
+        F.first) shared left result }
 {
     match left {
-        LeftBehind::Session { ended } => Some(close_objects::<D, F, K>(shared, ended)),
+        LeftBehind::Session { ended } => Some(close_objects::<D, F>(shared, ended)),
         LeftBehind::Unopened { passes } => {
             close_database(shared, passes);
             None

@@ -11,6 +11,7 @@ ghost use Rattle.session_lines.specs.Stages.{opened_runs};
 ghost use Rattle.session_lines.specs.RunLines.{CutsKeys, KeysMade};
 ghost use Rattle.loggers.specs.OtherFiles.{AreDeclared};
 ghost use Rattle.session_setup.specs.Setup.{declared_by};
+ghost use Rattle.daq_members.specs.Crews.{crew_seen};
 ghost use Rattle.session_objects.specs.Kept.{HasFreshBut, out_to_fronts, out_to_members};
 ghost use Rattle.session_objects.specs.Members.{AreMembersOf, AreNewMembers};
 ghost use Rattle.session_objects.specs.Objects.{SuitMembers};
@@ -20,11 +21,11 @@ use crate::places::{MemberSide, Places};
 use buffer_core::BufferPort;
 use buffer_lock::SharedPort;
 use daq_io::{Files, Gate, Pick};
+use daq_members::MemberRoom;
 use daq_types::{BoundedList, Name, NoMemory};
 use front_ends::Equipment;
 use frontend_kit::Generator;
 use loggers::ChannelSpecs;
-use member_threads::{Room, ThreadRoom};
 use mid_logger::ChannelSpec;
 use odb_arena::ArenaTree;
 use odb_lock::{LockedDatabase, OdbPass, OdbPasses, SharedAccess, SharedOdb, WatchedSeen};
@@ -34,7 +35,7 @@ use odb_watch::{WatchEntry, WatchPort};
 use ring_buffer::RingBuffer;
 use session_commands::make_keys;
 use session_objects::{
-    SessionCrew, SessionObjects, SessionPasses, Unmanned, member_names, take_main,
+    Membership, SessionMembers, SessionObjects, SessionPasses, member_names, take_main,
 };
 use session_runs::{AnalyzerNames, FrontNames, MainSeat, Runs};
 use session_setup::{AnalyzerDeclared, DeclaredLists, FrontDeclared};
@@ -115,8 +116,8 @@ fn front_keys<'a, R: Wait, D: Database>(
     make_keys(rt, alloc, access, names.as_slice())
 }
 
-/// Room for the members of a session while they have threads of their own.
-pub type SessionRoom<'a, D, F> = ThreadRoom<
+/// Room for the members of a session while they have their turns.
+pub type SessionRoom<'a, D, F> = MemberRoom<
     'a,
     Generator,
     SharedPort<'a, RingBuffer>,
@@ -124,31 +125,20 @@ pub type SessionRoom<'a, D, F> = ThreadRoom<
     F,
 >;
 
-/// Room for threads of the members, but where the main thread gives them their turns.
-fn thread_room<'a, X: Equipment + Drop, P: BufferPort + Drop, D: WatchPort + Drop, F: Files + Drop>(
-    alloc: Global,
-    cooperative: bool,
-) -> Result<Option<ThreadRoom<'a, X, P, D, F>>, NoMemory> {
-    if cooperative {
-        return Ok(None);
-    }
-    let room = Room::new(alloc)?;
-    Ok(Some(room))
-}
-
-/// Lets room for threads go. Dropped at the session's own types it would have all their laws proved at each place.
+/// Lets room for the members go. Dropped at the session's own types it would have all their laws proved at each place.
 pub fn let_go<'a, X: Equipment + Drop, P: BufferPort + Drop, D: WatchPort + Drop, F: Files + Drop>(
-    _room: Option<ThreadRoom<'a, X, P, D, F>>,
+    _room: MemberRoom<'a, X, P, D, F>,
 ) {}
 
-/// Takes room for threads of the members, but where the main thread gives them their turns; and makes the keys of the front-ends.
+/// Takes room for the members, and for threads of theirs, but where the main thread gives them their turns; and makes the keys of
+/// the front-ends.
 pub fn open_keys<'a, R: Wait, D: Database, F: Files + Drop>(
     rt: &R,
     alloc: Global,
     cooperative: bool,
     access: &mut SharedAccess<'a, D>,
     fronts: &[FrontDeclared],
-) -> Result<Option<SessionRoom<'a, D, F>>, NoMemory>
+) -> Result<SessionRoom<'a, D, F>, NoMemory>
     requires few { length fronts.now ≤ 32 }
     requires main { (access_by_pass access.old).caller ≡ main_caller }
     ensures made { OnOk result (KeysMade (map (λ front. front.name) fronts.now)
@@ -157,7 +147,7 @@ pub fn open_keys<'a, R: Wait, D: Database, F: Files + Drop>(
         (access_by_pass access.old) (access_by_pass access.new)) }
     ensures same { IsSamePort (access_by_pass access.old) (access_by_pass access.new) }
 {
-    let room = thread_room(alloc, cooperative)?;
+    let room = MemberRoom::new(alloc, cooperative)?;
     match front_keys(rt, alloc, access, fronts) {
         Ok(()) => Ok(room),
         Err(NoMemory) => {
@@ -244,8 +234,8 @@ fn open_runs_with_channels<'a, R: Wait>(
     Ok((runs, channels))
 }
 
-/// The members of a session that opens, and what the main thread keeps of its runs; or what the members were to meet outside, where
-/// there is no memory for them.
+/// What the main thread keeps of the runs of a session that opens, its members, and their pick; or what the members were to meet
+/// outside, where there is no memory for them.
 pub fn open_members<'a, R: Wait, D: Database, F: Files, K: Pick, G: Gate>(
     rt: &R,
     alloc: Global,
@@ -253,8 +243,8 @@ pub fn open_members<'a, R: Wait, D: Database, F: Files, K: Pick, G: Gate>(
     main: EnginePass,
     passes: &mut SessionPasses<D>,
     quota: u32,
-    members: MemberSide<'a, F, K, G>,
-) -> Result<(Runs<'a>, SessionCrew<'a, D, F, K, G>), MemberSide<'a, F, K, G>>
+    side: MemberSide<'a, F, K, G>,
+) -> Result<(Runs<'a>, SessionMembers<'a, D, F>, K), MemberSide<'a, F, K, G>>
     requires main { number_of main ≡ main_caller }
     requires own { IsOf (engine_lock_of places.now.objects.now.engine) main }
     requires fresh { IsFresh main }
@@ -267,37 +257,43 @@ pub fn open_members<'a, R: Wait, D: Database, F: Files, K: Pick, G: Gate>(
         (declared_by places.now.lists.now) places.now.objects.now.engine) }
     ensures members { IfOk result (λ opened. AreNewMembers places.now.lists.now.fronts
         places.now.lists.now.analyzers places.now.lists.now.channels places.now.objects.now
-        places.now.shared.now members.entry.run_files members.entry.pick opened.1) }
+        places.now.shared.now side.entry.run_files
+        (crew_seen opened.1.fronts.items opened.1.logger opened.1.analyzers)) }
     ensures are { IfOk result (λ opened. AreMembersOf places.now.lists.now.fronts
         places.now.lists.now.analyzers places.now.objects.now places.now.shared.now
-        opened.1.fronts opened.1.logger opened.1.analyzers) }
+        opened.1.fronts.items opened.1.logger opened.1.analyzers) }
     ensures channels { IfOk result (λ opened. AreDeclared places.now.lists.now.channels
         opened.1.logger.slots) }
     ensures out { OnOk result (HasFreshBut (out_to_members places.now.lists.now.fronts
         places.now.lists.now.analyzers (length places.now.objects.now.buffers.items))
         places.now.objects.now places.now.shared.now passes.new) }
-    ensures files { IfErr result (λ back. back.run_files ≡ members.entry.run_files) }
-    ensures pick { IfErr result (λ back. back.pick ≡ members.entry.pick) }
+    ensures has_pick { IfOk result (λ opened. opened.2 ≡ side.entry.pick) }
+    ensures files { IfErr result (λ back. back.run_files ≡ side.entry.run_files) }
+    ensures pick { IfErr result (λ back. back.pick ≡ side.entry.pick) }
 {
-    let (objects, shared, lists) = (places.objects, places.shared, places.lists);
+    let (objects, lists) = (places.objects, places.lists);
     let Ok((runs, channels)) = open_runs_with_channels(rt, alloc, objects, main, lists, quota)
     else {
-        return Err(members);
+        return Err(side);
     };
     let fronts = lists.fronts.as_slice();
     let analyzers = lists.analyzers.as_slice();
+    let membership = Membership {
+        objects,
+        database: places.shared,
+        fronts,
+        analyzers,
+    };
     let MemberSide {
         run_files,
         pick,
         gate,
         cooperative,
-    } = members;
-    match objects.crew(
-        alloc, shared, fronts, analyzers, channels, passes, run_files, pick, gate,
-    ) {
-        Ok(crew) => Ok((runs, crew)),
-        Err(Unmanned { files, pick }) => Err(MemberSide {
-            run_files: files,
+    } = side;
+    match membership.members(alloc, channels, passes, run_files) {
+        Ok(members) => Ok((runs, members, pick)),
+        Err(run_files) => Err(MemberSide {
+            run_files,
             pick,
             gate,
             cooperative,

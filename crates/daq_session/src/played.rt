@@ -7,29 +7,36 @@ ghost use Rattle.odb_lock.specs.SharedAccesses.{access_by_pass, odb_identity};
 ghost use Rattle.transitions.specs.Engines.{engine_opening};
 ghost use Rattle.transition_lock.specs.SharedEngines.{engine_lock_of, first_engine};
 ghost use Rattle.loggers.specs.LoggerFaults.{HasFailed};
+ghost use Rattle.console.specs.Closing.{EndCounts};
+ghost use Rattle.daq_members.specs.Members.{member_told};
+ghost use Rattle.daq_members.specs.Crews.{StaysCrew, crew_seen};
+ghost use Rattle.session_commands.specs.Finishing.{script_point, side_told};
+ghost use Rattle.session_commands.specs.MainEnds.{MainEnds};
 ghost use Rattle.loggers.specs.OtherFiles.{AreDeclared};
 ghost use Rattle.session_setup.specs.Setup.{Declared, declared_by};
 ghost use Rattle.session_setup.specs.SetupLines.{opened_with_defaults};
 ghost use Rattle.session_objects.specs.Kept.{HasFreshBut, out_to_fronts, out_to_members};
 ghost use Rattle.session_objects.specs.Members.{AreMembersOf};
-ghost use Rattle.session_objects.specs.Objects.{HaveCallers, SuitMembers};
+ghost use Rattle.session_objects.specs.Objects.{SuitMembers};
 ghost use Rattle.daq_session.specs.Environments.{outside_told};
 ghost use Rattle.daq_session.specs.LinesEnded.{outside_left};
 ghost use Rattle.daq_session.specs.Played.{PlaysObjects, PlaysOpened, unopened_lines};
 
 use crate::opening::{SessionRoom, let_go, open_keys, open_members};
 use crate::places::{MemberSide, Places};
+use buffer_core::BufferPort;
 use console::{DatabaseConsole, Ending, Halt};
 use daq_io::{Clock, Files, Gate, Outside, Pick, Sink, Source};
+use daq_members::{MemberRoom, MembersByKind, play_members};
+use front_ends::Equipment;
 use odb_commands::FileReplies;
 use odb_lock::{LockedDatabase, SharedAccess, WatchedSeen};
 use odb_tree::Database;
-use odb_watch::WatchEntry;
+use odb_watch::{WatchEntry, WatchPort};
 use session_commands::laws::first_start_opens;
-use session_commands::{CrewEnd, MainEnd, MainSide, Script, play_crew};
+use session_commands::{MainEnd, MainPlay, MainSide, Script};
 use session_objects::laws::{channels_stay, members_stay};
-use session_objects::{Returned, RunRecords, SessionCrew, SessionPasses};
-use session_runs::Runs;
+use session_objects::{Membership, Returned, RunRecords, SessionMembers, SessionPasses};
 use std::alloc::Global;
 use std::sync::Wait;
 use std::thread::Threads;
@@ -135,6 +142,47 @@ pub fn end_unopened<
     }
 }
 
+/// Plays the main thread's part of an open session with these members. At a session's own types a call with `MainPlay` would have its
+/// laws stated once more, so this is over any types.
+fn play_main<
+    'a,
+    R: Threads + Wait + Sync,
+    X: Equipment + Drop + Send,
+    P: BufferPort + Drop + Send,
+    S: Source + Drop,
+    O: Sink + Drop,
+    D: WatchPort + Drop + Send,
+    E: Files + Drop,
+    C: Clock + Drop,
+    F: Files + Drop + Send,
+    K: Pick + Drop,
+    G: Gate + Sync,
+>(
+    rt: &R,
+    room: MemberRoom<'a, X, P, D, F>,
+    members: MembersByKind<'a, X, P, D, F>,
+    pick: K,
+    gate: &'a G,
+    main: MainPlay<'a, S, O, D, E, C>,
+) -> (MainEnd<S, O, D, E, C>, MembersByKind<'a, X, P, D, F>, K)
+    requires few { length members.fronts.items ≤ 32 }
+    requires few_analyzers { length members.analyzers ≤ 8 }
+    ensures played { MainEnds
+        (side_told D.access E.seen E.faults E.clashes E.first C.tells C.ahead)
+        main.entry.lists.now main.entry.runs main.entry.side result.0.side
+        (script_point S.left O.written main.entry.script)
+        (script_point S.left O.written result.0.script)
+        result.0.ending result.0.closing result.0.records result.0.main }
+    ensures counts { EndCounts result.0.ending result.0.closing (S.faults main.entry.script.src)
+        (S.faults result.0.script.src) (O.faults main.entry.script.out)
+        (O.faults result.0.script.out) }
+    ensures stay { StaysCrew (member_told X.takes X.makes F.seen F.faults F.clashes F.first)
+        (crew_seen members.entry.fronts.items members.entry.logger members.entry.analyzers)
+        (crew_seen result.1.fronts.items result.1.logger result.1.analyzers) }
+{
+    play_members(rt, room, members, pick, gate, main)
+}
+
 /// Plays an open session to the end of its script, and takes back what its members called by.
 fn play_opened<
     'a,
@@ -149,41 +197,38 @@ fn play_opened<
     G: Gate + Sync,
 >(
     rt: &R,
-    alloc: Global,
     places: &Places<'a, D, G>,
-    room: Option<SessionRoom<'a, D, F>>,
-    runs: Runs<'a>,
-    crew: SessionCrew<'a, D, F, K, G>,
-    side: MainSide<SharedAccess<'a, D>, E, C>,
+    room: SessionRoom<'a, D, F>,
+    members: SessionMembers<'a, D, F>,
+    pick: K,
     passes: SessionPasses<D>,
-    script: Script<S, O>,
+    main: MainPlay<'a, S, O, SharedAccess<'a, D>, E, C>,
 ) -> OpenedEnd<D, S, O, E, C, F, K>
-    requires fits { script.line_loop.number + 1 ≤ script.line_loop.reader.taken }
-    requires main { (access_by_pass side.database.access).caller ≡ main_caller }
-    requires database { (access_by_pass side.database.access).database
+    requires lists { main.lists.now ≡ places.now.lists.now }
+    requires main { (access_by_pass main.side.database.access).caller ≡ main_caller }
+    requires database { (access_by_pass main.side.database.access).database
         ≡ odb_identity places.now.shared.now }
-    requires engine { runs.main.engine ≡ places.now.objects.now.engine }
-    requires callers { HaveCallers places.now.lists.now.fronts places.now.lists.now.analyzers
-        places.now.objects.now places.now.shared.now }
+    requires engine { main.runs.main.engine ≡ places.now.objects.now.engine }
+    requires suit { SuitMembers places.now.lists.now.fronts places.now.lists.now.analyzers
+        places.now.lists.now.channels places.now.objects.now places.now.shared.now }
     requires members { AreMembersOf places.now.lists.now.fronts places.now.lists.now.analyzers
-        places.now.objects.now places.now.shared.now crew.fronts crew.logger crew.analyzers }
+        places.now.objects.now places.now.shared.now members.fronts.items members.logger
+        members.analyzers }
     requires out { HasFreshBut (out_to_members places.now.lists.now.fronts
         places.now.lists.now.analyzers (length places.now.objects.now.buffers.items))
         places.now.objects.now places.now.shared.now passes }
-    requires first { crew.logger.files ≡ crew.logger.first }
-    requires unfailed { ¬ HasFailed crew.logger.slots }
-    requires channels { AreDeclared places.now.lists.now.channels crew.logger.slots }
+    requires first { members.logger.files ≡ members.logger.first }
+    requires unfailed { ¬ HasFailed members.logger.slots }
+    requires channels { AreDeclared places.now.lists.now.channels members.logger.slots }
     ensures played { PlaysOpened (outside_told S.left S.faults O.written O.faults F.seen F.faults
-        F.clashes F.first E.seen E.faults E.clashes E.first C.tells C.ahead K.tells K.ahead)
-        places.now.lists.now places.now.objects.now places.now.shared.now crew.entry.logger.first
-        runs.entry side.entry script result }
+        F.clashes F.first E.seen E.faults E.clashes E.first C.tells C.ahead)
+        places.now.lists.now places.now.objects.now places.now.shared.now members.entry.logger.first
+        main.entry.runs main.entry.side main.entry.script result }
 {
-    members_stay(&crew);
-    channels_stay(&crew);
-    let (lists, gate) = (places.lists, places.gate);
-    let CrewEnd { end, failed, parts } = play_crew(
-        rt, alloc, room, lists, runs, crew, gate, side, script,
-    );
+    members_stay(&members);
+    channels_stay(&members);
+    let (end, members, pick) = play_main(rt, room, members, pick, places.gate, main);
+    let failed = members.logger.failed();
     let MainEnd {
         ending,
         closing,
@@ -192,20 +237,25 @@ fn play_opened<
         side,
         script,
     } = end;
-    let fronts = lists.fronts.as_slice();
-    let analyzers = lists.analyzers.as_slice();
     let MainSide { database, clock } = side;
     let DatabaseConsole {
         access,
         files: odb_files,
         replies,
     } = database;
+    let fronts = places.lists.fronts.as_slice();
+    let analyzers = places.lists.analyzers.as_slice();
+    let membership = Membership {
+        objects: places.objects,
+        database: places.shared,
+        fronts,
+        analyzers,
+    };
     let pass = access.into_pass();
     let Returned {
         passes,
         files: run_files,
-        pick,
-    } = places.objects.take_back(places.shared, fronts, analyzers, passes, parts, main, pass);
+    } = membership.take_back(passes, members, main, pass);
     OpenedEnd {
         lines: LinesEnd {
             ending,
@@ -260,7 +310,7 @@ pub fn play_objects<
     ensures played { (declared : Declared)
         → opened_with_defaults declared ≡ declared_by places.now.lists.now
         → PlaysObjects (outside_told S.left S.faults O.written O.faults F.seen F.faults F.clashes
-        F.first E.seen E.faults E.clashes E.first C.tells C.ahead K.tells K.ahead)
+        F.first E.seen E.faults E.clashes E.first C.tells C.ahead)
         places.now.lists.now places.now.objects.now places.now.shared.now members.entry.run_files
         quota declared side.entry script result }
 {
@@ -275,8 +325,15 @@ pub fn play_objects<
         };
     };
     match open_members(rt, alloc, places, main, &mut passes, quota, members) {
-        Ok((runs, crew)) => {
-            play_opened(rt, alloc, places, room, runs, crew, side, passes, script)
+        Ok((runs, members, pick)) => {
+            let main = MainPlay {
+                alloc,
+                lists: places.lists,
+                runs,
+                side,
+                script,
+            };
+            play_opened(rt, places, room, members, pick, passes, main)
         }
         Err(members) => {
             let_go(room);

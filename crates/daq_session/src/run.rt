@@ -61,7 +61,7 @@ fn open_and_play<
     requires callers { passes_of (odb_lock_of shared.now) ≡ database_passes }
     requires others { KeepsFresh (main_caller ∷ []) (odb_lock_of shared.now) passes }
     ensures played { PlaysSession (outside_told S.left S.faults O.written O.faults F.seen F.faults
-        F.clashes F.first E.seen E.faults E.clashes E.first C.tells C.ahead K.tells K.ahead)
+        F.clashes F.first E.seen E.faults E.clashes E.first C.tells C.ahead)
         shared.now members.entry.run_files quota declarations side.entry script result.0 result.1 }
 {
     first_start_opens::<D, E, C>(shared);
@@ -129,7 +129,7 @@ fn play_all<
     requires nothing { declarations ≡ nothing_declared }
     requires unread { IsUnreadScript script.line_loop }
     ensures played { PlaysAll (outside_told S.left S.faults O.written O.faults F.seen F.faults
-        F.clashes F.first E.seen E.faults E.clashes E.first C.tells C.ahead K.tells K.ahead)
+        F.clashes F.first E.seen E.faults E.clashes E.first C.tells C.ahead)
         shared.now odb_files clock members.entry.run_files script result.0 result.1 }
 {
     first_start_opens::<D, E, C>(shared);
@@ -196,7 +196,7 @@ fn run_session<
     requires nothing { declarations ≡ nothing_declared }
     requires unread { IsUnreadScript line_loop }
     ensures ran { RunsScript (outside_told S.left S.faults O.written O.faults F.seen F.faults
-        F.clashes F.first E.seen E.faults E.clashes E.first C.tells C.ahead K.tells K.ahead)
+        F.clashes F.first E.seen E.faults E.clashes E.first C.tells C.ahead)
         outside result.3 result.0 result.2.replies result.1 }
 {
     let OpenDatabase {
@@ -237,7 +237,7 @@ fn run_session<
     );
     scripts_keep();
     let end = end_of(&lines);
-    let record = close_left::<D, F, K>(shared, left);
+    let record = close_left::<D, F>(shared, left);
     let (replies, outside) = lines.into_outside();
     (end, record, replies, outside)
 }
@@ -268,7 +268,7 @@ pub fn run_script<
     Outside<S, O, F, E, C, K>,
 )
     ensures ran { RunsScript (outside_told S.left S.faults O.written O.faults F.seen F.faults
-        F.clashes F.first E.seen E.faults E.clashes E.first C.tells C.ahead K.tells K.ahead)
+        F.clashes F.first E.seen E.faults E.clashes E.first C.tells C.ahead)
         outside result.3 result.0 result.2.replies result.1 }
 {
     let (Ok(line_loop), Ok(declarations), Ok(database)) = (

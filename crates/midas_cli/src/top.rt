@@ -82,7 +82,7 @@ pub fn midas<
     // the runs and of their files; or nothing was done where the words found no memory.
     ensures ran { IsRunWords words.now → ((end : ScriptEnd) × (result.0.cause ≡ script_cause end)
         × RunsScript (outside_told S.left S.faults K.written K.faults F.seen F.faults F.clashes
-        F.first E.seen E.faults E.clashes E.first C.tells C.ahead P.tells P.ahead) outside result.1
+        F.first E.seen E.faults E.clashes E.first C.tells C.ahead) outside result.1
         end result.0.file_replies.replies result.0.session)
         ⊎ ((result.0.cause ≡ Cause.NoMemory) × (result.0.session ≡ None)
         × (result.0.file_replies.replies ≡ []) × (result.1 ≡ outside)) }

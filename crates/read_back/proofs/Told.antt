@@ -23,7 +23,7 @@ use Rattle.mid_logger.specs.declared.channel_spec.ChannelSpec.{ChannelSpec}
 use Rattle.odb_runinfo.specs.RunSets.{have_of}
 use Rattle.session_runs.specs.declared.records.FileRecord.{FileRecord}
 use Rattle.session_runs.specs.declared.records.RunRecord.{RunRecord}
-use Rattle.daq_members.specs.Crews.{CrewTold}
+use Rattle.daq_members.specs.Members.{MemberTold}
 use Rattle.session_runs.specs.RunEntries.{start_sheet}
 use Rattle.session_runs.specs.RunsFit.{MainOwn}
 use Rattle.session_setup.specs.Setup.{AreSound, Declared, is_front_id}
@@ -132,6 +132,6 @@ module _ (c : ClosedSession) (moments : (client : ℕ) → List ℕ) (own : Main
 pub reports_back : AnalysisPrinted → OneFileWritten → ReportsReadBack
 reports_back prints one = λ c moments own declared buffers first now run sound tells file report has. prints_report c moments own declared buffers first now run sound tells prints one file report has
 
-pub session_back : {D F K : Type 0} {g : _} (told : CrewTold Generator F K) (r : SessionRecord D g) → ReportsReadBack → SessionReadsBack told r
+pub session_back : {D F : Type 0} {g : _} (told : MemberTold Generator F) (r : SessionRecord D g) → ReportsReadBack → SessionReadsBack told r
 session_back told r back = λ first_files final run_files kept number run at came file report has.
     back _ kept.tells.holds.moments _ final.declared r.buffers (told.read first_files) (told.read run_files) run kept.sound (kept.tells.runs number run at came) file report has

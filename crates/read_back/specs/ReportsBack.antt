@@ -16,7 +16,7 @@ use Rattle.composition.specs.SessionRuns.{SawThrough}
 use Rattle.session_runs.specs.declared.records.FileRecord.{FileRecord}
 use Rattle.session_runs.specs.declared.records.ReportTally.{ReportTally}
 use Rattle.session_runs.specs.declared.records.RunRecord.{RunRecord}
-use Rattle.daq_members.specs.Crews.{CrewTold}
+use Rattle.daq_members.specs.Members.{MemberTold}
 use Rattle.session_runs.specs.RunsFit.{MainOwn}
 use Rattle.session_setup.specs.Setup.{AreSound, Declared}
 use Rattle.session_setup.specs.declared.declared.AnalyzerDeclared.{AnalyzerDeclared}
@@ -78,7 +78,7 @@ ReportsReadBack = (c : ClosedSession) → (moments : (client : ℕ) → List ℕ
     HasFileAndReport declared buffers c.engine run file report → PrintsReport c.files file.name run.run report
 
 -- So it is with each run that came about of a session of which this record is kept.
-abbrev pub SessionReadsBack : {D F K : Type 0} {g : _} → CrewTold Generator F K → SessionRecord D g → Type 0
+abbrev pub SessionReadsBack : {D F : Type 0} {g : _} → MemberTold Generator F → SessionRecord D g → Type 0
 SessionReadsBack {D} {F} told r = (first_files : F) → (final : SessionStage) → (run_files : F) →
     KeepsSession told first_files final run_files r → (number : ℕ) → (run : RunRecord) →
     slice_get r.runs number ≡ Some run → run.outcome ≡ Completed → (file : FileRecord) → (report : Totals) →

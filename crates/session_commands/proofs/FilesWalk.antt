@@ -1,7 +1,7 @@
 -- What the lines of a script keep of the files of the dumps and of what came of the lines that called them, by one walk over the
 -- lines: it is kept by a line that called the files or did not, and maybe where memory ended in one.
 use Rattle.std.proofs.Common.{◌≡◌, ℕ, List, Option, Some, None, ap, sym, ◌∙◌, subst}
-use Rattle.std.specs.Prelude.{◌++◌, ◌⊎◌}
+use Rattle.std.specs.Prelude.{◌++◌}
 use Rattle.std.proofs.Math.Logic.{⊎_elim}
 use Rattle.odb_commands.specs.declared.dump_replies.FileReply.{FileReply}
 use Rattle.odb_commands.specs.WatchCalls.{ClashesIf, FaultsIf}

@@ -17,4 +17,3 @@ pub mod OpenedLaws
 pub mod DeclaringLaws
 pub mod ReplyLaws
 pub mod KeyLaws
-pub mod CrewLaws

@@ -33,7 +33,7 @@ use Rattle.session_runs.specs.declared.on.CurrentRun.{CurrentRun}
 use Rattle.session_runs.specs.declared.replies.RunReply.{RunReply}
 use Rattle.session_runs.specs.declared.replies.RunReply.TheVariants as answer
 use Rattle.session_runs.specs.KeptRuns.{RunsSeen, behind_start}
-use Rattle.session_runs.specs.RunAnswers.{AnswersPause, AnswersResume, AnswersStart, AnswersStop, BeginsRun, ClockTold, CommandPoint, MakesChange, MakesStart, MakesStop, StopsUnsaved}
+use Rattle.session_runs.specs.RunAnswers.{AnswersPause, AnswersResume, AnswersStart, AnswersStop, BeginsRun, ClockTold, CommandPoint, MakesChange, MakesStart, MakesStop}
 use Rattle.console.specs.DatabaseLines.{DoesDatabase}
 use Rattle.session_lines.specs.declared.passed_over.PassedOver.{PassedOver}
 use Rattle.session_lines.specs.NothingSaid.{NothingSaid, own_point}

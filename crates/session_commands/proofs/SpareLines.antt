@@ -1,5 +1,5 @@
 -- No line of a script removes anything of `/Runinfo`, and each that is answered gets the text of the database where it asks for it.
-use Rattle.std.proofs.Common.{◌≡◌, ◌≢◌, ℕ, List, Option, Some, None, ap, sym, subst}
+use Rattle.std.proofs.Common.{◌≡◌, ◌≢◌, ℕ, List, Option, Some, None, ap}
 use Rattle.std.proofs.Math.Logic.{⊎_elim}
 use Rattle.odb_script.specs.declared.commands.Command.{Command}
 use Rattle.odb_script.specs.declared.commands.DatabaseCommand.{DatabaseCommand}

@@ -7,5 +7,4 @@ pub mod Finishing
 pub mod FirstLines
 pub mod FirstStarts
 pub mod MainEnds
-pub mod CrewEnds
 pub mod KeptByScripts

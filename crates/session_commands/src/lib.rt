@@ -3,7 +3,6 @@
 #![tactic(auto)]
 
 mod commands;
-mod crew_end;
 mod declaring;
 mod first;
 mod keys;
@@ -15,7 +14,6 @@ mod script;
 mod side;
 mod unopened;
 
-pub use crew_end::{CrewEnd, play_crew};
 pub use first::{FirstEnd, play_first};
 pub use keys::make_keys;
 pub use main_play::{MainEnd, MainPlay};

@@ -7,7 +7,7 @@ use crate::side::MainSide;
 use console::{Ending, Halt, play_out};
 use daq_io::{Clock, Files, Sink, Source};
 use daq_types::Journal;
-use member_threads::Playing;
+use member_crew::Playing;
 use odb_watch::WatchPort;
 use session_runs::{Rounds, RunRecord, Runs};
 use session_setup::DeclaredLists;

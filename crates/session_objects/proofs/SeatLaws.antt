@@ -7,6 +7,7 @@ use Rattle.buffer_core.specs.Ports.{GotEvent}
 use Rattle.odb_watch.specs.declared.entry.WatchEntry.{WatchEntry}
 use Rattle.member_model.specs.RunEngines.{EngineEntry}
 use Rattle.front_ends.specs.Fronts.{FrontState}
+use Rattle.front_ends.specs.FrontKept.{FrontStands, KeepsMoments}
 use Rattle.frontend_kit.specs.declared.generator.Generator.{Generator}
 use Rattle.analyzers.specs.Analyzers.{AnalyzerState}
 use Rattle.analyzers.specs.AnalyzerKept.{AnalyzerStands, AnalyzerTells}
@@ -36,18 +37,18 @@ seen_same f g engine client name equipment run calls port database = λ j. recor
   database = database j;
 }
 
--- a front-end that made no call stands for its contract, however its parts are called
-pub stands_yet : (client later : ℕ) (name : List ℕ) (equipment : Generator) (front : FrontState Generator) (calls : List EngineEntry) (own : List BufferEntry)
-    (sets : List WatchEntry) → later ≡ client → front ≡ record { equipment = equipment; run = None } → calls ≡ [] → own ≡ [] → sets ≡ [] →
-    FrontMemberStands client name (generator_takes equipment) (generator_makes equipment) None [] [] [] →
-    FrontMemberStands later name (generator_takes front.equipment) (generator_makes front.equipment) front.run calls own sets
-stands_yet client later name equipment front calls own sets same is none_called none_own none_set stands =
-    let A : ℕ → Type 0 = λ n. FrontMemberStands n name (generator_takes front.equipment) (generator_makes front.equipment) front.run calls own sets in
-    let B : FrontState Generator → Type 0 = λ f. FrontMemberStands client name (generator_takes f.equipment) (generator_makes f.equipment) f.run calls own sets in
-    let C : List EngineEntry → Type 0 = λ cs. FrontMemberStands client name (generator_takes equipment) (generator_makes equipment) None cs own sets in
-    let D : List BufferEntry → Type 0 = λ bs. FrontMemberStands client name (generator_takes equipment) (generator_makes equipment) None [] bs sets in
-    let E : List WatchEntry → Type 0 = λ ws. FrontMemberStands client name (generator_takes equipment) (generator_makes equipment) None [] [] ws in
-    subst A (sym same) (subst B (sym is) (subst C (sym none_called) (subst D (sym none_own) (subst E (sym none_set) stands))))
+-- a front-end that made no call keeps its contract, whatever its client number and its name
+pub front_stands_yet : (client : ℕ) (name : List ℕ) (equipment : Generator) (front : FrontState Generator) (calls : List EngineEntry) (own : List BufferEntry)
+    (sets : List WatchEntry) → front ≡ record { equipment = equipment; run = None } → calls ≡ [] → own ≡ [] → sets ≡ [] →
+    FrontStands (generator_takes equipment) (generator_makes equipment) front.run [] [] → KeepsMoments [] [] [] →
+    FrontMemberStands client name (generator_takes front.equipment) (generator_makes front.equipment) front.run calls own sets
+front_stands_yet client name equipment front calls own sets is none_called none_own none_set stands kept =
+    let A : List EngineEntry → Type 0 = λ cs. FrontMemberStands client name (generator_takes front.equipment) (generator_makes front.equipment) front.run cs own sets in
+    let B : List BufferEntry → Type 0 = λ bs. FrontMemberStands client name (generator_takes front.equipment) (generator_makes front.equipment) front.run [] bs sets in
+    let C : List WatchEntry → Type 0 = λ ws. FrontMemberStands client name (generator_takes front.equipment) (generator_makes front.equipment) front.run [] [] ws in
+    let D : Generator → Type 0 = λ q. FrontMemberStands client name (generator_takes q) (generator_makes q) front.run [] [] [] in
+    subst A (sym none_called) (subst B (sym none_own) (subst C (sym none_set)
+    (subst D (sym (ap (λ (f : FrontState Generator). f.equipment) is)) (record { stands = stands; moments = []; kept = kept; told = λ are. refl }))))
 
 -- what is seen of an analyzer is told by its parts
 pub analyzer_same : (a b : AnalyzerSeen) → a.engine ≡ b.engine → a.client ≡ b.client → a.analyzer ≡ b.analyzer → a.calls ≡ b.calls → a.port ≡ b.port → a ≡ b

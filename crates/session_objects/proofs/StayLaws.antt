@@ -10,9 +10,10 @@ use Rattle.session_setup.specs.declared.declared.FrontDeclared.{FrontDeclared}
 use Rattle.mid_logger.specs.declared.channel_spec.ChannelSpec.{ChannelSpec}
 use Rattle.daq_members.specs.FrontSeats.{FrontSeen, IsSameFront}
 use Rattle.daq_members.specs.LoggerSeats.{LoggerSeen, IsSameLogger}
-use Rattle.daq_members.specs.Crews.{CrewSeen, CrewTold, IsSameCrew}
+use Rattle.daq_members.specs.Members.{MemberTold}
+use Rattle.daq_members.specs.Crews.{CrewSeen, IsSameCrew}
 use Rattle.daq_members.specs.SeatedAnalyzers.{AnalyzerSeen, IsSameAnalyzer}
-use Rattle.daq_members.specs.ManyAnalyzers.{AreSameAnalyzers}
+use Rattle.daq_members.specs.Crews.{AreSameAnalyzers}
 use Rattle.loggers.specs.Moments.{IsSameAccess, channel_limit}
 use Rattle.loggers.specs.OtherFiles.{AreDeclared, specs_in}
 use Rattle.loggers.specs.NewLoggers.{new_channel, IsNewChannel}
@@ -104,7 +105,7 @@ module _ {D : Type 0} (objects : SessionObjects) (database : SharedOdb D) where
             port_caller = refl;
           })
 
-  pub members_stay : {F K : Type 0} (fronts : List FrontDeclared) (analyzers : List AnalyzerDeclared) (told : CrewTold Generator F K) (before after : CrewSeen Generator F K) →
+  pub members_stay : {F : Type 0} (fronts : List FrontDeclared) (analyzers : List AnalyzerDeclared) (told : MemberTold Generator F) (before after : CrewSeen Generator F) →
       told.takes ≡ generator_takes → told.makes ≡ generator_makes → IsSameCrew told before after →
       AreMembersOf fronts analyzers objects database before.fronts before.logger before.analyzers →
       AreMembersOf fronts analyzers objects database after.fronts after.logger after.analyzers
@@ -129,9 +130,9 @@ module _ {D : Type 0} (objects : SessionObjects) (database : SharedOdb D) where
           front_stays client declared was front (subst Q makes (subst P takes (same.fronts.each client was front at f))) (m.fronts_are.each client declared was d at)
 
   -- new members are those of the session
-  pub new_are_members : {F K : Type 0} (fronts : List FrontDeclared) (analyzers : List AnalyzerDeclared) (channels : List ChannelSpec) (files : F) (pick : K) (crew : CrewSeen Generator F K) →
-      AreNewMembers fronts analyzers channels objects database files pick crew → AreMembersOf fronts analyzers objects database crew.fronts crew.logger crew.analyzers
-  new_are_members fronts analyzers channels files pick crew n = record {
+  pub new_are_members : {F : Type 0} (fronts : List FrontDeclared) (analyzers : List AnalyzerDeclared) (channels : List ChannelSpec) (files : F) (crew : CrewSeen Generator F) →
+      AreNewMembers fronts analyzers channels objects database files crew → AreMembersOf fronts analyzers objects database crew.fronts crew.logger crew.analyzers
+  new_are_members fronts analyzers channels files crew n = record {
     fronts_are = record {
       many = n.fronts_are.many;
       each = λ client declared front d f. new_is client declared front (n.fronts_are.each client declared front d f);

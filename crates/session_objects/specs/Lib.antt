@@ -1,6 +1,6 @@
 pub mod Rosters
 pub mod Objects
-pub mod Seating
+pub mod Memberships
 pub mod Kept
 pub mod Calls
 pub mod Records

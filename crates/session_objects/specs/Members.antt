@@ -12,8 +12,7 @@ use Rattle.loggers.specs.LoggerFaults.{HasFailed}
 use Rattle.loggers.specs.OtherFiles.{AreDeclared}
 use Rattle.loggers.specs.Reasons.{GivesReasons}
 use Rattle.loggers.specs.declared.logger.Logger.{Logger}
-use Rattle.turn_lock.specs.Passes.{own_entries}
-use Rattle.daq_members.specs.declared.logger_member.LoggerMember.{LoggerMember}
+use Rattle.daq_members.specs.EngineClients.{EngineClientSeen}
 use Rattle.loggers.specs.SlotPulls.{HasEventRoom}
 use Rattle.loggers.specs.LoggerStands.{LoggerStands}
 use Rattle.daq_io.specs.Seen.{Seen}
@@ -36,7 +35,8 @@ use Rattle.daq_members.specs.LoggerSeats.{LoggerSeen}
 use Rattle.analyzers.specs.declared.analyzer_run.EventRequest.{EventRequest}
 use Rattle.analyzers.specs.Analyzers.{AnalyzerState}
 use Rattle.daq_members.specs.SeatedAnalyzers.{AnalyzerSeen}
-use Rattle.daq_members.specs.Crews.{CrewSeen, CrewTold, IsSameCrew}
+use Rattle.daq_members.specs.Members.{MemberTold}
+use Rattle.daq_members.specs.Crews.{CrewSeen, IsSameCrew}
 use Rattle.session_objects.specs.declared.objects.SessionBuffer.{SessionBuffer}
 use Rattle.session_objects.specs.declared.objects.SessionObjects.{SessionObjects}
 use Rattle.session_objects.specs.Objects.{first_analyzer}
@@ -139,15 +139,15 @@ pub record AreMembersOf {D F : Type 0} (fronts : List FrontDeclared) (analyzers 
   pub analyzers_are : AreAnalyzersOf objects (first_analyzer fronts) analyzers seated_analyzers
 
 -- The members of a session stay those of its declarations and objects, whatever turns they take.
-abbrev pub KeepsMembers : (D : Type 0) → {F K : Type 0} → CrewTold Generator F K → Type 0
-KeepsMembers D {F} {K} told = (fronts : List FrontDeclared) → (analyzers : List AnalyzerDeclared) → (objects : SessionObjects) →
-    (shared : SharedOdb D) → (before after : CrewSeen Generator F K) → IsSameCrew told before after →
+abbrev pub KeepsMembers : (D : Type 0) → {F : Type 0} → MemberTold Generator F → Type 0
+KeepsMembers D {F} told = (fronts : List FrontDeclared) → (analyzers : List AnalyzerDeclared) → (objects : SessionObjects) →
+    (shared : SharedOdb D) → (before after : CrewSeen Generator F) → IsSameCrew told before after →
     AreMembersOf fronts analyzers objects shared before.fronts before.logger before.analyzers →
     AreMembersOf fronts analyzers objects shared after.fronts after.logger after.analyzers
 
 -- So does the logger the channels that were declared.
-abbrev pub KeepsChannels : {F K : Type 0} → CrewTold Generator F K → Type 0
-KeepsChannels {F} {K} told = (channels : List ChannelSpec) → (before after : CrewSeen Generator F K) →
+abbrev pub KeepsChannels : {F : Type 0} → MemberTold Generator F → Type 0
+KeepsChannels {F} told = (channels : List ChannelSpec) → (before after : CrewSeen Generator F) →
     IsSameCrew told before after → AreDeclared channels before.logger.slots → AreDeclared channels after.logger.slots
 
 -- what the seat of a front-end shows of its calls
@@ -309,22 +309,21 @@ pub record IsMadeLogger (buffers : List SessionBuffer) (declared : List ChannelS
   pub room : (caller number : ℕ) → HasEventRoom number logger.channels (new_ports buffers caller)
 
 -- The members are those of a session of these declarations, and none made a call.
-pub record AreNewMembers {D F K : Type 0} (fronts : List FrontDeclared) (analyzers : List AnalyzerDeclared) (channels : List ChannelSpec)
-    (objects : SessionObjects) (shared : SharedOdb D) (files : F) (pick : K) (crew : CrewSeen Generator F K) : Type 0 where
+pub record AreNewMembers {D F : Type 0} (fronts : List FrontDeclared) (analyzers : List AnalyzerDeclared) (channels : List ChannelSpec)
+    (objects : SessionObjects) (shared : SharedOdb D) (files : F) (crew : CrewSeen Generator F) : Type 0 where
   pub fronts_are : AreNewFronts objects shared fronts crew.fronts
   pub logger : IsNewLogger objects (length fronts) channels files crew.logger
   pub analyzers_are : AreNewAnalyzers objects (first_analyzer fronts) analyzers crew.analyzers
-  pub has_pick : crew.pick ≡ pick
 
--- The members, before the run files are the logger's: the front-ends; the logger with its place at the engine; what its
+-- The members, before the run files are the logger's: the front-ends; the logger's client at the engine, the logger, and what its
 -- ports tell; and the analyzers.
 pub record AreBareMembers {D : Type 0} (fronts : List FrontDeclared) (analyzers : List AnalyzerDeclared) (channels : List ChannelSpec)
-    (objects : SessionObjects) (shared : SharedOdb D) (seats : List (FrontSeen Generator)) (logger : LoggerMember)
+    (objects : SessionObjects) (shared : SharedOdb D) (seats : List (FrontSeen Generator)) (client : EngineClientSeen) (logger : Logger)
     (accesses : List Access) (seated_analyzers : List AnalyzerSeen) : Type 0 where
   pub fronts_are : AreNewFronts objects shared fronts seats
-  pub made : IsMadeLogger objects.buffers.items channels logger.logger
-  pub engine : logger.seat.engine.now ≡ objects.engine
-  pub is : logger.seat.client ≡ length fronts
-  pub calls : own_entries logger.seat.pass ≡ []
+  pub made : IsMadeLogger objects.buffers.items channels logger
+  pub engine : client.engine ≡ objects.engine
+  pub is : client.client ≡ length fronts
+  pub calls : client.calls ≡ []
   pub ports : accesses ≡ new_ports objects.buffers.items (caller_of_client (length fronts))
   pub analyzers_are : AreNewAnalyzers objects (first_analyzer fronts) analyzers seated_analyzers

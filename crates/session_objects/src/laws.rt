@@ -3,13 +3,13 @@ ghost use Rattle.std.specs.Prelude.{◌<◌, length};
 ghost use Rattle.turn_lock.specs.Passes.{passes_of};
 ghost use Rattle.odb_lock.specs.SharedOdbs.{odb_lock_of};
 ghost use Rattle.session_setup.specs.Setup.{declared_by, AreSound};
-ghost use Rattle.daq_members.specs.Crews.{crew_told};
+ghost use Rattle.daq_members.specs.Members.{member_told};
 ghost use Rattle.session_objects.specs.Objects.{AreObjectsOf, SuitMembers};
 ghost use Rattle.session_objects.specs.Members.{generator_takes, generator_makes, KeepsChannels, KeepsMembers};
 
 use crate::objects::SessionObjects;
-use crate::seats::SessionCrew;
-use daq_io::{Files, Gate, Pick};
+use crate::seats::SessionMembers;
+use daq_io::Files;
 use odb_lock::SharedOdb;
 use odb_tree::Database;
 use session_setup::DeclaredLists;
@@ -29,17 +29,13 @@ pub fn members_suit<D: Database>(
 {}
 
 /// The members of a session stay those of its declarations and objects, whatever turns they take.
-pub fn members_stay<'a, D: Database, F: Files, K: Pick, G: Gate>(
-    _crew: &SessionCrew<'a, D, F, K, G>,
-)
-    ensures { KeepsMembers D (crew_told generator_takes generator_makes F.seen F.faults F.clashes
-        F.first K.tells K.ahead) }
+pub fn members_stay<'a, D: Database, F: Files>(_members: &SessionMembers<'a, D, F>)
+    ensures { KeepsMembers D (member_told generator_takes generator_makes F.seen F.faults F.clashes
+        F.first) }
 {}
 
 /// The logger of a session keeps the channels that were declared, whatever turns the members take.
-pub fn channels_stay<'a, D: Database, F: Files, K: Pick, G: Gate>(
-    _crew: &SessionCrew<'a, D, F, K, G>,
-)
-    ensures { KeepsChannels (crew_told generator_takes generator_makes F.seen F.faults F.clashes
-        F.first K.tells K.ahead) }
+pub fn channels_stay<'a, D: Database, F: Files>(_members: &SessionMembers<'a, D, F>)
+    ensures { KeepsChannels (member_told generator_takes generator_makes F.seen F.faults F.clashes
+        F.first) }
 {}

@@ -5,22 +5,20 @@
 mod closing;
 pub mod laws;
 mod members;
+mod membership;
 mod names;
 mod objects;
 mod opening;
 mod passes;
 mod record;
 mod returning;
-mod seating;
 mod seats;
 
-pub use members::Unmanned;
+pub use membership::Membership;
 pub use names::member_names;
 pub use objects::{SessionBuffer, SessionObjects};
 pub use opening::OpenedObjects;
 pub use passes::{SessionPasses, take_main};
 pub use record::{BufferRecord, BufferRecords, RunRecords, SessionRecord};
 pub use returning::Returned;
-pub use seats::{
-    SessionAnalyzer, SessionAnalyzers, SessionCrew, SessionFront, SessionLogger, SessionParts,
-};
+pub use seats::{SessionAnalyzer, SessionAnalyzers, SessionFront, SessionLogger, SessionMembers};

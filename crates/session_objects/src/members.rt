@@ -1,31 +1,32 @@
 // Making the members of a session.
 ghost use Rattle.std.specs.Prelude.{◌≡◌, ◌<◌, ◌+◌, ◌-◌, [], length, map, min, slice_get, IfOk, OnOk, IfErr};
 ghost use Rattle.daq_types.specs.Callers.{caller_of_client};
-ghost use Rattle.turn_lock.specs.Passes.{own_entries};
 ghost use Rattle.buffer_lock.specs.SharedPorts.{access_by};
 ghost use Rattle.odb_lock.specs.SharedAccesses.{access_by_pass};
 ghost use Rattle.analyzers.specs.AnalyzerKept.{AnalyzerStands, AnalyzerTells};
 ghost use Rattle.loggers.specs.NewLoggers.{HaveNumbers};
 ghost use Rattle.loggers.specs.OtherFiles.{AreDeclared};
 ghost use Rattle.session_objects.specs.Objects.{first_analyzer, HaveFrontIds, HaveBuffers, SuitMembers};
-ghost use Rattle.session_objects.specs.Seating.{CanBeSeated};
+ghost use Rattle.daq_members.specs.Crews.{crew_seen};
+ghost use Rattle.session_objects.specs.Memberships.{CanBeSeated};
 ghost use Rattle.session_objects.specs.Kept.{out_to_fronts, out_to_ports, out_to_logger, out_to_analyzers, out_to_members, HasFreshBut};
 ghost use Rattle.session_objects.specs.Members.{ring_window, new_port, new_access, generator_of, event_room_of, event_rooms, idle_analyzer, IsNewFrontPort, IsNewAnalyzerPort, IsNewFrontAt, AreNewFronts, IsNewAnalyzerAt, AreNewAnalyzers, IsMadeLogger, AreBareMembers, AreNewMembers, AreMembersOf};
 
+use crate::membership::Membership;
 use crate::objects::{SessionBuffer, SessionObjects};
 use crate::passes::{SessionPasses, take_fresh};
-use crate::seating::Seating;
-use crate::seats::{SessionAnalyzer, SessionAnalyzers, SessionCrew, SessionFront};
+use crate::seats::{SessionAnalyzer, SessionAnalyzers, SessionFront, SessionMembers};
 use analyzers::Analyzer;
 use buffer_core::BufferPort;
 use buffer_lock::SharedPort;
-use daq_io::{Files, Gate, Pick};
+use daq_io::Files;
 use daq_members::{
-    AnalyzerMember, AnalyzerSeat, AnalyzerSeats, Crew, FrontMember, FrontSeat, LoggerMember,
-    LoggerSeat, Seat,
+    AnalyzerMember, AnalyzerMembers, EngineClient, FrontMember, LoggerMember, MembersByKind,
+    SentKey,
 };
 use daq_types::{BoundedList, Caller, NoMemory};
 use event::MAX_DATA;
+use front_ends::FrontEnd;
 use frontend_kit::Generator;
 use loggers::{ChannelSpecs, Logger, Ports};
 use mid_logger::ChannelSpec;
@@ -40,38 +41,32 @@ use turn_lock::Machine;
 /// How many bytes of its slot in a buffer are not an event's data.
 const SLOT_HEAD: u32 = 24;
 
-/// The members could not be made for want of memory: what they were to have.
-#[derive(Drop)]
-pub struct Unmanned<F: Files, K: Pick> {
-    pub files: F,
-    pub pick: K,
-}
-
-/// What a front-end calls by: its place at the engine, its port to its buffer, and its access to the database.
+/// What a front-end calls by: its client at the engine, its port to its buffer, and its access to the database.
 #[derive(Drop)]
 struct FrontPlaces<'a, D: Database>
 where
     LockedDatabase<D>: Machine<State = WatchedSeen, Entry = WatchEntry>,
 {
-    seat: Seat<'a>,
+    engine: EngineClient<'a>,
     port: SharedPort<'a, RingBuffer>,
     access: SharedAccess<'a, D>,
 }
 
-/// What an analyzer calls by: its place at the engine, and its port to its buffer.
+/// What an analyzer calls by: its client at the engine, and its port to its buffer.
 #[derive(Drop)]
 struct AnalyzerPlaces<'a> {
-    seat: Seat<'a>,
+    engine: EngineClient<'a>,
     port: SharedPort<'a, RingBuffer>,
 }
 
-/// The members, but for the run files and the pick.
+/// The members, but for the run files and the pick: the logger is yet its client at the engine, the logger and its ports.
 #[derive(Drop)]
 struct BareMembers<'a, P: BufferPort, A: WatchPort> {
-    fronts: Vec<FrontSeat<'a, Generator, P, A>>,
-    logger: LoggerMember<'a>,
+    fronts: Vec<FrontMember<'a, Generator, P, A>>,
+    engine: EngineClient<'a>,
+    logger: Logger,
     ports: Ports<P>,
-    analyzers: AnalyzerSeats<'a, P>,
+    analyzers: AnalyzerMembers<'a, P>,
 }
 
 /// The equipment that was declared.
@@ -143,7 +138,7 @@ fn make_analyzer(
     Ok(analyzer)
 }
 
-impl<'a, 's, D: Database> Seating<'a, 's, D> {
+impl<'a, 's, D: Database> Membership<'a, 's, D> {
     /// The places of the front-end with this client number, with its passes of its objects.
     fn place_front(&self, client: u32, passes: &mut SessionPasses<D>) -> FrontPlaces<'a, D>
         requires client { client < length self.now.fronts.now }
@@ -153,9 +148,9 @@ impl<'a, 's, D: Database> Seating<'a, 's, D> {
             self.now.database.now passes.old }
         ensures out { HasFreshBut (out_to_fronts self.now.fronts.now (client + 1))
             self.now.objects.now self.now.database.now passes.new }
-        ensures client { result.seat.client ≡ client }
-        ensures engine { result.seat.engine.now ≡ self.now.objects.now.engine }
-        ensures calls { own_entries result.seat.pass ≡ [] }
+        ensures client { result.engine.client ≡ client }
+        ensures engine { result.engine.engine ≡ self.now.objects.now.engine }
+        ensures calls { result.engine.calls ≡ [] }
         ensures port { IsNewFrontPort self.now.objects.now.buffers.items self.now.fronts.now client
             (access_by ring_window result.port) }
         ensures access { access_by_pass result.access
@@ -166,12 +161,16 @@ impl<'a, 's, D: Database> Seating<'a, 's, D> {
         let pass = passes.take_of_buffer(number, caller);
         let port = SharedPort::new(&self.objects.buffers[number].shared, pass);
         let access = SharedAccess::new(self.database, take_fresh(&mut passes.database, caller));
-        let seat = Seat::new(
+        let engine = EngineClient::new(
             &self.objects.engine,
             take_fresh(&mut passes.engine, caller),
             client,
         );
-        FrontPlaces { seat, port, access }
+        FrontPlaces {
+            engine,
+            port,
+            access,
+        }
     }
 
     /// The front-end with this client number.
@@ -192,10 +191,15 @@ impl<'a, 's, D: Database> Seating<'a, 's, D> {
         ensures front { IfOk result (IsNewFrontAt self.now.objects.now self.now.database.now
             self.now.fronts.now client) }
     {
-        let FrontPlaces { seat, port, access } = self.place_front(client, passes);
+        let FrontPlaces {
+            engine,
+            port,
+            access,
+        } = self.place_front(client, passes);
         let front = &self.fronts[client as usize];
-        let member = FrontMember::new(alloc, seat, front.name, generator_of(front))?;
-        Ok(FrontSeat::new(member, port, access))
+        let key = SentKey::new(alloc, front.name)?;
+        let front = FrontEnd::new(alloc, generator_of(front))?;
+        Ok(FrontMember::new(engine, key, front, port, access))
     }
 
     /// All front-ends.
@@ -248,8 +252,8 @@ impl<'a, 's, D: Database> Seating<'a, 's, D> {
         Ok(ports)
     }
 
-    /// The logger's place at the engine, with its pass of that.
-    fn place_logger(&self, passes: &mut SessionPasses<D>) -> Seat<'a>
+    /// The logger's client at the engine, with its pass of that.
+    fn place_logger(&self, passes: &mut SessionPasses<D>) -> EngineClient<'a>
         requires seats { CanBeSeated self.now.fronts.now self.now.analyzers.now self.now.objects.now
             self.now.database.now }
         requires out { HasFreshBut (out_to_ports self.now.fronts.now
@@ -259,13 +263,13 @@ impl<'a, 's, D: Database> Seating<'a, 's, D> {
             (length self.now.objects.now.buffers.items)) self.now.objects.now self.now.database.now
             passes.new }
         ensures client { result.client ≡ length self.now.fronts.now }
-        ensures engine { result.engine.now ≡ self.now.objects.now.engine }
-        ensures calls { own_entries result.pass ≡ [] }
+        ensures engine { result.engine ≡ self.now.objects.now.engine }
+        ensures calls { result.calls ≡ [] }
     {
         let client = self.fronts.len() as u32;
         let caller = Caller::of_client(client).number();
         let pass = take_fresh(&mut passes.engine, caller);
-        Seat::new(&self.objects.engine, pass, client)
+        EngineClient::new(&self.objects.engine, pass, client)
     }
 
     /// The places of the analyzer at this place of the list, with its passes of its objects.
@@ -279,9 +283,9 @@ impl<'a, 's, D: Database> Seating<'a, 's, D> {
         ensures out { HasFreshBut (out_to_analyzers self.now.fronts.now self.now.analyzers.now
             (length self.now.objects.now.buffers.items) (place + 1)) self.now.objects.now
             self.now.database.now passes.new }
-        ensures client { result.seat.client ≡ first_analyzer self.now.fronts.now + place }
-        ensures engine { result.seat.engine.now ≡ self.now.objects.now.engine }
-        ensures calls { own_entries result.seat.pass ≡ [] }
+        ensures client { result.engine.client ≡ first_analyzer self.now.fronts.now + place }
+        ensures engine { result.engine.engine ≡ self.now.objects.now.engine }
+        ensures calls { result.engine.calls ≡ [] }
         ensures port { IsNewAnalyzerPort self.now.objects.now.buffers.items self.now.analyzers.now
             place (first_analyzer self.now.fronts.now + place) (access_by ring_window result.port) }
     {
@@ -291,8 +295,8 @@ impl<'a, 's, D: Database> Seating<'a, 's, D> {
         let pass = passes.take_of_buffer(number, caller);
         let port = SharedPort::new(&self.objects.buffers[number].shared, pass);
         let pass = take_fresh(&mut passes.engine, caller);
-        let seat = Seat::new(&self.objects.engine, pass, client);
-        AnalyzerPlaces { seat, port }
+        let engine = EngineClient::new(&self.objects.engine, pass, client);
+        AnalyzerPlaces { engine, port }
     }
 
     /// The analyzer at this place of the list.
@@ -319,9 +323,8 @@ impl<'a, 's, D: Database> Seating<'a, 's, D> {
             &self.objects.buffers,
             &self.analyzers[place as usize],
         )?;
-        let AnalyzerPlaces { seat, port } = self.place_analyzer(place, passes);
-        let member = AnalyzerMember::new(seat, analyzer);
-        Ok(AnalyzerSeat::new(member, port))
+        let AnalyzerPlaces { engine, port } = self.place_analyzer(place, passes);
+        Ok(AnalyzerMember::new(engine, analyzer, port))
     }
 
     /// All analyzers.
@@ -365,63 +368,59 @@ impl<'a, 's, D: Database> Seating<'a, 's, D> {
             self.now.database.now passes.new) }
         ensures members { IfOk result (λ bare. AreBareMembers self.now.fronts.now
             self.now.analyzers.now channels self.now.objects.now self.now.database.now
-            bare.fronts.items bare.logger (map (access_by ring_window) bare.ports) bare.analyzers) }
+            bare.fronts.items bare.engine bare.logger (map (access_by ring_window) bare.ports)
+            bare.analyzers) }
     {
         let logger = make_logger(alloc, &self.objects.buffers, channels)?;
         let fronts = self.seat_fronts(alloc, passes)?;
         let ports = self.open_ports(alloc, passes)?;
-        let seat = self.place_logger(passes);
+        let engine = self.place_logger(passes);
         let analyzers = self.seat_analyzers(alloc, passes)?;
         Ok(BareMembers {
             fronts,
-            logger: LoggerMember::new(seat, logger),
+            engine,
+            logger,
             ports,
             analyzers,
         })
     }
-}
 
-impl SessionObjects {
-    /// The members of a session of these declarations, none of which made a call: its front-ends, in their order, the logger
-    /// with these channels, and its analyzers, in their order. Their passes are taken out of those that are kept. The run
-    /// files and the pick come back where memory is wanting for the members.
-    pub fn crew<'a, D: Database, F: Files, K: Pick, G: Gate>(
-        &'a self,
+    /// The members of a session, none of which made a call: its front-ends, in their order, the logger with these channels, and
+    /// its analyzers, in their order. Their passes are taken out of those that are kept. The run files come back where memory is
+    /// wanting for the members.
+    pub fn members<F: Files>(
+        &self,
         alloc: Global,
-        database: &'a SharedOdb<D>,
-        declared: &[FrontDeclared],
-        analyzers: &[AnalyzerDeclared],
         channels: ChannelSpecs,
         passes: &mut SessionPasses<D>,
         files: F,
-        pick: K,
-        gate: &'a G,
-    ) -> Result<SessionCrew<'a, D, F, K, G>, Unmanned<F, K>>
-        requires suit { SuitMembers declared.now analyzers.now channels self.now database.now }
-        requires out { HasFreshBut (out_to_fronts declared.now 0) self.now database.now
-            passes.old }
-        ensures members { IfOk result (λ crew. AreNewMembers declared.now analyzers.now channels
-            self.now database.now files pick crew) }
-        ensures are { IfOk result (λ crew. AreMembersOf declared.now analyzers.now self.now
-            database.now crew.fronts crew.logger crew.analyzers) }
-        ensures channels { IfOk result (λ crew. AreDeclared channels crew.logger.slots) }
-        ensures out { OnOk result (HasFreshBut (out_to_members declared.now analyzers.now
-            (length self.now.buffers.items)) self.now database.now passes.new) }
-        ensures files { IfErr result (λ unmanned. unmanned.files ≡ files) }
-        ensures pick { IfErr result (λ unmanned. unmanned.pick ≡ pick) }
+    ) -> Result<SessionMembers<'a, D, F>, F>
+        requires suit { SuitMembers self.now.fronts.now self.now.analyzers.now channels
+            self.now.objects.now self.now.database.now }
+        requires out { HasFreshBut (out_to_fronts self.now.fronts.now 0) self.now.objects.now
+            self.now.database.now passes.old }
+        ensures members { IfOk result (λ members. AreNewMembers self.now.fronts.now
+            self.now.analyzers.now channels self.now.objects.now self.now.database.now files
+            (crew_seen members.fronts.items members.logger members.analyzers)) }
+        ensures are { IfOk result (λ members. AreMembersOf self.now.fronts.now
+            self.now.analyzers.now self.now.objects.now self.now.database.now members.fronts.items
+            members.logger members.analyzers) }
+        ensures channels { IfOk result (λ members. AreDeclared channels members.logger.slots) }
+        ensures out { OnOk result (HasFreshBut (out_to_members self.now.fronts.now
+            self.now.analyzers.now (length self.now.objects.now.buffers.items)) self.now.objects.now
+            self.now.database.now passes.new) }
+        ensures files { IfErr result (λ back. back ≡ files) }
     {
-        let seating = Seating {
-            objects: self,
-            database,
-            fronts: declared,
-            analyzers,
-        };
-        match seating.bare_members(alloc, channels, passes) {
+        match self.bare_members(alloc, channels, passes) {
             Ok(bare) => {
-                let logger = LoggerSeat::new(bare.logger, bare.ports, files);
-                Ok(Crew::new(bare.fronts, logger, bare.analyzers, pick, gate))
+                let logger = LoggerMember::new(bare.engine, bare.logger, bare.ports, files);
+                Ok(MembersByKind {
+                    fronts: bare.fronts,
+                    logger,
+                    analyzers: bare.analyzers,
+                })
             }
-            Err(NoMemory) => Err(Unmanned { files, pick }),
+            Err(NoMemory) => Err(files),
         }
     }
 }

@@ -12,13 +12,14 @@ ghost use Rattle.session_objects.specs.Kept.{out_to_fronts, out_to_ports, out_to
 ghost use Rattle.session_objects.specs.Records.{HasCallsBut, HasCalls};
 ghost use Rattle.session_objects.specs.Members.{ring_window, ArePortsTo, IsFrontAt, AreFrontsOf, IsLoggerOf, IsAnalyzerAt, AreAnalyzersOf, AreMembersOf, front_calls, analyzer_calls, session_calls};
 
-use crate::objects::SessionObjects;
+use crate::membership::Membership;
 use crate::passes::SessionPasses;
-use crate::seating::Seating;
-use crate::seats::{SessionAnalyzer, SessionAnalyzers, SessionFront, SessionLogger, SessionParts};
+use crate::seats::{
+    SessionAnalyzer, SessionAnalyzers, SessionFront, SessionLogger, SessionMembers,
+};
 use buffer_lock::SharedPort;
-use daq_io::{Files, Pick};
-use daq_members::{AnalyzerParts, CrewParts, FrontParts, LoggerParts};
+use daq_io::Files;
+use daq_members::{AnalyzerParts, FrontParts, LoggerParts, MembersByKind};
 use loggers::Ports;
 use odb_lock::{LockedDatabase, OdbPass, SharedOdb, WatchedSeen};
 use odb_tree::Database;
@@ -28,18 +29,17 @@ use session_setup::{AnalyzerDeclared, FrontDeclared};
 use transition_lock::EnginePass;
 use turn_lock::Machine;
 
-/// What comes back from the members of a session: all passes of its objects, the run files and the pick.
+/// What comes back from the members of a session: all passes of its objects, and the run files.
 #[derive(Drop)]
-pub struct Returned<D: Database, F: Files, K: Pick>
+pub struct Returned<D: Database, F: Files>
 where
     LockedDatabase<D>: Machine<State = WatchedSeen, Entry = WatchEntry>,
 {
     pub passes: SessionPasses<D>,
     pub files: F,
-    pub pick: K,
 }
 
-impl<'a, 's, D: Database> Seating<'a, 's, D> {
+impl<'a, 's, D: Database> Membership<'a, 's, D> {
     /// Takes the passes of the front-end with this client number back, which is the last one that has them.
     fn take_back_front(
         &self,
@@ -177,13 +177,13 @@ impl<'a, 's, D: Database> Seating<'a, 's, D> {
     }
 
     /// Takes all passes back, by which these calls were made.
-    fn take_back_all<F: Files, K: Pick>(
+    fn take_back_all<F: Files>(
         &self,
         mut passes: SessionPasses<D>,
-        parts: SessionParts<'a, D, F, K>,
+        parts: SessionMembers<'a, D, F>,
         main_engine: EnginePass,
         main_database: OdbPass<D>,
-    ) -> Returned<D, F, K>
+    ) -> Returned<D, F>
         ghost calls: { SessionCalls }
         requires calls { calls ≡ session_calls (own_entries main_engine) (seen_by main_database)
             parts.fronts.items parts.logger parts.analyzers }
@@ -200,59 +200,45 @@ impl<'a, 's, D: Database> Seating<'a, 's, D> {
         ensures calls { HasCalls self.now.fronts.now self.now.analyzers.now calls
             self.now.objects.now self.now.database.now result.passes }
         ensures files { result.files ≡ parts.entry.logger.files }
-        ensures pick { result.pick ≡ parts.entry.pick }
     {
-        let CrewParts {
+        let MembersByKind {
             fronts,
             logger,
             analyzers: seats,
-            pick,
         } = parts;
         self.take_back_analyzers(seats, &mut passes);
         let files = self.take_back_logger(logger, &mut passes);
         self.take_back_fronts(fronts, &mut passes);
         passes.put_to_engine(main_engine);
         passes.put_to_database(main_database);
-        Returned {
-            passes,
-            files,
-            pick,
-        }
+        Returned { passes, files }
     }
-}
 
-impl SessionObjects {
     /// Takes all passes of the session's objects back: from the members, which are behind their last turns, and the main
     /// thread's own. Takes no memory.
-    pub fn take_back<'a, D: Database, F: Files, K: Pick>(
+    pub fn take_back<F: Files>(
         &self,
-        database: &SharedOdb<D>,
-        declared: &[FrontDeclared],
-        analyzers: &[AnalyzerDeclared],
         passes: SessionPasses<D>,
-        parts: SessionParts<'a, D, F, K>,
+        parts: SessionMembers<'a, D, F>,
         main_engine: EnginePass,
         main_database: OdbPass<D>,
-    ) -> Returned<D, F, K>
-        requires callers { HaveCallers declared.now analyzers.now self.now database.now }
-        requires members { AreMembersOf declared.now analyzers.now self.now database.now
-            parts.fronts.items parts.logger parts.analyzers }
-        requires out { HasFreshBut (out_to_members declared.now analyzers.now
-            (length self.now.buffers.items)) self.now database.now passes }
-        requires engine { IsMainPass (engine_lock_of self.now.engine) main_engine }
-        requires database { IsMainPass (odb_lock_of database.now) main_database }
-        ensures calls { HasCalls declared.now analyzers.now (session_calls (own_entries main_engine)
-            (seen_by main_database) parts.entry.fronts.items parts.entry.logger
-            parts.entry.analyzers) self.now database.now result.passes }
+    ) -> Returned<D, F>
+        requires callers { HaveCallers self.now.fronts.now self.now.analyzers.now
+            self.now.objects.now self.now.database.now }
+        requires members { AreMembersOf self.now.fronts.now self.now.analyzers.now
+            self.now.objects.now self.now.database.now parts.fronts.items parts.logger
+            parts.analyzers }
+        requires out { HasFreshBut (out_to_members self.now.fronts.now self.now.analyzers.now
+            (length self.now.objects.now.buffers.items)) self.now.objects.now self.now.database.now
+            passes }
+        requires engine { IsMainPass (engine_lock_of self.now.objects.now.engine) main_engine }
+        requires database { IsMainPass (odb_lock_of self.now.database.now) main_database }
+        ensures calls { HasCalls self.now.fronts.now self.now.analyzers.now (session_calls
+            (own_entries main_engine) (seen_by main_database) parts.entry.fronts.items
+            parts.entry.logger parts.entry.analyzers) self.now.objects.now self.now.database.now
+            result.passes }
         ensures files { result.files ≡ parts.entry.logger.files }
-        ensures pick { result.pick ≡ parts.entry.pick }
     {
-        let seating = Seating {
-            objects: self,
-            database,
-            fronts: declared,
-            analyzers,
-        };
-        seating.take_back_all(passes, parts, main_engine, main_database)
+        self.take_back_all(passes, parts, main_engine, main_database)
     }
 }

@@ -1,8 +1,63 @@
-use Rattle.std.proofs.Common.{sym}
+use Rattle.std.specs.Prelude.{◌≡◌, map, refl}
+use Rattle.std.proofs.Common.{subst}
+use Rattle.loggers.specs.OtherFiles.{specs_in}
+use Rattle.daq_members.specs.LoggerSeats.{LoggerSeen, IsSameLogger, logger_seen}
+use Rattle.daq_members.proofs.LoggerSeatLaws.{known_before, caller_kept, begun_mapped, begun_read}
+use Rattle.daq_members.proofs.OtherFilesKept.{LoggerLeaves, specs_stay, others_kept}
+use Rattle.daq_members.proofs.LoggerReasons.{ReasonLaws, reasons_kept}
+use Rattle.daq_members.proofs.LoggerNames.{NameLaws, names_stay}
 use Rattle.daq_members.proofs.logger_member.LoggerMember.turn.Goals as goal
 
-pub returns-clause-takes : goal.returns-clause-takes
-returns-clause-takes g c = c.go_on.ensures.takes c.args.self.now.seat (record { client = c.poll-reply.ensures.client; calls = c.poll-reply.ensures.asked; owed_is = sym c.args.self.now.seat.owed_is })
+pub take_turn-requires-clause-begun : goal.take_turn-requires-clause-begun
+take_turn-requires-clause-begun g c = begun_read g.P.BufferPort.access c.self.inside.ports _ c.self.invariant.seated.begun
+
+pub returns-clause-same : goal.returns-clause-same
+returns-clause-same g c =
+    let laws : LoggerLeaves = record { turns = c.other_files.ensures.turns; pulls = c.other_files.ensures.pulls; finishes = c.other_files.ensures.finishes } in
+    let stay : specs_in c.take_turn.new.logger.channels ≡ specs_in c.self.inside.logger.channels = specs_stay laws _ c.take_turn.ensures.takes c.self.invariant.seated.ready in
+    let later : LoggerSeen _ = logger_seen c.take_turn.new.engine c.take_turn.new.logger (map g.P.BufferPort.access c.take_turn.new.ports) c.take_turn.new.files c.self.inside.first.value in
+    subst (λ (before : LoggerSeen _). IsSameLogger before later) c.self.view_is
+    (record {
+      engine = c.take_turn.ensures.engine;
+      client = c.take_turn.ensures.client;
+      ports = c.take_turn.ensures.same;
+      specs = stay;
+      first = refl;
+    })
+
+pub invariant_of-self : goal.invariant_of-self
+invariant_of-self g c =
+    let before = c.self.invariant.seated in
+    let did = c.take_turn.ensures in
+    let laws : LoggerLeaves = record { turns = c.other_files.ensures.turns; pulls = c.other_files.ensures.pulls; finishes = c.other_files.ensures.finishes } in
+    let names : NameLaws = record {
+      turns = c.names_kept.ensures.turns;
+      pulls = c.names_kept.ensures.pulls;
+      finishes = c.names_kept.ensures.finishes;
+      stopped = c.names_kept.ensures.stopped;
+      still_stopped = c.names_kept.ensures.still_stopped;
+      leave = c.other_files.ensures.pulls;
+    } in
+    let reasons : ReasonLaws = record { turns = c.reasons_given.ensures.turns; pulls = c.reasons_given.ensures.pulls; finishes = c.reasons_given.ensures.finishes } in
+    record {
+      seated = record {
+        speaks = did.speaks;
+        caller = rw did.client (caller_kept _ _ _ did.same before.caller);
+        ready = did.ready;
+        room = did.room;
+        idle = did.idle;
+        begun = begun_mapped g.P.BufferPort.access c.take_turn.new.ports _ did.begun;
+        small = did.small;
+        stands = λ none. rw did.client (did.keeps none (before.stands (known_before c.still_known.ensures.turns c.still_known.ensures.pulls _ did.takes none)));
+        others = λ none.
+            let known = known_before c.still_known.ensures.turns c.still_known.ensures.pulls _ did.takes none in
+            rw did.client (others_kept laws _ _ did.takes before.ready (before.stands known) (before.others known));
+      };
+      reasons = rw did.client (reasons_kept reasons _ _ did.takes c.self.invariant.reasons);
+      names = λ none.
+          let known = known_before c.still_known.ensures.turns c.still_known.ensures.pulls _ did.takes none in
+          rw did.client (names_stay names _ _ did.takes before.ready before.idle (before.stands known) c.self.invariant.reasons (c.self.invariant.names known));
+    }
 
 pub returns-clause-keeps : goal.returns-clause-keeps
-returns-clause-keeps g c = c.go_on.ensures.keeps c.args.self.now.seat (record { client = c.poll-reply.ensures.client; calls = c.poll-reply.ensures.asked; owed_is = sym c.args.self.now.seat.owed_is })
+returns-clause-keeps g c = invariant_of-self g c

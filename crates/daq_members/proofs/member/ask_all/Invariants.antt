@@ -1,0 +1,8 @@
+-- So far each member was asked.
+use Rattle.std.specs.Prelude.{All, take}
+use Rattle.daq_members.specs.Members.{KeepsContract, member_told}
+use Rattle.daq_members.proofs.member.ask_all.Given as goal
+
+abbrev pub invariant-loop-member : goal.invariant-loop-member
+invariant-loop-member g l =
+    All (KeepsContract (member_told g.E.Equipment.takes g.E.Equipment.makes g.F.Files.seen g.F.Files.faults g.F.Files.clashes g.F.Files.first)) (take l.member-index l.members)

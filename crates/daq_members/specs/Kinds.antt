@@ -1,0 +1,10 @@
+-- A member by its kind, as it is seen.
+use Rattle.daq_members.specs.declared.member.MemberKind.{MemberKind}
+use Rattle.daq_members.specs.declared.member.MemberKind.TheVariants.{FrontEnd as FrontKind, Logger as LoggerKind, Analyzer as AnalyzerKind}
+use Rattle.daq_members.specs.Members.{MemberSeen, FrontEnd, Logger, Analyzer}
+
+-- what is seen of a member of this kind
+abbrev pub seen_of : {E P D F : Type 0} → MemberKind E P D F → MemberSeen E F
+seen_of (FrontKind front) = FrontEnd front
+seen_of (LoggerKind logger) = Logger logger
+seen_of (AnalyzerKind analyzer) = Analyzer analyzer

@@ -1,0 +1,125 @@
+// A member of a session, of whatever kind it is.
+ghost use Rattle.std.specs.Prelude.{◌≡◌, All};
+ghost use Rattle.daq_members.specs.Members.{KeepsContract, TurnsMember, client_of, member_told};
+
+use crate::{AnalyzerMember, FrontMember, LoggerMember};
+use buffer_core::BufferPort;
+use daq_io::{Files, Gate};
+use front_ends::Equipment;
+use member_crew as turns;
+use member_crew::Turned;
+use odb_watch::WatchPort;
+use std::marker::Model;
+use std::sync::Wait;
+
+/// The kinds of members.
+#[derive(Drop)]
+pub enum MemberKind<'a, E: Equipment, P: BufferPort, D: WatchPort, F: Files> {
+    FrontEnd(FrontMember<'a, E, P, D>),
+    Logger(LoggerMember<'a, P, F>),
+    Analyzer(AnalyzerMember<'a, P>),
+}
+
+/// A member of a session: a front-end, the logger or an analyzer. It keeps its contract at every moment.
+#[derive(Drop)]
+pub struct Member<'a, E: Equipment, P: BufferPort, D: WatchPort, F: Files> {
+    kind: MemberKind<'a, E, P, D, F>,
+}
+
+impl<'a, E: Equipment, P: BufferPort, D: WatchPort, F: Files> Model for Member<'a, E, P, D, F> {
+    ghost use Rattle.daq_members.specs.Members.{MemberSeen};
+
+    ghost Value = { MemberSeen E F };
+
+    ghost use Rattle.daq_members.specs.Members.{KeepsContract, member_told};
+    ghost use Rattle.daq_members.specs.Kinds.{seen_of};
+
+    ghost view = { λ m. seen_of m.kind };
+
+    ghost invariant = { λ m. KeepsContract
+        (member_told E.takes E.makes F.seen F.faults F.clashes F.first) (seen_of m.kind) };
+}
+
+impl<'a, E: Equipment, P: BufferPort, D: WatchPort, F: Files> MemberKind<'a, E, P, D, F> {
+    ghost use Rattle.daq_members.specs.Kinds.{seen_of};
+
+    /// The member's client number. It keeps its contract at every moment.
+    pub fn client(&self) -> u32
+        ensures number { result ≡ client_of (seen_of self.now) }
+        ensures keeps { KeepsContract
+            (member_told E.takes E.makes F.seen F.faults F.clashes F.first) (seen_of self.now) }
+    {
+        match self {
+            MemberKind::FrontEnd(front) => front.client(),
+            MemberKind::Logger(logger) => logger.client(),
+            MemberKind::Analyzer(analyzer) => analyzer.client(),
+        }
+    }
+}
+
+impl<'a, E: Equipment, P: BufferPort, D: WatchPort, F: Files> Member<'a, E, P, D, F> {
+    ghost use Rattle.daq_members.specs.Kinds.{seen_of};
+
+    /// The member of this kind.
+    pub fn new(kind: MemberKind<'a, E, P, D, F>) -> Member<'a, E, P, D, F>
+        ensures { result ≡ seen_of kind.entry }
+    {
+        kind.client();
+        Member { kind }
+    }
+
+    /// The member's client number. It keeps its contract at every moment.
+    pub fn client(&self) -> u32
+        ensures number { result ≡ client_of self.now }
+        ensures keeps { KeepsContract
+            (member_told E.takes E.makes F.seen F.faults F.clashes F.first) self.now }
+    {
+        self.kind.client()
+    }
+
+    /// One turn, by the member's kind.
+    pub fn turn<R: Wait, G: Gate>(&mut self, rt: &R, gate: &G) -> Turned
+        ensures turns { TurnsMember
+            (member_told E.takes E.makes F.seen F.faults F.clashes F.first) self.old self.new result }
+        ensures keeps { KeepsContract
+            (member_told E.takes E.makes F.seen F.faults F.clashes F.first) self.new }
+    {
+        match &mut self.kind {
+            MemberKind::FrontEnd(front) => front.turn(rt, gate),
+            MemberKind::Logger(logger) => logger.turn(rt, gate),
+            MemberKind::Analyzer(analyzer) => analyzer.turn(rt, gate),
+        }
+    }
+
+    /// The member by its kind, given back.
+    pub fn into_kind(self) -> MemberKind<'a, E, P, D, F>
+        ensures kind { seen_of result ≡ self.entry }
+        ensures keeps { KeepsContract
+            (member_told E.takes E.makes F.seen F.faults F.clashes F.first) self.entry }
+    {
+        self.kind
+    }
+}
+
+impl<'a, E: Equipment, P: BufferPort, D: WatchPort, F: Files> turns::Member
+    for Member<'a, E, P, D, F> {
+    ghost use Rattle.daq_members.specs.Members.{TurnsMember, member_told};
+
+    ghost turns = { TurnsMember (member_told E.takes E.makes F.seen F.faults F.clashes F.first) };
+
+    fn turn<R: Wait, G: Gate>(&mut self, rt: &R, gate: &G) -> Turned {
+        self.turn(rt, gate)
+    }
+}
+
+/// Learns what each of these members keeps.
+pub fn ask_all<'a, E: Equipment, P: BufferPort, D: WatchPort, F: Files>(
+    members: &[Member<'a, E, P, D, F>],
+)
+    ensures { All (KeepsContract (member_told E.takes E.makes F.seen F.faults F.clashes F.first))
+        members.now }
+{
+    for member in members {
+        member.client();
+    }
+}

@@ -1,0 +1,19 @@
+//! What the members of a session keep, however many turns they have. Each function does nothing, and its contract is the law.
+ghost use Rattle.daq_members.specs.Members.{member_told};
+ghost use Rattle.daq_members.specs.Stay.{MembersStay};
+
+use crate::member::Member;
+use buffer_core::BufferPort;
+use daq_io::Files;
+use front_ends::Equipment;
+use loggers::laws as logger_laws;
+use odb_watch::WatchPort;
+
+/// Each member stays the same one, however many turns it has, and the logger notes each fault of the run files in its turns.
+pub fn members_stay<'a, E: Equipment, P: BufferPort, D: WatchPort, F: Files>(
+    _members: &[Member<'a, E, P, D, F>],
+)
+    ensures { MembersStay (member_told E.takes E.makes F.seen F.faults F.clashes F.first) }
+{
+    logger_laws::faults_noted();
+}

@@ -1,0 +1,191 @@
+-- A crew behind the turns of a round, and behind rounds.
+use Rattle.std.specs.Prelude.{◌≡◌, ◌≢◌, ℕ, zero, suc, ◌+◌, ◌-◌, ◌<◌, ◌≤◌, ◌%◌, Bool, IsTrue, List, [], ◌∷◌, slice_get, slice_set, length, Some, refl}
+use Rattle.std.specs.List.{AllZip}
+use Rattle.std.proofs.Common.{◌⊎◌, ap, sym, subst, ◌∙◌, arith, inl, inr, add-one}
+use Rattle.std.proofs.Math.Nat.{mod-eq_of_lt, mod-eq-sub-mod}
+use Rattle.std.proofs.lemmas.List.{length-set}
+use Rattle.std.proofs.lemmas.Option.{slice_get_within}
+use Rattle.std.proofs.lemmas.Bool.Decides.{eqb_tells, leb_tells}
+use Rattle.session_runs.specs.MadeTransitions.{HadRounds}
+use Rattle.member_crew.specs.declared.turned.Turned.{Turned}
+use Rattle.member_crew.specs.Turns.{HadSoMany, TurnsAt}
+use Rattle.member_crew.specs.Crews.{CrewSeen, KeptByRounds, ReadsPick, TakesRound, TurnFrom}
+use Rattle.member_crew.proofs.ListLaws.{zip_follows, zip_stays}
+
+-- Lists.
+
+get_set_here : {X : Type 0} (xs : List X) (i : ℕ) (x : X) → i < length xs → slice_get (slice_set xs i x) i ≡ Some x
+get_set_here [] i x within = absurd (omega arith)
+get_set_here (y ∷ ys) zero x within = refl
+get_set_here (y ∷ ys) (suc i) x within = get_set_here ys i x (omega arith)
+
+get_set_else : {X : Type 0} (xs : List X) (i k : ℕ) (x : X) → k ≢ i → slice_get (slice_set xs i x) k ≡ slice_get xs k
+get_set_else [] i k x other = refl
+get_set_else (y ∷ ys) zero zero x other = absurd (other refl)
+get_set_else (y ∷ ys) zero (suc k) x other = refl
+get_set_else (y ∷ ys) (suc i) zero x other = refl
+get_set_else (y ∷ ys) (suc i) (suc k) x other = get_set_else ys i k x (λ e. other (ap suc e))
+
+-- what holds of the two at each place holds side by side
+zip_each : {X Y : Type 0} (R : X → Y → Type 0) (xs : List X) (ys : List Y) → length ys ≡ length xs → ((k : ℕ) (x : X) (y : Y) → slice_get xs k ≡ Some x → slice_get ys k ≡ Some y → R x y) → AllZip R xs ys
+zip_each R [] [] count each = tt
+zip_each R [] (y ∷ ys) count each = absurd (omega arith)
+zip_each R (x ∷ xs) [] count each = absurd (omega arith)
+zip_each R (x ∷ xs) (y ∷ ys) count each = (each 0 x y refl refl, zip_each R xs ys (omega arith) (λ k. each (suc k)))
+
+-- Cyclic order.
+
+mod_cases : (a c : ℕ) → a < c + c → ((a < c) × (a % c ≡ a)) ⊎ ((c ≤ a) × (a % c + c ≡ a))
+mod_cases a c less = elim (leb_tells c a) as (λ w. ((a < c) × (a % c ≡ a)) ⊎ ((c ≤ a) × (a % c + c ≡ a))) [
+  | inl above ↦
+      let there : c ≤ a = above.1 in
+      let once : a % c ≡ (a - c) % c = mod-eq-sub-mod there in
+      let rest : (a - c) % c ≡ a - c = mod-eq_of_lt (omega arith) in
+      let back : a % c + c ≡ a = omega (arith, once, rest) in
+      inr (there, back)
+  | inr below ↦
+      let here : a < c = below.1 in
+      inl (here, mod-eq_of_lt here)
+]
+
+-- two steps of one cycle come to two places
+places_differ : (first c j n : ℕ) → first < c → j < n → n < c → (first + n) % c ≢ (first + j) % c
+places_differ first c j n within less few same = elim (mod_cases (first + n) c (omega arith)) as (λ w. ⊥) [
+  | inl one ↦ elim (mod_cases (first + j) c (omega arith)) as (λ w. ⊥) [
+    | inl other ↦ omega (arith, same, one.1, other.1)
+    | inr other ↦ omega (arith, same, one.0, other.0)
+  ]
+  | inr one ↦ elim (mod_cases (first + j) c (omega arith)) as (λ w. ⊥) [
+    | inl other ↦ omega (arith, same, one.1, other.0, other.1)
+    | inr other ↦ omega (arith, same, one.1, other.1)
+  ]
+]
+
+-- each place is come to by a step
+place_of : (first c k : ℕ) → first < c → k < c → (j : ℕ) × (j < c) × (k ≡ (first + j) % c)
+place_of first c k within there = elim (leb_tells first k) as (λ w. (j : ℕ) × (j < c) × (k ≡ (first + j) % c)) [
+  | inl above ↦
+      let behind : first ≤ k = above.1 in
+      let is : first + (k - first) ≡ k = omega arith in
+      let place : (first + (k - first)) % c ≡ k = ap (λ (n : ℕ). n % c) is ∙ mod-eq_of_lt there in
+      let few : k - first < c = omega arith in
+      (k - first, few, sym place)
+  | inr below ↦
+      let before : k < first = below.1 in
+      let is : first + (k + c - first) ≡ k + c = omega arith in
+      let once : (k + c) % c ≡ (k + c - c) % c = mod-eq-sub-mod (omega arith) in
+      let all : k + c - c ≡ k = omega arith in
+      let place : (first + (k + c - first)) % c ≡ k = ap (λ (n : ℕ). n % c) is ∙ (once ∙ (ap (λ (n : ℕ). n % c) all ∙ mod-eq_of_lt there)) in
+      let few : k + c - first < c = omega arith in
+      (k + c - first, few, sym place)
+]
+
+module _ {M : Type 0} (turns : M → M → Turned → Type 0) where
+  -- one turn more
+  pub turn_more : (first n : ℕ) (before between after : List M) (turned : Turned) → TurnFrom turns first n before between → TurnsAt turns ((first + n) % length before) between after turned
+      → TurnFrom turns first (n + 1) before after
+  turn_more first n before between after turned so_far turn = rw add-one (between, turned, so_far, turn)
+
+  -- as many members stay
+  pub turns_count : (first n : ℕ) (before after : List M) → TurnFrom turns first n before after → length after ≡ length before
+  turns_count first zero before after same = ap (λ (l : List M). length l) same
+  turns_count first (suc n) before after all =
+      ap (λ (l : List M). length l) all.3.is ∙ (length-set all.0 ((first + n) % length before) all.3.later ∙ turns_count first n before all.0 all.2)
+
+  -- one turn
+  abbrev OneTurn : (before after : M) → Type 0
+  OneTurn before after = (turned : Turned) × turns before after turned
+
+  -- Of the members in cyclic order from the first on so many had one turn, and the others none.
+  record TurnedSoFar (first n : ℕ) (before after : List M) : Type 0 where
+    count : length after ≡ length before
+    had : (k : ℕ) (x y : M) → slice_get before k ≡ Some x → slice_get after k ≡ Some y → (j : ℕ) → j < n → k ≡ (first + j) % length before → OneTurn x y
+    others : (k : ℕ) (x y : M) → slice_get before k ≡ Some x → slice_get after k ≡ Some y → ((j : ℕ) → j < n → k ≢ (first + j) % length before) → y ≡ x
+
+  none_turned : (first : ℕ) (before after : List M) → after ≡ before → TurnedSoFar first 0 before after
+  none_turned first before after same = record {
+    count = ap (λ (l : List M). length l) same;
+    had = λ k x y there is j less at. absurd (omega (arith, less));
+    others = λ k x y there is none.
+        let here : slice_get before k ≡ Some y = subst (λ (l : List M). slice_get l k ≡ Some y) same is in
+        cc (there, here);
+  }
+
+  -- One more had its turn.
+  one_turned : (first n : ℕ) (before between after : List M) (turned : Turned) → first < length before → n < length before → TurnedSoFar first n before between
+      → TurnsAt turns ((first + n) % length before) between after turned → TurnedSoFar first (suc n) before after
+  one_turned first n before between after turned within less so_far turn =
+      let place : ℕ = (first + n) % length before in
+      let set : List M = slice_set between place turn.later in
+      let inside : place < length between = slice_get_within between place turn.was turn.stands in
+      record {
+        count = ap (λ (l : List M). length l) turn.is ∙ (length-set between place turn.later ∙ so_far.count);
+        had = λ k x y there is j few at. elim (eqb_tells k place) as (λ w. OneTurn x y) [
+          | inl same ↦
+              let was : slice_get between k ≡ Some turn.was = subst (λ (i : ℕ). slice_get between i ≡ Some turn.was) (sym same.1) turn.stands in
+              let untouched : turn.was ≡ x = so_far.others k x turn.was there was (λ i below here. places_differ first (length before) i n within below less (sym same.1 ∙ here)) in
+              let new : slice_get set place ≡ Some turn.later = get_set_here between place turn.later inside in
+              let new_too : slice_get after k ≡ Some turn.later = subst (λ (l : List M). slice_get l k ≡ Some turn.later) (sym turn.is) (subst (λ (i : ℕ). slice_get set i ≡ Some turn.later) (sym same.1) new) in
+              let later : turn.later ≡ y = cc (new_too, is) in
+              (turned, subst (λ (m : M). turns m y turned) untouched (subst (λ (m : M). turns turn.was m turned) later turn.changes))
+          | inr differs ↦
+              let before_that : slice_get between k ≡ Some y = sym (get_set_else between place k turn.later differs.1) ∙ subst (λ (l : List M). slice_get l k ≡ Some y) turn.is is in
+              let earlier : j < n = earlier_step k j at few differs.1 in
+              so_far.had k x y there before_that j earlier at
+        ];
+        others = λ k x y there is none.
+            let differs : k ≢ place = none n (omega arith) in
+            let before_that : slice_get between k ≡ Some y = sym (get_set_else between place k turn.later differs) ∙ subst (λ (l : List M). slice_get l k ≡ Some y) turn.is is in
+            so_far.others k x y there before_that (λ j few. none j (omega (arith, few)));
+      } where
+        earlier_step : (k j : ℕ) → k ≡ (first + j) % length before → j < suc n → k ≢ (first + n) % length before → j < n
+        earlier_step k j at few differs = elim (eqb_tells j n) as (λ w. j < n) [
+          | inl same ↦ absurd (differs (at ∙ ap (λ (i : ℕ). (first + i) % length before) same.1))
+          | inr other ↦ let unlike : j ≢ n = other.1 in omega (arith, few, unlike)
+        ]
+
+  all_turned : (first n : ℕ) (before after : List M) → first < length before → n ≤ length before → TurnFrom turns first n before after → TurnedSoFar first n before after
+  all_turned first zero before after within few all = none_turned first before after all
+  all_turned first (suc n) before after within few all =
+      one_turned first n before all.0 after all.1 within (omega (arith, few)) (all_turned first n before all.0 within (omega (arith, few)) all.2) all.3
+
+  -- in a round each member has one turn
+  pub round_turned : (first : ℕ) (before after : List M) → first < length before → TurnFrom turns first (length before) before after → AllZip OneTurn before after
+  round_turned first before after within all =
+      let turned : TurnedSoFar first (length before) before after = all_turned first (length before) before after within (omega arith) all in
+      zip_each OneTurn before after turned.count (λ k x y there is.
+      let at = place_of first (length before) k within (slice_get_within before k x there) in
+      turned.had k x y there is at.0 at.1 at.2)
+
+-- Rounds.
+
+module _ {K : Type 0} (tells : K → Bool) (ahead : K → ℕ → ℕ) where
+  none_read : (before after : K) → after ≡ before → ReadsPick tells ahead 0 before after
+  none_read before after same = record {
+    still = ap tells same;
+    later = λ told n. ap (λ (k : K). ahead k n) same ∙ ap (λ (m : ℕ). ahead before m) (omega arith);
+  }
+
+  more_read : (count : ℕ) (before between after : K) → ReadsPick tells ahead count before between → ReadsPick tells ahead 1 between after → ReadsPick tells ahead (suc count) before after
+  more_read count before between after first then_ = record {
+    still = then_.still ∙ first.still;
+    later = λ told n.
+        let still : IsTrue (tells between) = subst (λ (b : Bool). IsTrue b) (sym first.still) told in
+        let there : (n + 1) + count ≡ n + suc count = omega arith in
+        then_.later still n ∙ (first.later told (n + 1) ∙ ap (λ (m : ℕ). ahead before m) there);
+  }
+
+module _ {M K : Type 0} (turns : M → M → Turned → Type 0) (tells : K → Bool) (ahead : K → ℕ → ℕ) where
+  pub rounds_kept : (count : ℕ) (before after : CrewSeen M K) → HadRounds (TakesRound turns tells ahead) count before after → KeptByRounds turns tells ahead count before after
+  rounds_kept zero before after same = record {
+    had = subst (λ (crew : CrewSeen M K). AllZip (HadSoMany turns 0) before.members crew.members) (sym same) (zip_stays (HadSoMany turns 0) (λ m. refl) before.members);
+    pick = none_read tells ahead before.pick after.pick (ap (λ (crew : CrewSeen M K). crew.pick) same);
+  }
+  rounds_kept (suc n) before after all =
+      let so_far = rounds_kept n before all.0 all.1 in
+      let round = all.2 in
+      let turned = round_turned turns round.first all.0.members after.members round.picks.within round.turned in
+      record {
+        had = zip_follows (HadSoMany turns n) (OneTurn turns) (HadSoMany turns (suc n)) (λ x y z had one. (y, one.0, had, one.1)) before.members all.0.members after.members so_far.had turned;
+        pick = more_read tells ahead n before.pick all.0.pick after.pick so_far.pick round.picks.reads;
+      }

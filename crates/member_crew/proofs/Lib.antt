@@ -1,0 +1,4 @@
+pub mod ListLaws
+pub mod TurnLaws
+pub mod CrewLaws
+pub mod HandleLaws

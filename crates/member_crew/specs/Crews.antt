@@ -1,0 +1,47 @@
+-- The members of a session with the pick, and their rounds.
+use Rattle.std.specs.Prelude.{◌≡◌, ℕ, zero, suc, ◌+◌, ◌<◌, ◌%◌, Bool, IsTrue, List, length}
+use Rattle.std.specs.List.{AllZip}
+use Rattle.member_crew.specs.declared.turned.Turned.{Turned}
+use Rattle.member_crew.specs.Turns.{HadSoMany, TurnsAt}
+
+-- A crew: the members by their numbers, and the choice of the member that has the first turn of a round.
+pub record CrewSeen (M K : Type 0) : Type 0 where
+  pub members : List M
+  pub pick : K
+
+-- By whether a pick tells its choices, and by those that lie ahead.
+module _ {K : Type 0} (tells : K → Bool) (ahead : K → ℕ → ℕ) where
+  -- So many choices of a pick were read: it tells as before, and what lies ahead lay behind these.
+  pub record ReadsPick (count : ℕ) (before after : K) : Type 0 where
+    pub still : tells after ≡ tells before
+    pub later : IsTrue (tells before) → (n : ℕ) → ahead after n ≡ ahead before (n + count)
+
+  -- The pick is read once, and gives the number of one of so many members: the next one that is told, where choices are told.
+  pub record PicksMember (members number : ℕ) (before after : K) : Type 0 where
+    pub within : number < members
+    pub next : IsTrue (tells before) → number ≡ ahead before 0 % members
+    pub reads : ReadsPick 1 before after
+
+-- By what one turn of a member does, and what it came to.
+module _ {M : Type 0} (turns : M → M → Turned → Type 0) where
+  -- So many members take one turn each: the first of them is that of this number, and the others come behind it in cyclic
+  -- order.
+  abbrev pub TurnFrom : (first : ℕ) → (count : ℕ) → (before after : List M) → Type 0
+  TurnFrom first zero before after = after ≡ before
+  TurnFrom first (suc n) before after = (between : List M) × (turned : Turned) × TurnFrom first n before between ×
+      TurnsAt turns ((first + n) % length before) between after turned
+
+-- By what one turn of a member does, and by what a pick tells.
+module _ {M K : Type 0} (turns : M → M → Turned → Type 0) (tells : K → Bool) (ahead : K → ℕ → ℕ) where
+  -- One round: the pick is read once, and each member takes one turn, the picked one first and the others behind it in
+  -- cyclic order.
+  pub record TakesRound (before after : CrewSeen M K) : Type 0 where
+    pub first : ℕ
+    pub picks : PicksMember tells ahead (length before.members) first before.pick after.pick
+    pub turned : TurnFrom turns first (length before.members) before.members after.members
+
+  -- What so many rounds leave: the same members, each behind as many turns of its own; and a pick of which so many choices
+  -- were read.
+  pub record KeptByRounds (count : ℕ) (before after : CrewSeen M K) : Type 0 where
+    pub had : AllZip (HadSoMany turns count) before.members after.members
+    pub pick : ReadsPick tells ahead count before.pick after.pick

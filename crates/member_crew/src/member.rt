@@ -1,0 +1,46 @@
+// A member that has turns, and has them until it ends.
+ghost use Rattle.member_crew.specs.Turns.{EndsMember};
+
+use crate::Turned;
+use crate::backoff::Backoff;
+use crate::context::TurnContext;
+use daq_io::Gate;
+use daq_types::BoundedList;
+use std::sync::Wait;
+
+/// A member of a session.
+pub trait Member {
+    ghost use Rattle.member_crew.specs.declared.turned.Turned.{Turned};
+
+    // What one turn does, and what it came to.
+    ghost turns: { Self → Self → Turned → Type 0 };
+
+    /// One turn.
+    fn turn<R: Wait, G: Gate>(&mut self, rt: &R, gate: &G) -> Turned
+        ensures { turns self.old self.new result };
+}
+
+/// Members, each at its number. There is room for as many as an engine has clients.
+pub type MemberList<M> = BoundedList<M, 64>;
+
+/// Turns of this member, until one comes to `Ended`. Between them it heeds what others do.
+pub(crate) fn until_ended<R: Wait, M: Member, G: Gate>(
+    rt: &R,
+    context: &TurnContext<G>,
+    member: &mut M,
+)
+    ensures { EndsMember M.turns member.old member.new }
+{
+    let mut backoff = Backoff::new(&context.activity);
+    for _ in rt.forever() {
+        match member.turn(rt, context.gate) {
+            Turned::Ended => {
+                backoff.end();
+                return;
+            }
+            Turned::Worked => backoff.worked(),
+            Turned::Idle => backoff.idle(),
+        }
+    }
+    unreachable!()
+}

@@ -1,7 +1,0 @@
-pub mod TurnLaws
-pub mod HandleLaws
-pub mod EndLaws
-pub mod EachLaws
-pub mod MemberLaws
-pub mod SendLaws
-pub mod RoundLaws

@@ -1,6 +1,0 @@
--- So far the members below the place had their last turns.
-use Rattle.member_threads.proofs.EndLaws.{EndedBelow}
-use Rattle.member_threads.proofs.last_turns.end_entries.Given as goal
-
-abbrev pub invariant-loop-place : goal.invariant-loop-place
-invariant-loop-place g l = EndedBelow g.M.Member.turns l.place l.initial.members l.members

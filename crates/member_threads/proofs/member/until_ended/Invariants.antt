@@ -1,6 +1,0 @@
--- So far the member had turns.
-use Rattle.member_threads.specs.Turns.{HadTurns}
-use Rattle.member_threads.proofs.member.until_ended.Given as goal
-
-abbrev pub invariant-loop : goal.invariant-loop
-invariant-loop g l = HadTurns g.M.Member.turns l.fn.member l.member

@@ -1,4 +1,0 @@
-pub mod Turns
-pub mod Scattered
-pub mod MemberHandles
-pub mod MemberTurns
