@@ -38,8 +38,8 @@ with_key s key item = after_set_all s (key_path key) (value_of_one item)
 abbrev pub key_row : (number : ℕ) → RunKey → Item → Row
 key_row number key item = record { number = number; path = key_path key; value = Some (record { tid = tid_of item; size = 4; items = item ∷ [] }) }
 
--- the database of a session before its first call, which keeps no links: the directory, and in it the state, 1, and 0 for the run number and
--- for the times of the start and the stop
+-- the database of a session before its first call, which keeps no links: the directory, and in it the state, 1, and 0 for the
+-- run number and for the times of the start and the stop
 abbrev pub session_rows : Rows
 session_rows = record no_rows {
   rows =

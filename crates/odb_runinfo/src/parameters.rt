@@ -1,4 +1,5 @@
-// What the main thread sets of the run's parameters, by paths that were made before. No set takes memory.
+// What the main thread sets of the run's parameters, by paths that were made before. No set takes memory where no link is
+// met.
 ghost use Rattle.std.specs.Prelude.{◌≡◌, ◌≤◌, ◌<◌, ◌^◌, ◌∷◌, []};
 ghost use Rattle.odb_runinfo.specs.RunSets.{SetsNumbers, refused_sets, start_sets, state_item, state_set, stop_sets};
 

@@ -7,7 +7,8 @@ use daq_types::NoMemory;
 use odb_value::Path;
 use std::alloc::Global;
 
-/// The paths of the run's parameters. They are made before a run begins, so that what is set until its end takes no memory.
+/// The paths of the run's parameters. They are made before a run begins, so that what is set until its end takes no memory
+/// where no link is met.
 #[derive(Drop)]
 pub struct KeyPaths {
     pub state: Path,

@@ -39,8 +39,8 @@ pub fn texts_are_calls()
         → LeadTextCalls s after }
 {}
 
-/// The dump of a database that keeps no links loads again: its lines ask for steps, and whatever steps they ask for lead from a new database to the same
-/// paths and values in the order of the walk; none of them is refused, and none skips a key.
+/// The dump of a database that keeps no links loads again: its lines ask for steps, and whatever steps they ask for lead
+/// from a new database to the same paths and values in the order of the walk; none of them is refused, and none skips a key.
 pub fn loads_again()
     ensures steps { (s : Rows) → IsDatabase s → s.links ≡ false → LoadsAgain s }
     ensures remade { (s : Rows) (steps : List TextStep) → IsDatabase s → s.links ≡ false

@@ -27,8 +27,8 @@ abbrev pub changes_for : (after : Rows) → Result ℕ OdbRefusal → (first cou
 changes_for after (Ok row) first count = changes_from after row first count
 changes_for after (Err refusal) first count = []
 
--- The changes that a call with this reply makes: the first item of a new key or link, the item that was set, each item of a value
--- that was set whole, and the last item of a key that got another number of items. No other call makes any.
+-- The changes that a call with this reply makes: the first item of a new key or link, the item that was set, each item
+-- of a value that was set whole, and the last item of a key that got another number of items. No other call makes any.
 abbrev pub changes_of : Rows → DatabaseEntry → List Change
 changes_of s (Create p Dir reply) = []
 changes_of s (Create p (Keys type len) reply) = changes_for (rows_after s (Create p (Keys type len) reply)) reply 0 1

@@ -79,9 +79,9 @@ pub fn walk_after_change()
         → walk (after_resize s p len) ≡ map (changed_at p (λ v. resized v len)) (walk s) }
 {}
 
-/// In a tree the rows that `create` makes at the path after its links, the missing directories from the top and then the row, come into the walk
-/// one after the other: a key right behind the keys of its directory, a directory right behind everything below its
-/// parent. All other rows keep their places. A path has at most 32 names.
+/// In a tree the rows that `create` makes at the path after its links, the missing directories from the top and then the
+/// row, come into the walk one after the other: a key right behind the keys of its directory, a directory right behind
+/// everything below its parent. All other rows keep their places. A path has at most 32 names.
 pub fn walk_after_create()
     ensures inserted { (s : Rows) (p q : List (List ℕ)) (kind : NewKey) (number : ℕ) → IsTree s
         → length p ≤ depth_limit → resolved s p false ≡ Ok q

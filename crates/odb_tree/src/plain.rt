@@ -1,4 +1,4 @@
-ghost use Rattle.std.specs.Prelude.{◌≡◌, ◌≢◌, ◌≤◌, ◌<◌, ◌^◌, ◌+◌, ◌-◌, [], length, Some, None, Err, IfOk, OnOk, OnErr, Option};
+ghost use Rattle.std.specs.Prelude.{◌≡◌, ◌≢◌, ◌≤◌, ◌<◌, ◌^◌, ◌+◌, ◌-◌, [], length, Some, None, Err, IfOk, OnOk, OnErr, Option, false};
 ghost use Rattle.std.specs.Option.{option_map, option_or};
 ghost use Rattle.odb_value.specs.Paths.{depth_limit};
 ghost use Rattle.odb_value.specs.Values.{HeldValue};
@@ -375,7 +375,10 @@ impl Database for PlainTree {
         self.resize_there(alloc, path, len)
     }
 
-    fn keeps_links(&self) -> bool {
+    fn keeps_links(&self) -> bool
+        ensures rows { result ≡ self.now.links }
+        ensures never { result ≡ false }
+    {
         let _ = &self.rows;
         false
     }
