@@ -104,6 +104,7 @@ fn write_key<D: Database>(
     ensures refused { IfErr result (λ why. why ≢ no_memory
         → set_all_fault (D.rows database.old) path.now value.now ≡ Some why) }
 {
+    // Its type tells that the value is no link.
     let _ = value.tid();
     match database.put(alloc, path, value) {
         Ok(_) => Ok(()),
