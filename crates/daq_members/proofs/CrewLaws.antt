@@ -10,6 +10,7 @@ use Rattle.daq_members.specs.Members.{MemberSeen, MemberTold, FrontEnd, Logger, 
 use Rattle.daq_members.specs.Stay.{laid, StillLaid, MembersStay}
 use Rattle.daq_members.specs.Crews.{CrewSeen, crew_seen, fronts_in, last_logger, analyzers_in, members_of, KeepContracts, StaysCrew, CrewsStay}
 use Rattle.member_crew.specs.Turns.{CameBack}
+use Rattle.member_crew.proofs.ListLaws.{zip_at}
 
 some_same : {X : Type 0} (x y : X) → Some x ≡ Some y → x ≡ y
 some_same x y e = cc (e)
@@ -50,13 +51,6 @@ module _ {E F : Type 0} (fronts : List (FrontSeen E)) (logger : LoggerSeen F) (a
 
   pub analyzers_laid : analyzers_in (laid fronts logger analyzers) ≡ analyzers
   analyzers_laid = analyzers_behind E F fronts (Logger logger ∷ map Analyzer analyzers) ∙ all_analyzers E F analyzers
-
--- what holds of the elements at each place of two lists holds of those at one
-zip_at : {X Y : Type 0} (R : X → Y → Type 0) (xs : List X) (ys : List Y) (n : ℕ) (x : X) (y : Y) → AllZip R xs ys → slice_get xs n ≡ Some x → slice_get ys n ≡ Some y → R x y
-zip_at R [] ys n x y all at is = absurd (cc (at))
-zip_at R (z ∷ xs) [] n x y all at is = absurd all
-zip_at R (z ∷ xs) (w ∷ ys) zero x y all at is = subst (λ v. R v y) (some_same z x at) (subst (λ v. R z v) (some_same w y is) all.0)
-zip_at R (z ∷ xs) (w ∷ ys) (suc n) x y all at is = zip_at R xs ys n x y all.1 at is
 
 module _ {E F : Type 0} (told : MemberTold E F) where
   -- Each member of a crew keeps its contract where all members do.

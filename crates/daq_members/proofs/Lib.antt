@@ -13,7 +13,6 @@ pub mod BareLaws
 pub mod AnalyzerLaws
 pub mod AnalyzerSeatLaws
 pub mod CrewLaws
-pub mod TurnLaws
 pub mod StayLaws
 pub mod MovedLaws
 pub mod LoggerSend

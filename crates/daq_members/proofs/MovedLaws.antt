@@ -9,14 +9,6 @@ use Rattle.daq_members.specs.Members.{MemberSeen, FrontEnd, Logger, Analyzer}
 use Rattle.daq_members.specs.Crews.{fronts_in, last_logger, analyzers_in}
 
 -- The first one, taken off a list.
-pub first_off : {X : Type 0} (xs rest : List X) (x : X) → Some x ≡ slice_get xs 0 → rest ≡ drop 1 xs → xs ≡ x ∷ rest
-first_off [] rest x at is = absurd (cc (at))
-first_off {X = X} (y ∷ ys) rest x at is = let same : y ≡ x = cc (at) in ap (λ (z : X). z ∷ ys) same ∙ ap (λ (zs : List X). x ∷ zs) (sym is)
-
-pub none_off : {X : Type 0} (xs : List X) → None ≡ slice_get xs 0 → xs ≡ []
-none_off [] at = refl
-none_off (x ∷ xs) at = absurd (cc (at))
-
 pub first_removed : {X : Type 0} (xs rest : List X) (x : X) → 0 < length xs → x ≡ slice_index_or xs 0 x → rest ≡ remove xs 0 → xs ≡ x ∷ rest
 first_removed [] rest x some at is = absurd (omega arith)
 first_removed {X = X} (y ∷ ys) rest x some at is = ap (λ (z : X). z ∷ ys) (sym at) ∙ ap (λ (zs : List X). x ∷ zs) (sym is)
@@ -31,15 +23,15 @@ fewer {X = X} left rest x off = let same : length left ≡ suc (length rest) = a
 -- Those of a list that were moved, behind the members of another, and those that are left.
 module _ {X M : Type 0} (seen : X → M) where
   -- Those of these that are not left stand behind the members of a list.
-  pub record Moved (base : List M) (all left : List X) (members : List M) : Type 0 where
+  pub record MovedBehind (base : List M) (all left : List X) (members : List M) : Type 0 where
     pub gone : List X
     pub whole : all ≡ gone ++ left
     pub are : members ≡ base ++ map seen gone
 
-  pub none_moved : (base : List M) (all : List X) → Moved base all all base
+  pub none_moved : (base : List M) (all : List X) → MovedBehind base all all base
   none_moved base all = record { gone = []; whole = refl; are = sym (append-nil base) }
 
-  pub one_moved : (base : List M) (all left rest : List X) (members more : List M) (x : X) (m : M) → left ≡ x ∷ rest → m ≡ seen x → more ≡ members ++ m ∷ [] → Moved base all left members → Moved base all rest more
+  pub one_moved : (base : List M) (all left rest : List X) (members more : List M) (x : X) (m : M) → left ≡ x ∷ rest → m ≡ seen x → more ≡ members ++ m ∷ [] → MovedBehind base all left members → MovedBehind base all rest more
   one_moved base all left rest members more x m off is pushed so_far = record {
     gone = so_far.gone ++ x ∷ [];
     whole = so_far.whole ∙ (ap (λ (l : List X). so_far.gone ++ l) off ∙ sym (append_assoc so_far.gone (x ∷ []) rest));
@@ -47,12 +39,12 @@ module _ {X M : Type 0} (seen : X → M) where
         ∙ (ap (λ (y : M). base ++ (map seen so_far.gone ++ y ∷ [])) is ∙ ap (λ (l : List M). base ++ l) (sym (map-append seen so_far.gone (x ∷ []))))));
   }
 
-  pub all_moved : (base : List M) (all left : List X) (members : List M) → left ≡ [] → Moved base all left members → members ≡ base ++ map seen all
+  pub all_moved : (base : List M) (all left : List X) (members : List M) → left ≡ [] → MovedBehind base all left members → members ≡ base ++ map seen all
   all_moved base all left members none so_far =
       let whole : all ≡ so_far.gone = so_far.whole ∙ (ap (λ (l : List X). so_far.gone ++ l) none ∙ append-nil so_far.gone) in
       so_far.are ∙ ap (λ (l : List X). base ++ map seen l) (sym whole)
 
-  pub moved_count : (base : List M) (all left : List X) (members : List M) → Moved base all left members → length members + length left ≡ length base + length all
+  pub moved_count : (base : List M) (all left : List X) (members : List M) → MovedBehind base all left members → length members + length left ≡ length base + length all
   moved_count base all left members so_far =
       let whole : length all ≡ length so_far.gone + length left = ap (λ (l : List X). length l) so_far.whole ∙ length-append so_far.gone left in
       let are : length members ≡ length base + length (map seen so_far.gone) = ap (λ (l : List M). length l) so_far.are ∙ length-append base (map seen so_far.gone) in

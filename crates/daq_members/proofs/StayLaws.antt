@@ -11,7 +11,7 @@ use Rattle.daq_members.specs.SeatedAnalyzers.{AnalyzerSeen, IsSameAnalyzer}
 use Rattle.daq_members.proofs.LoggerLaws.{same_ports, same_then}
 use Rattle.daq_members.proofs.LoggerSeatLaws.{NotedLaws, notes_same, taken_noted}
 use Rattle.member_crew.specs.Turns.{HadTurns}
-use Rattle.daq_members.proofs.TurnLaws.{turns_keep}
+use Rattle.member_crew.proofs.TurnLaws.{all_keep}
 use Rattle.daq_members.specs.Members.{MemberSeen, MemberTold, FrontEnd, Logger, Analyzer, TurnsMember, FrontTurn, LoggerTurn, AnalyzerTurn, StaysLogger, IsSameMember, SameFront, SameLogger, SameAnalyzer, client_of, engine_of}
 use Rattle.daq_members.specs.Stay.{MembersStay, StillLaid, laid}
 
@@ -99,8 +99,8 @@ module _ {E F : Type 0} (told : MemberTold E F) where
       SameLogger (record { same = same; faults = taken_noted laws (logger_taken told.read a b turned) takes })
   one_turn laws (AnalyzerTurn takes same) = SameAnalyzer same
 
-  member_stays : NotedLaws → (before after : MemberSeen E F) → HadTurns (TurnsMember told) before after → IsSameMember told before after
-  member_stays laws = turns_keep (TurnsMember told) (IsSameMember told) same_member (λ a b c first then_. member_then laws first then_) (λ a b turned turn. one_turn laws turn)
+  members_stay : NotedLaws → (before after : List (MemberSeen E F)) → AllZip (HadTurns (TurnsMember told)) before after → AllZip (IsSameMember told) before after
+  members_stay laws = all_keep (TurnsMember told) (IsSameMember told) same_member (λ a b c first then_. member_then laws first then_) (λ a b turned turn. one_turn laws turn)
 
   -- the same member has the same number and asks the same engine
   pub same_client : {a b : MemberSeen E F} → IsSameMember told a b → client_of b ≡ client_of a
@@ -168,9 +168,4 @@ module _ {E F : Type 0} (told : MemberTold E F) where
       }
 
   pub members_stay_so : NotedLaws → MembersStay told
-  members_stay_so laws = record { same = zip_stay; laid_out = still_laid } where
-    zip_stay : (before after : List (MemberSeen E F)) → AllZip (HadTurns (TurnsMember told)) before after → AllZip (IsSameMember told) before after
-    zip_stay [] [] had = tt
-    zip_stay [] (m ∷ ms) had = absurd had
-    zip_stay (m ∷ ms) [] had = absurd had
-    zip_stay (a ∷ xs) (b ∷ ys) had = (member_stays laws a b had.0, zip_stay xs ys had.1)
+  members_stay_so laws = record { same = members_stay laws; laid_out = still_laid }

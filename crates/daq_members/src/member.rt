@@ -6,8 +6,7 @@ use crate::{AnalyzerMember, FrontMember, LoggerMember};
 use buffer_core::BufferPort;
 use daq_io::{Files, Gate};
 use front_ends::Equipment;
-use member_crew as turns;
-use member_crew::Turned;
+use member_crew::{TakesTurns, Turned};
 use odb_watch::WatchPort;
 use std::marker::Model;
 use std::sync::Wait;
@@ -101,7 +100,7 @@ impl<'a, E: Equipment, P: BufferPort, D: WatchPort, F: Files> Member<'a, E, P, D
     }
 }
 
-impl<'a, E: Equipment, P: BufferPort, D: WatchPort, F: Files> turns::Member
+impl<'a, E: Equipment, P: BufferPort, D: WatchPort, F: Files> TakesTurns
     for Member<'a, E, P, D, F> {
     ghost use Rattle.daq_members.specs.Members.{TurnsMember, member_told};
 

@@ -10,8 +10,7 @@ use buffer_core::BufferPort;
 use daq_io::{Files, Gate, Pick};
 use daq_types::{BoundedList, NoMemory};
 use front_ends::Equipment;
-use member_crew as turns;
-use member_crew::{Crew, CrewParts, MemberList, Playing, ThreadRoom, play};
+use member_crew::{Crew, CrewParts, MemberList, Playing, TakesTurns, ThreadRoom, play};
 use odb_watch::WatchPort;
 use std::alloc::Global;
 use std::sync::Wait;
@@ -42,7 +41,7 @@ impl<
 }
 
 /// Room for threads of members, but where the main thread gives them their turns.
-fn thread_room<M: turns::Member + Drop>(
+fn thread_room<M: TakesTurns + Drop>(
     alloc: Global,
     cooperative: bool,
 ) -> Result<Option<ThreadRoom<M>>, NoMemory> {

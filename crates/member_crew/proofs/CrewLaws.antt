@@ -6,10 +6,10 @@ use Rattle.std.proofs.Math.Nat.{mod-eq_of_lt, mod-eq-sub-mod}
 use Rattle.std.proofs.lemmas.List.{length-set}
 use Rattle.std.proofs.lemmas.Option.{slice_get_within}
 use Rattle.std.proofs.lemmas.Bool.Decides.{eqb_tells, leb_tells}
-use Rattle.session_runs.specs.MadeTransitions.{HadRounds}
+use Rattle.member_crew.specs.Rounds.{HadRounds}
 use Rattle.member_crew.specs.declared.turned.Turned.{Turned}
 use Rattle.member_crew.specs.Turns.{HadSoMany, TurnsAt}
-use Rattle.member_crew.specs.Crews.{CrewSeen, KeptByRounds, ReadsPick, TakesRound, TurnFrom}
+use Rattle.member_crew.specs.Crews.{CrewInRounds, KeptByRounds, ReadsPick, TakesRound, TurnFrom}
 use Rattle.member_crew.proofs.ListLaws.{zip_follows, zip_stays}
 
 -- Lists.
@@ -176,10 +176,10 @@ module _ {K : Type 0} (tells : K → Bool) (ahead : K → ℕ → ℕ) where
   }
 
 module _ {M K : Type 0} (turns : M → M → Turned → Type 0) (tells : K → Bool) (ahead : K → ℕ → ℕ) where
-  pub rounds_kept : (count : ℕ) (before after : CrewSeen M K) → HadRounds (TakesRound turns tells ahead) count before after → KeptByRounds turns tells ahead count before after
+  pub rounds_kept : (count : ℕ) (before after : CrewInRounds M K) → HadRounds (TakesRound turns tells ahead) count before after → KeptByRounds turns tells ahead count before after
   rounds_kept zero before after same = record {
-    had = subst (λ (crew : CrewSeen M K). AllZip (HadSoMany turns 0) before.members crew.members) (sym same) (zip_stays (HadSoMany turns 0) (λ m. refl) before.members);
-    pick = none_read tells ahead before.pick after.pick (ap (λ (crew : CrewSeen M K). crew.pick) same);
+    had = subst (λ (crew : CrewInRounds M K). AllZip (HadSoMany turns 0) before.members crew.members) (sym same) (zip_stays (HadSoMany turns 0) (λ m. refl) before.members);
+    pick = none_read tells ahead before.pick after.pick (ap (λ (crew : CrewInRounds M K). crew.pick) same);
   }
   rounds_kept (suc n) before after all =
       let so_far = rounds_kept n before all.0 all.1 in

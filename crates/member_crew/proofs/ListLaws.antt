@@ -3,7 +3,7 @@ use Rattle.std.specs.Prelude.{◌≡◌, ℕ, zero, suc, ◌+◌, ◌<◌, ◌�
 use Rattle.std.specs.List.{AllZip}
 use Rattle.std.proofs.Common.{ap, sym, subst, ◌∙◌, arith, append_assoc, append-nil, length-append}
 use Rattle.std.proofs.lemmas.Slice.Zip.{AllZip-long}
-use Rattle.member_crew.specs.Turns.{ChangesAt}
+use Rattle.member_crew.specs.Turns.{ChangesPlace}
 
 -- Side by side.
 
@@ -74,7 +74,7 @@ module _ {X : Type 0} (R : X → X → Type 0) where
   one_changed (suc n) (x ∷ xs) [] was later changed at one = absurd changed
   one_changed (suc n) (x ∷ xs) (y ∷ ys) was later changed at one = (changed.0, one_changed n xs ys was later changed.1 at one)
 
-  pub changed_below : (place : ℕ) (first before after : List X) → ChangedBelow place first before → ChangesAt R place before after → ChangedBelow (suc place) first after
+  pub changed_below : (place : ℕ) (first before after : List X) → ChangedBelow place first before → ChangesPlace R place before after → ChangedBelow (suc place) first after
   changed_below place first before after changed at =
       subst (λ (l : List X). ChangedBelow (suc place) first l) (sym at.is) (one_changed place first before at.was at.later changed at.stands at.changes)
 
@@ -90,16 +90,16 @@ module _ {X : Type 0} (R : X → X → Type 0) where
 -- One by one, from the list where they are to one where they are next.
 
 -- the first one, taken off a list
-first_off : {X : Type 0} (xs : List X) (x : X) → Some x ≡ slice_get xs 0 → xs ≡ x ∷ drop 1 xs
-first_off [] x at = absurd (cc (at))
-first_off {X = X} (y ∷ ys) x at = let is : y ≡ x = cc (at) in ap (λ (z : X). z ∷ ys) is
+pub first_off : {X : Type 0} (xs rest : List X) (x : X) → Some x ≡ slice_get xs 0 → rest ≡ drop 1 xs → xs ≡ x ∷ rest
+first_off [] rest x at is = absurd (cc (at))
+first_off {X = X} (y ∷ ys) rest x at is = let same : y ≡ x = cc (at) in ap (λ (z : X). z ∷ ys) same ∙ ap (λ (zs : List X). x ∷ zs) (sym is)
 
-none_off : {X : Type 0} (xs : List X) → None ≡ slice_get xs 0 → xs ≡ []
+pub none_off : {X : Type 0} (xs : List X) → None ≡ slice_get xs 0 → xs ≡ []
 none_off [] at = refl
 none_off (x ∷ xs) at = absurd (cc (at))
 
 pub first_counts : {X : Type 0} (xs : List X) (x : X) → Some x ≡ slice_get xs 0 → length xs ≡ 1 + length (drop 1 xs)
-first_counts {X = X} xs x at = ap (λ (l : List X). length l) (first_off xs x at) ∙ omega arith
+first_counts {X = X} xs x at = ap (λ (l : List X). length l) (first_off xs (drop 1 xs) x at refl) ∙ omega arith
 
 module _ {X Y : Type 0} (R : X → Y → Type 0) where
   -- Of these those that aren't left were moved, each so.
@@ -118,7 +118,7 @@ module _ {X Y : Type 0} (R : X → Y → Type 0) where
   pub one_moved : (all left rest : List X) (later more : List Y) (x : X) (y : Y) → Some x ≡ slice_get left 0 → rest ≡ drop 1 left → more ≡ later ++ y ∷ [] → Moved all left later → R x y
       → Moved all rest more
   one_moved all left rest later more x y at is pushed so_far one =
-      let off : left ≡ x ∷ rest = first_off left x at ∙ ap (λ (l : List X). x ∷ l) (sym is) in
+      let off : left ≡ x ∷ rest = first_off left rest x at is in
       record {
         gone = so_far.gone ++ x ∷ [];
         whole = so_far.whole ∙ (ap (λ (l : List X). so_far.gone ++ l) off ∙ sym (append_assoc so_far.gone (x ∷ []) rest));

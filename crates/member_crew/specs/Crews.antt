@@ -5,7 +5,7 @@ use Rattle.member_crew.specs.declared.turned.Turned.{Turned}
 use Rattle.member_crew.specs.Turns.{HadSoMany, TurnsAt}
 
 -- A crew: the members by their numbers, and the choice of the member that has the first turn of a round.
-pub record CrewSeen (M K : Type 0) : Type 0 where
+pub record CrewInRounds (M K : Type 0) : Type 0 where
   pub members : List M
   pub pick : K
 
@@ -35,13 +35,13 @@ module _ {M : Type 0} (turns : M → M → Turned → Type 0) where
 module _ {M K : Type 0} (turns : M → M → Turned → Type 0) (tells : K → Bool) (ahead : K → ℕ → ℕ) where
   -- One round: the pick is read once, and each member takes one turn, the picked one first and the others behind it in
   -- cyclic order.
-  pub record TakesRound (before after : CrewSeen M K) : Type 0 where
+  pub record TakesRound (before after : CrewInRounds M K) : Type 0 where
     pub first : ℕ
     pub picks : PicksMember tells ahead (length before.members) first before.pick after.pick
     pub turned : TurnFrom turns first (length before.members) before.members after.members
 
   -- What so many rounds leave: the same members, each behind as many turns of its own; and a pick of which so many choices
   -- were read.
-  pub record KeptByRounds (count : ℕ) (before after : CrewSeen M K) : Type 0 where
+  pub record KeptByRounds (count : ℕ) (before after : CrewInRounds M K) : Type 0 where
     pub had : AllZip (HadSoMany turns count) before.members after.members
     pub pick : ReadsPick tells ahead count before.pick after.pick

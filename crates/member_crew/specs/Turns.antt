@@ -5,7 +5,7 @@ use Rattle.member_crew.specs.declared.turned.Turned.{Turned}
 use Rattle.member_crew.specs.declared.turned.Turned.TheVariants.{Ended}
 
 -- What stands at this place of a list changed so, and the others are as they were.
-pub record ChangesAt {X : Type 0} (Changes : X → X → Type 0) (place : ℕ) (before after : List X) : Type 0 where
+pub record ChangesPlace {X : Type 0} (Changes : X → X → Type 0) (place : ℕ) (before after : List X) : Type 0 where
   pub was : X
   pub later : X
   pub stands : slice_get before place ≡ Some was
@@ -16,7 +16,7 @@ pub record ChangesAt {X : Type 0} (Changes : X → X → Type 0) (place : ℕ) (
 module _ {M : Type 0} (turns : M → M → Turned → Type 0) where
   -- The member of this number took one turn, which came to this, and the others are as they were.
   abbrev pub TurnsAt : (number : ℕ) → (before after : List M) → Turned → Type 0
-  TurnsAt number before after turned = ChangesAt (λ was later. turns was later turned) number before after
+  TurnsAt number before after turned = ChangesPlace (λ was later. turns was later turned) number before after
 
   -- The member had so many turns.
   abbrev pub HadSoMany : (count : ℕ) → (before after : M) → Type 0

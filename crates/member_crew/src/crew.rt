@@ -1,7 +1,6 @@
 // The members of a session, which the main thread gives their turns.
-use crate::{Member, MemberList, Turned};
+use crate::{MemberList, Rounds, TakesTurns, Turned};
 use daq_io::{Gate, Pick};
-use session_runs::Rounds;
 use std::marker::Model;
 use std::sync::Wait;
 
@@ -15,24 +14,24 @@ pub struct CrewParts<M, K> {
 /// The members of a session, which the main thread gives their turns, and the pick, which names in each round the member that
 /// has its turn first. There is at least one member, and there are at most 64. Each has its place as its number.
 #[derive(Drop)]
-pub struct Crew<'a, M: Member, K: Pick, G: Gate> {
+pub struct Crew<'a, M: TakesTurns, K: Pick, G: Gate> {
     members: MemberList<M>,
     pick: K,
     gate: &'a G,
 }
 
-impl<'a, M: Member, K: Pick, G: Gate> Model for Crew<'a, M, K, G> {
+impl<'a, M: TakesTurns, K: Pick, G: Gate> Model for Crew<'a, M, K, G> {
     ghost use Rattle.std.specs.Prelude.{◌<◌, ◌≤◌, length};
-    ghost use Rattle.member_crew.specs.Crews.{CrewSeen};
+    ghost use Rattle.member_crew.specs.Crews.{CrewInRounds};
 
-    ghost Value = { CrewSeen M K };
+    ghost Value = { CrewInRounds M K };
 
     ghost view = { λ c. record { members = c.members; pick = c.pick } };
 
     ghost invariant = { λ c. (0 < length c.members) × (length c.members ≤ 64) };
 }
 
-impl<'a, M: Member, K: Pick, G: Gate> Crew<'a, M, K, G> {
+impl<'a, M: TakesTurns, K: Pick, G: Gate> Crew<'a, M, K, G> {
     ghost use Rattle.std.specs.Prelude.{◌≡◌, ◌<◌, ◌≤◌, length};
     ghost use Rattle.member_crew.specs.Turns.{TurnsAt};
     ghost use Rattle.member_crew.specs.Crews.{PicksMember, TurnFrom};
@@ -116,7 +115,7 @@ impl<'a, M: Member, K: Pick, G: Gate> Crew<'a, M, K, G> {
     }
 }
 
-impl<'a, M: Member, K: Pick, G: Gate> Rounds for Crew<'a, M, K, G> {
+impl<'a, M: TakesTurns, K: Pick, G: Gate> Rounds for Crew<'a, M, K, G> {
     ghost use Rattle.member_crew.specs.Crews.{TakesRound};
 
     ghost round = { TakesRound M.turns K.tells K.ahead };

@@ -4,7 +4,7 @@ ghost use Rattle.member_crew.specs.MemberHandles.{TurnsIfHere};
 
 use crate::context::TurnContext;
 use crate::member::until_ended;
-use crate::{Member, Turned};
+use crate::{TakesTurns, Turned};
 use daq_io::Gate;
 use std::marker::Model;
 use std::snapshot::Snapshot;
@@ -17,7 +17,7 @@ pub(crate) struct Went<M> {
     was: Snapshot<M>,
 }
 
-impl<M: Member> Promise<M> for Went<M> {
+impl<M: TakesTurns> Promise<M> for Went<M> {
     ghost use Rattle.member_crew.specs.Turns.{HadTurns};
 
     ghost kept_by = { λ went member. HadTurns M.turns went.was.value member };
@@ -26,11 +26,11 @@ impl<M: Member> Promise<M> for Went<M> {
 /// A member that was sent away: its thread, or itself, where no thread could be had. Contracts see which of the two it is, and
 /// the member as far as it is known here: as it was when its thread began, or as it is.
 #[derive(Drop)]
-pub(crate) struct MemberHandle<M: Member> {
+pub(crate) struct MemberHandle<M: TakesTurns> {
     pub(crate) thread: Result<PromisedHandle<M, Went<M>>, M>,
 }
 
-impl<M: Member> Model for MemberHandle<M> {
+impl<M: TakesTurns> Model for MemberHandle<M> {
     ghost use Rattle.member_crew.specs.MemberHandles.{HandleSeen, handle_seen};
 
     ghost Value = { HandleSeen M };
@@ -39,7 +39,7 @@ impl<M: Member> Model for MemberHandle<M> {
 }
 
 /// What a member's thread does: the member has its turns until it ends, where it isn't called back before.
-fn go<R: Wait, M: Member, G: Gate>(
+fn go<R: Wait, M: TakesTurns, G: Gate>(
     rt: &R,
     context: &TurnContext<G>,
     number: usize,
@@ -54,7 +54,7 @@ fn go<R: Wait, M: Member, G: Gate>(
 }
 
 /// The last turns of a member that came back.
-pub(crate) fn finish<R: Wait, M: Member, G: Gate>(
+pub(crate) fn finish<R: Wait, M: TakesTurns, G: Gate>(
     rt: &R,
     context: &TurnContext<G>,
     mut member: M,
@@ -66,7 +66,14 @@ pub(crate) fn finish<R: Wait, M: Member, G: Gate>(
 }
 
 /// Sends a member away into a thread of its own. Where none can be had it stays here.
-pub(crate) fn send<'s, 'a, E, R: Threads + Wait + Sync, M: Member + Drop + Send, G: Gate + Sync>(
+pub(crate) fn send<
+    's,
+    'a,
+    E,
+    R: Threads + Wait + Sync,
+    M: TakesTurns + Drop + Send,
+    G: Gate + Sync,
+>(
     scope: &'s Scope<'s, E>,
     rt: &'s R,
     context: &'s TurnContext<'a, G>,
@@ -92,7 +99,7 @@ where
     }
 }
 
-impl<M: Member> MemberHandle<M> {
+impl<M: TakesTurns> MemberHandle<M> {
     /// One turn, if the member is here, and none otherwise. Says whether it worked.
     pub(crate) fn turn<R: Wait, G: Gate>(&mut self, rt: &R, gate: &G) -> bool
         ensures { TurnsIfHere M.turns self.old self.new }

@@ -1,15 +1,14 @@
 // Members that were sent away, one beside the other.
 ghost use Rattle.std.specs.Prelude.{◌≡◌, ◌<◌, ◌≤◌, [], length};
 ghost use Rattle.std.specs.List.{AllZip};
-ghost use Rattle.member_crew.specs.Turns.{ChangesAt};
+ghost use Rattle.member_crew.specs.Turns.{ChangesPlace};
 ghost use Rattle.member_crew.specs.MemberHandles.{TurnsIfHere, WentAway};
 
 use crate::context::TurnContext;
 use crate::handle::{MemberHandle, finish, send};
-use crate::{Member, MemberList};
+use crate::{MemberList, Rounds, TakesTurns};
 use daq_io::Gate;
 use daq_types::BoundedList;
-use session_runs::Rounds;
 use std::marker::Model;
 use std::sync::Wait;
 use std::thread::{Scope, Threads};
@@ -23,7 +22,7 @@ pub(crate) fn send_all<
     'a,
     E,
     R: Threads + Wait + Sync,
-    M: Member + Drop + Send,
+    M: TakesTurns + Drop + Send,
     G: Gate + Sync,
 >(
     scope: &'s Scope<'s, E>,
@@ -54,14 +53,14 @@ where
 /// Members that are away, with what they go by in their turns. There are at most 64. They have rounds as far as they are here.
 /// Contracts see them as `MemberHandle` shows each.
 #[derive(Drop)]
-pub(crate) struct MemberHandles<'s, 'a, M: Member, G: Gate> {
+pub(crate) struct MemberHandles<'s, 'a, M: TakesTurns, G: Gate> {
     handles: HandleList<M>,
     context: &'s TurnContext<'a, G>,
     /// How many rounds in a row saw nobody at work.
     still: u32,
 }
 
-impl<'s, 'a, M: Member, G: Gate> Model for MemberHandles<'s, 'a, M, G> {
+impl<'s, 'a, M: TakesTurns, G: Gate> Model for MemberHandles<'s, 'a, M, G> {
     ghost use Rattle.std.specs.Prelude.{List, ◌≤◌, length};
     ghost use Rattle.member_crew.specs.MemberHandles.{HandleSeen};
 
@@ -72,13 +71,13 @@ impl<'s, 'a, M: Member, G: Gate> Model for MemberHandles<'s, 'a, M, G> {
     ghost invariant = { λ m. length m.handles ≤ 64 };
 }
 
-impl<'s, 'a, M: Member + Drop, G: Gate> MemberHandles<'s, 'a, M, G> {
+impl<'s, 'a, M: TakesTurns + Drop, G: Gate> MemberHandles<'s, 'a, M, G> {
     ghost use Rattle.member_crew.specs.MemberHandles.{CameFrom};
 
     /// One turn of the member at this place, if it is here. Says whether it worked.
     fn turn_at<R: Wait>(&mut self, rt: &R, place: usize) -> bool
         requires { place < length self.old }
-        ensures { ChangesAt (TurnsIfHere M.turns) place self.old self.new }
+        ensures { ChangesPlace (TurnsIfHere M.turns) place self.old self.new }
     {
         let Some(handle) = self.handles.get_mut(place) else {
             unreachable!()
@@ -117,7 +116,7 @@ impl<'s, 'a, M: Member + Drop, G: Gate> MemberHandles<'s, 'a, M, G> {
     }
 }
 
-impl<'s, 'a, M: Member + Drop, G: Gate> Rounds for MemberHandles<'s, 'a, M, G> {
+impl<'s, 'a, M: TakesTurns + Drop, G: Gate> Rounds for MemberHandles<'s, 'a, M, G> {
     ghost use Rattle.std.specs.List.{AllZip};
     ghost use Rattle.member_crew.specs.MemberHandles.{TurnsIfHere};
 

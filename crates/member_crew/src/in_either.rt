@@ -1,7 +1,7 @@
 // A session whose members have their turns while the main thread plays its part.
 ghost use Rattle.member_crew.specs.Turns.{CameBack};
 
-use crate::{Crew, CrewParts, Member, Playing, ThreadRoom, play_in_threads, play_in_turns};
+use crate::{Crew, CrewParts, Playing, TakesTurns, ThreadRoom, play_in_threads, play_in_turns};
 use daq_io::{Gate, Pick};
 use std::sync::Wait;
 use std::thread::Threads;
@@ -11,7 +11,7 @@ use std::thread::Threads;
 pub fn play<
     'a,
     R: Threads + Wait + Sync,
-    M: Member + Drop + Send,
+    M: TakesTurns + Drop + Send,
     K: Pick + Drop,
     G: Gate + Sync,
     B: Playing + Drop,

@@ -4,7 +4,7 @@ ghost use Rattle.member_crew.specs.Turns.{CameBack};
 
 use crate::context::TurnContext;
 use crate::handles::{HandleList, send_all};
-use crate::{Crew, CrewParts, Member, MemberList, Playing};
+use crate::{Crew, CrewParts, MemberList, Playing, TakesTurns};
 use daq_io::{Gate, Pick};
 use daq_types::{BoundedList, NoMemory};
 use std::alloc::Global;
@@ -14,14 +14,14 @@ use std::thread::{Scope, Threads};
 
 /// Room for the members of a session while they have threads of their own, and for them as they come back.
 #[derive(Drop)]
-pub struct ThreadRoom<M: Member> {
+pub struct ThreadRoom<M: TakesTurns> {
     handles: HandleList<M>,
     back: MemberList<M>,
     ghost nobody_away: { handles ≡ [] },
     ghost nobody_back: { back ≡ [] },
 }
 
-impl<M: Member + Drop> ThreadRoom<M> {
+impl<M: TakesTurns + Drop> ThreadRoom<M> {
     /// Room for as many members as an engine has clients.
     pub fn new(alloc: Global) -> Result<ThreadRoom<M>, NoMemory> {
         let handles = BoundedList::new(alloc)?;
@@ -36,7 +36,7 @@ fn play_in<
     'a,
     E,
     R: Threads + Wait + Sync,
-    M: Member + Drop + Send,
+    M: TakesTurns + Drop + Send,
     G: Gate + Sync,
     B: Playing,
 >(
@@ -68,7 +68,7 @@ where
 pub fn play_in_threads<
     'a,
     R: Threads + Wait + Sync,
-    M: Member + Drop + Send,
+    M: TakesTurns + Drop + Send,
     K: Pick + Drop,
     G: Gate + Sync,
     B: Playing + Drop,

@@ -1,23 +1,23 @@
 // A session whose members have their turns in rounds of the main thread.
 ghost use Rattle.std.specs.Prelude.{◌≡◌, ◌<◌, ℕ, length};
-ghost use Rattle.member_crew.specs.Turns.{CameBack, ChangesAt, EndsMember};
+ghost use Rattle.member_crew.specs.Turns.{CameBack, ChangesPlace, EndsMember};
 ghost use Rattle.member_crew.specs.Crews.{ReadsPick};
 
 use crate::context::TurnContext;
 use crate::member::until_ended;
-use crate::{Crew, CrewParts, Member, MemberList, Playing};
+use crate::{Crew, CrewParts, MemberList, Playing, TakesTurns};
 use daq_io::{Gate, Pick};
 use std::sync::Wait;
 
 /// The last turns of the member at this place.
-fn end_at<R: Wait, M: Member, G: Gate>(
+fn end_at<R: Wait, M: TakesTurns, G: Gate>(
     rt: &R,
     context: &TurnContext<G>,
     members: &mut MemberList<M>,
     place: usize,
 )
     requires { place < length members.old }
-    ensures { ChangesAt (EndsMember M.turns) place members.old members.new }
+    ensures { ChangesPlace (EndsMember M.turns) place members.old members.new }
 {
     let Some(member) = members.get_mut(place) else {
         unreachable!()
@@ -26,7 +26,7 @@ fn end_at<R: Wait, M: Member, G: Gate>(
 }
 
 /// The last turns of each of these members, in order.
-fn end_all<R: Wait, M: Member, G: Gate>(
+fn end_all<R: Wait, M: TakesTurns, G: Gate>(
     rt: &R,
     context: &TurnContext<G>,
     members: &mut MemberList<M>,
@@ -40,7 +40,7 @@ fn end_all<R: Wait, M: Member, G: Gate>(
 
 /// Plays the main thread's part, in whose rounds the members have their turns; the pick is read in these rounds alone. Behind it
 /// each has turns until one comes to `Ended`.
-pub fn play_in_turns<'a, R: Wait, M: Member, K: Pick, G: Gate, B: Playing>(
+pub fn play_in_turns<'a, R: Wait, M: TakesTurns, K: Pick, G: Gate, B: Playing>(
     rt: &R,
     crew: Crew<'a, M, K, G>,
     main: B,

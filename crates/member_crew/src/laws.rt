@@ -1,15 +1,15 @@
 //! What the members of a session keep, however many rounds they have. Each function does nothing, and its contract is the law.
 ghost use Rattle.std.specs.Prelude.{ℕ};
-ghost use Rattle.session_runs.specs.MadeTransitions.{HadRounds};
-ghost use Rattle.member_crew.specs.Crews.{CrewSeen, KeptByRounds, TakesRound};
+ghost use Rattle.member_crew.specs.Rounds.{HadRounds};
+ghost use Rattle.member_crew.specs.Crews.{CrewInRounds, KeptByRounds, TakesRound};
 
-use crate::Member;
+use crate::TakesTurns;
 use daq_io::Pick;
 
 /// A crew that had so many rounds has the same members, each behind as many turns of its own, and so many choices of its pick
 /// were read.
-pub fn rounds_keep<M: Member, K: Pick>()
-    ensures { (count : ℕ) (before after : CrewSeen M K)
+pub fn rounds_keep<M: TakesTurns, K: Pick>()
+    ensures { (count : ℕ) (before after : CrewInRounds M K)
         → HadRounds (TakesRound M.turns K.tells K.ahead) count before after
         → KeptByRounds M.turns K.tells K.ahead count before after }
 {}

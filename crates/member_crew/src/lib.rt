@@ -21,12 +21,14 @@ pub mod laws;
 mod member;
 mod playing;
 mod return_flag;
+mod rounds;
 mod turned;
 
 pub use crew::{Crew, CrewParts};
 pub use in_either::play;
 pub use in_threads::{ThreadRoom, play_in_threads};
 pub use in_turns::play_in_turns;
-pub use member::{Member, MemberList};
+pub use member::{MemberList, TakesTurns};
 pub use playing::Playing;
+pub use rounds::Rounds;
 pub use turned::Turned;

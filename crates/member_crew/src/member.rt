@@ -9,7 +9,7 @@ use daq_types::BoundedList;
 use std::sync::Wait;
 
 /// A member of a session.
-pub trait Member {
+pub trait TakesTurns {
     ghost use Rattle.member_crew.specs.declared.turned.Turned.{Turned};
 
     // What one turn does, and what it came to.
@@ -24,7 +24,7 @@ pub trait Member {
 pub type MemberList<M> = BoundedList<M, 64>;
 
 /// Turns of this member, until one comes to `Ended`. Between them it heeds what others do.
-pub(crate) fn until_ended<R: Wait, M: Member, G: Gate>(
+pub(crate) fn until_ended<R: Wait, M: TakesTurns, G: Gate>(
     rt: &R,
     context: &TurnContext<G>,
     member: &mut M,

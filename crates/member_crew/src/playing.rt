@@ -1,10 +1,10 @@
-use session_runs::Rounds;
+use crate::Rounds;
 use std::sync::Wait;
 
 /// What the main thread plays while the members of a session have their turns.
 pub trait Playing {
     ghost use Rattle.std.specs.Prelude.{ℕ};
-    ghost use Rattle.session_runs.specs.MadeTransitions.{HadRounds};
+    ghost use Rattle.member_crew.specs.Rounds.{HadRounds};
 
     /// What it comes to.
     type Played;

@@ -7,7 +7,7 @@ use Rattle.odb_script.specs.declared.commands.Command.TheVariants.{Run}
 use Rattle.odb_script.specs.declared.commands.RunCommand.TheVariants.{Start, Stop, Pause, Resume}
 use Rattle.odb_script.specs.Forms.{Read}
 use Rattle.odb_watch.specs.DatabasePorts.{DatabaseAccess}
-use Rattle.session_runs.specs.MadeTransitions.{HadRounds}
+use Rattle.member_crew.specs.Rounds.{HadRounds}
 use Rattle.session_setup.specs.Setup.{Declared}
 use Rattle.session_setup.specs.declared.declared.DeclaredLists.{DeclaredLists}
 use Rattle.console.specs.declared.replies.Reply.{Reply}

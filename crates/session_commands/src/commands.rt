@@ -7,8 +7,9 @@ use crate::replying::{plain_reply, reply_for};
 use console::Reply;
 use daq_io::Clock;
 use daq_types::NoMemory;
+use member_crew::Rounds;
 use odb_watch::WatchPort;
-use session_runs::{Rounds, Runs};
+use session_runs::Runs;
 use std::alloc::Global;
 use std::sync::Wait;
 

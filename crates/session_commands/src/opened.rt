@@ -1,16 +1,17 @@
 // A session that a start opened.
 ghost use Rattle.std.specs.Prelude.{◌≡◌, true, false, if◌then◌else◌};
-ghost use Rattle.session_runs.specs.MadeTransitions.{HadRounds};
+ghost use Rattle.member_crew.specs.Rounds.{HadRounds};
 
 use crate::commands::{answer_pause, answer_resume, answer_start, answer_stop};
 use crate::side::MainSide;
 use console::{Answerer, Reply};
 use daq_io::{Clock, Files};
 use daq_types::NoMemory;
+use member_crew::Rounds;
 use odb_script::{Command, LineRefusal, RunCommand};
 use odb_watch::WatchPort;
 use session_lines::laws::{commands_keep, members_passed_over};
-use session_runs::{Rounds, Runs};
+use session_runs::Runs;
 use session_setup::{DeclaredLists, SetupRefusal};
 use std::alloc::Global;
 use std::sync::Wait;

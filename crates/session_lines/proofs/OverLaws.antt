@@ -8,7 +8,8 @@ use Rattle.daq_types.specs.declared.runs.StartOutcome.TheVariants.{Completed, Re
 use Rattle.daq_types.specs.declared.runs.Transition.{Transition}
 use Rattle.daq_types.specs.declared.runs.Transition.TheVariants.{Pause, Resume}
 use Rattle.member_model.specs.RunEngines.{ClientTally, EngineEntry, Sheet}
-use Rattle.session_runs.specs.MadeTransitions.{HadRounds, DrivesTransition}
+use Rattle.session_runs.specs.MadeTransitions.{DrivesTransition}
+use Rattle.member_crew.specs.Rounds.{HadRounds}
 use Rattle.session_runs.specs.declared.on.CurrentRun.{CurrentRun}
 use Rattle.session_runs.specs.declared.replies.RunReply.{RunReply}
 use Rattle.session_runs.specs.declared.replies.RunReply.TheVariants as answer

@@ -2,7 +2,7 @@
 use Rattle.std.proofs.Common.{ℕ, zero, suc, refl, subst, sym, ◌∙◌}
 use Rattle.odb_watch.specs.DatabasePorts.{DatabaseAccess}
 use Rattle.transition_lock.specs.declared.shared.SharedEngine.{SharedEngine}
-use Rattle.session_runs.specs.MadeTransitions.{HadRounds}
+use Rattle.member_crew.specs.Rounds.{HadRounds}
 use Rattle.session_setup.specs.declared.declared.DeclaredLists.{DeclaredLists}
 use Rattle.session_lines.specs.Staying.{StaysOpen}
 

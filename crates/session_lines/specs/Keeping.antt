@@ -1,7 +1,7 @@
 -- What the commands of runs keep.
 use Rattle.std.specs.Prelude.{◌≡◌, ℕ}
 use Rattle.odb_watch.specs.DatabasePorts.{IsSamePort}
-use Rattle.session_runs.specs.MadeTransitions.{HadRounds}
+use Rattle.member_crew.specs.Rounds.{HadRounds}
 use Rattle.session_runs.specs.RunAnswers.{CommandPoint}
 
 -- The quota of the runs to come stays, and so do the engine and the database; the members had so many rounds.

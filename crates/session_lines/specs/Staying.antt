@@ -2,7 +2,7 @@
 use Rattle.std.specs.Prelude.{◌≡◌, ℕ}
 use Rattle.odb_watch.specs.DatabasePorts.{DatabaseAccess, IsSamePort}
 use Rattle.transition_lock.specs.declared.shared.SharedEngine.{SharedEngine}
-use Rattle.session_runs.specs.MadeTransitions.{HadRounds}
+use Rattle.member_crew.specs.Rounds.{HadRounds}
 use Rattle.session_setup.specs.declared.declared.DeclaredLists.{DeclaredLists}
 
 -- The members had any number of rounds; the engine, the database and the declarations are the same.

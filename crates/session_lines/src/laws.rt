@@ -4,7 +4,7 @@ ghost use Rattle.session_runs.specs.RunAnswers.{AnswersPause, AnswersResume, Ans
 ghost use Rattle.session_lines.specs.Keeping.{KeptByCommand};
 ghost use Rattle.session_lines.specs.NothingSaid.{NothingSaid, own_point};
 
-use session_runs::Rounds;
+use member_crew::Rounds;
 
 /// What a command of runs does with members it does where they are passed over.
 pub fn members_passed_over<M: Rounds>()

@@ -1,4 +1,4 @@
-use session_runs::Rounds;
+use member_crew::Rounds;
 use std::sync::Wait;
 
 /// Members of which nothing is said.

@@ -28,7 +28,8 @@ use Rattle.member_model.specs.RunEngines.{Sheet, ClientTally, EngineEntry, Under
 use Rattle.session_runs.specs.MainKnowledge.{MainKnows, state_behind, known_at, known_from, known_behind, entry_of_main, begin_known}
 use Rattle.session_runs.proofs.KnownSteps.{KnowsTransition, begin_same}
 use Rattle.session_runs.proofs.KnownCalls.{AtCall, known_more}
-use Rattle.session_runs.specs.MadeTransitions.{going_checks, done_check, HadRounds, WaitsForEnd, DrivesTransition}
+use Rattle.session_runs.specs.MadeTransitions.{going_checks, done_check, WaitsForEnd, DrivesTransition}
+use Rattle.member_crew.specs.Rounds.{HadRounds}
 
 -- Replies.
 

@@ -1,11 +1,12 @@
 -- A transition that the main thread makes, with the rounds that it gives the members meanwhile.
-use Rattle.std.specs.Prelude.{◌≡◌, ℕ, zero, suc, List, [], ◌∷◌, ◌++◌, replicate, Ok}
+use Rattle.std.specs.Prelude.{◌≡◌, ℕ, List, [], ◌∷◌, ◌++◌, replicate, Ok}
 use Rattle.daq_types.specs.declared.runs.Transition.{Transition}
 use Rattle.daq_types.specs.declared.runs.StartOutcome.{StartOutcome}
 use Rattle.transitions.specs.declared.replies.Progress.TheVariants.{Going, Done}
 use Rattle.member_model.specs.RunEngines.{Sheet, ClientTally, EngineEntry}
 use Rattle.transitions.specs.declared.entry.EngineEntry.TheVariants.{Begin, Check}
 use Rattle.engine_laws.specs.BegunTurns.{AreUnmarked}
+use Rattle.member_crew.specs.Rounds.{HadRounds}
 
 -- so many checks, each of which tells that the transition is going on
 abbrev pub going_checks : (count : ℕ) → List EngineEntry
@@ -24,17 +25,12 @@ pub record TransitionIn (own : List EngineEntry) (transition : Transition) (shee
   pub on : AreUnmarked between
 
 module _ {M : Type 0} (round : M → M → Type 0) where
-  -- the members had so many rounds, one behind the other
-  abbrev pub HadRounds : (count : ℕ) → (before after : M) → Type 0
-  HadRounds zero before after = after ≡ before
-  HadRounds (suc n) before after = (between : M) × HadRounds n before between × round between after
-
   -- The engine was checked until it told the end of the transition, and the members had a round behind each check but the last.
   pub record WaitsForEnd (outcome : StartOutcome) (tallies : List ClientTally) (own later : List EngineEntry)
       (before after : M) : Type 0 where
     pub rounds : ℕ
     pub calls : later ≡ own ++ (going_checks rounds ++ done_check outcome tallies ∷ [])
-    pub members : HadRounds rounds before after
+    pub members : HadRounds round rounds before after
 
   -- A transition was made: begun with this sheet, and then waited for. These are the main thread's own calls on the engine
   -- before and after it, and the members before and after it.
@@ -42,4 +38,4 @@ module _ {M : Type 0} (round : M → M → Type 0) where
       (tallies : List ClientTally) (own later : List EngineEntry) (before after : M) : Type 0 where
     pub rounds : ℕ
     pub calls : later ≡ own ++ Begin transition sheet (Ok start) ∷ (going_checks rounds ++ done_check outcome tallies ∷ [])
-    pub members : HadRounds rounds before after
+    pub members : HadRounds round rounds before after

@@ -10,9 +10,9 @@ ghost use Rattle.transition_lock.specs.SharedEngines.{engine_lock_of, first_engi
 ghost use Rattle.session_runs.specs.MainKnowledge.{known_from, begin_known, known_behind};
 ghost use Rattle.session_runs.specs.MadeTransitions.{WaitsForEnd, DrivesTransition};
 
-use crate::rounds::Rounds;
 use daq_types::{StartOutcome, Transition};
 use engine_laws::laws::{main_has_transition, tallies_answered};
+use member_crew::Rounds;
 use member_model::{Sheet, Tallies};
 use std::sync::Wait;
 use transition_lock::{EnginePass, SharedEngine};

@@ -9,7 +9,7 @@ ghost use Rattle.session_runs.specs.KeptRuns.{RunsSeen};
 ghost use Rattle.session_runs.specs.RunAnswers.{AnswersPause, AnswersResume, AnswersStart, AnswersStop, ClockTold, CommandPoint, CutsStart, StopsUnsaved};
 ghost use Rattle.session_runs.specs.RunsFit.{run_clients, RecordsFit, RunsFit, starts_begun};
 
-use crate::Rounds;
+use member_crew::Rounds;
 use odb_watch::port_laws::{calls_add_up, entries_add_up};
 
 /// Each run command keeps it that the records and the run that is on fit the main thread's own calls on the engine and on

@@ -13,7 +13,6 @@ mod pausing;
 mod records;
 mod refusing;
 mod replies;
-mod rounds;
 mod runs;
 mod seat;
 mod starting;
@@ -29,6 +28,5 @@ pub use records::{
     ReportTally, RunRecord, SentLine, SentLines,
 };
 pub use replies::RunReply;
-pub use rounds::Rounds;
 pub use runs::{AnalyzerNames, FrontNames, Runs};
 pub use seat::MainSeat;

@@ -10,9 +10,10 @@ ghost use Rattle.session_runs.specs.RunEntries.{blank_reports};
 ghost use Rattle.session_runs.specs.MainKnowledge.{known_from, begin_known, known_behind};
 ghost use Rattle.session_runs.specs.MadeTransitions.{DrivesTransition};
 
-use crate::{Made, MainSeat, Rounds};
+use crate::{Made, MainSeat};
 use daq_types::{BoundedList, Bytes, NoMemory, Transition};
 use event_report::Report;
+use member_crew::Rounds;
 use member_model::{Reports, Sheet, Tallies};
 use std::alloc::Global;
 use std::sync::Wait;

@@ -5,12 +5,12 @@ ghost use Rattle.session_runs.specs.MainKnowledge.{known_from};
 ghost use Rattle.session_runs.specs.declared.on.CurrentRun.{CurrentRun};
 ghost use Rattle.session_runs.specs.RunAnswers.{AnswersPause, AnswersResume, ChangesRun, RefusesKnown, point_of};
 
-use crate::Rounds;
 use crate::making::{make_untold, sheet_for};
 use crate::refusing::refusal_of;
 use crate::replies::RunReply;
 use crate::runs::Runs;
 use daq_types::Transition;
+use member_crew::Rounds;
 use odb_watch::WatchPort;
 use odb_watch::port_laws::calls_add_up;
 use std::alloc::Global;

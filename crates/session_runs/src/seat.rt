@@ -16,8 +16,8 @@ ghost use Rattle.session_runs.specs.Members.{registrations};
 
 use crate::engine_making::{Made, make_transition};
 use crate::opening::{MemberName, close, register_all};
-use crate::rounds::Rounds;
 use daq_types::{RunState, StartOutcome, Transition};
+use member_crew::Rounds;
 use member_model::{Sheet, Tallies};
 use std::marker::Model;
 use std::sync::Wait;

@@ -12,14 +12,15 @@ ghost use Rattle.session_runs.specs.KeptRuns.{refused_start};
 ghost use Rattle.session_runs.specs.RunEntries.{AnnounceCalls, outcome_sets};
 ghost use Rattle.session_runs.specs.RunAnswers.{AnnouncesRun, AnswersStart, CutsAnnouncing, CutsStart, AnswersBegin, CutsBegin, ReadsClock, clock_of, point_of};
 
+use crate::RunRecord;
 use crate::making::{blank_reports, make_untold, start_sheet};
 use crate::on::{CurrentRun, OpenRun, RunRooms};
 use crate::refusing::refusal_of;
 use crate::replies::RunReply;
 use crate::runs::Runs;
-use crate::{Rounds, RunRecord};
 use daq_io::Clock;
 use daq_types::{Bytes, NoMemory, RunState, StartOutcome, Transition};
+use member_crew::Rounds;
 use member_model::Sheet;
 use odb_runinfo::{KeyPaths, RunNumber, next_run};
 use odb_watch::WatchPort;

@@ -3,7 +3,8 @@ use Rattle.daq_members.specs.FrontSeats.{FrontSeen}
 use Rattle.daq_members.specs.SeatedAnalyzers.{AnalyzerSeen}
 use Rattle.daq_members.specs.Members.{MemberSeen}
 use Rattle.daq_members.specs.Crews.{fronts_in, last_logger, analyzers_in}
-use Rattle.daq_members.proofs.MovedLaws.{first_off, none_off, fewer, front_sorted, logger_sorted, analyzer_sorted, front_room, analyzer_room}
+use Rattle.member_crew.proofs.ListLaws.{first_off, none_off}
+use Rattle.daq_members.proofs.MovedLaws.{fewer, front_sorted, logger_sorted, analyzer_sorted, front_room, analyzer_room}
 use Rattle.daq_members.proofs.by_kind.by_kind.Goals as goal
 
 pub loop-member-init : goal.loop-member-init

@@ -2,7 +2,8 @@ use Rattle.std.proofs.Common.{◌∙◌, List, ap, arith}
 use Rattle.std.specs.Prelude.{drop}
 use Rattle.daq_members.specs.SeatedAnalyzers.{AnalyzerSeen}
 use Rattle.daq_members.specs.Members.{Analyzer}
-use Rattle.daq_members.proofs.MovedLaws.{first_off, none_off, fewer, none_moved, one_moved, all_moved, moved_count}
+use Rattle.member_crew.proofs.ListLaws.{first_off, none_off}
+use Rattle.daq_members.proofs.MovedLaws.{fewer, none_moved, one_moved, all_moved, moved_count}
 use Rattle.daq_members.proofs.by_kind.move_analyzers.Goals as goal
 
 pub loop-analyzer-init : goal.loop-analyzer-init

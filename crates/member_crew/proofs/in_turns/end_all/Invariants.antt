@@ -4,4 +4,4 @@ use Rattle.member_crew.proofs.ListLaws.{ChangedBelow}
 use Rattle.member_crew.proofs.in_turns.end_all.Given as goal
 
 abbrev pub invariant-loop-place : goal.invariant-loop-place
-invariant-loop-place g l = ChangedBelow (EndsMember g.M.Member.turns) l.place l.initial.members l.members
+invariant-loop-place g l = ChangedBelow (EndsMember g.M.TakesTurns.turns) l.place l.initial.members l.members

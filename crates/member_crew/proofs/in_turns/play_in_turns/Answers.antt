@@ -7,7 +7,7 @@ use Rattle.member_crew.proofs.in_turns.play_in_turns.Goals as goal
 
 pub returns-clause-back : goal.returns-clause-back
 returns-clause-back g c =
-    let turns = g.M.Member.turns in
+    let turns = g.M.TakesTurns.turns in
     let rounds = c.play-played.ensures.rounds in
     let before = c.args.crew.members in
     let between = c.play-played.result.1.members in
@@ -18,5 +18,5 @@ returns-clause-back g c =
 pub returns-clause-pick : goal.returns-clause-pick
 returns-clause-pick g c =
     let rounds = c.play-played.ensures.rounds in
-    let kept = rounds_kept g.M.Member.turns g.K.Pick.tells g.K.Pick.ahead rounds.0 c.args.crew c.play-played.result.1 rounds.1 in
+    let kept = rounds_kept g.M.TakesTurns.turns g.K.Pick.tells g.K.Pick.ahead rounds.0 c.args.crew c.play-played.result.1 rounds.1 in
     (rounds.0, subst (λ pick. ReadsPick g.K.Pick.tells g.K.Pick.ahead rounds.0 c.args.crew.pick pick) (sym c.into_parts-members.ensures.pick) kept.pick)

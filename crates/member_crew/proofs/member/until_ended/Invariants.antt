@@ -3,4 +3,4 @@ use Rattle.member_crew.specs.Turns.{HadTurns}
 use Rattle.member_crew.proofs.member.until_ended.Given as goal
 
 abbrev pub invariant-loop : goal.invariant-loop
-invariant-loop g l = HadTurns g.M.Member.turns l.fn.member l.member
+invariant-loop g l = HadTurns g.M.TakesTurns.turns l.fn.member l.member

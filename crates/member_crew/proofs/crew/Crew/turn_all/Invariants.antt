@@ -5,6 +5,6 @@ use Rattle.member_crew.proofs.crew.Crew.turn_all.Given as goal
 
 abbrev pub invariant-loop-step : goal.invariant-loop-step
 invariant-loop-step g l = record {
-  turns : TurnFrom g.M.Member.turns l.first l.step l.initial.self.members l.self.members;
+  turns : TurnFrom g.M.TakesTurns.turns l.first l.step l.initial.self.members l.self.members;
   pick : l.self.pick ≡ l.initial.self.pick;
 }

@@ -9,15 +9,15 @@ use Rattle.member_crew.proofs.handles.MemberHandles.call_back.Goals as goal
 
 pub push-requires : goal.push-requires
 push-requires g c =
-    let count = moved_count (CameFrom g.M.Member.turns) c.args.self.now c.loop-handle.self-inside.handles c.loop-handle.back c.in-Some.handle c.loop-handle.invariant c.in-Some.ensures.first in
+    let count = moved_count (CameFrom g.M.TakesTurns.turns) c.args.self.now c.loop-handle.self-inside.handles c.loop-handle.back c.in-Some.handle c.loop-handle.invariant c.in-Some.ensures.first in
     omega (arith, count, ap length c.self.view_is, c.self.invariant)
 
 pub loop-handle-init : goal.loop-handle-init
-loop-handle-init g c = none_moved (CameFrom g.M.Member.turns) c.args.self.now c.self.inside.handles c.args.back.now c.self.view_is c.requires
+loop-handle-init g c = none_moved (CameFrom g.M.TakesTurns.turns) c.args.self.now c.self.inside.handles c.args.back.now c.self.view_is c.requires
 
 pub loop-handle-preserved : goal.loop-handle-preserved
 loop-handle-preserved g c =
-    let turns = g.M.Member.turns in
+    let turns = g.M.TakesTurns.turns in
     let handle = c.in-Some.handle in
     let came : HadTurns turns handle.member c.match-thread.member = elim c.match-thread.branch [
       | in-Ok w ↦
@@ -31,4 +31,4 @@ loop-handle-preserved g c =
     c.push.ensures c.loop-handle.invariant (ends_behind turns handle.member c.match-thread.member c.finish.result came c.finish.ensures)
 
 pub returns : goal.returns
-returns g c = all_moved (CameFrom g.M.Member.turns) c.args.self.now c.loop-handle.self-inside.handles c.loop-handle.back c.in_default.ensures.first c.loop-handle.invariant
+returns g c = all_moved (CameFrom g.M.TakesTurns.turns) c.args.self.now c.loop-handle.self-inside.handles c.loop-handle.back c.in_default.ensures.first c.loop-handle.invariant
