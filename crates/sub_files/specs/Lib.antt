@@ -1,0 +1,4 @@
+pub mod Patterns
+pub mod RecordFiles
+pub mod Cuts
+pub mod SampleCuts
