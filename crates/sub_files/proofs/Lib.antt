@@ -5,3 +5,6 @@ pub mod FileSteps
 pub mod CutLaws
 pub mod OneCut
 pub mod SampleCuts
+pub mod ClosedFiles
+pub mod NextFacts
+pub mod NextEvent
