@@ -223,7 +223,7 @@ fn failing_run<R: Wait>(
 
 #[test]
 fn a_failed_append_breaks_the_channel(rt: HostRuntime) -> Result<(), Fail> {
-    let pattern = Pattern::new("run%05d.mid")?;
+    let pattern = Pattern::new("run%05d.mid", false)?;
     let name = run_name()?;
     let outcome = failing_run(&rt, rt.alloc(), pattern, &name)?;
     assert!(rt; outcome.pulled == Pulled::Broke);

@@ -45,7 +45,7 @@ pub fn new_ports(alloc: Global, count: u32) -> Result<Ports<Port>, NoMemory>
 /// The pattern of the names of a channel's files; None without memory.
 fn pattern_of(alloc: Global, number: u32) -> Option<Pattern> {
     let text = format!(in alloc; "ch{number}run%05d.mid").ok()?;
-    Pattern::new(text.as_str()).ok()
+    Pattern::new(text.as_str(), false).ok()
 }
 
 /// Channel n reads buffer n modulo the number of buffers, and asks for all events.

@@ -13,7 +13,7 @@ fn patterns_by_the_rule(rt: HostRuntime) {
         ("run%05d%.mid", false),
         ("run %05d.mid", false),
     ] {
-        assert_eq!(rt; Pattern::new(text).is_ok(), *is_pattern);
+        assert_eq!(rt; Pattern::new(text, false).is_ok(), *is_pattern);
     }
 }
 
@@ -24,8 +24,8 @@ fn names_of_runs(rt: HostRuntime) -> Result<(), Fail> {
         (99999, "run99999.mid"),
         (123456, "run123456.mid"),
     ] {
-        match Pattern::new("run%05d.mid") {
-            Ok(pattern) => assert_eq!(rt; pattern.name(*run).as_slice(), name.as_bytes()),
+        match Pattern::new("run%05d.mid", false) {
+            Ok(pattern) => assert_eq!(rt; pattern.name(*run, 0).as_slice(), name.as_bytes()),
             Err(_) => assert!(rt; false),
         }
     }

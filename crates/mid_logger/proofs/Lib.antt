@@ -2,10 +2,7 @@ pub mod OwnSteps
 pub mod ReadSteps
 pub mod PullSteps
 pub mod StageSteps
-pub mod PatternLaws
-pub mod FileParts
 pub mod MarkSteps
-pub mod FileSteps
 pub mod OpenSteps
 pub mod EndSteps
 pub mod BesideSteps
@@ -13,4 +10,3 @@ pub mod OpenBeside
 pub mod OpenAlone
 pub mod LeftSteps
 pub mod Keeping
-pub mod OnePattern

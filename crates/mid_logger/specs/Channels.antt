@@ -20,6 +20,7 @@ use Rattle.mid_logger.specs.declared.stage.BegunRun.{BegunRun}
 use Rattle.mid_logger.specs.declared.stage.ChannelStage.{ChannelStage}
 use Rattle.mid_logger.specs.declared.stage.ChannelStage.TheVariants.{Idle, Asking, Writing, Draining, Drained, Broken}
 use Rattle.mid_logger.specs.Patterns.{file_name_by}
+pub use Rattle.sub_files.specs.RecordFiles.{ClosesPart}
 
 -- the run number, the time and the dump of the record that begins a run's file
 pub record FileHead : Type 0 where
@@ -191,8 +192,3 @@ is_behind_end (Some end) place = nat_le end place
 -- the request of the open run was cancelled, with any reply
 abbrev pub CancelsRequest : Access → Access → ChannelRun → Type 0
 CancelsRequest a b opened = (reply : Result ⊤ RequestRefusal) × Calls a b (Cancel opened.client opened.request reply)
-
--- The file of this number grew by the first of these bytes, of whatever number, and was closed.
-pub record ClosesPart (before after : Seen) (number : ℕ) (bytes : List ℕ) : Type 0 where
-  pub count : ℕ
-  pub closes : Closes before after number (take count bytes)

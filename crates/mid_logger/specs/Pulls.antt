@@ -12,6 +12,7 @@ use Rattle.mid_logger.specs.declared.pulled.Pulled.TheVariants.{Wrote, Dropped, 
 use Rattle.mid_logger.specs.declared.stage.BegunRun.{BegunRun}
 use Rattle.mid_logger.specs.declared.stage.ChannelStage.{ChannelStage}
 use Rattle.mid_logger.specs.declared.stage.ChannelStage.TheVariants.{Draining, Drained, Broken}
+pub use Rattle.sub_files.specs.RecordFiles.{NamesMore}
 use Rattle.mid_logger.specs.Channels.{is_behind_end, reading_run, CancelsRequest, ClosesPart}
 
 -- a channel's stage, what the logger knows of its port, and the files, before a call and after it, and the answer
@@ -112,7 +113,3 @@ failed_by answer before = before
 abbrev pub PullFirst : Pulled → (name : List ℕ) → (old new : Option (List ℕ)) → Type 0
 PullFirst Broke name old new = new ≡ first_of old name
 PullFirst answer name old new = new ≡ old
-
--- the name of the first fault, behind a call on the file of this name that may have failed
-abbrev pub NamesMore : (name : List ℕ) → (old new : Option (List ℕ)) → Type 0
-NamesMore name old new = (new ≡ old) ⊎ (new ≡ first_of old name)

@@ -1,4 +1,4 @@
-use crate::pattern::Pattern;
+use sub_files::Pattern;
 
 /// What a channel of the logger writes, and where.
 #[derive(Drop)]

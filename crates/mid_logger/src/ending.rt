@@ -13,12 +13,12 @@ ghost use Rattle.mid_logger.specs.ChannelTurns.{NotesFault, asking_run, broken_r
 ghost use Rattle.mid_logger.specs.ChannelEnds.{CancelsStanding, RemovesFile, ClosesFile, HasLeft, last_bytes, state_ended, state_otherwise, stage_settled};
 
 use crate::channel::Channel;
-use crate::record_files::end_file;
 use crate::stage::{BegunRun, ChannelRun, ChannelStage};
 use buffer_core::BufferPort;
 use daq_io::{Failed, Files};
 use daq_types::{Bytes, ChannelState};
 use std::sync::Wait;
+use sub_files::end_file;
 
 /// The run whose request stands.
 fn run_asked(stage: ChannelStage) -> Option<ChannelRun>
@@ -151,12 +151,12 @@ impl Channel {
             (F.first files.old) (F.first files.new) }
     {
         if let Some(opened) = run_written(self.stage) {
-            let name = self.spec.pattern.name(opened.run);
+            let name = self.spec.pattern.name(opened.run, 0);
             self.drop_run(files, opened.file, &name);
             return;
         }
         if let Some(run) = run_broken(self.stage) {
-            match files.remove(&self.spec.pattern.name(run.opened.run)) {
+            match files.remove(&self.spec.pattern.name(run.opened.run, 0)) {
                 Ok(()) => {}
                 Err(Failed) => self.failed = true,
             }

@@ -1,7 +1,5 @@
 //! What leaves a channel as it stands: each function does nothing, and its contract is the law.
 
-ghost use Rattle.std.specs.Prelude.{◌≡◌};
-ghost use Rattle.mid_logger.specs.Patterns.{NamePattern, IsPattern, pattern_text};
 ghost use Rattle.mid_logger.specs.Keeping.{PullsKeep, PullsChange, AbortsKeep, AbortsChange, ClosesKeep, ClosesChange, OpensKeep, OpensChange, OpensAlone, FilesThere, BegunKeeps, EndedKeeps};
 ghost use Rattle.mid_logger.specs.Beside.{AbortsBeside, CallsBeside, ClosesBeside, FilesBeside, LeftBeside, OpensBeside, PullsBeside};
 
@@ -72,10 +70,4 @@ pub fn opens_kept()
 pub fn marks_kept()
     ensures begun { BegunKeeps }
     ensures ended { EndedKeeps }
-{}
-
-/// No two patterns have the same text.
-pub fn one_pattern()
-    ensures { (p q : NamePattern) → IsPattern p → IsPattern q → pattern_text p ≡ pattern_text q
-        → p ≡ q }
 {}

@@ -6,13 +6,11 @@ mod channel_spec;
 mod ending;
 pub mod laws;
 mod opening;
-mod pattern;
 mod pulled;
-mod record_files;
 mod stage;
 
 pub use channel::Channel;
 pub use channel_spec::ChannelSpec;
-pub use pattern::{BadPattern, Pattern};
 pub use pulled::Pulled;
 pub use stage::{BegunRun, ChannelRun, ChannelStage};
+pub use sub_files::{BadPattern, Pattern};

@@ -13,12 +13,12 @@ ghost use Rattle.mid_logger.specs.RecordFiles.{DropsFile, IsGone};
 ghost use Rattle.mid_logger.specs.ChannelTurns.{AsksEvents, StartsAsking, HasClient, OpensBy, OpenFaults, OpenClashes, OpenFirst, NotesFault, IsRefusalOf, failed_at};
 
 use crate::channel::Channel;
-use crate::record_files::{begin_file, drop_file};
 use crate::stage::{ChannelRun, ChannelStage};
 use buffer_core::BufferPort;
 use daq_io::{Failed, Files, NameRefused};
 use daq_types::{FileName, Kind, Name, Order, Why};
 use std::sync::Wait;
+use sub_files::{begin_file, drop_file};
 
 /// A client with its one request.
 #[derive(Clone, Copy, Debug, PartialEq, Eq)]
@@ -264,7 +264,7 @@ impl Channel {
         ensures first { OpenFirst result (file_name_by self.old.spec.pattern order.now.run)
             (F.first files.old) (F.first files.new) }
     {
-        let name = self.spec.pattern.name(order.run);
+        let name = self.spec.pattern.name(order.run, 0);
         match begin_file(files, &name, order.run, order.time, dump) {
             Ok(file) => self.start_asking(rt, files, port, order, file, &name),
             Err(why) => Err(self.refusal(why)),

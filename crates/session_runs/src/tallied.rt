@@ -78,7 +78,7 @@ fn file_told(states: &[ChannelState], run: u32, channel: &RunChannel) -> Option<
     let state = states.get(channel.number as usize)?;
     Some(FileRecord {
         channel: channel.number,
-        name: channel.pattern.name(run),
+        name: channel.pattern.name(run, 0),
         state: *state,
     })
 }

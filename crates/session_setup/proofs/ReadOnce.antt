@@ -45,7 +45,7 @@ name_once text (Err q) (Err r) a b = ap Err (one_fault text q r a b)
 
 pub pattern_once : ((p q : NamePattern) → IsPattern p → IsPattern q → pattern_text p ≡ pattern_text q → p ≡ q)
     → (text : List ℕ) (a b : Option NamePattern) → IsPatternRead text a → IsPatternRead text b → a ≡ b
-pattern_once one text (Some p) (Some q) a b = ap Some (one p q a.0 b.0 (sym a.1 ∙ b.1))
-pattern_once one text (Some p) None a b = absurd (b (p, a.0, a.1))
-pattern_once one text None (Some q) a b = absurd (a (q, b.0, b.1))
+pattern_once one text (Some p) (Some q) a b = ap Some (one p q a.is b.is (sym a.whole ∙ b.whole))
+pattern_once one text (Some p) None a b = absurd (b (p, a))
+pattern_once one text None (Some q) a b = absurd (a (q, b))
 pattern_once one text None None a b = refl

@@ -1,9 +1,9 @@
 -- What the lines `buffer`, `equip`, `channel` and `analyzer` refuse, and what they leave where they are taken.
-use Rattle.std.specs.Prelude.{◌≡◌, ℕ, ◌&&◌, Bool, true, not, if◌then◌else◌, nat_le, nat_lt, List, [], ◌∷◌, ◌++◌, length, Option, Some, None, is_none, unwrap_or, codes}
+use Rattle.std.specs.Prelude.{◌≡◌, ℕ, ◌&&◌, Bool, false, true, not, if◌then◌else◌, nat_le, nat_lt, List, [], ◌∷◌, ◌++◌, length, Option, Some, None, is_none, unwrap_or, codes}
 use Rattle.odb_value.specs.Paths.{same_name}
 use Rattle.daq_types.specs.Names.{is_compressed}
 use Rattle.event.specs.Events.{any}
-use Rattle.mid_logger.specs.Patterns.{NamePattern, IsPattern, IsPatternText, pattern_text}
+use Rattle.mid_logger.specs.Patterns.{NamePattern, IsTextOf, IsPatternText}
 use Rattle.mid_logger.specs.declared.channel_spec.ChannelSpec.{ChannelSpec}
 use Rattle.daq_types.specs.declared.runs.Kind.{Kind}
 use Rattle.session_setup.specs.declared.declared.AnalyzerDeclared.{AnalyzerDeclared}
@@ -78,8 +78,8 @@ with_front d name id mask buffer limit = record d {
 
 -- what a text is as a pattern, or that it is none
 abbrev pub IsPatternRead : List ℕ → Option NamePattern → Type 0
-IsPatternRead text (Some pattern) = IsPattern pattern × (text ≡ pattern_text pattern)
-IsPatternRead text None = ¬ IsPatternText text
+IsPatternRead text (Some pattern) = IsTextOf text false pattern
+IsPatternRead text None = ¬ IsPatternText text false
 
 -- the tests of `channel N PATTERN BUFFER ID MASK`
 abbrev pub channel_tests : Declared → (number : ℕ) → Option NamePattern → (text buffer : List ℕ) → LineTests
@@ -136,7 +136,7 @@ default_front = record { name = codes "FE"; id = 1; mask = 0; buffer = 0; limit 
 abbrev pub default_channel : ChannelSpec
 default_channel = record {
   number = 0;
-  pattern = record { front = codes "run"; back = codes ".mid" };
+  pattern = record { front = codes "run"; middle = codes ".mid"; back = None };
   buffer = 0;
   id = any;
   mask = any;

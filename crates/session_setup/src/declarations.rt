@@ -230,7 +230,7 @@ impl Declarations {
             × (self.new ≡ with_channel self.old number read buffer.now id mask)) }
         ensures same { OnErr result (self.new ≡ self.old) }
     {
-        let read = Pattern::from_bytes(pattern).ok();
+        let read = Pattern::from_bytes(pattern, false).ok();
         if let Some(refusal) = self.channel_refusal(number, &read, pattern, buffer) {
             return Err(refusal);
         }

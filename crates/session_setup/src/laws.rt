@@ -5,7 +5,7 @@ ghost use Rattle.mid_logger.specs.Patterns.{NamePattern};
 ghost use Rattle.session_setup.specs.Refusals.{NameRead, IsNameRead};
 ghost use Rattle.session_setup.specs.SetupLines.{IsPatternRead};
 
-use mid_logger::laws::one_pattern;
+use sub_files::laws::one_pattern;
 
 /// A text is read in one way, as a name and as a pattern: so each line that declares something has one answer.
 pub fn read_once()

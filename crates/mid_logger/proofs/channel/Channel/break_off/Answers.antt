@@ -1,4 +1,4 @@
-use Rattle.mid_logger.proofs.FileParts.{names_more}
+use Rattle.sub_files.proofs.FileParts.{names_more}
 use Rattle.mid_logger.proofs.channel.Channel.break_off.Goals as goal
 
 pub returns-clause-first : goal.returns-clause-first

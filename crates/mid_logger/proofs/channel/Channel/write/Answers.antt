@@ -1,7 +1,7 @@
 use Rattle.std.proofs.Common.{ℕ, List, subst}
 use Rattle.daq_io.proofs.SeenLaws.{Extends-name}
 use Rattle.mid_logger.specs.Channels.{ClosesPart}
-use Rattle.mid_logger.proofs.FileParts.{part_closed, first_once}
+use Rattle.sub_files.proofs.FileParts.{part_closed, first_once}
 use Rattle.mid_logger.proofs.channel.Channel.write.Goals as goal
 
 pub returns-in-Err-clause-closed : goal.returns-in-Err-clause-closed

@@ -1,0 +1,10 @@
+pub mod PatternLaws
+pub mod OnePattern
+pub mod FileParts
+pub mod FileSteps
+pub mod CutLaws
+pub mod OneCut
+pub mod SampleCuts
+pub mod ClosedFiles
+pub mod NextFacts
+pub mod NextEvent

@@ -1,0 +1,6 @@
+pub mod Patterns
+pub mod RecordFiles
+pub mod Cuts
+pub mod SampleCuts
+pub mod Pieces
+pub mod Rolls

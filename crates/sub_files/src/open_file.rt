@@ -1,0 +1,241 @@
+//! The file of a run that is being written, and how the next one is begun.
+
+ghost use Rattle.std.specs.Prelude.{◌≡◌, ◌≢◌, ◌≤◌, ◌<◌, ◌+◌, ◌++◌, ◌∷◌, ◌⊎◌, ◌↔◌, [], List, false, IsTrue, IsSome, IsErrOf, OnOk, OnErr, IfOk, IfErr, length};
+ghost use Rattle.daq_types.specs.declared.events.Event.{Event};
+ghost use Rattle.event.specs.Events.{encoding, record_limit};
+ghost use Rattle.daq_io.specs.Counts.{CountsFault, CountsNamed, CountsClash, NamesFirst, NamesFirstOf, Rose};
+ghost use Rattle.daq_io.specs.Seen.{Same, Extends, Closes};
+ghost use Rattle.sub_files.specs.RecordFiles.{ClosesPart, NamesMore, UndoesFile, RoseTwice};
+ghost use Rattle.sub_files.specs.Patterns.{piece_name_by};
+ghost use Rattle.sub_files.specs.Pieces.{IsOpenPiece, HoldsRun, HasPart, series_of, piece_name, begin_bytes, between};
+ghost use Rattle.sub_files.specs.Rolls.{begins_next, counted_in, next_file, FindsTaken, RollsAt, RollsOn, MovesOn, MakesReady, WritesNext, FailsRoll, FailsMove, FailsNext, AppendsNone, ClashesBy, NamesOne, fallen_at, next_name};
+
+use crate::pattern::Pattern;
+use crate::record_files::{append_record, begin_file, end_file};
+use daq_io::{Failed, Files, NameRefused};
+use mid_format::begin_record;
+
+/// The greatest number of a file of a run.
+const LAST_NUMBER: u32 = 9999;
+
+/// The run number and the time of the records that begin a run's files.
+#[derive(Clone, Copy)]
+pub struct RunHead {
+    pub run: u32,
+    pub time: u32,
+}
+
+/// The file of a run that is being written.
+#[derive(Clone, Copy)]
+pub struct OpenFile {
+    /// The number under which it is written.
+    pub file: u32,
+    /// Its number in the run, from 0 to 9999.
+    pub sub: u32,
+    /// Its bytes, where there is a limit.
+    pub bytes: u64,
+    /// Whether the name of the next file was found taken.
+    pub taken: bool,
+}
+
+/// What a failed call left of a run's files, all of which are closed.
+#[derive(Clone, Copy)]
+pub struct Fallen {
+    /// How many were made.
+    pub files: u32,
+    /// How many of these, the first ones, have both records and were closed without a fault.
+    pub framed: u32,
+}
+
+/// Closes a file behind a call that failed, whatever that is answered.
+fn close_behind<F: Files>(files: &mut F, file: u32)
+    requires writes { IsTrue ((F.seen files.old).writes file) }
+    ensures closes { Closes (F.seen files.old) (F.seen files.new) file [] }
+    ensures faults { F.faults files.old ≤ F.faults files.new }
+    ensures clashes { F.clashes files.new ≡ F.clashes files.old }
+    ensures first { NamesMore ((F.seen files.old).name_of file) (F.first files.old)
+        (F.first files.new) }
+{
+    let _ = files.close(file);
+}
+
+impl OpenFile {
+    /// Whether the next file is begun before so many bytes are written, where a begin record has a dump of this length.
+    fn begins_next(self, limit: u32, dump: usize, size: usize) -> bool
+        requires { dump ≤ record_limit }
+        ensures { result ≡ begins_next limit (16 + dump) self size }
+    {
+        0 < limit
+            && (16 + dump as u64) < self.bytes
+            && u64::from(limit) < self.bytes.saturating_add(size as u64)
+            && self.sub < LAST_NUMBER
+            && !self.taken
+    }
+
+    /// The file with so many bytes more, which are counted where there is a limit.
+    fn counted(self, limit: u32, size: usize) -> OpenFile
+        ensures { result ≡ counted_in limit self size }
+    {
+        if 0 < limit {
+            OpenFile {
+                file: self.file,
+                sub: self.sub,
+                bytes: self.bytes.saturating_add(size as u64),
+                taken: self.taken,
+            }
+        } else {
+            self
+        }
+    }
+
+    /// Writes the begin record of the next file, which was made, behind the end of this one. Where that fails the file is closed.
+    fn begin_next<F: Files>(
+        self,
+        files: &mut F,
+        file: u32,
+        head: RunHead,
+        dump: &[u8],
+    ) -> Result<OpenFile, Fallen>
+        requires writes { IsTrue ((F.seen files.old).writes file) }
+        requires small { length dump.now ≤ record_limit }
+        requires few { self.sub < 9999 }
+        ensures begins { OnOk result (Extends (F.seen files.old) (F.seen files.new) file
+            (begin_bytes head dump.now)) }
+        ensures ready { IfOk result (λ ready. ready ≡ next_file dump.now self file) }
+        ensures fails { OnErr result (ClosesPart (F.seen files.old) (F.seen files.new) file
+            (begin_bytes head dump.now)) }
+        ensures fallen { IfErr result (λ fallen. fallen
+            ≡ fallen_at (self.sub + 2) (self.sub + 1)) }
+        ensures faults { CountsFault (F.faults files.old) (F.faults files.new) result }
+        ensures clashes { F.clashes files.new ≡ F.clashes files.old }
+        ensures first { NamesFirst ((F.seen files.old).name_of file) (F.first files.old)
+            (F.first files.new) result }
+    {
+        let header = begin_record(head.run, head.time, dump.len() as u32);
+        match append_record(files, file, &header, dump) {
+            Ok(()) => Ok(OpenFile {
+                file,
+                sub: self.sub + 1,
+                bytes: 16 + dump.len() as u64,
+                taken: false,
+            }),
+            Err(Failed) => {
+                close_behind(files, file);
+                Err(Fallen {
+                    files: self.sub + 2,
+                    framed: self.sub + 1,
+                })
+            }
+        }
+    }
+
+    /// Ends this file and begins the next one, which was made. Where either fails both are closed.
+    fn roll<F: Files>(
+        self,
+        files: &mut F,
+        file: u32,
+        head: RunHead,
+        dump: &[u8],
+    ) -> Result<OpenFile, Fallen>
+        requires old { IsTrue ((F.seen files.old).writes self.file) }
+        requires writes { IsTrue ((F.seen files.old).writes file) }
+        requires apart { self.file ≢ file }
+        requires small { length dump.now ≤ record_limit }
+        requires few { self.sub < 9999 }
+        ensures rolls { IfOk result (λ ready. RollsAt head dump.now self ready file
+            (F.seen files.old) (F.seen files.new)) }
+        ensures fails { IfErr result (λ fallen. FailsRoll head dump.now self file fallen
+            (F.seen files.old) (F.seen files.new)) }
+        ensures faults { CountsFault (F.faults files.old) (F.faults files.new) result }
+        ensures clashes { F.clashes files.new ≡ F.clashes files.old }
+        ensures quiet { OnOk result (F.first files.new ≡ F.first files.old) }
+        ensures first { OnErr result (NamesOne ((F.seen files.old).name_of self.file)
+            ((F.seen files.old).name_of file) (F.first files.old) (F.first files.new)) }
+    {
+        match end_file(files, self.file, head.run, head.time, &[]) {
+            Ok(()) => self.begin_next(files, file, head, dump),
+            Err(Failed) => {
+                close_behind(files, file);
+                Err(Fallen {
+                    files: self.sub + 2,
+                    framed: self.sub,
+                })
+            }
+        }
+    }
+
+    /// Goes on in the next file, or past the limit where its name is taken. Where a call fails all that is open is closed.
+    fn move_on<F: Files>(
+        self,
+        files: &mut F,
+        pattern: &Pattern,
+        head: RunHead,
+        dump: &[u8],
+    ) -> Result<OpenFile, Fallen>
+        requires old { IsTrue ((F.seen files.old).writes self.file) }
+        requires small { length dump.now ≤ record_limit }
+        requires few { self.sub < 9999 }
+        ensures moves { IfOk result (λ ready.
+            FindsTaken (piece_name_by pattern.now head.run (self.sub + 1)) self ready
+            (F.seen files.old) (F.seen files.new)
+            ⊎ RollsOn (piece_name_by pattern.now head.run (self.sub + 1)) head dump.now self ready
+            (F.seen files.old) (F.seen files.new)) }
+        ensures fails { IfErr result (λ fallen.
+            FailsMove (piece_name_by pattern.now head.run (self.sub + 1)) head dump.now self fallen
+            (F.seen files.old) (F.seen files.new)) }
+        ensures faults { CountsFault (F.faults files.old) (F.faults files.new) result }
+        ensures taken { IfOk result (λ ready.
+            ClashesBy false ready.taken (F.clashes files.old) (F.clashes files.new)) }
+        ensures clashes { OnErr result (F.clashes files.new ≡ F.clashes files.old) }
+        ensures quiet { OnOk result (F.first files.new ≡ F.first files.old) }
+        ensures first { OnErr result (NamesOne ((F.seen files.old).name_of self.file)
+            (piece_name_by pattern.now head.run (self.sub + 1)) (F.first files.old)
+            (F.first files.new)) }
+    {
+        let next = pattern.name(head.run, self.sub + 1);
+        match files.create(&next) {
+            Ok(file) => self.roll(files, file, head, dump),
+            Err(NameRefused::Exists) => Ok(OpenFile {
+                file: self.file,
+                sub: self.sub,
+                bytes: self.bytes,
+                taken: true,
+            }),
+            Err(NameRefused::Failed) => {
+                close_behind(files, self.file);
+                Err(Fallen {
+                    files: self.sub + 1,
+                    framed: self.sub,
+                })
+            }
+            Err(NameRefused::Missing) => unreachable!(),
+        }
+    }
+
+    /// Appends an event. Where that fails the file is closed.
+    fn append<F: Files>(self, files: &mut F, limit: u32, event: &[u8]) -> Result<OpenFile, Fallen>
+        requires writes { IsTrue ((F.seen files.old).writes self.file) }
+        requires few { self.sub ≤ 9999 }
+        ensures writes { OnOk result (Extends (F.seen files.old) (F.seen files.new) self.file
+            event.now) }
+        ensures later { IfOk result (λ later. later
+            ≡ counted_in limit self (length event.now)) }
+        ensures fails { IfErr result (λ fallen. AppendsNone self event.now fallen
+            (F.seen files.old) (F.seen files.new)) }
+        ensures faults { CountsFault (F.faults files.old) (F.faults files.new) result }
+        ensures clashes { F.clashes files.new ≡ F.clashes files.old }
+        ensures first { NamesFirst ((F.seen files.old).name_of self.file) (F.first files.old)
+            (F.first files.new) result }
+    {
+        match files.append(self.file, event) {
+            Ok(()) => Ok(self.counted(limit, event.len())),
+            Err(Failed) => {
+                close_behind(files, self.file);
+                Err(Fallen {
+                    files: self.sub + 1,
+                    framed: self.sub,
+                })
+            }
+        }
+    }
+}
