@@ -170,7 +170,7 @@ first_of_more : (front xs ys : List ℕ) (count : ℕ) → IsPrefix (front ++ ta
 first_of_more front xs ys count = (
   drop count xs ++ ys,
   sym (append_assoc (front ++ take count xs) (drop count xs) ys)
-  ∙ ap (λ (zs : List ℕ). zs ++ ys) (append_assoc front (take count xs) (drop count xs) ∙ ap (λ (zs : List ℕ). front ++ zs) (take-append-drop count xs)),
+      ∙ ap (λ (zs : List ℕ). zs ++ ys) (append_assoc front (take count xs) (drop count xs) ∙ ap (λ (zs : List ℕ). front ++ zs) (take-append-drop count xs)),
 )
 
 whole_prefix : (xs : List Event) → IsPrefix xs xs
