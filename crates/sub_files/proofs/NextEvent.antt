@@ -1,5 +1,5 @@
 -- What the files of a run hold behind one event more, and where a call on them failed.
-use Rattle.std.specs.Prelude.{◌≡◌, ◌≢◌, ◌⊎◌, ◌<◌, ◌≤◌, ◌+◌, ◌-◌, ◌^◌, ℕ, suc, min, Bool, false, true, nat_lt, if◌then◌else◌, IsTrue, List, [], ◌∷◌, ◌++◌, length, take, drop, Result, Ok, Err, OnOk, IfErr, refl}
+use Rattle.std.specs.Prelude.{◌≡◌, ◌≢◌, ◌<◌, ◌≤◌, ◌+◌, ◌-◌, ◌^◌, ℕ, suc, min, Bool, false, true, nat_lt, if◌then◌else◌, List, [], ◌∷◌, ◌++◌, length, take, drop, Result, Ok, Err, OnOk, IfErr, refl}
 use Rattle.std.proofs.Common.{arith, ap, sym, subst, ◌∙◌, inl, inr, length-append, append_assoc, take-append-drop}
 use Rattle.std.proofs.lemmas.List.{append-nil}
 use mathlib.Core.List.{IsPrefix}
@@ -12,7 +12,7 @@ use Rattle.sub_files.specs.declared.open_file.OpenFile.{OpenFile}
 use Rattle.sub_files.specs.Cuts.{last_number, IsCut, BeginsNext, StaysIn}
 use Rattle.sub_files.specs.Pieces.{Series, piece_name, begun_piece, begin_bytes, between, head_bytes, IsPartStored, ArePiecesStored, HoldsRun, HasPart}
 use Rattle.sub_files.specs.RecordFiles.{ClosesPart}
-use Rattle.sub_files.specs.Rolls.{begins_next, counted_in, next_file, next_name, fallen_at, FindsTaken, RollsAt, RollsOn, MovesOn, MakesReady, WritesNext, MakesNone, EndsNone, BeginsNone, FailsRoll, RollsNone, FailsMove, AppendsNone, WritesNone, FailsNext}
+use Rattle.sub_files.specs.Rolls.{begins_next, counted_in, next_file, next_name, fallen_at, MovesOn, MakesReady, WritesNext, RollsNone, FailsMove, FailsNext}
 use Rattle.sub_files.proofs.ClosedFiles.{KeepsClosed, kept_then, same_kept, open_kept, made_kept, stored_kept, pieces_kept, pieces_push, same_written, made_written, new_written}
 use Rattle.sub_files.proofs.CutLaws.{encoded-push, length-encoded-push, cut_grows, cut_next, cut_taken}
 use Rattle.sub_files.proofs.NextFacts.{ltb_tells, Begins, begins_so, stays_so, stays_in, begins_with, IsCounted}
@@ -170,7 +170,7 @@ first_of_more : (front xs ys : List ℕ) (count : ℕ) → IsPrefix (front ++ ta
 first_of_more front xs ys count = (
   drop count xs ++ ys,
   sym (append_assoc (front ++ take count xs) (drop count xs) ys)
-  ∙ ap (λ (zs : List ℕ). zs ++ ys) (append_assoc front (take count xs) (drop count xs) ∙ ap (λ (zs : List ℕ). front ++ zs) (take-append-drop count xs)),
+      ∙ ap (λ (zs : List ℕ). zs ++ ys) (append_assoc front (take count xs) (drop count xs) ∙ ap (λ (zs : List ℕ). front ++ zs) (take-append-drop count xs)),
 )
 
 whole_prefix : (xs : List Event) → IsPrefix xs xs

@@ -1,11 +1,11 @@
 -- Files of a run that are removed one after the other.
-use Rattle.std.specs.Prelude.{◌≡◌, ◌≢◌, ◌⊎◌, ◌<◌, ◌≤◌, ◌+◌, ◌-◌, ◌^◌, ℕ, min, IsTrue, List, Option, Some, None, Result, Ok, Err, OnOk, OnErr, refl}
+use Rattle.std.specs.Prelude.{◌≡◌, ◌≢◌, ◌<◌, ◌≤◌, ◌+◌, ℕ, IsTrue, List, Option, Some, None, Result, Ok, Err, OnOk, OnErr, refl}
 use Rattle.std.proofs.Common.{arith, ap, sym, subst, ◌∙◌, inl, inr}
 use Rattle.std.proofs.lemmas.Bool.Decides.{eqb_tells}
 use Rattle.daq_io.specs.Counts.{CountsFault, Rose, first_of}
 use Rattle.daq_io.specs.Seen.{Seen, Touches, Same, KeepsNumbers, Removes}
 use Rattle.daq_io.proofs.SeenLaws.{KeepsNumber-refl, KeepsNumbers-trans, KeepsFiles-Touches, name_tells}
-use Rattle.sub_files.specs.RecordFiles.{IsGone, AreGone, RemovesNames, NamesOneOf}
+use Rattle.sub_files.specs.RecordFiles.{AreGone, RemovesNames, NamesOneOf}
 
 -- so many were removed, and this is answered so far
 pub record HasRemoved {T E : Type 0} (names : ℕ → List ℕ) (many : ℕ) (a b : Seen) (fa fb : ℕ) (oa ob : Option (List ℕ)) (answer : Result T E) : Type 0 where

@@ -1,6 +1,6 @@
 -- The files of a run at its begin, and once the last one is closed.
-use Rattle.std.specs.Prelude.{◌≡◌, ◌≢◌, ◌⊎◌, ◌<◌, ◌≤◌, ◌+◌, ◌-◌, ◌^◌, ℕ, suc, min, List, [], ◌∷◌, ◌++◌, length, take, drop, refl}
-use Rattle.std.proofs.Common.{arith, ap, sym, subst, ◌∙◌, inl, inr, append_assoc, take-append-drop}
+use Rattle.std.specs.Prelude.{◌≡◌, ◌<◌, ◌≤◌, ◌+◌, ◌^◌, ℕ, suc, List, [], ◌∷◌, ◌++◌, length, take, drop, refl}
+use Rattle.std.proofs.Common.{arith, ap, subst, ◌∙◌, inr, append_assoc, take-append-drop}
 use Rattle.std.proofs.lemmas.List.{append-nil}
 use Rattle.daq_types.specs.declared.events.Event.{Event}
 use Rattle.event.specs.Events.{record_limit}
@@ -10,7 +10,7 @@ use Rattle.daq_io.proofs.SeenLaws.{Creates-IsWritten, IsWritten-Closes}
 use Rattle.sub_files.specs.declared.open_file.OpenFile.{OpenFile}
 use Rattle.sub_files.specs.declared.open_file.RunHead.{RunHead}
 use Rattle.sub_files.specs.Patterns.{NamePattern, piece_name_by}
-use Rattle.sub_files.specs.Pieces.{Series, series_of, piece_name, begun_piece, between, head_bytes, ArePiecesStored, AreFilesStored, HoldsRun, HasRun, HasPart}
+use Rattle.sub_files.specs.Pieces.{Series, series_of, piece_name, begun_piece, head_bytes, ArePiecesStored, AreFilesStored, HoldsRun, HasRun, HasPart}
 use Rattle.sub_files.specs.RecordFiles.{ClosesPart}
 use Rattle.sub_files.specs.Rolls.{first_file, fallen_at}
 use Rattle.sub_files.proofs.ClosedFiles.{open_kept, pieces_kept}
