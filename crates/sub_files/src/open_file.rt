@@ -1,6 +1,6 @@
 //! The file of a run that is being written, and how the next one is begun.
 
-ghost use Rattle.std.specs.Prelude.{ℕ, ◌≡◌, ◌≢◌, ◌≤◌, ◌<◌, ◌+◌, ◌^◌, ◌++◌, ◌∷◌, ◌⊎◌, ◌↔◌, [], List, false, IsTrue, IsSome, IsErrOf, OnOk, OnErr, IfOk, IfErr, length};
+ghost use Rattle.std.specs.Prelude.{ℕ, ◌≡◌, ◌≢◌, ◌≤◌, ◌<◌, ◌+◌, ◌^◌, ◌⊎◌, ◌↔◌, [], List, false, IsTrue, IsSome, IsErrOf, OnOk, OnErr, IfOk, IfErr, length};
 ghost use Rattle.daq_types.specs.declared.events.Event.{Event};
 ghost use Rattle.event.specs.Events.{encoding, record_limit};
 ghost use Rattle.event.specs.RunFile.{begun_file, end_record as end_event};
@@ -8,7 +8,7 @@ ghost use Rattle.daq_io.specs.Counts.{CountsFault, CountsNamed, CountsClash, Nam
 ghost use Rattle.daq_io.specs.Seen.{Same, Creates, Extends, Closes};
 ghost use Rattle.sub_files.specs.RecordFiles.{ClosesPart, NamesMore, UndoesFile, RoseTwice, RemovesNames, AreGone, NamesOneOf};
 ghost use Rattle.sub_files.specs.Patterns.{piece_name_by};
-ghost use Rattle.sub_files.specs.Pieces.{Series, IsOpenPiece, HoldsRun, HasRun, HasPart, series_of, begin_bytes};
+ghost use Rattle.sub_files.specs.Pieces.{Series, IsOpenPiece, HoldsRun, HasRun, HasPart, HoldsMore, HasPartOfMore, series_of, begin_bytes};
 ghost use Rattle.sub_files.specs.Rolls.{begins_next, counted_in, first_file, next_file, FindsTaken, RollsAt, RollsOn, MakesReady, WritesNext, FailsRoll, FailsMove, FailsNext, AppendsNone, ClashesBy, RisesWith, NamesOne, fallen_at};
 
 use crate::pattern::Pattern;
@@ -22,7 +22,9 @@ const LAST_NUMBER: u32 = 9999;
 /// The run number and the time of the records that begin a run's files.
 #[derive(Clone, Copy)]
 pub struct RunHead {
+    /// The run number.
     pub run: u32,
+    /// The time of its start, in seconds.
     pub time: u32,
 }
 
@@ -353,18 +355,12 @@ impl OpenFile {
         ensures first { OnErr result (NamesOne (piece_name_by pattern.now head.run self.old.sub)
             (piece_name_by pattern.now head.run (self.old.sub + 1)) (F.first files.old)
             (F.first files.new)) }
-        ensures holds { OnOk result ((events : List Event) → (e : Event) →
-            event.now ≡ encoding e →
-            HoldsRun (F.seen files.old) (series_of pattern.now limit head dump.now) self.old
-            events →
-            HoldsRun (F.seen files.new) (series_of pattern.now limit head dump.now) self.new
-            (events ++ e ∷ [])) }
-        ensures part { IfErr result (λ fallen. (events : List Event) → (e : Event) →
-            event.now ≡ encoding e →
-            HoldsRun (F.seen files.old) (series_of pattern.now limit head dump.now) self.old
-            events →
-            HasPart (F.seen files.new) (series_of pattern.now limit head dump.now) fallen []
-            (events ++ e ∷ [])) }
+        ensures holds { OnOk result
+            (HoldsMore (series_of pattern.now limit head dump.now) self.old self.new event.now
+            (F.seen files.old) (F.seen files.new)) }
+        ensures part { IfErr result (λ fallen.
+            HasPartOfMore (series_of pattern.now limit head dump.now) self.old fallen event.now
+            (F.seen files.old) (F.seen files.new)) }
     {
         self.write_bytes(files, pattern, limit, head, dump, event)
     }
