@@ -1,10 +1,10 @@
 -- A channel of the logger: its calls on the buffer that it reads, what it got there, and its file.
-use Rattle.std.specs.Prelude.{◌≡◌, ◌≤◌, ℕ, nat_le, Bool, false, true, IsTrue, length, take, All, Result, Ok, Err, List, [], Option, Some, None, ⊤}
+use Rattle.std.specs.Prelude.{◌≡◌, ◌≤◌, ℕ, nat_le, Bool, false, true, IsTrue, length, All, Result, Ok, Err, List, [], Option, Some, None, ⊤}
 use mathlib.Core.List.{IsPrefix}
 use Rattle.daq_types.specs.declared.events.Event.{Event}
 use Rattle.event.specs.Events.{record_limit}
 use Rattle.event.specs.RunFile.{begun_file, IsFileEvent}
-use Rattle.daq_io.specs.Seen.{Seen, Closes, IsWritten, IsStored}
+use Rattle.daq_io.specs.Seen.{Seen, IsWritten, IsStored}
 use Rattle.buffer_core.specs.declared.entry.BufferEntry.{BufferEntry}
 use Rattle.buffer_core.specs.declared.entry.BufferEntry.TheVariants.{Cancel}
 use Rattle.buffer_core.specs.declared.replies.RequestRefusal.{RequestRefusal}

@@ -1,9 +1,9 @@
 -- Closed files of a run stay, whatever is done to its open file and to the next one.
-use Rattle.std.specs.Prelude.{◌≡◌, ◌≢◌, ◌⊎◌, ℕ, suc, ◌+◌, Bool, false, true, IsTrue, List, [], ◌∷◌, ◌++◌, length, Option, Some, None, refl}
+use Rattle.std.specs.Prelude.{◌≡◌, ◌≢◌, ℕ, suc, ◌+◌, false, true, IsTrue, List, [], ◌∷◌, ◌++◌, length, Option, Some, None, refl}
 use Rattle.std.proofs.Common.{arith, ap, sym, subst, ◌∙◌, inl, inr}
 use Rattle.daq_types.specs.declared.events.Event.{Event}
-use Rattle.daq_io.specs.Seen.{Seen, Stored, stored_open, stored_closed, is_closed, InUse, KeepsNumber, Touches, Same, Creates, Extends, Closes, IsWritten, IsStored}
-use Rattle.daq_io.proofs.SeenLaws.{name_tells, IsWritten-elsewhere, Extends-name}
+use Rattle.daq_io.specs.Seen.{Seen, Stored, stored_open, stored_closed, is_closed, InUse, KeepsNumber, Touches, Same, Creates, IsWritten, IsStored}
+use Rattle.daq_io.proofs.SeenLaws.{name_tells}
 use Rattle.sub_files.specs.Pieces.{Series, piece_name, begun_piece, between, ArePiecesStored}
 
 -- Each closed file stays as it is, where names are told.

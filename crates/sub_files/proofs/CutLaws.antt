@@ -21,7 +21,7 @@ encoded-push piece e = all_encoded-append piece (e ∷ []) ∙ ap (λ (bytes : L
 pub length-encoded-push : (piece : List Event) (e : Event) → length (all_encoded (piece ++ e ∷ [])) ≡ length (all_encoded piece) + length (encoding e)
 length-encoded-push piece e = ap (λ (bytes : List ℕ). length bytes) (encoded-push piece e) ∙ length-append (all_encoded piece) (encoding e)
 
-length-push : {A : Type 0} (xs : List A) (x : A) → length (xs ++ x ∷ []) ≡ suc (length xs)
+pub length-push : {A : Type 0} (xs : List A) (x : A) → length (xs ++ x ∷ []) ≡ suc (length xs)
 length-push xs x = length-append xs (x ∷ []) ∙ omega arith
 
 same_length : {A : Type 0} (xs : List A) (x y : A) (n : ℕ) → length (xs ++ x ∷ []) ≡ n → length (xs ++ y ∷ []) ≡ n

@@ -8,3 +8,5 @@ pub mod SampleCuts
 pub mod ClosedFiles
 pub mod NextFacts
 pub mod NextEvent
+pub mod RunEnds
+pub mod RemoveSteps

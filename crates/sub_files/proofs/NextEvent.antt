@@ -1,5 +1,5 @@
 -- What the files of a run hold behind one event more, and where a call on them failed.
-use Rattle.std.specs.Prelude.{◌≡◌, ◌≢◌, ◌⊎◌, ◌<◌, ◌≤◌, ◌+◌, ◌-◌, ◌^◌, ℕ, suc, min, Bool, false, true, nat_lt, if◌then◌else◌, IsTrue, List, [], ◌∷◌, ◌++◌, length, take, drop, refl}
+use Rattle.std.specs.Prelude.{◌≡◌, ◌≢◌, ◌<◌, ◌≤◌, ◌+◌, ◌-◌, ◌^◌, ℕ, suc, min, Bool, false, true, nat_lt, if◌then◌else◌, List, [], ◌∷◌, ◌++◌, length, take, drop, Result, Ok, Err, OnOk, IfErr, refl}
 use Rattle.std.proofs.Common.{arith, ap, sym, subst, ◌∙◌, inl, inr, length-append, append_assoc, take-append-drop}
 use Rattle.std.proofs.lemmas.List.{append-nil}
 use mathlib.Core.List.{IsPrefix}
@@ -12,7 +12,7 @@ use Rattle.sub_files.specs.declared.open_file.OpenFile.{OpenFile}
 use Rattle.sub_files.specs.Cuts.{last_number, IsCut, BeginsNext, StaysIn}
 use Rattle.sub_files.specs.Pieces.{Series, piece_name, begun_piece, begin_bytes, between, head_bytes, IsPartStored, ArePiecesStored, HoldsRun, HasPart}
 use Rattle.sub_files.specs.RecordFiles.{ClosesPart}
-use Rattle.sub_files.specs.Rolls.{begins_next, counted_in, next_file, next_name, fallen_at, FindsTaken, RollsAt, RollsOn, MovesOn, MakesReady, WritesNext, MakesNone, EndsNone, BeginsNone, FailsRoll, RollsNone, FailsMove, AppendsNone, WritesNone, FailsNext}
+use Rattle.sub_files.specs.Rolls.{begins_next, counted_in, next_file, next_name, fallen_at, MovesOn, MakesReady, WritesNext, RollsNone, FailsMove, FailsNext}
 use Rattle.sub_files.proofs.ClosedFiles.{KeepsClosed, kept_then, same_kept, open_kept, made_kept, stored_kept, pieces_kept, pieces_push, same_written, made_written, new_written}
 use Rattle.sub_files.proofs.CutLaws.{encoded-push, length-encoded-push, cut_grows, cut_next, cut_taken}
 use Rattle.sub_files.proofs.NextFacts.{ltb_tells, Begins, begins_so, stays_so, stays_in, begins_with, IsCounted}
@@ -295,3 +295,15 @@ part_next a b s old fallen event events e is fails h =
       | inl moves ↦ move_part a b s old fallen events e h (begins_so s.limit (head_bytes s.dump) old (length (encoding e)) moves.0) moves.1
       | inr none ↦ rw none.appends.fallen_is (append_part none.middle b s none.ready events e (made_ready a none.middle s old none.ready events e h none.moves) none.appends.closes)
     ]
+
+-- By the answer of the call.
+
+pub holds_if : {T E : Type 0} (a b : Seen) (s : Series) (old later : OpenFile) (event : List ℕ) (r : Result T E) → OnOk r (WritesNext s old later event a b)
+    → OnOk r ((events : List Event) → (e : Event) → event ≡ encoding e → HoldsRun a s old events → HoldsRun b s later (events ++ e ∷ []))
+holds_if a b s old later event (Ok x) writes = λ events e is h. holds_next a b s old later event events e is writes h
+holds_if a b s old later event (Err why) writes = tt
+
+pub part_if : {T : Type 0} (a b : Seen) (s : Series) (old : OpenFile) (event : List ℕ) (r : Result T Fallen) → IfErr r (λ fallen. FailsNext s old event fallen a b)
+    → IfErr r (λ fallen. (events : List Event) → (e : Event) → event ≡ encoding e → HoldsRun a s old events → HasPart b s fallen [] (events ++ e ∷ []))
+part_if a b s old event (Ok x) fails = tt
+part_if a b s old event (Err fallen) fails = λ events e is h. part_next a b s old fallen event events e is fails h

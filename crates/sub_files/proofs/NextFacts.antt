@@ -1,12 +1,12 @@
 -- Whether the next file is begun, by what the open file holds.
-use Rattle.std.specs.Prelude.{◌≡◌, ◌≢◌, ◌⊎◌, ◌<◌, ◌≤◌, ◌+◌, ◌-◌, ◌^◌, ℕ, suc, min, Bool, false, true, not, nat_lt, ◌&&◌, IsTrue, List, [], ◌∷◌, ◌++◌, length, refl}
-use Rattle.std.proofs.Common.{arith, ap, sym, subst, ◌∙◌, inl, inr, length-append}
+use Rattle.std.specs.Prelude.{◌≡◌, ◌≢◌, ◌⊎◌, ◌<◌, ◌≤◌, ◌+◌, ◌-◌, ◌^◌, ℕ, suc, min, Bool, false, true, not, nat_lt, ◌&&◌, IsTrue, List, [], ◌∷◌, length, refl}
+use Rattle.std.proofs.Common.{arith, sym, ◌∙◌, inl, inr, length-append}
 use Rattle.std.proofs.lemmas.Bool.Decides.{leb_tells}
 use Rattle.daq_types.specs.declared.events.Event.{Event}
 use Rattle.event.specs.Events.{encoding, all_encoded, record_limit}
 use Rattle.event.proofs.Events.{length-encoding}
 use Rattle.sub_files.specs.declared.open_file.OpenFile.{OpenFile}
-use Rattle.sub_files.specs.Cuts.{last_number, bytes_with, StaysIn, BeginsNext}
+use Rattle.sub_files.specs.Cuts.{last_number, StaysIn, BeginsNext}
 use Rattle.sub_files.specs.Rolls.{begins_next}
 
 -- what holds where the next file is begun

@@ -112,3 +112,13 @@ pub record HasPart (seen : Seen) (s : Series) (fallen : Fallen) (last : List ℕ
   pub few : fallen.files ≤ suc last_number
   pub stored : ArePiecesStored seen s 0 whole
   pub parts : ArePartsStored seen s last fallen.framed rest
+
+-- Behind an event, of which these are the bytes, the files hold what they held before and the event.
+abbrev pub HoldsMore : Series → (old later : OpenFile) → (bytes : List ℕ) → (a b : Seen) → Type 0
+HoldsMore s old later bytes a b =
+    (events : List Event) → (e : Event) → bytes ≡ encoding e → HoldsRun a s old events → HoldsRun b s later (events ++ e ∷ [])
+
+-- Where a call failed at the event, they have a part of these.
+abbrev pub HasPartOfMore : Series → (old : OpenFile) → Fallen → (bytes : List ℕ) → (a b : Seen) → Type 0
+HasPartOfMore s old fallen bytes a b =
+    (events : List Event) → (e : Event) → bytes ≡ encoding e → HoldsRun a s old events → HasPart b s fallen [] (events ++ e ∷ [])

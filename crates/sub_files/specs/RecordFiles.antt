@@ -1,5 +1,5 @@
 -- What is done to a run's file at its two ends.
-use Rattle.std.specs.Prelude.{◌≡◌, ◌+◌, ◌-◌, ◌^◌, ◌≤◌, ℕ, min, take, IsTrue, List, Option, None, ◌⊎◌}
+use Rattle.std.specs.Prelude.{◌≡◌, ◌≢◌, ◌<◌, ◌+◌, ◌-◌, ◌^◌, ◌≤◌, ℕ, min, take, IsTrue, List, Option, None, ◌⊎◌}
 use Rattle.daq_io.specs.Counts.{first_of}
 use Rattle.daq_io.specs.Seen.{Seen, Closes, IsFree, KeepsNumbers, KeepsOthers, Touches}
 
@@ -32,3 +32,17 @@ pub record UndoesFile (Rises : ℕ → ℕ → Type 0) (old new : Seen) (name : 
   pub numbers : KeepsNumbers old new
   pub fresh : IsGone old name
   pub gone : IsGone new name ⊎ Rises faults later_faults
+
+-- There is no file of the first of these names, so many.
+abbrev pub AreGone : Seen → (names : ℕ → List ℕ) → (many : ℕ) → Type 0
+AreGone seen names many = (n : ℕ) → n < many → IsGone seen (names n)
+
+-- At most the files of the first of these names changed, so many, and no number.
+pub record RemovesNames (names : ℕ → List ℕ) (many : ℕ) (old new : Seen) : Type 0 where
+  pub tells : new.tells ≡ old.tells
+  pub others : (name : List ℕ) → ((n : ℕ) → n < many → name ≢ names n) → new.at name ≡ old.at name
+  pub numbers : KeepsNumbers old new
+
+-- the first fault is that of the file of one of these names, where there was none before
+abbrev pub NamesOneOf : (names : ℕ → List ℕ) → (many : ℕ) → (old new : Option (List ℕ)) → Type 0
+NamesOneOf names many old new = (n : ℕ) × (n < many) × (new ≡ first_of old (names n))

@@ -1,5 +1,5 @@
 -- What is done to the files of a run at an event: perhaps the next file is begun, and the event is appended.
-use Rattle.std.specs.Prelude.{◌≡◌, ◌⊎◌, ◌+◌, ◌-◌, ◌^◌, ℕ, min, Bool, true, false, not, nat_lt, ◌&&◌, IsTrue, IsSome, List, [], length, Option, if◌then◌else◌}
+use Rattle.std.specs.Prelude.{◌≡◌, ◌⊎◌, ◌<◌, ◌+◌, ◌-◌, ◌^◌, ℕ, min, Bool, true, false, not, nat_lt, ◌&&◌, IsTrue, IsSome, List, [], length, Option, if◌then◌else◌}
 use Rattle.daq_io.specs.Counts.{Rose, first_of}
 use Rattle.daq_io.specs.Seen.{Seen, Same, Creates, Extends, Closes}
 use Rattle.sub_files.specs.declared.open_file.Fallen.{Fallen}
@@ -18,6 +18,10 @@ begins_next limit head old size =
 -- the file with so many bytes more; without a limit they are not counted
 abbrev pub counted_in : (limit : ℕ) → OpenFile → (size : ℕ) → OpenFile
 counted_in limit ready size = record ready { bytes = if nat_lt 0 limit then min (ready.bytes + size) (2 ^ 64 - 1) else ready.bytes }
+
+-- the first file, under this number, which has its begin record
+abbrev pub first_file : (dump : List ℕ) → (file : ℕ) → OpenFile
+first_file dump file = record { file = file; sub = 0; bytes = head_bytes dump; taken = false }
 
 -- the next file, under this number, which has its begin record
 abbrev pub next_file : (dump : List ℕ) → (old : OpenFile) → (file : ℕ) → OpenFile
@@ -127,6 +131,10 @@ FailsNext s old event fallen a b =
 abbrev pub ClashesBy : (before after : Bool) → (old new : ℕ) → Type 0
 ClashesBy false true old new = Rose old new
 ClashesBy before after old new = new ≡ old
+
+-- the count of clashes rises only where there is a limit
+abbrev pub RisesWith : (limit old new : ℕ) → Type 0
+RisesWith limit old new = (new ≡ old) ⊎ ((0 < limit) × Rose old new)
 
 -- the first fault is that of the file of one of these names, where there was none before
 abbrev pub NamesOne : (name next : List ℕ) → (old new : Option (List ℕ)) → Type 0

@@ -7,6 +7,6 @@ mod open_file;
 mod pattern;
 mod record_files;
 
-pub use open_file::{Fallen, OpenFile, RunHead};
+pub use open_file::{Fallen, OpenFile, RunHead, remove_files};
 pub use pattern::{BadPattern, Pattern};
 pub use record_files::{append_record, begin_file, drop_file, end_file};

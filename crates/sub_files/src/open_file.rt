@@ -1,14 +1,15 @@
 //! The file of a run that is being written, and how the next one is begun.
 
-ghost use Rattle.std.specs.Prelude.{◌≡◌, ◌≢◌, ◌≤◌, ◌<◌, ◌+◌, ◌++◌, ◌∷◌, ◌⊎◌, ◌↔◌, [], List, false, IsTrue, IsSome, IsErrOf, OnOk, OnErr, IfOk, IfErr, length};
+ghost use Rattle.std.specs.Prelude.{ℕ, ◌≡◌, ◌≢◌, ◌≤◌, ◌<◌, ◌+◌, ◌^◌, ◌⊎◌, ◌↔◌, [], List, false, IsTrue, IsSome, IsErrOf, OnOk, OnErr, IfOk, IfErr, length};
 ghost use Rattle.daq_types.specs.declared.events.Event.{Event};
 ghost use Rattle.event.specs.Events.{encoding, record_limit};
+ghost use Rattle.event.specs.RunFile.{begun_file, end_record as end_event};
 ghost use Rattle.daq_io.specs.Counts.{CountsFault, CountsNamed, CountsClash, NamesFirst, NamesFirstOf, Rose};
-ghost use Rattle.daq_io.specs.Seen.{Same, Extends, Closes};
-ghost use Rattle.sub_files.specs.RecordFiles.{ClosesPart, NamesMore, UndoesFile, RoseTwice};
+ghost use Rattle.daq_io.specs.Seen.{Same, Creates, Extends, Closes};
+ghost use Rattle.sub_files.specs.RecordFiles.{ClosesPart, NamesMore, UndoesFile, RoseTwice, RemovesNames, AreGone, NamesOneOf};
 ghost use Rattle.sub_files.specs.Patterns.{piece_name_by};
-ghost use Rattle.sub_files.specs.Pieces.{IsOpenPiece, HoldsRun, HasPart, series_of, piece_name, begin_bytes, between};
-ghost use Rattle.sub_files.specs.Rolls.{begins_next, counted_in, next_file, FindsTaken, RollsAt, RollsOn, MovesOn, MakesReady, WritesNext, FailsRoll, FailsMove, FailsNext, AppendsNone, ClashesBy, NamesOne, fallen_at, next_name};
+ghost use Rattle.sub_files.specs.Pieces.{Series, IsOpenPiece, HoldsRun, HasRun, HasPart, HoldsMore, HasPartOfMore, series_of, begin_bytes};
+ghost use Rattle.sub_files.specs.Rolls.{begins_next, counted_in, first_file, next_file, FindsTaken, RollsAt, RollsOn, MakesReady, WritesNext, FailsRoll, FailsMove, FailsNext, AppendsNone, ClashesBy, RisesWith, NamesOne, fallen_at};
 
 use crate::pattern::Pattern;
 use crate::record_files::{append_record, begin_file, end_file};
@@ -21,7 +22,9 @@ const LAST_NUMBER: u32 = 9999;
 /// The run number and the time of the records that begin a run's files.
 #[derive(Clone, Copy)]
 pub struct RunHead {
+    /// The run number.
     pub run: u32,
+    /// The time of its start, in seconds.
     pub time: u32,
 }
 
@@ -238,4 +241,233 @@ impl OpenFile {
             }
         }
     }
+
+    /// Makes the file ready for so many bytes more: where they do not fit in, it goes on in the next one.
+    fn make_ready<F: Files>(
+        self,
+        files: &mut F,
+        pattern: &Pattern,
+        limit: u32,
+        head: RunHead,
+        dump: &[u8],
+        size: usize,
+    ) -> Result<OpenFile, Fallen>
+        requires file { IsOpenPiece (F.seen files.old)
+            (series_of pattern.now limit head dump.now) self }
+        requires small { length dump.now ≤ record_limit }
+        ensures moves { IfOk result (λ ready.
+            MakesReady (series_of pattern.now limit head dump.now) self ready size
+            (F.seen files.old) (F.seen files.new)) }
+        ensures begins { OnErr result
+            (IsTrue (begins_next limit (16 + length dump.now) self size)) }
+        ensures fails { IfErr result (λ fallen.
+            FailsMove (piece_name_by pattern.now head.run (self.sub + 1)) head dump.now self fallen
+            (F.seen files.old) (F.seen files.new)) }
+        ensures file { IfOk result (λ ready. IsOpenPiece (F.seen files.new)
+            (series_of pattern.now limit head dump.now) ready) }
+        ensures faults { CountsFault (F.faults files.old) (F.faults files.new) result }
+        ensures taken { IfOk result (λ ready.
+            ClashesBy self.taken ready.taken (F.clashes files.old) (F.clashes files.new)) }
+        ensures clashes { OnErr result (F.clashes files.new ≡ F.clashes files.old) }
+        ensures quiet { OnOk result (F.first files.new ≡ F.first files.old) }
+        ensures first { OnErr result (NamesOne (piece_name_by pattern.now head.run self.sub)
+            (piece_name_by pattern.now head.run (self.sub + 1)) (F.first files.old)
+            (F.first files.new)) }
+    {
+        if self.begins_next(limit, dump.len(), size) {
+            self.move_on(files, pattern, head, dump)
+        } else {
+            Ok(self)
+        }
+    }
+
+    /// Writes an event, as `write` does, whose bytes may be any.
+    fn write_bytes<F: Files>(
+        &mut self,
+        files: &mut F,
+        pattern: &Pattern,
+        limit: u32,
+        head: RunHead,
+        dump: &[u8],
+        event: &[u8],
+    ) -> Result<(), Fallen>
+        requires file { IsOpenPiece (F.seen files.old)
+            (series_of pattern.now limit head dump.now) self.old }
+        requires small { length dump.now ≤ record_limit }
+        ensures wrote { OnOk result
+            (WritesNext (series_of pattern.now limit head dump.now) self.old self.new event.now
+            (F.seen files.old) (F.seen files.new)) }
+        ensures fails { IfErr result (λ fallen.
+            FailsNext (series_of pattern.now limit head dump.now) self.old event.now fallen
+            (F.seen files.old) (F.seen files.new)) }
+        ensures file { OnOk result (IsOpenPiece (F.seen files.new)
+            (series_of pattern.now limit head dump.now) self.new) }
+        ensures faults { CountsFault (F.faults files.old) (F.faults files.new) result }
+        ensures taken { OnOk result
+            (ClashesBy self.old.taken self.new.taken (F.clashes files.old) (F.clashes files.new)) }
+        ensures clashes { RisesWith limit (F.clashes files.old) (F.clashes files.new) }
+        ensures quiet { OnOk result (F.first files.new ≡ F.first files.old) }
+        ensures first { OnErr result (NamesOne (piece_name_by pattern.now head.run self.old.sub)
+            (piece_name_by pattern.now head.run (self.old.sub + 1)) (F.first files.old)
+            (F.first files.new)) }
+    {
+        match self.make_ready(files, pattern, limit, head, dump, event.len()) {
+            Ok(ready) => match ready.append(files, limit, event) {
+                Ok(later) => {
+                    *self = later;
+                    Ok(())
+                }
+                Err(fallen) => Err(fallen),
+            },
+            Err(fallen) => Err(fallen),
+        }
+    }
+
+    /// Writes an event of the run whose files have these records at their front. Where the file has an event and would grow
+    /// past the limit, 0 of which is none, it is ended with the begin's time and an empty dump, and the next one is made and
+    /// begun before; but not where its number is 9999, or the name of the next file is taken, which the file remembers. Where a
+    /// call on the files fails, those that are open are closed, and the answer tells how many there are.
+    pub fn write<F: Files>(
+        &mut self,
+        files: &mut F,
+        pattern: &Pattern,
+        limit: u32,
+        head: RunHead,
+        dump: &[u8],
+        event: &[u8],
+    ) -> Result<(), Fallen>
+        requires file { IsOpenPiece (F.seen files.old)
+            (series_of pattern.now limit head dump.now) self.old }
+        requires small { length dump.now ≤ record_limit }
+        ensures wrote { OnOk result
+            (WritesNext (series_of pattern.now limit head dump.now) self.old self.new event.now
+            (F.seen files.old) (F.seen files.new)) }
+        ensures fails { IfErr result (λ fallen.
+            FailsNext (series_of pattern.now limit head dump.now) self.old event.now fallen
+            (F.seen files.old) (F.seen files.new)) }
+        ensures file { OnOk result (IsOpenPiece (F.seen files.new)
+            (series_of pattern.now limit head dump.now) self.new) }
+        ensures faults { CountsFault (F.faults files.old) (F.faults files.new) result }
+        ensures taken { OnOk result
+            (ClashesBy self.old.taken self.new.taken (F.clashes files.old) (F.clashes files.new)) }
+        ensures clashes { RisesWith limit (F.clashes files.old) (F.clashes files.new) }
+        ensures quiet { OnOk result (F.first files.new ≡ F.first files.old) }
+        ensures first { OnErr result (NamesOne (piece_name_by pattern.now head.run self.old.sub)
+            (piece_name_by pattern.now head.run (self.old.sub + 1)) (F.first files.old)
+            (F.first files.new)) }
+        ensures holds { OnOk result
+            (HoldsMore (series_of pattern.now limit head dump.now) self.old self.new event.now
+            (F.seen files.old) (F.seen files.new)) }
+        ensures part { IfErr result (λ fallen.
+            HasPartOfMore (series_of pattern.now limit head dump.now) self.old fallen event.now
+            (F.seen files.old) (F.seen files.new)) }
+    {
+        self.write_bytes(files, pattern, limit, head, dump, event)
+    }
+
+    /// Makes the first file of a run and writes its begin record. Where that fails, no file of this name is left, unless the
+    /// removing fails too.
+    pub fn begin<F: Files>(
+        files: &mut F,
+        pattern: &Pattern,
+        head: RunHead,
+        dump: &[u8],
+    ) -> Result<OpenFile, NameRefused>
+        requires small { length dump.now ≤ record_limit }
+        ensures begun { IfOk result (λ begun. Creates (F.seen files.old) (F.seen files.new)
+            (piece_name_by pattern.now head.run 0) begun.file
+            (begun_file head.run head.time dump.now [])) }
+        ensures number { IfOk result (λ begun. begun ≡ first_file dump.now begun.file) }
+        ensures exists { IsTrue (F.seen files.old).tells → (IsErrOf result NameRefused.Exists
+            ↔ IsSome ((F.seen files.old).at (piece_name_by pattern.now head.run 0))) }
+        ensures not_missing { ¬ IsErrOf result NameRefused.Missing }
+        ensures kept { IsErrOf result NameRefused.Exists
+            → Same (F.seen files.old) (F.seen files.new) }
+        ensures undone { IsErrOf result NameRefused.Failed → UndoesFile RoseTwice
+            (F.seen files.old) (F.seen files.new) (piece_name_by pattern.now head.run 0)
+            (F.faults files.old) (F.faults files.new) }
+        ensures faults { CountsNamed (F.faults files.old) (F.faults files.new) result }
+        ensures clashes { CountsClash (F.clashes files.old) (F.clashes files.new) result }
+        ensures first { NamesFirstOf (piece_name_by pattern.now head.run 0) (F.first files.old)
+            (F.first files.new) result }
+        ensures holds { IfOk result (λ begun. (limit : ℕ) → limit < 2 ^ 32 →
+            HoldsRun (F.seen files.new) (series_of pattern.now limit head dump.now) begun []) }
+    {
+        let name = pattern.name(head.run, 0);
+        match begin_file(files, &name, head.run, head.time, dump) {
+            Ok(file) => Ok(OpenFile {
+                file,
+                sub: 0,
+                bytes: 16 + dump.len() as u64,
+                taken: false,
+            }),
+            Err(why) => Err(why),
+        }
+    }
+
+    /// Ends the run: the file gets its end record, of this time and with this dump, and is closed, also where a call on it fails.
+    pub fn end_run<F: Files>(
+        self,
+        files: &mut F,
+        head: RunHead,
+        time: u32,
+        dump: &[u8],
+    ) -> Result<(), Fallen>
+        requires writes { IsTrue ((F.seen files.old).writes self.file) }
+        requires small { length dump.now ≤ record_limit }
+        requires few { self.sub ≤ 9999 }
+        ensures whole { OnOk result (Closes (F.seen files.old) (F.seen files.new) self.file
+            (encoding (end_event head.run time dump.now))) }
+        ensures part { OnErr result (ClosesPart (F.seen files.old) (F.seen files.new) self.file
+            (encoding (end_event head.run time dump.now))) }
+        ensures fallen { IfErr result (λ fallen. fallen ≡ fallen_at (self.sub + 1) self.sub) }
+        ensures faults { CountsFault (F.faults files.old) (F.faults files.new) result }
+        ensures clashes { F.clashes files.new ≡ F.clashes files.old }
+        ensures first { NamesFirst ((F.seen files.old).name_of self.file) (F.first files.old)
+            (F.first files.new) result }
+        ensures run { OnOk result ((s : Series) → (events : List Event) →
+            HoldsRun (F.seen files.old) s self events →
+            HasRun (F.seen files.new) s (self.sub + 1) self.taken
+            (encoding (end_event head.run time dump.now)) events) }
+        ensures broken { IfErr result (λ fallen. (s : Series) → (events : List Event) →
+            HoldsRun (F.seen files.old) s self events →
+            HasPart (F.seen files.new) s fallen (encoding (end_event head.run time dump.now))
+            events) }
+    {
+        match end_file(files, self.file, head.run, time, dump) {
+            Ok(()) => Ok(()),
+            Err(Failed) => Err(Fallen {
+                files: self.sub + 1,
+                framed: self.sub,
+            }),
+        }
+    }
+}
+
+/// Removes so many files of a run, by rising number. It goes on behind one that cannot be removed.
+pub fn remove_files<F: Files>(
+    files: &mut F,
+    pattern: &Pattern,
+    run: u32,
+    many: u32,
+) -> Result<(), Failed>
+    requires few { many ≤ 10000 }
+    ensures removes { RemovesNames (piece_name_by pattern.now run) many
+        (F.seen files.old) (F.seen files.new) }
+    ensures gone { OnOk result
+        (AreGone (F.seen files.new) (piece_name_by pattern.now run) many) }
+    ensures faults { CountsFault (F.faults files.old) (F.faults files.new) result }
+    ensures clashes { F.clashes files.new ≡ F.clashes files.old }
+    ensures quiet { OnOk result (F.first files.new ≡ F.first files.old) }
+    ensures first { OnErr result (NamesOneOf (piece_name_by pattern.now run) many
+        (F.first files.old) (F.first files.new)) }
+{
+    let mut answer = Ok(());
+    for sub in 0..many {
+        match files.remove(&pattern.name(run, sub)) {
+            Ok(()) => {}
+            Err(failed) => answer = Err(failed),
+        }
+    }
+    answer
 }

@@ -1,0 +1,88 @@
+-- Files of a run that are removed one after the other.
+use Rattle.std.specs.Prelude.{◌≡◌, ◌≢◌, ◌<◌, ◌≤◌, ◌+◌, ℕ, IsTrue, List, Option, Some, None, Result, Ok, Err, OnOk, OnErr, refl}
+use Rattle.std.proofs.Common.{arith, ap, sym, subst, ◌∙◌, inl, inr}
+use Rattle.std.proofs.lemmas.Bool.Decides.{eqb_tells}
+use Rattle.daq_io.specs.Counts.{CountsFault, Rose, first_of}
+use Rattle.daq_io.specs.Seen.{Seen, Touches, Same, KeepsNumbers, Removes}
+use Rattle.daq_io.proofs.SeenLaws.{KeepsNumber-refl, KeepsNumbers-trans, KeepsFiles-Touches, name_tells}
+use Rattle.sub_files.specs.RecordFiles.{AreGone, RemovesNames, NamesOneOf}
+
+-- so many were removed, and this is answered so far
+pub record HasRemoved {T E : Type 0} (names : ℕ → List ℕ) (many : ℕ) (a b : Seen) (fa fb : ℕ) (oa ob : Option (List ℕ)) (answer : Result T E) : Type 0 where
+  pub removes : RemovesNames names many a b
+  pub gone : OnOk answer (AreGone b names many)
+  pub faults : CountsFault fa fb answer
+  pub quiet : OnOk answer (ob ≡ oa)
+  pub first : OnErr answer (NamesOneOf names many oa ob)
+
+none_yet : {T E : Type 0} (names : ℕ → List ℕ) (a : Seen) (fa : ℕ) (oa : Option (List ℕ)) (x : T) → (let r : Result T E = Ok x in HasRemoved names 0 a a fa fa oa oa r)
+none_yet names a fa oa x = record {
+  removes = record { tells = refl; others = λ name none. refl; numbers = λ n. KeepsNumber-refl a n };
+  gone = λ n below. absurd (omega (arith, below));
+  faults = record { later = omega arith; done = refl; failed = tt };
+  quiet = refl;
+  first = tt;
+}
+
+pub none_removed : {T E : Type 0} (names : ℕ → List ℕ) (a : Seen) (fa : ℕ) (oa : Option (List ℕ)) (r : Result T E) (x : T) → r ≡ Ok x → HasRemoved names 0 a a fa fa oa oa r
+none_removed names a fa oa r x is = rw is (none_yet names a fa oa x)
+
+removes_more : (names : ℕ → List ℕ) (many : ℕ) (a b c : Seen) → RemovesNames names many a b → Touches b c (names many) → KeepsNumbers b c → RemovesNames names (many + 1) a c
+removes_more names many a b c p touches numbers = record {
+  tells = touches.tells ∙ p.tells;
+  others = λ name none. touches.others name (none many (omega arith)) ∙ p.others name (λ n below. none n (omega (arith, below)));
+  numbers = KeepsNumbers-trans p.numbers numbers;
+}
+
+gone_more : (names : ℕ → List ℕ) (many : ℕ) (b c : Seen) → Removes b c (names many) → AreGone b names many → AreGone c names (many + 1)
+gone_more names many b c removes gone = λ n below told. let before : IsTrue b.tells = sym removes.touches.tells ∙ told in
+    elim (name_tells (names n) (names many)) as (λ w. c.at (names n) ≡ None) [
+      | inl same ↦ subst (λ (name : List ℕ). c.at name ≡ None) (sym same) (removes.gone before)
+      | inr differs ↦ removes.touches.others (names n) differs ∙ gone n (earlier n below differs) before
+    ]
+  where
+    earlier : (n : ℕ) → n < many + 1 → names n ≢ names many → n < many
+    earlier n below differs = elim (eqb_tells n many) as (λ w. n < many) [
+      | inl same ↦ absurd (differs (ap names same.1))
+      | inr other ↦ (let apart = other.1 in omega (arith, below, apart))
+    ]
+
+on_ok : {T E P Q : Type 0} (r : Result T E) → (P → Q) → OnOk r P → OnOk r Q
+on_ok (Ok x) f p = f p
+on_ok (Err e) f p = p
+
+on_err : {T E P Q : Type 0} (r : Result T E) → (P → Q) → OnErr r P → OnErr r Q
+on_err (Ok x) f p = p
+on_err (Err e) f p = f p
+
+one_more : (names : ℕ → List ℕ) (many : ℕ) (first later : Option (List ℕ)) → NamesOneOf names many first later → NamesOneOf names (many + 1) first later
+one_more names many first later one = (one.0, (let below = one.1 in omega (arith, below)), one.2)
+
+pub removed_ok : {T E : Type 0} (names : ℕ → List ℕ) (many : ℕ) (a b c : Seen) (fa fb fc : ℕ) (oa ob oc : Option (List ℕ)) (r : Result T E) → HasRemoved names many a b fa fb oa ob r → Removes b c (names many) → fc ≡ fb → oc ≡ ob
+    → HasRemoved names (many + 1) a c fa fc oa oc r
+removed_ok names many a b c fa fb fc oa ob oc r p removes faults first = record {
+  removes = removes_more names many a b c p.removes removes.touches removes.numbers;
+  gone = on_ok r (gone_more names many b c removes) p.gone;
+  faults = subst (λ (n : ℕ). CountsFault fa n r) (sym faults) p.faults;
+  quiet = on_ok r (λ same. first ∙ same) p.quiet;
+  first = on_err r (λ one. one_more names many oa oc (subst (λ (o : Option (List ℕ)). NamesOneOf names many oa o) (sym first) one)) p.first;
+}
+
+first_stays : (o : Option (List ℕ)) (name other : List ℕ) → first_of (first_of o name) other ≡ first_of o name
+first_stays None name other = refl
+first_stays (Some before) name other = refl
+
+names_more : {T E : Type 0} (names : ℕ → List ℕ) (many : ℕ) (oa ob oc : Option (List ℕ)) (r : Result T E) → OnOk r (ob ≡ oa) → OnErr r (NamesOneOf names many oa ob) → oc ≡ first_of ob (names many) → NamesOneOf names (many + 1) oa oc
+names_more names many oa ob oc (Ok x) same one first = (many, omega arith, first ∙ ap (λ (o : Option (List ℕ)). first_of o (names many)) same)
+names_more names many oa ob oc (Err e) same one first =
+    (one.0, (let below = one.1 in omega (arith, below)), first ∙ (ap (λ (o : Option (List ℕ)). first_of o (names many)) one.2 ∙ first_stays oa (names one.0) (names many)))
+
+pub removed_err : {T E : Type 0} (names : ℕ → List ℕ) (many : ℕ) (a b c : Seen) (fa fb fc : ℕ) (oa ob oc : Option (List ℕ)) (r : Result T E) (e : E) → HasRemoved names many a b fa fb oa ob r → Same b c → Rose fb fc → fb ≤ fc → oc ≡ first_of ob (names many)
+    → (let answer : Result T E = Err e in HasRemoved names (many + 1) a c fa fc oa oc answer)
+removed_err names many a b c fa fb fc oa ob oc r e p same rose up first = record {
+  removes = removes_more names many a b c p.removes (KeepsFiles-Touches (names many) same.files) same.numbers;
+  gone = tt;
+  faults = let before = p.faults.later in record { later = omega (arith, before, up); done = tt; failed = omega (arith, before, rose) };
+  quiet = tt;
+  first = names_more names many oa ob oc r p.quiet p.first first;
+}
