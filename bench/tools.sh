@@ -1,7 +1,8 @@
 #!/bin/sh
 # Measures `check`, `dump` and `analyze` on run files of some 100 MB and of twice and four times as much, beside `cat` of
-# the same file: files of events of 64 bytes alone, each with a bank of 8 words, and files of smaller events with one of
-# 1 MB after each 9,999. The text of `dump` goes to a pipe into `wc -c`. Prints seconds (the best of five), ratios, the
+# the same file and a plain Rust program that prints the same text (bench/tools.rs): files of events of 64 bytes alone, each
+# with a bank of 8 words, and files of smaller events with one of 1 MB after each 9,999. The text of `dump` goes to a pipe into
+# `wc -c`. The programs run in turn; prints seconds by the clock and of the processor (the least of nine), ratios, the
 # exponents of growth since the first size, and the peak memory.
 # usage: bench/tools.sh PROGRAM [MEGABYTES]
 set -e
@@ -9,6 +10,7 @@ program=$(realpath "$1")
 size=${2:-100}
 folder=$(mktemp -d)
 trap 'rm -rf "$folder"' EXIT
+rustc -O --edition 2024 -o "$folder/plain" "$(dirname "$0")/tools.rs"
 cd "$folder"
 python3 - "$program" "$size" <<'PYTHON'
 import math, os, struct, subprocess, sys, time
@@ -32,8 +34,11 @@ def words_of(serial):
     return [(serial * 2654435761 + 40503 * k) % 2**32 for k in range(8)]
 
 
+SMALL_BODIES = [bank_area(b"ADC0", words_of(serial)) for serial in range(64)]
+
+
 def small_body(serial):
-    return bank_area(b"ADC0", words_of(serial % 64))
+    return SMALL_BODIES[serial % 64]
 
 
 SMALL, LARGE = bank_area(b"ADC0", [1, 2, 3, 4]), bytes(1000000)
@@ -56,17 +61,34 @@ def write_file(path, limit, body_of):
         out.write(header(0x8001, 0x494D, 1, 1700010000, 0))
 
 
-def seconds(command, runs=5):
-    best, peak = None, 0
-    for _ in range(runs):
+class Least:
+    """The least that the runs of a command took, by the clock and of the processor, and the most memory."""
+
+    def __init__(self):
+        self.clock, self.busy, self.peak = None, None, 0
+
+    def run(self, command):
         start = time.time()
         process = subprocess.Popen(command, shell=True)
         _, status, usage = os.wait4(process.pid, 0)
-        took = time.time() - start
+        clock, busy = time.time() - start, usage.ru_utime + usage.ru_stime
         assert status == 0, command
-        peak = max(peak, usage.ru_maxrss)
-        best = took if best is None else min(best, took)
-    return best, peak
+        self.peak = max(self.peak, usage.ru_maxrss)
+        self.clock = clock if self.clock is None else min(self.clock, clock)
+        self.busy = busy if self.busy is None else min(self.busy, busy)
+
+
+def in_turn(commands, runs=9):
+    """What each of these commands takes at least, where one runs after the other."""
+    least = [Least() for _ in commands]
+    for _ in range(runs):
+        for one, command in zip(least, commands):
+            one.run(command)
+    return least
+
+
+def text_sum(command):
+    return subprocess.run(command + " | sha256sum", shell=True, capture_output=True, check=True).stdout
 
 
 for kind, body_of in (("events of 64 bytes", small_body), ("an event of 1 MB in 10,000", mixed_body)):
@@ -74,21 +96,17 @@ for kind, body_of in (("events of 64 bytes", small_body), ("an event of 1 MB in 
     for times in (1, 2, 4):
         name = "run%05d.mid" % times
         write_file(name, times * size, body_of)
-        commands = {
-            "cat": "cat %s > /dev/null" % name,
-            "check": "exec %s check %s > /dev/null" % (program, name),
-            "analyze": "exec %s analyze %s > /dev/null" % (program, name),
-            "dump": "%s dump %s | wc -c > /dev/null" % (program, name),
-        }
         print("%.0f MB, %s" % (os.path.getsize(name) / 1e6, kind))
-        beside = None
-        for what, command in commands.items():
-            took, peak = seconds(command)
-            beside = beside or took
-            line = "  %-7s %7.3f s  %6.1f times cat" % (what, took, took / beside)
+        for what in ("check", "analyze", "dump"):
+            end = "| wc -c > /dev/null" if what == "dump" else "> /dev/null"
+            ours, plain = ("%s %s %s" % (one, what, name) for one in (program, "./plain"))
+            assert text_sum(ours) == text_sum(plain), "the two programs print different texts"
+            cat, one, beside = in_turn(["cat %s > /dev/null" % name, "%s %s" % (ours, end), "%s %s" % (plain, end)])
+            line = "  %-7s %6.3f s, %6.3f s of the processor  %5.1f times cat  %5.2f and %5.2f times plain Rust" % (
+                what, one.clock, one.busy, one.clock / cat.clock, one.clock / beside.clock, one.busy / beside.busy)
             if what in base:
-                line += "  exponent %5.2f" % (math.log(took / base[what]) / math.log(times))
-            base.setdefault(what, took)
-            print(line + "  peak %d kB" % peak)
+                line += "  exponent %5.2f" % (math.log(one.clock / base[what]) / math.log(times))
+            base.setdefault(what, one.clock)
+            print(line + "  peak %d kB" % one.peak, flush=True)
         os.remove(name)
 PYTHON

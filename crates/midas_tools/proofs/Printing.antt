@@ -47,6 +47,14 @@ PrintsSoFar-then first now new page page1 text p q = record {
   text_is = p.text_is ∙ ap (λ (t : List ℕ). p.done ++ t) q.text_is ∙ sym (append_assoc p.done q.done page1);
 }
 
+-- a text that was copied to a place, with what stands in front of it
+pub written_at : (front place behind old text : List ℕ) (at : ℕ) → front ≡ take at old → length front ≡ at → place ≡ text → take (at + length text) (front ++ (place ++ behind)) ≡ take at old ++ text
+written_at front place behind old text at front_is len copied =
+    subst (λ (n : ℕ). take (n + length text) (front ++ (place ++ behind)) ≡ take at old ++ text) len
+    (take-append-add front (place ++ behind) (length text)
+    ∙ ap (λ (t : List ℕ). front ++ t) (subst (λ (q : List ℕ). take (length q) (place ++ behind) ≡ place) copied (take-append_seam place behind) ∙ copied)
+    ∙ ap (λ (t : List ℕ). t ++ text) front_is)
+
 -- Bytes that pass
 
 -- none

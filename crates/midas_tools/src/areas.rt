@@ -2,10 +2,11 @@ ghost use Rattle.daq_io.specs.Counts.{CountsFault};
 ghost use Rattle.event.specs.Headers.{event_of};
 ghost use Rattle.midas_tools.specs.Areas.{AreEventLines, PassesLines, bank_lines};
 ghost use Rattle.midas_tools.specs.Printing.{PassesText};
+ghost use Rattle.midas_tools.specs.Texts.{no_banks_line};
 
 use crate::lines::{no_banks_line, print_bank_line, print_event_line};
 use crate::page::Page;
-use bank_format::Banks;
+use bank_format::{BankFault, Banks};
 use daq_io::{Failed, Sink};
 use event::Header;
 
@@ -19,6 +20,17 @@ fn print_banks<K: Sink>(page: &mut Page, banks: &mut Banks, out: &mut K) -> Resu
         print_bank_line(page, &bank, out)?;
     }
     Ok(())
+}
+
+/// Prints why the data of an event are no bank area. A call of its own: its line takes no room on the stack where the data are
+/// one.
+#[inline(never)]
+fn print_no_banks<K: Sink>(page: &mut Page, fault: BankFault, out: &mut K) -> Result<(), Failed>
+    ensures passes { PassesText (K.written out.old) (K.written out.new) page.old page.new
+        (no_banks_line fault) result }
+    ensures faults { CountsFault (K.faults out.old) (K.faults out.new) result }
+{
+    page.print(&no_banks_line(fault), out)
 }
 
 /// Prints the lines of an event and of its banks, or why its data are no bank area.
@@ -36,6 +48,6 @@ pub fn print_event<K: Sink>(
     print_event_line(page, header, body, out)?;
     match area {
         Ok(mut banks) => print_banks(page, &mut banks, out),
-        Err(fault) => page.print(&no_banks_line(fault), out),
+        Err(fault) => print_no_banks(page, fault, out),
     }
 }

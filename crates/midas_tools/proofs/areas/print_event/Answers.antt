@@ -1,8 +1,7 @@
-use Rattle.std.proofs.Common.{ℕ, List, ap, inl, inr, refl, subst}
+use Rattle.std.proofs.Common.{ap, inl, inr, refl}
 use Rattle.std.proofs.lemmas.Result.{err_from_is_err_and}
 use Rattle.event.specs.Headers.{event_of}
 use Rattle.midas_tools.specs.Areas.{bank_lines}
-use Rattle.midas_tools.specs.Printing.{PassesText}
 use Rattle.midas_tools.specs.Texts.{no_banks_line}
 use Rattle.midas_tools.proofs.AreasLaws.{event_cut, event_passes}
 use Rattle.midas_tools.proofs.areas.print_event.Goals as goal
@@ -23,8 +22,8 @@ returns-in-Ok-clause-passes g c =
 
 pub returns-in-Err-clause-passes : goal.returns-in-Err-clause-passes
 returns-in-Err-clause-passes g c =
-    event_passes (event_of c.args.header.now c.args.body.now) (g.K.Sink.written c.args.out.now) (g.K.Sink.written c.print_event_line.new.out) (g.K.Sink.written c.print.new.out) c.args.page.now c.print_event_line.new.page c.print.new.self
-    (no_banks_line c.in-Err.fault) c.in_ok-print_event_line.field-0 c.print.result
+    event_passes (event_of c.args.header.now c.args.body.now) (g.K.Sink.written c.args.out.now) (g.K.Sink.written c.print_event_line.new.out) (g.K.Sink.written c.print_no_banks.new.out) c.args.page.now c.print_event_line.new.page c.print_no_banks.new.page
+    (no_banks_line c.in-Err.fault) c.in_ok-print_event_line.field-0 c.print_no_banks.result
     (inr (record { fault = c.in-Err.fault; first = c.in-Err.ensures.fault; text_is = refl }))
     c.in_ok-print_event_line.ensures.passes
-    (subst (λ (l : List ℕ). PassesText (g.K.Sink.written c.print_event_line.new.out) (g.K.Sink.written c.print.new.out) c.print_event_line.new.page c.print.new.self l c.print.result) c.no_banks_line.ensures c.print.ensures.passes)
+    c.print_no_banks.ensures.passes
