@@ -3,7 +3,7 @@ use Rattle.std.specs.Prelude.{drop}
 use Rattle.daq_members.specs.SeatedAnalyzers.{AnalyzerSeen}
 use Rattle.daq_members.specs.Members.{Analyzer}
 use Rattle.daq_members.proofs.MovedLaws.{first_off, none_off, fewer, none_moved, one_moved, all_moved, moved_count}
-use Rattle.daq_members.proofs.by_kind.move_analyzers.Goals as goal
+use Rattle.daq_members.proofs.one_list.move_analyzers.Goals as goal
 
 pub loop-analyzer-init : goal.loop-analyzer-init
 loop-analyzer-init g c = none_moved Analyzer c.args.members.now c.args.analyzers.now
