@@ -8,7 +8,7 @@ use Rattle.daq_members.specs.LoggerSeats.{LoggerSeen}
 use Rattle.daq_members.specs.SeatedAnalyzers.{AnalyzerSeen, IsSameAnalyzer}
 use Rattle.daq_members.specs.Members.{MemberSeen, MemberTold, FrontEnd, Logger, Analyzer, KeepsContract, TurnsMember}
 use Rattle.daq_members.specs.Stay.{laid, StillLaid, MembersStay}
-use Rattle.daq_members.specs.Crews.{CrewSeen, crew_seen, fronts_in, last_logger, analyzers_in, members_of, KeepContracts, StaysCrew, CrewsStay}
+use Rattle.daq_members.specs.Crews.{CrewSeen, crew_seen, fronts_in, logger_in, analyzers_in, members_of, KeepContracts, StaysCrew, CrewsStay, StaysListed}
 use Rattle.member_crew.specs.Turns.{CameBack}
 use Rattle.member_crew.proofs.ListLaws.{zip_at}
 
@@ -25,13 +25,9 @@ module _ (E F : Type 0) where
   no_fronts [] = refl
   no_fronts (a ∷ rest) = no_fronts rest
 
-  logger_behind : (found : Option (LoggerSeen F)) (fronts : List (FrontSeen E)) (members : List (MemberSeen E F)) → last_logger found (map FrontEnd fronts ++ members) ≡ last_logger found members
-  logger_behind found [] members = refl
-  logger_behind found (f ∷ fs) members = logger_behind found fs members
-
-  logger_before : (found : Option (LoggerSeen F)) (analyzers : List AnalyzerSeen) → last_logger {E = E} found (map Analyzer analyzers) ≡ found
-  logger_before found [] = refl
-  logger_before found (a ∷ rest) = logger_before found rest
+  logger_behind : (fronts : List (FrontSeen E)) (members : List (MemberSeen E F)) → logger_in (map FrontEnd fronts ++ members) ≡ logger_in members
+  logger_behind [] members = refl
+  logger_behind (f ∷ fs) members = logger_behind fs members
 
   analyzers_behind : (fronts : List (FrontSeen E)) (members : List (MemberSeen E F)) → analyzers_in (map FrontEnd fronts ++ members) ≡ analyzers_in members
   analyzers_behind [] members = refl
@@ -46,8 +42,8 @@ module _ {E F : Type 0} (fronts : List (FrontSeen E)) (logger : LoggerSeen F) (a
   pub fronts_laid : fronts_in (laid fronts logger analyzers) ≡ fronts
   fronts_laid = fronts_first E F fronts (Logger logger ∷ map Analyzer analyzers) ∙ (ap (λ (xs : List (FrontSeen E)). fronts ++ xs) (no_fronts E F analyzers) ∙ append-nil fronts)
 
-  pub logger_laid : (found : Option (LoggerSeen F)) → last_logger found (laid fronts logger analyzers) ≡ Some logger
-  logger_laid found = logger_behind E F found fronts (Logger logger ∷ map Analyzer analyzers) ∙ logger_before E F (Some logger) analyzers
+  pub logger_laid : logger_in (laid fronts logger analyzers) ≡ Some logger
+  logger_laid = logger_behind E F fronts (Logger logger ∷ map Analyzer analyzers)
 
   pub analyzers_laid : analyzers_in (laid fronts logger analyzers) ≡ analyzers
   analyzers_laid = analyzers_behind E F fronts (Logger logger ∷ map Analyzer analyzers) ∙ all_analyzers E F analyzers
@@ -105,34 +101,6 @@ module _ {E F : Type 0} (told : MemberTold E F) where
         },
       )
 
--- The members that came back as one list.
-module _ {E F : Type 0} (told : MemberTold E F) (crew : CrewSeen E F) where
-  -- They are a crew still, which is the same.
-  pub record Stays (after : List (MemberSeen E F)) : Type 0 where
-    pub later : CrewSeen E F
-    pub are : after ≡ members_of later
-    pub stays : StaysCrew told crew later
-
-  pub stays_so : (list before after seen : List (MemberSeen E F)) → CrewsStay told → list ≡ members_of crew → before ≡ list → CameBack (TurnsMember told) before after →
-      seen ≡ after → All (KeepsContract told) seen → Stays after
-  stays_so list before after seen law is made back same all =
-      let came : CameBack (TurnsMember told) (members_of crew) after = subst (λ (ms : List (MemberSeen E F)). CameBack (TurnsMember told) ms after) (made ∙ is) back in
-      let so = law crew after came (subst (λ (ms : List (MemberSeen E F)). All (KeepsContract told) ms) same all) in
-      record { later = so.0; are = so.1; stays = so.2 }
-
-  module _ (after : List (MemberSeen E F)) (stay : Stays after) where
-    pub fronts_in_stay : fronts_in after ≡ stay.later.fronts
-    fronts_in_stay = ap (λ (ms : List (MemberSeen E F)). fronts_in ms) stay.are ∙ fronts_laid stay.later.fronts stay.later.logger stay.later.analyzers
-
-    pub logger_in_stay : (found : Option (LoggerSeen F)) → last_logger found after ≡ Some stay.later.logger
-    logger_in_stay found = ap (λ (ms : List (MemberSeen E F)). last_logger found ms) stay.are ∙ logger_laid stay.later.fronts stay.later.logger stay.later.analyzers found
-
-    pub analyzers_in_stay : analyzers_in after ≡ stay.later.analyzers
-    analyzers_in_stay = ap (λ (ms : List (MemberSeen E F)). analyzers_in ms) stay.are ∙ analyzers_laid stay.later.fronts stay.later.logger stay.later.analyzers
-
-    pub stays_with : (fronts : List (FrontSeen E)) (logger : LoggerSeen F) (analyzers : List AnalyzerSeen) → fronts ≡ stay.later.fronts → Some logger ≡ Some stay.later.logger → analyzers ≡ stay.later.analyzers
-        → StaysCrew told crew (crew_seen fronts logger analyzers)
-    stays_with fronts logger analyzers same_fronts same_logger same_analyzers =
-        subst (λ (fs : List (FrontSeen E)). StaysCrew told crew (crew_seen fs logger analyzers)) (sym same_fronts)
-        (subst (λ (l : LoggerSeen F). StaysCrew told crew (crew_seen stay.later.fronts l analyzers)) (sym (some_same logger stay.later.logger same_logger))
-        (subst (λ (rs : List AnalyzerSeen). StaysCrew told crew (crew_seen stay.later.fronts stay.later.logger rs)) (sym same_analyzers) stay.stays))
+  -- So do members in a list.
+  pub stays_listed : CrewsStay told → (before after : List (MemberSeen E F)) → CameBack (TurnsMember told) before after → All (KeepsContract told) after → StaysListed told before after
+  stays_listed law before after back all = λ crew is. law crew after (subst (λ (ms : List (MemberSeen E F)). CameBack (TurnsMember told) ms after) is back) all

@@ -1,12 +1,7 @@
--- Members that are moved one by one: to the end of a list of all, and from such a list into those of their kinds.
+-- Members that are moved one by one to the end of a list of all.
 use Rattle.std.specs.Prelude.{◌≡◌, suc, ◌+◌, ◌<◌, ◌≤◌, List, [], ◌∷◌, ◌++◌, map, drop, slice_get, slice_index_or, remove, length, Option, Some, None, refl}
 use Rattle.std.proofs.Common.{ap, sym, ◌∙◌, arith, append_assoc, append-nil, length-append}
 use Rattle.std.proofs.lemmas.List.{length-map, map-append}
-use Rattle.daq_members.specs.FrontSeats.{FrontSeen}
-use Rattle.daq_members.specs.LoggerSeats.{LoggerSeen}
-use Rattle.daq_members.specs.SeatedAnalyzers.{AnalyzerSeen}
-use Rattle.daq_members.specs.Members.{MemberSeen, FrontEnd, Logger, Analyzer}
-use Rattle.daq_members.specs.Crews.{fronts_in, last_logger, analyzers_in}
 
 -- The first one, taken off a list.
 pub first_removed : {X : Type 0} (xs rest : List X) (x : X) → 0 < length xs → x ≡ slice_index_or xs 0 x → rest ≡ remove xs 0 → xs ≡ x ∷ rest
@@ -50,51 +45,3 @@ module _ {X M : Type 0} (seen : X → M) where
       let are : length members ≡ length base + length (map seen so_far.gone) = ap (λ (l : List M). length l) so_far.are ∙ length-append base (map seen so_far.gone) in
       let same : length (map seen so_far.gone) ≡ length so_far.gone = length-map so_far.gone seen in
       omega (arith, whole, are, same)
-
--- By their kinds.
-module _ {E F : Type 0} where
-  -- Of all members those that are left are not in their places yet: the others are these front-ends, this last logger, and these
-  -- analyzers.
-  pub record Sorted (all left : List (MemberSeen E F)) (fronts : List (FrontSeen E)) (logger : Option (LoggerSeen F))
-      (analyzers : List AnalyzerSeen) : Type 0 where
-    pub fronts_are : fronts ++ fronts_in left ≡ fronts_in all
-    pub logger_is : last_logger logger left ≡ last_logger None all
-    pub analyzers_are : analyzers ++ analyzers_in left ≡ analyzers_in all
-
-  module _ (all left rest : List (MemberSeen E F)) (fronts : List (FrontSeen E)) (logger : Option (LoggerSeen F)) (analyzers : List AnalyzerSeen)
-      (so_far : Sorted all left fronts logger analyzers) where
-    pub front_sorted : (front : FrontSeen E) (more : List (FrontSeen E)) → left ≡ FrontEnd front ∷ rest → more ≡ fronts ++ front ∷ [] → Sorted all rest more logger analyzers
-    front_sorted front more off pushed = record {
-      fronts_are = ap (λ (l : List (FrontSeen E)). l ++ fronts_in rest) pushed ∙ (append_assoc fronts (front ∷ []) (fronts_in rest) ∙ (ap (λ (ms : List (MemberSeen E F)). fronts ++ fronts_in ms) (sym off) ∙ so_far.fronts_are));
-      logger_is = ap (λ (ms : List (MemberSeen E F)). last_logger logger ms) (sym off) ∙ so_far.logger_is;
-      analyzers_are = ap (λ (ms : List (MemberSeen E F)). analyzers ++ analyzers_in ms) (sym off) ∙ so_far.analyzers_are;
-    }
-
-    pub logger_sorted : (next : LoggerSeen F) → left ≡ Logger next ∷ rest → Sorted all rest fronts (Some next) analyzers
-    logger_sorted next off = record {
-      fronts_are = ap (λ (ms : List (MemberSeen E F)). fronts ++ fronts_in ms) (sym off) ∙ so_far.fronts_are;
-      logger_is = ap (λ (ms : List (MemberSeen E F)). last_logger logger ms) (sym off) ∙ so_far.logger_is;
-      analyzers_are = ap (λ (ms : List (MemberSeen E F)). analyzers ++ analyzers_in ms) (sym off) ∙ so_far.analyzers_are;
-    }
-
-    pub analyzer_sorted : (analyzer : AnalyzerSeen) (more : List AnalyzerSeen) → left ≡ Analyzer analyzer ∷ rest → more ≡ analyzers ++ analyzer ∷ [] → Sorted all rest fronts logger more
-    analyzer_sorted analyzer more off pushed = record {
-      fronts_are = ap (λ (ms : List (MemberSeen E F)). fronts ++ fronts_in ms) (sym off) ∙ so_far.fronts_are;
-      logger_is = ap (λ (ms : List (MemberSeen E F)). last_logger logger ms) (sym off) ∙ so_far.logger_is;
-      analyzers_are = ap (λ (l : List AnalyzerSeen). l ++ analyzers_in rest) pushed ∙ (append_assoc analyzers (analyzer ∷ []) (analyzers_in rest) ∙ (ap (λ (ms : List (MemberSeen E F)). analyzers ++ analyzers_in ms) (sym off) ∙ so_far.analyzers_are));
-    }
-
-    -- There is room for one more.
-    pub front_room : (front : FrontSeen E) → left ≡ FrontEnd front ∷ rest → length fronts < length (fronts_in all)
-    front_room front off =
-        let is : length (fronts ++ fronts_in left) ≡ length (fronts_in all) = ap (λ (l : List (FrontSeen E)). length l) so_far.fronts_are in
-        let parts : length (fronts ++ fronts_in left) ≡ length fronts + length (fronts_in left) = length-append fronts (fronts_in left) in
-        let some : length (fronts_in left) ≡ suc (length (fronts_in rest)) = ap (λ (ms : List (MemberSeen E F)). length (fronts_in ms)) off in
-        omega (arith, is, parts, some)
-
-    pub analyzer_room : (analyzer : AnalyzerSeen) → left ≡ Analyzer analyzer ∷ rest → length analyzers < length (analyzers_in all)
-    analyzer_room analyzer off =
-        let is : length (analyzers ++ analyzers_in left) ≡ length (analyzers_in all) = ap (λ (l : List AnalyzerSeen). length l) so_far.analyzers_are in
-        let parts : length (analyzers ++ analyzers_in left) ≡ length analyzers + length (analyzers_in left) = length-append analyzers (analyzers_in left) in
-        let some : length (analyzers_in left) ≡ suc (length (analyzers_in rest)) = ap (λ (ms : List (MemberSeen E F)). length (analyzers_in ms)) off in
-        omega (arith, is, parts, some)

@@ -1,5 +1,5 @@
 -- The members of a session by their kinds: what stays the same of them, and what they keep.
-use Rattle.std.specs.Prelude.{◌≡◌, ℕ, List, [], ◌∷◌, slice_get, Option, Some, length, All}
+use Rattle.std.specs.Prelude.{◌≡◌, ℕ, List, [], ◌∷◌, slice_get, Option, Some, None, length, All}
 use Rattle.loggers.specs.LoggerFaults.{NotesFaults}
 use Rattle.daq_members.specs.FrontSeats.{FrontSeen, IsSeated, IsSameFront}
 use Rattle.daq_members.specs.LoggerSeats.{LoggerSeen, IsLoggerSeated, HasLoggerReasons, KeepsLoggerNames, IsSameLogger}
@@ -24,12 +24,12 @@ fronts_in (FrontEnd front ∷ members) = front ∷ fronts_in members
 fronts_in (Logger logger ∷ members) = fronts_in members
 fronts_in (Analyzer analyzer ∷ members) = fronts_in members
 
--- the last logger among these members, or this one, if there is none
-abbrev pub last_logger : {E F : Type 0} → Option (LoggerSeen F) → List (MemberSeen E F) → Option (LoggerSeen F)
-last_logger logger [] = logger
-last_logger logger (FrontEnd front ∷ members) = last_logger logger members
-last_logger logger (Logger later ∷ members) = last_logger (Some later) members
-last_logger logger (Analyzer analyzer ∷ members) = last_logger logger members
+-- the first logger among these members, if there is one
+abbrev pub logger_in : {E F : Type 0} → List (MemberSeen E F) → Option (LoggerSeen F)
+logger_in [] = None
+logger_in (FrontEnd front ∷ members) = logger_in members
+logger_in (Logger logger ∷ members) = Some logger
+logger_in (Analyzer analyzer ∷ members) = logger_in members
 
 -- the analyzers among these members
 abbrev pub analyzers_in : {E F : Type 0} → List (MemberSeen E F) → List AnalyzerSeen
@@ -85,4 +85,9 @@ module _ {E F : Type 0} (told : MemberTold E F) where
   abbrev pub CrewsStay : Type 0
   CrewsStay = (crew : CrewSeen E F) → (after : List (MemberSeen E F)) →
       CameBack (TurnsMember told) (members_of crew) after → All (KeepsContract told) after →
+      (later : CrewSeen E F) × (after ≡ members_of later) × StaysCrew crew later
+
+  -- A list of members that are a crew is one still, which is the same.
+  abbrev pub StaysListed : (before after : List (MemberSeen E F)) → Type 0
+  StaysListed before after = (crew : CrewSeen E F) → before ≡ members_of crew →
       (later : CrewSeen E F) × (after ≡ members_of later) × StaysCrew crew later

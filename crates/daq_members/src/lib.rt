@@ -6,7 +6,6 @@
 
 pub mod analyzer_laws;
 mod analyzer_member;
-mod by_kind;
 pub mod crew_laws;
 mod engine_client;
 mod front_member;
@@ -14,14 +13,15 @@ pub mod laws;
 mod logger_member;
 mod member;
 pub mod member_laws;
+mod one_list;
 mod play;
 mod sent_key;
 
 pub use analyzer_member::{AnalyzerMember, AnalyzerParts};
-pub use by_kind::{AnalyzerMembers, MembersByKind};
 pub use engine_client::EngineClient;
 pub use front_member::{FrontMember, FrontParts, turned_by};
 pub use logger_member::{LoggerMember, LoggerParts};
 pub use member::{Member, MemberKind, ask_all};
+pub use one_list::{AnalyzerMembers, Members, in_one_list};
 pub use play::{MemberRoom, play_members};
 pub use sent_key::SentKey;

@@ -1,28 +1,24 @@
 // A session whose main thread plays its part while its members have their turns.
-ghost use Rattle.std.specs.Prelude.{◌≡◌, ◌≤◌, [], length};
-ghost use Rattle.daq_members.specs.Members.{member_told};
-ghost use Rattle.daq_members.specs.Crews.{StaysCrew, crew_seen};
+ghost use Rattle.std.specs.Prelude.{◌<◌, ◌≤◌, length, All};
+ghost use Rattle.member_crew.specs.Turns.{CameBack};
+ghost use Rattle.daq_members.specs.Members.{KeepsContract, TurnsMember, member_told};
 
-use crate::by_kind::{MembersByKind, by_kind, in_one_list};
-use crate::crew_laws::crews_stay;
 use crate::member::{Member, ask_all};
+use crate::one_list::Members;
 use buffer_core::BufferPort;
 use daq_io::{Files, Gate, Pick};
-use daq_types::{BoundedList, NoMemory};
+use daq_types::NoMemory;
 use front_ends::Equipment;
-use member_crew::{Crew, CrewParts, MemberList, Playing, TakesTurns, ThreadRoom, play};
+use member_crew::{Crew, CrewParts, Playing, TakesTurns, ThreadRoom, play};
 use odb_watch::WatchPort;
 use std::alloc::Global;
 use std::sync::Wait;
 use std::thread::Threads;
 
-/// Room for the members of a session while they have their turns: for all of them in one list, and for their threads, where they are
-/// to have threads of their own.
+/// Room for the threads of a session's members, where they are to have threads of their own.
 #[derive(Drop)]
 pub struct MemberRoom<'a, E: Equipment, P: BufferPort, D: WatchPort, F: Files> {
-    pub list: MemberList<Member<'a, E, P, D, F>>,
     pub threads: Option<ThreadRoom<Member<'a, E, P, D, F>>>,
-    ghost empty: { list ≡ [] },
 }
 
 impl<
@@ -32,11 +28,10 @@ impl<
     D: WatchPort + Drop,
     F: Files + Drop,
 > MemberRoom<'a, E, P, D, F> {
-    /// Room for as many members as an engine has clients, and for their threads, but where the main thread gives them their turns.
+    /// Room for the threads of as many members as an engine has clients, but where the main thread gives them their turns.
     pub fn new(alloc: Global, cooperative: bool) -> Result<MemberRoom<'a, E, P, D, F>, NoMemory> {
         let threads = thread_room(alloc, cooperative)?;
-        let list = BoundedList::new(alloc)?;
-        Ok(MemberRoom { list, threads })
+        Ok(MemberRoom { threads })
     }
 }
 
@@ -52,8 +47,9 @@ fn thread_room<M: TakesTurns + Drop>(
     Ok(Some(room))
 }
 
-/// Plays the main thread's part with these members: each in a thread of its own where there is room for that, else all in rounds
-/// of the main thread. They come back behind their last turns.
+/// Plays the main thread's part with these members, each by its client number: each in a thread of its own where there is room
+/// for that, else all in rounds of the main thread. Each comes back behind turns of its own, of which the last came to `Ended`,
+/// and keeps its contract.
 pub fn play_members<
     'a,
     R: Threads + Wait + Sync,
@@ -67,39 +63,22 @@ pub fn play_members<
 >(
     rt: &R,
     room: MemberRoom<'a, E, P, D, F>,
-    members: MembersByKind<'a, E, P, D, F>,
+    members: Members<'a, E, P, D, F>,
     pick: K,
     gate: &'a G,
     main: Y,
-) -> (Y::Played, MembersByKind<'a, E, P, D, F>, K)
-    requires few { length members.fronts.items ≤ 32 }
-    requires few_analyzers { length members.analyzers ≤ 8 }
+) -> (Y::Played, Members<'a, E, P, D, F>, K)
+    requires some { 0 < length members }
+    requires few { length members ≤ 64 }
     ensures played { Y.plays main result.0 }
-    ensures stay { StaysCrew (member_told E.takes E.makes F.seen F.faults F.clashes F.first)
-        (crew_seen members.entry.fronts.items members.entry.logger members.entry.analyzers)
-        (crew_seen result.1.fronts.items result.1.logger result.1.analyzers) }
+    ensures back { CameBack (TurnsMember
+        (member_told E.takes E.makes F.seen F.faults F.clashes F.first)) members.entry result.1 }
+    ensures keep { All (KeepsContract
+        (member_told E.takes E.makes F.seen F.faults F.clashes F.first)) result.1 }
 {
-    let MembersByKind {
-        mut fronts,
-        logger,
-        mut analyzers,
-    } = members;
-    let list = in_one_list(room.list, &mut fronts, logger, &mut analyzers);
-    let crew = Crew::new(list, pick, gate);
+    let crew = Crew::new(members, pick, gate);
     let (played, parts) = play(rt, room.threads, crew, main);
-    let CrewParts {
-        members: list,
-        pick,
-    } = parts;
-    ask_all(list.as_slice());
-    crews_stay(list.as_slice());
-    let Some(logger) = by_kind(list, &mut fronts, &mut analyzers) else {
-        unreachable!()
-    };
-    let members = MembersByKind {
-        fronts,
-        logger,
-        analyzers,
-    };
+    let CrewParts { members, pick } = parts;
+    ask_all(members.as_slice());
     (played, members, pick)
 }

@@ -85,12 +85,10 @@ cut_tells told script run_files pick replies odb_files clock final files_are rep
 }
 
 -- The passes that are back tell the calls of these callers.
-pub calls_told : {D F : Type 0} {g : _} (fronts declared : List FrontDeclared) (analyzers listed_analyzers : List AnalyzerDeclared) (objects : SessionObjects) (shared : SharedOdb D) (passes : SessionPasses D g)
+pub calls_told : {D F : Type 0} {g : _} (fronts : List FrontDeclared) (analyzers : List AnalyzerDeclared) (objects : SessionObjects) (shared : SharedOdb D) (passes : SessionPasses D g)
     (engine own : List EngineEntry) (database seen : List (ℕ × WatchEntry)) (seats : List (FrontSeen Generator)) (logger : LoggerSeen F) (last : List AnalyzerSeen)
-    → declared ≡ fronts → listed_analyzers ≡ analyzers → own ≡ engine → seen ≡ database
-    → HasCalls declared listed_analyzers (session_calls own seen seats logger last) objects shared passes → HasCalls fronts analyzers (session_calls engine database seats logger last) objects shared passes
-calls_told fronts declared analyzers listed_analyzers objects shared passes engine own database seen seats logger last same_fronts same_analyzers same_engine same_database has =
-    subst (λ (ds : List FrontDeclared). HasCalls ds analyzers (session_calls engine database seats logger last) objects shared passes) same_fronts
-    (subst (λ (rs : List AnalyzerDeclared). HasCalls declared rs (session_calls engine database seats logger last) objects shared passes) same_analyzers
-    (subst (λ (calls : List EngineEntry). HasCalls declared listed_analyzers (session_calls calls database seats logger last) objects shared passes) same_engine
-    (subst (λ (calls : List (ℕ × WatchEntry)). HasCalls declared listed_analyzers (session_calls own calls seats logger last) objects shared passes) same_database has)))
+    → own ≡ engine → seen ≡ database
+    → HasCalls fronts analyzers (session_calls own seen seats logger last) objects shared passes → HasCalls fronts analyzers (session_calls engine database seats logger last) objects shared passes
+calls_told fronts analyzers objects shared passes engine own database seen seats logger last same_engine same_database has =
+    subst (λ (calls : List EngineEntry). HasCalls fronts analyzers (session_calls calls database seats logger last) objects shared passes) same_engine
+    (subst (λ (calls : List (ℕ × WatchEntry)). HasCalls fronts analyzers (session_calls own calls seats logger last) objects shared passes) same_database has)

@@ -9,11 +9,9 @@ ghost use Rattle.transitions.specs.Engines.{engine_opening};
 ghost use Rattle.transition_lock.specs.SharedEngines.{engine_lock_of, first_engine};
 ghost use Rattle.session_lines.specs.Stages.{opened_runs};
 ghost use Rattle.session_lines.specs.RunLines.{CutsKeys, KeysMade};
-ghost use Rattle.loggers.specs.OtherFiles.{AreDeclared};
 ghost use Rattle.session_setup.specs.Setup.{declared_by};
-ghost use Rattle.daq_members.specs.Crews.{crew_seen};
 ghost use Rattle.session_objects.specs.Kept.{HasFreshBut, out_to_fronts, out_to_members};
-ghost use Rattle.session_objects.specs.Members.{AreMembersOf, AreNewMembers};
+ghost use Rattle.session_objects.specs.Members.{HasNewMembers};
 ghost use Rattle.session_objects.specs.Objects.{SuitMembers};
 ghost use Rattle.daq_session.specs.NewDatabases.{IsNewDatabase};
 
@@ -116,7 +114,7 @@ fn front_keys<'a, R: Wait, D: Database>(
     make_keys(rt, alloc, access, names.as_slice())
 }
 
-/// Room for the members of a session while they have their turns.
+/// Room for the threads of a session's members.
 pub type SessionRoom<'a, D, F> = MemberRoom<
     'a,
     Generator,
@@ -125,13 +123,12 @@ pub type SessionRoom<'a, D, F> = MemberRoom<
     F,
 >;
 
-/// Lets room for the members go. Dropped at the session's own types it would have all their laws proved at each place.
+/// Lets room for threads of members go. Dropped at the session's own types it would have all their laws proved at each place.
 pub fn let_go<'a, X: Equipment + Drop, P: BufferPort + Drop, D: WatchPort + Drop, F: Files + Drop>(
     _room: MemberRoom<'a, X, P, D, F>,
 ) {}
 
-/// Takes room for the members, and for threads of theirs, but where the main thread gives them their turns; and makes the keys of
-/// the front-ends.
+/// Takes room for the threads of the members, but where the main thread gives them their turns; and makes the keys of the front-ends.
 pub fn open_keys<'a, R: Wait, D: Database, F: Files + Drop>(
     rt: &R,
     alloc: Global,
@@ -236,7 +233,7 @@ fn open_runs_with_channels<'a, R: Wait>(
 
 /// What the main thread keeps of the runs of a session that opens, its members, and their pick; or what the members were to meet
 /// outside, where there is no memory for them.
-pub fn open_members<'a, R: Wait, D: Database, F: Files, K: Pick, G: Gate>(
+pub fn open_members<'a, R: Wait, D: Database, F: Files + Drop, K: Pick, G: Gate>(
     rt: &R,
     alloc: Global,
     places: &Places<'a, D, G>,
@@ -255,15 +252,9 @@ pub fn open_members<'a, R: Wait, D: Database, F: Files, K: Pick, G: Gate>(
         places.now.objects.now places.now.shared.now passes.old }
     ensures runs { IfOk result (λ opened. opened.0 ≡ opened_runs quota
         (declared_by places.now.lists.now) places.now.objects.now.engine) }
-    ensures members { IfOk result (λ opened. AreNewMembers places.now.lists.now.fronts
-        places.now.lists.now.analyzers places.now.lists.now.channels places.now.objects.now
-        places.now.shared.now side.entry.run_files
-        (crew_seen opened.1.fronts.items opened.1.logger opened.1.analyzers)) }
-    ensures are { IfOk result (λ opened. AreMembersOf places.now.lists.now.fronts
-        places.now.lists.now.analyzers places.now.objects.now places.now.shared.now
-        opened.1.fronts.items opened.1.logger opened.1.analyzers) }
-    ensures channels { IfOk result (λ opened. AreDeclared places.now.lists.now.channels
-        opened.1.logger.slots) }
+    ensures members { IfOk result (λ opened. HasNewMembers places.now.lists.now
+        places.now.lists.now.channels places.now.objects.now places.now.shared.now
+        side.entry.run_files opened.1) }
     ensures out { OnOk result (HasFreshBut (out_to_members places.now.lists.now.fronts
         places.now.lists.now.analyzers (length places.now.objects.now.buffers.items))
         places.now.objects.now places.now.shared.now passes.new) }
@@ -276,13 +267,10 @@ pub fn open_members<'a, R: Wait, D: Database, F: Files, K: Pick, G: Gate>(
     else {
         return Err(side);
     };
-    let fronts = lists.fronts.as_slice();
-    let analyzers = lists.analyzers.as_slice();
     let membership = Membership {
         objects,
         database: places.shared,
-        fronts,
-        analyzers,
+        lists,
     };
     let MemberSide {
         run_files,

@@ -1,22 +1,20 @@
 // An open session over its objects, from its first start to the end of its script.
-ghost use Rattle.std.specs.Prelude.{◌≡◌, ◌≤◌, ◌+◌, length};
+ghost use Rattle.std.specs.Prelude.{◌≡◌, ◌<◌, ◌≤◌, ◌+◌, length};
 ghost use Rattle.daq_types.specs.Callers.{main_caller};
 ghost use Rattle.turn_lock.specs.Passes.{IsOf, number_of};
 ghost use Rattle.turn_lock.specs.Roster.{IsFresh};
 ghost use Rattle.odb_lock.specs.SharedAccesses.{access_by_pass, odb_identity};
 ghost use Rattle.transitions.specs.Engines.{engine_opening};
 ghost use Rattle.transition_lock.specs.SharedEngines.{engine_lock_of, first_engine};
-ghost use Rattle.loggers.specs.LoggerFaults.{HasFailed};
 ghost use Rattle.console.specs.Closing.{EndCounts};
 ghost use Rattle.daq_members.specs.Members.{member_told};
-ghost use Rattle.daq_members.specs.Crews.{StaysCrew, crew_seen};
+ghost use Rattle.daq_members.specs.Crews.{StaysListed};
 ghost use Rattle.session_commands.specs.Finishing.{script_point, side_told};
 ghost use Rattle.session_commands.specs.MainEnds.{MainEnds};
-ghost use Rattle.loggers.specs.OtherFiles.{AreDeclared};
 ghost use Rattle.session_setup.specs.Setup.{Declared, declared_by};
 ghost use Rattle.session_setup.specs.SetupLines.{opened_with_defaults};
 ghost use Rattle.session_objects.specs.Kept.{HasFreshBut, out_to_fronts, out_to_members};
-ghost use Rattle.session_objects.specs.Members.{AreMembersOf};
+ghost use Rattle.session_objects.specs.Members.{HasNewMembers};
 ghost use Rattle.session_objects.specs.Objects.{SuitMembers};
 ghost use Rattle.daq_session.specs.Environments.{outside_told};
 ghost use Rattle.daq_session.specs.LinesEnded.{outside_left};
@@ -27,7 +25,8 @@ use crate::places::{MemberSide, Places};
 use buffer_core::BufferPort;
 use console::{DatabaseConsole, Ending, Halt};
 use daq_io::{Clock, Files, Gate, Outside, Pick, Sink, Source};
-use daq_members::{MemberRoom, MembersByKind, play_members};
+use daq_members::crew_laws::crews_stay;
+use daq_members::{MemberRoom, Members, play_members};
 use front_ends::Equipment;
 use odb_commands::FileReplies;
 use odb_lock::{LockedDatabase, SharedAccess, WatchedSeen};
@@ -36,7 +35,7 @@ use odb_watch::{WatchEntry, WatchPort};
 use session_commands::laws::first_start_opens;
 use session_commands::{MainEnd, MainPlay, MainSide, Script};
 use session_objects::laws::{channels_stay, members_stay};
-use session_objects::{Membership, Returned, RunRecords, SessionMembers, SessionPasses};
+use session_objects::{LoggerEnd, Membership, Returned, RunRecords, SessionMembers, SessionPasses};
 use std::alloc::Global;
 use std::sync::Wait;
 use std::thread::Threads;
@@ -160,13 +159,13 @@ fn play_main<
 >(
     rt: &R,
     room: MemberRoom<'a, X, P, D, F>,
-    members: MembersByKind<'a, X, P, D, F>,
+    members: Members<'a, X, P, D, F>,
     pick: K,
     gate: &'a G,
     main: MainPlay<'a, S, O, D, E, C>,
-) -> (MainEnd<S, O, D, E, C>, MembersByKind<'a, X, P, D, F>, K)
-    requires few { length members.fronts.items ≤ 32 }
-    requires few_analyzers { length members.analyzers ≤ 8 }
+) -> (MainEnd<S, O, D, E, C>, Members<'a, X, P, D, F>, K)
+    requires some { 0 < length members }
+    requires few { length members ≤ 64 }
     ensures played { MainEnds
         (side_told D.access E.seen E.faults E.clashes E.first C.tells C.ahead)
         main.entry.lists.now main.entry.runs main.entry.side result.0.side
@@ -176,11 +175,12 @@ fn play_main<
     ensures counts { EndCounts result.0.ending result.0.closing (S.faults main.entry.script.src)
         (S.faults result.0.script.src) (O.faults main.entry.script.out)
         (O.faults result.0.script.out) }
-    ensures stay { StaysCrew (member_told X.takes X.makes F.seen F.faults F.clashes F.first)
-        (crew_seen members.entry.fronts.items members.entry.logger members.entry.analyzers)
-        (crew_seen result.1.fronts.items result.1.logger result.1.analyzers) }
+    ensures stay { StaysListed (member_told X.takes X.makes F.seen F.faults F.clashes F.first)
+        members.entry result.1 }
 {
-    play_members(rt, room, members, pick, gate, main)
+    let (end, members, pick) = play_members(rt, room, members, pick, gate, main);
+    crews_stay(members.as_slice());
+    (end, members, pick)
 }
 
 /// Plays an open session to the end of its script, and takes back what its members called by.
@@ -211,24 +211,21 @@ fn play_opened<
     requires engine { main.runs.main.engine ≡ places.now.objects.now.engine }
     requires suit { SuitMembers places.now.lists.now.fronts places.now.lists.now.analyzers
         places.now.lists.now.channels places.now.objects.now places.now.shared.now }
-    requires members { AreMembersOf places.now.lists.now.fronts places.now.lists.now.analyzers
-        places.now.objects.now places.now.shared.now members.fronts.items members.logger
-        members.analyzers }
+    requires members { (files : F) × HasNewMembers places.now.lists.now
+        places.now.lists.now.channels places.now.objects.now places.now.shared.now files members }
     requires out { HasFreshBut (out_to_members places.now.lists.now.fronts
         places.now.lists.now.analyzers (length places.now.objects.now.buffers.items))
         places.now.objects.now places.now.shared.now passes }
-    requires first { members.logger.files ≡ members.logger.first }
-    requires unfailed { ¬ HasFailed members.logger.slots }
-    requires channels { AreDeclared places.now.lists.now.channels members.logger.slots }
-    ensures played { PlaysOpened (outside_told S.left S.faults O.written O.faults F.seen F.faults
-        F.clashes F.first E.seen E.faults E.clashes E.first C.tells C.ahead)
-        places.now.lists.now places.now.objects.now places.now.shared.now members.entry.logger.first
-        main.entry.runs main.entry.side main.entry.script result }
+    ensures played { (files : F) → HasNewMembers places.now.lists.now
+        places.now.lists.now.channels places.now.objects.now places.now.shared.now files
+        members.entry → PlaysOpened (outside_told S.left S.faults O.written O.faults F.seen
+        F.faults F.clashes F.first E.seen E.faults E.clashes E.first C.tells C.ahead)
+        places.now.lists.now places.now.objects.now places.now.shared.now files main.entry.runs
+        main.entry.side main.entry.script result }
 {
-    members_stay(&members);
-    channels_stay(&members);
+    members_stay(members.as_slice());
+    channels_stay(members.as_slice());
     let (end, members, pick) = play_main(rt, room, members, pick, places.gate, main);
-    let failed = members.logger.failed();
     let MainEnd {
         ending,
         closing,
@@ -243,19 +240,17 @@ fn play_opened<
         files: odb_files,
         replies,
     } = database;
-    let fronts = places.lists.fronts.as_slice();
-    let analyzers = places.lists.analyzers.as_slice();
     let membership = Membership {
         objects: places.objects,
         database: places.shared,
-        fronts,
-        analyzers,
+        lists: places.lists,
     };
     let pass = access.into_pass();
-    let Returned {
-        passes,
+    let Returned { passes, logger } = membership.take_back(passes, members, main, pass);
+    let LoggerEnd {
         files: run_files,
-    } = membership.take_back(passes, members, main, pass);
+        failed,
+    } = logger;
     OpenedEnd {
         lines: LinesEnd {
             ending,

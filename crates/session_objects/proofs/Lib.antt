@@ -11,3 +11,4 @@ pub mod SuitLaws
 pub mod BareLaws
 pub mod SeatLaws
 pub mod CrewedLaws
+pub mod ListedLaws

@@ -1,5 +1,5 @@
 -- The passes that the main thread keeps of the session's objects, while others are with the members.
-use Rattle.std.specs.Prelude.{◌≡◌, ℕ, zero, suc, ◌+◌, ◌==◌, ◌++◌, ◌∷◌, [], Bool, false, if◌then◌else◌, nat_lt, List, slice_get, length, Option, Some, None}
+use Rattle.std.specs.Prelude.{◌≡◌, ℕ, zero, suc, ◌+◌, ◌-◌, ◌==◌, ◌++◌, ◌∷◌, [], Bool, false, if◌then◌else◌, nat_lt, List, slice_get, length, Option, Some, None}
 use Rattle.daq_types.specs.Callers.{main_caller}
 use Rattle.buffer_lock.specs.SharedBuffers.{lock_of}
 use Rattle.transition_lock.specs.SharedEngines.{engine_lock_of}
@@ -91,6 +91,12 @@ out_to_analyzers fronts analyzers buffers count = record {
 -- All members have their passes.
 abbrev pub out_to_members : List FrontDeclared → List AnalyzerDeclared → (buffers : ℕ) → OutNumbers
 out_to_members fronts analyzers buffers = out_to_analyzers fronts analyzers buffers (length analyzers)
+
+-- So many members have their passes: front-ends alone; or all front-ends, the logger, and analyzers.
+abbrev pub out_to : List FrontDeclared → List AnalyzerDeclared → (buffers : ℕ) → (clients : ℕ) → OutNumbers
+out_to fronts analyzers buffers clients =
+    if nat_lt (length fronts) clients then out_to_analyzers fronts analyzers buffers (clients - first_analyzer fronts)
+    else out_to_fronts fronts clients
 
 -- All passes of these objects are here but those with these numbers, and none of them made a call.
 pub record HasFreshBut {D : Type 0} {g : _} (out : OutNumbers) (objects : SessionObjects) (shared : SharedOdb D) (passes : SessionPasses D g) : Type 0 where

@@ -5,4 +5,5 @@ pub mod Kept
 pub mod Calls
 pub mod Records
 pub mod Members
+pub mod Returns
 pub mod Names

@@ -1,5 +1,5 @@
 -- The members of a session, as their seats show them.
-use Rattle.std.specs.Prelude.{◌≡◌, ℕ, ◌+◌, ◌-◌, min, Bool, nat_le, List, [], map, slice_get, length, Option, Some, None}
+use Rattle.std.specs.Prelude.{◌≡◌, ℕ, ◌+◌, ◌-◌, ◌≤◌, min, Bool, nat_le, List, [], map, slice_get, length, Option, Some, None}
 use Rattle.daq_types.specs.Callers.{caller_of_client}
 use Rattle.daq_types.specs.declared.events.Event.{Event}
 use Rattle.daq_types.specs.declared.runs.Order.{Order}
@@ -11,7 +11,7 @@ use Rattle.loggers.specs.Moments.{RunFiles, AreIdleChannels, IsLoggerReady}
 use Rattle.loggers.specs.LoggerFaults.{HasFailed}
 use Rattle.loggers.specs.OtherFiles.{AreDeclared}
 use Rattle.loggers.specs.Reasons.{GivesReasons}
-use Rattle.loggers.specs.declared.logger.Logger.{Logger}
+use Rattle.loggers.specs.declared.logger.Logger.{Logger as LoggerState}
 use Rattle.daq_members.specs.EngineClients.{EngineClientSeen}
 use Rattle.loggers.specs.SlotPulls.{HasEventRoom}
 use Rattle.loggers.specs.LoggerStands.{LoggerStands}
@@ -29,14 +29,15 @@ use Rattle.odb_lock.specs.declared.shared.SharedOdb.{SharedOdb}
 use Rattle.odb_lock.specs.SharedAccesses.{shared_access, odb_identity}
 use Rattle.frontend_kit.specs.declared.generator.Generator.{Generator}
 use Rattle.session_setup.specs.declared.declared.AnalyzerDeclared.{AnalyzerDeclared}
+use Rattle.session_setup.specs.declared.declared.DeclaredLists.{DeclaredLists}
 use Rattle.session_setup.specs.declared.declared.FrontDeclared.{FrontDeclared}
 use Rattle.daq_members.specs.FrontSeats.{FrontSeen}
 use Rattle.daq_members.specs.LoggerSeats.{LoggerSeen}
 use Rattle.analyzers.specs.declared.analyzer_run.EventRequest.{EventRequest}
 use Rattle.analyzers.specs.Analyzers.{AnalyzerState}
 use Rattle.daq_members.specs.SeatedAnalyzers.{AnalyzerSeen}
-use Rattle.daq_members.specs.Members.{MemberTold}
-use Rattle.daq_members.specs.Crews.{CrewSeen, IsSameCrew}
+use Rattle.daq_members.specs.Members.{MemberSeen, MemberTold, FrontEnd, Logger, Analyzer}
+use Rattle.daq_members.specs.Crews.{CrewSeen, IsSameCrew, fronts_in, logger_in, analyzers_in, members_of}
 use Rattle.session_objects.specs.declared.objects.SessionBuffer.{SessionBuffer}
 use Rattle.session_objects.specs.declared.objects.SessionObjects.{SessionObjects}
 use Rattle.session_objects.specs.Objects.{first_analyzer}
@@ -170,6 +171,54 @@ session_calls engine database seats logger seated_analyzers = record {
   analyzers = map analyzer_calls seated_analyzers;
 }
 
+-- The members in one list.
+
+-- The list has the members of a session of these declarations, by their client numbers.
+pub record HasMembers {D F : Type 0} (lists : DeclaredLists) (objects : SessionObjects) (shared : SharedOdb D)
+    (members : List (MemberSeen Generator F)) : Type 0 where
+  pub crew : CrewSeen Generator F
+  pub laid : members ≡ members_of crew
+  pub are : AreMembersOf lists.fronts lists.analyzers objects shared crew.fronts crew.logger crew.analyzers
+
+abbrev pub engine_calls_in : {F : Type 0} → Option (LoggerSeen F) → List EngineEntry
+engine_calls_in None = []
+engine_calls_in (Some logger) = logger.calls
+
+abbrev pub ports_in : {F : Type 0} → Option (LoggerSeen F) → List Access
+ports_in None = []
+ports_in (Some logger) = logger.ports
+
+-- all calls of a session, by what the main thread and the members of this list know
+abbrev pub listed_calls : {F : Type 0} → (engine : List EngineEntry) → (database : List (ℕ × WatchEntry)) →
+    List (MemberSeen Generator F) → SessionCalls
+listed_calls engine database members = record {
+  main_engine = engine;
+  main_database = database;
+  fronts = map front_calls (fronts_in members);
+  logger_engine = engine_calls_in (logger_in members);
+  logger_ports = ports_in (logger_in members);
+  analyzers = map analyzer_calls (analyzers_in members);
+}
+
+-- The member is the one with this client number, of a session of these declarations, and made those of these calls that are its own.
+abbrev pub CalledAt : {D F : Type 0} → DeclaredLists → SessionObjects → SharedOdb D → SessionCalls → (client : ℕ) →
+    MemberSeen Generator F → Type 0
+CalledAt lists objects shared calls client (FrontEnd front) =
+    IsFrontAt objects shared lists.fronts client front × (slice_get calls.fronts client ≡ Some (front_calls front))
+CalledAt lists objects shared calls client (Logger logger) =
+    (client ≡ length lists.fronts) × IsLoggerOf objects (length lists.fronts) logger
+    × (calls.logger_engine ≡ logger.calls) × (calls.logger_ports ≡ logger.ports)
+CalledAt lists objects shared calls client (Analyzer analyzer) =
+    (first_analyzer lists.fronts ≤ client)
+    × IsAnalyzerAt objects (first_analyzer lists.fronts) lists.analyzers (client - first_analyzer lists.fronts) analyzer
+    × (slice_get calls.analyzers (client - first_analyzer lists.fronts) ≡ Some (analyzer_calls analyzer))
+
+-- so each of these is
+abbrev pub AreCalledAt : {D F : Type 0} → DeclaredLists → SessionObjects → SharedOdb D → SessionCalls →
+    List (MemberSeen Generator F) → Type 0
+AreCalledAt {D} {F} lists objects shared calls members = (client : ℕ) → (member : MemberSeen Generator F) →
+    slice_get members client ≡ Some member → CalledAt lists objects shared calls client member
+
 -- As they are at first.
 
 -- So many seats are taken, and this holds of each, by its place.
@@ -296,7 +345,7 @@ pub record IsNewLogger {F : Type 0} (objects : SessionObjects) (client : ℕ) (c
 
 -- A logger that was made for these channels is ready for its turns at new ports to these buffers, whatever its run files
 -- are: it has a channel for each that was declared, with room for each event of its buffer, and no run is on.
-pub record IsMadeLogger (buffers : List SessionBuffer) (declared : List ChannelSpec) (logger : Logger) : Type 0 where
+pub record IsMadeLogger (buffers : List SessionBuffer) (declared : List ChannelSpec) (logger : LoggerState) : Type 0 where
   pub run : logger.run ≡ None
   pub stop_dump : logger.stop_dump ≡ None
   pub slots : HasNewChannels declared (event_rooms buffers declared) logger.channels
@@ -315,10 +364,19 @@ pub record AreNewMembers {D F : Type 0} (fronts : List FrontDeclared) (analyzers
   pub logger : IsNewLogger objects (length fronts) channels files crew.logger
   pub analyzers_are : AreNewAnalyzers objects (first_analyzer fronts) analyzers crew.analyzers
 
+-- The list has the members of a session of these declarations, by their client numbers, and none made a call.
+pub record HasNewMembers {D F : Type 0} (lists : DeclaredLists) (channels : List ChannelSpec) (objects : SessionObjects)
+    (shared : SharedOdb D) (files : F) (members : List (MemberSeen Generator F)) : Type 0 where
+  pub crew : CrewSeen Generator F
+  pub laid : members ≡ members_of crew
+  pub new : AreNewMembers lists.fronts lists.analyzers channels objects shared files crew
+  pub are : AreMembersOf lists.fronts lists.analyzers objects shared crew.fronts crew.logger crew.analyzers
+  pub channels_are : AreDeclared channels crew.logger.slots
+
 -- The members, before the run files are the logger's: the front-ends; the logger's client at the engine, the logger, and what its
 -- ports tell; and the analyzers.
 pub record AreBareMembers {D : Type 0} (fronts : List FrontDeclared) (analyzers : List AnalyzerDeclared) (channels : List ChannelSpec)
-    (objects : SessionObjects) (shared : SharedOdb D) (seats : List (FrontSeen Generator)) (client : EngineClientSeen) (logger : Logger)
+    (objects : SessionObjects) (shared : SharedOdb D) (seats : List (FrontSeen Generator)) (client : EngineClientSeen) (logger : LoggerState)
     (accesses : List Access) (seated_analyzers : List AnalyzerSeen) : Type 0 where
   pub fronts_are : AreNewFronts objects shared fronts seats
   pub made : IsMadeLogger objects.buffers.items channels logger

@@ -8,7 +8,7 @@ ghost use Rattle.session_objects.specs.Objects.{AreObjectsOf, SuitMembers};
 ghost use Rattle.session_objects.specs.Members.{generator_takes, generator_makes, KeepsChannels, KeepsMembers};
 
 use crate::objects::SessionObjects;
-use crate::seats::SessionMembers;
+use crate::seats::SessionMember;
 use daq_io::Files;
 use odb_lock::SharedOdb;
 use odb_tree::Database;
@@ -29,13 +29,13 @@ pub fn members_suit<D: Database>(
 {}
 
 /// The members of a session stay those of its declarations and objects, whatever turns they take.
-pub fn members_stay<'a, D: Database, F: Files>(_members: &SessionMembers<'a, D, F>)
+pub fn members_stay<'a, D: Database, F: Files>(_members: &[SessionMember<'a, D, F>])
     ensures { KeepsMembers D (member_told generator_takes generator_makes F.seen F.faults F.clashes
         F.first) }
 {}
 
 /// The logger of a session keeps the channels that were declared, whatever turns the members take.
-pub fn channels_stay<'a, D: Database, F: Files>(_members: &SessionMembers<'a, D, F>)
+pub fn channels_stay<'a, D: Database, F: Files>(_members: &[SessionMember<'a, D, F>])
     ensures { KeepsChannels (member_told generator_takes generator_makes F.seen F.faults F.clashes
         F.first) }
 {}

@@ -20,5 +20,5 @@ pub use objects::{SessionBuffer, SessionObjects};
 pub use opening::OpenedObjects;
 pub use passes::{SessionPasses, take_main};
 pub use record::{BufferRecord, BufferRecords, RunRecords, SessionRecord};
-pub use returning::Returned;
-pub use seats::{SessionAnalyzer, SessionAnalyzers, SessionFront, SessionLogger, SessionMembers};
+pub use returning::{LoggerEnd, Returned};
+pub use seats::{SessionAnalyzer, SessionFront, SessionLogger, SessionMember, SessionMembers};

@@ -5,12 +5,10 @@ ghost use Rattle.buffer_lock.specs.SharedPorts.{access_by};
 ghost use Rattle.odb_lock.specs.SharedAccesses.{access_by_pass};
 ghost use Rattle.analyzers.specs.AnalyzerKept.{AnalyzerStands, AnalyzerTells};
 ghost use Rattle.loggers.specs.NewLoggers.{HaveNumbers};
-ghost use Rattle.loggers.specs.OtherFiles.{AreDeclared};
 ghost use Rattle.session_objects.specs.Objects.{first_analyzer, HaveFrontIds, HaveBuffers, SuitMembers};
-ghost use Rattle.daq_members.specs.Crews.{crew_seen};
 ghost use Rattle.session_objects.specs.Memberships.{CanBeSeated};
 ghost use Rattle.session_objects.specs.Kept.{out_to_fronts, out_to_ports, out_to_logger, out_to_analyzers, out_to_members, HasFreshBut};
-ghost use Rattle.session_objects.specs.Members.{ring_window, new_port, new_access, generator_of, event_room_of, event_rooms, idle_analyzer, IsNewFrontPort, IsNewAnalyzerPort, IsNewFrontAt, AreNewFronts, IsNewAnalyzerAt, AreNewAnalyzers, IsMadeLogger, AreBareMembers, AreNewMembers, AreMembersOf};
+ghost use Rattle.session_objects.specs.Members.{ring_window, new_port, new_access, generator_of, event_room_of, event_rooms, idle_analyzer, IsNewFrontPort, IsNewAnalyzerPort, IsNewFrontAt, AreNewFronts, IsNewAnalyzerAt, AreNewAnalyzers, IsMadeLogger, AreBareMembers, HasNewMembers};
 
 use crate::membership::Membership;
 use crate::objects::{SessionBuffer, SessionObjects};
@@ -21,8 +19,7 @@ use buffer_core::BufferPort;
 use buffer_lock::SharedPort;
 use daq_io::Files;
 use daq_members::{
-    AnalyzerMember, AnalyzerMembers, EngineClient, FrontMember, LoggerMember, MembersByKind,
-    SentKey,
+    AnalyzerMember, AnalyzerMembers, EngineClient, FrontMember, LoggerMember, SentKey, in_one_list,
 };
 use daq_types::{BoundedList, Caller, NoMemory};
 use event::MAX_DATA;
@@ -141,23 +138,23 @@ fn make_analyzer(
 impl<'a, 's, D: Database> Membership<'a, 's, D> {
     /// The places of the front-end with this client number, with its passes of its objects.
     fn place_front(&self, client: u32, passes: &mut SessionPasses<D>) -> FrontPlaces<'a, D>
-        requires client { client < length self.now.fronts.now }
-        requires seats { CanBeSeated self.now.fronts.now self.now.analyzers.now self.now.objects.now
+        requires client { client < length self.now.lists.now.fronts }
+        requires seats { CanBeSeated self.now.lists.now.fronts self.now.lists.now.analyzers self.now.objects.now
             self.now.database.now }
-        requires out { HasFreshBut (out_to_fronts self.now.fronts.now client) self.now.objects.now
+        requires out { HasFreshBut (out_to_fronts self.now.lists.now.fronts client) self.now.objects.now
             self.now.database.now passes.old }
-        ensures out { HasFreshBut (out_to_fronts self.now.fronts.now (client + 1))
+        ensures out { HasFreshBut (out_to_fronts self.now.lists.now.fronts (client + 1))
             self.now.objects.now self.now.database.now passes.new }
         ensures client { result.engine.client ≡ client }
         ensures engine { result.engine.engine ≡ self.now.objects.now.engine }
         ensures calls { result.engine.calls ≡ [] }
-        ensures port { IsNewFrontPort self.now.objects.now.buffers.items self.now.fronts.now client
+        ensures port { IsNewFrontPort self.now.objects.now.buffers.items self.now.lists.now.fronts client
             (access_by ring_window result.port) }
         ensures access { access_by_pass result.access
             ≡ new_access self.now.database.now (caller_of_client client) }
     {
         let caller = Caller::of_client(client).number();
-        let number = self.fronts[client as usize].buffer as usize;
+        let number = self.declared_front(client as usize).buffer as usize;
         let pass = passes.take_of_buffer(number, caller);
         let port = SharedPort::new(&self.objects.buffers[number].shared, pass);
         let access = SharedAccess::new(self.database, take_fresh(&mut passes.database, caller));
@@ -180,23 +177,23 @@ impl<'a, 's, D: Database> Membership<'a, 's, D> {
         client: u32,
         passes: &mut SessionPasses<D>,
     ) -> Result<SessionFront<'a, D>, NoMemory>
-        requires client { client < length self.now.fronts.now }
-        requires ids { HaveFrontIds self.now.fronts.now }
-        requires seats { CanBeSeated self.now.fronts.now self.now.analyzers.now self.now.objects.now
+        requires client { client < length self.now.lists.now.fronts }
+        requires ids { HaveFrontIds self.now.lists.now.fronts }
+        requires seats { CanBeSeated self.now.lists.now.fronts self.now.lists.now.analyzers self.now.objects.now
             self.now.database.now }
-        requires out { HasFreshBut (out_to_fronts self.now.fronts.now client) self.now.objects.now
+        requires out { HasFreshBut (out_to_fronts self.now.lists.now.fronts client) self.now.objects.now
             self.now.database.now passes.old }
-        ensures out { OnOk result (HasFreshBut (out_to_fronts self.now.fronts.now (client + 1))
+        ensures out { OnOk result (HasFreshBut (out_to_fronts self.now.lists.now.fronts (client + 1))
             self.now.objects.now self.now.database.now passes.new) }
         ensures front { IfOk result (IsNewFrontAt self.now.objects.now self.now.database.now
-            self.now.fronts.now client) }
+            self.now.lists.now.fronts client) }
     {
         let FrontPlaces {
             engine,
             port,
             access,
         } = self.place_front(client, passes);
-        let front = &self.fronts[client as usize];
+        let front = self.declared_front(client as usize);
         let key = SentKey::new(alloc, front.name)?;
         let front = FrontEnd::new(alloc, generator_of(front))?;
         Ok(FrontMember::new(engine, key, front, port, access))
@@ -208,18 +205,18 @@ impl<'a, 's, D: Database> Membership<'a, 's, D> {
         alloc: Global,
         passes: &mut SessionPasses<D>,
     ) -> Result<Vec<SessionFront<'a, D>>, NoMemory>
-        requires ids { HaveFrontIds self.now.fronts.now }
-        requires seats { CanBeSeated self.now.fronts.now self.now.analyzers.now self.now.objects.now
+        requires ids { HaveFrontIds self.now.lists.now.fronts }
+        requires seats { CanBeSeated self.now.lists.now.fronts self.now.lists.now.analyzers self.now.objects.now
             self.now.database.now }
-        requires out { HasFreshBut (out_to_fronts self.now.fronts.now 0) self.now.objects.now
+        requires out { HasFreshBut (out_to_fronts self.now.lists.now.fronts 0) self.now.objects.now
             self.now.database.now passes.old }
-        ensures out { OnOk result (HasFreshBut (out_to_fronts self.now.fronts.now
-            (length self.now.fronts.now)) self.now.objects.now self.now.database.now passes.new) }
+        ensures out { OnOk result (HasFreshBut (out_to_fronts self.now.lists.now.fronts
+            (length self.now.lists.now.fronts)) self.now.objects.now self.now.database.now passes.new) }
         ensures fronts { IfOk result (λ fronts. AreNewFronts self.now.objects.now
-            self.now.database.now self.now.fronts.now fronts.items) }
+            self.now.database.now self.now.lists.now.fronts fronts.items) }
     {
-        let mut fronts = Vec::with_capacity(alloc, self.fronts.len())?;
-        for client in 0..self.fronts.len() as u32 {
+        let mut fronts = Vec::with_capacity(alloc, self.lists.fronts.len())?;
+        for client in 0..self.lists.fronts.len() as u32 {
             let front = self.seat_front(alloc, client, passes)?;
             fronts.push_reserved(front);
         }
@@ -232,18 +229,18 @@ impl<'a, 's, D: Database> Membership<'a, 's, D> {
         alloc: Global,
         passes: &mut SessionPasses<D>,
     ) -> Result<Ports<SharedPort<'a, RingBuffer>>, NoMemory>
-        requires seats { CanBeSeated self.now.fronts.now self.now.analyzers.now self.now.objects.now
+        requires seats { CanBeSeated self.now.lists.now.fronts self.now.lists.now.analyzers self.now.objects.now
             self.now.database.now }
-        requires out { HasFreshBut (out_to_ports self.now.fronts.now 0) self.now.objects.now
+        requires out { HasFreshBut (out_to_ports self.now.lists.now.fronts 0) self.now.objects.now
             self.now.database.now passes.old }
-        ensures out { OnOk result (HasFreshBut (out_to_ports self.now.fronts.now
+        ensures out { OnOk result (HasFreshBut (out_to_ports self.now.lists.now.fronts
             (length self.now.objects.now.buffers.items)) self.now.objects.now self.now.database.now
             passes.new) }
         ensures ports { IfOk result (λ ports. map (access_by ring_window) ports
-            ≡ map (λ buffer. new_port buffer.shared (caller_of_client (length self.now.fronts.now)))
+            ≡ map (λ buffer. new_port buffer.shared (caller_of_client (length self.now.lists.now.fronts)))
             self.now.objects.now.buffers.items) }
     {
-        let caller = Caller::of_client(self.fronts.len() as u32).number();
+        let caller = Caller::of_client(self.lists.fronts.len() as u32).number();
         let mut ports = BoundedList::new(alloc)?;
         for number in 0..self.objects.buffers.len() {
             let pass = passes.take_of_buffer(number, caller);
@@ -254,19 +251,19 @@ impl<'a, 's, D: Database> Membership<'a, 's, D> {
 
     /// The logger's client at the engine, with its pass of that.
     fn place_logger(&self, passes: &mut SessionPasses<D>) -> EngineClient<'a>
-        requires seats { CanBeSeated self.now.fronts.now self.now.analyzers.now self.now.objects.now
+        requires seats { CanBeSeated self.now.lists.now.fronts self.now.lists.now.analyzers self.now.objects.now
             self.now.database.now }
-        requires out { HasFreshBut (out_to_ports self.now.fronts.now
+        requires out { HasFreshBut (out_to_ports self.now.lists.now.fronts
             (length self.now.objects.now.buffers.items)) self.now.objects.now self.now.database.now
             passes.old }
-        ensures out { HasFreshBut (out_to_logger self.now.fronts.now
+        ensures out { HasFreshBut (out_to_logger self.now.lists.now.fronts
             (length self.now.objects.now.buffers.items)) self.now.objects.now self.now.database.now
             passes.new }
-        ensures client { result.client ≡ length self.now.fronts.now }
+        ensures client { result.client ≡ length self.now.lists.now.fronts }
         ensures engine { result.engine ≡ self.now.objects.now.engine }
         ensures calls { result.calls ≡ [] }
     {
-        let client = self.fronts.len() as u32;
+        let client = self.lists.fronts.len() as u32;
         let caller = Caller::of_client(client).number();
         let pass = take_fresh(&mut passes.engine, caller);
         EngineClient::new(&self.objects.engine, pass, client)
@@ -274,24 +271,24 @@ impl<'a, 's, D: Database> Membership<'a, 's, D> {
 
     /// The places of the analyzer at this place of the list, with its passes of its objects.
     fn place_analyzer(&self, place: u32, passes: &mut SessionPasses<D>) -> AnalyzerPlaces<'a>
-        requires place { place < length self.now.analyzers.now }
-        requires seats { CanBeSeated self.now.fronts.now self.now.analyzers.now self.now.objects.now
+        requires place { place < length self.now.lists.now.analyzers }
+        requires seats { CanBeSeated self.now.lists.now.fronts self.now.lists.now.analyzers self.now.objects.now
             self.now.database.now }
-        requires out { HasFreshBut (out_to_analyzers self.now.fronts.now self.now.analyzers.now
+        requires out { HasFreshBut (out_to_analyzers self.now.lists.now.fronts self.now.lists.now.analyzers
             (length self.now.objects.now.buffers.items) place) self.now.objects.now
             self.now.database.now passes.old }
-        ensures out { HasFreshBut (out_to_analyzers self.now.fronts.now self.now.analyzers.now
+        ensures out { HasFreshBut (out_to_analyzers self.now.lists.now.fronts self.now.lists.now.analyzers
             (length self.now.objects.now.buffers.items) (place + 1)) self.now.objects.now
             self.now.database.now passes.new }
-        ensures client { result.engine.client ≡ first_analyzer self.now.fronts.now + place }
+        ensures client { result.engine.client ≡ first_analyzer self.now.lists.now.fronts + place }
         ensures engine { result.engine.engine ≡ self.now.objects.now.engine }
         ensures calls { result.engine.calls ≡ [] }
-        ensures port { IsNewAnalyzerPort self.now.objects.now.buffers.items self.now.analyzers.now
-            place (first_analyzer self.now.fronts.now + place) (access_by ring_window result.port) }
+        ensures port { IsNewAnalyzerPort self.now.objects.now.buffers.items self.now.lists.now.analyzers
+            place (first_analyzer self.now.lists.now.fronts + place) (access_by ring_window result.port) }
     {
-        let client = self.fronts.len() as u32 + 1 + place;
+        let client = self.lists.fronts.len() as u32 + 1 + place;
         let caller = Caller::of_client(client).number();
-        let number = self.analyzers[place as usize].buffer as usize;
+        let number = self.declared_analyzer(place as usize).buffer as usize;
         let pass = passes.take_of_buffer(number, caller);
         let port = SharedPort::new(&self.objects.buffers[number].shared, pass);
         let pass = take_fresh(&mut passes.engine, caller);
@@ -306,22 +303,22 @@ impl<'a, 's, D: Database> Membership<'a, 's, D> {
         place: u32,
         passes: &mut SessionPasses<D>,
     ) -> Result<SessionAnalyzer<'a>, NoMemory>
-        requires place { place < length self.now.analyzers.now }
-        requires seats { CanBeSeated self.now.fronts.now self.now.analyzers.now self.now.objects.now
+        requires place { place < length self.now.lists.now.analyzers }
+        requires seats { CanBeSeated self.now.lists.now.fronts self.now.lists.now.analyzers self.now.objects.now
             self.now.database.now }
-        requires out { HasFreshBut (out_to_analyzers self.now.fronts.now self.now.analyzers.now
+        requires out { HasFreshBut (out_to_analyzers self.now.lists.now.fronts self.now.lists.now.analyzers
             (length self.now.objects.now.buffers.items) place) self.now.objects.now
             self.now.database.now passes.old }
-        ensures out { OnOk result (HasFreshBut (out_to_analyzers self.now.fronts.now
-            self.now.analyzers.now (length self.now.objects.now.buffers.items) (place + 1))
+        ensures out { OnOk result (HasFreshBut (out_to_analyzers self.now.lists.now.fronts
+            self.now.lists.now.analyzers (length self.now.objects.now.buffers.items) (place + 1))
             self.now.objects.now self.now.database.now passes.new) }
         ensures analyzer { IfOk result (IsNewAnalyzerAt self.now.objects.now
-            (first_analyzer self.now.fronts.now) self.now.analyzers.now place) }
+            (first_analyzer self.now.lists.now.fronts) self.now.lists.now.analyzers place) }
     {
         let analyzer = make_analyzer(
             alloc,
             &self.objects.buffers,
-            &self.analyzers[place as usize],
+            self.declared_analyzer(place as usize),
         )?;
         let AnalyzerPlaces { engine, port } = self.place_analyzer(place, passes);
         Ok(AnalyzerMember::new(engine, analyzer, port))
@@ -333,19 +330,19 @@ impl<'a, 's, D: Database> Membership<'a, 's, D> {
         alloc: Global,
         passes: &mut SessionPasses<D>,
     ) -> Result<SessionAnalyzers<'a>, NoMemory>
-        requires seats { CanBeSeated self.now.fronts.now self.now.analyzers.now self.now.objects.now
+        requires seats { CanBeSeated self.now.lists.now.fronts self.now.lists.now.analyzers self.now.objects.now
             self.now.database.now }
-        requires out { HasFreshBut (out_to_analyzers self.now.fronts.now self.now.analyzers.now
+        requires out { HasFreshBut (out_to_analyzers self.now.lists.now.fronts self.now.lists.now.analyzers
             (length self.now.objects.now.buffers.items) 0) self.now.objects.now
             self.now.database.now passes.old }
-        ensures out { OnOk result (HasFreshBut (out_to_members self.now.fronts.now
-            self.now.analyzers.now (length self.now.objects.now.buffers.items)) self.now.objects.now
+        ensures out { OnOk result (HasFreshBut (out_to_members self.now.lists.now.fronts
+            self.now.lists.now.analyzers (length self.now.objects.now.buffers.items)) self.now.objects.now
             self.now.database.now passes.new) }
         ensures analyzers { IfOk result (λ seats. AreNewAnalyzers self.now.objects.now
-            (first_analyzer self.now.fronts.now) self.now.analyzers.now seats) }
+            (first_analyzer self.now.lists.now.fronts) self.now.lists.now.analyzers seats) }
     {
         let mut seats = BoundedList::new(alloc)?;
-        for place in 0..self.analyzers.len() as u32 {
+        for place in 0..self.lists.analyzers.len() as u32 {
             let analyzer = self.seat_analyzer(alloc, place, passes)?;
             seats.push(analyzer);
         }
@@ -359,15 +356,15 @@ impl<'a, 's, D: Database> Membership<'a, 's, D> {
         channels: ChannelSpecs,
         passes: &mut SessionPasses<D>,
     ) -> Result<BareMembers<'a, SharedPort<'a, RingBuffer>, SharedAccess<'a, D>>, NoMemory>
-        requires suit { SuitMembers self.now.fronts.now self.now.analyzers.now channels
+        requires suit { SuitMembers self.now.lists.now.fronts self.now.lists.now.analyzers channels
             self.now.objects.now self.now.database.now }
-        requires out { HasFreshBut (out_to_fronts self.now.fronts.now 0) self.now.objects.now
+        requires out { HasFreshBut (out_to_fronts self.now.lists.now.fronts 0) self.now.objects.now
             self.now.database.now passes.old }
-        ensures out { OnOk result (HasFreshBut (out_to_members self.now.fronts.now
-            self.now.analyzers.now (length self.now.objects.now.buffers.items)) self.now.objects.now
+        ensures out { OnOk result (HasFreshBut (out_to_members self.now.lists.now.fronts
+            self.now.lists.now.analyzers (length self.now.objects.now.buffers.items)) self.now.objects.now
             self.now.database.now passes.new) }
-        ensures members { IfOk result (λ bare. AreBareMembers self.now.fronts.now
-            self.now.analyzers.now channels self.now.objects.now self.now.database.now
+        ensures members { IfOk result (λ bare. AreBareMembers self.now.lists.now.fronts
+            self.now.lists.now.analyzers channels self.now.objects.now self.now.database.now
             bare.fronts.items bare.engine bare.logger (map (access_by ring_window) bare.ports)
             bare.analyzers) }
     {
@@ -385,40 +382,34 @@ impl<'a, 's, D: Database> Membership<'a, 's, D> {
         })
     }
 
-    /// The members of a session, none of which made a call: its front-ends, in their order, the logger with these channels, and
-    /// its analyzers, in their order. Their passes are taken out of those that are kept. The run files come back where memory is
-    /// wanting for the members.
-    pub fn members<F: Files>(
+    /// The members of a session, by their client numbers, none of which made a call: its front-ends, in their order, the logger with
+    /// these channels, and its analyzers, in their order. Their passes are taken out of those that are kept. The run files come
+    /// back where memory is wanting for the members.
+    pub fn members<F: Files + Drop>(
         &self,
         alloc: Global,
         channels: ChannelSpecs,
         passes: &mut SessionPasses<D>,
         files: F,
     ) -> Result<SessionMembers<'a, D, F>, F>
-        requires suit { SuitMembers self.now.fronts.now self.now.analyzers.now channels
+        requires suit { SuitMembers self.now.lists.now.fronts self.now.lists.now.analyzers channels
             self.now.objects.now self.now.database.now }
-        requires out { HasFreshBut (out_to_fronts self.now.fronts.now 0) self.now.objects.now
-            self.now.database.now passes.old }
-        ensures members { IfOk result (λ members. AreNewMembers self.now.fronts.now
-            self.now.analyzers.now channels self.now.objects.now self.now.database.now files
-            (crew_seen members.fronts.items members.logger members.analyzers)) }
-        ensures are { IfOk result (λ members. AreMembersOf self.now.fronts.now
-            self.now.analyzers.now self.now.objects.now self.now.database.now members.fronts.items
-            members.logger members.analyzers) }
-        ensures channels { IfOk result (λ members. AreDeclared channels members.logger.slots) }
-        ensures out { OnOk result (HasFreshBut (out_to_members self.now.fronts.now
-            self.now.analyzers.now (length self.now.objects.now.buffers.items)) self.now.objects.now
-            self.now.database.now passes.new) }
+        requires out { HasFreshBut (out_to_fronts self.now.lists.now.fronts 0)
+            self.now.objects.now self.now.database.now passes.old }
+        ensures members { IfOk result (HasNewMembers self.now.lists.now channels
+            self.now.objects.now self.now.database.now files) }
+        ensures out { OnOk result (HasFreshBut (out_to_members self.now.lists.now.fronts
+            self.now.lists.now.analyzers (length self.now.objects.now.buffers.items))
+            self.now.objects.now self.now.database.now passes.new) }
         ensures files { IfErr result (λ back. back ≡ files) }
     {
+        let Ok(list) = BoundedList::new(alloc) else {
+            return Err(files);
+        };
         match self.bare_members(alloc, channels, passes) {
             Ok(bare) => {
                 let logger = LoggerMember::new(bare.engine, bare.logger, bare.ports, files);
-                Ok(MembersByKind {
-                    fronts: bare.fronts,
-                    logger,
-                    analyzers: bare.analyzers,
-                })
+                Ok(in_one_list(list, bare.fronts, logger, bare.analyzers))
             }
             Err(NoMemory) => Err(files),
         }

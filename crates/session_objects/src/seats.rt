@@ -1,6 +1,6 @@
 // The members of a session, by what they are made of.
 use buffer_lock::SharedPort;
-use daq_members::{AnalyzerMember, AnalyzerMembers, FrontMember, LoggerMember, MembersByKind};
+use daq_members::{AnalyzerMember, AnalyzerMembers, FrontMember, LoggerMember, Member, Members};
 use frontend_kit::Generator;
 use odb_lock::SharedAccess;
 use ring_buffer::RingBuffer;
@@ -20,10 +20,19 @@ pub type SessionLogger<'a, F> = LoggerMember<'a, SharedPort<'a, RingBuffer>, F>;
 pub type SessionAnalyzer<'a> = AnalyzerMember<'a, SharedPort<'a, RingBuffer>>;
 
 /// The analyzers of a session, in the order of their declaration.
-pub type SessionAnalyzers<'a> = AnalyzerMembers<'a, SharedPort<'a, RingBuffer>>;
+pub(crate) type SessionAnalyzers<'a> = AnalyzerMembers<'a, SharedPort<'a, RingBuffer>>;
 
-/// The members of a session by their kinds.
-pub type SessionMembers<'a, D, F> = MembersByKind<
+/// A member of a session.
+pub type SessionMember<'a, D, F> = Member<
+    'a,
+    Generator,
+    SharedPort<'a, RingBuffer>,
+    SharedAccess<'a, D>,
+    F,
+>;
+
+/// The members of a session, by their client numbers.
+pub type SessionMembers<'a, D, F> = Members<
     'a,
     Generator,
     SharedPort<'a, RingBuffer>,

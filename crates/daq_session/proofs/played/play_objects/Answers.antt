@@ -1,4 +1,4 @@
-use Rattle.std.proofs.Common.{◌∙◌, refl, sym, ap}
+use Rattle.std.proofs.Common.{◌∙◌, refl, ap}
 use Rattle.odb_watch.specs.DatabasePorts.{DatabaseAccess}
 use Rattle.odb_lock.specs.SharedAccesses.{access_by_pass}
 use Rattle.console.specs.DatabaseStages.{DatabaseStage, database_stage}
@@ -37,10 +37,8 @@ play_opened-requires-clause-database g c = λ κs lives. c.open_keys.ensures.sam
 pub play_opened-requires-clause-engine : goal.play_opened-requires-clause-engine
 play_opened-requires-clause-engine g c = λ κs lives. ap (λ (runs : RunsSeen). runs.main.engine) c.in-Ok-open_members.ensures.runs
 
-pub play_opened-requires-clause-first : goal.play_opened-requires-clause-first
-play_opened-requires-clause-first g c = λ κs lives.
-    let logger = c.in-Ok-open_members.ensures.members.logger in
-    logger.has_files ∙ sym logger.had_files
+pub play_opened-requires-clause-members : goal.play_opened-requires-clause-members
+play_opened-requires-clause-members g c = λ κs lives. (c.args.members.run_files, c.in-Ok-open_members.ensures.members)
 
 pub returns-in-Ok-open_members : goal.returns-in-Ok-open_members
 returns-in-Ok-open_members g c = record {
@@ -52,7 +50,7 @@ returns-in-Ok-open_members g c = record {
       let after : DatabaseAccess = access_by_pass c.open_keys.new.access in
       let keys : KeysMade (names_of places.lists.now.fronts) database.access after = rw c.as_slice-fronts.ensures at c.in-Ok.ensures.made in
       let met = c.in-Ok-open_members in
-      let played = rw met.ensures.members.logger.had_files at c.play_opened.ensures.played in
+      let played = c.play_opened.ensures.played c.args.members.run_files met.ensures.members in
       let later = c.play_opened.result.lines.script in
       let behind : ScriptAt = script_at (g.S.Source.left later.src) (g.O.Sink.written later.out) later.line_loop.reader later.line_loop.last later.line_loop.refusals later.line_loop.number in
       record {

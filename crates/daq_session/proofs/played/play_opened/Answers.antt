@@ -1,55 +1,45 @@
-use Rattle.std.proofs.Common.{◌∙◌, ◌≤◌, ◌+◌, List, length, refl, sym, ap, subst, arith}
+use Rattle.std.proofs.Common.{◌≡◌, ◌∙◌, ◌≤◌, ◌<◌, ◌+◌, length, refl, sym, ap, subst, arith}
 use Rattle.odb_lock.specs.SharedAccesses.{access_by_pass}
 use Rattle.turn_lock.specs.Passes.{IsOf, number_of, seen_by}
 use Rattle.transition_lock.specs.SharedEngines.{engine_lock_of}
 use Rattle.transition_lock.specs.declared.shared.SharedEngine.{SharedEngine}
-use Rattle.session_setup.specs.declared.declared.AnalyzerDeclared.{AnalyzerDeclared}
-use Rattle.session_setup.specs.declared.declared.FrontDeclared.{FrontDeclared}
-use Rattle.daq_members.specs.Crews.{crew_seen}
-use Rattle.session_objects.specs.Kept.{HasFreshBut, out_to_members}
-use Rattle.session_objects.specs.Members.{AreMembersOf}
-use Rattle.session_objects.specs.Objects.{HaveCallers}
+use Rattle.session_objects.specs.Members.{HasMembers}
+use Rattle.session_objects.specs.Objects.{first_analyzer}
+use Rattle.session_objects.proofs.ListedLaws.{listed_count}
 use Rattle.session_commands.specs.Endings.{NotesFailed}
 use Rattle.session_commands.specs.Finishing.{side_told, stage_open}
 use Rattle.daq_session.proofs.FailedLaws.{noted_failed}
 use Rattle.daq_session.proofs.PlayedLaws.{calls_told}
 use Rattle.daq_session.proofs.played.play_opened.Goals as goal
 
+pub play_main-end-requires-clause-some : goal.play_main-end-requires-clause-some
+play_main-end-requires-clause-some g c =
+    let places = c.args.places.now in
+    let new = c.requires.members.1 in
+    let has : HasMembers places.lists.now places.objects.now places.shared.now c.args.members = record { crew = new.crew; laid = new.laid; are = new.are } in
+    let count : length c.args.members ≡ first_analyzer places.lists.now.fronts + length places.lists.now.analyzers = listed_count places.lists.now places.objects.now places.shared.now c.args.members has in
+    omega (arith, count)
+
 pub play_main-end-requires-clause-few : goal.play_main-end-requires-clause-few
 play_main-end-requires-clause-few g c =
-    let many = c.requires.members.fronts_are.many in
-    let few = c.requires.suit.few in
-    omega (arith, many, few)
-
-pub play_main-end-requires-clause-few_analyzers : goal.play_main-end-requires-clause-few_analyzers
-play_main-end-requires-clause-few_analyzers g c =
-    let many = c.requires.members.analyzers_are.many in
-    let few = c.requires.suit.few_analyzers in
-    omega (arith, many, few)
+    let places = c.args.places.now in
+    let new = c.requires.members.1 in
+    let has : HasMembers places.lists.now places.objects.now places.shared.now c.args.members = record { crew = new.crew; laid = new.laid; are = new.are } in
+    let count : length c.args.members ≡ first_analyzer places.lists.now.fronts + length places.lists.now.analyzers = listed_count places.lists.now places.objects.now places.shared.now c.args.members has in
+    omega (arith, count, c.requires.suit.few, c.requires.suit.few_analyzers)
 
 pub take_back-passes-requires-clause-callers : goal.take_back-passes-requires-clause-callers
-take_back-passes-requires-clause-callers g c =
-    let places = c.args.places.now in
-    let P : List FrontDeclared → Type 0 = λ fronts. HaveCallers fronts c.as_slice-analyzers.result.now places.objects.now places.shared.now in
-    let R : List AnalyzerDeclared → Type 0 = λ analyzers. HaveCallers places.lists.now.fronts analyzers places.objects.now places.shared.now in
-    subst P (sym c.as_slice-fronts.ensures) (subst R (sym c.as_slice-analyzers.ensures) c.requires.suit.callers)
+take_back-passes-requires-clause-callers g c = c.requires.suit.callers
 
 pub take_back-passes-requires-clause-members : goal.take_back-passes-requires-clause-members
 take_back-passes-requires-clause-members g c =
     let places = c.args.places.now in
-    let members = c.play_main-end.result.1 in
-    let P : List FrontDeclared → Type 0 = λ fronts. AreMembersOf fronts c.as_slice-analyzers.result.now places.objects.now places.shared.now members.fronts.items members.logger members.analyzers in
-    let R : List AnalyzerDeclared → Type 0 = λ analyzers. AreMembersOf places.lists.now.fronts analyzers places.objects.now places.shared.now members.fronts.items members.logger members.analyzers in
-    subst P (sym c.as_slice-fronts.ensures) (subst R (sym c.as_slice-analyzers.ensures)
-    (c.members_stay.ensures places.lists.now.fronts places.lists.now.analyzers places.objects.now places.shared.now _ _ c.play_main-end.ensures.stay.same c.requires.members))
-
-pub take_back-passes-requires-clause-out : goal.take_back-passes-requires-clause-out
-take_back-passes-requires-clause-out g c =
-    let places = c.args.places.now in
-    let buffers = length places.objects.now.buffers.items in
-    let P : List FrontDeclared → Type 0 = λ fronts. HasFreshBut (out_to_members fronts c.as_slice-analyzers.result.now buffers) places.objects.now places.shared.now c.args.passes in
-    let R : List AnalyzerDeclared → Type 0 = λ analyzers. HasFreshBut (out_to_members places.lists.now.fronts analyzers buffers) places.objects.now places.shared.now c.args.passes in
-    subst P (sym c.as_slice-fronts.ensures) (subst R (sym c.as_slice-analyzers.ensures) c.requires.out)
+    let new = c.requires.members.1 in
+    let stay = c.play_main-end.ensures.stay new.crew new.laid in record {
+      crew = stay.0;
+      laid = stay.1;
+      are = c.members_stay.ensures places.lists.now.fronts places.lists.now.analyzers places.objects.now places.shared.now new.crew stay.0 stay.2.same new.are;
+    }
 
 pub take_back-passes-requires-clause-engine : goal.take_back-passes-requires-clause-engine
 take_back-passes-requires-clause-engine g c =
@@ -69,25 +59,26 @@ take_back-passes-requires-clause-database g c =
     }
 
 pub returns : goal.returns
-returns g c =
-    let places = c.args.places.now in
-    let main = c.args.main in
-    let end = c.play_main-end.result.0 in
-    let members = c.play_main-end.result.1 in
-    let ended = c.play_main-end.ensures in
-    let stay = c.play_main-end.ensures.stay in
-    let back = c.take_back-passes in
-    let opened = ended.played.played in
-    let noted : NotesFailed c.failed-failed.result (g.F.Files.faults c.args.members.logger.files) (g.F.Files.faults members.logger.files) =
-    noted_failed _ _ _ _ _ c.failed-failed.ensures c.requires.unfailed stay.faults in
-    let P : _ → Type 0 = λ files. NotesFailed c.failed-failed.result (g.F.Files.faults files) (g.F.Files.faults back.result.files) in
-    let Q : _ → Type 0 = λ files. NotesFailed c.failed-failed.result (g.F.Files.faults c.args.members.logger.files) (g.F.Files.faults files) in
-    record {
-      played = record {
+returns g c = record {
+  played = λ files given.
+      let places = c.args.places.now in
+      let end = c.play_main-end.result.0 in
+      let ended = c.play_main-end.ensures in
+      let stay = ended.stay given.crew given.laid in
+      let crew = stay.0 in
+      let same = stay.2.same in
+      let left = c.take_back-passes.result.logger in
+      let back = c.take_back-passes.ensures crew stay.1 in
+      let opened = ended.played.played in
+      let noted : NotesFailed left.failed (g.F.Files.faults given.crew.logger.files) (g.F.Files.faults crew.logger.files) =
+      noted_failed _ _ _ _ _ (ap (λ l. l.failed) back.logger) given.new.logger.failed stay.2.faults in
+      let P : _ → Type 0 = λ first. NotesFailed left.failed (g.F.Files.faults first) (g.F.Files.faults left.files) in
+      let Q : _ → Type 0 = λ last. NotesFailed left.failed (g.F.Files.faults given.crew.logger.files) (g.F.Files.faults last) in
+      record {
         final = stage_open (side_told access_by_pass g.E.Files.seen g.E.Files.faults g.E.Files.clashes g.E.Files.first g.C.Clock.tells g.C.Clock.ahead) places.lists.now opened.last end.side;
         tells = record {
           counts = ended.counts;
-          failed = subst P c.requires.first (subst Q (sym back.ensures.files) noted);
+          failed = subst P given.new.logger.has_files (subst Q (sym (ap (λ l. l.files) back.logger)) noted);
           files_are = refl;
           replies_are = refl;
           clock_is = refl;
@@ -101,18 +92,18 @@ returns g c =
               kept = opened.records_are;
               knows = opened.knows;
               caller = ended.played.same.caller ∙ c.requires.main;
-              crew = crew_seen members.fronts.items members.logger members.analyzers;
-              members = c.members_stay.ensures places.lists.now.fronts places.lists.now.analyzers places.objects.now places.shared.now _ _ stay.same c.requires.members;
-              keep = stay.keep;
-              calls = calls_told places.lists.now.fronts c.as_slice-fronts.result.now places.lists.now.analyzers c.as_slice-analyzers.result.now places.objects.now places.shared.now back.result.passes
-                  _ _ (access_by_pass end.side.database.access).seen (seen_by c.into_pass-pass.result) members.fronts.items members.logger members.analyzers
-                  c.as_slice-fronts.ensures c.as_slice-analyzers.ensures opened.own_are (ap seen_by c.into_pass-pass.ensures.pass) back.ensures.calls;
-              channels = c.channels_stay.ensures _ _ _ stay.same c.requires.channels;
-              first = stay.same.logger.first;
-              files = sym back.ensures.files;
+              crew = crew;
+              members = c.members_stay.ensures places.lists.now.fronts places.lists.now.analyzers places.objects.now places.shared.now given.crew crew same given.are;
+              keep = stay.2.keep;
+              calls = calls_told places.lists.now.fronts places.lists.now.analyzers places.objects.now places.shared.now c.take_back-passes.result.passes
+                  _ _ (access_by_pass end.side.database.access).seen (seen_by c.into_pass-pass.result) crew.fronts crew.logger crew.analyzers
+                  opened.own_are (ap seen_by c.into_pass-pass.ensures.pass) back.calls;
+              channels = c.channels_stay.ensures _ given.crew crew same given.channels_are;
+              first = same.logger.first ∙ given.new.logger.had_files;
+              files = sym (ap (λ l. l.files) back.logger);
             },
           ),
         );
         finishes = rw c.requires.lists at opened.finishes;
       };
-    }
+}

@@ -20,9 +20,9 @@ take_of_buffer-pass-requires-clause-there g c =
     let n : ℕ = c.loop-number.number in
     let l : n < length c.args.self.now.objects.now.buffers.items = search rules in
     let b = there_below c.args.self.now.objects.now.buffers.items n l in
-    let count : passes_of (lock_of b.0.shared) ≡ length c.args.self.now.fronts.now + 2 + length c.args.self.now.analyzers.now = c.requires.seats.callers.buffers n b.0 b.1 in
-    let has_number : c.number-caller.result ≡ length c.args.self.now.fronts.now + 1 = c.number-caller.ensures ∙ c.of_client.ensures in
-    λ roster at. rw has_number (port_has c.args.self.now.objects.now c.args.self.now.database.now c.args.self.now.fronts.now n c.loop-number.passes c.loop-number.invariant.1 b.0 roster b.1 at (omega arith))
+    let count : passes_of (lock_of b.0.shared) ≡ length c.args.self.now.lists.now.fronts + 2 + length c.args.self.now.lists.now.analyzers = c.requires.seats.callers.buffers n b.0 b.1 in
+    let has_number : c.number-caller.result ≡ length c.args.self.now.lists.now.fronts + 1 = c.number-caller.ensures ∙ c.of_client.ensures ∙ ap (λ (n : ℕ). n + 1) c.len.ensures in
+    λ roster at. rw has_number (port_has c.args.self.now.objects.now c.args.self.now.database.now c.args.self.now.lists.now.fronts n c.loop-number.passes c.loop-number.invariant.1 b.0 roster b.1 at (omega arith))
 
 pub new-requires-in-loop-number-clause-own : goal.new-requires-in-loop-number-clause-own
 new-requires-in-loop-number-clause-own g c =
@@ -59,8 +59,8 @@ loop-number-preserved g c =
     let r = there_below c.loop-number.passes.buffers.items n (omega arith) in
     let taken = c.take_of_buffer-pass.ensures.taken.there r.0 r.1 in
     let port = c.new-in-loop-number.result in
-    let has_number : c.number-caller.result ≡ length c.args.self.now.fronts.now + 1 = c.number-caller.ensures ∙ c.of_client.ensures in
-    let caller : ℕ = length c.args.self.now.fronts.now + 1 in
+    let has_number : c.number-caller.result ≡ length c.args.self.now.lists.now.fronts + 1 = c.number-caller.ensures ∙ c.of_client.ensures ∙ ap (λ (n : ℕ). n + 1) c.len.ensures in
+    let caller : ℕ = length c.args.self.now.lists.now.fronts + 1 in
     let made : SessionBuffer → Access = λ z. new_port z.shared caller in
     let is : access_by ring_window port ≡ made b = new_port_is port b.shared caller c.new-in-loop-number.ensures.buffer
     (ap (λ p. number_of p) c.new-in-loop-number.ensures.pass ∙ (taken.2.is ∙ has_number))
@@ -69,7 +69,7 @@ loop-number-preserved g c =
     let count : length c.loop-number.ports ≡ n = inv.0 in
     let more : take (n + 1) bs ≡ take n bs ++ b ∷ [] = take_more bs n b l ∙ ap (λ (z : SessionBuffer). take n bs ++ z ∷ []) (sym c.index.ensures) in (
       ap length pushed ∙ length-append c.loop-number.ports (port ∷ []) ∙ ap (λ (m : ℕ). m + 1) count,
-      port_out c.args.self.now.objects.now c.args.self.now.database.now c.args.self.now.fronts.now n c.loop-number.passes k c.take_of_buffer-pass.new.self c.take_of_buffer-pass.result
+      port_out c.args.self.now.objects.now c.args.self.now.database.now c.args.self.now.lists.now.fronts n c.loop-number.passes k c.take_of_buffer-pass.new.self c.take_of_buffer-pass.result
           (rw has_number at c.take_of_buffer-pass.ensures.taken) c.take_of_buffer-pass.ensures.engine c.take_of_buffer-pass.ensures.database,
       ap (map (access_by ring_window)) pushed ∙ map-append (access_by ring_window) c.loop-number.ports (port ∷ [])
           ∙ ap (λ (heads : List Access). heads ++ access_by ring_window port ∷ []) inv.2 ∙ ap (λ (a : Access). map made (take n bs) ++ a ∷ []) is
@@ -79,12 +79,12 @@ loop-number-preserved g c =
 pub returns-clause-out : goal.returns-clause-out
 returns-clause-out g c =
     let e : c.loop-number.number ≡ length c.args.self.now.objects.now.buffers.items = search rules in
-    let P : ℕ → Type 0 = λ m. HasFreshBut (out_to_ports c.args.self.now.fronts.now m) c.args.self.now.objects.now c.args.self.now.database.now c.loop-number.passes in
+    let P : ℕ → Type 0 = λ m. HasFreshBut (out_to_ports c.args.self.now.lists.now.fronts m) c.args.self.now.objects.now c.args.self.now.database.now c.loop-number.passes in
     subst P e c.loop-number.invariant.1
 
 pub returns-clause-ports : goal.returns-clause-ports
 returns-clause-ports g c =
     let bs : List SessionBuffer = c.args.self.now.objects.now.buffers.items in
     let e : c.loop-number.number ≡ length bs = search rules in
-    let made : SessionBuffer → Access = λ z. new_port z.shared (length c.args.self.now.fronts.now + 1) in
+    let made : SessionBuffer → Access = λ z. new_port z.shared (length c.args.self.now.lists.now.fronts + 1) in
     c.loop-number.invariant.2 ∙ ap (λ (m : ℕ). map made (take m bs)) e ∙ ap (map made) (take-length bs)

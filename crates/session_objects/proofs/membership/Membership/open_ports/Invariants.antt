@@ -7,5 +7,5 @@ use Rattle.session_objects.proofs.membership.Membership.open_ports.Given as goal
 
 abbrev pub invariant-loop-number : goal.invariant-loop-number
 invariant-loop-number g l = (length l.ports ≡ l.number)
-    × HasFreshBut (out_to_ports l.self.fronts.now l.number) l.self.objects.now l.self.database.now l.passes
-    × (map (access_by ring_window) l.ports ≡ map (λ (buffer : SessionBuffer). new_port buffer.shared (length l.self.fronts.now + 1)) (take l.number l.self.objects.now.buffers.items))
+    × HasFreshBut (out_to_ports l.self.lists.now.fronts l.number) l.self.objects.now l.self.database.now l.passes
+    × (map (access_by ring_window) l.ports ≡ map (λ (buffer : SessionBuffer). new_port buffer.shared (length l.self.lists.now.fronts + 1)) (take l.number l.self.objects.now.buffers.items))

@@ -1,6 +1,6 @@
-use Rattle.std.proofs.Common.{rules, ◌≡◌, ◌∙◌, ◌<◌, ◌+◌, length, ap, sym, refl, subst, arith, get_or}
+use Rattle.std.proofs.Common.{rules, ◌≡◌, ◌∙◌, ◌<◌, ◌+◌, length, ap, sym, refl, subst, arith}
 use Rattle.std.specs.Prelude.{slice_get, Some, Contains}
-use Rattle.std.proofs.lemmas.Option.{slice_get-get_or, slice_get_read}
+use Rattle.std.proofs.lemmas.Option.{slice_get_read}
 use Rattle.session_objects.proofs.ToldLaws.{new_port_is}
 use Rattle.turn_lock.specs.Passes.{passes_of, number_of, seen_by}
 use Rattle.turn_lock.specs.Roster.{numbers_of, ArePassesOf, AreFresh}
@@ -17,24 +17,24 @@ use Rattle.session_objects.proofs.membership.Membership.place_front.Goals as goa
 
 pub take_of_buffer-pass-requires-clause-there : goal.take_of_buffer-pass-requires-clause-there
 take_of_buffer-pass-requires-clause-there g c =
-    let d : FrontDeclared = get_or c.args.self.now.fronts.now c.args.client c.index-self-client.result in
-    let at_d : slice_get c.args.self.now.fronts.now c.args.client ≡ Some d = slice_get-get_or c.args.self.now.fronts.now c.args.client c.index-self-client.result c.requires.client in
+    let d : FrontDeclared = c.declared_front.result.now in
+    let at_d : slice_get c.args.self.now.lists.now.fronts c.args.client ≡ Some d = c.declared_front.ensures in
     let b = there_below c.args.self.now.objects.now.buffers.items d.buffer (c.requires.seats.callers.sent_into c.args.client d at_d) in
-    let count : passes_of (lock_of b.0.shared) ≡ length c.args.self.now.fronts.now + 2 + length c.args.self.now.analyzers.now = c.requires.seats.callers.buffers d.buffer b.0 b.1 in
-    let within : c.args.client < length c.args.self.now.fronts.now = c.requires.client in
+    let count : passes_of (lock_of b.0.shared) ≡ length c.args.self.now.lists.now.fronts + 2 + length c.args.self.now.lists.now.analyzers = c.requires.seats.callers.buffers d.buffer b.0 b.1 in
+    let within : c.args.client < length c.args.self.now.lists.now.fronts = c.requires.client in
     let has_number : c.number-caller.result ≡ c.args.client + 1 = c.number-caller.ensures ∙ c.of_client.ensures in
-    λ roster at. rw has_number (buffer_has c.args.self.now.objects.now c.args.self.now.database.now c.args.self.now.fronts.now c.args.client c.args.passes.now c.requires.out d.buffer b.0 roster b.1 at (omega arith))
+    λ roster at. rw has_number (buffer_has c.args.self.now.objects.now c.args.self.now.database.now c.args.self.now.lists.now.fronts c.args.client c.args.passes.now c.requires.out d.buffer b.0 roster b.1 at (omega arith))
 
 pub index-requires : goal.index-requires
 index-requires g c =
-    let d : FrontDeclared = get_or c.args.self.now.fronts.now c.args.client c.index-self-client.result in
-    let at_d : slice_get c.args.self.now.fronts.now c.args.client ≡ Some d = slice_get-get_or c.args.self.now.fronts.now c.args.client c.index-self-client.result c.requires.client in
+    let d : FrontDeclared = c.declared_front.result.now in
+    let at_d : slice_get c.args.self.now.lists.now.fronts c.args.client ≡ Some d = c.declared_front.ensures in
     let l : d.buffer < length c.args.self.now.objects.now.buffers.items = c.requires.seats.callers.sent_into c.args.client d at_d in search rules
 
 pub new-port-requires-clause-own : goal.new-port-requires-clause-own
 new-port-requires-clause-own g c =
-    let d : FrontDeclared = get_or c.args.self.now.fronts.now c.args.client c.index-self-client.result in
-    let at_d : slice_get c.args.self.now.fronts.now c.args.client ≡ Some d = slice_get-get_or c.args.self.now.fronts.now c.args.client c.index-self-client.result c.requires.client in
+    let d : FrontDeclared = c.declared_front.result.now in
+    let at_d : slice_get c.args.self.now.lists.now.fronts c.args.client ≡ Some d = c.declared_front.ensures in
     let l : d.buffer < length c.args.self.now.objects.now.buffers.items = c.requires.seats.callers.sent_into c.args.client d at_d in
     let many : length c.args.passes.now.buffers.items ≡ length c.args.self.now.objects.now.buffers.items = c.requires.out.many in
     let at_b : slice_get c.args.self.now.objects.now.buffers.items d.buffer ≡ Some c.index.result.now = slice_get_read c.args.self.now.objects.now.buffers.items (length c.args.self.now.objects.now.buffers.items) d.buffer c.index.result.now refl l c.index.ensures in
@@ -44,8 +44,8 @@ new-port-requires-clause-own g c =
 
 pub new-port-requires-clause-idle : goal.new-port-requires-clause-idle
 new-port-requires-clause-idle g c =
-    let d : FrontDeclared = get_or c.args.self.now.fronts.now c.args.client c.index-self-client.result in
-    let at_d : slice_get c.args.self.now.fronts.now c.args.client ≡ Some d = slice_get-get_or c.args.self.now.fronts.now c.args.client c.index-self-client.result c.requires.client in
+    let d : FrontDeclared = c.declared_front.result.now in
+    let at_d : slice_get c.args.self.now.lists.now.fronts c.args.client ≡ Some d = c.declared_front.ensures in
     let l : d.buffer < length c.args.self.now.objects.now.buffers.items = c.requires.seats.callers.sent_into c.args.client d at_d in
     let many : length c.args.passes.now.buffers.items ≡ length c.args.self.now.objects.now.buffers.items = c.requires.out.many in
     let at_b : slice_get c.args.self.now.objects.now.buffers.items d.buffer ≡ Some c.index.result.now = slice_get_read c.args.self.now.objects.now.buffers.items (length c.args.self.now.objects.now.buffers.items) d.buffer c.index.result.now refl l c.index.ensures in
@@ -55,12 +55,12 @@ new-port-requires-clause-idle g c =
 
 pub take_fresh-requires : goal.take_fresh-requires
 take_fresh-requires g c =
-    let within : c.args.client < length c.args.self.now.fronts.now = c.requires.client in
-    let more : length c.args.self.now.fronts.now < passes_of (odb_lock_of c.args.self.now.database.now) = c.requires.seats.callers.database in
+    let within : c.args.client < length c.args.self.now.lists.now.fronts = c.requires.client in
+    let more : length c.args.self.now.lists.now.fronts < passes_of (odb_lock_of c.args.self.now.database.now) = c.requires.seats.callers.database in
     let has_number : c.number-caller.result ≡ c.args.client + 1 = c.number-caller.ensures ∙ c.of_client.ensures in
     let P : Passes _ _ _ _ → Type 0 = λ db. Contains (numbers_of db) c.number-caller.result in
     subst P (sym c.take_of_buffer-pass.ensures.database)
-    (rw has_number (database_has c.args.self.now.objects.now c.args.self.now.database.now c.args.self.now.fronts.now c.args.client c.args.passes.now c.requires.out (omega arith)))
+    (rw has_number (database_has c.args.self.now.objects.now c.args.self.now.database.now c.args.self.now.lists.now.fronts c.args.client c.args.passes.now c.requires.out (omega arith)))
 
 pub new-access-requires-clause-own : goal.new-access-requires-clause-own
 new-access-requires-clause-own g c =
@@ -74,12 +74,12 @@ new-access-requires-clause-idle g c =
 
 pub take_fresh-requires-2 : goal.take_fresh-requires-2
 take_fresh-requires-2 g c =
-    let within : c.args.client < length c.args.self.now.fronts.now = c.requires.client in
-    let count : passes_of (engine_lock_of c.args.self.now.objects.now.engine) ≡ length c.args.self.now.fronts.now + 2 + length c.args.self.now.analyzers.now = c.requires.seats.callers.engine in
+    let within : c.args.client < length c.args.self.now.lists.now.fronts = c.requires.client in
+    let count : passes_of (engine_lock_of c.args.self.now.objects.now.engine) ≡ length c.args.self.now.lists.now.fronts + 2 + length c.args.self.now.lists.now.analyzers = c.requires.seats.callers.engine in
     let has_number : c.number-caller.result ≡ c.args.client + 1 = c.number-caller.ensures ∙ c.of_client.ensures in
     let P : Passes _ _ _ _ → Type 0 = λ en. Contains (numbers_of en) c.number-caller.result in
     subst P (sym c.take_of_buffer-pass.ensures.engine)
-    (rw has_number (engine_has c.args.self.now.objects.now c.args.self.now.database.now c.args.self.now.fronts.now c.args.client c.args.passes.now c.requires.out (omega arith)))
+    (rw has_number (engine_has c.args.self.now.objects.now c.args.self.now.database.now c.args.self.now.lists.now.fronts c.args.client c.args.passes.now c.requires.out (omega arith)))
 
 pub new-engine-requires-clause-own : goal.new-engine-requires-clause-own
 new-engine-requires-clause-own g c =
@@ -88,21 +88,21 @@ new-engine-requires-clause-own g c =
 
 pub returns-clause-out : goal.returns-clause-out
 returns-clause-out g c =
-    let d : FrontDeclared = get_or c.args.self.now.fronts.now c.args.client c.index-self-client.result in
-    let at_d : slice_get c.args.self.now.fronts.now c.args.client ≡ Some d = slice_get-get_or c.args.self.now.fronts.now c.args.client c.index-self-client.result c.requires.client in
+    let d : FrontDeclared = c.declared_front.result.now in
+    let at_d : slice_get c.args.self.now.lists.now.fronts c.args.client ≡ Some d = c.declared_front.ensures in
     let s1 = c.take_of_buffer-pass.new.self in
     let s2 : SessionPasses _ _ = record s1 { database = c.take_fresh.new.passes } in
     let s3 : SessionPasses _ _ = record s2 { engine = c.take_fresh-2.new.passes } in
     let has_number : c.number-caller.result ≡ c.args.client + 1 = c.number-caller.ensures ∙ c.of_client.ensures in
-    front_out c.args.self.now.objects.now c.args.self.now.database.now c.args.self.now.fronts.now c.args.client c.args.passes.now c.requires.out d s1 s2 s3
+    front_out c.args.self.now.objects.now c.args.self.now.database.now c.args.self.now.lists.now.fronts c.args.client c.args.passes.now c.requires.out d s1 s2 s3
     c.take_of_buffer-pass.result c.take_fresh.result c.take_fresh-2.result at_d
     (rw has_number at c.take_of_buffer-pass.ensures.taken) c.take_of_buffer-pass.ensures.engine c.take_of_buffer-pass.ensures.database
     (rw has_number at c.take_fresh.ensures) refl refl (rw has_number at c.take_fresh-2.ensures) refl refl
 
 pub returns-clause-port : goal.returns-clause-port
 returns-clause-port g c =
-    let d0 : FrontDeclared = get_or c.args.self.now.fronts.now c.args.client c.index-self-client.result in
-    let at0 : slice_get c.args.self.now.fronts.now c.args.client ≡ Some d0 = slice_get-get_or c.args.self.now.fronts.now c.args.client c.index-self-client.result c.requires.client in
+    let d0 : FrontDeclared = c.declared_front.result.now in
+    let at0 : slice_get c.args.self.now.lists.now.fronts c.args.client ≡ Some d0 = c.declared_front.ensures in
     let l : d0.buffer < length c.args.self.now.objects.now.buffers.items = c.requires.seats.callers.sent_into c.args.client d0 at0 in
     let many : length c.args.passes.now.buffers.items ≡ length c.args.self.now.objects.now.buffers.items = c.requires.out.many in
     let b0 : SessionBuffer = c.index.result.now in

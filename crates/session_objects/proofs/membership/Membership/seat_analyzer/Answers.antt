@@ -1,6 +1,5 @@
-use Rattle.std.proofs.Common.{rules, ◌≡◌, ◌∙◌, ◌<◌, ◌+◌, ◌-◌, ◌≤◌, min, ℕ, List, length, ap, sym, subst, get_or, arith}
+use Rattle.std.proofs.Common.{rules, ◌≡◌, ◌∙◌, ◌<◌, ◌+◌, ◌-◌, ◌≤◌, min, ℕ, List, length, ap, sym, subst, arith}
 use Rattle.std.specs.Prelude.{slice_get, Option, Some}
-use Rattle.std.proofs.lemmas.Option.{slice_get-get_or}
 use Rattle.event.specs.Events.{event_limit}
 use Rattle.buffer_core.specs.Window.{Window}
 use Rattle.buffer_core.specs.Ports.{Access}
@@ -17,16 +16,16 @@ use Rattle.session_objects.proofs.membership.Membership.seat_analyzer.Goals as g
 
 pub make_analyzer-requires : goal.make_analyzer-requires
 make_analyzer-requires g c =
-    let d : AnalyzerDeclared = get_or c.args.self.now.analyzers.now c.args.place c.index-self-place.result in
-    let at : slice_get c.args.self.now.analyzers.now c.args.place ≡ Some d = slice_get-get_or c.args.self.now.analyzers.now c.args.place c.index-self-place.result c.requires.place in
+    let d : AnalyzerDeclared = c.declared_analyzer.result.now in
+    let at : slice_get c.args.self.now.lists.now.analyzers c.args.place ≡ Some d = c.declared_analyzer.ensures in
     let bs : c.deref.result.now ≡ c.args.self.now.objects.now.buffers.items = search rules in
     let P : List SessionBuffer → Type 0 = λ xs. d.buffer < length xs in
     subst P (sym bs) (c.requires.seats.callers.read_from c.args.place d at)
 
 pub new-requires : goal.new-requires
 new-requires g c =
-    let d : AnalyzerDeclared = get_or c.args.self.now.analyzers.now c.args.place c.index-self-place.result in
-    let at : slice_get c.args.self.now.analyzers.now c.args.place ≡ Some d = slice_get-get_or c.args.self.now.analyzers.now c.args.place c.index-self-place.result c.requires.place in
+    let d : AnalyzerDeclared = c.declared_analyzer.result.now in
+    let at : slice_get c.args.self.now.lists.now.analyzers c.args.place ≡ Some d = c.declared_analyzer.ensures in
     let made = c.in_ok-analyzer.ensures in
     let analyzer = c.in_ok-analyzer.analyzer in
     let place = c.place_analyzer-engine.ensures in
@@ -51,10 +50,10 @@ new-requires g c =
 
 pub returns-clause-analyzer : goal.returns-clause-analyzer
 returns-clause-analyzer g c =
-    let d : AnalyzerDeclared = get_or c.args.self.now.analyzers.now c.args.place c.index-self-place.result in
-    let at : slice_get c.args.self.now.analyzers.now c.args.place ≡ Some d = slice_get-get_or c.args.self.now.analyzers.now c.args.place c.index-self-place.result c.requires.place in
+    let d : AnalyzerDeclared = c.declared_analyzer.result.now in
+    let at : slice_get c.args.self.now.lists.now.analyzers c.args.place ≡ Some d = c.declared_analyzer.ensures in
     let place = c.place_analyzer-engine.ensures in
-    let client : ℕ = length c.args.self.now.fronts.now + 1 + c.args.place in
+    let client : ℕ = length c.args.self.now.lists.now.fronts + 1 + c.args.place in
     let bs : c.deref.result.now ≡ c.args.self.now.objects.now.buffers.items = search rules in
     let b : SessionBuffer = place.port.buffer in
     let same : place.port.wanted ≡ d = some_same place.port.wanted d (sym place.port.has_wanted ∙ at) in

@@ -1,7 +1,6 @@
-use Rattle.std.proofs.Common.{◌≡◌, ◌∙◌, ◌+◌, ◌≤◌, ℕ, ap, sym, subst, get_or}
+use Rattle.std.proofs.Common.{◌≡◌, ◌∙◌, ◌+◌, ◌≤◌, ℕ, ap, sym, subst}
 use Rattle.std.specs.Prelude.{slice_get, Some}
 use Rattle.daq_members.specs.OwnTurns.{are_calls_for}
-use Rattle.std.proofs.lemmas.Option.{slice_get-get_or}
 use Rattle.buffer_core.specs.Window.{Window}
 use Rattle.buffer_core.specs.Ports.{Access}
 use Rattle.odb_watch.specs.DatabasePorts.{DatabaseAccess, own_watched}
@@ -16,8 +15,8 @@ use Rattle.session_objects.proofs.membership.Membership.seat_front.Goals as goal
 
 pub new-requires-2 : goal.new-requires-2
 new-requires-2 g c =
-    let d : FrontDeclared = get_or c.args.self.now.fronts.now c.args.client c.index-self-client.result in
-    let at : slice_get c.args.self.now.fronts.now c.args.client ≡ Some d = slice_get-get_or c.args.self.now.fronts.now c.args.client c.index-self-client.result c.requires.client in
+    let d : FrontDeclared = c.declared_front.result.now in
+    let at : slice_get c.args.self.now.lists.now.fronts c.args.client ≡ Some d = c.declared_front.ensures in
     let P : Generator → Type 0 = λ e. IsFrontId e.id in subst P (sym c.generator_of.ensures) (c.requires.ids c.args.client d at)
 
 pub new-requires-3 : goal.new-requires-3
@@ -36,8 +35,8 @@ new-requires-3 g c =
 
 pub returns-clause-front : goal.returns-clause-front
 returns-clause-front g c =
-    let d : FrontDeclared = get_or c.args.self.now.fronts.now c.args.client c.index-self-client.result in
-    let at : slice_get c.args.self.now.fronts.now c.args.client ≡ Some d = slice_get-get_or c.args.self.now.fronts.now c.args.client c.index-self-client.result c.requires.client in
+    let d : FrontDeclared = c.declared_front.result.now in
+    let at : slice_get c.args.self.now.lists.now.fronts c.args.client ≡ Some d = c.declared_front.ensures in
     let made = c.in_ok-front.ensures in
     let place = c.place_front-engine.ensures in
     let same : place.port.wanted ≡ d = some_same place.port.wanted d (sym place.port.has_wanted ∙ at) in record {

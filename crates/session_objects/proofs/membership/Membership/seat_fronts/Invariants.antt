@@ -6,8 +6,8 @@ use Rattle.session_objects.proofs.membership.Membership.seat_fronts.Given as goa
 
 abbrev pub invariant-loop-client : goal.invariant-loop-client
 invariant-loop-client g l = record {
-  seated : AreSeated (IsNewFrontAt l.self.objects.now l.self.database.now l.self.fronts.now) l.client l.fronts.items;
+  seated : AreSeated (IsNewFrontAt l.self.objects.now l.self.database.now l.self.lists.now.fronts) l.client l.fronts.items;
   count : vec_len l.fronts ≡ l.client;
-  room : length l.self.fronts.now ≤ vec_capacity l.fronts;
-  out : HasFreshBut (out_to_fronts l.self.fronts.now l.client) l.self.objects.now l.self.database.now l.passes;
+  room : length l.self.lists.now.fronts ≤ vec_capacity l.fronts;
+  out : HasFreshBut (out_to_fronts l.self.lists.now.fronts l.client) l.self.objects.now l.self.database.now l.passes;
 }

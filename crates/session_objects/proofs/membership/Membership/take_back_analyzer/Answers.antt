@@ -1,6 +1,6 @@
-use Rattle.std.proofs.Common.{◌≡◌, ◌∙◌, ◌+◌, ◌<◌, ℕ, length, ap, sym, refl, subst, get_or}
+use Rattle.std.proofs.Common.{◌≡◌, ◌∙◌, ◌+◌, ◌<◌, ℕ, length, ap, sym, refl, subst}
 use Rattle.std.specs.Prelude.{slice_get, Some}
-use Rattle.std.proofs.lemmas.Option.{slice_get-get_or, slice_get_within}
+use Rattle.std.proofs.lemmas.Option.{slice_get_within}
 use Rattle.turn_lock.specs.Passes.{number_of, IsOf}
 use Rattle.buffer_core.specs.Ports.{Access}
 use Rattle.transition_lock.specs.declared.shared.SharedEngine.{SharedEngine}
@@ -13,35 +13,35 @@ use Rattle.session_objects.proofs.ReturnLaws.{analyzer_back, analyzer_room, anal
 use Rattle.session_objects.proofs.ToldLaws.{port_tells}
 use Rattle.session_objects.proofs.membership.Membership.take_back_analyzer.Goals as goal
 
-pub bounds-self-place : goal.bounds-self-place
-bounds-self-place g c = slice_get_within c.args.self.now.analyzers.now c.args.place c.requires.1.0.wanted c.requires.1.0.has_wanted
+pub declared_analyzer-requires : goal.declared_analyzer-requires
+declared_analyzer-requires g c = slice_get_within c.args.self.now.lists.now.analyzers c.args.place c.requires.1.0.wanted c.requires.1.0.has_wanted
 
 pub put_to_engine-requires : goal.put_to_engine-requires
 put_to_engine-requires g c =
-    analyzer_engine_room c.args.self.now.fronts.now c.args.self.now.analyzers.now g.calls c.args.self.now.objects.now c.args.self.now.database.now (length c.args.self.now.objects.now.buffers.items) c.args.place c.args.passes.now c.requires.1.1.1.1
+    analyzer_engine_room c.args.self.now.lists.now.fronts c.args.self.now.lists.now.analyzers g.calls c.args.self.now.objects.now c.args.self.now.database.now (length c.args.self.now.objects.now.buffers.items) c.args.place c.args.passes.now c.requires.1.1.1.1
 
 pub put_to_buffer-requires-clause-within : goal.put_to_buffer-requires-clause-within
 put_to_buffer-requires-clause-within g c =
     let d : AnalyzerDeclared = c.requires.1.0.wanted in
-    let at : slice_get c.args.self.now.analyzers.now c.args.place ≡ Some d = c.requires.1.0.has_wanted in
-    let is : IsAnalyzerOf c.args.self.now.objects.now (length c.args.self.now.fronts.now + 1 + c.args.place) d c.args.analyzer = c.requires.1.0.is in
-    let d0 : AnalyzerDeclared = get_or c.args.self.now.analyzers.now c.args.place c.index-self-place.result in
-    let at0 : slice_get c.args.self.now.analyzers.now c.args.place ≡ Some d0 = slice_get-get_or c.args.self.now.analyzers.now c.args.place c.index-self-place.result (slice_get_within c.args.self.now.analyzers.now c.args.place d at) in
+    let at : slice_get c.args.self.now.lists.now.analyzers c.args.place ≡ Some d = c.requires.1.0.has_wanted in
+    let is : IsAnalyzerOf c.args.self.now.objects.now (length c.args.self.now.lists.now.fronts + 1 + c.args.place) d c.args.analyzer = c.requires.1.0.is in
+    let d0 : AnalyzerDeclared = c.declared_analyzer.result.now in
+    let at0 : slice_get c.args.self.now.lists.now.analyzers c.args.place ≡ Some d0 = c.declared_analyzer.ensures in
     let P : AnalyzerDeclared → Type 0 = λ z. z.buffer < length c.put_to_engine.new.self.buffers.items in
     subst P (some_same d d0 (sym at ∙ at0))
-    (buffer_within c.args.self.now.fronts.now c.args.self.now.analyzers.now g.calls c.args.self.now.objects.now c.args.self.now.database.now
-    (out_to_analyzers c.args.self.now.fronts.now c.args.self.now.analyzers.now (length c.args.self.now.objects.now.buffers.items) (c.args.place + 1)) d.buffer is.buffer
+    (buffer_within c.args.self.now.lists.now.fronts c.args.self.now.lists.now.analyzers g.calls c.args.self.now.objects.now c.args.self.now.database.now
+    (out_to_analyzers c.args.self.now.lists.now.fronts c.args.self.now.lists.now.analyzers (length c.args.self.now.objects.now.buffers.items) (c.args.place + 1)) d.buffer is.buffer
     c.args.passes.now c.put_to_engine.new.self is.has_buffer c.requires.1.1.1.1 c.put_to_engine.ensures.buffers)
 
 pub put_to_buffer-requires-clause-room : goal.put_to_buffer-requires-clause-room
 put_to_buffer-requires-clause-room g c =
     let d : AnalyzerDeclared = c.requires.1.0.wanted in
-    let at : slice_get c.args.self.now.analyzers.now c.args.place ≡ Some d = c.requires.1.0.has_wanted in
-    let is : IsAnalyzerOf c.args.self.now.objects.now (length c.args.self.now.fronts.now + 1 + c.args.place) d c.args.analyzer = c.requires.1.0.is in
-    let d0 : AnalyzerDeclared = get_or c.args.self.now.analyzers.now c.args.place c.index-self-place.result in
-    let at0 : slice_get c.args.self.now.analyzers.now c.args.place ≡ Some d0 = slice_get-get_or c.args.self.now.analyzers.now c.args.place c.index-self-place.result (slice_get_within c.args.self.now.analyzers.now c.args.place d at) in
+    let at : slice_get c.args.self.now.lists.now.analyzers c.args.place ≡ Some d = c.requires.1.0.has_wanted in
+    let is : IsAnalyzerOf c.args.self.now.objects.now (length c.args.self.now.lists.now.fronts + 1 + c.args.place) d c.args.analyzer = c.requires.1.0.is in
+    let d0 : AnalyzerDeclared = c.declared_analyzer.result.now in
+    let at0 : slice_get c.args.self.now.lists.now.analyzers c.args.place ≡ Some d0 = c.declared_analyzer.ensures in
     let same : d ≡ d0 = some_same d d0 (sym at ∙ at0) in
-    λ roster there. analyzer_room c.args.self.now.fronts.now c.args.self.now.analyzers.now g.calls c.args.self.now.objects.now c.args.self.now.database.now (length c.args.self.now.objects.now.buffers.items) c.args.place d is.buffer
+    λ roster there. analyzer_room c.args.self.now.lists.now.fronts c.args.self.now.lists.now.analyzers g.calls c.args.self.now.objects.now c.args.self.now.database.now (length c.args.self.now.objects.now.buffers.items) c.args.place d is.buffer
     c.args.passes.now roster at is.has_buffer c.requires.1.1.1.1
     (ap (λ bs. slice_get bs.items d.buffer) (sym c.put_to_engine.ensures.buffers)
     ∙ ap (λ (z : AnalyzerDeclared). slice_get c.put_to_engine.new.self.buffers.items z.buffer) same ∙ there)
@@ -49,16 +49,16 @@ put_to_buffer-requires-clause-room g c =
 pub returns : goal.returns
 returns g c =
     let d : AnalyzerDeclared = c.requires.1.0.wanted in
-    let at : slice_get c.args.self.now.analyzers.now c.args.place ≡ Some d = c.requires.1.0.has_wanted in
-    let is : IsAnalyzerOf c.args.self.now.objects.now (length c.args.self.now.fronts.now + 1 + c.args.place) d c.args.analyzer = c.requires.1.0.is in
-    let d0 : AnalyzerDeclared = get_or c.args.self.now.analyzers.now c.args.place c.index-self-place.result in
-    let at0 : slice_get c.args.self.now.analyzers.now c.args.place ≡ Some d0 = slice_get-get_or c.args.self.now.analyzers.now c.args.place c.index-self-place.result (slice_get_within c.args.self.now.analyzers.now c.args.place d at) in
+    let at : slice_get c.args.self.now.lists.now.analyzers c.args.place ≡ Some d = c.requires.1.0.has_wanted in
+    let is : IsAnalyzerOf c.args.self.now.objects.now (length c.args.self.now.lists.now.fronts + 1 + c.args.place) d c.args.analyzer = c.requires.1.0.is in
+    let d0 : AnalyzerDeclared = c.declared_analyzer.result.now in
+    let at0 : slice_get c.args.self.now.lists.now.analyzers c.args.place ≡ Some d0 = c.declared_analyzer.ensures in
     let same : d0 ≡ d = some_same d0 d (sym at0 ∙ at) in
     let parts = c.into_parts-pass.ensures in
     let port = c.into_parts-pass.result.port in
     let told : Access = c.args.analyzer.port in
-    let client : ℕ = length c.args.self.now.fronts.now + 1 + c.args.place in
-    analyzer_back c.args.self.now.fronts.now c.args.self.now.analyzers.now g.calls c.args.self.now.objects.now c.args.self.now.database.now (length c.args.self.now.objects.now.buffers.items) client c.args.place d0 is.buffer
+    let client : ℕ = length c.args.self.now.lists.now.fronts + 1 + c.args.place in
+    analyzer_back c.args.self.now.lists.now.fronts c.args.self.now.lists.now.analyzers g.calls c.args.self.now.objects.now c.args.self.now.database.now (length c.args.self.now.objects.now.buffers.items) client c.args.place d0 is.buffer
     (analyzer_calls c.args.analyzer) c.args.passes.now c.put_to_engine.new.self c.put_to_buffer.new.self
     c.into_parts-pass.result.pass c.into_pass.result refl c.requires.1.1.1.0
     at0 (ap (λ (z : AnalyzerDeclared). slice_get c.args.self.now.objects.now.buffers.items z.buffer) same ∙ is.has_buffer) c.requires.1.1.0 c.requires.1.1.1.1

@@ -1,6 +1,6 @@
-use Rattle.std.proofs.Common.{◌≡◌, ◌∙◌, ◌+◌, ◌<◌, ℕ, length, ap, sym, subst, get_or}
+use Rattle.std.proofs.Common.{◌≡◌, ◌∙◌, ◌+◌, ◌<◌, ℕ, length, ap, sym, subst}
 use Rattle.std.specs.Prelude.{slice_get, Some}
-use Rattle.std.proofs.lemmas.Option.{slice_get-get_or, slice_get_within}
+use Rattle.std.proofs.lemmas.Option.{slice_get_within}
 use Rattle.turn_lock.specs.Passes.{number_of, seen_by}
 use Rattle.buffer_core.specs.Ports.{Access}
 use Rattle.transition_lock.specs.declared.shared.SharedEngine.{SharedEngine}
@@ -15,54 +15,54 @@ use Rattle.session_objects.proofs.ReturnLaws.{front_back, front_room, front_engi
 use Rattle.session_objects.proofs.ToldLaws.{port_tells}
 use Rattle.session_objects.proofs.membership.Membership.take_back_front.Goals as goal
 
-pub bounds-self-client : goal.bounds-self-client
-bounds-self-client g c = slice_get_within c.args.self.now.fronts.now c.args.client c.requires.1.0.wanted c.requires.1.0.has_wanted
+pub declared_front-requires : goal.declared_front-requires
+declared_front-requires g c = slice_get_within c.args.self.now.lists.now.fronts c.args.client c.requires.1.0.wanted c.requires.1.0.has_wanted
 
 pub put_to_engine-requires : goal.put_to_engine-requires
 put_to_engine-requires g c =
-    front_engine_room c.args.self.now.fronts.now c.args.self.now.analyzers.now g.calls c.args.self.now.objects.now c.args.self.now.database.now c.args.client c.args.passes.now c.requires.1.1.1
+    front_engine_room c.args.self.now.lists.now.fronts c.args.self.now.lists.now.analyzers g.calls c.args.self.now.objects.now c.args.self.now.database.now c.args.client c.args.passes.now c.requires.1.1.1
 
 pub put_to_database-requires : goal.put_to_database-requires
 put_to_database-requires g c =
-    front_database_room c.args.self.now.fronts.now c.args.self.now.analyzers.now g.calls c.args.self.now.objects.now c.args.self.now.database.now c.args.client c.args.passes.now c.put_to_engine.new.self c.requires.1.1.1
+    front_database_room c.args.self.now.lists.now.fronts c.args.self.now.lists.now.analyzers g.calls c.args.self.now.objects.now c.args.self.now.database.now c.args.client c.args.passes.now c.put_to_engine.new.self c.requires.1.1.1
     c.put_to_engine.ensures.database
 
 pub put_to_buffer-requires-clause-within : goal.put_to_buffer-requires-clause-within
 put_to_buffer-requires-clause-within g c =
     let d : FrontDeclared = c.requires.1.0.wanted in
-    let at : slice_get c.args.self.now.fronts.now c.args.client ≡ Some d = c.requires.1.0.has_wanted in
+    let at : slice_get c.args.self.now.lists.now.fronts c.args.client ≡ Some d = c.requires.1.0.has_wanted in
     let is : IsFrontOf c.args.self.now.objects.now c.args.self.now.database.now c.args.client d c.args.front = c.requires.1.0.is in
-    let d0 : FrontDeclared = get_or c.args.self.now.fronts.now c.args.client c.index-self-client.result in
-    let at0 : slice_get c.args.self.now.fronts.now c.args.client ≡ Some d0 = slice_get-get_or c.args.self.now.fronts.now c.args.client c.index-self-client.result (slice_get_within c.args.self.now.fronts.now c.args.client d at) in
+    let d0 : FrontDeclared = c.declared_front.result.now in
+    let at0 : slice_get c.args.self.now.lists.now.fronts c.args.client ≡ Some d0 = c.declared_front.ensures in
     let P : FrontDeclared → Type 0 = λ z. z.buffer < length c.put_to_database.new.self.buffers.items in
     subst P (some_same d d0 (sym at ∙ at0))
-    (buffer_within c.args.self.now.fronts.now c.args.self.now.analyzers.now g.calls c.args.self.now.objects.now c.args.self.now.database.now (out_to_fronts c.args.self.now.fronts.now (c.args.client + 1)) d.buffer is.buffer
+    (buffer_within c.args.self.now.lists.now.fronts c.args.self.now.lists.now.analyzers g.calls c.args.self.now.objects.now c.args.self.now.database.now (out_to_fronts c.args.self.now.lists.now.fronts (c.args.client + 1)) d.buffer is.buffer
     c.args.passes.now c.put_to_database.new.self is.has_buffer c.requires.1.1.1 (c.put_to_database.ensures.buffers ∙ c.put_to_engine.ensures.buffers))
 
 pub put_to_buffer-requires-clause-room : goal.put_to_buffer-requires-clause-room
 put_to_buffer-requires-clause-room g c =
     let d : FrontDeclared = c.requires.1.0.wanted in
-    let at : slice_get c.args.self.now.fronts.now c.args.client ≡ Some d = c.requires.1.0.has_wanted in
+    let at : slice_get c.args.self.now.lists.now.fronts c.args.client ≡ Some d = c.requires.1.0.has_wanted in
     let is : IsFrontOf c.args.self.now.objects.now c.args.self.now.database.now c.args.client d c.args.front = c.requires.1.0.is in
-    let d0 : FrontDeclared = get_or c.args.self.now.fronts.now c.args.client c.index-self-client.result in
-    let at0 : slice_get c.args.self.now.fronts.now c.args.client ≡ Some d0 = slice_get-get_or c.args.self.now.fronts.now c.args.client c.index-self-client.result (slice_get_within c.args.self.now.fronts.now c.args.client d at) in
+    let d0 : FrontDeclared = c.declared_front.result.now in
+    let at0 : slice_get c.args.self.now.lists.now.fronts c.args.client ≡ Some d0 = c.declared_front.ensures in
     let same : d ≡ d0 = some_same d d0 (sym at ∙ at0) in
-    λ roster there. front_room c.args.self.now.fronts.now c.args.self.now.analyzers.now g.calls c.args.self.now.objects.now c.args.self.now.database.now c.args.client d is.buffer c.args.passes.now roster at is.has_buffer c.requires.1.1.1
+    λ roster there. front_room c.args.self.now.lists.now.fronts c.args.self.now.lists.now.analyzers g.calls c.args.self.now.objects.now c.args.self.now.database.now c.args.client d is.buffer c.args.passes.now roster at is.has_buffer c.requires.1.1.1
     (ap (λ bs. slice_get bs.items d.buffer) (sym (c.put_to_database.ensures.buffers ∙ c.put_to_engine.ensures.buffers))
     ∙ ap (λ (z : FrontDeclared). slice_get c.put_to_database.new.self.buffers.items z.buffer) same ∙ there)
 
 pub returns : goal.returns
 returns g c =
     let d : FrontDeclared = c.requires.1.0.wanted in
-    let at : slice_get c.args.self.now.fronts.now c.args.client ≡ Some d = c.requires.1.0.has_wanted in
+    let at : slice_get c.args.self.now.lists.now.fronts c.args.client ≡ Some d = c.requires.1.0.has_wanted in
     let is : IsFrontOf c.args.self.now.objects.now c.args.self.now.database.now c.args.client d c.args.front = c.requires.1.0.is in
-    let d0 : FrontDeclared = get_or c.args.self.now.fronts.now c.args.client c.index-self-client.result in
-    let at0 : slice_get c.args.self.now.fronts.now c.args.client ≡ Some d0 = slice_get-get_or c.args.self.now.fronts.now c.args.client c.index-self-client.result (slice_get_within c.args.self.now.fronts.now c.args.client d at) in
+    let d0 : FrontDeclared = c.declared_front.result.now in
+    let at0 : slice_get c.args.self.now.lists.now.fronts c.args.client ≡ Some d0 = c.declared_front.ensures in
     let same : d0 ≡ d = some_same d0 d (sym at0 ∙ at) in
     let parts = c.into_parts-pass.ensures in
     let port = c.into_parts-pass.result.port in
     let told : Access = c.args.front.port in
-    front_back c.args.self.now.fronts.now c.args.self.now.analyzers.now g.calls c.args.self.now.objects.now c.args.self.now.database.now c.args.client d0 is.buffer (front_calls c.args.front)
+    front_back c.args.self.now.lists.now.fronts c.args.self.now.lists.now.analyzers g.calls c.args.self.now.objects.now c.args.self.now.database.now c.args.client d0 is.buffer (front_calls c.args.front)
     c.args.passes.now c.put_to_engine.new.self c.put_to_database.new.self c.put_to_buffer.new.self
     c.into_parts-pass.result.pass c.into_pass.result c.into_pass-2.result
     at0 (ap (λ (z : FrontDeclared). slice_get c.args.self.now.objects.now.buffers.items z.buffer) same ∙ is.has_buffer) c.requires.1.1.0 c.requires.1.1.1

@@ -16,7 +16,7 @@ use Rattle.session_objects.proofs.membership.Membership.take_back_ports.Goals as
 
 pub loop-port-init : goal.loop-port-init
 loop-port-init g c =
-    let P : ℕ → Type 0 = λ n. HasCallsBut (out_to_ports c.args.self.now.fronts.now n) c.args.self.now.fronts.now c.args.self.now.analyzers.now g.calls c.args.self.now.objects.now c.args.self.now.database.now c.args.passes.now in
+    let P : ℕ → Type 0 = λ n. HasCallsBut (out_to_ports c.args.self.now.lists.now.fronts n) c.args.self.now.lists.now.fronts c.args.self.now.lists.now.analyzers g.calls c.args.self.now.objects.now c.args.self.now.database.now c.args.passes.now in
     (([], sym (append-nil c.args.ports)), subst P (sym c.requires.1.0) c.requires.1.1.1.1)
 
 pub put_to_buffer-requires-clause-within : goal.put_to_buffer-requires-clause-within
@@ -44,8 +44,8 @@ put_to_buffer-requires-clause-room g c =
     let many : length c.args.ports ≡ length c.args.self.now.objects.now.buffers.items = c.requires.1.0 in
     let b = there_below c.args.self.now.objects.now.buffers.items n (omega arith) in
     let count : length c.loop-port.ports ≡ suc n = ap length popped ∙ length-append new (x ∷ []) ∙ ap (λ m. m + 1) (sym same) ∙ add-one n in
-    let P : ℕ → Type 0 = λ m. HasCallsBut (out_to_ports c.args.self.now.fronts.now m) c.args.self.now.fronts.now c.args.self.now.analyzers.now g.calls c.args.self.now.objects.now c.args.self.now.database.now c.loop-port.passes in
-    λ roster there. port_room c.args.self.now.fronts.now c.args.self.now.analyzers.now g.calls c.args.self.now.objects.now c.args.self.now.database.now n b.0 c.loop-port.passes roster b.1 (subst P count inv.1) there
+    let P : ℕ → Type 0 = λ m. HasCallsBut (out_to_ports c.args.self.now.lists.now.fronts m) c.args.self.now.lists.now.fronts c.args.self.now.lists.now.analyzers g.calls c.args.self.now.objects.now c.args.self.now.database.now c.loop-port.passes in
+    λ roster there. port_room c.args.self.now.lists.now.fronts c.args.self.now.lists.now.analyzers g.calls c.args.self.now.objects.now c.args.self.now.database.now n b.0 c.loop-port.passes roster b.1 (subst P count inv.1) there
 
 pub loop-port-preserved : goal.loop-port-preserved
 loop-port-preserved g c =
@@ -60,21 +60,21 @@ loop-port-preserved g c =
     let many : length c.args.ports ≡ length c.args.self.now.objects.now.buffers.items = c.requires.1.0 in
     let b = there_below c.args.self.now.objects.now.buffers.items n (omega arith) in
     let count : length c.loop-port.ports ≡ suc n = ap length popped ∙ length-append new (x ∷ []) ∙ ap (λ m. m + 1) (sym same) ∙ add-one n in
-    let P : ℕ → Type 0 = λ m. HasCallsBut (out_to_ports c.args.self.now.fronts.now m) c.args.self.now.fronts.now c.args.self.now.analyzers.now g.calls c.args.self.now.objects.now c.args.self.now.database.now c.loop-port.passes in
-    let Q : ℕ → Type 0 = λ m. HasCallsBut (out_to_ports c.args.self.now.fronts.now m) c.args.self.now.fronts.now c.args.self.now.analyzers.now g.calls c.args.self.now.objects.now c.args.self.now.database.now c.put_to_buffer.new.self in
+    let P : ℕ → Type 0 = λ m. HasCallsBut (out_to_ports c.args.self.now.lists.now.fronts m) c.args.self.now.lists.now.fronts c.args.self.now.lists.now.analyzers g.calls c.args.self.now.objects.now c.args.self.now.database.now c.loop-port.passes in
+    let Q : ℕ → Type 0 = λ m. HasCallsBut (out_to_ports c.args.self.now.lists.now.fronts m) c.args.self.now.lists.now.fronts c.args.self.now.lists.now.analyzers g.calls c.args.self.now.objects.now c.args.self.now.database.now c.put_to_buffer.new.self in
     let told : Access = access_by ring_window x in
     let at_told : slice_get (map (access_by ring_window) c.args.ports) n ≡ Some told = slice_get-map (access_by ring_window) c.args.ports n ∙ ap (option_map (access_by ring_window)) at in
     let is = c.requires.1.1.0.each n b.0 told b.1 at_told in (
       (x ∷ inv.0.0, inv.0.1 ∙ ap (λ zs. zs ++ inv.0.0) popped ∙ append_assoc new (x ∷ []) inv.0.0),
-      subst Q same (logger_port_back c.args.self.now.fronts.now c.args.self.now.analyzers.now g.calls c.args.self.now.objects.now c.args.self.now.database.now n b.0 told c.loop-port.passes c.put_to_buffer.new.self c.into_pass.result
+      subst Q same (logger_port_back c.args.self.now.lists.now.fronts c.args.self.now.lists.now.analyzers g.calls c.args.self.now.objects.now c.args.self.now.database.now n b.0 told c.loop-port.passes c.put_to_buffer.new.self c.into_pass.result
           b.1 (ap (λ zs. slice_get zs n) c.requires.1.1.1.0 ∙ at_told) (subst P count inv.1)
           c.put_to_buffer.ensures.put c.put_to_buffer.ensures.engine c.put_to_buffer.ensures.database
           (ap (λ p. number_of p) c.into_pass.ensures.pass ∙ is.1) (c.into_pass.ensures.told b.0.shared is.0) c.into_pass.ensures.idle
-          (port_tells x told b.0.shared b.0.size (length c.args.self.now.fronts.now) c.into_pass.result refl is.0 b.0.opens is.1 c.into_pass.ensures.pass)),
+          (port_tells x told b.0.shared b.0.size (length c.args.self.now.lists.now.fronts) c.into_pass.result refl is.0 b.0.opens is.1 c.into_pass.ensures.pass)),
     )
 
 pub returns : goal.returns
 returns g c =
     let none : c.loop-port.ports ≡ [] = search rules in
-    let P : ℕ → Type 0 = λ m. HasCallsBut (out_to_ports c.args.self.now.fronts.now m) c.args.self.now.fronts.now c.args.self.now.analyzers.now g.calls c.args.self.now.objects.now c.args.self.now.database.now c.loop-port.passes in
-    ports_back c.args.self.now.fronts.now c.args.self.now.analyzers.now g.calls c.args.self.now.objects.now c.args.self.now.database.now c.loop-port.passes (subst P (ap length none) c.loop-port.invariant.1)
+    let P : ℕ → Type 0 = λ m. HasCallsBut (out_to_ports c.args.self.now.lists.now.fronts m) c.args.self.now.lists.now.fronts c.args.self.now.lists.now.analyzers g.calls c.args.self.now.objects.now c.args.self.now.database.now c.loop-port.passes in
+    ports_back c.args.self.now.lists.now.fronts c.args.self.now.lists.now.analyzers g.calls c.args.self.now.objects.now c.args.self.now.database.now c.loop-port.passes (subst P (ap length none) c.loop-port.invariant.1)

@@ -5,7 +5,7 @@ use Rattle.session_objects.proofs.membership.Membership.take_back_ports.Given as
 
 abbrev pub invariant-loop-port : goal.invariant-loop-port
 invariant-loop-port g l = ((done : List _) × (l.fn.ports ≡ l.ports ++ done))
-    × HasCallsBut (out_to_ports l.self.fronts.now (length l.ports)) l.self.fronts.now l.self.analyzers.now g.calls l.self.objects.now l.self.database.now l.passes
+    × HasCallsBut (out_to_ports l.self.lists.now.fronts (length l.ports)) l.self.lists.now.fronts l.self.lists.now.analyzers g.calls l.self.objects.now l.self.database.now l.passes
 
 abbrev pub decreases-loop-port : goal.decreases-loop-port
 decreases-loop-port g l = length l.ports

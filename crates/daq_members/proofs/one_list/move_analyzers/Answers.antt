@@ -4,7 +4,7 @@ use Rattle.daq_members.specs.SeatedAnalyzers.{AnalyzerSeen}
 use Rattle.daq_members.specs.Members.{Analyzer}
 use Rattle.member_crew.proofs.ListLaws.{first_off, none_off}
 use Rattle.daq_members.proofs.MovedLaws.{fewer, none_moved, one_moved, all_moved, moved_count}
-use Rattle.daq_members.proofs.by_kind.move_analyzers.Goals as goal
+use Rattle.daq_members.proofs.one_list.move_analyzers.Goals as goal
 
 pub loop-analyzer-init : goal.loop-analyzer-init
 loop-analyzer-init g c = none_moved Analyzer c.args.members.now c.args.analyzers.now

@@ -2,7 +2,7 @@
 use Rattle.std.specs.Prelude.{◌≡◌, length, vec_capacity}
 use Rattle.daq_members.specs.Members.{FrontEnd}
 use Rattle.daq_members.proofs.MovedLaws.{MovedBehind}
-use Rattle.daq_members.proofs.by_kind.move_fronts.Given as goal
+use Rattle.daq_members.proofs.one_list.move_fronts.Given as goal
 
 abbrev pub invariant-loop-members : goal.invariant-loop-members
 invariant-loop-members g l = MovedBehind FrontEnd l.fn.members l.fn.fronts.items l.fronts.items l.members × (vec_capacity l.fronts ≡ vec_capacity l.fn.fronts)

@@ -1,7 +1,7 @@
 use Rattle.std.proofs.Common.{rules, ◌∙◌, ◌<◌, length, refl}
 use Rattle.daq_members.specs.Members.{FrontEnd}
 use Rattle.daq_members.proofs.MovedLaws.{first_removed, none_moved, one_moved}
-use Rattle.daq_members.proofs.by_kind.move_fronts.Goals as goal
+use Rattle.daq_members.proofs.one_list.move_fronts.Goals as goal
 
 pub loop-members-init : goal.loop-members-init
 loop-members-init g c = (none_moved FrontEnd c.args.members.now c.args.fronts.now.items, refl)
