@@ -179,8 +179,8 @@ impl<P: BufferPort, F: Files> ConnectedLogger<P, F> {
 
     /// The ports and the files, given back.
     pub(crate) fn into_parts(self) -> (Ports<P>, F)
-        ensures ports { map P.access result.0 ≡ self.entry.ports }
-        ensures files { result.1 ≡ self.entry.files }
+        ensures ports { map P.access result.0 ≡ self.ports }
+        ensures files { result.1 ≡ self.files }
     {
         let ConnectedLogger { ports, files, .. } = self;
         (ports, files)
