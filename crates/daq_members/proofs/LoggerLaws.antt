@@ -12,7 +12,9 @@ use Rattle.buffer_core.specs.Slots.{slot_at}
 use Rattle.loggers.specs.Moments.{LoggerMoment, AreSamePorts}
 use Rattle.loggers.specs.SlotPulls.{PullsSlot, PullsNumbered}
 use Rattle.loggers.specs.Finishing.{LoggerFinish, FinishesBy, FinishesLogger, is_settled_slot, waiting_stop}
+use Rattle.daq_io.specs.Seen.{Seen}
 use Rattle.daq_members.specs.LoggerTaken.{PullsBelow, has_pulled}
+use Rattle.daq_members.specs.ConnectedLoggers.{ConnectedSeen, StaysAtPulls}
 
 pub same_ports : (ports : List Access) → AreSamePorts ports ports
 same_ports ports = record {
@@ -39,9 +41,18 @@ same_then ports between later one two = record {
 pub pulls_more : (n : ℕ) (got later : Bool) (answer : Pulled) (a m b : LoggerMoment) → PullsBelow n got a m → PullsNumbered n answer m b → later ≡ (has_pulled answer || got) → PullsBelow (n + 1) later a b
 pulls_more n got later answer a m b below pulls is = subst (λ (k : ℕ). PullsBelow k later a b) (sym (add-one n)) (m, got, answer, below, pulls, is)
 
--- as many ports as their accesses
-pub as_many : {P : Type 0} (access : P → Access) (before after : List P) → AreSamePorts (map access before) (map access after) → length after ≡ length before
-as_many access before after same = sym (length-map after access) ∙ (same.many ∙ length-map before access)
+-- what no pull leaves as it is, and what pulls behind pulls do
+module _ {F : Type 0} (seen : F → Seen) where
+  pub stays_at_none : (logger : ConnectedSeen F) → StaysAtPulls seen logger logger
+  stays_at_none logger = record { run = refl; stop_dump = refl; same = same_ports logger.ports; keeps = λ turns stands. stands }
+
+  pub stays_then : (a b c : ConnectedSeen F) → StaysAtPulls seen a b → StaysAtPulls seen b c → StaysAtPulls seen a c
+  stays_then a b c first then_ = record {
+    run = then_.run ∙ first.run;
+    stop_dump = then_.stop_dump ∙ first.stop_dump;
+    same = same_then a.ports b.ports c.ports first.same then_.same;
+    keeps = λ turns stands. then_.keeps turns (first.keeps turns stands);
+  }
 
 -- the dump of the stop that waits is kept where it waits on, and there is none where it is answered
 finished_so : (settled : Bool) (stop : Option ℕ) (f : LoggerFinish) → FinishesBy settled stop f → IfSome f.stop_dump (λ bytes. length bytes ≤ record_limit) → IfSome f.later_stop_dump (λ bytes. length bytes ≤ record_limit)

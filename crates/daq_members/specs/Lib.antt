@@ -3,6 +3,7 @@ pub mod EngineClients
 pub mod SentSets
 pub mod FrontTaken
 pub mod LoggerTaken
+pub mod ConnectedLoggers
 pub mod FrontSeats
 pub mod StartedRuns
 pub mod LoggerSeats

@@ -23,6 +23,7 @@ use Rattle.daq_members.specs.OwnTurns.{are_calls_for}
 use Rattle.daq_members.specs.EngineClients.{EngineClientSeen}
 use Rattle.daq_members.specs.StartedRuns.{started_runs}
 use Rattle.daq_members.specs.LoggerTaken.{LoggerTaken, HaveCaller}
+use Rattle.daq_members.specs.ConnectedLoggers.{ConnectedSeen, connected}
 
 -- A logger in a session: the engine that it asks, its client number, its run, and the dump of the stop that it has not
 -- answered; its calls on the engine; and its channels, its access to each buffer, and the run files, as they are and as
@@ -38,20 +39,24 @@ pub record LoggerSeen (F : Type 0) : Type 0 where
   pub files : F
   pub first : F
 
--- what is seen of a logger, by its client at the engine, the logger, its ports, and the run files, as they are and as they were
--- when it took its seat
-abbrev pub logger_seen : {F : Type 0} → EngineClientSeen → Logger → List Access → (files first : F) → LoggerSeen F
-logger_seen engine logger ports files first = record {
+-- a connected logger with its client at the engine, and the files as they were when it took its seat
+abbrev pub logger_at : {F : Type 0} → EngineClientSeen → ConnectedSeen F → (first : F) → LoggerSeen F
+logger_at engine logger first = record {
   engine = engine.engine;
   client = engine.client;
   run = logger.run;
   stop_dump = logger.stop_dump;
   calls = engine.calls;
-  slots = logger.channels;
-  ports = ports;
-  files = files;
+  slots = logger.slots;
+  ports = logger.ports;
+  files = logger.files;
   first = first;
 }
+
+-- what is seen of a logger, by its client at the engine, the logger, its ports, and the run files, as they are and as they were
+-- when it took its seat
+abbrev pub logger_seen : {F : Type 0} → EngineClientSeen → Logger → List Access → (files first : F) → LoggerSeen F
+logger_seen engine logger ports files first = logger_at engine (connected logger ports files) first
 
 -- On the engine the logger polls and answers for its own client alone; the ports are the client's own, and it is ready for
 -- each turn. Where no client of it is known to be detached by another, it keeps its contract over its own calls on engine,

@@ -10,8 +10,7 @@ use Rattle.member_model.specs.TurnCalls.{member_turns}
 use Rattle.mid_logger.specs.declared.pulled.Pulled.{Pulled}
 use Rattle.mid_logger.specs.declared.pulled.Pulled.TheVariants.{Wrote, Dropped, Nothing, Broke, NoChannel}
 use Rattle.loggers.specs.declared.logged_run.LoggedRun.{LoggedRun}
-use Rattle.loggers.specs.declared.logger.Logger.{Logger}
-use Rattle.loggers.specs.Moments.{RunFiles, LoggerMoment, moment_of}
+use Rattle.loggers.specs.Moments.{LoggerMoment}
 use Rattle.loggers.specs.NewLoggers.{NoneTakenBack}
 use Rattle.loggers.specs.LoggerStands.{LoggerStands}
 use Rattle.loggers.specs.Turning.{TakesTurn}
@@ -20,7 +19,6 @@ use Rattle.loggers.specs.SlotPulls.{PullsNumbered}
 use Rattle.member_crew.specs.declared.turned.Turned.{Turned}
 use Rattle.member_crew.specs.declared.turned.Turned.TheVariants.{Worked, Idle, Ended}
 use Rattle.daq_members.specs.OwnTurns.{start_owed, asked_so, GivesAnswer}
-use Rattle.daq_members.specs.EngineClients.{EngineClientSeen}
 use Rattle.daq_members.specs.FrontTaken.{turned_by}
 
 -- how many channels are pulled
@@ -58,22 +56,6 @@ pub record LoggerTaken : Type 0 where
   pub before : LoggerMoment
   pub after : LoggerMoment
   pub turned : Turned
-
--- a turn of a logger with its client at the engine, its ports and the run files, before and behind
-abbrev pub logger_member_taken : {F : Type 0} → (read : F → RunFiles) → (engine later_engine : EngineClientSeen) →
-    (logger later_logger : Logger) → (ports later_ports : List Access) → (files later_files : F) → Turned → LoggerTaken
-logger_member_taken read engine later_engine logger later_logger ports later_ports files later_files turned = record {
-  client = engine.client;
-  calls = engine.calls;
-  later_calls = later_engine.calls;
-  run = logger.run;
-  later_run = later_logger.run;
-  stop_dump = logger.stop_dump;
-  later_stop_dump = later_logger.stop_dump;
-  before = moment_of logger.channels ports (read files);
-  after = moment_of later_logger.channels later_ports (read later_files);
-  turned = turned;
-}
 
 -- Where the logger kept its contract over the turns that its calls on the engine told before, it keeps it over those that they
 -- tell behind the turn, if no client of it is known to be detached by another.

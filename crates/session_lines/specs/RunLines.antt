@@ -47,17 +47,17 @@ report_line fronts analyzers tally =
 abbrev pub last_record : List RunRecord → Option RunRecord
 last_record records = slice_get records (length records - 1)
 
-abbrev pub fronts_in : Option RunRecord → List FrontTally
-fronts_in None = []
-fronts_in (Some r) = r.fronts
+abbrev pub record_fronts : Option RunRecord → List FrontTally
+record_fronts None = []
+record_fronts (Some r) = r.fronts
 
-abbrev pub files_in : Option RunRecord → List FileRecord
-files_in None = []
-files_in (Some r) = r.files
+abbrev pub record_files : Option RunRecord → List FileRecord
+record_files None = []
+record_files (Some r) = r.files
 
-abbrev pub reports_in : Option RunRecord → List ReportTally
-reports_in None = []
-reports_in (Some r) = r.reports
+abbrev pub record_reports : Option RunRecord → List ReportTally
+record_reports None = []
+record_reports (Some r) = r.reports
 
 -- the reply to a command of runs, where these are what is kept behind it
 abbrev pub reply_for : RunsSeen → RunReply → Reply
@@ -69,8 +69,8 @@ reply_for runs (answer.Started run) = run_started run
 reply_for runs (answer.Paused run) = run_paused run
 reply_for runs (answer.Resumed run) = run_resumed run
 reply_for runs (answer.Stopped run) =
-    run_stopped run (map (tally_line runs.fronts runs.analyzers) (fronts_in (last_record runs.runs)))
-    (files_in (last_record runs.runs)) (map (report_line runs.fronts runs.analyzers) (reports_in (last_record runs.runs)))
+    run_stopped run (map (tally_line runs.fronts runs.analyzers) (record_fronts (last_record runs.runs)))
+    (record_files (last_record runs.runs)) (map (report_line runs.fronts runs.analyzers) (record_reports (last_record runs.runs)))
 
 -- Commands of an open session, by the main thread's own calls. What its members did meanwhile is not said here.
 

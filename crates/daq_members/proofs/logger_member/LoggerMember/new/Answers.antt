@@ -6,9 +6,18 @@ use Rattle.daq_members.specs.OwnTurns.{are_calls_for}
 use Rattle.daq_members.proofs.LoggerNames.{idle_names}
 use Rattle.daq_members.proofs.logger_member.LoggerMember.new.Goals as goal
 
+pub new-logger-requires : goal.new-logger-requires
+new-logger-requires g c = record {
+  ready = c.requires.ready;
+  room = c.requires.room;
+  idle = λ off. c.requires.idle;
+  begun = c.requires.begun;
+  small = c.requires.small;
+}
+
 pub invariant_of-result : goal.invariant_of-result
 invariant_of-result g c =
-    let client = c.args.engine.client in record {
+    let client = c.args.engine.client in rw c.new-logger.ensures (record {
       seated = record {
         speaks = ap (are_calls_for client) c.requires.fresh;
         caller = c.requires.caller;
@@ -22,4 +31,4 @@ invariant_of-result g c =
       };
       reasons = rw c.of-first.ensures (c.requires.reasons _);
       names = λ none. rw c.of-first.ensures (idle_names _ _ _ c.requires.idle (ap (λ (es : List EngineEntry). member_turns client es) c.requires.fresh));
-    }
+    })

@@ -1,26 +1,23 @@
-use Rattle.std.specs.Prelude.{◌≡◌, map, refl}
+use Rattle.std.specs.Prelude.{◌≡◌, refl}
 use Rattle.std.proofs.Common.{subst}
 use Rattle.loggers.specs.OtherFiles.{specs_in}
-use Rattle.daq_members.specs.LoggerSeats.{LoggerSeen, IsSameLogger, logger_seen}
-use Rattle.daq_members.proofs.LoggerSeatLaws.{known_before, caller_kept, begun_mapped, begun_read}
+use Rattle.daq_members.specs.LoggerSeats.{LoggerSeen, IsSameLogger, logger_at}
+use Rattle.daq_members.proofs.LoggerSeatLaws.{known_before, caller_kept}
 use Rattle.daq_members.proofs.OtherFilesKept.{LoggerLeaves, specs_stay, others_kept}
 use Rattle.daq_members.proofs.LoggerReasons.{ReasonLaws, reasons_kept}
 use Rattle.daq_members.proofs.LoggerNames.{NameLaws, names_stay}
 use Rattle.daq_members.proofs.logger_member.LoggerMember.turn.Goals as goal
 
-pub take_turn-requires-clause-begun : goal.take_turn-requires-clause-begun
-take_turn-requires-clause-begun g c = begun_read g.P.BufferPort.access c.self.inside.ports _ c.self.invariant.seated.begun
-
 pub returns-clause-same : goal.returns-clause-same
 returns-clause-same g c =
     let laws : LoggerLeaves = record { turns = c.other_files.ensures.turns; pulls = c.other_files.ensures.pulls; finishes = c.other_files.ensures.finishes } in
-    let stay : specs_in c.take_turn.new.logger.channels ≡ specs_in c.self.inside.logger.channels = specs_stay laws _ c.take_turn.ensures.takes c.self.invariant.seated.ready in
-    let later : LoggerSeen _ = logger_seen c.take_turn.new.engine c.take_turn.new.logger (map g.P.BufferPort.access c.take_turn.new.ports) c.take_turn.new.files c.self.inside.first.value in
+    let stay : specs_in c.take_turn-turned.new.logger.slots ≡ specs_in c.self.inside.logger.slots = specs_stay laws _ c.take_turn-turned.ensures.takes c.self.invariant.seated.ready in
+    let later : LoggerSeen _ = logger_at c.take_turn-turned.new.engine c.take_turn-turned.new.logger c.self.inside.first.value in
     subst (λ (before : LoggerSeen _). IsSameLogger before later) c.self.view_is
     (record {
-      engine = c.take_turn.ensures.engine;
-      client = c.take_turn.ensures.client;
-      ports = c.take_turn.ensures.same;
+      engine = c.take_turn-turned.ensures.engine;
+      client = c.take_turn-turned.ensures.client;
+      ports = c.take_turn-turned.ensures.same;
       specs = stay;
       first = refl;
     })
@@ -28,7 +25,8 @@ returns-clause-same g c =
 pub invariant_of-self : goal.invariant_of-self
 invariant_of-self g c =
     let before = c.self.invariant.seated in
-    let did = c.take_turn.ensures in
+    let did = c.take_turn-turned.ensures in
+    let now = c.is_ready.ensures in
     let laws : LoggerLeaves = record { turns = c.other_files.ensures.turns; pulls = c.other_files.ensures.pulls; finishes = c.other_files.ensures.finishes } in
     let names : NameLaws = record {
       turns = c.names_kept.ensures.turns;
@@ -43,11 +41,11 @@ invariant_of-self g c =
       seated = record {
         speaks = did.speaks;
         caller = rw did.client (caller_kept _ _ _ did.same before.caller);
-        ready = did.ready;
-        room = did.room;
-        idle = did.idle;
-        begun = begun_mapped g.P.BufferPort.access c.take_turn.new.ports _ did.begun;
-        small = did.small;
+        ready = now.ready;
+        room = now.room;
+        idle = now.idle;
+        begun = now.begun;
+        small = now.small;
         stands = λ none. rw did.client (did.keeps none (before.stands (known_before c.still_known.ensures.turns c.still_known.ensures.pulls _ did.takes none)));
         others = λ none.
             let known = known_before c.still_known.ensures.turns c.still_known.ensures.pulls _ did.takes none in

@@ -1,0 +1,30 @@
+use Rattle.std.specs.Prelude.{map}
+use Rattle.std.proofs.Common.{ap, arith}
+use Rattle.loggers.specs.Moments.{files_by}
+use Rattle.daq_members.specs.ConnectedLoggers.{ConnectedSeen, connected, connected_finish}
+use Rattle.daq_members.proofs.LoggerLaws.{finished_small}
+use Rattle.daq_members.proofs.connected_logger.ConnectedLogger.finish.Goals as goal
+
+pub invariant_of-self : goal.invariant_of-self
+invariant_of-self g c =
+    let did = c.finish.ensures in
+    let was = c.self.invariant in
+    let accesses = map g.P.BufferPort.access c.self.inside.ports in
+    let read = files_by g.F.Files.seen g.F.Files.faults g.F.Files.clashes g.F.Files.first in
+    let call = connected_finish read c.finish.result (connected c.self.inside.logger accesses c.self.inside.files) (connected c.finish.new.self accesses c.finish.new.files) in
+    record {
+      ready = did.ready accesses was.ready;
+      room = did.room accesses was.room;
+      idle = did.idle;
+      begun = omega (arith, did.begun, was.begun);
+      small = finished_small call did.finishes was.small;
+    }
+
+pub returns-clause-finishes : goal.returns-clause-finishes
+returns-clause-finishes g c = rw (← c.self.view_is) c.finish.ensures.finishes
+
+pub returns-clause-ports : goal.returns-clause-ports
+returns-clause-ports g c = ap (λ (logger : ConnectedSeen _). logger.ports) c.self.view_is
+
+pub returns-clause-keeps : goal.returns-clause-keeps
+returns-clause-keeps g c = rw (← c.self.view_is) c.finish.ensures.keeps

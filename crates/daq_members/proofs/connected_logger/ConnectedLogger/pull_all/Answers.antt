@@ -1,0 +1,19 @@
+use Rattle.std.proofs.Common.{refl, arith}
+use Rattle.loggers.specs.Moments.{RunFiles, files_by}
+use Rattle.daq_members.specs.ConnectedLoggers.{moment_at}
+use Rattle.daq_members.proofs.LoggerLaws.{pulls_more, stays_at_none, stays_then}
+use Rattle.daq_members.proofs.connected_logger.ConnectedLogger.pull_all.Goals as goal
+
+pub loop-channel-init : goal.loop-channel-init
+loop-channel-init g c = record { pulls = (refl, refl); within = omega arith; stays = stays_at_none g.F.Files.seen c.args.self.now }
+
+pub loop-channel-preserved : goal.loop-channel-preserved
+loop-channel-preserved g c =
+    let read = files_by g.F.Files.seen g.F.Files.faults g.F.Files.clashes g.F.Files.first in
+    let at = c.loop-channel in
+    let did = c.pull_one-pulled in
+    record {
+      pulls = pulls_more at.channel at.got c.or_pulled-got.result did.result (moment_at read c.args.self.now) (moment_at read at.self) (moment_at read did.new.self) at.invariant.pulls did.ensures.pulls c.or_pulled-got.ensures;
+      within = omega arith;
+      stays = stays_then g.F.Files.seen c.args.self.now at.self did.new.self at.invariant.stays did.ensures.stays;
+    }

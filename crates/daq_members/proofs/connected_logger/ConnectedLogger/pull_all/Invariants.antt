@@ -1,0 +1,15 @@
+-- So far each channel below the number pulled once.
+use Rattle.std.specs.Prelude.{◌≤◌}
+use Rattle.loggers.specs.Moments.{files_by}
+use Rattle.daq_members.specs.LoggerTaken.{PullsBelow}
+use Rattle.daq_members.specs.ConnectedLoggers.{StaysAtPulls, moment_at}
+use Rattle.daq_members.proofs.connected_logger.ConnectedLogger.pull_all.Given as goal
+
+abbrev pub invariant-loop-channel : goal.invariant-loop-channel
+invariant-loop-channel g l = record {
+  pulls : PullsBelow l.channel l.got
+      (moment_at (files_by g.F.Files.seen g.F.Files.faults g.F.Files.clashes g.F.Files.first) l.initial.self)
+      (moment_at (files_by g.F.Files.seen g.F.Files.faults g.F.Files.clashes g.F.Files.first) l.self);
+  within : l.channel ≤ 16;
+  stays : StaysAtPulls g.F.Files.seen l.initial.self l.self;
+}
