@@ -19,9 +19,8 @@ use Rattle.session_setup.specs.declared.declared.AnalyzerDeclared.{AnalyzerDecla
 use Rattle.session_setup.specs.declared.declared.DeclaredLists.{DeclaredLists}
 use Rattle.session_setup.specs.declared.declared.FrontDeclared.{FrontDeclared}
 use Rattle.session_objects.specs.declared.objects.SessionObjects.{SessionObjects}
-use Rattle.session_objects.specs.Objects.{first_analyzer}
 use Rattle.session_objects.specs.Calls.{SessionCalls}
-use Rattle.session_objects.specs.Kept.{OutNumbers, out_to, out_to_fronts, out_to_analyzers}
+use Rattle.session_objects.specs.Kept.{out_to, out_to_fronts, out_to_analyzers}
 use Rattle.session_objects.specs.Members.{HasMembers, CalledAt, AreCalledAt, listed_calls, session_calls, front_calls, analyzer_calls, engine_calls_in, ports_in, IsAnalyzerAt}
 use Rattle.session_objects.specs.Returns.{left_also, left_by}
 use Rattle.session_objects.proofs.ChangeLaws.{some_same, there_below}
@@ -33,13 +32,13 @@ module _ (fronts : List FrontDeclared) (analyzers : List AnalyzerDeclared) (buff
   out_in_front few = rw (le-ltb (length fronts) clients few) refl
 
   -- the front-ends, the logger and so many analyzers
-  pub out_behind : (place : ℕ) → clients ≡ first_analyzer fronts + place → out_to fronts analyzers buffers clients ≡ out_to_analyzers fronts analyzers buffers place
+  pub out_behind : (place : ℕ) → clients ≡ length fronts + 1 + place → out_to fronts analyzers buffers clients ≡ out_to_analyzers fronts analyzers buffers place
   out_behind place is =
       let many : length fronts < clients = omega (arith, is) in
-      let so : clients - first_analyzer fronts ≡ place = omega (arith, is) in
+      let so : clients - (length fronts + 1) ≡ place = omega (arith, is) in
       at_place many ∙ ap (λ (n : ℕ). out_to_analyzers fronts analyzers buffers n) so
     where
-      at_place : length fronts < clients → out_to fronts analyzers buffers clients ≡ out_to_analyzers fronts analyzers buffers (clients - first_analyzer fronts)
+      at_place : length fronts < clients → out_to fronts analyzers buffers clients ≡ out_to_analyzers fronts analyzers buffers (clients - (length fronts + 1))
       at_place many = rw (lt-ltb (length fronts) clients many) refl
 
 -- What stands at a place of a list of all members.
@@ -47,9 +46,9 @@ module _ {F : Type 0} where
   -- a front-end, or one of the others
   front_or_other : (fronts : List (FrontSeen Generator)) (others : List (MemberSeen Generator F)) (n : ℕ) (x : MemberSeen Generator F) → slice_get (map FrontEnd fronts ++ others) n ≡ Some x →
       ((front : FrontSeen Generator) × (slice_get fronts n ≡ Some front) × (FrontEnd front ≡ x)) ⊎ ((k : ℕ) × (n ≡ length fronts + k) × (slice_get others k ≡ Some x))
-  front_or_other [] others n x at = inr (n, refl, at)
+  front_or_other [] others n x at = inr (n, omega arith, at)
   front_or_other (f ∷ fs) others zero x at = inl (f, refl, some_same (FrontEnd f) x at)
-  front_or_other (f ∷ fs) others (suc n) x at = ⊎_elim (λ h. inl (h.0, h.1, h.2)) (λ h. inr (h.0, ap suc h.1, h.2)) (front_or_other fs others n x at)
+  front_or_other (f ∷ fs) others (suc n) x at = ⊎_elim (λ h. inl (h.0, h.1, h.2)) (λ h. let e : n ≡ length fs + h.0 = h.1 in inr (h.0, omega arith, h.2)) (front_or_other fs others n x at)
 
   analyzer_at : (analyzers : List AnalyzerSeen) (n : ℕ) (x : MemberSeen Generator F) → slice_get (map Analyzer analyzers) n ≡ Some x →
       (analyzer : AnalyzerSeen) × (slice_get analyzers n ≡ Some analyzer) × (Analyzer analyzer ≡ x)
@@ -86,7 +85,7 @@ listed_of {F} engine database members crew is =
 
 module _ {D F : Type 0} (lists : DeclaredLists) (objects : SessionObjects) (shared : SharedOdb D) (members : List (MemberSeen Generator F)) (has : HasMembers lists objects shared members) where
   -- how many they are
-  pub listed_count : length members ≡ first_analyzer lists.fronts + length lists.analyzers
+  pub listed_count : length members ≡ length lists.fronts + 1 + length lists.analyzers
   listed_count =
       let all : length members ≡ length (map FrontEnd has.crew.fronts) + length (Logger has.crew.logger ∷ map Analyzer has.crew.analyzers) =
       ap length has.laid ∙ length-append (map FrontEnd has.crew.fronts) (Logger has.crew.logger ∷ map Analyzer has.crew.analyzers) in
@@ -117,13 +116,13 @@ module _ {D F : Type 0} (lists : DeclaredLists) (objects : SessionObjects) (shar
     logger_called : (n : ℕ) → n ≡ length lists.fronts → Called n (Logger has.crew.logger)
     logger_called n is = (is, has.are.logger, engine_called, ports_called)
 
-    analyzer_called : (n place : ℕ) (analyzer : AnalyzerSeen) → n ≡ first_analyzer lists.fronts + place → slice_get has.crew.analyzers place ≡ Some analyzer → Called n (Analyzer analyzer)
+    analyzer_called : (n place : ℕ) (analyzer : AnalyzerSeen) → n ≡ length lists.fronts + 1 + place → slice_get has.crew.analyzers place ≡ Some analyzer → Called n (Analyzer analyzer)
     analyzer_called n place analyzer is at =
         let l : place < length has.crew.analyzers = slice_get_within has.crew.analyzers place analyzer at in
         let many : length has.crew.analyzers ≡ length lists.analyzers = has.are.analyzers_are.many in
         let d = there_below lists.analyzers place (omega arith) in
-        let so : place ≡ n - first_analyzer lists.fronts = omega (arith, is) in
-        let P : ℕ → Type 0 = λ k. IsAnalyzerAt objects (first_analyzer lists.fronts) lists.analyzers k analyzer in
+        let so : place ≡ n - (length lists.fronts + 1) = omega (arith, is) in
+        let P : ℕ → Type 0 = λ k. IsAnalyzerAt objects (length lists.fronts + 1) lists.analyzers k analyzer in
         let Q : ℕ → Type 0 = λ k. slice_get calls.analyzers k ≡ Some (analyzer_calls analyzer) in (
           omega (arith, is),
           subst P so (record { wanted = d.0; has_wanted = d.1; is = has.are.analyzers_are.each place d.0 analyzer d.1 at }),

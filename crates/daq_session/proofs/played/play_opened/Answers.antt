@@ -4,7 +4,6 @@ use Rattle.turn_lock.specs.Passes.{IsOf, number_of, seen_by}
 use Rattle.transition_lock.specs.SharedEngines.{engine_lock_of}
 use Rattle.transition_lock.specs.declared.shared.SharedEngine.{SharedEngine}
 use Rattle.session_objects.specs.Members.{HasMembers}
-use Rattle.session_objects.specs.Objects.{first_analyzer}
 use Rattle.session_objects.proofs.ListedLaws.{listed_count}
 use Rattle.session_commands.specs.Endings.{NotesFailed}
 use Rattle.session_commands.specs.Finishing.{side_told, stage_open}
@@ -17,7 +16,7 @@ play_main-end-requires-clause-some g c =
     let places = c.args.places.now in
     let new = c.requires.members.1 in
     let has : HasMembers places.lists.now places.objects.now places.shared.now c.args.members = record { crew = new.crew; laid = new.laid; are = new.are } in
-    let count : length c.args.members ≡ first_analyzer places.lists.now.fronts + length places.lists.now.analyzers = listed_count places.lists.now places.objects.now places.shared.now c.args.members has in
+    let count : length c.args.members ≡ length places.lists.now.fronts + 1 + length places.lists.now.analyzers = listed_count places.lists.now places.objects.now places.shared.now c.args.members has in
     omega (arith, count)
 
 pub play_main-end-requires-clause-few : goal.play_main-end-requires-clause-few
@@ -25,7 +24,7 @@ play_main-end-requires-clause-few g c =
     let places = c.args.places.now in
     let new = c.requires.members.1 in
     let has : HasMembers places.lists.now places.objects.now places.shared.now c.args.members = record { crew = new.crew; laid = new.laid; are = new.are } in
-    let count : length c.args.members ≡ first_analyzer places.lists.now.fronts + length places.lists.now.analyzers = listed_count places.lists.now places.objects.now places.shared.now c.args.members has in
+    let count : length c.args.members ≡ length places.lists.now.fronts + 1 + length places.lists.now.analyzers = listed_count places.lists.now places.objects.now places.shared.now c.args.members has in
     omega (arith, count, c.requires.suit.few, c.requires.suit.few_analyzers)
 
 pub take_back-passes-requires-clause-callers : goal.take_back-passes-requires-clause-callers

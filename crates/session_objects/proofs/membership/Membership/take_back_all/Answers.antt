@@ -10,7 +10,6 @@ use Rattle.daq_members.specs.LoggerSeats.{LoggerSeen}
 use Rattle.session_objects.specs.Calls.{SessionCalls, told_of_engine, told_of_database}
 use Rattle.session_objects.specs.Kept.{OutNumbers}
 use Rattle.session_objects.specs.Members.{front_calls, session_calls}
-use Rattle.session_objects.specs.Objects.{first_analyzer}
 use Rattle.session_objects.specs.Records.{HasCallsBut}
 use Rattle.session_objects.specs.Returns.{left_by}
 use Rattle.session_objects.proofs.ListedLaws.{all_called, listed_count, listed_logger, listed_of, out_behind, out_in_front}
@@ -29,7 +28,7 @@ take_back_members-requires g c =
     let calls : g.calls ≡ session_calls (own_entries c.args.main_engine) (seen_by c.args.main_database) has.crew.fronts has.crew.logger has.crew.analyzers =
     c.requires.1.1.0 ∙ listed_of (own_entries c.args.main_engine) (seen_by c.args.main_database) c.args.members has.crew has.laid in
     let many : length g.calls.fronts ≡ length fronts = ap (λ (k : SessionCalls). length k.fronts) calls ∙ length-map has.crew.fronts front_calls ∙ has.are.fronts_are.many in
-    let count : length c.args.members ≡ first_analyzer fronts + length analyzers = listed_count m.lists.now m.objects.now m.database.now c.args.members has in
+    let count : length c.args.members ≡ length fronts + 1 + length analyzers = listed_count m.lists.now m.objects.now m.database.now c.args.members has in
     let O : OutNumbers → Type 0 = λ out. HasCallsBut out fronts analyzers g.calls m.objects.now m.database.now c.args.passes in
     λ κs bounds. (
       bounds.0,

@@ -1,16 +1,14 @@
-use Rattle.std.proofs.Common.{◌≡◌, ◌∙◌, ◌<◌, ◌+◌, ◌-◌, ℕ, length, ap, sym, subst, refl, arith}
-use Rattle.std.specs.Prelude.{Some}
+use Rattle.std.proofs.Common.{◌≡◌, ◌∙◌, ◌<◌, ◌≤◌, ◌+◌, ◌-◌, ℕ, length, ap, sym, subst, refl, arith}
+use Rattle.std.specs.Prelude.{slice_get, Some}
 use Rattle.std.proofs.lemmas.Option.{slice_get_within}
 use Rattle.frontend_kit.specs.declared.generator.Generator.{Generator}
 use Rattle.daq_members.specs.Members.{MemberSeen, FrontEnd, Logger, Analyzer}
-use Rattle.session_objects.specs.Kept.{OutNumbers, out_to, out_to_analyzers}
-use Rattle.session_objects.specs.Objects.{first_analyzer}
+use Rattle.session_objects.specs.Kept.{OutNumbers, out_to}
 use Rattle.session_objects.specs.Members.{CalledAt, IsAnalyzerAt, analyzer_calls}
 use Rattle.session_objects.specs.Records.{HasCallsBut}
 use Rattle.session_objects.specs.Returns.{left_also}
 use Rattle.session_objects.proofs.ListedLaws.{out_in_front, out_behind}
 use Rattle.session_objects.proofs.ReturnLaws.{analyzers_back}
-use Rattle.std.specs.Prelude.{slice_get}
 use Rattle.session_objects.proofs.membership.Membership.take_back_member.Goals as goal
 
 pub take_back_front-requires : goal.take_back_front-requires
@@ -81,10 +79,11 @@ take_back_analyzer-requires g c =
     let buffers : ℕ = length m.objects.now.buffers.items in
     let P : MemberSeen Generator _ → Type 0 = λ x. CalledAt m.lists.now m.objects.now m.database.now g.calls c.args.client x in
     let called : CalledAt m.lists.now m.objects.now m.database.now g.calls c.args.client (Analyzer c.in-Analyzer.analyzer) = subst P (sym c.in-Analyzer.ensures.kind) c.requires.1.1.0 in
-    let place : ℕ = c.args.client - c.len.result - 1 in
-    let so : c.args.client - first_analyzer fronts ≡ place = omega (arith, called.0, c.len.ensures) in
+    let low : length fronts + 1 ≤ c.args.client = called.0 in
+    let len : c.len.result ≡ length fronts = c.len.ensures in
+    let so : c.args.client - (length fronts + 1) ≡ c.args.client - c.len.result - 1 = omega arith in
     let O : OutNumbers → Type 0 = λ out. HasCallsBut out fronts m.lists.now.analyzers g.calls m.objects.now m.database.now c.args.passes.now in
-    let A : ℕ → Type 0 = λ n. IsAnalyzerAt m.objects.now (first_analyzer fronts) m.lists.now.analyzers n c.in-Analyzer.analyzer in
+    let A : ℕ → Type 0 = λ n. IsAnalyzerAt m.objects.now (length fronts + 1) m.lists.now.analyzers n c.in-Analyzer.analyzer in
     let C : ℕ → Type 0 = λ n. slice_get g.calls.analyzers n ≡ Some (analyzer_calls c.in-Analyzer.analyzer) in
     λ κs lives. (
       lives,
@@ -94,7 +93,7 @@ take_back_analyzer-requires g c =
           subst C so called.2,
           (
             c.requires.1.1.1.0,
-            subst O (out_behind fronts m.lists.now.analyzers buffers (c.args.client + 1) (place + 1) (omega (arith, called.0, c.len.ensures))) c.requires.1.1.1.1,
+            subst O (out_behind fronts m.lists.now.analyzers buffers (c.args.client + 1) (c.args.client - c.len.result - 1 + 1) (omega arith)) c.requires.1.1.1.1,
           ),
         ),
       ),
@@ -109,5 +108,7 @@ returns-clause-out g c =
     let fronts = m.lists.now.fronts in
     let P : MemberSeen Generator _ → Type 0 = λ x. CalledAt m.lists.now m.objects.now m.database.now g.calls c.args.client x in
     let called : CalledAt m.lists.now m.objects.now m.database.now g.calls c.args.client (Analyzer c.in-Analyzer.analyzer) = subst P (sym c.in-Analyzer.ensures.kind) c.requires.1.1.0 in
+    let low : length fronts + 1 ≤ c.args.client = called.0 in
+    let len : c.len.result ≡ length fronts = c.len.ensures in
     let O : OutNumbers → Type 0 = λ out. HasCallsBut out fronts m.lists.now.analyzers g.calls m.objects.now m.database.now c.take_back_analyzer.new.passes in
-    subst O (sym (out_behind fronts m.lists.now.analyzers (length m.objects.now.buffers.items) c.args.client (c.args.client - c.len.result - 1) (omega (arith, called.0, c.len.ensures)))) c.take_back_analyzer.ensures
+    subst O (sym (out_behind fronts m.lists.now.analyzers (length m.objects.now.buffers.items) c.args.client (c.args.client - c.len.result - 1) (omega arith))) c.take_back_analyzer.ensures
