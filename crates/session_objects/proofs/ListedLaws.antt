@@ -21,7 +21,7 @@ use Rattle.session_setup.specs.declared.declared.FrontDeclared.{FrontDeclared}
 use Rattle.session_objects.specs.declared.objects.SessionObjects.{SessionObjects}
 use Rattle.session_objects.specs.Calls.{SessionCalls}
 use Rattle.session_objects.specs.Kept.{out_to, out_to_fronts, out_to_analyzers}
-use Rattle.session_objects.specs.Members.{HasMembers, CalledAt, AreCalledAt, listed_calls, session_calls, front_calls, analyzer_calls, engine_calls_in, ports_in, IsAnalyzerAt}
+use Rattle.session_objects.specs.Members.{HasMembers, CalledAt, AreCalledAt, listed_calls, session_calls, front_calls, analyzer_calls, engine_calls_in, ports_in, IsAnalyzerAt, IsFrontAt}
 use Rattle.session_objects.specs.Returns.{left_also, left_by}
 use Rattle.session_objects.proofs.ChangeLaws.{some_same, there_below}
 
@@ -87,10 +87,10 @@ module _ {D F : Type 0} (lists : DeclaredLists) (objects : SessionObjects) (shar
   -- how many they are
   pub listed_count : length members ≡ length lists.fronts + 1 + length lists.analyzers
   listed_count =
-      let all : length members ≡ length (map FrontEnd has.crew.fronts) + length (Logger has.crew.logger ∷ map Analyzer has.crew.analyzers) =
+      let all : length members ≡ length {A = MemberSeen Generator F} (map FrontEnd has.crew.fronts) + length {A = MemberSeen Generator F} (Logger has.crew.logger ∷ map Analyzer has.crew.analyzers) =
       ap length has.laid ∙ length-append (map FrontEnd has.crew.fronts) (Logger has.crew.logger ∷ map Analyzer has.crew.analyzers) in
-      let first : length (map FrontEnd has.crew.fronts) ≡ length has.crew.fronts = length-map has.crew.fronts FrontEnd in
-      let last : length (map Analyzer has.crew.analyzers) ≡ length has.crew.analyzers = length-map has.crew.analyzers Analyzer in
+      let first : length {A = MemberSeen Generator F} (map FrontEnd has.crew.fronts) ≡ length has.crew.fronts = length-map has.crew.fronts FrontEnd in
+      let last : length {A = MemberSeen Generator F} (map Analyzer has.crew.analyzers) ≡ length has.crew.analyzers = length-map has.crew.analyzers Analyzer in
       let fronts : length has.crew.fronts ≡ length lists.fronts = has.are.fronts_are.many in
       let analyzers : length has.crew.analyzers ≡ length lists.analyzers = has.are.analyzers_are.many in
       omega (arith, all, first, last, fronts, analyzers)
@@ -143,3 +143,14 @@ module _ {D F : Type 0} (lists : DeclaredLists) (objects : SessionObjects) (shar
         (λ h. subst (λ (m : MemberSeen Generator F). Called n m) h.2 (front_called n h.0 h.1))
         (λ h. other_called n h.0 x h.1 h.2)
         (front_or_other has.crew.fronts (Logger has.crew.logger ∷ map Analyzer has.crew.analyzers) n x (ap (λ (ms : List (MemberSeen Generator F)). slice_get ms n) (sym has.laid) ∙ at))
+
+-- What a member of a kind called.
+module _ {D F : Type 0} (lists : DeclaredLists) (objects : SessionObjects) (shared : SharedOdb D) (calls : SessionCalls) (client : ℕ) (member : MemberSeen Generator F)
+    (called : CalledAt lists objects shared calls client member) where
+  pub called_front : (front : FrontSeen Generator) → FrontEnd front ≡ member → IsFrontAt objects shared lists.fronts client front × (slice_get calls.fronts client ≡ Some (front_calls front))
+  called_front front is = subst (λ (x : MemberSeen Generator F). CalledAt lists objects shared calls client x) (sym is) called
+
+  pub called_analyzer : (analyzer : AnalyzerSeen) → Analyzer analyzer ≡ member → (length lists.fronts + 1 ≤ client)
+      × IsAnalyzerAt objects (length lists.fronts + 1) lists.analyzers (client - (length lists.fronts + 1)) analyzer
+      × (slice_get calls.analyzers (client - (length lists.fronts + 1)) ≡ Some (analyzer_calls analyzer))
+  called_analyzer analyzer is = subst (λ (x : MemberSeen Generator F). CalledAt lists objects shared calls client x) (sym is) called

@@ -2,12 +2,12 @@ use Rattle.std.proofs.Common.{◌≡◌, ◌∙◌, ◌<◌, ◌≤◌, ◌+◌,
 use Rattle.std.specs.Prelude.{slice_get, Some}
 use Rattle.std.proofs.lemmas.Option.{slice_get_within}
 use Rattle.frontend_kit.specs.declared.generator.Generator.{Generator}
-use Rattle.daq_members.specs.Members.{MemberSeen, FrontEnd, Logger, Analyzer}
+use Rattle.daq_members.specs.Members.{MemberSeen, Logger}
 use Rattle.session_objects.specs.Kept.{OutNumbers, out_to}
 use Rattle.session_objects.specs.Members.{CalledAt, IsAnalyzerAt, analyzer_calls}
 use Rattle.session_objects.specs.Records.{HasCallsBut}
 use Rattle.session_objects.specs.Returns.{left_also}
-use Rattle.session_objects.proofs.ListedLaws.{out_in_front, out_behind}
+use Rattle.session_objects.proofs.ListedLaws.{called_analyzer, called_front, out_in_front, out_behind}
 use Rattle.session_objects.proofs.ReturnLaws.{analyzers_back}
 use Rattle.session_objects.proofs.membership.Membership.take_back_member.Goals as goal
 
@@ -15,8 +15,7 @@ pub take_back_front-requires : goal.take_back_front-requires
 take_back_front-requires g c =
     let m = c.args.self.now in
     let fronts = m.lists.now.fronts in
-    let P : MemberSeen Generator _ → Type 0 = λ x. CalledAt m.lists.now m.objects.now m.database.now g.calls c.args.client x in
-    let called : CalledAt m.lists.now m.objects.now m.database.now g.calls c.args.client (FrontEnd c.in-FrontEnd.front) = subst P (sym c.in-FrontEnd.ensures.kind) c.requires.1.1.0 in
+    let called = called_front m.lists.now m.objects.now m.database.now g.calls c.args.client c.args.member c.requires.1.1.0 c.in-FrontEnd.front c.in-FrontEnd.ensures.kind in
     let l : c.args.client < length fronts = slice_get_within fronts c.args.client called.0.wanted called.0.has_wanted in
     let O : OutNumbers → Type 0 = λ out. HasCallsBut out fronts m.lists.now.analyzers g.calls m.objects.now m.database.now c.args.passes.now in
     λ κs lives. (lives, (called.0, (called.1, subst O (out_in_front fronts m.lists.now.analyzers (length m.objects.now.buffers.items) (c.args.client + 1) (omega arith)) c.requires.1.1.1.1)))
@@ -28,8 +27,7 @@ pub returns-in-FrontEnd-clause-out : goal.returns-in-FrontEnd-clause-out
 returns-in-FrontEnd-clause-out g c =
     let m = c.args.self.now in
     let fronts = m.lists.now.fronts in
-    let P : MemberSeen Generator _ → Type 0 = λ x. CalledAt m.lists.now m.objects.now m.database.now g.calls c.args.client x in
-    let called : CalledAt m.lists.now m.objects.now m.database.now g.calls c.args.client (FrontEnd c.in-FrontEnd.front) = subst P (sym c.in-FrontEnd.ensures.kind) c.requires.1.1.0 in
+    let called = called_front m.lists.now m.objects.now m.database.now g.calls c.args.client c.args.member c.requires.1.1.0 c.in-FrontEnd.front c.in-FrontEnd.ensures.kind in
     let l : c.args.client < length fronts = slice_get_within fronts c.args.client called.0.wanted called.0.has_wanted in
     let O : OutNumbers → Type 0 = λ out. HasCallsBut out fronts m.lists.now.analyzers g.calls m.objects.now m.database.now c.take_back_front.new.passes in
     subst O (sym (out_in_front fronts m.lists.now.analyzers (length m.objects.now.buffers.items) c.args.client (omega arith))) c.take_back_front.ensures
@@ -77,8 +75,7 @@ take_back_analyzer-requires g c =
     let m = c.args.self.now in
     let fronts = m.lists.now.fronts in
     let buffers : ℕ = length m.objects.now.buffers.items in
-    let P : MemberSeen Generator _ → Type 0 = λ x. CalledAt m.lists.now m.objects.now m.database.now g.calls c.args.client x in
-    let called : CalledAt m.lists.now m.objects.now m.database.now g.calls c.args.client (Analyzer c.in-Analyzer.analyzer) = subst P (sym c.in-Analyzer.ensures.kind) c.requires.1.1.0 in
+    let called = called_analyzer m.lists.now m.objects.now m.database.now g.calls c.args.client c.args.member c.requires.1.1.0 c.in-Analyzer.analyzer c.in-Analyzer.ensures.kind in
     let low : length fronts + 1 ≤ c.args.client = called.0 in
     let len : c.len.result ≡ length fronts = c.len.ensures in
     let so : c.args.client - (length fronts + 1) ≡ c.args.client - c.len.result - 1 = omega arith in
@@ -99,15 +96,14 @@ take_back_analyzer-requires g c =
       ),
     )
 
-pub returns-clause-left : goal.returns-clause-left
-returns-clause-left g c = ap (λ (x : MemberSeen Generator _). left_also x c.args.left.now) c.in-Analyzer.ensures.kind
+pub returns-in-Analyzer-clause-left : goal.returns-in-Analyzer-clause-left
+returns-in-Analyzer-clause-left g c = ap (λ (x : MemberSeen Generator _). left_also x c.args.left.now) c.in-Analyzer.ensures.kind
 
-pub returns-clause-out : goal.returns-clause-out
-returns-clause-out g c =
+pub returns-in-Analyzer-clause-out : goal.returns-in-Analyzer-clause-out
+returns-in-Analyzer-clause-out g c =
     let m = c.args.self.now in
     let fronts = m.lists.now.fronts in
-    let P : MemberSeen Generator _ → Type 0 = λ x. CalledAt m.lists.now m.objects.now m.database.now g.calls c.args.client x in
-    let called : CalledAt m.lists.now m.objects.now m.database.now g.calls c.args.client (Analyzer c.in-Analyzer.analyzer) = subst P (sym c.in-Analyzer.ensures.kind) c.requires.1.1.0 in
+    let called = called_analyzer m.lists.now m.objects.now m.database.now g.calls c.args.client c.args.member c.requires.1.1.0 c.in-Analyzer.analyzer c.in-Analyzer.ensures.kind in
     let low : length fronts + 1 ≤ c.args.client = called.0 in
     let len : c.len.result ≡ length fronts = c.len.ensures in
     let O : OutNumbers → Type 0 = λ out. HasCallsBut out fronts m.lists.now.analyzers g.calls m.objects.now m.database.now c.take_back_analyzer.new.passes in
