@@ -15,8 +15,8 @@ use Rattle.session_objects.proofs.membership.Membership.seat_front.Goals as goal
 
 pub new-requires-2 : goal.new-requires-2
 new-requires-2 g c =
-    let d : FrontDeclared = c.declared_front.result.now in
-    let at : slice_get c.args.self.now.lists.now.fronts c.args.client ≡ Some d = c.declared_front.ensures in
+    let d : FrontDeclared = c.declared_front-front.result.now in
+    let at : slice_get c.args.self.now.lists.now.fronts c.args.client ≡ Some d = c.declared_front-front.ensures in
     let P : Generator → Type 0 = λ e. IsFrontId e.id in subst P (sym c.generator_of.ensures) (c.requires.ids c.args.client d at)
 
 pub new-requires-3 : goal.new-requires-3
@@ -35,8 +35,8 @@ new-requires-3 g c =
 
 pub returns-clause-front : goal.returns-clause-front
 returns-clause-front g c =
-    let d : FrontDeclared = c.declared_front.result.now in
-    let at : slice_get c.args.self.now.lists.now.fronts c.args.client ≡ Some d = c.declared_front.ensures in
+    let d : FrontDeclared = c.declared_front-front.result.now in
+    let at : slice_get c.args.self.now.lists.now.fronts c.args.client ≡ Some d = c.declared_front-front.ensures in
     let made = c.in_ok-front.ensures in
     let place = c.place_front-engine.ensures in
     let same : place.port.wanted ≡ d = some_same place.port.wanted d (sym place.port.has_wanted ∙ at) in record {
