@@ -1,6 +1,6 @@
 -- The members of a session by their kinds, and all in one list.
-use Rattle.std.specs.Prelude.{◌≡◌, ℕ, zero, suc, List, [], ◌∷◌, ◌++◌, map, slice_get, Option, Some, All, refl}
-use Rattle.std.specs.List.{AllZip, AllByRecursion}
+use Rattle.std.specs.Prelude.{◌≡◌, ℕ, zero, suc, List, [], ◌∷◌, ◌++◌, map, slice_get, Some, All, refl}
+use Rattle.std.specs.List.{AllByRecursion}
 use Rattle.std.proofs.Common.{ap, sym, subst, ◌∙◌, append-nil}
 use Rattle.std.proofs.lemmas.List.Elements.{length_all_zip, recursion_from_All}
 use Rattle.daq_members.specs.FrontSeats.{FrontSeen, IsSameFront}
@@ -8,7 +8,7 @@ use Rattle.daq_members.specs.LoggerSeats.{LoggerSeen}
 use Rattle.daq_members.specs.SeatedAnalyzers.{AnalyzerSeen, IsSameAnalyzer}
 use Rattle.daq_members.specs.Members.{MemberSeen, MemberTold, FrontEnd, Logger, Analyzer, KeepsContract, TurnsMember}
 use Rattle.daq_members.specs.Stay.{laid, StillLaid, MembersStay}
-use Rattle.daq_members.specs.Crews.{CrewSeen, crew_seen, fronts_in, logger_in, analyzers_in, members_of, KeepContracts, StaysCrew, CrewsStay, StaysListed}
+use Rattle.daq_members.specs.Crews.{CrewSeen, crew_seen, fronts_in, logger_in, analyzers_in, members_of, KeepContracts, CrewsStay, StaysListed}
 use Rattle.member_crew.specs.Turns.{CameBack}
 use Rattle.member_crew.proofs.ListLaws.{zip_at}
 

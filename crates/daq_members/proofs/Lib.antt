@@ -15,5 +15,5 @@ pub mod AnalyzerSeatLaws
 pub mod CrewLaws
 pub mod StayLaws
 pub mod MovedLaws
-pub mod LoggerSend
+pub mod KindSends
 pub mod SendLaws

@@ -13,7 +13,7 @@ use Rattle.member_model.specs.RunEngines.{Answer, Polled, EngineEntry}
 use Rattle.transitions.specs.declared.entry.EngineEntry.TheVariants.{Poll, Answer as Answers}
 use Rattle.member_model.specs.Turns.{MemberTurn, HasAnswer, NoneOpen, latest_answered}
 use Rattle.member_model.specs.TurnCalls.{turn_told, turn_answered, turns_with, member_turns}
-use Rattle.daq_members.specs.OwnTurns.{start_unanswered, open_start, start_owed, owed_by, is_call_for, are_calls_for, GivesAnswer}
+use Rattle.daq_members.specs.OwnTurns.{start_unanswered, open_start, start_owed, owed_by, is_call_for, are_calls_for, GivesAnswer, AnswersLast}
 
 -- One call more.
 
@@ -178,3 +178,8 @@ closed_turns client calls = member_turns-push client calls (Poll client Closed)
 
 pub unknown_turns : (client : ℕ) (calls : List EngineEntry) → member_turns client (calls ++ Poll client NoClient ∷ []) ≡ member_turns client calls
 unknown_turns client calls = member_turns-push client calls (Poll client NoClient)
+
+-- what is last in a turn is so by whatever is seen of the things beside the engine
+pub last_seen : {X Y : Type 0} (see : X → Y) (answer : Option Answer) (stood now : X) → AnswersLast answer stood now → AnswersLast answer (see stood) (see now)
+last_seen see None stood now last = tt
+last_seen see (Some answer) stood now last = ap see last

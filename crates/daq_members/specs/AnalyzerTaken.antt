@@ -16,12 +16,12 @@ use Rattle.analyzers.specs.AnalyzerPulls.{PullsBy}
 use Rattle.analyzers.specs.AnalyzerKept.{AnalyzerStands, AnalyzerTells, KeepsAnalyzer}
 use Rattle.member_crew.specs.declared.turned.Turned.{Turned}
 use Rattle.member_crew.specs.declared.turned.Turned.TheVariants.{Worked, Idle, Ended}
-use Rattle.daq_members.specs.OwnTurns.{start_owed, asked_so, GivesAnswer}
+use Rattle.daq_members.specs.OwnTurns.{start_owed, asked_so, GivesAnswer, AnswersLast}
 use Rattle.daq_members.specs.FrontTaken.{turned_by}
 use Rattle.daq_members.specs.BareTurns.{AreBare}
 
 -- A turn of an analyzer: its client number; its calls on the engine, the analyzer, and its access to its buffer, before and
--- behind; and what it came to.
+-- behind; its access to the buffer as it stood when it answered last; and what it came to.
 pub record AnalyzerTaken : Type 0 where
   pub client : ℕ
   pub calls : List EngineEntry
@@ -30,6 +30,7 @@ pub record AnalyzerTaken : Type 0 where
   pub later : AnalyzerState
   pub port : Access
   pub later_port : Access
+  pub stood : Access
   pub turned : Turned
 
 -- the pull got an event
@@ -61,13 +62,14 @@ pub record WorksAnalyzer (t : AnalyzerTaken) (reply : Polled) : Type 0 where
   pub pulls : PullsAnalyzer t.analyzer t.later t.port t.later_port pulled
   pub turned_is : t.turned ≡ turned_by (has_got pulled)
 
--- The analyzer is given a turn: it takes it, and gives the answer, if there is one yet.
+-- The analyzer is given a turn: it takes it, and then gives the answer, if there is one yet.
 pub record TakesAnalyzerTurn (t : AnalyzerTaken) (transition : Transition) (order : Order) (blank : Option Totals)
     (reply : Polled) : Type 0 where
   pub answer : Option Answer
   pub turns : TurnsBy transition t.analyzer.wanted order blank (analyzer_at t.analyzer t.port)
       (analyzer_at t.later t.later_port) answer
   pub gives : GivesAnswer t.client answer (asked_so t.client t.calls reply) t.later_calls
+  pub last : AnswersLast answer t.stood t.later_port
   pub turned_is : t.turned ≡ Worked
 
 -- The analyzer has yet to answer its turn: it pulls once; and where it can tell then what it counted, it gives that as the
@@ -79,6 +81,7 @@ pub record FinishesAnalyzer (t : AnalyzerTaken) (reply : Polled) : Type 0 where
   pub answer : Option Answer
   pub answer_is : answer ≡ report_answer reading.run
   pub gives : GivesAnswer t.client answer (asked_so t.client t.calls reply) t.later_calls
+  pub last : AnswersLast answer t.stood t.later_port
   pub later : t.later ≡ record reading { run = run_reported reading.run answer }
   pub turned_is : t.turned ≡ turned_by (is_some answer || has_got pulled)
 

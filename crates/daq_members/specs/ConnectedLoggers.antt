@@ -16,7 +16,7 @@ use Rattle.loggers.specs.Turning.{LoggerTurn, IsIdleOutside, buffers_begun}
 use Rattle.loggers.specs.Finishing.{LoggerFinish}
 use Rattle.loggers.specs.LoggerStands.{LoggerStands}
 use Rattle.member_crew.specs.declared.turned.Turned.{Turned}
-use Rattle.daq_members.specs.EngineClients.{EngineClientSeen}
+use Rattle.daq_members.specs.EngineClients.{MemberClientSeen}
 use Rattle.daq_members.specs.LoggerTaken.{LoggerTaken}
 
 -- A logger connected to its buffers and the run files: its run, the dump of the stop that it has not answered, its channels, its
@@ -95,7 +95,7 @@ connected_finish read answer before after = record {
 }
 
 -- a turn of the member, with its client at the engine, and what it came to
-abbrev pub connected_taken : {F : Type 0} → (read : F → RunFiles) → (engine later_engine : EngineClientSeen) →
+abbrev pub connected_taken : {F : Type 0} → (read : F → RunFiles) → (engine later_engine : MemberClientSeen (ConnectedSeen F)) →
     (before after : ConnectedSeen F) → Turned → LoggerTaken
 connected_taken read engine later_engine before after turned = record {
   client = engine.client;
@@ -107,5 +107,6 @@ connected_taken read engine later_engine before after turned = record {
   later_stop_dump = after.stop_dump;
   before = moment_at read before;
   after = moment_at read after;
+  stood = moment_at read later_engine.stood;
   turned = turned;
 }

@@ -8,3 +8,19 @@ pub record EngineClientSeen : Type 0 where
   pub engine : SharedEngine
   pub client : ℕ
   pub calls : List EngineEntry
+
+-- A member's client: the same, and what the member calls by besides the engine, as that stood when the member answered last.
+pub record MemberClientSeen (X : Type 0) : Type 0 where
+  pub engine : SharedEngine
+  pub client : ℕ
+  pub calls : List EngineEntry
+  pub stood : X
+
+-- this client for a member that gave no answer yet, with what it calls by besides the engine
+abbrev pub at_first : {X : Type 0} → EngineClientSeen → (beside : X) → MemberClientSeen X
+at_first client beside = record {
+  engine = client.engine;
+  client = client.client;
+  calls = client.calls;
+  stood = beside;
+}

@@ -12,11 +12,11 @@ use Rattle.front_ends.specs.Fronts.{FrontState}
 use Rattle.loggers.specs.Moments.{IsSameAccess}
 use Rattle.member_crew.specs.declared.turned.Turned.{Turned}
 use Rattle.daq_members.specs.OwnTurns.{are_calls_for}
-use Rattle.daq_members.specs.EngineClients.{EngineClientSeen}
+use Rattle.daq_members.specs.EngineClients.{EngineClientSeen, MemberClientSeen, at_first}
 use Rattle.daq_members.specs.FrontTaken.{FrontTaken, FrontMemberStands}
 
 -- A front-end in a session: the engine that it asks, its client number, its name, its equipment, and its run; its
--- calls on the engine; and its access to its buffer and to the database.
+-- calls on the engine; its access to its buffer and to the database; and the latter as it stood when it answered last.
 pub record FrontSeen (E : Type 0) : Type 0 where
   pub engine : SharedEngine
   pub client : ℕ
@@ -26,10 +26,12 @@ pub record FrontSeen (E : Type 0) : Type 0 where
   pub calls : List EngineEntry
   pub port : Access
   pub database : DatabaseAccess
+  pub stood : DatabaseAccess
 
--- what is seen of a front-end, by its client at the engine, its name, what it does, its port and its access
-abbrev pub front_seen : {E : Type 0} → EngineClientSeen → (name : List ℕ) → FrontState E → Access → DatabaseAccess → FrontSeen E
-front_seen engine name front port database = record {
+-- a front-end, by its client at the engine, its name, what it does, its port, and its database
+abbrev pub front_by : {E D : Type 0} → (access : D → DatabaseAccess) → MemberClientSeen D → (name : List ℕ) → FrontState E → Access →
+    (database : D) → FrontSeen E
+front_by access engine name front port database = record {
   engine = engine.engine;
   client = engine.client;
   name = name;
@@ -37,8 +39,14 @@ front_seen engine name front port database = record {
   run = front.run;
   calls = engine.calls;
   port = port;
-  database = database;
+  database = access database;
+  stood = access engine.stood;
 }
+
+-- what is seen of a front-end that gave no answer yet, by its client at the engine, its name, what it does, its port and its access
+abbrev pub front_seen : {E : Type 0} → EngineClientSeen → (name : List ℕ) → FrontState E → Access → DatabaseAccess → FrontSeen E
+front_seen engine name front port database =
+    front_by (λ (a : DatabaseAccess). a) (at_first engine database) name front port database
 
 -- On the engine the front-end polls and answers for its own client alone; the port and the access are the client's own, an
 -- event fits into the buffer, and the front-end keeps its contract over its own calls on engine, buffer and database.
@@ -66,6 +74,7 @@ module _ {E : Type 0} (takes : E → Order → Bool) (makes : E → Order → �
     later_port = after.port;
     database = before.database;
     later_database = after.database;
+    stood = after.stood;
     turned = turned;
   }
 

@@ -22,11 +22,12 @@ use Rattle.front_ends.specs.FrontKept.{FrontStands, KeepsFront, KeepsMoments}
 use Rattle.composition.specs.SentSets.{AreTurnSets}
 use Rattle.member_crew.specs.declared.turned.Turned.{Turned}
 use Rattle.member_crew.specs.declared.turned.Turned.TheVariants.{Worked, Idle, Ended}
-use Rattle.daq_members.specs.OwnTurns.{start_owed, asked_so, GivesAnswer}
+use Rattle.daq_members.specs.OwnTurns.{start_owed, asked_so, GivesAnswer, AnswersLast}
 use Rattle.daq_members.specs.SentSets.{number_set_at, number_if, AreNumbersSet}
 
 -- A turn of a front-end: its client number, its name, and what its equipment does; its run, its calls on the engine,
--- and its access to its buffer and to the database, before and behind; and what it came to.
+-- and its access to its buffer and to the database, before and behind; its access to the database as it stood when the front-end
+-- answered last; and what it came to.
 pub record FrontTaken : Type 0 where
   pub client : ℕ
   pub name : List ℕ
@@ -40,6 +41,7 @@ pub record FrontTaken : Type 0 where
   pub later_port : Access
   pub database : DatabaseAccess
   pub later_database : DatabaseAccess
+  pub stood : DatabaseAccess
   pub turned : Turned
 
 -- Worked, where something was done
@@ -87,7 +89,7 @@ pub record WorksFront (t : FrontTaken) (reply : Polled) : Type 0 where
   pub database : t.later_database ≡ t.database
   pub turned_is : t.turned ≡ turned_by (is_sent step)
 
--- The front-end is given a turn: it takes it, sets the number that it has to, and gives the answer, if there is one
+-- The front-end is given a turn: it takes it, sets the number that it has to, and then gives the answer, if there is one
 -- yet.
 pub record TakesFrontTurn (t : FrontTaken) (transition : Transition) (order : Order) (reply : Polled) : Type 0 where
   pub answer : Option Answer
@@ -97,10 +99,11 @@ pub record TakesFrontTurn (t : FrontTaken) (transition : Transition) (order : Or
   pub port : t.later_port ≡ t.port
   pub sets : SetsSent t.name (number_set_at transition (is_some answer) (events_sent t.run order.start))
       t.database t.later_database
+  pub last : AnswersLast answer t.stood t.later_database
   pub turned_is : t.turned ≡ Worked
 
 -- The front-end has yet to answer its turn in the run with this start number: it makes its step; and where it can
--- answer then, it sets the number that it sent, and gives the answer.
+-- answer then, it sets the number that it sent, and then gives the answer.
 pub record FinishesFront (t : FrontTaken) (start : ℕ) (reply : Polled) : Type 0 where
   pub step : FrontStep
   pub stepped : Option FrontRun
@@ -110,6 +113,7 @@ pub record FinishesFront (t : FrontTaken) (start : ℕ) (reply : Polled) : Type 
   pub gives : GivesAnswer t.client answer (asked_so t.client t.calls reply) t.later_calls
   pub run : t.later_run ≡ run_finished stepped answer
   pub sets : SetsSent t.name (number_if (is_some answer) (events_sent stepped start)) t.database t.later_database
+  pub last : AnswersLast answer t.stood t.later_database
   pub turned_is : t.turned ≡ turned_by (is_sent step || is_some answer)
 
 -- by what the engine replied, and the start number of the turn that was owed before, if one was

@@ -20,14 +20,14 @@ use Rattle.loggers.specs.LeftNames.{KeepsNames}
 use Rattle.loggers.specs.OtherFiles.{specs_in, KeepsOtherFiles}
 use Rattle.member_crew.specs.declared.turned.Turned.{Turned}
 use Rattle.daq_members.specs.OwnTurns.{are_calls_for}
-use Rattle.daq_members.specs.EngineClients.{EngineClientSeen}
+use Rattle.daq_members.specs.EngineClients.{EngineClientSeen, MemberClientSeen, at_first}
 use Rattle.daq_members.specs.StartedRuns.{started_runs}
 use Rattle.daq_members.specs.LoggerTaken.{LoggerTaken, HaveCaller}
-use Rattle.daq_members.specs.ConnectedLoggers.{ConnectedSeen, connected}
+use Rattle.daq_members.specs.ConnectedLoggers.{ConnectedSeen, connected, moment_at}
 
 -- A logger in a session: the engine that it asks, its client number, its run, and the dump of the stop that it has not
--- answered; its calls on the engine; and its channels, its access to each buffer, and the run files, as they are and as
--- they were when it took its seat.
+-- answered; its calls on the engine; its channels, its access to each buffer, and the run files, as they are; the files as they
+-- were when it took its seat; and the logger with all these as it stood when it answered last.
 pub record LoggerSeen (F : Type 0) : Type 0 where
   pub engine : SharedEngine
   pub client : ℕ
@@ -38,10 +38,11 @@ pub record LoggerSeen (F : Type 0) : Type 0 where
   pub ports : List Access
   pub files : F
   pub first : F
+  pub stood : ConnectedSeen F
 
 -- a connected logger with its client at the engine, and the files as they were when it took its seat
-abbrev pub logger_at : {F : Type 0} → EngineClientSeen → ConnectedSeen F → (first : F) → LoggerSeen F
-logger_at engine logger first = record {
+abbrev pub logger_by : {F : Type 0} → MemberClientSeen (ConnectedSeen F) → ConnectedSeen F → (first : F) → LoggerSeen F
+logger_by engine logger first = record {
   engine = engine.engine;
   client = engine.client;
   run = logger.run;
@@ -51,12 +52,14 @@ logger_at engine logger first = record {
   ports = logger.ports;
   files = logger.files;
   first = first;
+  stood = engine.stood;
 }
 
--- what is seen of a logger, by its client at the engine, the logger, its ports, and the run files, as they are and as they were
--- when it took its seat
+-- what is seen of a logger that gave no answer yet, by its client at the engine, the logger, its ports, and the run files, as they
+-- are and as they were when it took its seat
 abbrev pub logger_seen : {F : Type 0} → EngineClientSeen → Logger → List Access → (files first : F) → LoggerSeen F
-logger_seen engine logger ports files first = logger_at engine (connected logger ports files) first
+logger_seen engine logger ports files first =
+    logger_by (at_first engine (connected logger ports files)) (connected logger ports files) first
 
 -- On the engine the logger polls and answers for its own client alone; the ports are the client's own, and it is ready for
 -- each turn. Where no client of it is known to be detached by another, it keeps its contract over its own calls on engine,
@@ -126,6 +129,7 @@ logger_taken read before after turned = record {
   later_stop_dump = after.stop_dump;
   before = record { slots = before.slots; ports = before.ports; files = read before.files };
   after = record { slots = after.slots; ports = after.ports; files = read after.files };
+  stood = moment_at read after.stood;
   turned = turned;
 }
 

@@ -18,7 +18,7 @@ use Rattle.loggers.specs.Finishing.{FinishesLogger}
 use Rattle.loggers.specs.SlotPulls.{PullsNumbered}
 use Rattle.member_crew.specs.declared.turned.Turned.{Turned}
 use Rattle.member_crew.specs.declared.turned.Turned.TheVariants.{Worked, Idle, Ended}
-use Rattle.daq_members.specs.OwnTurns.{start_owed, asked_so, GivesAnswer}
+use Rattle.daq_members.specs.OwnTurns.{start_owed, asked_so, GivesAnswer, AnswersLast}
 use Rattle.daq_members.specs.FrontTaken.{turned_by}
 
 -- how many channels are pulled
@@ -44,7 +44,8 @@ PullsBelow (suc n) got a b = (m : LoggerMoment) × (earlier : Bool) × (answer :
     PullsBelow n earlier a m × PullsNumbered n answer m b × (got ≡ (has_pulled answer || earlier))
 
 -- A turn of the logger: its client number; its calls on the engine, its run, the dump of the stop that it has not
--- answered, and its channels with the ports and the files, before and behind; and what it came to.
+-- answered, and its channels with the ports and the files, before and behind; these as they stood when it answered last; and what
+-- it came to.
 pub record LoggerTaken : Type 0 where
   pub client : ℕ
   pub calls : List EngineEntry
@@ -55,6 +56,7 @@ pub record LoggerTaken : Type 0 where
   pub later_stop_dump : Option (List ℕ)
   pub before : LoggerMoment
   pub after : LoggerMoment
+  pub stood : LoggerMoment
   pub turned : Turned
 
 -- Where the logger kept its contract over the turns that its calls on the engine told before, it keeps it over those that they
@@ -82,7 +84,7 @@ pub record WorksLogger (t : LoggerTaken) (reply : Polled) : Type 0 where
   pub pulls : PullsBelow pulled_channels got t.before t.after
   pub turned_is : t.turned ≡ turned_by got
 
--- A new turn is taken, and answered, if it is yet.
+-- A new turn is taken, and then answered, if it is yet.
 pub record TakesLoggerTurn (t : LoggerTaken) (transition : Transition) (order : Order) (dump : Option (List ℕ))
     (reply : Polled) : Type 0 where
   pub answer : Option Answer
@@ -99,6 +101,7 @@ pub record TakesLoggerTurn (t : LoggerTaken) (transition : Transition) (order : 
     before = t.before;
     after = t.after;
   })
+  pub last : AnswersLast answer t.stood t.after
   pub turned_is : t.turned ≡ Worked
 
 -- Each channel pulls once; then the stop that waited is answered, if it can be.
@@ -120,6 +123,7 @@ pub record FinishesTurn (t : LoggerTaken) (reply : Polled) : Type 0 where
     later_files = t.after.files;
     answer = answer;
   })
+  pub last : AnswersLast answer t.stood t.after
   pub turned_is : t.turned ≡ turned_by (got || is_some answer)
 
 -- by what the engine replied, and whether a turn was owed before

@@ -47,3 +47,9 @@ abbrev pub GivesAnswer : (client : ℕ) → Option Answer → (calls later : Lis
 GivesAnswer client None calls later = later ≡ calls
 GivesAnswer client (Some answer) calls later =
     (reply : Result ⊤ NotYourTurn) × (later ≡ calls ++ Answers client answer reply ∷ [])
+
+-- Where there is an answer, it is the last thing that the member does in its turn: what the member calls by besides the engine is
+-- now as it stood when the answer was given, so none of its calls there is behind the answer.
+abbrev pub AnswersLast : {X : Type 0} → Option Answer → (stood now : X) → Type 0
+AnswersLast None stood now = ⊤
+AnswersLast (Some answer) stood now = stood ≡ now

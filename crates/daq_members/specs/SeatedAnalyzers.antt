@@ -9,27 +9,33 @@ use Rattle.analyzers.specs.Analyzers.{AnalyzerState, IsWithinGot}
 use Rattle.loggers.specs.Moments.{IsSameAccess}
 use Rattle.member_crew.specs.declared.turned.Turned.{Turned}
 use Rattle.daq_members.specs.OwnTurns.{are_calls_for}
-use Rattle.daq_members.specs.EngineClients.{EngineClientSeen}
+use Rattle.daq_members.specs.EngineClients.{EngineClientSeen, MemberClientSeen, at_first}
 use Rattle.daq_members.specs.AnalyzerTaken.{AnalyzerTaken, AnalyzerMemberStands}
 
 -- An analyzer in a session: the engine that it asks, its client number, the analyzer, its calls on the engine, and its
--- access to its buffer.
+-- access to its buffer, as it is and as it stood when the analyzer answered last.
 pub record AnalyzerSeen : Type 0 where
   pub engine : SharedEngine
   pub client : ℕ
   pub analyzer : AnalyzerState
   pub calls : List EngineEntry
   pub port : Access
+  pub stood : Access
 
--- what is seen of an analyzer, by its client at the engine, what it counts, and its port
-abbrev pub analyzer_seen : EngineClientSeen → AnalyzerState → Access → AnalyzerSeen
-analyzer_seen engine analyzer port = record {
+-- an analyzer, by its client at the engine, what it counts, and its port
+abbrev pub analyzer_by : {P : Type 0} → (access : P → Access) → MemberClientSeen P → AnalyzerState → (port : P) → AnalyzerSeen
+analyzer_by access engine analyzer port = record {
   engine = engine.engine;
   client = engine.client;
   analyzer = analyzer;
   calls = engine.calls;
-  port = port;
+  port = access port;
+  stood = access engine.stood;
 }
+
+-- what is seen of an analyzer that gave no answer yet, by its client at the engine, what it counts, and its port
+abbrev pub analyzer_seen : EngineClientSeen → AnalyzerState → Access → AnalyzerSeen
+analyzer_seen engine analyzer port = analyzer_by (λ (a : Access). a) (at_first engine port) analyzer port
 
 -- On the engine the analyzer polls and answers for its own client alone; the port is the client's own, each event of the
 -- buffer fits into the analyzer's room, and what it counted is no more than it got; and it keeps its contract over its own
@@ -51,6 +57,7 @@ analyzer_taken before after turned = record {
   later = after.analyzer;
   port = before.port;
   later_port = after.port;
+  stood = after.stood;
   turned = turned;
 }
 

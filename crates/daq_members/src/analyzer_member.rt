@@ -8,7 +8,8 @@ ghost use Rattle.loggers.specs.Moments.{IsSameAccess};
 ghost use Rattle.daq_members.specs.FrontTaken.{turned_by};
 ghost use Rattle.daq_members.specs.AnalyzerTaken.{has_got, PullsAnalyzer, TakesAnalyzer, KeepsAtPull};
 
-use crate::{EngineClient, turned_by};
+use crate::engine_client::{EngineClient, MemberClient};
+use crate::turned_by;
 use analyzers::{Analyzer, AnalyzerPull};
 use buffer_core::BufferPort;
 use daq_io::{Gate, Point};
@@ -31,20 +32,20 @@ pub struct AnalyzerParts<P> {
 /// turns take no memory.
 #[derive(Drop)]
 pub struct AnalyzerMember<'a, P: BufferPort> {
-    engine: EngineClient<'a>,
+    engine: MemberClient<'a, P>,
     analyzer: Analyzer,
     port: P,
 }
 
 impl<'a, P: BufferPort> Model for AnalyzerMember<'a, P> {
-    ghost use Rattle.daq_members.specs.SeatedAnalyzers.{AnalyzerSeen, IsAnalyzerSeated, analyzer_seen};
+    ghost use Rattle.daq_members.specs.SeatedAnalyzers.{AnalyzerSeen, IsAnalyzerSeated, analyzer_by};
 
     ghost Value = { AnalyzerSeen };
 
-    ghost view = { λ m. analyzer_seen m.engine m.analyzer (P.access m.port) };
+    ghost view = { λ m. analyzer_by P.access m.engine m.analyzer m.port };
 
     ghost invariant = { λ m. IsAnalyzerSeated
-        (analyzer_seen m.engine m.analyzer (P.access m.port)) };
+        (analyzer_by P.access m.engine m.analyzer m.port) };
 }
 
 /// Whether the pull got an event.
@@ -97,6 +98,7 @@ impl<'a, P: BufferPort> AnalyzerMember<'a, P> {
         requires { IsAnalyzerSeated (analyzer_seen engine analyzer (P.access port)) }
         ensures { result ≡ analyzer_seen engine.entry analyzer (P.access port) }
     {
+        let engine = MemberClient::new(engine, &port);
         AnalyzerMember {
             engine,
             analyzer,
@@ -107,7 +109,7 @@ impl<'a, P: BufferPort> AnalyzerMember<'a, P> {
     /// One turn: the engine is asked once. A turn that it gives is taken, and answered where that can be at once; else the
     /// analyzer pulls once, and then a stop is answered that waited for it. Worked exactly where a new turn was given, one was
     /// answered, or an event was got; Ended exactly where the engine is closed. The calls are those of the member's own number.
-    /// Takes no memory.
+    /// What the turn does on the buffer, it does before it answers. Takes no memory.
     pub fn turn<R: Wait, G: Gate>(&mut self, rt: &R, gate: &G) -> Turned
         ensures takes { TakesAnalyzer (analyzer_taken self.old self.new result) }
         ensures same { IsSameAnalyzer self.old self.new }
@@ -132,14 +134,14 @@ impl<'a, P: BufferPort> AnalyzerMember<'a, P> {
                     let answer = self
                         .analyzer
                         .on_turn(rt, &mut self.port, transition, &order, blank);
-                    self.engine.give(rt, answer);
+                    self.engine.give(rt, answer, &self.port);
                     Turned::Worked
                 }
                 Some(_) => {
                     let pulled = pull_between(rt, gate, client, &mut self.analyzer, &mut self.port);
                     let answer = self.analyzer.finish();
                     let turned = turned_by_pull(answer.is_some(), pulled);
-                    self.engine.give(rt, answer);
+                    self.engine.give(rt, answer, &self.port);
                     turned
                 }
             },

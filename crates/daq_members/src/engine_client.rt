@@ -4,10 +4,12 @@ ghost use Rattle.daq_types.specs.Callers.{caller_of_client};
 ghost use Rattle.turn_lock.specs.Passes.{number_of, held_by, own_entries, IsOf};
 ghost use Rattle.transition_lock.specs.SharedEngines.{engine_lock_of};
 ghost use Rattle.member_model.specs.RunEngines.{IsFairTurn};
-ghost use Rattle.daq_members.specs.OwnTurns.{start_owed, owed_by, asked_so, are_calls_for, GivesAnswer};
+ghost use Rattle.daq_members.specs.OwnTurns.{start_owed, owed_by, asked_so, are_calls_for, GivesAnswer, AnswersLast};
+ghost use Rattle.daq_members.specs.EngineClients.{at_first};
 
 use member_model::{Answer, Polled};
 use std::marker::Model;
+use std::snapshot::Snapshot;
 use std::sync::Wait;
 use transition_lock::{EnginePass, SharedEngine};
 
@@ -74,7 +76,7 @@ impl<'a> EngineClient<'a> {
     }
 
     /// The client's number. All its calls so far are its own polls and answers.
-    pub fn number(&self) -> u32
+    fn number(&self) -> u32
         ensures number { result ≡ self.now.client }
         ensures speaks { are_calls_for self.now.client self.now.calls ≡ true }
     {
@@ -82,14 +84,14 @@ impl<'a> EngineClient<'a> {
     }
 
     /// The start number of the turn that the client was given and has not answered, if there is one.
-    pub fn owed(&self) -> Option<u32>
+    fn owed(&self) -> Option<u32>
         ensures { result ≡ start_owed self.now.client self.now.calls }
     {
         self.owed
     }
 
     /// Asks once whether the client has its turn.
-    pub fn poll<R: Wait>(&mut self, rt: &R) -> Polled
+    fn poll<R: Wait>(&mut self, rt: &R) -> Polled
         ensures engine { self.new.engine ≡ self.old.engine }
         ensures client { self.new.client ≡ self.old.client }
         ensures asked { self.new.calls ≡ asked_so self.old.client self.old.calls result }
@@ -102,7 +104,7 @@ impl<'a> EngineClient<'a> {
     }
 
     /// Gives the answer to the turn that is owed, if there is one.
-    pub fn give<R: Wait>(&mut self, rt: &R, answer: Option<Answer>)
+    fn give<R: Wait>(&mut self, rt: &R, answer: Option<Answer>)
         ensures engine { self.new.engine ≡ self.old.engine }
         ensures client { self.new.client ≡ self.old.client }
         ensures gives { GivesAnswer self.old.client answer self.old.calls self.new.calls }
@@ -117,7 +119,7 @@ impl<'a> EngineClient<'a> {
     }
 
     /// Gives the pass back.
-    pub fn into_pass(self) -> EnginePass
+    fn into_pass(self) -> EnginePass
         ensures calls { own_entries result ≡ self.entry.calls }
         ensures number { number_of result ≡ caller_of_client self.entry.client }
         ensures own { IsOf (engine_lock_of self.entry.engine) result }
@@ -125,5 +127,88 @@ impl<'a> EngineClient<'a> {
     {
         let EngineClient { pass, .. } = self;
         pass
+    }
+}
+
+/// A member's client at a shared engine, with what the member calls by besides the engine, as that stood when the member answered
+/// last. It answers by one call alone, which keeps what stood then.
+#[derive(Drop)]
+pub(crate) struct MemberClient<'a, X> {
+    client: EngineClient<'a>,
+    stood: Snapshot<X>,
+}
+
+impl<'a, X> Model for MemberClient<'a, X> {
+    ghost use Rattle.daq_members.specs.EngineClients.{MemberClientSeen};
+
+    ghost Value = { MemberClientSeen X };
+
+    ghost view = { λ c. record {
+      engine = c.client.engine;
+      client = c.client.client;
+      calls = c.client.calls;
+      stood = c.stood.value;
+    } };
+}
+
+impl<'a, X> MemberClient<'a, X> {
+    /// This client for a member that calls by these things besides the engine.
+    pub(crate) fn new(client: EngineClient<'a>, beside: &X) -> MemberClient<'a, X>
+        ensures { result ≡ at_first client.entry beside.now }
+    {
+        MemberClient {
+            client,
+            stood: Snapshot::of(beside),
+        }
+    }
+
+    /// The client's number. All its calls so far are its own polls and answers.
+    pub(crate) fn number(&self) -> u32
+        ensures number { result ≡ self.now.client }
+        ensures speaks { are_calls_for self.now.client self.now.calls ≡ true }
+    {
+        self.client.number()
+    }
+
+    /// The start number of the turn that the client was given and has not answered, if there is one.
+    pub(crate) fn owed(&self) -> Option<u32>
+        ensures { result ≡ start_owed self.now.client self.now.calls }
+    {
+        self.client.owed()
+    }
+
+    /// Asks once whether the client has its turn.
+    pub(crate) fn poll<R: Wait>(&mut self, rt: &R) -> Polled
+        ensures engine { self.new.engine ≡ self.old.engine }
+        ensures client { self.new.client ≡ self.old.client }
+        ensures asked { self.new.calls ≡ asked_so self.old.client self.old.calls result }
+        ensures speaks { are_calls_for self.new.client self.new.calls ≡ true }
+        ensures fair { IsFairTurn result }
+    {
+        self.client.poll(rt)
+    }
+
+    /// Gives the answer to the turn that is owed, if there is one, and keeps what stands beside the engine then.
+    pub(crate) fn give<R: Wait>(&mut self, rt: &R, answer: Option<Answer>, beside: &X)
+        ensures engine { self.new.engine ≡ self.old.engine }
+        ensures client { self.new.client ≡ self.old.client }
+        ensures gives { GivesAnswer self.old.client answer self.old.calls self.new.calls }
+        ensures speaks { are_calls_for self.new.client self.new.calls ≡ true }
+        ensures last { AnswersLast answer self.new.stood beside.now }
+    {
+        if answer.is_some() {
+            self.stood = Snapshot::of(beside);
+        }
+        self.client.give(rt, answer);
+    }
+
+    /// Gives the pass back.
+    pub(crate) fn into_pass(self) -> EnginePass
+        ensures calls { own_entries result ≡ self.entry.calls }
+        ensures number { number_of result ≡ caller_of_client self.entry.client }
+        ensures own { IsOf (engine_lock_of self.entry.engine) result }
+        ensures idle { held_by result ≡ None }
+    {
+        self.client.into_pass()
     }
 }

@@ -6,7 +6,7 @@ ghost use Rattle.loggers.specs.Moments.{IsSameAccess};
 ghost use Rattle.daq_members.specs.SentSets.{number_set_at, number_if};
 ghost use Rattle.daq_members.specs.FrontTaken.{turned_by, is_sent, StepsOnce, TakesFront, KeepsAtStep};
 
-use crate::engine_client::EngineClient;
+use crate::engine_client::{EngineClient, MemberClient};
 use crate::sent_key::SentKey;
 use buffer_core::BufferPort;
 use daq_io::{Gate, Point};
@@ -35,7 +35,7 @@ pub struct FrontParts<P, D> {
 /// front-end, its own port to its buffer, and its own access to the database. Its turns take no memory.
 #[derive(Drop)]
 pub struct FrontMember<'a, E: Equipment, P: BufferPort, D: WatchPort> {
-    engine: EngineClient<'a>,
+    engine: MemberClient<'a, D>,
     key: SentKey,
     front: FrontEnd<E>,
     port: P,
@@ -43,15 +43,15 @@ pub struct FrontMember<'a, E: Equipment, P: BufferPort, D: WatchPort> {
 }
 
 impl<'a, E: Equipment, P: BufferPort, D: WatchPort> Model for FrontMember<'a, E, P, D> {
-    ghost use Rattle.daq_members.specs.FrontSeats.{FrontSeen, IsSeated, front_seen};
+    ghost use Rattle.daq_members.specs.FrontSeats.{FrontSeen, IsSeated, front_by};
 
     ghost Value = { FrontSeen E };
 
-    ghost view = { λ m. front_seen m.engine m.key.name m.front (P.access m.port)
-        (D.access m.database) };
+    ghost view = { λ m. front_by D.access m.engine m.key.name m.front (P.access m.port)
+        m.database };
 
     ghost invariant = { λ m. IsSeated E.takes E.makes
-        (front_seen m.engine m.key.name m.front (P.access m.port) (D.access m.database)) };
+        (front_by D.access m.engine m.key.name m.front (P.access m.port) m.database) };
 }
 
 /// What a turn came to in which something was done, or nothing.
@@ -134,6 +134,7 @@ impl<'a, E: Equipment, P: BufferPort, D: WatchPort> FrontMember<'a, E, P, D> {
         ensures { result
             ≡ front_seen engine.entry key.name front (P.access port) (D.access database) }
     {
+        let engine = MemberClient::new(engine, &database);
         FrontMember {
             engine,
             key,
@@ -146,7 +147,7 @@ impl<'a, E: Equipment, P: BufferPort, D: WatchPort> FrontMember<'a, E, P, D> {
     /// One turn: the engine is asked once. A turn that it gives is taken, and answered where that can be at once;
     /// else the next event is sent, and then a stop is answered that waited for it. Worked exactly where a new turn
     /// was given, one was answered, or an event was sent; Ended exactly where the engine is closed. The calls are
-    /// those of the member's own number. Takes no memory.
+    /// those of the member's own number. What the turn sets in the database, it sets before it answers. Takes no memory.
     pub fn turn<R: Wait, G: Gate>(&mut self, rt: &R, gate: &G) -> Turned
         ensures takes { TakesFront (front_taken E.takes E.makes self.old self.new result) }
         ensures same { IsSameFront E.takes E.makes self.old self.new }
@@ -171,7 +172,7 @@ impl<'a, E: Equipment, P: BufferPort, D: WatchPort> FrontMember<'a, E, P, D> {
                     let answer = self.front.on_turn(transition, &order);
                     let number = number_set_at(transition, answer.is_some(), sent);
                     self.key.set(rt, &mut self.database, number);
-                    self.engine.give(rt, answer);
+                    self.engine.give(rt, answer, &self.database);
                     Turned::Worked
                 }
                 Some(start) => {
@@ -181,7 +182,7 @@ impl<'a, E: Equipment, P: BufferPort, D: WatchPort> FrontMember<'a, E, P, D> {
                     let answered = answer.is_some();
                     let number = number_finished(answered, sent);
                     self.key.set(rt, &mut self.database, number);
-                    self.engine.give(rt, answer);
+                    self.engine.give(rt, answer, &self.database);
                     turned_by_step(step, answered)
                 }
             },

@@ -10,7 +10,7 @@ ghost use Rattle.daq_members.specs.LoggerTaken.{TakesLogger, KeepsLoggerMember};
 ghost use Rattle.daq_members.specs.ConnectedLoggers.{connected_taken};
 
 use crate::connected_logger::ConnectedLogger;
-use crate::engine_client::EngineClient;
+use crate::engine_client::{EngineClient, MemberClient};
 use crate::front_member::turned_by;
 use buffer_core::BufferPort;
 use daq_io::{Files, Gate};
@@ -36,21 +36,21 @@ pub struct LoggerParts<P, F> {
 /// number, and the run files, as they are and as they were when it took its seat. Its turns take no memory.
 #[derive(Drop)]
 pub struct LoggerMember<'a, P: BufferPort, F: Files> {
-    engine: EngineClient<'a>,
+    engine: MemberClient<'a, ConnectedLogger<P, F>>,
     logger: ConnectedLogger<P, F>,
     first: Snapshot<F>,
 }
 
 impl<'a, P: BufferPort, F: Files> Model for LoggerMember<'a, P, F> {
     ghost use Rattle.loggers.specs.Moments.{files_by};
-    ghost use Rattle.daq_members.specs.LoggerSeats.{LoggerSeen, IsLoggerAtSeat, logger_at};
+    ghost use Rattle.daq_members.specs.LoggerSeats.{LoggerSeen, IsLoggerAtSeat, logger_by};
 
     ghost Value = { LoggerSeen F };
 
-    ghost view = { λ m. logger_at m.engine m.logger m.first.value };
+    ghost view = { λ m. logger_by m.engine m.logger m.first.value };
 
     ghost invariant = { λ m. IsLoggerAtSeat F.seen (files_by F.seen F.faults F.clashes F.first)
-        (logger_at m.engine m.logger m.first.value) };
+        (logger_by m.engine m.logger m.first.value) };
 }
 
 /// What a turn came to in which an event was got or none, and a stop was answered or not.
@@ -64,7 +64,7 @@ fn turned_by_pulls(got: bool, answered: bool) -> Turned
 fn take_turn<'a, R: Wait, P: BufferPort, F: Files, G: Gate>(
     rt: &R,
     gate: &G,
-    engine: &mut EngineClient<'a>,
+    engine: &mut MemberClient<'a, ConnectedLogger<P, F>>,
     logger: &mut ConnectedLogger<P, F>,
 ) -> Turned
     ensures takes { TakesLogger (connected_taken (files_by F.seen F.faults F.clashes F.first)
@@ -91,14 +91,14 @@ fn take_turn<'a, R: Wait, P: BufferPort, F: Files, G: Gate>(
         } => match owed {
             None => {
                 let answer = logger.on_turn(rt, transition, &order, dump);
-                engine.give(rt, answer);
+                engine.give(rt, answer, logger);
                 Turned::Worked
             }
             Some(_) => {
                 let got = logger.pull_all(rt, gate, client);
                 let answer = logger.finish();
                 let answered = answer.is_some();
-                engine.give(rt, answer);
+                engine.give(rt, answer, logger);
                 turned_by_pulls(got, answered)
             }
         },
@@ -122,6 +122,7 @@ impl<'a, P: BufferPort, F: Files> LoggerMember<'a, P, F> {
     {
         let first = Snapshot::of(&files);
         let logger = ConnectedLogger::new(logger, ports, files);
+        let engine = MemberClient::new(engine, &logger);
         LoggerMember {
             engine,
             logger,
@@ -132,7 +133,8 @@ impl<'a, P: BufferPort, F: Files> LoggerMember<'a, P, F> {
     /// One turn: the engine is asked once. A turn that it gives is taken, and answered where that can be at once; else
     /// each channel is pulled once, in order of number, and then a stop is answered that waited for it. Worked exactly
     /// where a new turn was given, one was answered, or an event was got; Ended exactly where the engine is closed. The
-    /// calls are those of the member's own number. Takes no memory.
+    /// calls are those of the member's own number. What the turn does on buffers and files, it does before it answers. Takes no
+    /// memory.
     pub fn turn<R: Wait, G: Gate>(&mut self, rt: &R, gate: &G) -> Turned
         ensures takes { TakesLogger (logger_taken (files_by F.seen F.faults F.clashes F.first)
             self.old self.new result) }

@@ -4,10 +4,10 @@ use Rattle.transitions.specs.declared.replies.Polled.TheVariants.{Idle, Closed, 
 use Rattle.member_model.specs.Turns.{MemberTurn}
 use Rattle.member_model.specs.TurnCalls.{member_turns}
 use Rattle.daq_members.specs.FrontTaken.{turned_by}
-use Rattle.daq_members.specs.ConnectedLoggers.{StandsOver}
-use Rattle.daq_members.proofs.OwnTurnLaws.{none_open, idle_turns, closed_turns, unknown_turns, taken_turns, finished_turns}
+use Rattle.loggers.specs.Moments.{files_by}
+use Rattle.daq_members.specs.ConnectedLoggers.{StandsOver, moment_at}
+use Rattle.daq_members.proofs.OwnTurnLaws.{none_open, idle_turns, closed_turns, unknown_turns, taken_turns, finished_turns, last_seen}
 use Rattle.daq_members.proofs.TakenLaws.{logger_taken, logger_finished}
-use Rattle.daq_members.proofs.LoggerLaws.{same_ports}
 use Rattle.daq_members.proofs.logger_member.take_turn.Goals as goal
 
 -- `c.poll` is the client's poll; the exit without a name is that where a turn was owed.
@@ -43,6 +43,7 @@ returns-in-None-clause-takes g c =
       answer = c.on_turn-answer.result;
       gives = rw (c.poll.ensures.client, rw c.in-Turn.is at c.poll.ensures.asked) at c.give.ensures.gives;
       takes = c.on_turn-answer.ensures.takes;
+      last = last_seen (moment_at (files_by g.F.Files.seen g.F.Files.faults g.F.Files.clashes g.F.Files.first)) _ _ _ c.give.ensures.last;
       turned_is = refl;
     })
 
@@ -56,6 +57,7 @@ returns-clause-takes g c =
       gives = rw (c.poll.ensures.client, rw c.in-Turn.is at c.poll.ensures.asked) at c.give-in-Some.ensures.gives;
       ports = c.finish-answer.ensures.ports;
       finishes = rw (c.pull_all-got.ensures.stays.run, c.pull_all-got.ensures.stays.stop_dump) at c.finish-answer.ensures.finishes;
+      last = last_seen (moment_at (files_by g.F.Files.seen g.F.Files.faults g.F.Files.clashes g.F.Files.first)) _ _ _ c.give-in-Some.ensures.last;
       turned_is = c.turned_by_pulls.ensures ∙ ap (λ (b : Bool). turned_by (c.pull_all-got.result || b)) c.is_some-answered.ensures;
     })
 

@@ -5,7 +5,7 @@ use Rattle.member_model.specs.TurnCalls.{member_turns}
 use Rattle.analyzers.specs.Analyzers.{AnalyzerState, IsWithinGot}
 use Rattle.daq_members.specs.FrontTaken.{turned_by}
 use Rattle.daq_members.specs.AnalyzerTaken.{has_got}
-use Rattle.daq_members.proofs.OwnTurnLaws.{none_open, idle_turns, closed_turns, unknown_turns}
+use Rattle.daq_members.proofs.OwnTurnLaws.{none_open, idle_turns, closed_turns, unknown_turns, last_seen}
 use Rattle.daq_members.proofs.AnalyzerLaws.{turn_same, blank_so, reported_within, analyzer_told, analyzer_finished}
 use Rattle.daq_members.proofs.AnalyzerSeatLaws.{seated_asked, seated_taken, seated_finished}
 use Rattle.daq_members.proofs.analyzer_member.AnalyzerMember.turn.Goals as goal
@@ -122,6 +122,7 @@ returns-in-None-clause-takes g c = rw (← c.self.view_is) (
       answer = c.on_turn-answer.result;
       turns = c.on_turn-answer.ensures.turns;
       gives = rw (c.poll.ensures.client, rw c.in-Turn.is at c.poll.ensures.asked) at c.give.ensures.gives;
+      last = last_seen g.P.BufferPort.access _ _ _ c.give.ensures.last;
       turned_is = refl;
     }))
 
@@ -134,6 +135,7 @@ returns-clause-takes g c = rw (← c.self.view_is) (
       answer = c.finish-answer.result;
       answer_is = c.finish-answer.ensures.answer;
       gives = rw (c.poll.ensures.client, rw c.in-Turn.is at c.poll.ensures.asked) at c.give-in-Some.ensures.gives;
+      last = last_seen g.P.BufferPort.access _ _ _ c.give-in-Some.ensures.last;
       later = c.finish-answer.ensures.after;
       turned_is = c.turned_by_pull-turned.ensures ∙ ap (λ (b : Bool). turned_by (b || has_got c.pull_between-pulled-in-Some.result)) c.is_some.ensures;
     }))

@@ -1,5 +1,5 @@
 use Rattle.std.proofs.Common.{refl, arith}
-use Rattle.loggers.specs.Moments.{RunFiles, files_by}
+use Rattle.loggers.specs.Moments.{files_by}
 use Rattle.daq_members.specs.ConnectedLoggers.{moment_at}
 use Rattle.daq_members.proofs.LoggerLaws.{pulls_more, stays_at_none, stays_then}
 use Rattle.daq_members.proofs.connected_logger.ConnectedLogger.pull_all.Goals as goal

@@ -5,7 +5,7 @@ use Rattle.member_model.specs.TurnCalls.{member_turns}
 use Rattle.front_ends.specs.Fronts.{FrontState}
 use Rattle.odb_watch.specs.DatabasePorts.{own_watched}
 use Rattle.daq_members.specs.FrontTaken.{turned_by, is_sent}
-use Rattle.daq_members.proofs.OwnTurnLaws.{none_open, idle_turns, closed_turns, unknown_turns}
+use Rattle.daq_members.proofs.OwnTurnLaws.{none_open, idle_turns, closed_turns, unknown_turns, last_seen}
 use Rattle.daq_members.proofs.FrontSeatLaws.{seated_asked, seated_taken, seated_finished}
 use Rattle.daq_members.proofs.TakenLaws.{front_taken, front_finished}
 use Rattle.daq_members.proofs.front_member.FrontMember.turn.Goals as goal
@@ -127,6 +127,7 @@ returns-in-None-clause-takes g c = rw (← c.self.view_is) (
       run = ap (λ (f : FrontState _). f.run) c.on_turn-answer.ensures.after;
       port = refl;
       sets = rw (c.number_set_at-number.ensures, c.is_some.ensures, c.sent_in-sent.ensures.number) at c.set.ensures.sets;
+      last = last_seen g.D.DatabasePort.access _ _ _ c.give.ensures.last;
       turned_is = refl;
     }))
 
@@ -182,6 +183,7 @@ returns-clause-takes g c = rw (← c.self.view_is) (
       gives = rw (c.poll.ensures.client, rw c.in-Turn.is at c.poll.ensures.asked) at c.give-in-Some.ensures.gives;
       run = ap (λ (f : FrontState _). f.run) c.finish-answer.ensures.after;
       sets = rw (c.number_finished-number.ensures, c.is_some-answered.ensures, c.sent_in-sent-in-Some.ensures.number) at c.set-in-Some.ensures.sets;
+      last = last_seen g.D.DatabasePort.access _ _ _ c.give-in-Some.ensures.last;
       turned_is = c.turned_by_step.ensures ∙ ap (λ (b : Bool). turned_by (is_sent c.step_between-step-in-Some.result || b)) c.is_some-answered.ensures;
     }))
 

@@ -17,7 +17,7 @@ new-logger-requires g c = record {
 
 pub invariant_of-result : goal.invariant_of-result
 invariant_of-result g c =
-    let client = c.args.engine.client in rw c.new-logger.ensures (record {
+    let client = c.args.engine.client in rw (c.new-engine.ensures, c.new-logger.ensures) (record {
       seated = record {
         speaks = ap (are_calls_for client) c.requires.fresh;
         caller = c.requires.caller;

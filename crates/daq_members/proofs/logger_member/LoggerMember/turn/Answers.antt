@@ -1,7 +1,7 @@
 use Rattle.std.specs.Prelude.{◌≡◌, refl}
 use Rattle.std.proofs.Common.{subst}
 use Rattle.loggers.specs.OtherFiles.{specs_in}
-use Rattle.daq_members.specs.LoggerSeats.{LoggerSeen, IsSameLogger, logger_at}
+use Rattle.daq_members.specs.LoggerSeats.{LoggerSeen, IsSameLogger, logger_by}
 use Rattle.daq_members.proofs.LoggerSeatLaws.{known_before, caller_kept}
 use Rattle.daq_members.proofs.OtherFilesKept.{LoggerLeaves, specs_stay, others_kept}
 use Rattle.daq_members.proofs.LoggerReasons.{ReasonLaws, reasons_kept}
@@ -12,7 +12,7 @@ pub returns-clause-same : goal.returns-clause-same
 returns-clause-same g c =
     let laws : LoggerLeaves = record { turns = c.other_files.ensures.turns; pulls = c.other_files.ensures.pulls; finishes = c.other_files.ensures.finishes } in
     let stay : specs_in c.take_turn-turned.new.logger.slots ≡ specs_in c.self.inside.logger.slots = specs_stay laws _ c.take_turn-turned.ensures.takes c.self.invariant.seated.ready in
-    let later : LoggerSeen _ = logger_at c.take_turn-turned.new.engine c.take_turn-turned.new.logger c.self.inside.first.value in
+    let later : LoggerSeen _ = logger_by c.take_turn-turned.new.engine c.take_turn-turned.new.logger c.self.inside.first.value in
     subst (λ (before : LoggerSeen _). IsSameLogger before later) c.self.view_is
     (record {
       engine = c.take_turn-turned.ensures.engine;
