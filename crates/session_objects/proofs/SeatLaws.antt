@@ -25,8 +25,8 @@ use Rattle.session_objects.proofs.ChangeLaws.{some_same, each_pushed}
 
 -- what is seen of a front-end is told by its parts
 pub seen_same : (f g : FrontSeen Generator) → f.engine ≡ g.engine → f.client ≡ g.client → f.name ≡ g.name → f.equipment ≡ g.equipment →
-    f.run ≡ g.run → f.calls ≡ g.calls → f.port ≡ g.port → f.database ≡ g.database → f ≡ g
-seen_same f g engine client name equipment run calls port database = λ j. record {
+    f.run ≡ g.run → f.calls ≡ g.calls → f.port ≡ g.port → f.database ≡ g.database → f.stood ≡ g.stood → f ≡ g
+seen_same f g engine client name equipment run calls port database stood = λ j. record {
   engine = engine j;
   client = client j;
   name = name j;
@@ -35,6 +35,7 @@ seen_same f g engine client name equipment run calls port database = λ j. recor
   calls = calls j;
   port = port j;
   database = database j;
+  stood = stood j;
 }
 
 -- a front-end that made no call keeps its contract, whatever its client number and its name
@@ -51,13 +52,14 @@ front_stands_yet client name equipment front calls own sets is none_called none_
     (subst D (sym (ap (λ (f : FrontState Generator). f.equipment) is)) (record { stands = stands; moments = []; kept = kept; told = λ are. refl }))))
 
 -- what is seen of an analyzer is told by its parts
-pub analyzer_same : (a b : AnalyzerSeen) → a.engine ≡ b.engine → a.client ≡ b.client → a.analyzer ≡ b.analyzer → a.calls ≡ b.calls → a.port ≡ b.port → a ≡ b
-analyzer_same a b engine client analyzer calls port = λ j. record {
+pub analyzer_same : (a b : AnalyzerSeen) → a.engine ≡ b.engine → a.client ≡ b.client → a.analyzer ≡ b.analyzer → a.calls ≡ b.calls → a.port ≡ b.port → a.stood ≡ b.stood → a ≡ b
+analyzer_same a b engine client analyzer calls port stood = λ j. record {
   engine = engine j;
   client = client j;
   analyzer = analyzer j;
   calls = calls j;
   port = port j;
+  stood = stood j;
 }
 
 -- an analyzer that made no call keeps its contract, whatever its client number

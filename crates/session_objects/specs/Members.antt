@@ -273,6 +273,7 @@ new_front objects shared client declared buffer = record {
   calls = [];
   port = new_port buffer.shared (caller_of_client client);
   database = new_access shared (caller_of_client client);
+  stood = new_access shared (caller_of_client client);
 }
 
 -- The front-end with this client number is the one that was declared, with a port to its buffer, and made no call.
@@ -308,6 +309,7 @@ new_analyzer objects client declared buffer = record {
   analyzer = idle_analyzer (event_room_of (Some buffer)) declared;
   calls = [];
   port = new_port buffer.shared (caller_of_client client);
+  stood = new_port buffer.shared (caller_of_client client);
 }
 
 -- The analyzer with this client number is the one that was declared, with a port to its buffer, and made no call.

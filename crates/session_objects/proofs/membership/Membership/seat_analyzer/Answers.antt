@@ -67,6 +67,6 @@ returns-clause-analyzer g c =
             place.engine place.client
             (c.in_ok-analyzer.ensures.made
             ∙ ap (λ (xs : List SessionBuffer). idle_analyzer (event_room_of (slice_get xs d.buffer)) d) bs ∙ ap (λ (o : Option SessionBuffer). idle_analyzer (event_room_of o) d) has)
-            place.calls place.port.is;
+            place.calls place.port.is place.port.is;
       };
     }

@@ -49,6 +49,6 @@ returns-clause-front g c =
             place.engine place.client c.in_ok-key.ensures
             (ap (λ (f : FrontState Generator). f.equipment) made.made ∙ c.generator_of.ensures)
             (ap (λ (f : FrontState Generator). f.run) made.made)
-            place.calls place.port.is place.access;
+            place.calls place.port.is place.access place.access;
       };
     }
