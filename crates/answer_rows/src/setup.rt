@@ -260,7 +260,7 @@ fn has_default_channel(session: &Declarations) -> bool {
         return false;
     };
     channel.number == 0
-        && channel.pattern.name(7).as_slice() == b"run00007.mid".as_slice()
+        && channel.pattern.name(7, 0).as_slice() == b"run00007.mid".as_slice()
         && channel.buffer == 0
         && channel.id == 65535
         && channel.mask == 65535
