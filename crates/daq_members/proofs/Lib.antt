@@ -4,6 +4,7 @@ pub mod FrontMemberLaws
 pub mod FrontSeatLaws
 pub mod TakenLaws
 pub mod LoggerLaws
+pub mod ChannelBounds
 pub mod LoggerSeatLaws
 pub mod TurnSets
 pub mod OtherFilesKept

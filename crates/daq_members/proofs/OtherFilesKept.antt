@@ -18,7 +18,9 @@ use Rattle.mid_logger.specs.declared.stage.ChannelStage.{ChannelStage}
 use Rattle.mid_logger.specs.declared.stage.ChannelStage.TheVariants.{Idle, Asking, Writing, Draining, Drained, Broken}
 use Rattle.mid_logger.specs.Channels.{FileHead, StageAt, channel_run}
 use Rattle.loggers.specs.declared.logged_run.LoggedRun.{LoggedRun}
-use Rattle.loggers.specs.Moments.{LoggerMoment, IsLoggerReady}
+use Rattle.loggers.specs.Moments.{LoggerMoment, IsLoggerReady, HaveFilesOpen}
+use Rattle.loggers.specs.Turning.{LoggerTurn, TakesTurn}
+use Rattle.loggers.specs.Finishing.{LoggerFinish, FinishesLogger}
 use Rattle.loggers.specs.LoggerStands.{LoggerStands, HasHead, ChannelKept, IsHeadTold}
 use Rattle.loggers.specs.OtherFiles.{specs_in, IsRunName, HaveRunsAmong, KeepsOtherFiles, LeavesOtherFiles, TurnsLeaveFiles, PullsLeaveFiles, FinishesLeaveFiles}
 use Rattle.daq_members.specs.OwnTurns.{start_owed}
@@ -166,6 +168,17 @@ specs_stay laws t takes ready =
     let own : List ℕ = slot_runs t.before.slots in
     let told : List ℕ = started_runs (member_turns t.client t.later_calls) in
     (takes_leave laws (own ++ told) t takes ready (λ n c opened at is. Contains-append_left own told opened.run (slots_listed t.before.slots n c opened at is)) (λ n has. Contains-append_right own told n has)).specs
+
+-- So they do in a turn that the engine gives, and in a call to finish.
+
+pub turn_specs : TurnsLeaveFiles → (t : LoggerTurn) → TakesTurn t → specs_in t.after.slots ≡ specs_in t.before.slots
+turn_specs law t takes =
+    let own : List ℕ = slot_runs t.before.slots in
+    let told : List ℕ = t.order.run ∷ [] in
+    (law (own ++ told) t takes (λ n c opened at is. Contains-append_left own told opened.run (slots_listed t.before.slots n c opened at is)) (λ starts. Contains-append_right own told t.order.run (0, omega arith, refl))).specs
+
+pub finish_specs : FinishesLeaveFiles → (f : LoggerFinish) → FinishesLogger f → HaveFilesOpen f.slots f.files.seen → specs_in f.later_slots ≡ specs_in f.slots
+finish_specs law f finishes open_ = (law (slot_runs f.slots) f finishes open_ (slots_listed f.slots)).specs
 
 -- Other files stay.
 

@@ -1,5 +1,5 @@
 // The logger with all that it works on.
-ghost use Rattle.std.specs.Prelude.{◌≡◌, ◌≤◌, ◌||◌, length, map, IfSome, is_some, unwrap_or, None};
+ghost use Rattle.std.specs.Prelude.{◌≡◌, ◌≤◌, ◌<◌, ◌+◌, ◌||◌, ℕ, if◌then◌else◌, length, map, IfSome, is_some, unwrap_or, None};
 ghost use Rattle.std.specs.Option.{option_copied};
 ghost use Rattle.event.specs.Events.{record_limit};
 ghost use Rattle.buffer_core.specs.Slots.{slot_at, some_slot};
@@ -14,7 +14,7 @@ ghost use Rattle.daq_members.specs.ConnectedLoggers.{connected, moment_at, IsCon
 use buffer_core::BufferPort;
 use daq_io::{Files, Gate, Point};
 use daq_types::{Bytes, Order, Transition};
-use loggers::{Logger, Ports};
+use loggers::{Logger, Ports, laws as logger_laws};
 use member_model::Answer;
 use mid_logger::{Channel, Pulled};
 use std::marker::Model;
@@ -28,12 +28,16 @@ const CHANNELS: u32 = 16;
 #[derive(Drop)]
 pub(crate) struct ConnectedLogger<P: BufferPort, F: Files> {
     logger: Logger,
+    /// The number that those of all its channels are below.
+    bound: u32,
     ports: Ports<P>,
     files: F,
 }
 
 impl<P: BufferPort, F: Files> Model for ConnectedLogger<P, F> {
-    ghost use Rattle.std.specs.Prelude.{map};
+    ghost use Rattle.std.specs.Prelude.{◌≡◌, ◌≤◌, ℕ, map, None};
+    ghost use Rattle.buffer_core.specs.Slots.{slot_at};
+    ghost use Rattle.daq_members.specs.LoggerTaken.{pulled_channels};
     ghost use Rattle.daq_members.specs.ConnectedLoggers.{ConnectedSeen, IsConnected, connected};
 
     ghost Value = { ConnectedSeen F };
@@ -41,7 +45,8 @@ impl<P: BufferPort, F: Files> Model for ConnectedLogger<P, F> {
     ghost view = { λ c. connected c.logger (map P.access c.ports) c.files };
 
     ghost invariant = { λ c. IsConnected F.seen
-        (connected c.logger (map P.access c.ports) c.files) };
+        (connected c.logger (map P.access c.ports) c.files) × (c.bound ≤ pulled_channels)
+        × ((n : ℕ) → c.bound ≤ n → slot_at c.logger.channels n ≡ None) };
 }
 
 /// Whether the pull got an event.
@@ -79,14 +84,37 @@ fn has_channel(logger: &Logger, channel: u32) -> bool
     is_there(logger.channels.get(channel as usize))
 }
 
+/// The number past this one where a channel stands at it, else the bound so far.
+fn bound_past(there: bool, number: u32, bound: u32) -> u32
+    requires { number < pulled_channels }
+    ensures { result ≡ (if there then number + 1 else bound) }
+{
+    if there { number + 1 } else { bound }
+}
+
+/// The number past that of the last channel of this logger, zero where it has none.
+fn channel_bound(logger: &Logger) -> u32
+    requires { length logger.now.channels ≤ pulled_channels }
+    ensures few { result ≤ pulled_channels }
+    ensures none { (n : ℕ) → result ≤ n → slot_at logger.now.channels n ≡ None }
+{
+    let mut bound = 0;
+    for number in 0..CHANNELS {
+        bound = bound_past(has_channel(logger, number), number, bound);
+    }
+    bound
+}
+
 impl<P: BufferPort, F: Files> ConnectedLogger<P, F> {
     /// This logger with these ports and files.
     pub(crate) fn new(logger: Logger, ports: Ports<P>, files: F) -> ConnectedLogger<P, F>
         requires { IsConnected F.seen (connected logger (map P.access ports) files) }
         ensures { result ≡ connected logger (map P.access ports) files }
     {
+        let bound = channel_bound(&logger);
         ConnectedLogger {
             logger,
+            bound,
             ports,
             files,
         }
@@ -97,6 +125,14 @@ impl<P: BufferPort, F: Files> ConnectedLogger<P, F> {
         ensures { IsConnected F.seen self.now }
     {
         let _logger = &self.logger;
+    }
+
+    /// The number that those of all its channels are below.
+    fn bound(&self) -> u32
+        ensures few { result ≤ pulled_channels }
+        ensures none { (n : ℕ) → result ≤ n → slot_at self.now.slots n ≡ None }
+    {
+        self.bound
     }
 
     /// Pulls the channel of this number once, if there is one, between the two points of the gate.
@@ -124,8 +160,9 @@ impl<P: BufferPort, F: Files> ConnectedLogger<P, F> {
             (moment_at (files_by F.seen F.faults F.clashes F.first) self.new) }
         ensures stays { StaysAtPulls F.seen self.old self.new }
     {
+        let bound = self.bound();
         let mut got = false;
-        for channel in 0..CHANNELS {
+        for channel in 0..bound {
             let pulled = self.pull_one(rt, gate, client, channel);
             got = or_pulled(pulled, got);
         }
@@ -149,6 +186,7 @@ impl<P: BufferPort, F: Files> ConnectedLogger<P, F> {
             (files_by F.seen F.faults F.clashes F.first) transition order.now dump result self.old
             self.new) }
     {
+        logger_laws::other_files();
         self.logger.on_turn(
             rt,
             &mut self.files,
@@ -167,6 +205,7 @@ impl<P: BufferPort, F: Files> ConnectedLogger<P, F> {
         ensures keeps { StandsAfterFinish (connected_finish
             (files_by F.seen F.faults F.clashes F.first) result self.old self.new) }
     {
+        logger_laws::other_files();
         self.logger.finish(&mut self.files)
     }
 

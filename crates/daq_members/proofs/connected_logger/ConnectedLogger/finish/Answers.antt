@@ -3,6 +3,8 @@ use Rattle.std.proofs.Common.{ap, arith}
 use Rattle.loggers.specs.Moments.{files_by}
 use Rattle.daq_members.specs.ConnectedLoggers.{ConnectedSeen, connected, connected_finish}
 use Rattle.daq_members.proofs.LoggerLaws.{finished_small}
+use Rattle.daq_members.proofs.OtherFilesKept.{finish_specs}
+use Rattle.daq_members.proofs.ChannelBounds.{none_kept}
 use Rattle.daq_members.proofs.connected_logger.ConnectedLogger.finish.Goals as goal
 
 pub invariant_of-self : goal.invariant_of-self
@@ -11,14 +13,17 @@ invariant_of-self g c =
     let was = c.self.invariant in
     let accesses = map g.P.BufferPort.access c.self.inside.ports in
     let read = files_by g.F.Files.seen g.F.Files.faults g.F.Files.clashes g.F.Files.first in
-    let call = connected_finish read c.finish.result (connected c.self.inside.logger accesses c.self.inside.files) (connected c.finish.new.self accesses c.finish.new.files) in
-    record {
-      ready = did.ready accesses was.ready;
-      room = did.room accesses was.room;
-      idle = did.idle;
-      begun = omega (arith, did.begun, was.begun);
-      small = finished_small call did.finishes was.small;
-    }
+    let call = connected_finish read c.finish.result (connected c.self.inside.logger accesses c.self.inside.files) (connected c.finish.new.self accesses c.finish.new.files) in (
+      record {
+        ready = did.ready accesses was.0.ready;
+        room = did.room accesses was.0.room;
+        idle = did.idle;
+        begun = omega (arith, did.begun, was.0.begun);
+        small = finished_small call did.finishes was.0.small;
+      },
+      was.1,
+      none_kept c.self.inside.bound call.slots call.later_slots (finish_specs c.other_files.ensures.finishes call did.finishes was.0.ready.files) was.2,
+    )
 
 pub returns-clause-finishes : goal.returns-clause-finishes
 returns-clause-finishes g c = rw (← c.self.view_is) c.finish.ensures.finishes

@@ -2,6 +2,7 @@ use Rattle.std.proofs.Common.{refl, arith}
 use Rattle.loggers.specs.Moments.{files_by}
 use Rattle.daq_members.specs.ConnectedLoggers.{moment_at}
 use Rattle.daq_members.proofs.LoggerLaws.{pulls_more, stays_at_none, stays_then}
+use Rattle.daq_members.proofs.ChannelBounds.{pulls_all}
 use Rattle.daq_members.proofs.connected_logger.ConnectedLogger.pull_all.Goals as goal
 
 pub loop-channel-init : goal.loop-channel-init
@@ -17,3 +18,10 @@ loop-channel-preserved g c =
       within = omega arith;
       stays = stays_then g.F.Files.seen c.args.self.now at.self did.new.self at.invariant.stays did.ensures.stays;
     }
+
+pub returns-clause-pulls : goal.returns-clause-pulls
+returns-clause-pulls g c =
+    let read = files_by g.F.Files.seen g.F.Files.faults g.F.Files.clashes g.F.Files.first in
+    let at = c.loop-channel in
+    let bound = c.bound-bound in
+    pulls_all bound.result at.channel at.got (moment_at read c.args.self.now) (moment_at read at.self) (omega (arith, c.loop-channel-test.false)) at.invariant.within bound.ensures.few at.invariant.pulls bound.ensures.none

@@ -10,6 +10,6 @@ invariant-loop-channel g l = record {
   pulls : PullsBelow l.channel l.got
       (moment_at (files_by g.F.Files.seen g.F.Files.faults g.F.Files.clashes g.F.Files.first) l.initial.self)
       (moment_at (files_by g.F.Files.seen g.F.Files.faults g.F.Files.clashes g.F.Files.first) l.self);
-  within : l.channel ≤ 16;
+  within : l.channel ≤ l.bound;
   stays : StaysAtPulls g.F.Files.seen l.initial.self l.self;
 }

@@ -1,5 +1,9 @@
+use Rattle.std.specs.Prelude.{map}
 use Rattle.std.proofs.Common.{sym, ◌∙◌}
+use Rattle.loggers.specs.Moments.{files_by}
+use Rattle.daq_members.specs.ConnectedLoggers.{connected, moment_at}
 use Rattle.daq_members.proofs.LoggerLaws.{pulls_nothing, stays_at_none}
+use Rattle.daq_members.proofs.ChannelBounds.{none_pulled}
 use Rattle.daq_members.proofs.connected_logger.ConnectedLogger.pull_one.Goals as goal
 
 pub returns-then-not-has_channel-clause-pulls : goal.returns-then-not-has_channel-clause-pulls
@@ -12,13 +16,21 @@ pub invariant_of-self : goal.invariant_of-self
 invariant_of-self g c =
     let did = c.pull-pulled.ensures in
     let was = c.self.invariant in
-    record {
-      ready = did.ready;
-      room = did.room was.room;
-      idle = did.idle;
-      begun = rw (did.run, did.same.many) was.begun;
-      small = rw did.stop_dump was.small;
-    }
+    let read = files_by g.F.Files.seen g.F.Files.faults g.F.Files.clashes g.F.Files.first in
+    let now = c.self.inside in
+    let new = c.pull-pulled.new in
+    let before = moment_at read (connected now.logger (map g.P.BufferPort.access now.ports) now.files) in
+    let after = moment_at read (connected new.self (map g.P.BufferPort.access new.ports) new.files) in (
+      record {
+        ready = did.ready;
+        room = did.room was.0.room;
+        idle = did.idle;
+        begun = rw (did.run, did.same.many) was.0.begun;
+        small = rw did.stop_dump was.0.small;
+      },
+      was.1,
+      none_pulled now.bound c.args.channel c.pull-pulled.result before after did.pulls was.2,
+    )
 
 pub returns-clause-pulls : goal.returns-clause-pulls
 returns-clause-pulls g c = rw (← c.self.view_is) c.pull-pulled.ensures.pulls
