@@ -2,7 +2,8 @@
 use Rattle.std.proofs.Common.{◌≡◌, ℕ, ◌<◌, false, cond, List, [], ◌∷◌, length, Option, Some, None, refl, sym, ap, ◌∙◌, subst, arith}
 use Rattle.std.specs.Option.{option_or, is_some}
 use Rattle.odb_value.specs.Paths.{IsPath}
-use Rattle.odb_value.specs.Values.{HeldValue, IsValue}
+use Rattle.odb_value.specs.Values.{HeldValue}
+use Rattle.odb_value.specs.LinkValues.{IsValueOrLink}
 use Rattle.odb_tree.specs.declared.rows.Row.{Row}
 use Rattle.odb_tree.specs.declared.rows.NewKey.{NewKey}
 use Rattle.odb_tree.specs.declared.refusals.OdbRefusal.{OdbRefusal}
@@ -43,14 +44,14 @@ named rows [] h = absurd (cc)
 named rows (name ∷ names) h = omega arith
 
 -- and where `set_all` is not, and nothing is there
-pub can_set_all : (s : Rows) (p : List (List ℕ)) (v given : HeldValue) (r : Option OdbRefusal) → IsDatabase s → IsPath p → IsValue v → r ≡ set_all_fault s p v → r ≡ None → row_at s.rows p ≡ None → given ≡ v
+pub can_set_all : (s : Rows) (p : List (List ℕ)) (v given : HeldValue) (r : Option OdbRefusal) → IsDatabase s → IsPath p → IsValueOrLink v → r ≡ set_all_fault s p v → r ≡ None → row_at s.rows p ≡ None → given ≡ v
     → CanMake s p (Some given)
-can_set_all s p v given r h path is_value is none free same =
+can_set_all s p v given r h path held is none free same =
     let whole : set_all_fault s p v ≡ None = sym is ∙ none in record {
       some = named s.rows p (or_none_left (value_fault s.rows p) _ (or_none_right (obstacle_to_new s.rows p) _ whole));
       clear = or_none_left (obstacle_to_new s.rows p) _ whole;
       free = free;
-      database = database_made s p v given r h path is_value is none free same;
+      database = database_made s p v given r h path held is none free same;
     }
 
 -- where `set_all` is not refused and a row is there, that is a key

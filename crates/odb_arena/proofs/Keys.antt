@@ -6,8 +6,10 @@ use Rattle.odb_tree.specs.declared.rows.Row.{Row}
 use Rattle.odb_tree.specs.declared.refusals.OdbRefusal.{OdbRefusal}
 use Rattle.odb_tree.specs.Rows.{Rows, row_at, bytes_of, total_of}
 use Rattle.odb_tree.specs.Lookups.{obstacle_to, found_row, key_of, key_or_refusal, seek_key}
-use Rattle.odb_tree.specs.Changes.{CanPut, RowCanPut, IsKeyAt}
+use Rattle.odb_tree.specs.Changes.{CanPut, RowCanPut, RowCanResize, IsKeyAt}
+use Rattle.odb_tree.specs.Databases.{IsDatabase}
 use Rattle.odb_tree.proofs.FaultLemmas.{had_some}
+use Rattle.odb_tree.proofs.Led.{can_resize}
 use Rattle.odb_arena.specs.declared.tree.ArenaTree.TheInside.{Inside}
 use Rattle.odb_arena.specs.Arena.{row_of}
 use Rattle.odb_arena.specs.Inside.{rows_of, IsWholeArena}
@@ -56,6 +58,13 @@ node_can_put t s p n v index item given h is key can same row there = λ w e.
     let one : key.row ≡ row = some_is key.row row (sym (key_node t s p n v h is key) ∙ there) in
     let value : v ≡ w = some_is v w (sym key.value ∙ (ap (λ (r : Row). r.value) one ∙ e)) in
     subst (λ (x : HeldValue). CanPut x index given) value (subst (λ (i : Item). CanPut v index i) (sym same) can)
+
+-- it may get more or fewer items, since it is no link
+pub node_can_resize : (t : Inside) (s : Rows) (p : List (List ℕ)) (n : ℕ) (v : HeldValue) → IsWholeArena t → rows_of t ≡ s → IsKeyRow s.rows p n v
+    → (row : Row) → row_of t.nodes.entries n ≡ Some row → RowCanResize row
+node_can_resize t s p n v h is key row there =
+    let one : key.row ≡ row = some_is key.row row (sym (key_node t s p n v h is key) ∙ there) in
+    subst RowCanResize one (can_resize s p key.row (subst IsDatabase is h.database).rows (sym (ap (λ (x : Rows). x.links) is)) key.there)
 
 -- its bytes are among those of all values
 pub key_bytes : (t : Inside) (s : Rows) (p : List (List ℕ)) (n : ℕ) (v : HeldValue) (had : ℕ) → IsWholeArena t → rows_of t ≡ s → IsKeyRow s.rows p n v → had ≡ bytes_of v → had ≤ t.bytes

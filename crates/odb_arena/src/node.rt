@@ -8,7 +8,7 @@ ghost use Rattle.odb_arena.specs.Names.{folded, names_in, child_in, with_child, 
 ghost use Rattle.odb_arena.specs.Arena.{row_of, names_at, names_entered, names_left, bytes_of_found, IsAltered};
 ghost use Rattle.odb_tree.specs.declared.rows.Row.{Row};
 ghost use Rattle.odb_arena.specs.declared.directory.Directory.{Directory};
-ghost use Rattle.odb_tree.specs.Changes.{RowCanPut};
+ghost use Rattle.odb_tree.specs.Changes.{RowCanPut, RowCanResize};
 ghost use Rattle.odb_value.specs.Values.{items_limit};
 ghost use Rattle.odb_value.specs.ValueChanges.{put_in, resized};
 
@@ -181,6 +181,7 @@ pub fn resize_in(
     number: u32,
     len: u32,
 ) -> Result<(), NoMemory>
+    requires kept { (row : Row) → row_of nodes.old.entries number ≡ Some row → RowCanResize row }
     requires some { 1 ≤ len }
     requires many { len ≤ items_limit }
     ensures ok { OnOk result (IsAltered (λ v. resized v len) number nodes.old.entries

@@ -1,5 +1,5 @@
 -- The faults of calls, from what the code finds.
-use Rattle.std.proofs.Common.{◌≡◌, ℕ, ◌+◌, ◌-◌, ◌*◌, ◌≤◌, ◌^◌, Bool, false, cond, eqb, List, [], ◌∷◌, ◌++◌, length, replicate, Option, Some, None, refl, sym, ap, ◌∙◌, subst, arith}
+use Rattle.std.proofs.Common.{◌≡◌, ℕ, ◌+◌, ◌-◌, ◌*◌, ◌≤◌, ◌^◌, Bool, false, cond, eqb, List, [], ◌∷◌, ◌++◌, length, replicate, Option, Some, None, ◌⊎◌, inl, inr, refl, sym, ap, ◌∙◌, subst, arith}
 use Rattle.std.specs.Prelude.{All, IsTrue}
 use Rattle.std.specs.Option.{option_or, option_map, is_some}
 use Rattle.std.proofs.lemmas.Bool.Decides.{nat_tests}
@@ -10,8 +10,9 @@ use Rattle.odb_value.specs.declared.items.Item.{Item}
 use Rattle.odb_value.specs.declared.items.Item.TheVariants.{Text}
 use Rattle.odb_value.specs.Items.{tid_of, is_kept, IsItem}
 use Rattle.odb_value.specs.ItemTexts.{text_limit}
-use Rattle.odb_value.specs.Values.{HeldValue, IsValue, IsSizeOf, IsShorter, items_limit}
-use Rattle.odb_value.proofs.ValueKept.{is_kept-value}
+use Rattle.odb_value.specs.Values.{HeldValue, IsSizeOf, IsShorter, items_limit}
+use Rattle.odb_value.specs.LinkValues.{IsValueOrLink}
+use Rattle.odb_value.proofs.LinksKept.{some_held, few_held}
 use Rattle.odb_value.specs.ValueChanges.{put_in, resized, size_with_item, default_item}
 use Rattle.odb_tree.specs.declared.rows.Row.{Row}
 use Rattle.odb_tree.specs.declared.rows.NewKey.{NewKey}
@@ -78,11 +79,11 @@ resize_is s p v len had bytes size h k e b =
 len_right : (n : ℕ) → 1 ≤ n → n ≤ items_limit → len_fault n ≡ None
 len_right n some many = grind arith
 
-pub set_is : (s : Rows) (p : List (List ℕ)) (v : HeldValue) (index : ℕ) (item : Item) (had bytes len size : ℕ) → IsKeyAt s.rows p v → IsValue v → had ≡ bytes_of v → len ≡ length v.items
+pub set_is : (s : Rows) (p : List (List ℕ)) (v : HeldValue) (index : ℕ) (item : Item) (had bytes len size : ℕ) → IsKeyAt s.rows p v → IsValueOrLink v → had ≡ bytes_of v → len ≡ length v.items
     → (text_fault item ≡ None → size ≡ size_with_item v.size item) → (len_fault len ≡ None → bytes ≡ len * size)
     → option_map Limit (passed (text_fault item) (length s.rows) (total_of s.rows - had + bytes) s.next) ≡ limit_fault (text_fault item) (after_set s p index item)
 set_is s p v index item had bytes len size h value k e r b =
-    let right : len_fault len ≡ None = len_right len (omega (arith, e, value.some)) (omega (arith, e, value.many)) in
+    let right : len_fault len ≡ None = len_right len (omega (arith, e, some_held v value)) (omega (arith, e, few_held v value)) in
     change_is s p v (λ (x : HeldValue). put_in x index item) (text_fault item) had bytes h k
     (λ none. b right ∙ (ap (λ (n : ℕ). len * n) (r none) ∙ ap (λ (n : ℕ). n * size_with_item v.size item) (e ∙ sym (length-set v.items index item))))
 
@@ -95,12 +96,12 @@ named_value rows (name ∷ names) h = refl
 of_kept : (type : Tid) → IsTrue (is_kept type) → tid_fault type ≡ None
 of_kept type h = ap (λ (t : Bool). cond t None (Some (NotKept type))) h
 
+not_long : (bytes : List ℕ) → length bytes ≤ text_limit → text_fault (Text bytes) ≡ None
+not_long bytes h = grind (arith, nat_tests, h)
+
 -- a text of a value is not too long
 short_text : (type : Tid) (size : ℕ) (item : Item) → IsSizeOf type size → IsItem type item → IsShorter size item → text_fault item ≡ None
 short_text type size (Text bytes) fits is short = not_long bytes (omega (arith, subst (λ (t : Tid). IsSizeOf t size) (sym is.tid) fits, short))
-  where
-    not_long : (bytes : List ℕ) → length bytes ≤ text_limit → text_fault (Text bytes) ≡ None
-    not_long bytes h = grind (arith, nat_tests, h)
 short_text type size _ fits is short = refl
 
 short_texts : (type : Tid) (size : ℕ) (items : List Item) → IsSizeOf type size → All (IsItem type) items → All (IsShorter size) items → texts_fault items ≡ None
@@ -109,12 +110,10 @@ short_texts type size (item ∷ items) fits are short =
     rw (short_text type size item fits (All-head (IsItem type) item items are) (All-head (IsShorter size) item items short))
     (short_texts type size items fits (All-tail (IsItem type) item items are) (All-tail (IsShorter size) item items short))
 
--- of a value nothing is wrong with its type and its items
-own_right : (v : HeldValue) → IsValue v → own_fault v ≡ None
-own_right v h = rw (len_right (length v.items) h.some h.many) (short_texts v.tid v.size v.items h.size h.of_type h.shorter)
-
-pub tid_right : (v : HeldValue) → IsValue v → tid_fault v.tid ≡ None
-tid_right v h = of_kept v.tid (is_kept-value v h)
+-- of a value, and of a link, nothing is wrong with the items
+own_right : (v : HeldValue) → IsValueOrLink v → own_fault v ≡ None
+own_right v (inl h) = rw (len_right (length v.items) h.some h.many) (short_texts v.tid v.size v.items h.size h.of_type h.shorter)
+own_right v (inr l) = rw (l.one, not_long l.text l.short) refl
 
 all_clear : (a b c type : Option OdbRefusal) (own : Option What) (after s : Rows) → a ≡ None → c ≡ type → own ≡ None → after ≡ s
     → option_or a (option_or b (option_or c (limit_fault own after))) ≡ option_or b (option_or type (limit_fault None s))
@@ -125,7 +124,7 @@ or_assoc None b c = refl
 or_assoc (Some x) b c = refl
 
 -- a new key
-pub set_all_new : (s : Rows) (p : List (List ℕ)) (v : HeldValue) (obstacle r : Option OdbRefusal) → eqb (length p) 0 ≡ false → row_at s.rows p ≡ None → IsValue v
+pub set_all_new : (s : Rows) (p : List (List ℕ)) (v : HeldValue) (obstacle r : Option OdbRefusal) → eqb (length p) 0 ≡ false → row_at s.rows p ≡ None → IsValueOrLink v
     → obstacle ≡ obstacle_to_new s.rows p → ((x : OdbRefusal) → obstacle ≡ Some x → ⊥) → r ≡ option_or (tid_fault v.tid) (limit_fault None (created s p (Some v))) → r ≡ set_all_fault s p v
 set_all_new s p v obstacle r named missing sound is free fault =
     let rest : Option OdbRefusal = option_or (tid_fault v.tid) (limit_fault None (created s p (Some v))) in
@@ -140,7 +139,7 @@ no_directory row v h = ap (λ (o : Option HeldValue). cond (is_some o) None (Som
 
 -- a key that is there
 pub set_all_there : (s : Rows) (p : List (List ℕ)) (v had : HeldValue) (row : Row) (obstacle type r : Option OdbRefusal) → eqb (length p) 0 ≡ false → row_at s.rows p ≡ Some row → row.value ≡ Some had
-    → IsValue v → obstacle ≡ obstacle_to_new s.rows p → ((x : OdbRefusal) → obstacle ≡ Some x → ⊥) → type ≡ option_or (tid_fault v.tid) (type_fault had.tid v.tid)
+    → IsValueOrLink v → obstacle ≡ obstacle_to_new s.rows p → ((x : OdbRefusal) → obstacle ≡ Some x → ⊥) → type ≡ option_or (tid_fault v.tid) (type_fault had.tid v.tid)
     → r ≡ option_or type (limit_fault None (record s { rows = change_at s.rows p (λ _. v) })) → r ≡ set_all_fault s p v
 set_all_there s p v had row obstacle type r named there held sound is free type_is fault =
     let after : Rows = record s { rows = change_at s.rows p (λ _. v) } in

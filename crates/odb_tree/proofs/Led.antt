@@ -17,7 +17,9 @@ use Rattle.odb_tree.specs.declared.refusals.OdbRefusal.TheVariants.{BadLink}
 use Rattle.odb_tree.specs.declared.entry.DatabaseEntry.{DatabaseEntry}
 use Rattle.odb_tree.specs.declared.entry.DatabaseEntry.TheVariants.{Create, Set, SetAll, Get, Find, ListDir, Delete, Resize, PathOf}
 use Rattle.odb_tree.specs.Rows.{Rows, row_at}
-use Rattle.odb_tree.specs.Links.{is_link, is_link_type, is_link_value, IsLink, target_of, target_of_value, target_of_items, path_or_root, Met, has_names, met_at, first_link, follow, lead, links_limit, resolved, meets_link, through, led_to}
+use Rattle.odb_value.specs.LinkValues.{IsLink, is_link_type}
+use Rattle.odb_tree.specs.Changes.{RowCanResize}
+use Rattle.odb_tree.specs.Links.{is_link, is_link_value, target_of, target_of_value, target_of_items, path_or_root, Met, has_names, met_at, first_link, follow, lead, links_limit, resolved, meets_link, through, led_to}
 use Rattle.odb_tree.specs.Lookups.{obstacle_to_new}
 use Rattle.odb_tree.specs.Limits.{limit_fault}
 use Rattle.odb_tree.specs.Calls.{reply_or, value_fault, link_fault, there_fault, own_fault, number_at, put_reply, Gives, GivesIf, GivesItem, IsReplyThere, rows_there, IsRowsReply, rows_after, after_create, after_set, after_set_all, after_resize, create_reply, set_reply, set_all_reply, get_reply, find_reply, list_reply, resize_reply}
@@ -196,7 +198,7 @@ pub resolved_ends : (s : Rows) (p q : List (List ℕ)) → s.links ≡ true → 
 resolved_ends s p q kept e =
     led_ends s.rows true links_limit 0 p q (subst (λ (b : Bool). cond b (lead links_limit s.rows true 0 p) (Ok p) ≡ Ok q) kept e)
 
--- a database without links has no link
+-- a database without links has no link, and each key may get more or fewer items
 
 value_none : (o : Option HeldValue) → IfSome o IsValue → is_link_value o ≡ false
 value_none None h = refl
@@ -206,6 +208,11 @@ pub no_link_row : (s : Rows) (p : List (List ℕ)) (r : Row) → All (IsRow s.li
 no_link_row s p r are none there =
     let row : IsRow false r = row_has (IsRow false) s.rows p r (subst (λ (b : Bool). All (IsRow b) s.rows) none are) there in
     value_none r.value row.value
+
+pub can_resize : (s : Rows) (p : List (List ℕ)) (r : Row) → All (IsRow s.links) s.rows → s.links ≡ false → row_at s.rows p ≡ Some r → RowCanResize r
+can_resize s p r are none there v held =
+    let row : IsRow false r = row_has (IsRow false) s.rows p r (subst (λ (b : Bool). All (IsRow b) s.rows) none are) there in
+    is_kept-value v (subst (λ (o : Option HeldValue). IfSome o IsValue) held row.value)
 
 met_nowhere : (rows : List Row) (last : Bool) (passed names : List (List ℕ)) → ((q : List (List ℕ)) (r : Row) → row_at rows q ≡ Some r → is_link r ≡ false) → first_link rows last passed names ≡ None
 met_nowhere rows last passed [] none = refl

@@ -29,9 +29,11 @@ use Rattle.odb_tree.specs.Lookups.{obstacle_to_new, seek_key, absent_fault}
 use Rattle.odb_tree.specs.Limits.{IsWithin, len_fault, limit_fault}
 use Rattle.odb_tree.specs.Changes.{IsKeyAt, CanPut}
 use Rattle.odb_tree.specs.Places.{made_for}
-use Rattle.odb_tree.specs.Links.{IsLink, is_link_type, is_link_value, link_to, first_link}
+use Rattle.odb_value.specs.LinkValues.{IsLink, IsValueOrLink, is_link_type, link_to}
+use Rattle.odb_value.proofs.LinksKept.{value_of_kept}
+use Rattle.odb_tree.specs.Links.{is_link_value, first_link}
 use Rattle.odb_tree.specs.Trees.{AreNew, AreShort}
-use Rattle.odb_tree.specs.Calls.{Gives, GivesItem, IsReplyThere, rows_there, IsRowsReply, rows_after, put_fault, put_reply, after_put, resize_reply, reply_or, create_fault, exists_fault, kept_fault, items_fault, new_value, after_create, set_fault, set_reply, set_reply_to, after_set, set_all_fault, after_set_all, after_set_all_at, number_at, after_resize, resize_reply_to, count_gone}
+use Rattle.odb_tree.specs.Calls.{Gives, GivesItem, IsReplyThere, rows_there, IsRowsReply, rows_after, tid_fault, value_fault, set_all_reply, put_fault, put_reply, after_put, resize_reply, reply_or, create_fault, exists_fault, kept_fault, items_fault, new_value, after_create, set_fault, set_reply, set_reply_to, after_set, set_all_fault, after_set_all, after_set_all_at, number_at, after_resize, resize_reply_to, count_gone}
 use Rattle.odb_tree.specs.Making.{new_number, created}
 use Rattle.odb_tree.specs.Histories.{IsLegalRows, rows_replay}
 use Rattle.odb_tree.specs.Databases.{IsHeld, IsRow, IsDatabase, IsSoundKey, IsSoundCall}
@@ -147,6 +149,13 @@ rows_set_all s p v None e h path value makes =
     (made_rows s p (Some v) h path value (short_more (length p) depth_limit (made_for s p (Some v)) path.short (makes e).1))
 rows_set_all s p v (Some r) e h path value makes = all_changed (IsRow s.links) s.rows p (λ _. v) h (λ x at k. row_changed s.links x (λ _. v) k (λ _ _ _. value))
 
+-- what `set_all` writes is a value, since a link is refused
+set_all_value : (s : Rows) (p : List (List ℕ)) (v : HeldValue) (n : ℕ) → IsValueOrLink v → set_all_reply s p v ≡ Ok n → IsValue v
+set_all_value s p v n h reply =
+    let none : set_all_fault s p v ≡ None = ok_none (set_all_fault s p v) (number_at s p (row_at s.rows p)) n reply in
+    let rest = or_none_right (value_fault s.rows p) _ (or_none_right (obstacle_to_new s.rows p) _ none) in
+    value_of_kept v (tid_kept (is_kept v.tid) (NotKept v.tid) (or_none_left (tid_fault v.tid) _ rest)) h
+
 rows_set : (s : Rows) (p : List (List ℕ)) (index : ℕ) (item : Item) → All (IsRow s.links) s.rows → IsSound item → IsSet s p index item → All (IsRow s.links) (after_set s p index item).rows
 rows_set s p index item h sound set =
     all_changed (IsRow s.links) s.rows p (λ v. put_in v index item) h
@@ -170,7 +179,8 @@ each_row s (Create p kind (Err why)) h call reply free = h.rows
 each_row s (Set p index item (Ok n)) h call reply free =
     rows_set s p index item h.rows call.1 (set_key s p index item n (seek_key s.rows p) refl (item_gives false (tid_of item) n (set_reply s p index item) reply))
 each_row s (Set p index item (Err why)) h call reply free = h.rows
-each_row s (SetAll p v (Ok n)) h call reply free = rows_set_all s p v (row_at s.rows p) refl h.rows call.0 (held_value s.links v call.1) (set_all_makes s p v n reply)
+each_row s (SetAll p v (Ok n)) h call reply free =
+    rows_set_all s p v (row_at s.rows p) refl h.rows call.0 (held_value s.links v (set_all_value s p v n call.1 reply)) (set_all_makes s p v n reply)
 each_row s (SetAll p v (Err why)) h call reply free = h.rows
 each_row s (Get p reply) h call is free = h.rows
 each_row s (Find p reply) h call is free = h.rows
@@ -322,17 +332,17 @@ database_set s p index item given n v r left h path sound key is none same chang
     subst IsDatabase (sym (set_left s p index item given left same changed))
     (database_there s (Set p index item (Ok n)) h (path, sound) (item_given (tid_of item) (Ok n) (set_reply s p index item) (set_replied s p index item n v r key is none)) tt)
 
-pub database_set_all : (s : Rows) (p : List (List ℕ)) (v : HeldValue) (r : Option OdbRefusal) → IsDatabase s → IsPath p → IsValue v → r ≡ set_all_fault s p v → r ≡ None → IsDatabase (after_set_all s p v)
+pub database_set_all : (s : Rows) (p : List (List ℕ)) (v : HeldValue) (r : Option OdbRefusal) → IsDatabase s → IsPath p → IsValueOrLink v → r ≡ set_all_fault s p v → r ≡ None → IsDatabase (after_set_all s p v)
 database_set_all s p v r h path value is none =
     database_there s (SetAll p v (Ok (number_at s p (row_at s.rows p)))) h (path, value) (reply_none (set_all_fault s p v) (number_at s p (row_at s.rows p)) (sym is ∙ none)) tt
 
-pub database_replaced : (s : Rows) (p : List (List ℕ)) (v given : HeldValue) (row : Row) (r : Option OdbRefusal) (left : List Row) → IsDatabase s → IsPath p → IsValue v → r ≡ set_all_fault s p v → r ≡ None
+pub database_replaced : (s : Rows) (p : List (List ℕ)) (v given : HeldValue) (row : Row) (r : Option OdbRefusal) (left : List Row) → IsDatabase s → IsPath p → IsValueOrLink v → r ≡ set_all_fault s p v → r ≡ None
     → row_at s.rows p ≡ Some row → given ≡ v → left ≡ change_at s.rows p (λ _. given) → IsDatabase (record s { rows = left })
 database_replaced s p v given row r left h path value is none there same changed =
     with_left s left (change_at s.rows p (λ _. v)) (changed ∙ ap (λ (w : HeldValue). change_at s.rows p (λ _. w)) same)
     (subst (λ (o : Option Row). IsDatabase (after_set_all_at s p v o)) there (database_set_all s p v r h path value is none))
 
-pub database_made : (s : Rows) (p : List (List ℕ)) (v given : HeldValue) (r : Option OdbRefusal) → IsDatabase s → IsPath p → IsValue v → r ≡ set_all_fault s p v → r ≡ None
+pub database_made : (s : Rows) (p : List (List ℕ)) (v given : HeldValue) (r : Option OdbRefusal) → IsDatabase s → IsPath p → IsValueOrLink v → r ≡ set_all_fault s p v → r ≡ None
     → row_at s.rows p ≡ None → given ≡ v → IsDatabase (created s p (Some given))
 database_made s p v given r h path value is none free same =
     subst (λ (w : HeldValue). IsDatabase (created s p (Some w))) (sym same)

@@ -24,7 +24,8 @@ use Rattle.odb_tree.specs.declared.refusals.What.TheVariants.{Size}
 use Rattle.odb_tree.specs.declared.entry.DatabaseEntry.{DatabaseEntry}
 use Rattle.odb_tree.specs.declared.entry.DatabaseEntry.TheVariants.{Create, Set, SetAll, Get, Find, ListDir, Delete, Resize, PathOf}
 use Rattle.odb_tree.specs.Rows.{Rows, row_at, row_numbered, is_key, change_at, rows_outside, keys_in, dirs_in}
-use Rattle.odb_tree.specs.Links.{link_to, resolved, meets_link, through, led_to}
+use Rattle.odb_value.specs.LinkValues.{link_to}
+use Rattle.odb_tree.specs.Links.{resolved, meets_link, through, led_to}
 use Rattle.odb_tree.specs.Lookups.{obstacle_to_new, seek, seek_key, dir_fault, absent_fault}
 use Rattle.odb_tree.specs.Limits.{len_fault, text_fault, texts_fault, limit_fault}
 use Rattle.odb_tree.specs.Making.{new_number, created}

@@ -1,5 +1,5 @@
 -- Well-formed databases, and calls with well-formed arguments.
-use Rattle.std.specs.Prelude.{Bool, true, false, All, IfSome, ◌⊎◌}
+use Rattle.std.specs.Prelude.{Bool, true, false, All, IfSome}
 use Rattle.odb_value.specs.Paths.{IsPath}
 use Rattle.odb_value.specs.Items.{IsSound}
 use Rattle.odb_value.specs.Values.{HeldValue, IsValue}
@@ -9,14 +9,14 @@ use Rattle.odb_tree.specs.declared.rows.NewKey.TheVariants.{Link}
 use Rattle.odb_tree.specs.declared.entry.DatabaseEntry.{DatabaseEntry}
 use Rattle.odb_tree.specs.declared.entry.DatabaseEntry.TheVariants.{Create, Set, SetAll, Get, Find, ListDir, Delete, Resize, PathOf}
 use Rattle.odb_tree.specs.Rows.{Rows}
-use Rattle.odb_tree.specs.Links.{IsLink}
+use Rattle.odb_value.specs.LinkValues.{IsValueOrLink}
 use Rattle.odb_tree.specs.Limits.{IsWithin}
 use Rattle.odb_tree.specs.Trees.{IsTree}
 
 -- what a key holds: a value, or a link where the database keeps links
 abbrev pub IsHeld : (links : Bool) → HeldValue → Type 0
 IsHeld false v = IsValue v
-IsHeld true v = IsValue v ⊎ IsLink v
+IsHeld true v = IsValueOrLink v
 
 -- a row has a path by the rule of paths, and a key holds something
 pub record IsRow (links : Bool) (r : Row) : Type 0 where
@@ -38,7 +38,7 @@ IsSoundKey kind = Unit {0}
 abbrev pub IsSoundCall : DatabaseEntry → Type 0
 IsSoundCall (Create p kind reply) = IsPath p × IsSoundKey kind
 IsSoundCall (Set p index item reply) = IsPath p × IsSound item
-IsSoundCall (SetAll p v reply) = IsPath p × IsValue v
+IsSoundCall (SetAll p v reply) = IsPath p × IsValueOrLink v
 IsSoundCall (Get p reply) = IsPath p
 IsSoundCall (Find p reply) = IsPath p
 IsSoundCall (ListDir p reply) = IsPath p

@@ -1,46 +1,25 @@
 -- Links: rows of type LINK, whose text is that of a path, and the path that a call goes to by them.
 use Rattle.std.specs.Prelude.{◌≡◌, ℕ, zero, suc, ◌+◌, ◌≤◌, nat_lt, ◌||◌, ◌&&◌, if◌then◌else◌, Bool, true, false, List, [], ◌∷◌, ◌++◌, length, Option, Some, None, Result, Ok, Err}
 use Rattle.std.specs.Option.{option_or, is_some}
-use Rattle.daq_types.specs.declared.types.Tid.{Tid}
-use Rattle.daq_types.specs.declared.types.Tid.TheVariants as tid
-use Rattle.odb_value.specs.Paths.{depth_limit, IsPath}
-use Rattle.odb_value.specs.PathText.{path_reply, path_text}
+use Rattle.odb_value.specs.Paths.{depth_limit}
+use Rattle.odb_value.specs.PathText.{path_reply}
 use Rattle.odb_value.specs.declared.path_refusals.PathRefusal.{PathRefusal}
 use Rattle.odb_value.specs.declared.items.Item.{Item}
 use Rattle.odb_value.specs.declared.items.Item.TheVariants.{Text}
-use Rattle.odb_value.specs.ItemTexts.{text_limit}
 use Rattle.odb_value.specs.Values.{HeldValue}
+use Rattle.odb_value.specs.LinkValues.{is_link_type}
 use Rattle.odb_tree.specs.declared.rows.Row.{Row}
 use Rattle.odb_tree.specs.declared.refusals.OdbRefusal.{OdbRefusal}
 use Rattle.odb_tree.specs.declared.refusals.OdbRefusal.TheVariants.{BadLink}
 use Rattle.odb_tree.specs.Rows.{Rows, row_at}
 
--- the type of links
-abbrev pub is_link_type : Tid → Bool
-is_link_type tid.Link = true
-is_link_type type = false
-
+-- whether it is the value of a link
 abbrev pub is_link_value : Option HeldValue → Bool
 is_link_value None = false
 is_link_value (Some v) = is_link_type v.tid
 
 abbrev pub is_link : Row → Bool
 is_link r = is_link_value r.value
-
--- the value of a link to this path: one text, with its length plus 1 as the item size
-abbrev pub link_to : List (List ℕ) → HeldValue
-link_to target = record { tid = tid.Link; size = length (path_text target) + 1; items = Text (path_text target) ∷ [] }
-
--- a link's value: one text that is read as a path and is not too long, and its length plus 1 as the item size
-pub record IsLink (v : HeldValue) : Type 0 where
-  pub of_type : v.tid ≡ tid.Link
-  pub text : List ℕ
-  pub one : v.items ≡ Text text ∷ []
-  pub target : List (List ℕ)
-  pub path : IsPath target
-  pub reads : path_reply text ≡ Ok target
-  pub short : length text ≤ text_limit
-  pub size : v.size ≡ length text + 1
 
 -- the path that a link goes to
 

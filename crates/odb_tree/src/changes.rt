@@ -4,7 +4,7 @@ ghost use Rattle.odb_value.specs.Values.{HeldValue, items_limit};
 ghost use Rattle.odb_value.specs.ValueChanges.{put_in, resized};
 ghost use Rattle.odb_tree.specs.declared.rows.Row.{Row};
 ghost use Rattle.odb_tree.specs.Rows.{row_at, change_row, change_at, rows_outside};
-ghost use Rattle.odb_tree.specs.Changes.{CanPut, RowCanPut};
+ghost use Rattle.odb_tree.specs.Changes.{CanPut, RowCanPut, RowCanResize};
 
 use crate::rows::Row;
 use daq_types::{Name, NoMemory};
@@ -31,6 +31,7 @@ pub fn put_row(row: &mut Row, index: u32, item: Item)
 
 /// Gives the row so many items.
 pub fn resize_row(row: &mut Row, alloc: Global, len: u32) -> Result<(), NoMemory>
+    requires kept { RowCanResize row.old }
     requires some { 1 ≤ len }
     requires many { len ≤ items_limit }
     ensures ok { OnOk result (row.new ≡ change_row (λ v. resized v len) row.old) }
@@ -68,6 +69,7 @@ pub fn resize_at(
     names: &[Name],
     len: u32,
 ) -> Result<(), NoMemory>
+    requires kept { (row : Row) → row_at rows.old.items names.now ≡ Some row → RowCanResize row }
     requires some { 1 ≤ len }
     requires many { len ≤ items_limit }
     ensures ok { OnOk result (rows.new.items ≡ change_at rows.old.items names.now

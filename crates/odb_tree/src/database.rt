@@ -4,7 +4,7 @@ ghost use Rattle.odb_value.specs.Items.{tid_of};
 ghost use Rattle.odb_tree.specs.declared.refusals.OdbRefusal.TheVariants.{NoMemory as no_memory};
 ghost use Rattle.odb_tree.specs.Databases.{IsDatabase};
 ghost use Rattle.odb_tree.specs.declared.entry.DatabaseEntry.TheVariants.{Create, Set, SetAll, Get, Find, ListDir, Delete, Resize, PathOf};
-ghost use Rattle.odb_tree.specs.Links.{IsLink, is_link_type, meets_link, numbers_along};
+ghost use Rattle.odb_tree.specs.Links.{meets_link, numbers_along};
 ghost use Rattle.odb_tree.specs.Calls.{Gives, IsRowsReply, rows_after, raw_reply, put_reply, after_put, is_row_below};
 ghost use Rattle.odb_tree.specs.Noting.{changes_of, changes_of_put, all_noted};
 
@@ -70,7 +70,6 @@ pub trait Database: Drop {
     /// What `set_all` does, but at the path as it is: a link at its end is itself the key. A value of type LINK is
     /// written where the database keeps links.
     fn put(&mut self, alloc: Global, path: &Path, value: &Value) -> Result<u32, OdbRefusal>
-        requires link { is_link_type value.now.tid ≡ true → IsLink value.now }
         ensures reply { Gives result (put_reply (rows self.old) path.now value.now) }
         ensures after { rows self.new ≡ after_put (rows self.old) path.now value.now result }
         ensures notes { watches self.new ≡ all_noted (changes_of_put (rows self.old) path.now

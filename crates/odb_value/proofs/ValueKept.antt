@@ -11,7 +11,7 @@ use Rattle.odb_value.specs.Values.{HeldValue, IsValue, IsShorter, IsSizeOf, item
 use Rattle.odb_value.specs.ValueChanges.{default_item, resized, size_with_item, put_in}
 
 -- Every item is of a type that is kept.
-is_kept-item : (item : Item) → IsTrue (is_kept (tid_of item))
+pub is_kept-item : (item : Item) → IsTrue (is_kept (tid_of item))
 is_kept-item (UInt8 n) = refl
 is_kept-item (Int8 z) = refl
 is_kept-item (Char b) = refl

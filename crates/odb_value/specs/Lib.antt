@@ -2,6 +2,7 @@ pub mod Paths
 pub mod PathText
 pub mod ItemBytes
 pub mod Items
+pub mod LinkValues
 pub mod Values
 pub mod ValueInside
 pub mod ValueChanges

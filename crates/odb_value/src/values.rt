@@ -1,6 +1,7 @@
 ghost use Rattle.std.specs.Prelude.{◌≡◌, ◌≤◌, ◌<◌, ◌++◌, length, take, replicate, slice_set, IsTrue, IfOk, OnOk, OnErr};
 ghost use Rattle.odb_value.specs.Items.{is_kept, tid_of};
-ghost use Rattle.odb_value.specs.Values.{HeldValue, IsValue, IsShorter, items_limit, size_limit};
+ghost use Rattle.odb_value.specs.Values.{HeldValue, IsShorter, items_limit, size_limit};
+ghost use Rattle.odb_value.specs.LinkValues.{IsValueOrLink};
 ghost use Rattle.odb_value.specs.ValueChanges.{default_item, default_size, new_held, size_with_item, put_in, resized};
 
 use crate::items::Item;
@@ -80,7 +81,8 @@ fn raised_size(size: u32, item: &Item) -> u32
 }
 
 /// The value of a key: 1 to 65,536 items of one type. For a STRING the item size is above each text's length and at
-/// most 1,024, for any other type it is the type's.
+/// most 1,024, for any other type it is the type's. Or the value of a link, of type LINK: one text, which is that of a
+/// path, with its length plus 1 as the item size.
 #[derive(Drop)]
 pub struct Value {
     tid: Tid,
@@ -89,7 +91,8 @@ pub struct Value {
 }
 
 impl Model for Value {
-    ghost use Rattle.odb_value.specs.Values.{HeldValue, IsValue};
+    ghost use Rattle.odb_value.specs.Values.{HeldValue};
+    ghost use Rattle.odb_value.specs.LinkValues.{IsValueOrLink};
 
     ghost Value = { HeldValue };
 
@@ -97,13 +100,13 @@ impl Model for Value {
 
     ghost view = { held_of };
 
-    ghost invariant = { λ v. IsValue (held_of v) };
+    ghost invariant = { λ v. IsValueOrLink (held_of v) };
 }
 
 impl Value {
     /// The value of this type with these items. Takes no memory.
     pub fn of(tid: Tid, size: u32, items: Items) -> Value
-        requires { IsValue (record { tid = tid; size = size; items = items }) }
+        requires { IsValueOrLink (record { tid = tid; size = size; items = items }) }
         ensures { result ≡ record { tid = tid; size = size; items = items } }
     {
         Value { tid, size, items }
@@ -136,8 +139,9 @@ impl Value {
         self.items.set(index as usize, item);
     }
 
-    /// So many items: cut at the end, or with those of a new key behind.
+    /// So many items: cut at the end, or with those of a new key behind. A link has one item always.
     pub fn resize(&mut self, alloc: Global, len: u32) -> Result<(), NoMemory>
+        requires kept { IsTrue (is_kept self.old.tid) }
         requires some { 1 ≤ len }
         requires many { len ≤ items_limit }
         ensures ok { OnOk result (self.new ≡ resized self.old len) }
@@ -153,7 +157,7 @@ impl Value {
     /// The type of the items.
     pub fn tid(&self) -> Tid
         ensures tid { result ≡ self.now.tid }
-        ensures is_value { IsValue self.now }
+        ensures held { IsValueOrLink self.now }
     {
         self.tid
     }
@@ -168,7 +172,9 @@ impl Value {
     /// The items.
     pub fn items(&self) -> &[Item]
         ensures items { result.now ≡ self.now.items }
-        ensures is_value { IsValue self.now }
+        ensures some { 1 ≤ length result.now }
+        ensures many { length result.now ≤ items_limit }
+        ensures held { IsValueOrLink self.now }
     {
         self.items.as_slice()
     }

@@ -7,13 +7,18 @@ use Rattle.odb_tree.specs.Databases.{IsDatabase}
 use Rattle.odb_tree.specs.Calls.{after_resize}
 use Rattle.odb_tree.proofs.Sound.{database_resized}
 use Rattle.odb_arena.specs.Arena.{row_of, names_at}
-use Rattle.odb_arena.proofs.Keys.{key_row, key_at, key_bytes}
+use Rattle.odb_arena.proofs.Keys.{key_row, key_at, key_bytes, node_can_resize}
 use Rattle.odb_arena.proofs.Steps.{arena_same}
 use Rattle.odb_arena.proofs.Altering.{altered, unaltered}
 use Rattle.odb_arena.proofs.tree.ArenaTree.resize_there.Goals as goal
 
 pub resize_fault-requires : goal.resize_fault-requires
 resize_fault-requires c = key_at c.args.self.now.rows c.names-names.result.now c.in_ok-key.key.number c.in_ok-key.key.value.now (key_row c.args.self.now.rows c.names-names.result.now c.in_ok-key.key.number c.in_ok-key.key.value.now c.in_ok-key.ensures.found)
+
+pub resize_in-requires-clause-kept : goal.resize_in-requires-clause-kept
+resize_in-requires-clause-kept c =
+    node_can_resize c.self.inside c.args.self.now c.names-names.result.now c.in_ok-key.key.number c.in_ok-key.key.value.now c.self.invariant c.self.view_is
+    (key_row c.args.self.now.rows c.names-names.result.now c.in_ok-key.key.number c.in_ok-key.key.value.now c.in_ok-key.ensures.found)
 
 pub invariant_of-self : goal.invariant_of-self
 invariant_of-self c =

@@ -19,7 +19,7 @@ returns c =
     let obstacle_is = c.obstacle.ensures in
     set_all_there c.args.self.now c.args.names.now c.args.value.now c.in-Some-value.had c.in-Some-row_at.row.now c.obstacle.result c.replace_fault.result c.change_fault.result
     (sym c.is_empty.ensures ∙ c.if-is_empty.false) there c.in-Some-value.is
-    c.tid-given.ensures.is_value obstacle_is c.in_default.not-Some
+    c.tid-given.ensures.held obstacle_is c.in_default.not-Some
     (c.replace_fault.ensures ∙ (ap (λ t. option_or (tid_fault c.tid-given.result) (type_fault t c.tid-given.result)) c.tid.ensures.tid ∙ ap (λ t. option_or (tid_fault t) (type_fault c.in-Some-value.had.tid t)) c.tid-given.ensures.tid))
     (or_next c.replace_fault.result _ c.change_fault.result c.in_default-replace_fault.not-Some
     (c.change_fault.ensures
@@ -29,7 +29,7 @@ returns c =
 pub returns-in_default-row_at : goal.returns-in_default-row_at
 returns-in_default-row_at c =
     set_all_new c.args.self.now c.args.names.now c.args.value.now c.obstacle.result c.made_fault.result (sym c.is_empty.ensures ∙ c.if-is_empty.false)
-    (sym c.row_at.ensures ∙ ap option_copied c.in_default-row_at.is) c.tid-given.ensures.is_value
+    (sym c.row_at.ensures ∙ ap option_copied c.in_default-row_at.is) c.tid-given.ensures.held
     c.obstacle.ensures c.in_default.not-Some
     c.made_fault.ensures
 
@@ -38,7 +38,7 @@ returns-in-Some-replace_fault c =
     set_all_there c.args.self.now c.args.names.now c.args.value.now c.in-Some-value.had c.in-Some-row_at.row.now c.obstacle.result c.replace_fault.result (Some c.in-Some-replace_fault.refusal)
     (sym c.is_empty.ensures ∙ c.if-is_empty.false)
     (sym c.row_at.ensures ∙ ap option_copied c.in-Some-row_at.is) c.in-Some-value.is
-    c.tid-given.ensures.is_value
+    c.tid-given.ensures.held
     c.obstacle.ensures c.in_default.not-Some
     (c.replace_fault.ensures ∙ (ap (λ t. option_or (tid_fault c.tid-given.result) (type_fault t c.tid-given.result)) c.tid.ensures.tid ∙ ap (λ t. option_or (tid_fault t) (type_fault c.in-Some-value.had.tid t)) c.tid-given.ensures.tid))
     (sym (ap (λ (o : Option OdbRefusal). option_or o (limit_fault None (record c.args.self.now { rows = change_at c.args.self.now.rows c.args.names.now (λ _. c.args.value.now) }))) c.in-Some-replace_fault.is))

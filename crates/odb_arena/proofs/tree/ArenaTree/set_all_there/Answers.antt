@@ -24,14 +24,14 @@ invariant_of-self c =
     c.replace_in.new.nodes.entries c.self.invariant c.self.view_is (sym c.row_at.ensures ∙ ap option_copied c.in-Some-row_at.is) had.1 refl
     (database_replaced c.args.self.now c.names-names.result.now c.args.value.now c.in_ok-value.value c.in-Some-row_at.row.now c.set_all_fault.result
     (change_at c.args.self.now.rows c.names-names.result.now (λ (_ : HeldValue). c.in_ok-value.value))
-    (subst IsDatabase c.self.view_is c.self.invariant.database) (subst IsPath (sym c.names-names.ensures.names) c.names-names.ensures.is_path) c.tid.ensures.is_value
+    (subst IsDatabase c.self.view_is c.self.invariant.database) (subst IsPath (sym c.names-names.ensures.names) c.names-names.ensures.is_path) c.tid.ensures.held
     c.set_all_fault.ensures c.in_default.is (sym c.row_at.ensures ∙ ap option_copied c.in-Some-row_at.is) c.in_ok-value.ensures refl)
     c.replace_in.ensures.rows c.replace_in.ensures.names (c.bytes_in-had.ensures.bytes ∙ ap bytes_in had.1) c.bytes_at.ensures.bytes).1
 
 pub make-requires-clause-can : goal.make-requires-clause-can
 make-requires-clause-can c =
     can_set_all c.args.self.now c.names-names.result.now c.args.value.now c.in_ok-value.value c.set_all_fault.result (subst IsDatabase c.self.view_is c.self.invariant.database)
-    (subst IsPath (sym c.names-names.ensures.names) c.names-names.ensures.is_path) c.tid.ensures.is_value c.set_all_fault.ensures c.in_default.is
+    (subst IsPath (sym c.names-names.ensures.names) c.names-names.ensures.is_path) c.tid.ensures.held c.set_all_fault.ensures c.in_default.is
     (sym c.row_at.ensures ∙ ap option_copied c.in-None.is) c.in_ok-value.ensures
 
 pub returns-in-Some-row_at-clause-after : goal.returns-in-Some-row_at-clause-after
@@ -41,7 +41,7 @@ returns-in-Some-row_at-clause-after c =
     c.replace_in.new.nodes.entries c.self.invariant c.self.view_is (sym c.row_at.ensures ∙ ap option_copied c.in-Some-row_at.is) had.1 refl
     (database_replaced c.args.self.now c.names-names.result.now c.args.value.now c.in_ok-value.value c.in-Some-row_at.row.now c.set_all_fault.result
     (change_at c.args.self.now.rows c.names-names.result.now (λ (_ : HeldValue). c.in_ok-value.value))
-    (subst IsDatabase c.self.view_is c.self.invariant.database) (subst IsPath (sym c.names-names.ensures.names) c.names-names.ensures.is_path) c.tid.ensures.is_value
+    (subst IsDatabase c.self.view_is c.self.invariant.database) (subst IsPath (sym c.names-names.ensures.names) c.names-names.ensures.is_path) c.tid.ensures.held
     c.set_all_fault.ensures c.in_default.is (sym c.row_at.ensures ∙ ap option_copied c.in-Some-row_at.is) c.in_ok-value.ensures refl)
     c.replace_in.ensures.rows c.replace_in.ensures.names (c.bytes_in-had.ensures.bytes ∙ ap bytes_in had.1) c.bytes_at.ensures.bytes).0
     ∙ (ap (λ (w : HeldValue). record c.args.self.now { rows = change_at c.args.self.now.rows c.names-names.result.now (λ (_ : HeldValue). w) }) c.in_ok-value.ensures

@@ -8,6 +8,7 @@ use Rattle.odb_tree.specs.Limits.{len_fault, limit_fault}
 use Rattle.odb_tree.specs.Calls.{after_resize}
 use Rattle.odb_tree.specs.Databases.{IsDatabase}
 use Rattle.odb_tree.specs.PlainInside.{plain_rows}
+use Rattle.odb_tree.proofs.Led.{can_resize}
 use Rattle.odb_tree.proofs.Sound.{database_resized}
 use Rattle.odb_tree.proofs.plain.PlainTree.resize_there.Goals as goal
 
@@ -15,6 +16,9 @@ pub resize_fault-requires : goal.resize_fault-requires
 resize_fault-requires c =
     sought_key c.args.self.now c.as_slice.result.now c.names-names.result.now c.in_ok-key.key.number c.in_ok-key.key.value.now
     (c.as_slice.ensures.value ∙ ap (λ (s : Rows). s.rows) c.self.view_is) c.in_ok-key.ensures.found
+
+pub resize_at-requires-clause-kept : goal.resize_at-requires-clause-kept
+resize_at-requires-clause-kept c = λ row there. can_resize (plain_rows c.self.inside) c.names-names.result.now row c.self.invariant.rows refl there
 
 pub invariant_of-self : goal.invariant_of-self
 invariant_of-self c = subst (λ (rows : List Row). IsDatabase (record no_rows { rows = rows; next = c.self.inside.next })) (sym c.in_err-resize_at.ensures.err) c.self.invariant

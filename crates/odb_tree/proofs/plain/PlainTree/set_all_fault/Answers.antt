@@ -24,7 +24,7 @@ returns c =
     ∙ (ap (λ (rows : List Row). obstacle_from None rows [] c.parent.result.now) seen ∙ ap (obstacle_from None c.args.self.now.rows []) c.parent.ensures) in
     set_all_there c.args.self.now c.args.names.now c.args.value.now c.in-Some-value.had c.in-Some-row_at.row.now c.obstacle.result c.replace_fault.result c.change_fault.result
     (sym c.is_empty.ensures ∙ c.if-is_empty.false) (subst (λ (rows : List Row). row_at rows c.args.names.now ≡ Some c.in-Some-row_at.row.now) seen there) c.in-Some-value.is
-    c.tid-given.ensures.is_value obstacle_is c.in_default.not-Some
+    c.tid-given.ensures.held obstacle_is c.in_default.not-Some
     (c.replace_fault.ensures ∙ (ap (λ t. option_or (tid_fault c.tid-given.result) (type_fault t c.tid-given.result)) c.tid.ensures.tid ∙ ap (λ t. option_or (tid_fault t) (type_fault c.in-Some-value.had.tid t)) c.tid-given.ensures.tid))
     (or_next c.replace_fault.result _ c.change_fault.result c.in_default-replace_fault.not-Some
     (c.change_fault.ensures
@@ -35,7 +35,7 @@ pub returns-in_default-row_at : goal.returns-in_default-row_at
 returns-in_default-row_at c =
     let seen : c.as_slice-rows.result.now ≡ c.args.self.now.rows = c.as_slice-rows.ensures.value ∙ ap (λ (s : Rows). s.rows) c.self.view_is in
     set_all_new c.args.self.now c.args.names.now c.args.value.now c.obstacle.result c.made_fault.result (sym c.is_empty.ensures ∙ c.if-is_empty.false)
-    (subst (λ (rows : List Row). row_at rows c.args.names.now ≡ None) seen (sym c.row_at.ensures ∙ ap option_copied c.in_default-row_at.is)) c.tid-given.ensures.is_value
+    (subst (λ (rows : List Row). row_at rows c.args.names.now ≡ None) seen (sym c.row_at.ensures ∙ ap option_copied c.in_default-row_at.is)) c.tid-given.ensures.held
     (c.obstacle.ensures ∙ (ap (λ (rows : List Row). obstacle_from None rows [] c.parent.result.now) seen ∙ ap (obstacle_from None c.args.self.now.rows []) c.parent.ensures)) c.in_default.not-Some
     c.made_fault.ensures
 
@@ -45,7 +45,7 @@ returns-in-Some-replace_fault c =
     set_all_there c.args.self.now c.args.names.now c.args.value.now c.in-Some-value.had c.in-Some-row_at.row.now c.obstacle.result c.replace_fault.result (Some c.in-Some-replace_fault.refusal)
     (sym c.is_empty.ensures ∙ c.if-is_empty.false)
     (subst (λ (rows : List Row). row_at rows c.args.names.now ≡ Some c.in-Some-row_at.row.now) seen (sym c.row_at.ensures ∙ ap option_copied c.in-Some-row_at.is)) c.in-Some-value.is
-    c.tid-given.ensures.is_value
+    c.tid-given.ensures.held
     (c.obstacle.ensures ∙ (ap (λ (rows : List Row). obstacle_from None rows [] c.parent.result.now) seen ∙ ap (obstacle_from None c.args.self.now.rows []) c.parent.ensures)) c.in_default.not-Some
     (c.replace_fault.ensures ∙ (ap (λ t. option_or (tid_fault c.tid-given.result) (type_fault t c.tid-given.result)) c.tid.ensures.tid ∙ ap (λ t. option_or (tid_fault t) (type_fault c.in-Some-value.had.tid t)) c.tid-given.ensures.tid))
     (sym (ap (λ (o : Option OdbRefusal). option_or o (limit_fault None (record c.args.self.now { rows = change_at c.args.self.now.rows c.args.names.now (λ _. c.args.value.now) }))) c.in-Some-replace_fault.is))

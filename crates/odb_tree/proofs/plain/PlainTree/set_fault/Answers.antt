@@ -18,5 +18,5 @@ returns c =
     c.index_fault.ensures (ap (λ items. length items) c.items-len.ensures.items) c.in_default-index_fault.not-Some
     (c.change_fault.ensures
     ∙ (ap (λ (own : Option What). option_map Limit (passed own (length c.args.self.now.rows) (total_of c.args.self.now.rows - c.bytes_of.result + c.bytes_with-bytes.result) c.args.self.now.next)) c.text_fault.ensures
-    ∙ set_is c.args.self.now c.args.names.now c.args.value.now c.args.index c.args.item.now c.bytes_of.result c.bytes_with-bytes.result (length c.items-len.result.now) c.raised_size.result c.requires c.tid.ensures.is_value
+    ∙ set_is c.args.self.now c.args.names.now c.args.value.now c.args.index c.args.item.now c.bytes_of.result c.bytes_with-bytes.result (length c.items-len.result.now) c.raised_size.result c.requires c.tid.ensures.held
     c.bytes_of.ensures.value (ap (λ items. length items) c.items-len.ensures.items) (λ none. c.raised_size.ensures none ∙ ap (λ (n : ℕ). size_with_item n c.args.item.now) c.size.ensures) c.bytes_with-bytes.ensures.bytes))
