@@ -166,7 +166,7 @@ tree_created s p value h k = subst IsTree (sym (created_with s p value)) (tree_w
 
 -- replies
 
-ok_none : (o : Option OdbRefusal) (number n : ℕ) → reply_or o number ≡ Ok n → o ≡ None
+pub ok_none : (o : Option OdbRefusal) (number n : ℕ) → reply_or o number ≡ Ok n → o ≡ None
 ok_none None number n h = refl
 ok_none (Some refusal) number n h = absurd (cc)
 

@@ -194,9 +194,9 @@ resolved_path s p q last are h e = elim (resolved_by s.links s.rows p last q e) 
         }
 
 -- no link is met on a path after its links, nor stands at its end
-pub resolved_ends : (s : Rows) (p q : List (List ℕ)) → s.links ≡ true → resolved s p true ≡ Ok q → first_link s.rows true [] q ≡ None
-resolved_ends s p q kept e =
-    led_ends s.rows true links_limit 0 p q (subst (λ (b : Bool). cond b (lead links_limit s.rows true 0 p) (Ok p) ≡ Ok q) kept e)
+pub resolved_freed : (s : Rows) (p q : List (List ℕ)) (last : Bool) → s.links ≡ true → resolved s p last ≡ Ok q → first_link s.rows last [] q ≡ None
+resolved_freed s p q last kept e =
+    led_ends s.rows last links_limit 0 p q (subst (λ (b : Bool). cond b (lead links_limit s.rows last 0 p) (Ok p) ≡ Ok q) kept e)
 
 -- a database without links has no link, and each key may get more or fewer items
 
@@ -226,6 +226,13 @@ met_nowhere rows last passed (name ∷ names) none =
 
 pub led_nowhere : (rows : List Row) (last : Bool) (steps : ℕ) (p : List (List ℕ)) → ((q : List (List ℕ)) (r : Row) → row_at rows q ≡ Some r → is_link r ≡ false) → lead links_limit rows last steps p ≡ Ok p
 led_nowhere rows last steps p none = ap (λ (o : Option Met). follow (lead 15 rows last (steps + 1)) steps p o) (met_nowhere rows last [] p none)
+
+pub resolved_nowhere : (s : Rows) (p : List (List ℕ)) (last : Bool) → ((q : List (List ℕ)) (r : Row) → row_at s.rows q ≡ Some r → is_link r ≡ false) → resolved s p last ≡ Ok p
+resolved_nowhere s p last none = either s.links
+  where
+    either : (b : Bool) → cond b (lead links_limit s.rows last 0 p) (Ok p) ≡ Ok p
+    either true = led_nowhere s.rows last 0 p none
+    either false = refl
 
 -- calls
 
@@ -303,7 +310,7 @@ led s (Resize p len (Ok n)) h = at (resolved s p true) refl h
       reply = k;
       after = ap (λ (r : Result (List (List ℕ)) OdbRefusal). led_to s r (λ x. after_resize s x len)) e;
       sound = λ call are. resolved_path s p q true are call e;
-      free = λ kept. resolved_ends s p q kept e;
+      free = λ kept. resolved_freed s p q true kept e;
     })
 led s (Resize p len (Err why)) h = inl refl
 led s (PathOf row reply) h = inl refl

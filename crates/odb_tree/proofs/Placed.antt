@@ -6,7 +6,7 @@ use Rattle.odb_value.specs.Paths.{depth_limit, same_name, is_front, same_path}
 use Rattle.odb_tree.specs.declared.rows.Row.{Row}
 use Rattle.odb_value.specs.Values.{HeldValue}
 use Rattle.odb_tree.specs.declared.rows.NewKey.{NewKey}
-use Rattle.odb_tree.specs.Calls.{create_reply, after_create, new_value, set_all_reply, after_set_all, after_set_all_at}
+use Rattle.odb_tree.specs.Calls.{create_reply, after_create, new_value, set_all_reply, after_set_all, after_set_all_at, put_fault, put_reply, number_at}
 use Rattle.odb_tree.specs.Rows.{Rows, row_at, is_key, is_kind, is_child, is_listed, keys_in, dirs_in}
 use Rattle.odb_tree.specs.Walks.{walk_below, walk}
 use Rattle.odb_tree.proofs.WalkLaws.{and_left, and_right, both, name_trans, front_trans, not_true, true_false, not_listed, listed_same, walk_elsewhere, same_beside, flat_map_append, walk_is, walk_new_key, walk_new_dir}
@@ -14,7 +14,7 @@ use Rattle.odb_tree.specs.WalkLaws.{below_dirs, NoneAt, NoneAbove}
 use Rattle.odb_tree.specs.Trees.{HasDir, IsDir, IsPlaced, ArePlaced, AreApart, IsTree, with_rows, IsNewRow, AreNew, AreShort}
 use Rattle.odb_tree.specs.Places.{BeginsAt, stands_behind, IsInserted, AreInserted, made_for}
 use Rattle.odb_tree.proofs.Trees.{front_more, front_short, front_within, long_same, same_front, same_refl, other_sym, is_dir_append, filter_at, tree_more, name_sym}
-use Rattle.odb_tree.proofs.Kept.{short_more, create_makes, set_all_makes, created_with}
+use Rattle.odb_tree.proofs.Kept.{ok_none, short_more, create_makes, set_all_makes, put_makes, created_with}
 
 -- two paths of one length that are both above a path are the same
 fronts_agree : (p q r : List (List ℕ)) → length p ≡ length q → is_front p r ≡ true → is_front q r ≡ true → is_front p q ≡ true
@@ -318,6 +318,12 @@ set_all_inserts s p v number tree deep h free =
       all_inserted s (made_for s p (Some v)) tree makes.0 (short_more (length p) depth_limit (made_for s p (Some v)) deep makes.1),
       ap (after_set_all_at s p v) free ∙ created_with s p (Some v),
     )
+
+pub put_inserts : (s : Rows) (p : List (List ℕ)) (v : HeldValue) (number : ℕ) → IsTree s → length p ≤ depth_limit → put_reply s p v ≡ Ok number → row_at s.rows p ≡ None
+    → AreInserted s (made_for s p (Some v))
+put_inserts s p v number tree deep h free =
+    let makes = put_makes s p v (ok_none (put_fault s p v) (number_at s p (row_at s.rows p)) number h) free in
+    all_inserted s (made_for s p (Some v)) tree makes.0 (short_more (length p) depth_limit (made_for s p (Some v)) deep makes.1)
 
 -- the part of a directory in the walk
 pub record HasPart (s : Rows) (q : List (List ℕ)) : Type 0 where

@@ -214,17 +214,17 @@ within_there s (Resize p len (Ok n)) h reply = within (len_fault len) (after_res
 within_there s (Resize p len (Err why)) h reply = h
 within_there s (PathOf row reply) h is = h
 
+same_links_at : (s : Rows) (p : List (List ℕ)) (v : HeldValue) (o : Option Row) → (after_set_all_at s p v o).links ≡ s.links
+same_links_at s p v None = refl
+same_links_at s p v (Some r) = refl
+
 -- no call changes whether links are kept
 links_there : (s : Rows) (entry : DatabaseEntry) → (rows_there s entry).links ≡ s.links
 links_there s (Create p kind (Ok n)) = refl
 links_there s (Create p kind (Err why)) = refl
 links_there s (Set p index item (Ok n)) = refl
 links_there s (Set p index item (Err why)) = refl
-links_there s (SetAll p v (Ok n)) = same_links (row_at s.rows p)
-  where
-    same_links : (o : Option Row) → (after_set_all_at s p v o).links ≡ s.links
-    same_links None = refl
-    same_links (Some r) = refl
+links_there s (SetAll p v (Ok n)) = same_links_at s p v (row_at s.rows p)
 links_there s (SetAll p v (Err why)) = refl
 links_there s (Get p reply) = refl
 links_there s (Find p reply) = refl
@@ -262,6 +262,10 @@ database_after s entry h call reply = elim (led s entry reply) [
 pub database_replayed : (s : Rows) (history : List (ℕ × DatabaseEntry)) → IsDatabase s → IsLegalRows s history → IsDatabase (rows_replay s history)
 database_replayed s [] h legal = h
 database_replayed s (e ∷ es) h legal = database_replayed (rows_after s e.1) es (database_after s e.1 h legal.0.sound legal.0.reply) legal.1
+
+pub links_put : (s : Rows) (p : List (List ℕ)) (v : HeldValue) (reply : Result ℕ OdbRefusal) → (after_put s p v reply).links ≡ s.links
+links_put s p v (Ok n) = same_links_at s p v (row_at s.rows p)
+links_put s p v (Err why) = refl
 
 -- an accepted `put` keeps a database
 pub database_put : (s : Rows) (p : List (List ℕ)) (v : HeldValue) (reply : Result ℕ OdbRefusal) → IsDatabase s → IsPath p → IsHeld s.links v → Gives reply (put_reply s p v) → IsDatabase (after_put s p v reply)

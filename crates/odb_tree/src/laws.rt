@@ -9,7 +9,7 @@ ghost use Rattle.odb_tree.specs.declared.entry.DatabaseEntry.TheVariants.{Create
 ghost use Rattle.odb_tree.specs.declared.rows.NewKey.{NewKey};
 ghost use Rattle.odb_tree.specs.Places.{AreInserted, made_for};
 ghost use Rattle.odb_tree.specs.declared.refusals.OdbRefusal.{OdbRefusal};
-ghost use Rattle.odb_tree.specs.Links.{is_link, links_limit, lead, resolved};
+ghost use Rattle.odb_tree.specs.Links.{is_link, links_limit, lead, first_link, resolved};
 ghost use Rattle.odb_tree.specs.Calls.{Gives, put_reply, after_put, IsRowsReply, child_of, rows_after, after_delete, after_set, after_set_all, after_resize, after_create, new_value};
 ghost use Rattle.odb_tree.specs.Databases.{IsHeld, IsDatabase, IsSoundCall};
 ghost use Rattle.odb_tree.specs.Histories.{IsLegalRows, rows_replay};
@@ -100,6 +100,15 @@ pub fn walk_after_set_all()
         → after_set_all s p v ≡ with_rows s (made_for s p (Some v)) }
 {}
 
+/// The rows that `put` makes where there is no row come into the walk just like those of `create`, at the path as it is.
+pub fn walk_after_put()
+    ensures inserted { (s : Rows) (p : List (List ℕ)) (v : HeldValue) (number : ℕ) → IsTree s
+        → length p ≤ depth_limit → put_reply s p v ≡ Ok number → row_at s.rows p ≡ None
+        → AreInserted s (made_for s p (Some v)) }
+    ensures rows { (s : Rows) (p : List (List ℕ)) (v : HeldValue) (number : ℕ)
+        → row_at s.rows p ≡ None → after_put s p v (Ok number) ≡ with_rows s (made_for s p (Some v)) }
+{}
+
 /// The new database is one, and each legal history keeps a database.
 pub fn databases_stay()
     ensures begins { IsDatabase no_rows }
@@ -112,12 +121,25 @@ pub fn databases_stay()
         → IsDatabase (after_put s p v reply) }
 {}
 
-/// A call or a legal history leaves it as it is whether links are kept.
+/// A call, a `put` or a legal history leaves it as it is whether links are kept.
 pub fn links_stay()
     ensures after { (s : Rows) (entry : DatabaseEntry) → IsRowsReply s entry
         → (rows_after s entry).links ≡ s.links }
     ensures stays { (s : Rows) (history : List (ℕ × DatabaseEntry)) → IsLegalRows s history
         → (rows_replay s history).links ≡ s.links }
+    ensures put { (s : Rows) (p : List (List ℕ)) (v : HeldValue) (reply : Result ℕ OdbRefusal)
+        → (after_put s p v reply).links ≡ s.links }
+{}
+
+/// What a path after its links is. Where no row is a link it is the path. It is a path again, on which no link is followed
+/// any more.
+pub fn paths_after_links()
+    ensures same { (s : Rows) (p : List (List ℕ)) (last : Bool) → ((q : List (List ℕ)) (r : Row)
+        → row_at s.rows q ≡ Some r → is_link r ≡ false) → resolved s p last ≡ Ok p }
+    ensures ends { (s : Rows) (p q : List (List ℕ)) (last : Bool) → s.links ≡ true
+        → resolved s p last ≡ Ok q → first_link s.rows last [] q ≡ None }
+    ensures path { (s : Rows) (p q : List (List ℕ)) (last : Bool) → IsDatabase s → IsPath p
+        → resolved s p last ≡ Ok q → IsPath q }
 {}
 
 /// A database that keeps no links has no row of type LINK, and so each path in it is itself after its links.
