@@ -13,8 +13,10 @@ use Rattle.daq_types.specs.declared.types.Tid.TheVariants as tid
 use Rattle.odb_value.specs.Paths.{same_name, is_front, same_path}
 use Rattle.odb_value.specs.declared.items.Item.{Item}
 use Rattle.odb_value.specs.declared.items.Item.TheVariants.{Int32}
-use Rattle.odb_value.specs.Items.{tid_of, IsItem}
-use Rattle.odb_value.specs.Values.{HeldValue, IsValue}
+use Rattle.odb_value.specs.Items.{tid_of, is_kept, IsItem}
+use Rattle.odb_value.specs.Values.{HeldValue}
+use Rattle.odb_value.specs.LinkValues.{IsValueOrLink}
+use Rattle.odb_value.proofs.LinksKept.{value_of_kept}
 use Rattle.odb_value.specs.ValueChanges.{default_item, put_in, resized}
 use Rattle.odb_tree.specs.declared.rows.Row.{Row}
 use Rattle.odb_tree.specs.declared.refusals.OdbRefusal.{OdbRefusal}
@@ -23,17 +25,17 @@ use Rattle.odb_tree.specs.declared.entry.DatabaseEntry.TheVariants.{Create, Set,
 use Rattle.odb_tree.specs.Rows.{Rows, row_at, change_row, change_at, rows_outside}
 use Rattle.odb_tree.specs.Lookups.{obstacle_to_new, seek_key}
 use Rattle.odb_tree.specs.Limits.{len_fault, limit_fault}
-use Rattle.odb_tree.specs.Calls.{after_create, after_set, after_set_all, resize_reply, IsRowsReply, after_resize, after_set_all_at, get_reply, number_at, replace_fault, resize_reply_to, rows_after, set_all_fault, set_all_reply, set_fault, set_reply, set_reply_to, there_fault, tid_fault, value_fault}
+use Rattle.odb_tree.specs.Calls.{after_create, after_set, after_set_all, resize_reply, IsRowsReply, after_resize, after_set_all_at, get_reply, number_at, replace_fault, resize_reply_to, rows_after, set_all_fault, set_all_reply, set_fault, set_reply, set_reply_to, there_fault, tid_fault, value_fault, Gives, link_fault, put_fault, put_reply, after_put}
 use Rattle.odb_tree.specs.Changes.{IsKeyAt}
 use Rattle.odb_tree.specs.Histories.{IsLegalRows, rows_replay}
 use Rattle.odb_tree.specs.Databases.{IsSoundCall}
 use Rattle.odb_tree.proofs.Limited.{or_none_left, or_none_right, own_none}
 use Rattle.odb_tree.proofs.CallLemmas.{can_put, sought_key, types_agree}
-use Rattle.odb_tree.specs.Links.{resolved, meets_link, through, led_to}
+use Rattle.odb_tree.specs.Links.{Met, first_link, follow, lead, links_limit, resolved, meets_link, through, led_to}
 use Rattle.odb_tree.proofs.Sound.{ok_none}
 use Rattle.odb_tree.proofs.Led.{item_gives}
 use Rattle.odb_runinfo.specs.declared.keys.RunKey.TheVariants.{RunNumber}
-use Rattle.odb_runinfo.specs.RunKeys.{key_path, key_row, session_rows}
+use Rattle.odb_runinfo.specs.RunKeys.{key_path, key_row, opened_rows}
 use Rattle.odb_runinfo.specs.RunSets.{have_of, number_in}
 use Rattle.odb_runinfo.specs.RunNumberKept.{run_directory, HoldsNumber, HasRunNumber, StandsApart, SparesRuninfo, AllSpareRuninfo}
 
@@ -225,16 +227,28 @@ number_first type (item ∷ items) some are same =
     let is = number_item item ((All-head (IsItem type) item items are).tid ∙ same) in
     (is.0, items, ap (λ (i : Item). i ∷ items) is.1)
 
-value_number : (v w : HeldValue) → IsValue v → v.tid ≡ w.tid → HoldsNumber w → HoldsNumber v
-value_number v w value same number =
+value_number : (v w : HeldValue) → IsValueOrLink v → v.tid ≡ w.tid → HoldsNumber w → HoldsNumber v
+value_number v w held same number =
     let type : v.tid ≡ tid.Int32 = same ∙ number.type in
+    let value = value_of_kept v (ap is_kept type) held in
     let first = number_first v.tid v.items value.some value.of_type type in
     record { type = type; first = first.0; more = first.1; items = first.2 }
 
-replaced : (s : Rows) (q : List (List ℕ)) (v : HeldValue) (n : ℕ) (o : Option Row) → row_at s.rows q ≡ o → set_all_reply s q v ≡ Ok n → IsValue v → HasRunNumber s.rows
+replaced : (s : Rows) (q : List (List ℕ)) (v : HeldValue) (o : Option Row) → ((w : HeldValue) → IsKeyAt s.rows q w → v.tid ≡ w.tid) → IsValueOrLink v → HasRunNumber s.rows
     → HasRunNumber (after_set_all_at s q v o).rows
-replaced s q v n None e reply value has = appended s.rows _ has
-replaced s q v n (Some r) e reply value has = changed s.rows q (λ _. v) (λ w at. value_number v w value (same_type s q v w n reply at)) has
+replaced s q v None same held has = appended s.rows _ has
+replaced s q v (Some r) same held has = changed s.rows q (λ _. v) (λ w at. value_number v w held (same w at)) has
+
+pub number_put : (s : Rows) (p : List (List ℕ)) (v : HeldValue) (reply : Result ℕ OdbRefusal) → IsValueOrLink v → Gives reply (put_reply s p v) → HasRunNumber s.rows → HasRunNumber (after_put s p v reply).rows
+number_put s p v (Ok n) held gives has = replaced s p v (row_at s.rows p) same held has
+  where
+    same : (w : HeldValue) → IsKeyAt s.rows p w → v.tid ≡ w.tid
+    same w at =
+        let whole : put_fault s p v ≡ None = ok_none (put_fault s p v) (number_at s p (row_at s.rows p)) n gives in
+        let there : there_fault v.tid (row_at s.rows p) ≡ None =
+        or_none_left (there_fault v.tid (row_at s.rows p)) _ (or_none_right (link_fault s.links v.tid) _ (or_none_right (value_fault s.rows p) _ (or_none_right (obstacle_to_new s.rows p) _ whole))) in
+        types_agree w.tid v.tid (sym (ap (there_fault v.tid) at.there ∙ ap (replace_fault v.tid) at.value) ∙ there)
+number_put s p v (Err why) held gives has = has
 
 -- The calls.
 
@@ -256,7 +270,7 @@ number_kept s (SetAll p v (Ok n)) sound reply spares has = at (resolved s p true
   where
     at : (r : Result (List (List ℕ)) OdbRefusal) → through r (λ q. set_all_reply s q v) ≡ Ok n → HasRunNumber (led_to s r (λ q. after_set_all s q v)).rows
     at (Err why) given = has
-    at (Ok q) given = replaced s q v n (row_at s.rows q) refl given sound.1 has
+    at (Ok q) given = replaced s q v (row_at s.rows q) (λ w at. same_type s q v w n given at) sound.1 has
 number_kept s (SetAll p v (Err why)) sound reply spares has = has
 number_kept s (Get p answer) sound reply spares has = has
 number_kept s (Find p answer) sound reply spares has = has
@@ -275,18 +289,31 @@ pub number_stays : (s : Rows) (h : List (ℕ × DatabaseEntry)) → IsLegalRows 
 number_stays s [] legal spares has = has
 number_stays s (e ∷ es) legal spares has = number_stays (rows_after s e.1) es legal.1 spares.1 (number_kept s e.1 legal.0.sound legal.0.reply spares.0 has)
 
+-- no link is met on the way to it
+unmet : (s : Rows) (last : Bool) → HasRunNumber s.rows → first_link s.rows last [] (key_path RunNumber) ≡ None
+unmet s last has = rw has.dir_at (rw has.no_value (rw has.key_at (rw has.value (rw has.number.type refl))))
+
+pub number_way : (s : Rows) (last : Bool) → HasRunNumber s.rows → resolved s (key_path RunNumber) last ≡ Ok (key_path RunNumber)
+number_way s last has = either s.links
+  where
+    either : (b : Bool) → cond b (lead links_limit s.rows last 0 (key_path RunNumber)) (Ok (key_path RunNumber)) ≡ Ok (key_path RunNumber)
+    either true = ap (λ (o : Option Met). follow (lead 15 s.rows last 1) 0 (key_path RunNumber) o) (unmet s last has)
+    either false = refl
+
+there : (s : Rows) (has : HasRunNumber s.rows) → get_reply s (key_path RunNumber) ≡ Ok has.held
+there s has = rw has.dir_at (rw has.no_value (rw has.key_at (rw has.value refl)))
+
 -- so a `get` of the run number gives it
-pub number_given : (s : Rows) (has : HasRunNumber s.rows) → get_reply s (key_path RunNumber) ≡ Ok has.held
-number_given s has =
-    rw has.dir_at (rw has.no_value (rw has.key_at (rw has.value refl)))
+pub number_given : (s : Rows) (has : HasRunNumber s.rows) → through (resolved s (key_path RunNumber) true) (λ q. get_reply s q) ≡ Ok has.held
+number_given s has = ap (λ (r : Result (List (List ℕ)) OdbRefusal). through r (λ q. get_reply s q)) (number_way s true has) ∙ there s has
 
 -- and a start reads it
-pub number_read : (s : Rows) (has : HasRunNumber s.rows) → have_of (get_reply s (key_path RunNumber)) ≡ has.number.first
+pub number_read : (s : Rows) (has : HasRunNumber s.rows) → have_of (through (resolved s (key_path RunNumber) true) (λ q. get_reply s q)) ≡ has.number.first
 number_read s has = ap have_of (number_given s has) ∙ ap number_in has.number.items
 
 -- a session opens with it
-pub number_opens : HasRunNumber session_rows.rows
-number_opens = record {
+pub number_opens : (links : Bool) → HasRunNumber (opened_rows links).rows
+number_opens links = record {
   dir = record { number = 1; path = run_directory; value = None };
   dir_at = refl;
   no_value = refl;

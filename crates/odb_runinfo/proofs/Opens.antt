@@ -13,9 +13,10 @@ use Rattle.odb_value.specs.declared.items.Item.TheVariants.{Int32, UInt32}
 use Rattle.odb_tree.specs.declared.rows.Row.{Row}
 use Rattle.odb_tree.specs.WalkLaws.{NoneAt}
 use Rattle.odb_tree.specs.Trees.{IsTree, IsPlaced}
+use Rattle.odb_tree.proofs.Sound.{held_value}
 use Rattle.odb_runinfo.specs.declared.keys.RunKey.{RunKey}
 use Rattle.odb_runinfo.specs.declared.keys.RunKey.TheVariants.{State, RunNumber, StartTime, StopTime}
-use Rattle.odb_runinfo.specs.RunKeys.{key_name, key_path, key_row, session_rows}
+use Rattle.odb_runinfo.specs.RunKeys.{key_name, key_path, key_row, opened_rows}
 use Rattle.odb_runinfo.specs.RunNumberKept.{run_directory}
 
 abbrev directory : Row
@@ -29,9 +30,9 @@ in_directory back key = record {
   there = inr (record { front = []; dir = directory; back = back; there = refl; path = refl; kind = refl });
 }
 
-tree_opens : IsTree session_rows
+tree_opens : (links : Bool) → IsTree (opened_rows links)
 unfolding NoneAt
-tree_opens = record {
+tree_opens links = record {
   placed = (
     record { parent = []; name = name_of run_directory; path = refl; there = inl refl },
     (
@@ -97,17 +98,17 @@ is_one item sound size fits short = record {
   shorter = All-cons (IsShorter size) item [] short (All-nil (IsShorter size));
 }
 
-row_of : (number : ℕ) (key : RunKey) (item : Item) → IsSound item → IsSizeOf (tid_of item) 4 → IsShorter 4 item → IsRow false (key_row number key item)
-row_of number key item sound fits short = record { path = path_of key; value = is_one item sound 4 fits short }
+row_of : (links : Bool) (number : ℕ) (key : RunKey) (item : Item) → IsSound item → IsSizeOf (tid_of item) 4 → IsShorter 4 item → IsRow links (key_row number key item)
+row_of links number key item sound fits short = record { path = path_of key; value = held_value links _ (is_one item sound 4 fits short) }
 
-pub database_opens : IsDatabase session_rows
-database_opens = record {
-  tree = tree_opens;
-  rows = All-from_recursion (IsRow false) session_rows.rows (
+pub database_opens : (links : Bool) → IsDatabase (opened_rows links)
+database_opens links = record {
+  tree = tree_opens links;
+  rows = All-from_recursion (IsRow links) (opened_rows links).rows (
     record { path = record { short = omega arith; names = All-cons IsName (codes "Runinfo") [] directory_name (All-nil IsName) }; value = tt },
     (
-      row_of 2 State (Int32 (pos 1)) (search rules) refl tt,
-      (row_of 3 RunNumber (Int32 (pos 0)) (search rules) refl tt, (row_of 4 StartTime (UInt32 0) (search rules) refl tt, (row_of 5 StopTime (UInt32 0) (search rules) refl tt, tt))),
+      row_of links 2 State (Int32 (pos 1)) (search rules) refl tt,
+      (row_of links 3 RunNumber (Int32 (pos 0)) (search rules) refl tt, (row_of links 4 StartTime (UInt32 0) (search rules) refl tt, (row_of links 5 StopTime (UInt32 0) (search rules) refl tt, tt))),
     ),
   );
   within = record { rows = omega arith; total = omega arith; next = omega arith };

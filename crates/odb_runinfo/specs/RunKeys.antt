@@ -1,5 +1,5 @@
 -- The keys of the run's parameters, and the database with which a session opens.
-use Rattle.std.specs.Prelude.{ℕ, List, [], ◌∷◌, Some, None, codes, pos}
+use Rattle.std.specs.Prelude.{ℕ, Bool, List, [], ◌∷◌, Some, None, codes, pos}
 use Rattle.odb_value.specs.declared.items.Item.{Item}
 use Rattle.odb_value.specs.declared.items.Item.TheVariants.{Int32, UInt32}
 use Rattle.odb_value.specs.Items.{tid_of}
@@ -38,10 +38,10 @@ with_key s key item = after_set_all s (key_path key) (value_of_one item)
 abbrev pub key_row : (number : ℕ) → RunKey → Item → Row
 key_row number key item = record { number = number; path = key_path key; value = Some (record { tid = tid_of item; size = 4; items = item ∷ [] }) }
 
--- the database of a session before its first call, which keeps no links: the directory, and in it the state, 1, and 0 for the
--- run number and for the times of the start and the stop
-abbrev pub session_rows : Rows
-session_rows = record no_rows {
+-- A database with the run's parameters and nothing else: the directory, and in it the state, 1, and 0 for the run number and
+-- for the times of the start and the stop. It keeps links or not.
+abbrev pub opened_rows : (links : Bool) → Rows
+opened_rows links = record no_rows {
   rows =
       record { number = 1; path = codes "Runinfo" ∷ []; value = None }
       ∷ key_row 2 State (Int32 (pos 1))
@@ -50,4 +50,5 @@ session_rows = record no_rows {
       ∷ key_row 5 StopTime (UInt32 0)
       ∷ [];
   next = 6;
+  links = links;
 }

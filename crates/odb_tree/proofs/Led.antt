@@ -214,7 +214,7 @@ can_resize s p r are none there v held =
     let row : IsRow false r = row_has (IsRow false) s.rows p r (subst (λ (b : Bool). All (IsRow b) s.rows) none are) there in
     is_kept-value v (subst (λ (o : Option HeldValue). IfSome o IsValue) held row.value)
 
-met_nowhere : (rows : List Row) (last : Bool) (passed names : List (List ℕ)) → ((q : List (List ℕ)) (r : Row) → row_at rows q ≡ Some r → is_link r ≡ false) → first_link rows last passed names ≡ None
+pub met_nowhere : (rows : List Row) (last : Bool) (passed names : List (List ℕ)) → ((q : List (List ℕ)) (r : Row) → row_at rows q ≡ Some r → is_link r ≡ false) → first_link rows last passed names ≡ None
 met_nowhere rows last passed [] none = refl
 met_nowhere rows last passed (name ∷ names) none =
     ap (λ (o : Option Met). option_or o (first_link rows last (passed ++ name ∷ []) names)) (here (row_at rows (passed ++ name ∷ [])) refl)

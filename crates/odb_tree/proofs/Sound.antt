@@ -74,7 +74,7 @@ none_mapped links f (Some v) h new = new v refl h
 row_changed : (links : Bool) (r : Row) (f : HeldValue → HeldValue) → IsRow links r → ((v : HeldValue) → r.value ≡ Some v → IsHeld links v → IsHeld links (f v)) → IsRow links (change_row f r)
 row_changed links r f h new = record { path = h.path; value = none_mapped links f r.value h.value new }
 
-held_value : (links : Bool) (v : HeldValue) → IsValue v → IsHeld links v
+pub held_value : (links : Bool) (v : HeldValue) → IsValue v → IsHeld links v
 held_value true v h = inl h
 held_value false v h = h
 

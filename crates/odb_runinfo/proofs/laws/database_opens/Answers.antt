@@ -1,5 +1,5 @@
 use Rattle.odb_tree.proofs.Sound.{database_replayed}
-use Rattle.odb_runinfo.specs.RunKeys.{session_rows}
+use Rattle.odb_runinfo.specs.RunKeys.{opened_rows}
 use Rattle.odb_runinfo.proofs.Opens.{database_opens}
 use Rattle.odb_runinfo.proofs.laws.database_opens.Goals as goal
 
@@ -7,4 +7,4 @@ pub returns-clause-opens : goal.returns-clause-opens
 returns-clause-opens c = database_opens
 
 pub returns-clause-stays : goal.returns-clause-stays
-returns-clause-stays c = λ history legal. database_replayed session_rows history database_opens legal
+returns-clause-stays c = λ links history legal. database_replayed (opened_rows links) history (database_opens links) legal
