@@ -1,11 +1,21 @@
--- Look-ups are never refused for want of memory.
-use Rattle.std.proofs.Common.{◌≡◌, ℕ, Bool, true, false, cond, List, [], ◌∷◌, ◌++◌, Option, Some, None, Result, Ok, Err, ap, ◌∙◌}
-use Rattle.std.specs.Option.{option_or}
+-- Look-ups are never refused for want of memory, and neither is the `set` of a number where no link is met.
+use Rattle.std.proofs.Common.{◌≡◌, ◌≢◌, ℕ, Bool, true, false, cond, eqb, ltb, List, [], ◌∷◌, ◌++◌, length, Option, Some, None, Result, Ok, Err, refl, sym, ap, ◌∙◌}
+use Rattle.std.specs.Option.{option_or, option_map}
+use Rattle.daq_types.specs.declared.types.Tid.{Tid}
+use Rattle.daq_types.specs.declared.types.Tid.TheVariants as tid
+use Rattle.daq_types.specs.Tids.{tid_code}
+use Rattle.odb_value.specs.declared.items.Item.{Item}
+use Rattle.odb_value.specs.Items.{tid_of}
 use Rattle.odb_value.specs.Values.{HeldValue}
 use Rattle.odb_tree.specs.declared.rows.Row.{Row}
 use Rattle.odb_tree.specs.declared.refusals.OdbRefusal.{OdbRefusal}
-use Rattle.odb_tree.specs.declared.refusals.OdbRefusal.TheVariants.{NoKey, NotDir, NoMemory}
-use Rattle.odb_tree.specs.Rows.{row_at, is_key}
+use Rattle.odb_tree.specs.declared.refusals.OdbRefusal.TheVariants.{NoKey, NotDir, TypeMismatch, BadIndex, Limit, NoMemory}
+use Rattle.odb_tree.specs.declared.refusals.What.{What}
+use Rattle.odb_tree.specs.declared.entry.DatabaseEntry.TheVariants.{Set, Find}
+use Rattle.odb_tree.specs.Rows.{Rows, row_at, is_key}
+use Rattle.odb_tree.specs.Links.{resolved, meets_link, through}
+use Rattle.odb_tree.specs.Calls.{reply_or, type_fault, index_fault, set_fault, set_reply, set_reply_to, number_reply, find_reply, GivesIf, GivesItem, IsRowsReply}
+use Rattle.odb_tree.proofs.Led.{resolved_unmet}
 use Rattle.odb_tree.specs.Lookups.{obstacle_at, obstacle_from, obstacle_to, parent_of, found_row, seek, key_of, key_or_refusal, seek_key, not_there, absent_fault}
 
 at_key : (t : Bool) → cond t (Some NotDir) None ≡ Some NoMemory → ⊥
@@ -60,3 +70,66 @@ handed x found reply is h same e = let memory : x ≡ NoMemory = cc in h (is ∙
 
 pub refusal_is : {X : Type 0} (reply : Result X OdbRefusal) (x : OdbRefusal) → reply ≡ Err x → reply ≡ Err NoMemory → x ≡ NoMemory
 refusal_is reply x is e = cc
+
+-- An item that is written is not refused so either, nor a path that is found.
+
+unless : (t : Bool) (x : OdbRefusal) → (x ≡ NoMemory → ⊥) → cond t None (Some x) ≡ Some NoMemory → ⊥
+unless true x h e = cc
+unless false x h e = let same : x ≡ NoMemory = cc in h same
+
+of_limit : (o : Option What) → option_map Limit o ≡ Some NoMemory → ⊥
+of_limit None e = cc
+of_limit (Some what) e = cc
+
+set_faults : (s : Rows) (p : List (List ℕ)) (index : ℕ) (item : Item) (v : HeldValue) → set_fault s p index item v ≡ Some NoMemory → ⊥
+set_faults s p index item v =
+    either (type_fault v.tid (tid_of item)) _ (unless (eqb (tid_code v.tid) (tid_code (tid_of item))) (TypeMismatch v.tid) (λ e. cc))
+    (either (index_fault (length v.items) index) _ (unless (ltb index (length v.items)) (BadIndex (length v.items)) (λ e. cc)) (of_limit _))
+
+of_fault : (o : Option OdbRefusal) (number : ℕ) → (o ≡ Some NoMemory → ⊥) → reply_or o number ≡ Err NoMemory → ⊥
+of_fault None number h e = cc
+of_fault (Some x) number h e = let same : Some x ≡ Some NoMemory = cc in h same
+
+set_lasts : (s : Rows) (p : List (List ℕ)) (index : ℕ) (item : Item) → set_reply s p index item ≡ Err NoMemory → ⊥
+set_lasts s p index item e = from (seek_key s.rows p) (sought_key s.rows p) e
+  where
+    from : (r : Result (ℕ × HeldValue) OdbRefusal) → (r ≡ Err NoMemory → ⊥) → set_reply_to s p index item r ≡ Err NoMemory → ⊥
+    from (Ok key) h k = of_fault (set_fault s p index item key.1) key.0 (set_faults s p index item key.1) k
+    from (Err x) h k = let same : x ≡ NoMemory = cc in h (ap (λ (z : OdbRefusal). Err z) same)
+
+find_lasts : (s : Rows) (p : List (List ℕ)) → find_reply s p ≡ Err NoMemory → ⊥
+find_lasts s [] e = cc
+find_lasts s (name ∷ names) e = from (seek s.rows (name ∷ names)) (sought s.rows (name ∷ names)) e
+  where
+    from : (r : Result Row OdbRefusal) → (r ≡ Err NoMemory → ⊥) → number_reply r ≡ Err NoMemory → ⊥
+    from (Ok row) h k = cc
+    from (Err x) h k = let same : x ≡ NoMemory = cc in h (ap (λ (z : OdbRefusal). Err z) same)
+
+-- where no link is met on the path
+
+given_if : (type : Tid) (given reply : Result ℕ OdbRefusal) → type ≢ tid.Text → GivesItem false type given reply → given ≡ reply
+given_if tid.Text given reply other h = absurd (other refl)
+given_if _ given reply other h = h
+
+at_path : {X : Type 0} (s : Rows) (p : List (List ℕ)) (reply : List (List ℕ) → Result X OdbRefusal) → meets_link s p true ≡ false → (reply p ≡ Err NoMemory → ⊥) → through (resolved s p true) reply ≡ Err NoMemory → ⊥
+at_path {X} s p reply none lasts e = lasts (sym (ap (λ (r : Result (List (List ℕ)) OdbRefusal). through r reply) (resolved_unmet s p true none)) ∙ e)
+
+pub set_memory : (s : Rows) (p : List (List ℕ)) (index : ℕ) (item : Item) → tid_of item ≢ tid.Text → IsRowsReply s (Set p index item (Err NoMemory)) → meets_link s p true ≡ true
+set_memory s p index item other h = from (meets_link s p true) refl h
+  where
+    reply : Result ℕ OdbRefusal
+    reply = through (resolved s p true) (λ q. set_reply s q index item)
+
+    from : (met : Bool) → meets_link s p true ≡ met → GivesItem met (tid_of item) (Err NoMemory) reply → met ≡ true
+    from true e k = refl
+    from false e k = absurd (at_path s p (λ q. set_reply s q index item) e (set_lasts s p index item) (sym (given_if (tid_of item) (Err NoMemory) reply other k)))
+
+pub find_memory : (s : Rows) (p : List (List ℕ)) → IsRowsReply s (Find p (Err NoMemory)) → meets_link s p true ≡ true
+find_memory s p h = from (meets_link s p true) refl h
+  where
+    reply : Result ℕ OdbRefusal
+    reply = through (resolved s p true) (λ q. find_reply s q)
+
+    from : (met : Bool) → meets_link s p true ≡ met → GivesIf met (Err NoMemory) reply → met ≡ true
+    from true e k = refl
+    from false e k = absurd (at_path s p (λ q. find_reply s q) e (find_lasts s p) (sym k))

@@ -234,6 +234,18 @@ resolved_nowhere s p last none = either s.links
     either true = led_nowhere s.rows last 0 p none
     either false = refl
 
+-- nor does a path change on which none is met
+pub resolved_unmet : (s : Rows) (p : List (List ℕ)) (last : Bool) → meets_link s p last ≡ false → resolved s p last ≡ Ok p
+resolved_unmet s p last none = either s.links none
+  where
+    met_not : (o : Option Met) → is_some o ≡ false → follow (lead 15 s.rows last 1) 0 p o ≡ Ok p
+    met_not None h = refl
+    met_not (Some m) h = absurd (cc)
+
+    either : (b : Bool) → b && is_some (first_link s.rows last [] p) ≡ false → cond b (lead links_limit s.rows last 0 p) (Ok p) ≡ Ok p
+    either true h = met_not (first_link s.rows last [] p) h
+    either false h = refl
+
 -- calls
 
 pub item_gives : (met : Bool) (type : Tid) (n : ℕ) (reply : Result ℕ OdbRefusal) → GivesItem met type (Ok n) reply → reply ≡ Ok n

@@ -1,15 +1,18 @@
 //! Laws of the walk through the database, over its definitions alone.
-ghost use Rattle.std.specs.Prelude.{◌≡◌, ◌≢◌, ℕ, Bool, Result, suc, None, List, [], ◌∷◌, ◌++◌, map, true, false, ◌≤◌, length, Some, Ok, IsPermutation};
+ghost use Rattle.std.specs.Prelude.{◌≡◌, ◌≢◌, ℕ, Bool, Result, suc, None, List, [], ◌∷◌, ◌++◌, map, true, false, ◌≤◌, length, Some, Ok, Err, IsPermutation};
+ghost use Rattle.daq_types.specs.declared.types.Tid.{Tid};
+ghost use Rattle.odb_value.specs.Items.{tid_of};
 ghost use Rattle.odb_value.specs.Paths.{is_front, depth_limit, IsPath};
 ghost use Rattle.odb_tree.specs.declared.rows.Row.{Row};
 ghost use Rattle.odb_tree.specs.declared.children.Child.{Child};
 ghost use Rattle.odb_tree.specs.Trees.{IsTree, IsDir, with_rows};
 ghost use Rattle.odb_tree.specs.declared.entry.DatabaseEntry.{DatabaseEntry};
-ghost use Rattle.odb_tree.specs.declared.entry.DatabaseEntry.TheVariants.{Create, SetAll, ListDir};
+ghost use Rattle.odb_tree.specs.declared.entry.DatabaseEntry.TheVariants.{Create, Set, SetAll, Find, ListDir};
 ghost use Rattle.odb_tree.specs.declared.rows.NewKey.{NewKey};
 ghost use Rattle.odb_tree.specs.Places.{AreInserted, made_for};
 ghost use Rattle.odb_tree.specs.declared.refusals.OdbRefusal.{OdbRefusal};
-ghost use Rattle.odb_tree.specs.Links.{is_link, links_limit, lead, first_link, resolved};
+ghost use Rattle.odb_tree.specs.declared.refusals.OdbRefusal.TheVariants.{NoMemory as no_memory};
+ghost use Rattle.odb_tree.specs.Links.{is_link, links_limit, lead, first_link, resolved, meets_link};
 ghost use Rattle.odb_tree.specs.Calls.{Gives, put_reply, after_put, IsRowsReply, child_of, rows_after, after_delete, after_set, after_set_all, after_resize, after_create, new_value};
 ghost use Rattle.odb_tree.specs.Databases.{IsHeld, IsDatabase, IsSoundCall};
 ghost use Rattle.odb_tree.specs.Histories.{IsLegalRows, rows_replay};
@@ -131,11 +134,13 @@ pub fn links_stay()
         → (after_put s p v reply).links ≡ s.links }
 {}
 
-/// What a path after its links is. Where no row is a link it is the path. It is a path again, on which no link is followed
+/// What a path after its links is. Where no row is a link, or none is met on it, it is the path. It is a path again, on which no link is followed
 /// any more.
 pub fn paths_after_links()
     ensures same { (s : Rows) (p : List (List ℕ)) (last : Bool) → ((q : List (List ℕ)) (r : Row)
         → row_at s.rows q ≡ Some r → is_link r ≡ false) → resolved s p last ≡ Ok p }
+    ensures unmet { (s : Rows) (p : List (List ℕ)) (last : Bool) → meets_link s p last ≡ false
+        → resolved s p last ≡ Ok p }
     ensures ends { (s : Rows) (p q : List (List ℕ)) (last : Bool) → s.links ≡ true
         → resolved s p last ≡ Ok q → first_link s.rows last [] q ≡ None }
     ensures path { (s : Rows) (p q : List (List ℕ)) (last : Bool) → IsDatabase s → IsPath p
@@ -148,6 +153,14 @@ pub fn paths_without_links()
         → row_at s.rows p ≡ Some r → is_link r ≡ false }
     ensures paths { (s : Rows) (p : List (List ℕ)) (last : Bool) → IsDatabase s → s.links ≡ false
         → lead links_limit s.rows last 0 p ≡ Ok p }
+{}
+
+/// Memory is wanted by the `set` of a number, and by a `find`, only where a link is met on the path.
+pub fn links_alone_take_memory()
+    ensures set { (s : Rows) (p : List (List ℕ)) (index : ℕ) (item : Item) → tid_of item ≢ Tid.Text
+        → IsRowsReply s (Set p index item (Err no_memory)) → meets_link s p true ≡ true }
+    ensures find { (s : Rows) (p : List (List ℕ)) → IsRowsReply s (Find p (Err no_memory))
+        → meets_link s p true ≡ true }
 {}
 
 /// The walk through a database has its rows, each once, and so at most one row at a path.

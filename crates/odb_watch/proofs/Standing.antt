@@ -1,6 +1,9 @@
 -- In a legal history of a watched database the rows are those of a database throughout.
 use Rattle.std.proofs.Common.{◌≡◌, ℕ, ◌≤◌, List, [], ◌∷◌, ◌++◌, length, Ok, Err, refl, sym, subst}
 use Rattle.std.specs.Str.Lines.{lines}
+use Rattle.odb_tree.specs.declared.entry.DatabaseEntry.{DatabaseEntry}
+use Rattle.odb_tree.specs.Rows.{Rows}
+use Rattle.odb_tree.specs.Calls.{IsRowsReply}
 use Rattle.odb_tree.specs.Noting.{Watched}
 use Rattle.odb_tree.specs.Databases.{IsDatabase}
 use Rattle.odb_tree.proofs.Sound.{database_after}
@@ -41,3 +44,11 @@ pub saved_small : (first : Watched) (h : List (ℕ × WatchEntry)) (caller : ℕ
 saved_small first h caller text more last stands leads =
     let point : (at : Watched) × LeadsDatabase first h at × (text ≡ dump_text at.rows) = saved_text first h caller text more last leads in
     subst (λ (t : List ℕ). length t ≤ dump_limit) (sym point.2) (dump_small point.0.rows (leads_stand first h point.0 stands point.1))
+
+-- a call somewhere in a history, with the rows at its point
+pub called_at : (P : Rows → Type 0) (first : Watched) (h : List (ℕ × WatchEntry)) (caller : ℕ) (entry : DatabaseEntry) (more : List (ℕ × WatchEntry)) (last : Watched)
+    → ((s : Rows) → IsRowsReply s entry → P s) → LeadsDatabase first (h ++ (caller, Call entry) ∷ more) last → (at : Watched) × LeadsDatabase first h at × P at.rows
+called_at P first [] caller entry more last tells leads = (first, refl, tells first.rows leads.1.step.0)
+called_at P first (e ∷ es) caller entry more last tells leads =
+    let rest : (at : Watched) × LeadsDatabase leads.0 es at × P at.rows = called_at P leads.0 es caller entry more last tells leads.2 in
+    (rest.0, (leads.0, leads.1, rest.1), rest.2)
