@@ -1,7 +1,7 @@
 -- What is left of a session, closed.
 use Rattle.std.proofs.Common.{◌≡◌, ◌≢◌, ℕ, List, ◌∙◌, subst, Option, Some, None, ap, refl}
 use Rattle.frontend_kit.specs.declared.generator.Generator.{Generator}
-use Rattle.odb_runinfo.specs.RunKeys.{session_rows}
+use Rattle.daq_session.specs.SessionRows.{session_rows}
 use Rattle.odb_watch.specs.Steps.{unwatched}
 use Rattle.odb_watch.specs.DatabasePorts.{own_watched}
 use Rattle.odb_lock.specs.declared.shared.SharedOdb.{SharedOdb}

@@ -5,7 +5,7 @@ use Rattle.std.specs.Io.KnownBytes.{Appends, Keeps}
 use Rattle.daq_types.specs.Callers.{main_caller}
 use Rattle.daq_io.specs.declared.objects.Outside.{Outside}
 use Rattle.odb_commands.specs.declared.dump_replies.FileReply.{FileReply}
-use Rattle.odb_runinfo.specs.RunKeys.{session_rows}
+use Rattle.daq_session.specs.SessionRows.{session_rows}
 use Rattle.odb_watch.specs.Steps.{unwatched}
 use Rattle.odb_watch.specs.DatabasePorts.{DatabaseAccess}
 use Rattle.odb_lock.specs.SharedAccesses.{shared_access}

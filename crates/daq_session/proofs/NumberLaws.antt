@@ -12,7 +12,6 @@ use Rattle.daq_types.specs.Callers.{entries_by, main_caller}
 use Rattle.odb_value.specs.Values.{HeldValue}
 use Rattle.odb_tree.specs.Links.{resolved, through}
 use Rattle.odb_tree.specs.Calls.{Gives, get_reply}
-use Rattle.odb_tree.proofs.Led.{unlinked}
 use Rattle.odb_tree.specs.Noting.{Watched}
 use Rattle.odb_tree.specs.Rows.{Rows}
 use Rattle.odb_tree.specs.declared.entry.DatabaseEntry.{DatabaseEntry}
@@ -21,7 +20,8 @@ use Rattle.odb_watch.specs.Steps.{LeadsDatabase, StepsDatabase}
 use Rattle.odb_watch.specs.declared.entry.WatchEntry.{WatchEntry}
 use Rattle.odb_watch.specs.declared.entry.WatchEntry.TheVariants as call
 use Rattle.odb_watch.specs.DatabasePorts.{IsSettled, calls_by, row_calls}
-use Rattle.odb_runinfo.specs.RunKeys.{key_path, session_rows}
+use Rattle.odb_runinfo.specs.RunKeys.{key_path}
+use Rattle.daq_session.specs.SessionRows.{session_rows}
 use Rattle.odb_runinfo.specs.declared.keys.RunKey.TheVariants.{RunNumber}
 use Rattle.odb_runinfo.specs.RunNumberKept.{AllSpareRuninfo, HasRunNumber}
 use Rattle.odb_runinfo.specs.RunSets.{AreSets, Assignment, number_asked}
@@ -61,36 +61,32 @@ history_spares (e ∷ es) each = (
 -- The main thread's gets of the run number.
 
 abbrev Stays : Type 0
-Stays = (first : Watched) (h : List (ℕ × WatchEntry)) (last : Watched) → first.rows.links ≡ false → LeadsDatabase first h last → AllSpareWatched h → HasRunNumber first.rows.rows → HasRunNumber last.rows.rows
-
-abbrev Unlinked : Type 0
-Unlinked = (first : Watched) (h : List (ℕ × WatchEntry)) (last : Watched) → first.rows.links ≡ false → LeadsDatabase first h last → last.rows.links ≡ false
+Stays = (first : Watched) (h : List (ℕ × WatchEntry)) (last : Watched) → LeadsDatabase first h last → AllSpareWatched h → HasRunNumber first.rows.rows → HasRunNumber last.rows.rows
 
 abbrev Given : Type 0
-Given = (s : Rows) (has : HasRunNumber s.rows) → get_reply s (key_path RunNumber) ≡ Ok has.held
+Given = (s : Rows) (has : HasRunNumber s.rows) → through (resolved s (key_path RunNumber) true) (λ q. get_reply s q) ≡ Ok has.held
 
 given_by : (got reply : Result HeldValue OdbRefusal) (held : HeldValue) → IsSettled got → reply ≡ Ok held → Gives got reply → got ≡ Ok held
 given_by (Ok x) reply held settled is gives = sym gives ∙ is
 given_by (Err refusal) reply held settled is gives = absurd (cc (sym is ∙ gives settled))
 
-gives_number : Given → (before : Watched) (caller : ℕ) (entry : WatchEntry) (after : Watched) → before.rows.links ≡ false → StepsDatabase before caller entry after → HasRunNumber before.rows.rows → GivesNumber entry
-gives_number given before caller entry after none step has = λ got is settled.
+gives_number : Given → (before : Watched) (caller : ℕ) (entry : WatchEntry) (after : Watched) → StepsDatabase before caller entry after → HasRunNumber before.rows.rows → GivesNumber entry
+gives_number given before caller entry after step has = λ got is settled.
     let this : StepsDatabase before caller (call.Call (number_asked got)) after = subst (λ (x : WatchEntry). StepsDatabase before caller x after) is step in
     let reply : Result HeldValue OdbRefusal = through (resolved before.rows (key_path RunNumber) true) (λ q. get_reply before.rows q) in
-    let held : reply ≡ Ok has.held = ap (λ (r : Result (List (List ℕ)) OdbRefusal). through r (λ q. get_reply before.rows q)) (unlinked before.rows (key_path RunNumber) true none) ∙ given before.rows has in
-    (has.held, given_by got reply has.held settled held this.step.0, has.number)
+    (has.held, given_by got reply has.held settled (given before.rows has) this.step.0, has.number)
 
 put_first : (hit : Bool) (e : ℕ × WatchEntry) (es : List (ℕ × WatchEntry)) → GivesNumber e.1 → AllByRecursion GivesNumber (map (λ (x : ℕ × WatchEntry). x.1) es)
     → AllByRecursion GivesNumber (map (λ (x : ℕ × WatchEntry). x.1) (cond hit (e ∷ es) es))
 put_first true e es first later = (first, later)
 put_first false e es first later = later
 
-pub calls_give : Stays → Unlinked → Given → (by : ℕ) (first : Watched) (h : List (ℕ × WatchEntry)) (last : Watched) → first.rows.links ≡ false → LeadsDatabase first h last → AllSpareWatched h → HasRunNumber first.rows.rows → AllByRecursion GivesNumber (entries_by by h)
-calls_give stays plain given by first [] last none leads spares has = tt
-calls_give stays plain given by first (e ∷ es) last none leads spares has =
+pub calls_give : Stays → Given → (by : ℕ) (first : Watched) (h : List (ℕ × WatchEntry)) (last : Watched) → LeadsDatabase first h last → AllSpareWatched h → HasRunNumber first.rows.rows → AllByRecursion GivesNumber (entries_by by h)
+calls_give stays given by first [] last leads spares has = tt
+calls_give stays given by first (e ∷ es) last leads spares has =
     put_first (e.0 == by) e (filter (λ (x : ℕ × WatchEntry). x.0 == by) es)
-    (gives_number given first e.0 e.1 leads.0 none leads.1 has)
-    (calls_give stays plain given by leads.0 es last (plain first (e ∷ []) leads.0 none (leads.0, leads.1, refl)) leads.2 spares.1 (stays first (e ∷ []) leads.0 none (leads.0, leads.1, refl) (spares.0, tt) has))
+    (gives_number given first e.0 e.1 leads.0 leads.1 has)
+    (calls_give stays given by leads.0 es last leads.2 spares.1 (stays first (e ∷ []) leads.0 (leads.0, leads.1, refl) (spares.0, tt) has))
 
 -- The front-ends' calls.
 
@@ -115,7 +111,6 @@ turn_sets_spare sets name own (t ∷ turns) (moment ∷ moments) calls are = ⊎
 -- What is known of the run number in legal histories, of the calls of front-ends, and of start numbers.
 pub record RunLaws : Type 0 where
   pub stays : Stays
-  pub unlinked : Unlinked
   pub given : Given
   pub opens : HasRunNumber session_rows.rows
   pub sets : SetsSpare

@@ -14,7 +14,7 @@ use Rattle.turn_lock.specs.Closing.{history_of}
 use Rattle.transitions.specs.declared.entry.EngineEntry.TheVariants.{Close}
 use Rattle.member_model.specs.RunEngines.{EngineEntry, EngineState, IsLegalEngine}
 use Rattle.frontend_kit.specs.declared.generator.Generator.{Generator}
-use Rattle.odb_runinfo.specs.RunKeys.{session_rows}
+use Rattle.daq_session.specs.SessionRows.{session_rows}
 use Rattle.odb_tree.specs.Noting.{Watched}
 use Rattle.odb_watch.specs.Steps.{LeadsDatabase, unwatched}
 use Rattle.odb_watch.specs.declared.entry.WatchEntry.{WatchEntry}
@@ -256,7 +256,7 @@ module _ {D F : Type 0} {g : _} (told : MemberTold Generator F) (takes : told.ta
   numbers laws holds =
       let c : ClosedSession = session_told told final.declared kept.crew.logger.slots first_files run_files r in
       subst (λ (calls : List WatchEntry). AllByRecursion GivesNumber calls) main_calls.database
-      (calls_give laws.stays laws.unlinked laws.given main_caller (unwatched session_rows) (history_of r.database) r.database.value.database refl histories.database
+      (calls_give laws.stays laws.given main_caller (unwatched session_rows) (history_of r.database) r.database.value.database histories.database
       (session_spares laws.sets laws.listed c holds own main_calls.database kept.spares) laws.opens)
 
   channels : AreDeclared final.declared.channels kept.crew.logger.slots

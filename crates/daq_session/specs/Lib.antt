@@ -1,4 +1,5 @@
 pub mod RunNumbers
+pub mod SessionRows
 pub mod NewDatabases
 pub mod Endings
 pub mod LinesEnded

@@ -8,7 +8,7 @@ use Rattle.turn_lock.specs.Roster.{IsFresh}
 use Rattle.odb_tree.specs.Noting.{Watched}
 use Rattle.odb_watch.specs.declared.entry.WatchEntry.{WatchEntry}
 use Rattle.odb_watch.specs.Steps.{unwatched}
-use Rattle.odb_runinfo.specs.RunKeys.{session_rows}
+use Rattle.daq_session.specs.SessionRows.{session_rows}
 use Rattle.odb_lock.specs.declared.locked.LockedDatabase.{LockedDatabase}
 use Rattle.odb_lock.specs.declared.shared.SharedOdb.{SharedOdb}
 use Rattle.odb_lock.specs.SharedOdbs.{first_database, odb_lock_of}

@@ -4,7 +4,7 @@ use Rattle.daq_types.specs.Callers.{main_caller}
 use Rattle.frontend_kit.specs.declared.generator.Generator.{Generator}
 use Rattle.loggers.specs.OtherFiles.{AreDeclared}
 use Rattle.odb_watch.specs.DatabasePorts.{DatabaseAccess, own_watched}
-use Rattle.odb_runinfo.specs.RunKeys.{session_rows}
+use Rattle.daq_session.specs.SessionRows.{session_rows}
 use Rattle.odb_watch.specs.Steps.{unwatched}
 use Rattle.odb_watch.specs.declared.entry.WatchEntry.{WatchEntry}
 use Rattle.odb_lock.specs.declared.access.SharedAccess.{SharedAccess}

@@ -9,7 +9,7 @@ use Rattle.daq_io.specs.declared.objects.Outside.{Outside}
 use Rattle.frontend_kit.specs.declared.generator.Generator.{Generator}
 use Rattle.odb_commands.specs.declared.dump_replies.FileReply.{FileReply}
 use Rattle.odb_watch.specs.DatabasePorts.{DatabaseAccess, own_watched}
-use Rattle.odb_runinfo.specs.RunKeys.{session_rows}
+use Rattle.daq_session.specs.SessionRows.{session_rows}
 use Rattle.odb_watch.specs.Steps.{unwatched}
 use Rattle.loggers.specs.LeftNames.{NoneRose}
 use Rattle.session_runs.specs.declared.records.FileRecord.{FileRecord}

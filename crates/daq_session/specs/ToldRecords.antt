@@ -24,7 +24,7 @@ use Rattle.transitions.specs.EngineCalls.{order_for}
 use Rattle.transitions.specs.Engines.{engine_opening}
 use Rattle.transitions.specs.TurnOrder.{TurnsInOrder}
 use Rattle.member_model.specs.RunEngines.{EngineHistory, IsLegalEngine}
-use Rattle.odb_runinfo.specs.RunKeys.{session_rows}
+use Rattle.daq_session.specs.SessionRows.{session_rows}
 use Rattle.odb_watch.specs.Steps.{LeadsDatabase, unwatched}
 use Rattle.member_model.specs.SentCalls.{own_sent}
 use Rattle.member_model.specs.TurnCalls.{member_turns}

@@ -13,6 +13,7 @@ mod run;
 pub use daq_types::{FrontEnded, StartOutcome, Why};
 pub use ends::ScriptEnd;
 pub use odb_commands::{FileReplies, FileReply};
+pub use opening::SessionTree;
 pub use run::run_script;
 pub use session_objects::{BufferRecord, SessionRecord};
 pub use session_runs::{FileRecord, FrontTally, ReportTally, RunRecord};

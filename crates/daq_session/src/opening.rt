@@ -26,6 +26,7 @@ use frontend_kit::Generator;
 use loggers::ChannelSpecs;
 use mid_logger::ChannelSpec;
 use odb_arena::ArenaTree;
+use odb_links::LinkTree;
 use odb_lock::{LockedDatabase, OdbPass, OdbPasses, SharedAccess, SharedOdb, WatchedSeen};
 use odb_runinfo::open;
 use odb_tree::Database;
@@ -45,6 +46,9 @@ use turn_lock::Machine;
 /// How many passes a session's database has: one for the main thread, and one for each front-end that may be declared.
 const DATABASE_PASSES: u32 = 33;
 
+/// What a session keeps its settings in: a database that keeps links.
+pub type SessionTree = LinkTree<ArenaTree>;
+
 /// The online database of a session, which all that may be declared can call.
 #[derive(Drop)]
 pub struct OpenDatabase<D: Database>
@@ -59,10 +63,10 @@ where
 }
 
 /// The online database of a session that is not open: it has the run's parameters.
-pub fn open_database(alloc: Global) -> Result<OpenDatabase<ArenaTree>, NoMemory>
+pub fn open_database(alloc: Global) -> Result<OpenDatabase<SessionTree>, NoMemory>
     ensures { IfOk result (λ d. IsNewDatabase d.shared d.main d.passes) }
 {
-    let mut tree = ArenaTree::new(alloc);
+    let mut tree = LinkTree::new(alloc, ArenaTree::new(alloc));
     open(alloc, &mut tree)?;
     let (shared, mut passes) = SharedOdb::new(alloc, tree, DATABASE_PASSES)?;
     let main = take_main(&mut passes);

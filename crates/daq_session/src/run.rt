@@ -14,12 +14,11 @@ ghost use Rattle.daq_session.specs.Sessions.{RunsScript};
 
 use crate::ends::{ScriptEnd, end_of};
 use crate::left::{EndedObjects, LeftBehind, close_left, leave_unopened};
-use crate::opening::{OpenDatabase, open_database};
+use crate::opening::{OpenDatabase, SessionTree, open_database};
 use crate::places::{MemberSide, Places};
 use crate::played::{LinesEnd, NO_MEMORY, OpenedEnd, end_unopened, play_objects};
 use console::{LineLoop, PlayEnd};
 use daq_io::{Clock, Files, Gate, Outside, Pick, Sink, Source};
-use odb_arena::ArenaTree;
 use odb_commands::FileReplies;
 use odb_lock::{OdbPass, OdbPasses, SharedAccess, SharedOdb};
 use odb_tree::Database;
@@ -263,7 +262,7 @@ pub fn run_script<
     gate: &G,
 ) -> (
     ScriptEnd,
-    Option<SessionRecord<ArenaTree>>,
+    Option<SessionRecord<SessionTree>>,
     FileReplies,
     Outside<S, O, F, E, C, K>,
 )

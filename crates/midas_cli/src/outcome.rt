@@ -3,9 +3,8 @@ ghost use Rattle.std.specs.Option.{option_map};
 ghost use Rattle.midas_cli.specs.Outcomes.{status_of};
 
 use crate::causes::Cause;
-use daq_session::{RunRecord, SessionRecord};
+use daq_session::{RunRecord, SessionRecord, SessionTree};
 use daq_types::BoundedList;
-use odb_arena::ArenaTree;
 use odb_commands::FileReplies;
 use std::alloc::Global;
 
@@ -17,7 +16,7 @@ pub struct Outcome {
     /// Why it ended.
     pub cause: Cause,
     /// The record of the session, where a start opened one.
-    pub session: Option<SessionRecord<ArenaTree>>,
+    pub session: Option<SessionRecord<SessionTree>>,
     /// What came of the lines of the script that called the files of the database, in order.
     pub file_replies: FileReplies,
 }
@@ -61,7 +60,7 @@ impl Outcome {
 }
 
 /// The records of the runs of a session.
-fn runs_of(session: Option<SessionRecord<ArenaTree>>) -> Option<BoundedList<RunRecord, 0>>
+fn runs_of(session: Option<SessionRecord<SessionTree>>) -> Option<BoundedList<RunRecord, 0>>
     ensures { result ≡ option_map (λ kept. kept.runs) session }
 {
     let Some(kept) = session else {

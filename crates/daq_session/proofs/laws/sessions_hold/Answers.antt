@@ -1,4 +1,4 @@
-use Rattle.std.specs.Prelude.{refl}
+use Rattle.std.specs.Prelude.{refl, true}
 use Rattle.daq_session.proofs.NumberLaws.{RunLaws}
 use Rattle.daq_session.proofs.SessionsEnd.{keeps}
 use Rattle.daq_session.proofs.laws.sessions_hold.Goals as goal
@@ -6,10 +6,9 @@ use Rattle.daq_session.proofs.laws.sessions_hold.Goals as goal
 pub returns : goal.returns
 returns g c = λ first_files final run_files is.
     let laws : RunLaws = record {
-      stays = c.run_number_stays_watched.ensures.number;
-      unlinked = c.run_number_stays_watched.ensures.unlinked;
+      stays = c.run_number_stays_watched.ensures;
       given = c.run_number_given.ensures.value;
-      opens = c.run_number_opens.ensures;
+      opens = c.run_number_opens.ensures true;
       sets = c.own_calls_spare.ensures.sets;
       listed = c.members_listed.ensures;
       among = c.sent_by.ensures.among;
