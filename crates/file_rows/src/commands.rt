@@ -105,6 +105,12 @@ fn parts_of_rows(command: RowCommand<'_>) -> Parts<'_> {
             ..of_text("create", path, len)
         },
         RowCommand::CreateDir { path } => of_text("directory", path, 0),
+        RowCommand::Link { path, target } => Parts {
+            form: "link",
+            said: "",
+            texts: [path.as_slice(), target.as_slice()],
+            numbers: [0; 3],
+        },
         RowCommand::Set { path, index, value } => Parts {
             form: "set",
             said: "",
@@ -335,6 +341,18 @@ const COMMANDS: &[Row] = &[
         ..PLAIN
     },
     Row {
+        line: "link /L /A/b",
+        form: "link",
+        texts: ["/L", "/A/b"],
+        ..PLAIN
+    },
+    Row {
+        line: "link \"/L l\" \"\"",
+        form: "link",
+        texts: ["/L l", ""],
+        ..PLAIN
+    },
+    Row {
         line: "set /A/b 1 0xff",
         form: "set",
         texts: ["/A/b", "0xff"],
@@ -503,6 +521,9 @@ const FAULTY_WORDS: &[(&str, u32)] = &[
     ("set /A x \"y", 11),
     ("set /A x y\"z", 9),
     ("create FOO \"x", 7),
+    ("link /L \"/A", 11),
+    ("link /L /A \"x", 13),
+    ("link /L /A\"", 8),
 ];
 
 /// Lines with which no form goes on from a place.
@@ -529,6 +550,11 @@ const NO_FORM: &[(&str, u32)] = &[
     ("create UINT8 /A 1 2", 18),
     ("create DIR", 10),
     ("create DIR /A 3", 14),
+    ("link", 4),
+    ("link /L", 7),
+    ("link /L  ", 9),
+    ("link /L /A /B", 11),
+    ("Link /L /A", 0),
     ("set", 3),
     ("set /A  ", 8),
     ("set /A x y", 9),

@@ -14,9 +14,9 @@ use Rattle.odb_script.specs.declared.commands.Command.TheVariants.{Nothing, Exit
 use Rattle.odb_script.specs.declared.commands.Declaration.TheVariants.{Buffer, Equip, Channel, Analyzer}
 use Rattle.odb_script.specs.declared.commands.RunCommand.TheVariants.{Events, Start, Stop, Pause, Resume}
 use Rattle.odb_script.specs.declared.commands.DatabaseCommand.TheVariants.{Rows, Watches}
-use Rattle.odb_script.specs.declared.commands.RowCommand.TheVariants.{Create, CreateDir, Set, Get, List as Ls, Remove}
+use Rattle.odb_script.specs.declared.commands.RowCommand.TheVariants.{Create, CreateDir, Link, Set, Get, List as Ls, Remove}
 use Rattle.odb_script.specs.declared.commands.WatchCommand.TheVariants.{Load, Save, Watch, Notes, Unwatch}
-use Rattle.odb_script.specs.Forms.{Read, ◌>>=◌, next_text, words_behind, line_end, next_number, next_kind, last_number, on_rows, on_watches, only, with_text, with_number, buffer_form, equip_end, equip_form, channel_end, channel_form, analyzer_end, analyzer_form, value_form, create_form, set_end, set_form, get_form, watching_form, key_form, declaring_form, named_form, words_form, command_of}
+use Rattle.odb_script.specs.Forms.{Read, ◌>>=◌, next_text, words_behind, line_end, next_number, next_kind, last_number, on_rows, on_watches, only, with_text, with_number, buffer_form, equip_end, equip_form, channel_end, channel_form, analyzer_end, analyzer_form, value_form, create_form, link_form, set_end, set_form, get_form, watching_form, key_form, declaring_form, named_form, words_form, command_of}
 use Rattle.odb_script.specs.Spelled.{texts_of, Spells, Spelled}
 use Rattle.odb_script.proofs.TableLaws.{number_cases, type_cases, kind_cases, text_cases, no_directory_type}
 
@@ -155,6 +155,11 @@ create (word at kind ws) = text_cases kind (codes "DIR")
 create (ended at) = tt
 create (faulty at) = tt
 
+link : (ws : LineWords) → Reads (codes "link" ∷ []) ws (link_form ws)
+link ws =
+    text_goes_on (codes "link" ∷ []) (λ path. with_text (λ target. on_rows (Link path target)))
+    (λ path. text_ends (codes "link" ∷ path ∷ []) (λ target. on_rows (Link path target)) (λ target. refl)) ws
+
 set_without_index : (path first : List ℕ) (ws : LineWords) → Reads (codes "set" ∷ path ∷ first ∷ []) ws (set_end path first None ws)
 set_without_index path first (word at value ws) = tt
 set_without_index path first (ended at) = ([], refl, inl (refl, refl))
@@ -204,6 +209,7 @@ named at name ws =
     text_cases name (codes "channel") (λ e. subst (Named at ws) e (form at (codes "channel") ws (channel_form ws) (channel ws))) (λ no_channel.
     text_cases name (codes "analyzer") (λ e. subst (Named at ws) e (form at (codes "analyzer") ws (analyzer_form ws) (analyzer ws))) (λ no_analyzer.
     text_cases name (codes "create") (λ e. subst (Named at ws) e (form at (codes "create") ws (create_form ws) (create ws))) (λ no_create.
+    text_cases name (codes "link") (λ e. subst (Named at ws) e (form at (codes "link") ws (link_form ws) (link ws))) (λ no_link.
     text_cases name (codes "set") (λ e. subst (Named at ws) e (form at (codes "set") ws (set_form ws) (set ws))) (λ no_set.
     text_cases name (codes "get") (λ e. subst (Named at ws) e (form at (codes "get") ws (get_form ws) (get ws))) (λ no_get.
     text_cases name (codes "ls") (λ e. subst (Named at ws) e (form at (codes "ls") ws (with_text (λ path. on_rows (Ls path)) ws) (text_ends (codes "ls" ∷ []) (λ path. on_rows (Ls path)) (λ text. refl) ws))) (λ no_ls.
@@ -213,7 +219,7 @@ named at name ws =
     text_cases name (codes "watch") (λ e. subst (Named at ws) e (form at (codes "watch") ws (with_text (λ path. on_watches (Watch path)) ws) (text_ends (codes "watch" ∷ []) (λ path. on_watches (Watch path)) (λ text. refl) ws))) (λ no_watch.
     text_cases name (codes "notes") (λ e. subst (Named at ws) e (form at (codes "notes") ws (with_number (λ watch. on_watches (Notes watch)) ws) (number_ends (codes "notes" ∷ []) (λ watch. on_watches (Notes watch)) (λ text n number. (text, refl, number)) ws))) (λ no_notes.
     text_cases name (codes "unwatch") (λ e. subst (Named at ws) e (form at (codes "unwatch") ws (with_number (λ watch. on_watches (Unwatch watch)) ws) (number_ends (codes "unwatch" ∷ []) (λ watch. on_watches (Unwatch watch)) (λ text n number. (text, refl, number)) ws))) (λ no_unwatch.
-    rw (no_events, no_start, no_stop, no_pause, no_resume, no_exit, no_buffer, no_equip, no_channel, no_analyzer, no_create, no_set, no_get, no_ls, no_rm, no_load, no_save, no_watch, no_notes, no_unwatch) tt))))))))))))))))))))
+    rw (no_events, no_start, no_stop, no_pause, no_resume, no_exit, no_buffer, no_equip, no_channel, no_analyzer, no_create, no_link, no_set, no_get, no_ls, no_rm, no_load, no_save, no_watch, no_notes, no_unwatch) tt)))))))))))))))))))))
 
 reads : (ws : LineWords) → Reads [] ws (words_form ws)
 reads (word at name ws) = named at name ws
@@ -298,6 +304,7 @@ spelled ws texts (Database (Rows (Create tid path len))) h is = elim is.2 [
       (λ i j k l m. rw (no_type is.0 tid is.1, is.1, whole.2) refl)
 ]
 spelled ws texts (Database (Rows (CreateDir path))) h is = on_three (AreOf (Database (Rows (CreateDir path)))) ws (codes "create") (codes "DIR") path (h ∙ ap Some is) (λ i j k l. refl)
+spelled ws texts (Database (Rows (Link path target))) h is = on_three (AreOf (Database (Rows (Link path target)))) ws (codes "link") path target (h ∙ ap Some is) (λ i j k l. refl)
 spelled ws texts (Database (Rows (Set path index value))) h is = elim is [
   | inl whole ↦ on_three (AreOf (Database (Rows (Set path index value)))) ws (codes "set") path value (h ∙ ap Some whole.0)
       (λ i j k l. ap (λ n. Ok (Database (Rows (Set path n value)))) (sym whole.1))

@@ -15,10 +15,10 @@ use Rattle.odb_script.specs.declared.commands.Command.{Command}
 use Rattle.odb_script.specs.declared.commands.Command.TheVariants.{Nothing, Exit, Declare, Run}
 use Rattle.odb_script.specs.declared.commands.Declaration.TheVariants.{Buffer, Equip, Channel, Analyzer}
 use Rattle.odb_script.specs.declared.commands.RunCommand.TheVariants.{Events, Start, Stop, Pause, Resume}
-use Rattle.odb_script.specs.declared.commands.RowCommand.TheVariants.{Create, CreateDir, Set, Get, List as Ls, Remove}
+use Rattle.odb_script.specs.declared.commands.RowCommand.TheVariants.{Create, CreateDir, Link, Set, Get, List as Ls, Remove}
 use Rattle.odb_script.specs.declared.commands.WatchCommand.TheVariants.{Load, Save, Watch, Notes, Unwatch}
 use Rattle.odb_script.specs.declared.refusals.LineRefusal.TheVariants.{BadCommand}
-use Rattle.odb_script.specs.Forms.{Read, ◌>>=◌, next_text, words_behind, next_number, next_kind, last_number, on_rows, on_watches, only, with_text, with_number, buffer_form, equip_end, equip_form, channel_end, channel_form, analyzer_end, analyzer_form, create_form, set_end, set_form, watching_form, key_form, declaring_form, named_form, words_form, command_of}
+use Rattle.odb_script.specs.Forms.{Read, ◌>>=◌, next_text, words_behind, next_number, next_kind, last_number, on_rows, on_watches, only, with_text, with_number, buffer_form, equip_end, equip_form, channel_end, channel_form, analyzer_end, analyzer_form, create_form, link_form, set_end, set_form, watching_form, key_form, declaring_form, named_form, words_form, command_of}
 use Rattle.odb_script.specs.FormTable.{Piece, exactly, any_text, number_to, a_number, a_small_number, a_type, fits, LineForm, forms, forms_going_on, form_ended, first_misfit, place_of}
 
 -- What is known of a text: whether it is a number, the name of a type, or one text alone.
@@ -185,6 +185,9 @@ create (word at kind ws) = text_cases kind (codes "DIR")
 create (ended at) = refl
 create (faulty at) = refl
 
+link : (ws : LineWords) → place_of (link_form ws) ≡ first_misfit ((any_text ∷ any_text ∷ []) ∷ []) ws
+link ws = text_goes_on (any_text ∷ []) [] (λ path. with_text (λ target. on_rows (Link path target))) (λ path. text_ends (λ target. on_rows (Link path target))) ws
+
 set_without_index : (path first : List ℕ) (ws : LineWords) → place_of (set_end path first None ws) ≡ first_misfit ([] ∷ []) ws
 set_without_index path first (word at value ws) = refl
 set_without_index path first (ended at) = refl
@@ -242,6 +245,7 @@ named at name ws =
     text_cases name (codes "channel") (λ e. subst (Named at ws) e (channel ws)) (λ no_channel.
     text_cases name (codes "analyzer") (λ e. subst (Named at ws) e (analyzer ws)) (λ no_analyzer.
     text_cases name (codes "create") (λ e. subst (Named at ws) e (create ws)) (λ no_create.
+    text_cases name (codes "link") (λ e. subst (Named at ws) e (link ws)) (λ no_link.
     text_cases name (codes "set") (λ e. subst (Named at ws) e (set ws)) (λ no_set.
     text_cases name (codes "get") (λ e. subst (Named at ws) e (text_number_ends (λ path index. on_rows (Get path index)) ws)) (λ no_get.
     text_cases name (codes "ls") (λ e. subst (Named at ws) e (text_ends (λ path. on_rows (Ls path)) ws)) (λ no_ls.
@@ -251,7 +255,7 @@ named at name ws =
     text_cases name (codes "watch") (λ e. subst (Named at ws) e (text_ends (λ path. on_watches (Watch path)) ws)) (λ no_watch.
     text_cases name (codes "notes") (λ e. subst (Named at ws) e (number_ends (λ watch. on_watches (Notes watch)) ws)) (λ no_notes.
     text_cases name (codes "unwatch") (λ e. subst (Named at ws) e (number_ends (λ watch. on_watches (Unwatch watch)) ws)) (λ no_unwatch.
-    refused_by_all at name ws (rw (no_events, no_start, no_stop, no_pause, no_resume, no_exit, no_buffer, no_equip, no_channel, no_analyzer, no_create, no_set, no_get, no_ls, no_rm, no_load, no_save, no_watch, no_notes, no_unwatch) refl) (rw (no_events, no_start, no_stop, no_pause, no_resume, no_exit, no_buffer, no_equip, no_channel, no_analyzer, no_create, no_set, no_get, no_ls, no_rm, no_load, no_save, no_watch, no_notes, no_unwatch) refl)))))))))))))))))))))
+    refused_by_all at name ws (rw (no_events, no_start, no_stop, no_pause, no_resume, no_exit, no_buffer, no_equip, no_channel, no_analyzer, no_create, no_link, no_set, no_get, no_ls, no_rm, no_load, no_save, no_watch, no_notes, no_unwatch) refl) (rw (no_events, no_start, no_stop, no_pause, no_resume, no_exit, no_buffer, no_equip, no_channel, no_analyzer, no_create, no_link, no_set, no_get, no_ls, no_rm, no_load, no_save, no_watch, no_notes, no_unwatch) refl))))))))))))))))))))))
 
 first_named : (ws : LineWords) → place_of (words_form ws) ≡ first_misfit forms ws
 first_named (word at name ws) = named at name ws

@@ -49,6 +49,7 @@ forms =
     ∷ (exactly (codes "create") ∷ exactly (codes "DIR") ∷ any_text ∷ [])
     ∷ (exactly (codes "create") ∷ a_type ∷ any_text ∷ [])
     ∷ (exactly (codes "create") ∷ a_type ∷ any_text ∷ a_number ∷ [])
+    ∷ (exactly (codes "link") ∷ any_text ∷ any_text ∷ [])
     ∷ (exactly (codes "set") ∷ any_text ∷ any_text ∷ [])
     ∷ (exactly (codes "set") ∷ any_text ∷ a_number ∷ any_text ∷ [])
     ∷ (exactly (codes "get") ∷ any_text ∷ [])

@@ -13,7 +13,7 @@ use Rattle.odb_script.specs.declared.commands.Declaration.TheVariants.{Buffer, E
 use Rattle.odb_script.specs.declared.commands.RunCommand.TheVariants.{Events, Start, Stop, Pause, Resume}
 use Rattle.odb_script.specs.declared.commands.DatabaseCommand.TheVariants.{Rows, Watches}
 use Rattle.odb_script.specs.declared.commands.RowCommand.{RowCommand}
-use Rattle.odb_script.specs.declared.commands.RowCommand.TheVariants.{Create, CreateDir, Set, Get, List as Ls, Remove}
+use Rattle.odb_script.specs.declared.commands.RowCommand.TheVariants.{Create, CreateDir, Link, Set, Get, List as Ls, Remove}
 use Rattle.odb_script.specs.declared.commands.WatchCommand.{WatchCommand}
 use Rattle.odb_script.specs.declared.commands.WatchCommand.TheVariants.{Load, Save, Watch, Notes, Unwatch}
 use Rattle.odb_script.specs.declared.refusals.LineRefusal.{LineRefusal}
@@ -185,6 +185,12 @@ create_form (word at kind ws) = if is_text kind (codes "DIR") then directory_for
 create_form (ended at) = Err (BadCommand at)
 create_form (faulty at) = Err (BadCommand at)
 
+-- `link PATH TARGET`
+abbrev pub link_form : LineWords → Read Command
+link_form ws = do
+  path ← next_text ws
+  with_text (λ target. on_rows (Link path target)) (words_behind ws)
+
 -- What stands behind `set PATH` and one more word, which is the value where the line ends. Else it is the index, and
 -- the next word the value; no form goes on there if it is no number.
 abbrev pub set_end : List ℕ → List ℕ → Option ℕ → LineWords → Read Command
@@ -223,6 +229,7 @@ watching_form at name ws =
 unfoldable pub key_form : ℕ → List ℕ → LineWords → Read Command
 key_form at name ws =
     if is_text name (codes "create") then create_form ws
+    else if is_text name (codes "link") then link_form ws
     else if is_text name (codes "set") then set_form ws
     else if is_text name (codes "get") then get_form ws
     else if is_text name (codes "ls") then with_text (λ path. on_rows (Ls path)) ws

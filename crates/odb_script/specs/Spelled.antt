@@ -9,7 +9,7 @@ use Rattle.odb_script.specs.declared.commands.Command.TheVariants.{Nothing, Exit
 use Rattle.odb_script.specs.declared.commands.Declaration.TheVariants.{Buffer, Equip, Channel, Analyzer}
 use Rattle.odb_script.specs.declared.commands.RunCommand.TheVariants.{Events, Start, Stop, Pause, Resume}
 use Rattle.odb_script.specs.declared.commands.DatabaseCommand.TheVariants.{Rows, Watches}
-use Rattle.odb_script.specs.declared.commands.RowCommand.TheVariants.{Create, CreateDir, Set, Get, List as Ls, Remove}
+use Rattle.odb_script.specs.declared.commands.RowCommand.TheVariants.{Create, CreateDir, Link, Set, Get, List as Ls, Remove}
 use Rattle.odb_script.specs.declared.commands.WatchCommand.TheVariants.{Load, Save, Watch, Notes, Unwatch}
 
 -- the texts of words, where nothing else stands among them
@@ -43,6 +43,7 @@ Spells texts (Database (Rows (Create tid path len))) =
     × ((texts ≡ codes "create" ∷ type ∷ path ∷ []) × (len ≡ 1)
     ⊎ ((number : List ℕ) × (texts ≡ codes "create" ∷ type ∷ path ∷ number ∷ []) × (whole_number most_number number ≡ Some len)))
 Spells texts (Database (Rows (CreateDir path))) = texts ≡ codes "create" ∷ codes "DIR" ∷ path ∷ []
+Spells texts (Database (Rows (Link path target))) = texts ≡ codes "link" ∷ path ∷ target ∷ []
 Spells texts (Database (Rows (Set path index value))) =
     (texts ≡ codes "set" ∷ path ∷ value ∷ []) × (index ≡ 0)
     ⊎ ((number : List ℕ) × (texts ≡ codes "set" ∷ path ∷ number ∷ value ∷ []) × (whole_number most_number number ≡ Some index))

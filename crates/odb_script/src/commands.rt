@@ -95,6 +95,11 @@ pub enum RowCommand<'a> {
     CreateDir {
         path: LineText<'a>,
     },
+    /// `link PATH TARGET`: makes a link to the path TARGET.
+    Link {
+        path: LineText<'a>,
+        target: LineText<'a>,
+    },
     /// `set PATH [INDEX] VALUE`: sets an item of a key, item 0 if not given.
     Set {
         path: LineText<'a>,

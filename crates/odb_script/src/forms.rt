@@ -6,7 +6,7 @@ ghost use Rattle.odb_script.specs.Forms.{buffer_form, equip_form, channel_form, 
 use crate::commands::{
     Command, Declaration, RowCommand, RunCommand, WatchCommand, on_rows, on_watches,
 };
-use crate::key_forms::{read_create, read_get, read_set};
+use crate::key_forms::{read_create, read_get, read_link, read_set};
 use crate::pieces::{
     end, is_name, last_number, next_kind, next_number, next_small, only_number, only_text, text,
 };
@@ -144,6 +144,9 @@ fn read_key<'a>(
 {
     if is_name(name, "create") {
         return read_create(words);
+    }
+    if is_name(name, "link") {
+        return read_link(words);
     }
     if is_name(name, "set") {
         return read_set(words);

@@ -1,6 +1,6 @@
-//! The forms of the commands `create`, `set` and `get`.
+//! The forms of the commands `create`, `link`, `set` and `get`.
 ghost use Rattle.std.specs.Prelude.{◌≡◌};
-ghost use Rattle.odb_script.specs.Forms.{directory_form, value_form, create_form, set_end, set_form, get_form};
+ghost use Rattle.odb_script.specs.Forms.{directory_form, value_form, create_form, link_form, set_end, set_form, get_form};
 
 use crate::commands::{Command, RowCommand, on_rows};
 use crate::line_text::LineText;
@@ -47,6 +47,15 @@ pub(crate) fn read_create<'a>(words: &mut WordReader<'a>) -> Result<Command<'a>,
         }
         NextWord::End { at } | NextWord::Faulty { at } => Err(LineRefusal::BadCommand { at }),
     }
+}
+
+/// `link PATH TARGET`
+pub(crate) fn read_link<'a>(words: &mut WordReader<'a>) -> Result<Command<'a>, LineRefusal>
+    ensures { result ≡ link_form words.old }
+{
+    let path = text(words)?;
+    let target = only_text(words)?;
+    Ok(on_rows(RowCommand::Link { path, target }))
 }
 
 /// What stands behind `set PATH` and one more word.
