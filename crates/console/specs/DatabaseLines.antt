@@ -15,7 +15,7 @@ use Rattle.console.specs.declared.replies.Reply.{Reply}
 use Rattle.console.specs.declared.replies.Reply.TheVariants.{Database, Watch}
 use Rattle.console.specs.DatabaseStages.{DatabaseStage}
 
--- `create`, `set`, `get`, `ls` and `rm`: the calls on the rows that the command makes, with the replies that they got
+-- `create`, `link`, `set`, `get`, `ls` and `rm`: the calls on the rows that the command makes, with the replies that they got
 pub record PerformsRows (command : RowCommand) (old : DatabaseStage) (reply : Reply) (new : DatabaseStage) : Type 0 where
   pub answer : CommandReply
   pub answers : Answers old.access new.access (Performs command) answer

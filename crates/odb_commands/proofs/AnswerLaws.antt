@@ -15,7 +15,7 @@ use Rattle.odb_tree.specs.declared.entry.DatabaseEntry.{DatabaseEntry}
 use Rattle.odb_tree.specs.declared.entry.DatabaseEntry.TheVariants as call
 use Rattle.odb_tree.specs.declared.refusals.OdbRefusal.{OdbRefusal}
 use Rattle.odb_tree.specs.declared.rows.NewKey.{NewKey}
-use Rattle.odb_tree.specs.declared.rows.NewKey.TheVariants.{Dir, Keys}
+use Rattle.odb_tree.specs.declared.rows.NewKey.TheVariants.{Dir, Keys, Link}
 use Rattle.odb_tree.specs.Rows.{Rows}
 use Rattle.odb_tree.specs.Links.{meets_link}
 use Rattle.odb_tree.specs.Calls.{Gives, GivesIf, GivesItem, delete_reply, path_with, rows_after}
@@ -28,8 +28,8 @@ use Rattle.odb_commands.specs.declared.replies.CommandRefusal.{CommandRefusal}
 use Rattle.odb_commands.specs.declared.replies.CommandRefusal.TheVariants.{Protected}
 use Rattle.odb_commands.specs.declared.replies.CommandReply.{CommandReply}
 use Rattle.odb_commands.specs.declared.replies.CommandReply.TheVariants.{Key}
-use Rattle.odb_commands.specs.Answers.{CommandAnswer, refused, at_path, done_or, listed_or, create_at, item_for, set_item, set_in, set_at, key_found, shown_value, get_in, get_at, list_at, is_protected, removed, remove_at, answer_of}
-use Rattle.odb_commands.specs.CommandCalls.{AtPath, CreatesKey, SetsItem, SetsIn, Sets, NamesFound, Shows, GetsIn, Gets, Lists, RemovesIf, RemovesKey, Performs, IsAnswered, OthersLeave}
+use Rattle.odb_commands.specs.Answers.{CommandAnswer, refused, at_path, done_or, listed_or, create_at, link_at, item_for, set_item, set_in, set_at, key_found, shown_value, get_in, get_at, list_at, is_protected, removed, remove_at, answer_of}
+use Rattle.odb_commands.specs.CommandCalls.{AtPath, CreatesKey, LinksTo, SetsItem, SetsIn, Sets, NamesFound, Shows, GetsIn, Gets, Lists, RemovesIf, RemovesKey, Performs, IsAnswered, OthersLeave}
 
 -- A legal reply is that of the rows, where memory was not wanting.
 
@@ -141,10 +141,15 @@ path_answered : (read : Result (List (List ℕ)) PathRefusal) (answer : List (Li
 path_answered (Err why) answer Then calls reply each does = does
 path_answered (Ok p) answer Then calls reply each does = each p does
 
+link_answered : (s : Rows) (target : List ℕ) (p : List (List ℕ)) (calls : List DatabaseEntry) (reply : CommandReply) → IsLegalRows s (calls_by 0 calls) → LinksTo target p calls reply → IsAnswered (link_at s target p) calls reply
+link_answered s target p calls reply legal does =
+    path_answered (path_reply target) (λ t. create_at s (Link t) p) (λ t. CreatesKey (Link t) p) calls reply (λ t it. create_answered s (Link t) p calls reply legal it) does
+
 pub performs_answered : (s : Rows) (c : RowCommand) (calls : List DatabaseEntry) (reply : CommandReply) → Performs c calls reply → IsLegalRows s (calls_by 0 calls) → IsAnswered (answer_of s c) calls reply
 performs_answered s (command.Create type path len) calls reply does legal =
     path_answered (path_reply path) (create_at s (Keys type len)) (CreatesKey (Keys type len)) calls reply (λ p it. create_answered s (Keys type len) p calls reply legal it) does
 performs_answered s (command.CreateDir path) calls reply does legal = path_answered (path_reply path) (create_at s Dir) (CreatesKey Dir) calls reply (λ p it. create_answered s Dir p calls reply legal it) does
+performs_answered s (command.Link path target) calls reply does legal = path_answered (path_reply path) (link_at s target) (LinksTo target) calls reply (λ p it. link_answered s target p calls reply legal it) does
 performs_answered s (command.Set path index value) calls reply does legal = path_answered (path_reply path) (set_at s index value) (Sets index value) calls reply (λ p it. set_answered s index value p calls reply legal it) does
 performs_answered s (command.Get path index) calls reply does legal = path_answered (path_reply path) (get_at s index) (Gets index) calls reply (λ p it. get_answered s index p calls reply legal it) does
 performs_answered s (command.List path) calls reply does legal = path_answered (path_reply path) (list_at s) Lists calls reply (λ p it. list_answered s p calls reply legal it) does

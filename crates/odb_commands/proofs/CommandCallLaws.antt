@@ -31,8 +31,8 @@ use Rattle.odb_commands.specs.declared.replies.CommandRefusal.{CommandRefusal}
 use Rattle.odb_commands.specs.declared.replies.CommandRefusal.TheVariants.{Protected}
 use Rattle.odb_commands.specs.declared.replies.CommandReply.{CommandReply}
 use Rattle.odb_commands.specs.LedReplies.{create_led, set_led, get_led, find_led, list_led}
-use Rattle.odb_commands.specs.Answers.{CommandAnswer, refused, at_path, create_at, item_for, set_item, set_in, set_at, key_found, shown_value, get_in, get_at, list_at, is_protected, removed, remove_at, answer_of}
-use Rattle.odb_commands.specs.CommandCalls.{AtPath, CreatesKey, SetsItem, SetsIn, Sets, NamesFound, Shows, GetsIn, Gets, Lists, RemovesIf, RemovesKey, Performs}
+use Rattle.odb_commands.specs.Answers.{CommandAnswer, refused, at_path, create_at, link_at, item_for, set_item, set_in, set_at, key_found, shown_value, get_in, get_at, list_at, is_protected, removed, remove_at, answer_of}
+use Rattle.odb_commands.specs.CommandCalls.{AtPath, CreatesKey, LinksTo, SetsItem, SetsIn, Sets, NamesFound, Shows, GetsIn, Gets, Lists, RemovesIf, RemovesKey, Performs}
 use Rattle.odb_commands.specs.CommandCallLaws.{Spares}
 
 -- A refusal by the rows is never one for want of memory.
@@ -265,9 +265,16 @@ path_performs : (read : Result (List (List ℕ)) PathRefusal) (answer : List (Li
 path_performs (Err why) answer Then each = (refl, refl)
 path_performs (Ok p) answer Then each = each p
 
+create_performs : (s : Rows) (p : List (List ℕ)) (kind : NewKey) → CreatesKey kind p (create_at s kind p).calls (create_at s kind p).reply
+create_performs s p kind = (create_led s p kind, refl, create_led_settled s p kind, refl)
+
+link_performs : (s : Rows) (target : List ℕ) (p : List (List ℕ)) → LinksTo target p (link_at s target p).calls (link_at s target p).reply
+link_performs s target p = path_performs (path_reply target) (λ t. create_at s (Link t) p) (λ t. CreatesKey (Link t) p) (λ t. create_performs s p (Link t))
+
 pub performs_answer : (s : Rows) (c : RowCommand) → Performs c (answer_of s c).calls (answer_of s c).reply
-performs_answer s (command.Create tid path len) = path_performs (path_reply path) (create_at s (Keys tid len)) (CreatesKey (Keys tid len)) (λ p. (create_led s p (Keys tid len), refl, create_led_settled s p (Keys tid len), refl))
-performs_answer s (command.CreateDir path) = path_performs (path_reply path) (create_at s Dir) (CreatesKey Dir) (λ p. (create_led s p Dir, refl, create_led_settled s p Dir, refl))
+performs_answer s (command.Create tid path len) = path_performs (path_reply path) (create_at s (Keys tid len)) (CreatesKey (Keys tid len)) (λ p. create_performs s p (Keys tid len))
+performs_answer s (command.CreateDir path) = path_performs (path_reply path) (create_at s Dir) (CreatesKey Dir) (λ p. create_performs s p Dir)
+performs_answer s (command.Link path target) = path_performs (path_reply path) (link_at s target) (LinksTo target) (link_performs s target)
 performs_answer s (command.Set path index value) = path_performs (path_reply path) (set_at s index value) (Sets index value)
     (λ p. (get_led s p, (set_in s p index value (get_led s p)).calls, refl, get_led_settled s p, set_performs s p index value (get_led s p)))
 performs_answer s (command.Get path index) = path_performs (path_reply path) (get_at s index) (Gets index)
@@ -311,11 +318,17 @@ path_spares : (read : Result (List (List ℕ)) PathRefusal) (Then : List (List �
 path_spares (Err why) Then calls reply each does = spares_by calls [] does.0 tt
 path_spares (Ok p) Then calls reply each does = each p does
 
+create_spares : (p : List (List ℕ)) (kind : NewKey) (calls : List DatabaseEntry) (reply : CommandReply) → CreatesKey kind p calls reply → Spares calls
+create_spares p kind calls reply does = spares_by calls (call.Create p kind does.0 ∷ []) does.1 (tt, tt)
+
 pub performs_spares : (c : RowCommand) (calls : List DatabaseEntry) (reply : CommandReply) → Performs c calls reply → Spares calls
 performs_spares (command.Create tid path len) calls reply does =
-    path_spares (path_reply path) (CreatesKey (Keys tid len)) calls reply (λ p it. spares_by calls (call.Create p (Keys tid len) it.0 ∷ []) it.1 (tt, tt)) does
+    path_spares (path_reply path) (CreatesKey (Keys tid len)) calls reply (λ p it. create_spares p (Keys tid len) calls reply it) does
 performs_spares (command.CreateDir path) calls reply does =
-    path_spares (path_reply path) (CreatesKey Dir) calls reply (λ p it. spares_by calls (call.Create p Dir it.0 ∷ []) it.1 (tt, tt)) does
+    path_spares (path_reply path) (CreatesKey Dir) calls reply (λ p it. create_spares p Dir calls reply it) does
+performs_spares (command.Link path target) calls reply does =
+    path_spares (path_reply path) (LinksTo target) calls reply
+    (λ p it. path_spares (path_reply target) (λ t. CreatesKey (Link t) p) calls reply (λ t made. create_spares p (Link t) calls reply made) it) does
 performs_spares (command.Set path index value) calls reply does =
     path_spares (path_reply path) (Sets index value) calls reply (λ p it. spares_by calls (call.Get p it.0 ∷ it.1) it.2 (tt, set_spares p index value it.0 it.1 reply it.4)) does
 performs_spares (command.Get path index) calls reply does =

@@ -17,7 +17,7 @@ use Rattle.odb_tree.specs.declared.entry.DatabaseEntry.TheVariants as call
 use Rattle.odb_tree.specs.declared.refusals.OdbRefusal.{OdbRefusal}
 use Rattle.odb_tree.specs.declared.refusals.OdbRefusal.TheVariants.{NoKey, NoMemory as no_memory}
 use Rattle.odb_tree.specs.declared.rows.NewKey.{NewKey}
-use Rattle.odb_tree.specs.declared.rows.NewKey.TheVariants.{Dir, Keys}
+use Rattle.odb_tree.specs.declared.rows.NewKey.TheVariants.{Dir, Keys, Link}
 use Rattle.odb_watch.specs.DatabasePorts.{DatabaseAccess, AddsCall, AddsCalls, IsSamePort, IsSettled, unanswered}
 use Rattle.odb_script.specs.declared.commands.RowCommand.{RowCommand}
 use Rattle.odb_script.specs.declared.commands.RowCommand.TheVariants as command
@@ -26,7 +26,7 @@ use Rattle.odb_commands.specs.declared.replies.CommandRefusal.TheVariants.{Path,
 use Rattle.odb_commands.specs.declared.replies.CommandReply.{CommandReply}
 use Rattle.odb_commands.specs.declared.replies.CommandReply.TheVariants.{Key, One, Refused}
 use Rattle.odb_commands.specs.Answers.{done_or, item_for, item_or, is_protected, listed_or, one_or}
-use Rattle.odb_commands.specs.CommandCalls.{Answers, AtPath, CreatesKey, CutsAnswer, EndsCommand, Gets, GetsIn, Lists, Names, NamesFound, Performs, RemovesIf, RemovesKey, reply_takes_memory, SaysAtOnce, Sets, SetsIn, SetsItem, Shows}
+use Rattle.odb_commands.specs.CommandCalls.{Answers, AtPath, CreatesKey, CutsAnswer, EndsCommand, Gets, GetsIn, LinksTo, Lists, Names, NamesFound, Performs, RemovesIf, RemovesKey, reply_takes_memory, SaysAtOnce, Sets, SetsIn, SetsItem, Shows}
 
 -- A call that is refused only by what it finds is settled.
 
@@ -117,6 +117,9 @@ abbrev some_at_path : (read : Result (List (List ℕ)) PathRefusal) (Then : List
 some_at_path (Err why) Then each = ([], Refused (Path why), (refl, refl))
 some_at_path (Ok p) Then each = each p
 
+abbrev some_link : (target : List ℕ) (p : List (List ℕ)) → Some_do (LinksTo target p)
+some_link target p = some_at_path (path_reply target) (λ t. CreatesKey (Link t) p) (λ t. some_create (Link t) p)
+
 -- Memory ended while a text of the line was read, or an item copied.
 
 pub cut_create : (kind : NewKey) (p : List (List ℕ)) → Some_cut (CreatesKey kind p)
@@ -141,6 +144,9 @@ cut_remove p = remove_cut_if (is_protected p) p
 pub cut_at_path : (read : Result (List (List ℕ)) PathRefusal) (Then : List (List ℕ) → List DatabaseEntry → CommandReply → Type 0) → ((p : List (List ℕ)) → Some_cut (Then p)) → Some_cut (AtPath read Then)
 cut_at_path (Err why) Then each = (([], Refused (Path why), (refl, refl)), λ h. refl)
 cut_at_path (Ok p) Then each = each p
+
+pub cut_link : (target : List ℕ) (p : List (List ℕ)) → Some_cut (LinksTo target p)
+cut_link target p = cut_at_path (path_reply target) (λ t. CreatesKey (Link t) p) (λ t. cut_create (Link t) p)
 
 item_cut_by : (p : List (List ℕ)) (index : ℕ) (read : Result Item ItemRefusal) → Some_cut (SetsItem p index (item_or read))
 item_cut_by p index (Err why) = (some_item p index (Err (BadItem why)), λ h. refl)
@@ -248,6 +254,7 @@ port_stays law a b Does (Err why) ends = law a b ends.made ends.adds
 pub some_performs : (c : RowCommand) → Some_do (Performs c)
 some_performs (command.Create type path len) = some_at_path (path_reply path) (CreatesKey (Keys type len)) (some_create (Keys type len))
 some_performs (command.CreateDir path) = some_at_path (path_reply path) (CreatesKey Dir) (some_create Dir)
+some_performs (command.Link path target) = some_at_path (path_reply path) (LinksTo target) (some_link target)
 some_performs (command.Set path index value) = some_at_path (path_reply path) (Sets index value) (some_set index value)
 some_performs (command.Get path index) = some_at_path (path_reply path) (Gets index) (some_get index)
 some_performs (command.List path) = some_at_path (path_reply path) Lists some_list

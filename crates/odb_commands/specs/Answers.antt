@@ -15,7 +15,7 @@ use Rattle.odb_tree.specs.declared.entry.DatabaseEntry.TheVariants as call
 use Rattle.odb_tree.specs.declared.refusals.OdbRefusal.{OdbRefusal}
 use Rattle.odb_tree.specs.declared.refusals.OdbRefusal.TheVariants.{BadIndex}
 use Rattle.odb_tree.specs.declared.rows.NewKey.{NewKey}
-use Rattle.odb_tree.specs.declared.rows.NewKey.TheVariants.{Dir, Keys}
+use Rattle.odb_tree.specs.declared.rows.NewKey.TheVariants.{Dir, Keys, Link}
 use Rattle.odb_tree.specs.Rows.{Rows}
 use Rattle.odb_tree.specs.Calls.{delete_reply, path_with}
 use Rattle.odb_commands.specs.LedReplies.{create_led, set_led, get_led, find_led, list_led}
@@ -52,6 +52,10 @@ at_path (Ok p) answer = answer p
 -- `create`: one call.
 abbrev pub create_at : Rows → NewKey → List (List ℕ) → CommandAnswer
 create_at s kind p = record { calls = call.Create p kind (create_led s p kind) ∷ []; reply = done_or (create_led s p kind) }
+
+-- `link`: its target is read as its path was; then one call.
+abbrev pub link_at : Rows → (target : List ℕ) → List (List ℕ) → CommandAnswer
+link_at s target p = at_path (path_reply target) (λ t. create_at s (Link t) p)
 
 -- `set`: the key is got; then the index is tested, and the text; then the item is set.
 
@@ -125,6 +129,7 @@ remove_at s p = if is_protected p then refused Protected else removed s p
 abbrev pub answer_of : Rows → RowCommand → CommandAnswer
 answer_of s (command.Create tid path len) = at_path (path_reply path) (create_at s (Keys tid len))
 answer_of s (command.CreateDir path) = at_path (path_reply path) (create_at s Dir)
+answer_of s (command.Link path target) = at_path (path_reply path) (link_at s target)
 answer_of s (command.Set path index value) = at_path (path_reply path) (set_at s index value)
 answer_of s (command.Get path index) = at_path (path_reply path) (get_at s index)
 answer_of s (command.List path) = at_path (path_reply path) (list_at s)

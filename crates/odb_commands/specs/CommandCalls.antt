@@ -13,7 +13,7 @@ use Rattle.odb_tree.specs.declared.entry.DatabaseEntry.{DatabaseEntry}
 use Rattle.odb_tree.specs.declared.entry.DatabaseEntry.TheVariants as call
 use Rattle.odb_tree.specs.declared.refusals.OdbRefusal.{OdbRefusal}
 use Rattle.odb_tree.specs.declared.rows.NewKey.{NewKey}
-use Rattle.odb_tree.specs.declared.rows.NewKey.TheVariants.{Dir, Keys}
+use Rattle.odb_tree.specs.declared.rows.NewKey.TheVariants.{Dir, Keys, Link}
 use Rattle.odb_tree.specs.Rows.{Rows}
 use Rattle.odb_tree.specs.Calls.{rows_after}
 use Rattle.odb_watch.specs.DatabasePorts.{DatabaseAccess, AddsCalls, IsCutShort, IsSettled}
@@ -37,6 +37,10 @@ AtPath (Ok p) Then calls reply = Then p calls reply
 -- `create`: one call
 abbrev pub CreatesKey : NewKey → List (List ℕ) → (calls : List DatabaseEntry) → (reply : CommandReply) → Type 0
 CreatesKey kind p calls reply = (got : Result ℕ OdbRefusal) × (calls ≡ call.Create p kind got ∷ []) × IsSettled got × (reply ≡ done_or got)
+
+-- `link`: its target is read as its path was; then one call
+abbrev pub LinksTo : (target : List ℕ) → List (List ℕ) → (calls : List DatabaseEntry) → (reply : CommandReply) → Type 0
+LinksTo target p calls reply = AtPath (path_reply target) (λ t. CreatesKey (Link t) p) calls reply
 
 -- `set`: the key is got; then the index is tested, and the text; then the item is set
 abbrev pub SetsItem : List (List ℕ) → (index : ℕ) → Result Item CommandRefusal → (calls : List DatabaseEntry) → (reply : CommandReply) → Type 0
@@ -86,6 +90,7 @@ RemovesKey p calls reply = RemovesIf (is_protected p) p calls reply
 abbrev pub Performs : RowCommand → (calls : List DatabaseEntry) → (reply : CommandReply) → Type 0
 Performs (command.Create tid path len) calls reply = AtPath (path_reply path) (CreatesKey (Keys tid len)) calls reply
 Performs (command.CreateDir path) calls reply = AtPath (path_reply path) (CreatesKey Dir) calls reply
+Performs (command.Link path target) calls reply = AtPath (path_reply path) (LinksTo target) calls reply
 Performs (command.Set path index value) calls reply = AtPath (path_reply path) (Sets index value) calls reply
 Performs (command.Get path index) calls reply = AtPath (path_reply path) (Gets index) calls reply
 Performs (command.List path) calls reply = AtPath (path_reply path) Lists calls reply
@@ -97,7 +102,7 @@ pub record Answers (a b : DatabaseAccess) (Does : List DatabaseEntry → Command
   pub made : AddsCalls a b calls
   pub does : Does calls reply
 
--- whether a reply takes memory behind the last call of its command: the path or the value of the line is read for it, or an
+-- whether a reply takes memory behind the last call of its command: a path or the value of the line is read for it, or an
 -- item is copied
 
 abbrev pub refusal_takes_memory : CommandRefusal → Bool

@@ -4,7 +4,7 @@ ghost use Rattle.odb_value.specs.PathText.{path_reply};
 ghost use Rattle.odb_watch.specs.DatabasePorts.{IsSamePort};
 ghost use Rattle.odb_tree.specs.declared.rows.NewKey.TheVariants.{Dir, Keys};
 ghost use Rattle.odb_commands.specs.Answers.{done_or, listed_or};
-ghost use Rattle.odb_commands.specs.CommandCalls.{Answers, AtPath, CreatesKey, EndsCommand, Gets, GetsIn, Lists, Names, NamesFound, Performs, RemovesKey, Sets, SetsIn, SetsItem, Shows};
+ghost use Rattle.odb_commands.specs.CommandCalls.{Answers, AtPath, CreatesKey, EndsCommand, Gets, GetsIn, LinksTo, Lists, Names, NamesFound, Performs, RemovesKey, Sets, SetsIn, SetsItem, Shows};
 
 use crate::reading::{is_protected, item_for, one_of, read_path, settled};
 use crate::replies::{CommandRefusal, CommandReply};
@@ -85,6 +85,41 @@ fn create<R: Wait, P: DatabasePort>(
     match read_path(alloc, path)? {
         Err(why) => Ok(no_path(why)),
         Ok(path) => create_at(rt, alloc, port, path, kind),
+    }
+}
+
+/// The command at this path, with the text of the target's.
+fn link_at<R: Wait, P: DatabasePort>(
+    rt: &R,
+    alloc: Global,
+    port: &mut P,
+    path: Path,
+    target: &[u8],
+) -> Result<CommandReply, NoMemory>
+    requires main { (P.access port.old).caller ≡ main_caller }
+    ensures { EndsCommand (P.access port.old) (P.access port.new) (LinksTo target.now path) result }
+{
+    match read_path(alloc, target)? {
+        Err(why) => Ok(no_path(why)),
+        Ok(target) => create_at(rt, alloc, port, path, NewKey::Link { target }),
+    }
+}
+
+/// The command `link`: makes a link at the path of the one text to the path of the other.
+fn link<R: Wait, P: DatabasePort>(
+    rt: &R,
+    alloc: Global,
+    port: &mut P,
+    path: &[u8],
+    target: &[u8],
+) -> Result<CommandReply, NoMemory>
+    requires main { (P.access port.old).caller ≡ main_caller }
+    ensures { EndsCommand (P.access port.old) (P.access port.new)
+        (AtPath (path_reply path.now) (LinksTo target.now)) result }
+{
+    match read_path(alloc, path)? {
+        Err(why) => Ok(no_path(why)),
+        Ok(path) => link_at(rt, alloc, port, path, target),
     }
 }
 
@@ -342,6 +377,9 @@ fn answer<R: Wait, P: DatabasePort>(
             create(rt, alloc, port, path.as_slice(), kind)
         }
         RowCommand::CreateDir { path } => create(rt, alloc, port, path.as_slice(), NewKey::Dir),
+        RowCommand::Link { path, target } => {
+            link(rt, alloc, port, path.as_slice(), target.as_slice())
+        }
         RowCommand::Set { path, index, value } => {
             set(rt, alloc, port, path.as_slice(), *index, value.as_slice())
         }

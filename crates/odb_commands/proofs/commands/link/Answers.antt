@@ -1,0 +1,7 @@
+use Rattle.odb_value.specs.PathText.{path_reply}
+use Rattle.odb_commands.specs.CommandCalls.{LinksTo}
+use Rattle.odb_commands.proofs.Made.{ends_cut, not_begun, cut_at_path, cut_link}
+use Rattle.odb_commands.proofs.commands.link.Goals as goal
+
+pub returns-in_err-why : goal.returns-in_err-why
+returns-in_err-why g c = ends_cut _ _ _ _ c.from_residual.ensures.0 (not_begun _ _ (cut_at_path (path_reply c.args.path.now) (LinksTo c.args.target.now) (cut_link c.args.target.now)))
