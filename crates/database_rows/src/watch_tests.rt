@@ -8,6 +8,7 @@ ghost use Rattle.odb_lock.specs.SharedOdbs.{odb_lock_of};
 use daq_mem::{FileFail, FileOp, MemFiles};
 use daq_text::TextBuffer;
 use daq_types::{FileName, NoMemory};
+use odb_arena::ArenaTree;
 use odb_commands::{run_command, run_watch_command};
 use odb_lock::{OdbPass, OdbPasses, SharedAccess, SharedOdb};
 use odb_script::{Command, DatabaseCommand};
@@ -26,7 +27,7 @@ const NEW: &str =
     Stop time binary = UINT32 : 0\n\n";
 
 /// The one pass of a shared database.
-fn main_pass(shared: &SharedOdb<PlainTree>, passes: &mut OdbPasses<PlainTree>) -> OdbPass<PlainTree>
+fn main_pass<D: Database>(shared: &SharedOdb<D>, passes: &mut OdbPasses<D>) -> OdbPass<D>
     requires own { ArePassesOf (odb_lock_of shared.now) passes.old }
     requires fresh { AreFresh passes.old }
     requires numbers { numbers_of passes.old ≡ 0 ∷ [] }
@@ -40,13 +41,15 @@ fn main_pass(shared: &SharedOdb<PlainTree>, passes: &mut OdbPasses<PlainTree>) -
     main
 }
 
-/// A shared database with the keys of a new session, and its pass.
-fn new_session(alloc: Global) -> Result<(SharedOdb<PlainTree>, OdbPasses<PlainTree>), Fail>
+/// This database with the keys of a new session, as it is shared, and its pass.
+fn new_session<D: Database>(
+    alloc: Global,
+    mut database: D,
+) -> Result<(SharedOdb<D>, OdbPasses<D>), Fail>
     ensures own { IfOk result (λ made. ArePassesOf (odb_lock_of made.0) made.1) }
     ensures fresh { IfOk result (λ made. AreFresh made.1) }
     ensures numbers { IfOk result (λ made. numbers_of made.1 ≡ 0 ∷ []) }
 {
-    let mut database = PlainTree::new(alloc);
     let _ = load(alloc, &mut database, NEW.as_bytes())?;
     let made = SharedOdb::new(alloc, database, 1)?;
     Ok(made)
@@ -253,6 +256,27 @@ const FAILING: &[Line] = &[
     ("load a.odb", b"loaded 0 skipped 0\n"),
 ];
 
+/// Lines on a database that keeps no links. What is wrong with the first path comes before what is wrong with the second.
+const LINKS: &[Line] = &[
+    ("create UINT32 /A/x", b""),
+    ("link /L//M /A]", b"refused 2: EmptyName\n"),
+    ("link /L[ /A", b"refused 3: BadByte 2\n"),
+    ("link /L /A]", b"refused 4: BadByte 2\n"),
+    ("link /L /A//x", b"refused 5: EmptyName\n"),
+    (
+        "link /L /01234567890123456789012345678901",
+        b"refused 6: LongName\n",
+    ),
+    ("link /A/x/y /A]", b"refused 7: BadByte 2\n"),
+    ("link /A/x/y /A", b"refused 8: NotDir\n"),
+    ("link /a/X /A", b"refused 9: Exists\n"),
+    ("link / /A", b"refused 10: Exists\n"),
+    ("link /L /A", b"refused 11: NotKept LINK\n"),
+    ("link /L \"\"", b"refused 12: NotKept LINK\n"),
+    ("get /L", b"refused 13: NoKey\n"),
+    ("ls /", b"Runinfo/\nA/\n"),
+];
+
 /// Files in memory, of which these calls fail.
 fn new_files(alloc: Global, fails: Vec<FileFail>) -> Result<MemFiles, NoMemory> {
     MemFiles::new(alloc, 4, 100_000, fails)
@@ -273,14 +297,15 @@ fn is_there(files: &MemFiles, (name, text): File) -> bool {
     }
 }
 
-/// What these lines print in a new session over these files.
-fn check_session<R: Wait + Abort>(
+/// What these lines print in a new session over this database and these files.
+fn check_session<R: Wait + Abort, D: Database>(
     rt: &R,
     alloc: Global,
+    database: D,
     files: &mut MemFiles,
     lines: &[Line<'_>],
 ) -> Result<(), Fail> {
-    let (shared, mut passes) = new_session(alloc)?;
+    let (shared, mut passes) = new_session(alloc, database)?;
     let main = main_pass(&shared, &mut passes);
     check_shared(rt, alloc, &shared, main, files, lines)
 }
@@ -293,7 +318,7 @@ fn check_alone<R: Wait + Abort>(
     lines: &[Line<'_>],
 ) -> Result<(), Fail> {
     let mut files = new_files(alloc, fails)?;
-    check_session(rt, alloc, &mut files, lines)
+    check_session(rt, alloc, PlainTree::new(alloc), &mut files, lines)
 }
 
 /// New files: this one, if one is given.
@@ -308,7 +333,7 @@ fn given_files(alloc: Global, given: Option<File>) -> Result<MemFiles, Fail> {
 /// Goes through a session. Says whether the file that is looked at is there behind it, if one is. The files end here.
 fn leaves_file<R: Wait + Abort>(rt: &R, alloc: Global, row: &Row) -> Result<bool, Fail> {
     let mut files = given_files(alloc, row.given)?;
-    check_session(rt, alloc, &mut files, row.lines)?;
+    check_session(rt, alloc, PlainTree::new(alloc), &mut files, row.lines)?;
     match row.left {
         Some(left) => Ok(is_there(&files, left)),
         None => Ok(true),
@@ -329,6 +354,13 @@ fn check_rows<R: Wait + Abort>(rt: &R, alloc: Global) -> Result<(), Fail> {
 #[test]
 fn sessions_of_lines(rt: HostRuntime) -> Result<(), Fail> {
     check_rows(&rt, rt.alloc())
+}
+
+#[test]
+fn links_that_are_not_kept(rt: HostRuntime) -> Result<(), Fail> {
+    let alloc = rt.alloc();
+    let mut files = new_files(alloc, Vec::new(alloc))?;
+    check_session(&rt, alloc, ArenaTree::new(alloc), &mut files, LINKS)
 }
 
 #[test]
