@@ -8,8 +8,13 @@ const SETTINGS: &str =
     Stop time binary = UINT32 : 0\n\n[/Settings]\nName = STRING : [32] Muon decay\n\
     Thresholds = UINT16[3] :\n[0] 0\n[1] 500\n[2] 0\n\n";
 
+/// A key, and a link to its directory.
+const LINKED: &str =
+    "[/]\nL = LINK : [3] /A\n\n[/Runinfo]\nState = INT32 : 1\nRun number = INT32 : 0\n\
+    Start time binary = UINT32 : 0\nStop time binary = UINT32 : 0\n\n[/A]\nx = UINT32 : 0\n\n";
+
 /// The rows.
-pub static DATABASE_ROWS: [Row; 13] = [
+pub static DATABASE_ROWS: [Row; 16] = [
     Row {
         title: "Settings",
         script: "set \"/runinfo/RUN NUMBER\" 7\nget \"/Runinfo/Run number\"\n\
@@ -99,6 +104,25 @@ pub static DATABASE_ROWS: [Row; 13] = [
             load settings.odb\nwatch /Settings\nset /Settings/Thresholds 2 0x2BC\nnotes 0\n\
             load settings.odb\nnotes 0\nget /Settings/Thresholds\nunwatch 0\n",
         dump: Some(("settings.odb", SETTINGS)),
+        ..PLAIN
+    },
+    Row {
+        title: "Links",
+        script: "create UINT32 /A/x\nlink /L /A\nset /L/x 5\nget /A/x\nrm /L/x\nlink /C /C\n\
+            get /C\nrm /L\nget /A/x\n",
+        ..PLAIN
+    },
+    Row {
+        title: "A link that is saved",
+        script: "create UINT32 /A/x\nlink /L /A\nsave a.odb\n",
+        dumps: &["a.odb"],
+        ..PLAIN
+    },
+    Row {
+        title: "A link that is loaded",
+        script: "load a.odb\nls /\nlink /M /L/x\nget /M\nrm /M\nsave b.odb\n",
+        dump: Some(("a.odb", LINKED)),
+        dumps: &["b.odb"],
         ..PLAIN
     },
 ];
