@@ -1,78 +1,96 @@
 -- The run number is there after any legal calls on a watched database that spare it.
-use Rattle.std.proofs.Common.{◌≡◌, ℕ, false, List, [], ◌∷◌, Ok, Err, sym, ap, ◌∙◌, subst}
+use Rattle.std.proofs.Common.{◌≡◌, ℕ, Bool, true, false, List, [], ◌∷◌, Option, Some, None, Result, Ok, Err, inl, refl, sym, ap, ◌∙◌, subst}
+use Rattle.std.specs.Option.{option_or}
 use Rattle.std.specs.List.{AllByRecursion}
 use Rattle.std.specs.Str.Lines.{lines}
-use Rattle.odb_tree.specs.declared.rows.NewKey.TheVariants.{Dir, Keys, Link}
+use Rattle.odb_value.specs.Values.{HeldValue}
+use Rattle.odb_value.specs.LinkValues.{IsValueOrLink}
+use Rattle.odb_tree.specs.declared.refusals.OdbRefusal.{OdbRefusal}
+use Rattle.odb_tree.specs.declared.rows.NewKey.TheVariants.{Dir}
 use Rattle.odb_tree.specs.declared.entry.DatabaseEntry.{DatabaseEntry}
-use Rattle.odb_tree.specs.declared.entry.DatabaseEntry.TheVariants.{Create, Set, SetAll, Get, Find, ListDir, Delete, Resize, PathOf}
-use Rattle.odb_tree.specs.Rows.{Rows}
+use Rattle.odb_tree.specs.declared.entry.DatabaseEntry.TheVariants.{Create}
+use Rattle.odb_tree.specs.Rows.{Rows, row_at}
+use Rattle.odb_tree.specs.Links.{resolved, through}
+use Rattle.odb_tree.specs.Calls.{Gives, reply_or, create_fault, create_reply, number_at, put_fault, put_reply, after_put}
+use Rattle.odb_tree.specs.Making.{new_number}
+use Rattle.odb_tree.specs.Databases.{IsHeld}
 use Rattle.odb_tree.specs.Noting.{Watched}
-use Rattle.odb_tree.proofs.Sound.{links_after, links_replayed}
 use Rattle.odb_tree.specs.Histories.{IsLegalRows, rows_replay}
-use Rattle.odb_text.specs.TextSteps.{TextStep, run_steps}
+use Rattle.odb_text.specs.declared.acts.Act.{Act}
+use Rattle.odb_text.specs.declared.acts.Act.TheVariants.{Make, Write, Skip}
+use Rattle.odb_text.specs.TextSteps.{TextStep, fault_through, dir_refusal, after_make_by, own_limit, rows_fault, act_fault, after_act, or_refused, run_steps}
 use Rattle.odb_text.specs.Grammar.{SpellsSteps}
-use Rattle.odb_text.specs.TextCalls.{IsTextCall, LeadTextCalls}
+use Rattle.odb_text.specs.SoundActs.{IsSoundAct}
 use Rattle.odb_watch.specs.declared.entry.WatchEntry.{WatchEntry}
 use Rattle.odb_watch.specs.declared.entry.WatchEntry.TheVariants.{Call, Watch, Notes, Unwatch, Save, Load}
 use Rattle.odb_watch.specs.Steps.{StepsDatabase, LeadsDatabase}
-use Rattle.odb_runinfo.specs.RunNumberKept.{HasRunNumber, SparesRuninfo, AllSpareRuninfo}
+use Rattle.odb_runinfo.specs.RunNumberKept.{HasRunNumber, AllSpareRuninfo}
 use Rattle.odb_commands.specs.WatchSpares.{SparesWatched, AllSpareWatched}
 
--- what holds of calls on the rows alone, and of texts
-abbrev Number_stays : Type 0
-Number_stays = (s : Rows) (h : List (ℕ × DatabaseEntry)) → IsLegalRows s h → AllSpareRuninfo h → HasRunNumber s.rows → HasRunNumber (rows_replay s h).rows
+-- What holds of calls on the rows alone, and of texts.
+pub record NumberLaws : Type 0 where
+  pub calls : (s : Rows) (h : List (ℕ × DatabaseEntry)) → IsLegalRows s h → AllSpareRuninfo h → HasRunNumber s.rows → HasRunNumber (rows_replay s h).rows
+  pub put : (s : Rows) (p : List (List ℕ)) (v : HeldValue) (reply : Result ℕ OdbRefusal) → IsValueOrLink v → Gives reply (put_reply s p v) → HasRunNumber s.rows → HasRunNumber (after_put s p v reply).rows
+  pub sound : (s after : Rows) (text : List (List ℕ)) (steps : List TextStep) → SpellsSteps s.links 1 [] text steps → run_steps steps s ≡ Ok after
+      → AllByRecursion (λ (step : TextStep). IsSoundAct s.links step.act) steps
+  pub links : (s : Rows) (act : Act) → (after_act s act).links ≡ s.links
 
-abbrev Texts_are_calls : Type 0
-Texts_are_calls = (s after : Rows) (text : List (List ℕ)) (steps : List TextStep) → s.links ≡ false → SpellsSteps 1 [] text steps → run_steps steps s ≡ Ok after → LeadTextCalls s after
+-- A step of a text.
 
-text_call_spares : (entry : DatabaseEntry) → IsTextCall entry → SparesRuninfo entry
-text_call_spares (Create p Dir reply) h = tt
-text_call_spares (Create p (Keys type len) reply) h = absurd h
-text_call_spares (Create p (Link target) reply) h = absurd h
-text_call_spares (Set p index item reply) h = absurd h
-text_call_spares (SetAll p v reply) h = tt
-text_call_spares (Get p reply) h = absurd h
-text_call_spares (Find p reply) h = absurd h
-text_call_spares (ListDir p reply) h = absurd h
-text_call_spares (Delete p reply) h = absurd h
-text_call_spares (Resize p len reply) h = absurd h
-text_call_spares (PathOf row reply) h = absurd h
+-- a directory is made by a `create`, where it is
+made_by : (r : Result (List (List ℕ)) OdbRefusal) (s : Rows) → fault_through r (λ q. create_fault s q Dir) ≡ None → (number : ℕ) × (through r (λ q. create_reply s q Dir) ≡ Ok number)
+made_by (Ok q) s none = (new_number s q, ap (λ (o : Option OdbRefusal). reply_or o (new_number s q)) none)
+made_by (Err why) s none = absurd (cc)
 
-text_calls_spare : (h : List (ℕ × DatabaseEntry)) → AllByRecursion (λ (e : ℕ × DatabaseEntry). IsTextCall e.1) h → AllSpareRuninfo h
-text_calls_spare [] plain = tt
-text_calls_spare (e ∷ es) plain = (text_call_spares e.1 plain.0, text_calls_spare es plain.1)
+make_keeps : NumberLaws → (s : Rows) (p : List (List ℕ)) (o : Option OdbRefusal) → dir_refusal s p ≡ o → IsSoundAct s.links (Make p) → HasRunNumber s.rows → HasRunNumber (after_make_by s p o).rows
+make_keeps laws s p None is sound has =
+    let made = made_by (resolved s p false) s is in
+    laws.calls s ((0, Create p Dir (Ok made.0)) ∷ []) (record { may = λ _. refl; sound = (sound, tt); reply = made.1 }, tt) (tt, tt) has
+make_keeps laws s p (Some why) is sound has = has
 
--- a step leaves it that no links are kept
-step_unlinked : Texts_are_calls → (before : Watched) (caller : ℕ) (entry : WatchEntry) (after : Watched) → before.rows.links ≡ false → StepsDatabase before caller entry after → after.rows.links ≡ false
-step_unlinked texts before caller (Call entry) after none step = ap (λ (w : Watched). w.rows.links) step.step.1 ∙ (links_after before.rows entry step.step.0 ∙ none)
-step_unlinked texts before caller (Watch row reply) after none step = ap (λ (w : Watched). w.rows.links) step.step.1 ∙ none
-step_unlinked texts before caller (Notes w reply) after none step = ap (λ (w : Watched). w.rows.links) step.step.1 ∙ none
-step_unlinked texts before caller (Unwatch w reply) after none step = ap (λ (w : Watched). w.rows.links) step.step.1 ∙ none
-step_unlinked texts before caller (Save reply) after none step = ap (λ (w : Watched). w.rows.links) step.step.1 ∙ none
-step_unlinked texts before caller (Load text (Ok loaded)) after none step =
-    let by_calls : LeadTextCalls before.rows after.rows = texts before.rows after.rows (lines text) step.step.steps none step.step.reads step.step.ran in
-    sym (ap (λ (r : Rows). r.links) by_calls.leads) ∙ (links_replayed before.rows by_calls.calls by_calls.legal ∙ none)
-step_unlinked texts before caller (Load text (Err why)) after none step = ap (λ (w : Watched). w.rows.links) step.step.1 ∙ none
+either_held : (links : Bool) (v : HeldValue) → IsHeld links v → IsValueOrLink v
+either_held true v h = h
+either_held false v h = inl h
 
-step_stays : Number_stays → Texts_are_calls → (before : Watched) (caller : ℕ) (entry : WatchEntry) (after : Watched) → before.rows.links ≡ false → StepsDatabase before caller entry after → SparesWatched entry → HasRunNumber before.rows.rows
-    → HasRunNumber after.rows.rows
-step_stays stays texts before caller (Call entry) after none step spares has =
+none_right : {X : Type 0} (a b : Option X) → option_or a b ≡ None → b ≡ None
+none_right None b h = h
+none_right (Some x) b h = absurd (cc)
+
+act_keeps : NumberLaws → (s : Rows) (act : Act) → act_fault s act ≡ None → IsSoundAct s.links act → HasRunNumber s.rows → HasRunNumber (after_act s act).rows
+act_keeps laws s (Make p) none sound has = make_keeps laws s p (dir_refusal s p) refl sound has
+act_keeps laws s (Write p v) none sound has =
+    let number : ℕ = number_at s p (row_at s.rows p) in
+    let fine : put_fault s p v ≡ None = none_right (own_limit (Write p v)) (put_fault s p v) none in
+    laws.put s p v (Ok number) (either_held s.links v sound.1) (ap (λ (o : Option OdbRefusal). reply_or o number) fine) has
+act_keeps laws s (Skip items) none sound has = has
+
+steps_keep : NumberLaws → (links : Bool) (s after : Rows) (steps : List TextStep) → links ≡ s.links → AllByRecursion (λ (step : TextStep). IsSoundAct links step.act) steps → run_steps steps s ≡ Ok after
+    → HasRunNumber s.rows → HasRunNumber after.rows
+steps_keep laws links s after [] same sound ran has = (let one : s ≡ after = cc in subst (λ (t : Rows). HasRunNumber t.rows) one has)
+steps_keep laws links s after (step ∷ steps) same sound ran has = by (act_fault s step.act) refl ran
+  where
+    by : (o : Option OdbRefusal) → act_fault s step.act ≡ o → or_refused step.line o (run_steps steps (after_act s step.act)) ≡ Ok after → HasRunNumber after.rows
+    by None none rest =
+        steps_keep laws links (after_act s step.act) after steps (same ∙ sym (laws.links s step.act)) sound.1 rest
+        (act_keeps laws s step.act none (subst (λ (kept : Bool). IsSoundAct kept step.act) same sound.0) has)
+    by (Some why) is rest = absurd (cc)
+
+-- The calls.
+
+step_stays : NumberLaws → (before : Watched) (caller : ℕ) (entry : WatchEntry) (after : Watched) → StepsDatabase before caller entry after → SparesWatched entry → HasRunNumber before.rows.rows → HasRunNumber after.rows.rows
+step_stays laws before caller (Call entry) after step spares has =
     subst (λ (w : Watched). HasRunNumber w.rows.rows) (sym step.step.1)
-    (stays before.rows ((caller, entry) ∷ []) (record { may = step.may; sound = step.sound; reply = step.step.0 }, tt) (spares, tt) has)
-step_stays stays texts before caller (Watch row reply) after none step spares has = subst (λ (w : Watched). HasRunNumber w.rows.rows) (sym step.step.1) has
-step_stays stays texts before caller (Notes w reply) after none step spares has = subst (λ (w : Watched). HasRunNumber w.rows.rows) (sym step.step.1) has
-step_stays stays texts before caller (Unwatch w reply) after none step spares has = subst (λ (w : Watched). HasRunNumber w.rows.rows) (sym step.step.1) has
-step_stays stays texts before caller (Save reply) after none step spares has = subst (λ (w : Watched). HasRunNumber w.rows.rows) (sym step.step.1) has
-step_stays stays texts before caller (Load text (Ok loaded)) after none step spares has =
-    let by_calls : LeadTextCalls before.rows after.rows = texts before.rows after.rows (lines text) step.step.steps none step.step.reads step.step.ran in
-    subst (λ (r : Rows). HasRunNumber r.rows) by_calls.leads (stays before.rows by_calls.calls by_calls.legal (text_calls_spare by_calls.calls by_calls.plain) has)
-step_stays stays texts before caller (Load text (Err why)) after none step spares has = subst (λ (w : Watched). HasRunNumber w.rows.rows) (sym step.step.1) has
+    (laws.calls before.rows ((caller, entry) ∷ []) (record { may = step.may; sound = step.sound; reply = step.step.0 }, tt) (spares, tt) has)
+step_stays laws before caller (Watch row reply) after step spares has = subst (λ (w : Watched). HasRunNumber w.rows.rows) (sym step.step.1) has
+step_stays laws before caller (Notes w reply) after step spares has = subst (λ (w : Watched). HasRunNumber w.rows.rows) (sym step.step.1) has
+step_stays laws before caller (Unwatch w reply) after step spares has = subst (λ (w : Watched). HasRunNumber w.rows.rows) (sym step.step.1) has
+step_stays laws before caller (Save reply) after step spares has = subst (λ (w : Watched). HasRunNumber w.rows.rows) (sym step.step.1) has
+step_stays laws before caller (Load text (Ok loaded)) after step spares has =
+    steps_keep laws before.rows.links before.rows after.rows step.step.steps refl
+    (laws.sound before.rows after.rows (lines text) step.step.steps step.step.reads step.step.ran) step.step.ran has
+step_stays laws before caller (Load text (Err why)) after step spares has = subst (λ (w : Watched). HasRunNumber w.rows.rows) (sym step.step.1) has
 
-pub number_stays : Number_stays → Texts_are_calls → (first : Watched) (h : List (ℕ × WatchEntry)) (last : Watched) → first.rows.links ≡ false → LeadsDatabase first h last → AllSpareWatched h → HasRunNumber first.rows.rows → HasRunNumber last.rows.rows
-number_stays stays texts first [] last none leads spares has = subst (λ (w : Watched). HasRunNumber w.rows.rows) leads has
-number_stays stays texts first (e ∷ es) last none leads spares has =
-    number_stays stays texts leads.0 es last (step_unlinked texts first e.0 e.1 leads.0 none leads.1) leads.2 spares.1 (step_stays stays texts first e.0 e.1 leads.0 none leads.1 spares.0 has)
-
-pub links_stay : Texts_are_calls → (first : Watched) (h : List (ℕ × WatchEntry)) (last : Watched) → first.rows.links ≡ false → LeadsDatabase first h last → last.rows.links ≡ false
-links_stay texts first [] last none leads = ap (λ (w : Watched). w.rows.links) (sym leads) ∙ none
-links_stay texts first (e ∷ es) last none leads = links_stay texts leads.0 es last (step_unlinked texts first e.0 e.1 leads.0 none leads.1) leads.2
+pub number_stays : NumberLaws → (first : Watched) (h : List (ℕ × WatchEntry)) (last : Watched) → LeadsDatabase first h last → AllSpareWatched h → HasRunNumber first.rows.rows → HasRunNumber last.rows.rows
+number_stays laws first [] last leads spares has = subst (λ (w : Watched). HasRunNumber w.rows.rows) leads has
+number_stays laws first (e ∷ es) last leads spares has =
+    number_stays laws leads.0 es last leads.2 spares.1 (step_stays laws first e.0 e.1 leads.0 leads.1 spares.0 has)

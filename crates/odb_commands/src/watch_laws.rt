@@ -1,5 +1,5 @@
 //! What a command for watches or dumps tells by its answer.
-ghost use Rattle.std.specs.Prelude.{◌≡◌, ◌≢◌, ◌<◌, ℕ, false, List, [], ◌∷◌, length, IsTrue, IsSome, Some, None, Ok};
+ghost use Rattle.std.specs.Prelude.{◌≡◌, ◌≢◌, ◌<◌, ℕ, List, [], ◌∷◌, length, IsTrue, IsSome, Some, None, Ok};
 ghost use Rattle.std.specs.List.{AllByRecursion};
 ghost use Rattle.daq_types.specs.Names.{IsFileName};
 ghost use Rattle.daq_io.specs.Seen.{Seen, Stored, Same, Stores};
@@ -17,7 +17,7 @@ ghost use Rattle.odb_commands.specs.WatchPerforms.{PerformsWatch, LoadsTextOf};
 ghost use Rattle.odb_commands.specs.WatchSpares.{SparesWatched, AllSpareWatched};
 
 use odb_runinfo::laws::run_number_stays;
-use odb_text::laws::texts_are_calls;
+use odb_text::laws::texts_are_sound;
 
 /// Some calls and an answer do what a command for watches or dumps asks for, whatever the files tell.
 pub fn watch_commands_are_answered()
@@ -61,18 +61,15 @@ pub fn saves_by_file_reply()
         → answer.file ≢ Some TooLong }
 {}
 
-/// The run number is there, an INT32 with an item 0, after every legal history of a watched database that keeps no links in
-/// which no call removes anything below `/Runinfo`, texts that are loaded not excepted. A legal history leaves it so that none
-/// are kept.
+/// The run number is there, an INT32 with an item 0, after every legal history of a watched database in which no call removes
+/// anything below `/Runinfo`, texts that are loaded not excepted.
 pub fn run_number_stays_watched()
-    ensures number { (first : Watched) (h : List (ℕ × WatchEntry)) (last : Watched)
-        → first.rows.links ≡ false → LeadsDatabase first h last → AllSpareWatched h
+    ensures { (first : Watched) (h : List (ℕ × WatchEntry)) (last : Watched)
+        → LeadsDatabase first h last → AllSpareWatched h
         → HasRunNumber first.rows.rows → HasRunNumber last.rows.rows }
-    ensures unlinked { (first : Watched) (h : List (ℕ × WatchEntry)) (last : Watched)
-        → first.rows.links ≡ false → LeadsDatabase first h last → last.rows.links ≡ false }
 {
     run_number_stays();
-    texts_are_calls();
+    texts_are_sound();
 }
 
 /// No command for watches or dumps removes anything below `/Runinfo`, whatever its calls are answered.
