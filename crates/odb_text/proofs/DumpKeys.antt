@@ -16,7 +16,7 @@ use Rattle.odb_value.specs.Paths.{depth_limit}
 use Rattle.odb_value.specs.declared.items.Item.{Item}
 use Rattle.odb_value.specs.declared.items.Item.TheVariants.{UInt8, Int8, Char, UInt16, Int16, UInt32, Int32, Bool as Truth, Text, Int64, UInt64}
 use Rattle.odb_value.specs.Items.{tid_of, IsItem, is_kept}
-use Rattle.odb_value.specs.ItemTexts.{item_text, item_read}
+use Rattle.odb_value.specs.ItemTexts.{text_limit, item_text, item_read}
 use Rattle.odb_value.specs.KeyTexts.{item_alone, front_number}
 use Rattle.odb_value.specs.Values.{HeldValue, IsValue, IsSizeOf, IsShorter, size_limit, items_limit}
 use Rattle.odb_value.specs.ValueChanges.{size_with_item}
@@ -24,8 +24,13 @@ use Rattle.odb_value.proofs.ReadAgain.{item_again}
 use Rattle.odb_text.specs.LineForms.{without_blanks, is_of_word, IsKeyLine}
 use Rattle.odb_text.specs.ItemLines.{is_string, IsFrontNumber, IsItemLine, IsAloneText}
 use Rattle.odb_text.specs.declared.acts.Act.TheVariants.{Write}
-use Rattle.odb_text.specs.Grammar.{SizedItem, AreItemLines, size_given, size_for, held_with, IsSingleKey, IsArrayHead, SpellsAct}
+use Rattle.odb_text.specs.Grammar.{SizedItem, AreItemLines, size_given, size_for, held_with, IsSingleKey, IsArrayHead, IsLinkKey, link_size, held_link, SpellsAct}
+use Rattle.odb_value.specs.ItemBytes.{IsText}
+use Rattle.odb_value.specs.PathText.{path_reply}
+use Rattle.odb_value.specs.LinkValues.{IsLink}
+use Rattle.odb_tree.specs.Databases.{IsHeld}
 use Rattle.odb_text.proofs.Written.{wider}
+use Rattle.odb_text.proofs.LinkKeys.{link_sized, path_is_text}
 use Rattle.odb_text.proofs.DumpLines.{array_line, array_lines, array_head, key_line, lines_with, key_lines}
 use Rattle.odb_value.proofs.PathAgain.{or_false, name_inside, above_blank}
 use Rattle.odb_text.proofs.DumpPaths.{name_no_sign, has_no_append}
@@ -388,29 +393,68 @@ head_reads p name type n deep good some small kept = record {
   };
 }
 
-reads_by : (p : List (List ℕ)) (name : List ℕ) (type : Tid) (size : ℕ) (items : List Item) → length p < depth_limit → IsName name → IsSizeOf type size → 1 ≤ length items → length items ≤ items_limit
-    → AllByRecursion (FitsIn type size) items → SpellsAct p (lines_with name type size items) (Write (p ++ name ∷ []) (record { tid = type; size = size; items = items }))
-reads_by p name type size [] deep n h some many f = absurd (omega (arith, some))
-reads_by p name type size (x ∷ []) deep n h some many f =
+reads_by : (links : Bool) (p : List (List ℕ)) (name : List ℕ) (type : Tid) (size : ℕ) (items : List Item) → length p < depth_limit → IsName name → IsSizeOf type size → 1 ≤ length items → length items ≤ items_limit
+    → AllByRecursion (FitsIn type size) items → SpellsAct links p (lines_with name type size items) (Write (p ++ name ∷ []) (record { tid = type; size = size; items = items }))
+reads_by links p name type size [] deep n h some many f = absurd (omega (arith, some))
+reads_by links p name type size (x ∷ []) deep n h some many f =
     let small : size < 2 ^ 64 = omega (arith, own_size_small type size h) in
-    (name, type, sized (is_string type) size x ∷ [], inl (sized (is_string type) size x, one_reads p name type size x deep n small f.0, refl, refl), refl, held_same type size x [] h f)
-reads_by p name type size (x ∷ y ∷ zs) deep n h some many f =
+    (name, inl (type, sized (is_string type) size x ∷ [], inl (sized (is_string type) size x, one_reads p name type size x deep n small f.0, refl, refl), held_same type size x [] h f), refl)
+reads_by links p name type size (x ∷ y ∷ zs) deep n h some many f =
     let small : size < 2 ^ 64 = omega (arith, own_size_small type size h) in
     let count : length (x ∷ y ∷ zs) < 2 ^ 64 = omega (arith, many) in (
       name,
-      type,
-      map (sized (is_string type) size) (x ∷ y ∷ zs),
-      inr (
-        length (x ∷ y ∷ zs),
-        head_reads p name type (length (x ∷ y ∷ zs)) deep n some count (ap is_kept (sym f.0.of_type) ∙ item_kept x),
-        length-map (x ∷ y ∷ zs) (sized (is_string type) size),
-        lines_read type size 0 (x ∷ y ∷ zs) small (omega (arith, count)) f,
+      inl (
+        type,
+        map (sized (is_string type) size) (x ∷ y ∷ zs),
+        inr (
+          length (x ∷ y ∷ zs),
+          head_reads p name type (length (x ∷ y ∷ zs)) deep n some count (ap is_kept (sym f.0.of_type) ∙ item_kept x),
+          length-map (x ∷ y ∷ zs) (sized (is_string type) size),
+          lines_read type size 0 (x ∷ y ∷ zs) small (omega (arith, count)) f,
+        ),
+        held_same type size x (y ∷ zs) h f,
       ),
       refl,
-      held_same type size x (y ∷ zs) h f,
     )
 
-pub key_reads : (p : List (List ℕ)) (name : List ℕ) (v : HeldValue) → length p < depth_limit → IsName name → IsValue v → SpellsAct p (key_lines name v) (Write (p ++ name ∷ []) v)
-key_reads p name v deep n h =
-    reads_by p name v.tid v.size v.items deep n h.size h.some h.many
+value_reads : (links : Bool) (p : List (List ℕ)) (name : List ℕ) (v : HeldValue) → length p < depth_limit → IsName name → IsValue v → SpellsAct links p (key_lines name v) (Write (p ++ name ∷ []) v)
+value_reads links p name v deep n h =
+    reads_by links p name v.tid v.size v.items deep n h.size h.some h.many
     (all_fit v.tid v.size v.items (own_size_small v.tid v.size h.size) (recursion_from_All (IsItem v.tid) v.items h.of_type) (recursion_from_All (IsShorter v.size) v.items h.shorter))
+
+-- a link
+
+link_fits : (text : List ℕ) → IsText text → length text ≤ text_limit → FitsIn tid.Text (length text + 1) (Text text)
+link_fits text good short = record { of_type = refl; reads = item_again (Text text) good (omega (arith, short)); short = omega arith }
+
+link_line : (p : List (List ℕ)) (name text : List ℕ) (target : List (List ℕ)) → length p < depth_limit → IsName name → length text ≤ text_limit → path_reply text ≡ Ok target
+    → IsLinkKey p (key_line name tid.Link (codes " : " ++ item_alone (length text + 1) (Text text))) name (length text + 1) text
+link_line p name text target deep n short reads = record {
+  rest = codes " : " ++ item_alone (length text + 1) (Text text);
+  key = record { key = key_line_is name tid.Link 32 (codes ": " ++ item_alone (length text + 1) (Text text)) n refl; deep = deep };
+  text = 32 ∷ item_alone (length text + 1) (Text text);
+  single = refl;
+  alone = record {
+    item = alone_reads true tid.Text (length text + 1) (Text text) (omega (arith, short)) refl refl (link_fits text (path_is_text text target reads) short);
+    path = (target, reads);
+  };
+}
+
+pub link_held : (v : HeldValue) → (l : IsLink v) → v ≡ held_link (length l.text + 1) l.text
+link_held v l =
+    ap (λ (t : Tid). record { tid = t; size = v.size; items = v.items }) l.of_type
+    ∙ (ap (λ (n : ℕ). record { tid = tid.Link; size = n; items = v.items }) (l.size ∙ sym (link_sized (length l.text + 1) l.text (omega (arith, l.short))))
+    ∙ ap (λ (xs : List Item). record { tid = tid.Link; size = link_size (length l.text + 1) l.text; items = xs }) l.one)
+
+link_reads : (p : List (List ℕ)) (name : List ℕ) (v : HeldValue) → length p < depth_limit → IsName name → IsLink v → SpellsAct true p (key_lines name v) (Write (p ++ name ∷ []) v)
+link_reads p name v deep n l =
+    let size : link_size (length l.text + 1) l.text ≡ length l.text + 1 = link_sized (length l.text + 1) l.text (omega (arith, l.short)) in
+    let line : List ℕ = key_line name tid.Link (codes " : " ++ item_alone (length l.text + 1) (Text l.text)) in
+    let lines : key_lines name v ≡ line ∷ [] =
+    ap (key_lines name) (link_held v l) ∙ ap (λ (k : ℕ). key_line name tid.Link (codes " : " ++ item_alone k (Text l.text)) ∷ []) size in
+    (name, inr (line, length l.text + 1, l.text, refl, lines, link_line p name l.text l.target deep n l.short l.reads, link_held v l), refl)
+
+pub key_reads : (links : Bool) (p : List (List ℕ)) (name : List ℕ) (v : HeldValue) → length p < depth_limit → IsName name → IsHeld links v → SpellsAct links p (key_lines name v) (Write (p ++ name ∷ []) v)
+key_reads false p name v deep n h = value_reads false p name v deep n h
+key_reads true p name v deep n (inl h) = value_reads true p name v deep n h
+key_reads true p name v deep n (inr l) = link_reads p name v deep n l

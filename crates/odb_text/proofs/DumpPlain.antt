@@ -1,5 +1,5 @@
 -- The lines of a dump have no end in them and no carriage return.
-use Rattle.std.proofs.Common.{◌≡◌, ◌^◌, ℕ, suc, ◌+◌, ◌-◌, ◌<◌, ◌≤◌, ◌==◌, Bool, true, false, cond, List, [], ◌∷◌, ◌++◌, length, refl, sym, ap, ◌∙◌, arith, ne_eqb}
+use Rattle.std.proofs.Common.{◌≡◌, ◌^◌, ℕ, suc, ◌+◌, ◌-◌, ◌<◌, ◌≤◌, ◌==◌, Bool, true, false, cond, List, [], ◌∷◌, ◌++◌, length, inl, inr, refl, sym, ap, ◌∙◌, subst, arith, ne_eqb}
 use Rattle.std.specs.Prelude.{IsTrue, ℤ, pos, negsuc, codes, ◌||◌}
 use lib.Signed.{mag}
 use Rattle.std.specs.Fmt.{decimal, signed_decimal}
@@ -22,7 +22,10 @@ use Rattle.odb_value.specs.Values.{HeldValue, IsValue}
 use Rattle.odb_text.specs.LineForms.{HasNo}
 use Rattle.odb_text.proofs.DumpLines.{IsPlainLine, array_lines, array_head, key_line, lines_with, key_lines}
 use Rattle.odb_text.proofs.DumpPaths.{has_no_append, name_plain}
-use Rattle.odb_text.proofs.DumpKeys.{front_small, own_size_small}
+use Rattle.odb_value.specs.LinkValues.{IsLink}
+use Rattle.odb_tree.specs.Databases.{IsHeld}
+use Rattle.odb_text.proofs.LinkKeys.{link_sized, path_is_text}
+use Rattle.odb_text.proofs.DumpKeys.{front_small, own_size_small, link_held}
 
 plain_append : (xs ys : List ℕ) → IsPlainLine xs → IsPlainLine ys → IsPlainLine (xs ++ ys)
 plain_append xs ys h k = (has_no_append 10 xs ys h.0 k.0, has_no_append 13 xs ys h.1 k.1)
@@ -148,6 +151,19 @@ lines_plain name type size (x ∷ y ∷ zs) n small fits h = (
   array_plain type size 0 (x ∷ y ∷ zs) small (omega (arith, fits)) h,
 )
 
-pub key_plain : (name : List ℕ) (v : HeldValue) → IsName name → IsValue v → AllByRecursion IsPlainLine (key_lines name v)
-key_plain name v n h =
+value_plain : (name : List ℕ) (v : HeldValue) → IsName name → IsValue v → AllByRecursion IsPlainLine (key_lines name v)
+value_plain name v n h =
     lines_plain name v.tid v.size v.items n (omega (arith, own_size_small v.tid v.size h.size)) (omega (arith, h.many)) (recursion_from_All (IsItem v.tid) v.items h.of_type)
+
+link_plain : (name : List ℕ) (v : HeldValue) → IsName name → IsLink v → AllByRecursion IsPlainLine (key_lines name v)
+link_plain name v n l =
+    let small : length l.text + 1 < 2 ^ 64 = omega (arith, l.short) in
+    let alone = bracketed_plain (length l.text + 1) l.text small (text_plain l.text (path_is_text l.text l.target l.reads)) in
+    subst (λ (w : HeldValue). AllByRecursion IsPlainLine (key_lines name w)) (sym (link_held v l))
+    (subst (λ (k : ℕ). AllByRecursion IsPlainLine (key_line name tid.Link (codes " : " ++ item_alone k (Text l.text)) ∷ [])) (sym (link_sized (length l.text + 1) l.text (omega (arith, l.short))))
+    (key_line_plain name tid.Link (codes " : " ++ item_alone (length l.text + 1) (Text l.text)) n ((refl, (refl, (refl, alone.0))), (refl, (refl, (refl, alone.1)))), tt))
+
+pub key_plain : (links : Bool) (name : List ℕ) (v : HeldValue) → IsName name → IsHeld links v → AllByRecursion IsPlainLine (key_lines name v)
+key_plain false name v n h = value_plain name v n h
+key_plain true name v n (inl h) = value_plain name v n h
+key_plain true name v n (inr l) = link_plain name v n l

@@ -20,72 +20,72 @@ use Rattle.odb_text.proofs.Loads.{spells_passed, one_step, spells_step, dirs_pus
 use Rattle.odb_text.proofs.DumpLines.{row_lines, keys_lines, bare_dir_line, section_lines, dirs_lines, root_section, dump_lines, dump_ended, IsPlainLine, lines_ended}
 
 -- These lines ask for steps that do this, and leave the keys that follow in this directory.
-pub record ReadsAs (front : List (List ℕ)) (acts : List Act) (dir : List (List ℕ)) : Type 0 where
+pub record ReadsAs (links : Bool) (front : List (List ℕ)) (acts : List Act) (dir : List (List ℕ)) : Type 0 where
   pub steps : List TextStep
-  pub reads : SpellsSteps 1 [] front steps
+  pub reads : SpellsSteps links 1 [] front steps
   pub acts_are : acts_of steps ≡ acts
   pub dir_is : dirs_after [] steps ≡ dir
 
-pub reads_nothing : ReadsAs [] [] []
-reads_nothing = record { steps = []; reads = tt; acts_are = refl; dir_is = refl }
+pub reads_nothing : (links : Bool) → ReadsAs links [] [] []
+reads_nothing links = record { steps = []; reads = tt; acts_are = refl; dir_is = refl }
 
-pub reads_passed : (front : List (List ℕ)) (acts : List Act) (dir : List (List ℕ)) (line : List ℕ) → ReadsAs front acts dir → IsPassed line → ReadsAs (front ++ line ∷ []) acts dir
-reads_passed front acts dir line r h =
-    record { steps = r.steps; reads = spells_passed 1 [] front r.steps line r.reads h; acts_are = r.acts_are; dir_is = r.dir_is }
+pub reads_passed : (links : Bool) (front : List (List ℕ)) (acts : List Act) (dir : List (List ℕ)) (line : List ℕ) → ReadsAs links front acts dir → IsPassed line → ReadsAs links (front ++ line ∷ []) acts dir
+reads_passed links front acts dir line r h =
+    record { steps = r.steps; reads = spells_passed links 1 [] front r.steps line r.reads h; acts_are = r.acts_are; dir_is = r.dir_is }
 
-pub reads_act : (front : List (List ℕ)) (acts : List Act) (dir own : List (List ℕ)) (act : Act) → ReadsAs front acts dir → SpellsAct dir own act
-    → ReadsAs (front ++ own) (acts ++ act ∷ []) (dir_after dir act)
-reads_act front acts dir own act r h =
+pub reads_act : (links : Bool) (front : List (List ℕ)) (acts : List Act) (dir own : List (List ℕ)) (act : Act) → ReadsAs links front acts dir → SpellsAct links dir own act
+    → ReadsAs links (front ++ own) (acts ++ act ∷ []) (dir_after dir act)
+reads_act links front acts dir own act r h =
     let step : TextStep = one_step (1 + length front) act in
     record {
       steps = r.steps ++ step ∷ [];
-      reads = spells_step 1 [] front r.steps own act r.reads (subst (λ (d : List (List ℕ)). SpellsAct d own act) (sym r.dir_is) h);
+      reads = spells_step links 1 [] front r.steps own act r.reads (subst (λ (d : List (List ℕ)). SpellsAct links d own act) (sym r.dir_is) h);
       acts_are = map-append (λ (x : TextStep). x.act) r.steps (step ∷ []) ∙ ap (λ (l : List Act). l ++ act ∷ []) r.acts_are;
       dir_is = dirs_push [] r.steps step ∙ ap (λ (d : List (List ℕ)). dir_after d act) r.dir_is;
     }
 
 -- the lines of a key in this directory ask for it
-abbrev pub RowReads : (p : List (List ℕ)) → Row → Type 0
-RowReads p r = SpellsAct p (row_lines r) (act_for r) × (dir_after p (act_for r) ≡ p)
+abbrev pub RowReads : (links : Bool) (p : List (List ℕ)) → Row → Type 0
+RowReads links p r = SpellsAct links p (row_lines r) (act_for r) × (dir_after p (act_for r) ≡ p)
 
-abbrev pub KeysRead : (p : List (List ℕ)) → List Row → Type 0
-KeysRead p [] = Unit {0}
-KeysRead p (r ∷ rs) = RowReads p r × KeysRead p rs
+abbrev pub KeysRead : (links : Bool) (p : List (List ℕ)) → List Row → Type 0
+KeysRead links p [] = Unit {0}
+KeysRead links p (r ∷ rs) = RowReads links p r × KeysRead links p rs
 
-reads_keys : (front : List (List ℕ)) (acts : List Act) (p : List (List ℕ)) (keys : List Row) → ReadsAs front acts p → KeysRead p keys
-    → ReadsAs (front ++ keys_lines keys) (acts ++ map act_for keys) p
-reads_keys front acts p [] r h =
-    subst (λ (l : List (List ℕ)). ReadsAs l (acts ++ []) p) (sym (append-nil front)) (subst (λ (l : List Act). ReadsAs front l p) (sym (append-nil acts)) r)
-reads_keys front acts p (k ∷ ks) r h =
-    let one : ReadsAs (front ++ row_lines k) (acts ++ act_for k ∷ []) p =
-    subst (λ (d : List (List ℕ)). ReadsAs (front ++ row_lines k) (acts ++ act_for k ∷ []) d) h.0.1 (reads_act front acts p (row_lines k) (act_for k) r h.0.0) in
-    subst (λ (l : List (List ℕ)). ReadsAs l (acts ++ act_for k ∷ map act_for ks) p) (append_assoc front (row_lines k) (keys_lines ks))
-    (subst (λ (l : List Act). ReadsAs ((front ++ row_lines k) ++ keys_lines ks) l p) (append_assoc acts (act_for k ∷ []) (map act_for ks))
-    (reads_keys (front ++ row_lines k) (acts ++ act_for k ∷ []) p ks one h.1))
+reads_keys : (links : Bool) (front : List (List ℕ)) (acts : List Act) (p : List (List ℕ)) (keys : List Row) → ReadsAs links front acts p → KeysRead links p keys
+    → ReadsAs links (front ++ keys_lines keys) (acts ++ map act_for keys) p
+reads_keys links front acts p [] r h =
+    subst (λ (l : List (List ℕ)). ReadsAs links l (acts ++ []) p) (sym (append-nil front)) (subst (λ (l : List Act). ReadsAs links front l p) (sym (append-nil acts)) r)
+reads_keys links front acts p (k ∷ ks) r h =
+    let one : ReadsAs links (front ++ row_lines k) (acts ++ act_for k ∷ []) p =
+    subst (λ (d : List (List ℕ)). ReadsAs links (front ++ row_lines k) (acts ++ act_for k ∷ []) d) h.0.1 (reads_act links front acts p (row_lines k) (act_for k) r h.0.0) in
+    subst (λ (l : List (List ℕ)). ReadsAs links l (acts ++ act_for k ∷ map act_for ks) p) (append_assoc front (row_lines k) (keys_lines ks))
+    (subst (λ (l : List Act). ReadsAs links ((front ++ row_lines k) ++ keys_lines ks) l p) (append_assoc acts (act_for k ∷ []) (map act_for ks))
+    (reads_keys links (front ++ row_lines k) (acts ++ act_for k ∷ []) p ks one h.1))
 
 -- what is known of a directory and its keys
-pub record SectionReads (rows : List Row) (p : List (List ℕ)) : Type 0 where
+pub record SectionReads (links : Bool) (rows : List Row) (p : List (List ℕ)) : Type 0 where
   pub line : IsDirLine (bare_dir_line p) p
-  pub keys : KeysRead p (keys_in rows p)
+  pub keys : KeysRead links p (keys_in rows p)
 
-pub reads_section : (front : List (List ℕ)) (acts : List Act) (dir : List (List ℕ)) (rows : List Row) (p : List (List ℕ)) → ReadsAs front acts dir → SectionReads rows p
-    → ReadsAs (front ++ section_lines rows p) (acts ++ Make p ∷ map act_for (keys_in rows p)) p
-reads_section front acts dir rows p r s =
+pub reads_section : (links : Bool) (front : List (List ℕ)) (acts : List Act) (dir : List (List ℕ)) (rows : List Row) (p : List (List ℕ)) → ReadsAs links front acts dir → SectionReads links rows p
+    → ReadsAs links (front ++ section_lines rows p) (acts ++ Make p ∷ map act_for (keys_in rows p)) p
+reads_section links front acts dir rows p r s =
     let ks : List Row = keys_in rows p in
-    let head : ReadsAs (front ++ bare_dir_line p ∷ []) (acts ++ Make p ∷ []) p = reads_act front acts dir (bare_dir_line p ∷ []) (Make p) r (bare_dir_line p, refl, s.line) in
-    let keys : ReadsAs ((front ++ bare_dir_line p ∷ []) ++ keys_lines ks) ((acts ++ Make p ∷ []) ++ map act_for ks) p =
-    reads_keys (front ++ bare_dir_line p ∷ []) (acts ++ Make p ∷ []) p ks head s.keys in
-    let whole : ReadsAs (((front ++ bare_dir_line p ∷ []) ++ keys_lines ks) ++ [] ∷ []) ((acts ++ Make p ∷ []) ++ map act_for ks) p =
-    reads_passed ((front ++ bare_dir_line p ∷ []) ++ keys_lines ks) ((acts ++ Make p ∷ []) ++ map act_for ks) p [] keys (inl tt) in
-    subst (λ (l : List (List ℕ)). ReadsAs l (acts ++ Make p ∷ map act_for ks) p)
+    let head : ReadsAs links (front ++ bare_dir_line p ∷ []) (acts ++ Make p ∷ []) p = reads_act links front acts dir (bare_dir_line p ∷ []) (Make p) r (bare_dir_line p, refl, s.line) in
+    let keys : ReadsAs links ((front ++ bare_dir_line p ∷ []) ++ keys_lines ks) ((acts ++ Make p ∷ []) ++ map act_for ks) p =
+    reads_keys links (front ++ bare_dir_line p ∷ []) (acts ++ Make p ∷ []) p ks head s.keys in
+    let whole : ReadsAs links (((front ++ bare_dir_line p ∷ []) ++ keys_lines ks) ++ [] ∷ []) ((acts ++ Make p ∷ []) ++ map act_for ks) p =
+    reads_passed links ((front ++ bare_dir_line p ∷ []) ++ keys_lines ks) ((acts ++ Make p ∷ []) ++ map act_for ks) p [] keys (inl tt) in
+    subst (λ (l : List (List ℕ)). ReadsAs links l (acts ++ Make p ∷ map act_for ks) p)
     (append_assoc (front ++ bare_dir_line p ∷ []) (keys_lines ks) ([] ∷ []) ∙ append_assoc front (bare_dir_line p ∷ []) (keys_lines ks ++ [] ∷ []))
-    (subst (λ (l : List Act). ReadsAs (((front ++ bare_dir_line p ∷ []) ++ keys_lines ks) ++ [] ∷ []) l p) (append_assoc acts (Make p ∷ []) (map act_for ks)) whole)
+    (subst (λ (l : List Act). ReadsAs links (((front ++ bare_dir_line p ∷ []) ++ keys_lines ks) ++ [] ∷ []) l p) (append_assoc acts (Make p ∷ []) (map act_for ks)) whole)
 
 -- Directories, each with what is below it. The acts are those of the walk, where the directories at the last level are empty.
 
-pub record ReadsOn (front : List (List ℕ)) (acts : List Act) : Type 0 where
+pub record ReadsOn (links : Bool) (front : List (List ℕ)) (acts : List Act) : Type 0 where
   pub dir : List (List ℕ)
-  pub reads : ReadsAs front acts dir
+  pub reads : ReadsAs links front acts dir
 
 -- the rows below a directory, down to so many levels of directories, but for its own keys
 unfoldable pub level_rows : (depth : ℕ) → List Row → List (List ℕ) → List Row
@@ -93,9 +93,9 @@ level_rows zero rows p = []
 level_rows (suc depth) rows p = flat_map (λ (d : Row). d ∷ (keys_in rows d.path ++ level_rows depth rows d.path)) (dirs_in rows p)
 
 -- what is known of all directories there
-unfoldable pub LevelsRead : (depth : ℕ) → List Row → List (List ℕ) → Type 0
-LevelsRead zero rows p = Unit {0}
-LevelsRead (suc depth) rows p = AllByRecursion (λ (d : Row). (act_for d ≡ Make d.path) × SectionReads rows d.path × LevelsRead depth rows d.path) (dirs_in rows p)
+unfoldable pub LevelsRead : (links : Bool) (depth : ℕ) → List Row → List (List ℕ) → Type 0
+LevelsRead links zero rows p = Unit {0}
+LevelsRead links (suc depth) rows p = AllByRecursion (λ (d : Row). (act_for d ≡ Make d.path) × SectionReads links rows d.path × LevelsRead links depth rows d.path) (dirs_in rows p)
 
 -- lists of four parts
 four_parts : {X : Type 0} (a b c d : List X) → ((a ++ b) ++ c) ++ d ≡ a ++ ((b ++ c) ++ d)
@@ -107,72 +107,72 @@ mapped_parts d ks vs rs is =
     ∙ ap (λ (l : List Act). (act_for d ∷ l) ++ map act_for rs) (sym (map-append act_for ks vs))
     ∙ sym (map-append act_for (d ∷ (ks ++ vs)) rs)
 
-abbrev pub ReadsBelow : (depth : ℕ) → List Row → Type 0
-ReadsBelow depth rows = (front : List (List ℕ)) (acts : List Act) (dir p : List (List ℕ)) → ReadsAs front acts dir → LevelsRead depth rows p
-    → ReadsOn (front ++ dirs_lines depth rows p) (acts ++ map act_for (level_rows depth rows p))
+abbrev pub ReadsBelow : (links : Bool) (depth : ℕ) → List Row → Type 0
+ReadsBelow links depth rows = (front : List (List ℕ)) (acts : List Act) (dir p : List (List ℕ)) → ReadsAs links front acts dir → LevelsRead links depth rows p
+    → ReadsOn links (front ++ dirs_lines depth rows p) (acts ++ map act_for (level_rows depth rows p))
 
-reads_each : (depth : ℕ) (rows : List Row) → ReadsBelow depth rows → (front : List (List ℕ)) (acts : List Act) (dir : List (List ℕ)) (ds : List Row) → ReadsAs front acts dir
-    → AllByRecursion (λ (d : Row). (act_for d ≡ Make d.path) × SectionReads rows d.path × LevelsRead depth rows d.path) ds
-    → ReadsOn (front ++ flat_map (λ (d : Row). section_lines rows d.path ++ dirs_lines depth rows d.path) ds)
+reads_each : (links : Bool) (depth : ℕ) (rows : List Row) → ReadsBelow links depth rows → (front : List (List ℕ)) (acts : List Act) (dir : List (List ℕ)) (ds : List Row) → ReadsAs links front acts dir
+    → AllByRecursion (λ (d : Row). (act_for d ≡ Make d.path) × SectionReads links rows d.path × LevelsRead links depth rows d.path) ds
+    → ReadsOn links (front ++ flat_map (λ (d : Row). section_lines rows d.path ++ dirs_lines depth rows d.path) ds)
     (acts ++ map act_for (flat_map (λ (d : Row). d ∷ (keys_in rows d.path ++ level_rows depth rows d.path)) ds))
-reads_each depth rows below front acts dir [] r h =
-    record { dir = dir; reads = subst (λ (l : List (List ℕ)). ReadsAs l (acts ++ []) dir) (sym (append-nil front)) (subst (λ (l : List Act). ReadsAs front l dir) (sym (append-nil acts)) r) }
-reads_each depth rows below front acts dir (d ∷ ds) r h =
+reads_each links depth rows below front acts dir [] r h =
+    record { dir = dir; reads = subst (λ (l : List (List ℕ)). ReadsAs links l (acts ++ []) dir) (sym (append-nil front)) (subst (λ (l : List Act). ReadsAs links front l dir) (sym (append-nil acts)) r) }
+reads_each links depth rows below front acts dir (d ∷ ds) r h =
     let section : List (List ℕ) = section_lines rows d.path in
     let under : List (List ℕ) = dirs_lines depth rows d.path in
     let others : List (List ℕ) = flat_map (λ (x : Row). section_lines rows x.path ++ dirs_lines depth rows x.path) ds in
     let ks : List Row = keys_in rows d.path in
     let vs : List Row = level_rows depth rows d.path in
     let rs : List Row = flat_map (λ (x : Row). x ∷ (keys_in rows x.path ++ level_rows depth rows x.path)) ds in
-    let a : ReadsAs (front ++ section) (acts ++ Make d.path ∷ map act_for ks) d.path = reads_section front acts dir rows d.path r h.0.1 in
-    let b : ReadsOn ((front ++ section) ++ under) ((acts ++ Make d.path ∷ map act_for ks) ++ map act_for vs) =
+    let a : ReadsAs links (front ++ section) (acts ++ Make d.path ∷ map act_for ks) d.path = reads_section links front acts dir rows d.path r h.0.1 in
+    let b : ReadsOn links ((front ++ section) ++ under) ((acts ++ Make d.path ∷ map act_for ks) ++ map act_for vs) =
     below (front ++ section) (acts ++ Make d.path ∷ map act_for ks) d.path d.path a h.0.2 in
-    let c : ReadsOn (((front ++ section) ++ under) ++ others) (((acts ++ Make d.path ∷ map act_for ks) ++ map act_for vs) ++ map act_for rs) =
-    reads_each depth rows below ((front ++ section) ++ under) ((acts ++ Make d.path ∷ map act_for ks) ++ map act_for vs) b.dir ds b.reads h.1 in
-    subst (λ (l : List (List ℕ)). ReadsOn l (acts ++ map act_for ((d ∷ (ks ++ vs)) ++ rs))) (four_parts front section under others)
-    (subst (λ (l : List Act). ReadsOn (((front ++ section) ++ under) ++ others) l)
+    let c : ReadsOn links (((front ++ section) ++ under) ++ others) (((acts ++ Make d.path ∷ map act_for ks) ++ map act_for vs) ++ map act_for rs) =
+    reads_each links depth rows below ((front ++ section) ++ under) ((acts ++ Make d.path ∷ map act_for ks) ++ map act_for vs) b.dir ds b.reads h.1 in
+    subst (λ (l : List (List ℕ)). ReadsOn links l (acts ++ map act_for ((d ∷ (ks ++ vs)) ++ rs))) (four_parts front section under others)
+    (subst (λ (l : List Act). ReadsOn links (((front ++ section) ++ under) ++ others) l)
     (four_parts acts (Make d.path ∷ map act_for ks) (map act_for vs) (map act_for rs) ∙ ap (λ (l : List Act). acts ++ l) (mapped_parts d ks vs rs h.0.0)) c)
 
-pub reads_below : (depth : ℕ) (rows : List Row) → ReadsBelow depth rows
+pub reads_below : (links : Bool) (depth : ℕ) (rows : List Row) → ReadsBelow links depth rows
 unfolding dirs_lines level_rows LevelsRead
-reads_below zero rows = λ (front : List (List ℕ)) (acts : List Act) (dir p : List (List ℕ)) (r : ReadsAs front acts dir) h.
-    record { dir = dir; reads = subst (λ (l : List (List ℕ)). ReadsAs l (acts ++ []) dir) (sym (append-nil front)) (subst (λ (l : List Act). ReadsAs front l dir) (sym (append-nil acts)) r) }
-reads_below (suc depth) rows = λ (front : List (List ℕ)) (acts : List Act) (dir p : List (List ℕ)) (r : ReadsAs front acts dir) h.
-    reads_each depth rows (reads_below depth rows) front acts dir (dirs_in rows p) r h
+reads_below links zero rows = λ (front : List (List ℕ)) (acts : List Act) (dir p : List (List ℕ)) (r : ReadsAs links front acts dir) h.
+    record { dir = dir; reads = subst (λ (l : List (List ℕ)). ReadsAs links l (acts ++ []) dir) (sym (append-nil front)) (subst (λ (l : List Act). ReadsAs links front l dir) (sym (append-nil acts)) r) }
+reads_below links (suc depth) rows = λ (front : List (List ℕ)) (acts : List Act) (dir p : List (List ℕ)) (r : ReadsAs links front acts dir) h.
+    reads_each links depth rows (reads_below links depth rows) front acts dir (dirs_in rows p) r h
 
 -- The whole dump.
 
 -- what is known of the root: its line and its keys, where it has keys
-pub record RootReads (rows : List Row) : Type 0 where
-  pub section : SectionReads rows []
-  pub below : LevelsRead depth_limit rows []
+pub record RootReads (links : Bool) (rows : List Row) : Type 0 where
+  pub section : SectionReads links rows []
+  pub below : LevelsRead links depth_limit rows []
 
-root_reads : (rows keys : List Row) → keys ≡ keys_in rows [] → RootReads rows → ReadsOn (root_section rows keys) (root_acts keys ++ map act_for keys)
-root_reads rows [] e h = record { dir = []; reads = reads_nothing }
-root_reads rows (k ∷ ks) e h = record {
+root_reads : (links : Bool) (rows keys : List Row) → keys ≡ keys_in rows [] → RootReads links rows → ReadsOn links (root_section rows keys) (root_acts keys ++ map act_for keys)
+root_reads links rows [] e h = record { dir = []; reads = reads_nothing links }
+root_reads links rows (k ∷ ks) e h = record {
   dir = [];
-  reads = subst (λ (l : List Row). ReadsAs (section_lines rows []) (Make [] ∷ map act_for l) []) (sym e) (reads_section [] [] [] rows [] reads_nothing h.section);
+  reads = subst (λ (l : List Row). ReadsAs links (section_lines rows []) (Make [] ∷ map act_for l) []) (sym e) (reads_section links [] [] [] rows [] (reads_nothing links) h.section);
 }
 
 -- the keys of the root, and all that is below it, are the walk
-pub dump_reads : (s : Rows) → RootReads s.rows → keys_in s.rows [] ++ level_rows depth_limit s.rows [] ≡ walk s → ReadsOn (dump_lines s) (dump_acts s)
+pub dump_reads : (s : Rows) → RootReads s.links s.rows → keys_in s.rows [] ++ level_rows depth_limit s.rows [] ≡ walk s → ReadsOn s.links (dump_lines s) (dump_acts s)
 dump_reads s h is =
     let ks : List Row = keys_in s.rows [] in
     let vs : List Row = level_rows depth_limit s.rows [] in
-    let root : ReadsOn (root_section s.rows ks) (root_acts ks ++ map act_for ks) = root_reads s.rows ks refl h in
-    let all : ReadsOn (root_section s.rows ks ++ dirs_lines depth_limit s.rows []) ((root_acts ks ++ map act_for ks) ++ map act_for vs) =
-    reads_below depth_limit s.rows (root_section s.rows ks) (root_acts ks ++ map act_for ks) root.dir [] root.reads h.below in
-    subst (λ (l : List Act). ReadsOn (dump_lines s) l)
+    let root : ReadsOn s.links (root_section s.rows ks) (root_acts ks ++ map act_for ks) = root_reads s.links s.rows ks refl h in
+    let all : ReadsOn s.links (root_section s.rows ks ++ dirs_lines depth_limit s.rows []) ((root_acts ks ++ map act_for ks) ++ map act_for vs) =
+    reads_below s.links depth_limit s.rows (root_section s.rows ks) (root_acts ks ++ map act_for ks) root.dir [] root.reads h.below in
+    subst (λ (l : List Act). ReadsOn s.links (dump_lines s) l)
     (append_assoc (root_acts ks) (map act_for ks) (map act_for vs) ∙ ap (λ (l : List Act). root_acts ks ++ l) (sym (map-append act_for ks vs) ∙ ap (λ (l : List Row). map act_for l) is)) all
 
 -- so the law holds of a database whose lines are plain
-pub follows_walk : (s : Rows) → RootReads s.rows → keys_in s.rows [] ++ level_rows depth_limit s.rows [] ≡ walk s → AllByRecursion IsPlainLine (dump_lines s) → DumpFollowsWalk s
+pub follows_walk : (s : Rows) → RootReads s.links s.rows → keys_in s.rows [] ++ level_rows depth_limit s.rows [] ≡ walk s → AllByRecursion IsPlainLine (dump_lines s) → DumpFollowsWalk s
 follows_walk s h is plain =
     let r = dump_reads s h is in
     let same : lines (dump_text s) ≡ dump_lines s = ap lines (dump_ended s) ∙ lines_ended (dump_lines s) plain in
     record {
       steps = r.reads.steps;
-      reads = subst (λ (l : List (List ℕ)). SpellsSteps 1 [] l r.reads.steps) (sym same) r.reads.reads;
+      reads = subst (λ (l : List (List ℕ)). SpellsSteps s.links 1 [] l r.reads.steps) (sym same) r.reads.reads;
       acts_are = r.reads.acts_are;
     }
 

@@ -2,8 +2,8 @@ pub mod Splitting
 pub mod KeyLines
 pub mod Texts
 pub mod Found
+pub mod LedThere
 pub mod Unled
-pub mod Plain
 pub mod Parts
 pub mod Growing
 pub mod Sizes
@@ -14,6 +14,7 @@ pub mod Written
 pub mod Loads
 pub mod Replies
 pub mod OneReading
+pub mod LinkKeys
 pub mod OneFault
 pub mod DumpLines
 pub mod DumpReads

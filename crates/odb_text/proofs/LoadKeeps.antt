@@ -1,4 +1,4 @@
--- The steps of a text, none of which is refused, keep a database.
+-- The steps of a text, none of which is refused, keep a database, and what they ask for is sound.
 use Rattle.std.proofs.Common.{◌≡◌, ℕ, ◌+◌, ◌<◌, ◌≤◌, Bool, true, false, cond, List, [], ◌∷◌, ◌++◌, length, map, Option, Some, None, Result, Ok, Err, refl, sym, ap, ◌∙◌, subst, arith, inl, inr}
 use Rattle.std.specs.Prelude.{nat_lt}
 use Rattle.std.specs.Option.{option_or}
@@ -15,29 +15,27 @@ use Rattle.odb_value.specs.declared.items.Item.TheVariants.{UInt8, Int8, Char, U
 use Rattle.odb_value.specs.Items.{IsItem}
 use Rattle.odb_value.specs.Values.{HeldValue, IsValue, size_limit, items_limit}
 use Rattle.odb_value.specs.ValueChanges.{size_with_item}
-use Rattle.daq_types.specs.Callers.{main_caller}
-use Rattle.odb_tree.specs.declared.entry.DatabaseEntry.{DatabaseEntry}
-use Rattle.odb_tree.specs.declared.entry.DatabaseEntry.TheVariants.{Create, SetAll}
 use Rattle.odb_tree.specs.declared.rows.NewKey.TheVariants.{Dir}
 use Rattle.odb_tree.specs.declared.refusals.OdbRefusal.{OdbRefusal}
 use Rattle.odb_tree.specs.declared.refusals.OdbRefusal.TheVariants.{Limit}
 use Rattle.odb_tree.specs.declared.refusals.What.TheVariants.{Items, Size}
 use Rattle.odb_tree.specs.Rows.{Rows, row_at}
-use Rattle.odb_tree.specs.Making.{new_number}
-use Rattle.odb_tree.specs.Calls.{reply_or, number_at, create_fault, after_create, set_all_fault, after_set_all, rows_after}
-use Rattle.odb_tree.specs.Histories.{IsLegalRows, rows_replay}
-use Rattle.odb_tree.specs.Databases.{IsDatabase}
+use Rattle.odb_tree.specs.Calls.{reply_or, number_at, create_fault, after_create, put_fault, after_set_all, after_set_all_at}
+use Rattle.odb_tree.specs.declared.rows.Row.{Row}
+use Rattle.odb_tree.specs.Databases.{IsHeld, IsDatabase}
+use Rattle.odb_value.specs.LinkValues.{IsLink}
 use Rattle.odb_tree.specs.Links.{resolved, led_to}
-use Rattle.odb_tree.proofs.Sound.{database_created, database_set_all, links_replayed}
-use Rattle.odb_tree.proofs.Led.{unlinked, reply_unlinked, after_unlinked, resolved_path}
+use Rattle.odb_tree.proofs.Sound.{database_created, database_put}
+use Rattle.odb_tree.proofs.Led.{resolved_path}
 use Rattle.odb_text.specs.ItemLines.{is_string, IsFrontNumber, IsItemLine, IsAloneText}
 use Rattle.odb_text.specs.LineForms.{behind_blank}
 use Rattle.odb_text.specs.declared.acts.Act.{Act}
 use Rattle.odb_text.specs.declared.acts.Act.TheVariants.{Make, Write, Skip}
-use Rattle.odb_text.specs.TextSteps.{TextStep, fault_through, dir_refusal, after_make_by, many_fault, wide_fault, act_fault, after_act, or_refused, run_steps, dir_after}
-use Rattle.odb_text.specs.Grammar.{SizedItem, AreItemLines, size_given, size_for, held_with, IsSingleKey, IsArrayHead, IsKeptKey, SpellsAct, SpellsSteps}
-use Rattle.odb_text.specs.TextCalls.{IsTextCall, LeadTextCalls}
+use Rattle.odb_text.specs.TextSteps.{TextStep, fault_through, dir_refusal, after_make_by, many_fault, wide_fault, act_fault, after_act, or_refused, run_steps, dir_after, IsSoundAct}
+use Rattle.odb_text.specs.Grammar.{SizedItem, AreItemLines, size_given, size_for, held_with, IsSingleKey, IsArrayHead, IsKeptKey, IsLinkKey, link_size, held_link, IsWrittenKey, SpellsAct, SpellsSteps}
+use Rattle.odb_text.proofs.Loads.{runs_on}
 use Rattle.odb_text.proofs.Written.{key_is_value}
+use Rattle.odb_text.proofs.LinkKeys.{link_is}
 use Rattle.odb_text.proofs.ReadSound.{path_sound, item_sound}
 
 -- Items that were read, each with the size given for it.
@@ -154,6 +152,65 @@ key_good dir (line ∷ more) name type xs h =
       | inr a ↦ array_good dir line name type a.0 more xs a.1 a.2 a.3
     ]
 
+-- A key that is written, whose value passes no limit of its own.
+
+record IsGoodWrite (links : Bool) (dir : List (List ℕ)) (name : List ℕ) (v : HeldValue) : Type 0 where
+  name_is : IsName name
+  deep : length dir < depth_limit
+  held : IsHeld links v
+
+held_value : (links : Bool) (v : HeldValue) → IsValue v → IsHeld links v
+held_value true v h = inl h
+held_value false v h = h
+
+held_kept : (links : Bool) (v : HeldValue) → links ≡ true → IsLink v → IsHeld links v
+held_kept true v kept h = inr h
+held_kept false v kept h = absurd (cc)
+
+kept_written : (links : Bool) (dir : List (List ℕ)) (name : List ℕ) (type : Tid) (xs : List SizedItem) → IsGoodKey dir name type xs
+    → option_or (many_fault (length (held_with type xs).items)) (wide_fault (held_with type xs).size) ≡ None → IsGoodWrite links dir name (held_with type xs)
+kept_written links dir name type xs good free =
+    record { name_is = good.name_is; deep = good.deep; held = held_value links (held_with type xs) (value_sound type xs good.read good.some free) }
+
+link_written : (links : Bool) (dir : List (List ℕ)) (line name : List ℕ) (size : ℕ) (link : List ℕ) → links ≡ true → IsLinkKey dir line name size link
+    → option_or (many_fault (length (held_link size link).items)) (wide_fault (held_link size link).size) ≡ None → IsGoodWrite links dir name (held_link size link)
+link_written links dir line name size link kept h free = record {
+  name_is = h.key.key.is_name;
+  deep = h.key.deep;
+  held = held_kept links (held_link size link) kept
+      (link_is h.text size size link h.alone (none_right (many_fault (length (held_link size link).items)) (wide_fault (link_size size link)) free));
+}
+
+good_write : (links : Bool) (dir own : List (List ℕ)) (name : List ℕ) (v : HeldValue) → IsWrittenKey links dir own name v → option_or (many_fault (length v.items)) (wide_fault v.size) ≡ None → IsGoodWrite links dir name v
+good_write links dir own name v h free =
+    elim h [
+      | inl k ↦
+          subst (IsGoodWrite links dir name) (sym k.3)
+          (kept_written links dir name k.0 k.1 (key_good dir own name k.0 k.1 k.2) (subst (λ (w : HeldValue). option_or (many_fault (length w.items)) (wide_fault w.size) ≡ None) k.3 free))
+      | inr l ↦
+          subst (IsGoodWrite links dir name) (sym l.6)
+          (link_written links dir l.0 name l.1 l.2 l.3 l.5 (subst (λ (w : HeldValue). option_or (many_fault (length w.items)) (wide_fault w.size) ≡ None) l.6 free))
+    ]
+
+-- A step leaves it whether links are kept.
+
+led_links : (s : Rows) (r : Result (List (List ℕ)) OdbRefusal) → (led_to s r (λ q. after_create s q Dir)).links ≡ s.links
+led_links s (Ok q) = refl
+led_links s (Err why) = refl
+
+make_links : (s : Rows) (p : List (List ℕ)) (o : Option OdbRefusal) → (after_make_by s p o).links ≡ s.links
+make_links s p None = led_links s (resolved s p false)
+make_links s p (Some why) = refl
+
+write_links : (s : Rows) (p : List (List ℕ)) (v : HeldValue) (o : Option Row) → (after_set_all_at s p v o).links ≡ s.links
+write_links s p v None = refl
+write_links s p v (Some r) = refl
+
+pub act_links : (s : Rows) (act : Act) → (after_act s act).links ≡ s.links
+act_links s (Make p) = make_links s p (dir_refusal s p)
+act_links s (Write p v) = write_links s p v (row_at s.rows p)
+act_links s (Skip items) = refl
+
 -- A step that is not refused keeps a database.
 
 record Keeps (s : Rows) (dir : List (List ℕ)) (act : Act) : Type 0 where
@@ -168,151 +225,66 @@ make_keeps s p None e h path = at (resolved s p false) refl e
     at (Ok q) is k = database_created s q Dir None h (resolved_path s p q false h.rows path is) tt (sym k) refl
 make_keeps s p (Some refusal) e h path = h
 
-write_keeps : (s : Rows) (dir : List (List ℕ)) (name : List ℕ) (type : Tid) (xs : List SizedItem) → IsDatabase s → IsPath dir → IsGoodKey dir name type xs
-    → act_fault s (Write (dir ++ name ∷ []) (held_with type xs)) ≡ None → IsDatabase (after_set_all s (dir ++ name ∷ []) (held_with type xs))
-write_keeps s dir name type xs h path good free =
-    let own : Option OdbRefusal = option_or (many_fault (length (held_with type xs).items)) (wide_fault (held_with type xs).size) in
-    let rows : Option OdbRefusal = set_all_fault s (dir ++ name ∷ []) (held_with type xs) in
-    database_set_all s (dir ++ name ∷ []) (held_with type xs) None h (is_path_push dir name path good.deep good.name_is)
-    (value_sound type xs good.read good.some (none_left own rows free)) (sym (none_right own rows free)) refl
+write_keeps : (s : Rows) (dir : List (List ℕ)) (name : List ℕ) (v : HeldValue) → IsDatabase s → IsPath dir → IsGoodWrite s.links dir name v
+    → act_fault s (Write (dir ++ name ∷ []) v) ≡ None → IsDatabase (after_set_all s (dir ++ name ∷ []) v)
+write_keeps s dir name v h path good free =
+    let p : List (List ℕ) = dir ++ name ∷ [] in
+    let rows : put_fault s p v ≡ None = none_right (option_or (many_fault (length v.items)) (wide_fault v.size)) (put_fault s p v) free in
+    let n : ℕ = number_at s p (row_at s.rows p) in
+    database_put s p v (Ok n) h (is_path_push dir name path good.deep good.name_is) good.held (ap (λ (o : Option OdbRefusal). reply_or o n) rows)
 
-act_keeps : (s : Rows) (dir own : List (List ℕ)) (act : Act) → IsDatabase s → IsPath dir → SpellsAct dir own act → act_fault s act ≡ None → Keeps s dir act
-act_keeps s dir own (Make p) h path spells free =
+act_keeps : (links : Bool) (s : Rows) (dir own : List (List ℕ)) (act : Act) → links ≡ s.links → IsDatabase s → IsPath dir → SpellsAct links dir own act → act_fault s act ≡ None → Keeps s dir act
+act_keeps links s dir own (Make p) same h path spells free =
     let good : IsPath p = path_sound spells.2.text p spells.2.path in
     record { database = make_keeps s p (dir_refusal s p) refl h good; path = good }
-act_keeps s dir own (Write p v) h path spells free =
+act_keeps links s dir own (Write p v) same h path spells free =
     let name : List ℕ = spells.0 in
-    let type : Tid = spells.1 in
-    let xs : List SizedItem = spells.2 in
-    let is : Write p v ≡ Write (dir ++ name ∷ []) (held_with type xs) = ap (λ (q : List (List ℕ)). Write q v) spells.4 ∙ ap (λ (w : HeldValue). Write (dir ++ name ∷ []) w) spells.5 in
+    let own_clear : option_or (many_fault (length v.items)) (wide_fault v.size) ≡ None = none_left (option_or (many_fault (length v.items)) (wide_fault v.size)) (put_fault s p v) free in
+    let good : IsGoodWrite s.links dir name v = subst (λ (kept : Bool). IsGoodWrite kept dir name v) same (good_write links dir own name v spells.1 own_clear) in
     record {
-      database = subst (λ (a : Act). IsDatabase (after_act s a)) (sym is)
-          (write_keeps s dir name type xs h path (key_good dir own name type xs spells.3) (subst (λ (a : Act). act_fault s a ≡ None) is free));
+      database = subst (λ (q : List (List ℕ)). IsDatabase (after_set_all s q v)) (sym spells.2)
+          (write_keeps s dir name v h path good (subst (λ (q : List (List ℕ)). act_fault s (Write q v) ≡ None) spells.2 free));
       path = path;
     }
-act_keeps s dir own (Skip items) h path spells free = record { database = h; path = path }
+act_keeps links s dir own (Skip items) same h path spells free = record { database = h; path = path }
 
 -- and so do all steps.
 
-pub steps_keep : (number : ℕ) (dir lines : List (List ℕ)) (steps : List TextStep) (s after : Rows) → IsDatabase s → IsPath dir → SpellsSteps number dir lines steps → run_steps steps s ≡ Ok after
+pub steps_keep : (links : Bool) (number : ℕ) (dir lines : List (List ℕ)) (steps : List TextStep) (s after : Rows) → links ≡ s.links → IsDatabase s → IsPath dir → SpellsSteps links number dir lines steps → run_steps steps s ≡ Ok after
     → IsDatabase after
-steps_keep number dir lines [] s after h path reads ran = (let same : s ≡ after = cc in subst IsDatabase same h)
-steps_keep number dir lines (step ∷ steps) s after h path reads ran =
+steps_keep links number dir lines [] s after same h path reads ran = (let one : s ≡ after = cc in subst IsDatabase one h)
+steps_keep links number dir lines (step ∷ steps) s after same h path reads ran =
     cases (act_fault s step.act) refl ran (λ (now : Keeps s dir step.act) (k : run_steps steps (after_act s step.act) ≡ Ok after).
-    steps_keep (number + length reads.0 + length reads.1) (dir_after dir step.act) reads.2 steps (after_act s step.act) after now.database now.path reads.7 k)
+    steps_keep links (number + length reads.0 + length reads.1) (dir_after dir step.act) reads.2 steps (after_act s step.act) after (same ∙ sym (act_links s step.act)) now.database now.path reads.7 k)
   where
     cases : (o : Option OdbRefusal) → act_fault s step.act ≡ o → or_refused step.line o (run_steps steps (after_act s step.act)) ≡ Ok after
         → (Keeps s dir step.act → run_steps steps (after_act s step.act) ≡ Ok after → IsDatabase after) → IsDatabase after
     cases (Some why) e k rest = absurd (cc)
-    cases None e k rest = rest (act_keeps s dir reads.1 step.act h path reads.6 e) k
+    cases None e k rest = rest (act_keeps links s dir reads.1 step.act same h path reads.6 e) k
 
 root_is_path : IsPath []
 root_is_path = record { short = omega arith; names = All-nil IsName }
 
-pub load_keeps : (s after : Rows) (lines : List (List ℕ)) (steps : List TextStep) → IsDatabase s → SpellsSteps 1 [] lines steps → run_steps steps s ≡ Ok after → IsDatabase after
-load_keeps s after lines steps h reads ran = steps_keep 1 [] lines steps s after h root_is_path reads ran
+pub load_keeps : (s after : Rows) (lines : List (List ℕ)) (steps : List TextStep) → IsDatabase s → SpellsSteps s.links 1 [] lines steps → run_steps steps s ≡ Ok after → IsDatabase after
+load_keeps s after lines steps h reads ran = steps_keep s.links 1 [] lines steps s after refl h root_is_path reads ran
 
--- What a step does is what some calls do.
+-- What steps ask for that are not refused is sound.
 
-both_all : {X : Type 0} (P : X → Type 0) (xs ys : List X) → AllByRecursion P xs → AllByRecursion P ys → AllByRecursion P (xs ++ ys)
-both_all P [] ys h k = k
-both_all P (x ∷ xs) ys h k = (h.0, both_all P xs ys h.1 k)
-
-both_legal : (s : Rows) (xs ys : List (ℕ × DatabaseEntry)) → IsLegalRows s xs → IsLegalRows (rows_replay s xs) ys → IsLegalRows s (xs ++ ys)
-both_legal s [] ys h k = k
-both_legal s (x ∷ xs) ys h k = (h.0, both_legal (rows_after s x.1) xs ys h.1 k)
-
-both_lead : (s : Rows) (xs ys : List (ℕ × DatabaseEntry)) → rows_replay s (xs ++ ys) ≡ rows_replay (rows_replay s xs) ys
-both_lead s [] ys = refl
-both_lead s (x ∷ xs) ys = both_lead (rows_after s x.1) xs ys
-
-no_calls : (s : Rows) → LeadTextCalls s s
-no_calls s = record { calls = []; main = tt; plain = tt; legal = tt; leads = refl }
-
-calls_behind : (s mid after : Rows) → LeadTextCalls s mid → LeadTextCalls mid after → LeadTextCalls s after
-calls_behind s mid after h k = record {
-  calls = h.calls ++ k.calls;
-  main = both_all (λ (e : ℕ × DatabaseEntry). e.0 ≡ main_caller) h.calls k.calls h.main k.main;
-  plain = both_all (λ (e : ℕ × DatabaseEntry). IsTextCall e.1) h.calls k.calls h.plain k.plain;
-  legal = both_legal s h.calls k.calls h.legal (subst (λ (r : Rows). IsLegalRows r k.calls) (sym h.leads) k.legal);
-  leads = both_lead s h.calls k.calls ∙ (ap (λ (r : Rows). rows_replay r k.calls) h.leads ∙ k.leads);
-}
-
-make_calls : (s : Rows) (p : List (List ℕ)) (o : Option OdbRefusal) → s.links ≡ false → dir_refusal s p ≡ o → IsPath p → LeadTextCalls s (after_make_by s p o)
-make_calls s p None none e path = record {
-  calls = (0, Create p Dir (Ok (new_number s p))) ∷ [];
-  main = (refl, tt);
-  plain = (tt, tt);
-  legal = (
-    record {
-      may = λ _. refl;
-      sound = (path, tt);
-      reply = reply_unlinked s (Create p Dir (Ok (new_number s p))) none
-          (ap (λ (o : Option OdbRefusal). reply_or o (new_number s p)) (ap (λ (r : Result (List (List ℕ)) OdbRefusal). fault_through r (λ q. create_fault s q Dir)) (sym (unlinked s p false none)) ∙ e));
-    },
-    tt,
-  );
-  leads = refl;
-}
-make_calls s p (Some refusal) none e path = no_calls s
-
-write_calls : (s : Rows) (dir : List (List ℕ)) (name : List ℕ) (type : Tid) (xs : List SizedItem) → s.links ≡ false → IsPath dir → IsGoodKey dir name type xs → act_fault s (Write (dir ++ name ∷ []) (held_with type xs)) ≡ None
-    → LeadTextCalls s (after_set_all s (dir ++ name ∷ []) (held_with type xs))
-write_calls s dir name type xs none path good free =
-    let p : List (List ℕ) = dir ++ name ∷ [] in
-    let v : HeldValue = held_with type xs in
-    let own : Option OdbRefusal = option_or (many_fault (length v.items)) (wide_fault v.size) in
-    let rows : Option OdbRefusal = set_all_fault s p v in
-    let n : ℕ = number_at s p (row_at s.rows p) in
-    record {
-      calls = (0, SetAll p v (Ok n)) ∷ [];
-      main = (refl, tt);
-      plain = (tt, tt);
-      legal = (
-        record {
-          may = λ _. refl;
-          sound = (is_path_push dir name path good.deep good.name_is, value_sound type xs good.read good.some (none_left own rows free));
-          reply = reply_unlinked s (SetAll p v (Ok n)) none (ap (λ (o : Option OdbRefusal). reply_or o n) (none_right own rows free));
-        },
-        tt,
-      );
-      leads = after_unlinked s (SetAll p v (Ok n)) none;
-    }
-
-record Calls (s : Rows) (dir : List (List ℕ)) (act : Act) : Type 0 where
-  calls : LeadTextCalls s (after_act s act)
-  path : IsPath (dir_after dir act)
-
-act_calls : (s : Rows) (dir own : List (List ℕ)) (act : Act) → s.links ≡ false → IsPath dir → SpellsAct dir own act → act_fault s act ≡ None → Calls s dir act
-act_calls s dir own (Make p) none path spells free =
-    let good : IsPath p = path_sound spells.2.text p spells.2.path in record { calls = make_calls s p (dir_refusal s p) none refl good; path = good }
-act_calls s dir own (Write p v) none path spells free =
+act_sound : (links : Bool) (s : Rows) (dir own : List (List ℕ)) (act : Act) → IsPath dir → SpellsAct links dir own act → act_fault s act ≡ None → IsSoundAct links act × IsPath (dir_after dir act)
+act_sound links s dir own (Make p) path spells free = let good : IsPath p = path_sound spells.2.text p spells.2.path in (good, good)
+act_sound links s dir own (Write p v) path spells free =
     let name : List ℕ = spells.0 in
-    let type : Tid = spells.1 in
-    let xs : List SizedItem = spells.2 in
-    let is : Write p v ≡ Write (dir ++ name ∷ []) (held_with type xs) = ap (λ (q : List (List ℕ)). Write q v) spells.4 ∙ ap (λ (w : HeldValue). Write (dir ++ name ∷ []) w) spells.5 in
-    record {
-      calls = subst (λ (a : Act). LeadTextCalls s (after_act s a)) (sym is)
-          (write_calls s dir name type xs none path (key_good dir own name type xs spells.3) (subst (λ (a : Act). act_fault s a ≡ None) is free));
-      path = path;
-    }
-act_calls s dir own (Skip items) none path spells free = record { calls = no_calls s; path = path }
+    let good = good_write links dir own name v spells.1 (none_left (option_or (many_fault (length v.items)) (wide_fault v.size)) (put_fault s p v) free) in
+    ((subst IsPath (sym spells.2) (is_path_push dir name path good.deep good.name_is), good.held), path)
+act_sound links s dir own (Skip items) path spells free = (tt, path)
 
--- the calls leave it that no links are kept
-calls_plain : (s after : Rows) → LeadTextCalls s after → s.links ≡ false → after.links ≡ false
-calls_plain s after h none = sym (ap (λ (r : Rows). r.links) h.leads) ∙ (links_replayed s h.calls h.legal ∙ none)
+steps_sound : (links : Bool) (number : ℕ) (dir lines : List (List ℕ)) (steps : List TextStep) (s after : Rows) → IsPath dir → SpellsSteps links number dir lines steps → run_steps steps s ≡ Ok after
+    → AllByRecursion (λ (step : TextStep). IsSoundAct links step.act) steps
+steps_sound links number dir lines [] s after path reads ran = tt
+steps_sound links number dir lines (step ∷ steps) s after path reads ran =
+    let on = runs_on step.line (act_fault s step.act) (run_steps steps (after_act s step.act)) after ran in
+    let here = act_sound links s dir reads.1 step.act path reads.6 on.0 in
+    (here.0, steps_sound links (number + length reads.0 + length reads.1) (dir_after dir step.act) reads.2 steps (after_act s step.act) after here.1 reads.7 on.1)
 
-steps_calls : (number : ℕ) (dir lines : List (List ℕ)) (steps : List TextStep) (s after : Rows) → s.links ≡ false → IsPath dir → SpellsSteps number dir lines steps → run_steps steps s ≡ Ok after → LeadTextCalls s after
-steps_calls number dir lines [] s after none path reads ran = (let same : s ≡ after = cc in subst (LeadTextCalls s) same (no_calls s))
-steps_calls number dir lines (step ∷ steps) s after none path reads ran =
-    cases (act_fault s step.act) refl ran (λ (now : Calls s dir step.act) (k : run_steps steps (after_act s step.act) ≡ Ok after).
-    calls_behind s (after_act s step.act) after now.calls
-    (steps_calls (number + length reads.0 + length reads.1) (dir_after dir step.act) reads.2 steps (after_act s step.act) after (calls_plain s (after_act s step.act) now.calls none) now.path reads.7 k))
-  where
-    cases : (o : Option OdbRefusal) → act_fault s step.act ≡ o → or_refused step.line o (run_steps steps (after_act s step.act)) ≡ Ok after
-        → (Calls s dir step.act → run_steps steps (after_act s step.act) ≡ Ok after → LeadTextCalls s after) → LeadTextCalls s after
-    cases (Some why) e k rest = absurd (cc)
-    cases None e k rest = rest (act_calls s dir reads.1 step.act none path reads.6 e) k
-
-pub text_calls : (s after : Rows) (lines : List (List ℕ)) (steps : List TextStep) → s.links ≡ false → SpellsSteps 1 [] lines steps → run_steps steps s ≡ Ok after → LeadTextCalls s after
-text_calls s after lines steps none reads ran = steps_calls 1 [] lines steps s after none root_is_path reads ran
+pub text_sound : (s after : Rows) (lines : List (List ℕ)) (steps : List TextStep) → SpellsSteps s.links 1 [] lines steps → run_steps steps s ≡ Ok after → AllByRecursion (λ (step : TextStep). IsSoundAct s.links step.act) steps
+text_sound s after lines steps reads ran = steps_sound s.links 1 [] lines steps s after root_is_path reads ran

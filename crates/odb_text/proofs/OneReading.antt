@@ -7,11 +7,14 @@ use Rattle.std.proofs.lemmas.Bool.Decides.{nat_tests}
 use Rattle.odb_value.specs.declared.path_refusals.PathRefusal.{PathRefusal}
 use Rattle.odb_value.specs.ItemTexts.{item_read}
 use Rattle.daq_types.specs.declared.types.Tid.{Tid}
+use Rattle.daq_types.specs.declared.types.Tid.TheVariants as tid
 use Rattle.daq_types.specs.Names.{IsName, breaks_name}
 use Rattle.daq_text.specs.Numbers.{behind, is_blank}
 use Rattle.odb_value.specs.PathText.{path_reply}
 use Rattle.odb_value.specs.declared.items.Item.{Item}
+use Rattle.odb_value.specs.declared.items.Item.TheVariants.{Text}
 use Rattle.odb_value.specs.Items.{is_kept}
+use Rattle.odb_value.specs.LinkValues.{is_link_type}
 use Rattle.odb_value.specs.Values.{HeldValue}
 use Rattle.odb_text.specs.LineForms.{AreBlanks, IsComment, IsPassed, IsDirLine, IsKeyLine, IsSingle, IsArray, without_blanks, behind_blank}
 use Rattle.odb_text.specs.ItemLines.{is_string, IsFrontNumber, IsItemLine, IsItemAlone, IsAloneText}
@@ -20,9 +23,9 @@ use Rattle.odb_text.proofs.KeyLines.{single_once}
 use Rattle.odb_text.specs.declared.acts.Act.{Act}
 use Rattle.odb_text.specs.declared.acts.Act.TheVariants.{Make, Write, Skip}
 use Rattle.odb_text.specs.TextSteps.{TextStep, dir_after}
-use Rattle.odb_text.specs.Grammar.{SizedItem, AreItemLines, held_with, IsSingleKey, IsArrayHead, IsKeptKey, IsSkippedHead, IsSkippedKey, BeginsBracketed, SpellsAct, ArePassed, SpellsSteps}
+use Rattle.odb_text.specs.Grammar.{SizedItem, AreItemLines, held_with, IsSingleKey, IsArrayHead, IsKeptKey, IsLinkKey, held_link, IsWrittenKey, is_skipped, IsSkippedHead, IsSkippedKey, BeginsBracketed, SpellsAct, ArePassed, SpellsSteps}
 use Rattle.odb_text.proofs.Loads.{same_length}
-use Rattle.odb_text.proofs.Beginnings.{key_once, not_both, kept_is_not_skipped}
+use Rattle.odb_text.proofs.Beginnings.{key_once, not_both, kept_is_not_skipped, kept_is_no_link}
 
 -- items
 
@@ -40,7 +43,7 @@ item_once type index line x y h k =
     let item : x.item ≡ y.item = same_ok x.item y.item (behind_blank k.rest) type (ap (λ (r : List ℕ). item_read type (behind_blank r)) (sym same.1) ∙ h.spells) k.spells in
     ap (λ (n : ℕ). record { size = n; item = x.item }) size ∙ ap (λ (i : Item). record { size = y.size; item = i }) item
 
-alone_once : (b : Bool) (type : Tid) (text : List ℕ) (x y : SizedItem) → IsAloneText b type text x.size x.item → IsAloneText b type text y.size y.item → x ≡ y
+pub alone_once : (b : Bool) (type : Tid) (text : List ℕ) (x y : SizedItem) → IsAloneText b type text x.size x.item → IsAloneText b type text y.size y.item → x ≡ y
 alone_once true type text x y h k = item_once type 0 text x y h k
 alone_once false type text x y h k =
     ap (λ (n : ℕ). record { size = n; item = x.item }) (let e : x.size ≡ y.size = h.1 ∙ sym k.1 in e)
@@ -171,21 +174,27 @@ kept_head dir (l ∷ ls) name type xs h =
           (λ (a : (n : ℕ) × IsArrayHead dir l name type n × (length xs ≡ n) × AreItemLines type 0 ls xs). key_not_passed l name type a.1.rest a.1.key.key) h;
     }
 
-skipped_head : (dir own : List (List ℕ)) (items : ℕ) → IsSkippedKey dir own items → HeadOf own
-skipped_head dir [] items h = absurd h
-skipped_head dir (l ∷ ls) items h =
+skipped_head : (links : Bool) (dir own : List (List ℕ)) (items : ℕ) → IsSkippedKey links dir own items → HeadOf own
+skipped_head links dir [] items h = absurd h
+skipped_head links dir (l ∷ ls) items h =
     record {
       head = l;
       more = ls;
       is = refl;
-      read = ⊎_elim (λ (s : (rest : List ℕ) × (text : List ℕ) × IsSkippedHead dir l rest × IsSingle rest text × (ls ≡ []) × (items ≡ 0)). key_not_passed l s.2.name s.2.type s.0 s.2.key.key)
-          (λ (a : (rest : List ℕ) × IsSkippedHead dir l rest × IsArray rest items × (length ls ≡ items) × AllByRecursion BeginsBracketed ls). key_not_passed l a.1.name a.1.type a.0 a.1.key.key) h;
+      read = ⊎_elim (λ (s : (rest : List ℕ) × (text : List ℕ) × IsSkippedHead links dir l rest × IsSingle rest text × (ls ≡ []) × (items ≡ 0)). key_not_passed l s.2.name s.2.type s.0 s.2.key.key)
+          (λ (a : (rest : List ℕ) × IsSkippedHead links dir l rest × IsArray rest items × (length ls ≡ items) × AllByRecursion BeginsBracketed ls). key_not_passed l a.1.name a.1.type a.0 a.1.key.key) h;
     }
 
-pub head_of : (dir own : List (List ℕ)) (act : Act) → SpellsAct dir own act → HeadOf own
-head_of dir own (Make p) h = record { head = h.0; more = []; is = h.1; read = dir_not_passed h.0 p h.2 }
-head_of dir own (Write p v) h = kept_head dir own h.0 h.1 h.2 h.3
-head_of dir own (Skip items) h = skipped_head dir own items h
+link_head : (dir own : List (List ℕ)) (line name : List ℕ) (size : ℕ) (link : List ℕ) → own ≡ line ∷ [] → IsLinkKey dir line name size link → HeadOf own
+link_head dir own line name size link e h = record { head = line; more = []; is = e; read = key_not_passed line name tid.Link h.rest h.key.key }
+
+written_head : (links : Bool) (dir own : List (List ℕ)) (name : List ℕ) (v : HeldValue) → IsWrittenKey links dir own name v → HeadOf own
+written_head links dir own name v h = elim h [ inl k ↦ kept_head dir own name k.0 k.1 k.2 | inr l ↦ link_head dir own l.0 name l.1 l.2 l.4 l.5 ]
+
+pub head_of : (links : Bool) (dir own : List (List ℕ)) (act : Act) → SpellsAct links dir own act → HeadOf own
+head_of links dir own (Make p) h = record { head = h.0; more = []; is = h.1; read = dir_not_passed h.0 p h.2 }
+head_of links dir own (Write p v) h = written_head links dir own h.0 v h.1
+head_of links dir own (Skip items) h = skipped_head links dir own items h
 
 -- the lines of a key
 
@@ -242,6 +251,104 @@ kept_once dir l ls ms rest left name that type kind xs ys h k e =
       ]
     ]
 
+pub kept_type : (dir : List (List ℕ)) (l : List ℕ) (ls : List (List ℕ)) (name : List ℕ) (type : Tid) (xs : List SizedItem) → IsKeptKey dir (l ∷ ls) name type xs → (rest : List ℕ) × IsKeyLine l name type rest × (is_kept type ≡ true)
+kept_type dir l ls name type xs h = elim h [ inl s ↦ (s.1.rest, s.1.key.key, s.1.kept) | inr a ↦ (a.1.rest, a.1.key.key, a.1.kept) ]
+
+pub one_line : (l line : List ℕ) (ls : List (List ℕ)) → l ∷ ls ≡ line ∷ [] → (l ≡ line) × (ls ≡ [])
+one_line l line ls e = (cc, cc)
+
+-- keys that are written
+
+-- the head of a key that is written, whose type is not skipped
+pub record WrittenHead (links : Bool) (line name : List ℕ) : Type 0 where
+  pub type : Tid
+  pub rest : List ℕ
+  pub key : IsKeyLine line name type rest
+  pub read : is_skipped links type ≡ true → ⊥
+
+link_not_skipped : (links : Bool) → links ≡ true → is_skipped links tid.Link ≡ true → ⊥
+link_not_skipped true h k = absurd (cc)
+link_not_skipped false h k = absurd (cc)
+
+pub written_key : (links : Bool) (dir : List (List ℕ)) (l : List ℕ) (ls : List (List ℕ)) (name : List ℕ) (v : HeldValue) → IsWrittenKey links dir (l ∷ ls) name v → WrittenHead links l name
+written_key links dir l ls name v h =
+    elim h [
+      | inl k ↦
+          (let t = kept_type dir l ls name k.0 k.1 k.2 in
+          record { type = k.0; rest = t.0; key = t.1; read = kept_is_not_skipped links k.0 t.2 })
+      | inr x ↦
+          (let e = one_line l x.0 ls x.4 in
+          record { type = tid.Link; rest = x.5.rest; key = subst (λ (z : List ℕ). IsKeyLine z name tid.Link x.5.rest) (sym e.0) x.5.key.key; read = link_not_skipped links x.3 })
+    ]
+
+-- a link is no key of another type
+kept_or_link : (dir : List (List ℕ)) (l : List ℕ) (ls : List (List ℕ)) (name that : List ℕ) (type : Tid) (xs : List SizedItem) (size : ℕ) (link : List ℕ) → IsKeptKey dir (l ∷ ls) name type xs
+    → IsLinkKey dir l that size link → ⊥
+kept_or_link dir l ls name that type xs size link h k =
+    let t = kept_type dir l ls name type xs h in
+    let same = key_once l name that type tid.Link t.0 k.rest t.1 k.key.key in
+    kept_is_no_link type t.2 (ap is_link_type same.type_is)
+
+pub record SameWritten (own other rest left : List (List ℕ)) (name that : List ℕ) (v w : HeldValue) : Type 0 where
+  pub own_is : own ≡ other
+  pub rest_is : rest ≡ left
+  pub name_is : name ≡ that
+  pub value_is : v ≡ w
+
+same_link : (size given : ℕ) (link text : List ℕ) → ◌≡◌ {A = SizedItem} (record { size = size; item = Text link }) (record { size = given; item = Text text }) → held_link size link ≡ held_link given text
+same_link size given link text e =
+    let n : size ≡ given = ap (λ (x : SizedItem). x.size) e in
+    let i : Text link ≡ Text text = ap (λ (x : SizedItem). x.item) e in
+    let t : link ≡ text = cc in
+    ap (λ (x : ℕ). held_link x link) n ∙ ap (held_link given) t
+
+links_once : (dir : List (List ℕ)) (l : List ℕ) (rest left : List (List ℕ)) (name that : List ℕ) (size given : ℕ) (link text : List ℕ) → IsLinkKey dir l name size link → IsLinkKey dir l that given text → rest ≡ left
+    → SameWritten (l ∷ []) (l ∷ []) rest left name that (held_link size link) (held_link given text)
+links_once dir l rest left name that size given link text h k e =
+    let same = key_once l name that tid.Link tid.Link h.rest k.rest h.key.key k.key.key in
+    let behind : h.text ≡ k.text = single_once k.rest h.text k.text (subst (λ (r : List ℕ). IsSingle r h.text) same.rest_is h.single) k.single in
+    let x : SizedItem = record { size = size; item = Text link } in
+    let y : SizedItem = record { size = given; item = Text text } in
+    let first : IsItemAlone tid.Text k.text size (Text link) = subst (λ (t : List ℕ). IsItemAlone tid.Text t size (Text link)) behind h.alone.item in
+    let item : x ≡ y = alone_once true tid.Text (behind_blank k.text) x y first k.alone.item in
+    record { own_is = refl; rest_is = e; name_is = same.name_is; value_is = same_link size given link text item }
+
+written_once : (links : Bool) (dir : List (List ℕ)) (l : List ℕ) (ls ms rest left : List (List ℕ)) (name that : List ℕ) (v w : HeldValue) → IsWrittenKey links dir (l ∷ ls) name v → IsWrittenKey links dir (l ∷ ms) that w
+    → ls ++ rest ≡ ms ++ left → SameWritten (l ∷ ls) (l ∷ ms) rest left name that v w
+written_once links dir l ls ms rest left name that v w h k e =
+    elim h [
+      | inl a ↦ elim k [
+        | inl b ↦
+            (let same = kept_once dir l ls ms rest left name that a.0 b.0 a.1 b.1 a.2 b.2 e in
+            record {
+              own_is = same.own_is;
+              rest_is = same.rest_is;
+              name_is = same.name_is;
+              value_is = a.3 ∙ ap (λ (t : Tid). held_with t a.1) same.type_is ∙ ap (held_with b.0) same.xs_are ∙ sym b.3;
+            })
+        | inr y ↦
+            (let f = one_line l y.0 ms y.4 in
+            absurd (kept_or_link dir l ls name that a.0 a.1 y.1 y.2 a.2 (subst (λ (z : List ℕ). IsLinkKey dir z that y.1 y.2) (sym f.0) y.5)))
+      ]
+      | inr x ↦
+          (let d = one_line l x.0 ls x.4 in
+          let first : IsLinkKey dir l name x.1 x.2 = subst (λ (z : List ℕ). IsLinkKey dir z name x.1 x.2) (sym d.0) x.5 in
+          elim k [
+            | inl b ↦ absurd (kept_or_link dir l ms that name b.0 b.1 x.1 x.2 b.2 first)
+            | inr y ↦
+                (let f = one_line l y.0 ms y.4 in
+                let second : IsLinkKey dir l that y.1 y.2 = subst (λ (z : List ℕ). IsLinkKey dir z that y.1 y.2) (sym f.0) y.5 in
+                let behind : rest ≡ left = sym (ap (λ (z : List (List ℕ)). z ++ rest) d.1) ∙ e ∙ ap (λ (z : List (List ℕ)). z ++ left) f.1 in
+                let same = links_once dir l rest left name that x.1 y.1 x.2 y.2 first second behind in
+                record {
+                  own_is = ap (λ (z : List (List ℕ)). l ∷ z) (d.1 ∙ sym f.1);
+                  rest_is = behind;
+                  name_is = same.name_is;
+                  value_is = x.6 ∙ same.value_is ∙ sym y.6;
+                })
+          ])
+    ]
+
 -- keys that are skipped
 
 pub record SameSkipped (own other rest left : List (List ℕ)) (items count : ℕ) : Type 0 where
@@ -249,12 +356,12 @@ pub record SameSkipped (own other rest left : List (List ℕ)) (items count : �
   pub rest_is : rest ≡ left
   pub items_are : items ≡ count
 
-pub skipped_same : (dir : List (List ℕ)) (l rest more : List ℕ) → IsSkippedHead dir l rest → IsSkippedHead dir l more → rest ≡ more
-skipped_same dir l rest more h k = (key_once l h.name k.name h.type k.type rest more h.key.key k.key.key).rest_is
+pub skipped_same : (links : Bool) (dir : List (List ℕ)) (l rest more : List ℕ) → IsSkippedHead links dir l rest → IsSkippedHead links dir l more → rest ≡ more
+skipped_same links dir l rest more h k = (key_once l h.name k.name h.type k.type rest more h.key.key k.key.key).rest_is
 
-skipped_once : (dir : List (List ℕ)) (l : List ℕ) (ls ms rest left : List (List ℕ)) (items count : ℕ) → IsSkippedKey dir (l ∷ ls) items → IsSkippedKey dir (l ∷ ms) count → ls ++ rest ≡ ms ++ left
+skipped_once : (links : Bool) (dir : List (List ℕ)) (l : List ℕ) (ls ms rest left : List (List ℕ)) (items count : ℕ) → IsSkippedKey links dir (l ∷ ls) items → IsSkippedKey links dir (l ∷ ms) count → ls ++ rest ≡ ms ++ left
     → SameSkipped (l ∷ ls) (l ∷ ms) rest left items count
-skipped_once dir l ls ms rest left items count h k e =
+skipped_once links dir l ls ms rest left items count h k e =
     elim h [
       | inl s ↦ elim k [
         | inl t ↦ record {
@@ -262,12 +369,12 @@ skipped_once dir l ls ms rest left items count h k e =
           rest_is = sym (ap (λ (z : List (List ℕ)). z ++ rest) s.4) ∙ e ∙ ap (λ (z : List (List ℕ)). z ++ left) t.4;
           items_are = s.5 ∙ sym t.5;
         }
-        | inr b ↦ absurd (not_both b.0 s.1 count (subst (λ (r : List ℕ). IsSingle r s.1) (skipped_same dir l s.0 b.0 s.2 b.1) s.3) b.2)
+        | inr b ↦ absurd (not_both b.0 s.1 count (subst (λ (r : List ℕ). IsSingle r s.1) (skipped_same links dir l s.0 b.0 s.2 b.1) s.3) b.2)
       ]
       | inr a ↦ elim k [
-        | inl t ↦ absurd (not_both a.0 t.1 items (subst (λ (r : List ℕ). IsSingle r t.1) (skipped_same dir l t.0 a.0 t.2 a.1) t.3) a.2)
+        | inl t ↦ absurd (not_both a.0 t.1 items (subst (λ (r : List ℕ). IsSingle r t.1) (skipped_same links dir l t.0 a.0 t.2 a.1) t.3) a.2)
         | inr b ↦
-            (let n : items ≡ count = array_once b.0 items count (subst (λ (r : List ℕ). IsArray r items) (skipped_same dir l a.0 b.0 a.1 b.1) a.2) b.2 in
+            (let n : items ≡ count = array_once b.0 items count (subst (λ (r : List ℕ). IsArray r items) (skipped_same links dir l a.0 b.0 a.1 b.1) a.2) b.2 in
             let parts = same_front ls ms rest left (omega (arith, a.3, b.3, n)) e in
             record { own_is = ap (λ (z : List (List ℕ)). l ∷ z) parts.front; rest_is = parts.back; items_are = n })
       ]
@@ -275,31 +382,25 @@ skipped_once dir l ls ms rest left items count h k e =
 
 -- the types of the heads
 
-pub kept_type : (dir : List (List ℕ)) (l : List ℕ) (ls : List (List ℕ)) (name : List ℕ) (type : Tid) (xs : List SizedItem) → IsKeptKey dir (l ∷ ls) name type xs → (rest : List ℕ) × IsKeyLine l name type rest × (is_kept type ≡ true)
-kept_type dir l ls name type xs h = elim h [ inl s ↦ (s.1.rest, s.1.key.key, s.1.kept) | inr a ↦ (a.1.rest, a.1.key.key, a.1.kept) ]
+pub skipped_type : (links : Bool) (dir : List (List ℕ)) (l : List ℕ) (ls : List (List ℕ)) (items : ℕ) → IsSkippedKey links dir (l ∷ ls) items → (rest : List ℕ) × IsSkippedHead links dir l rest
+skipped_type links dir l ls items h = elim h [ inl s ↦ (s.0, s.2) | inr a ↦ (a.0, a.1) ]
 
-pub skipped_type : (dir : List (List ℕ)) (l : List ℕ) (ls : List (List ℕ)) (items : ℕ) → IsSkippedKey dir (l ∷ ls) items → (rest : List ℕ) × IsSkippedHead dir l rest
-skipped_type dir l ls items h = elim h [ inl s ↦ (s.0, s.2) | inr a ↦ (a.0, a.1) ]
+written_or_skipped : (links : Bool) (dir : List (List ℕ)) (l : List ℕ) (ls ms : List (List ℕ)) (name : List ℕ) (v : HeldValue) (items : ℕ) → IsWrittenKey links dir (l ∷ ls) name v → IsSkippedKey links dir (l ∷ ms) items → ⊥
+written_or_skipped links dir l ls ms name v items h k =
+    let a = written_key links dir l ls name v h in
+    let b = skipped_type links dir l ms items k in
+    let same = key_once l name b.1.name a.type b.1.type a.rest b.0 a.key b.1.key.key in
+    a.read (subst (λ (t : Tid). is_skipped links t ≡ true) (sym same.type_is) b.1.skipped)
 
-kept_or_skipped : (dir : List (List ℕ)) (l : List ℕ) (ls ms : List (List ℕ)) (name : List ℕ) (type : Tid) (xs : List SizedItem) (items : ℕ) → IsKeptKey dir (l ∷ ls) name type xs → IsSkippedKey dir (l ∷ ms) items → ⊥
-kept_or_skipped dir l ls ms name type xs items h k =
-    let a = kept_type dir l ls name type xs h in
-    let b = skipped_type dir l ms items k in
-    let same = key_once l name b.1.name type b.1.type a.0 b.0 a.1 b.1.key.key in
-    kept_is_not_skipped b.1.type (subst (λ (t : Tid). is_kept t ≡ true) same.type_is a.2) b.1.skipped
+dir_or_written : (links : Bool) (dir : List (List ℕ)) (l : List ℕ) (ms : List (List ℕ)) (p : List (List ℕ)) (name : List ℕ) (v : HeldValue) → IsDirLine l p → IsWrittenKey links dir (l ∷ ms) name v → ⊥
+dir_or_written links dir l ms p name v h k = let a = written_key links dir l ms name v k in dir_not_key l p name a.type a.rest h a.key
 
-dir_or_kept : (dir : List (List ℕ)) (l : List ℕ) (ms : List (List ℕ)) (p : List (List ℕ)) (name : List ℕ) (type : Tid) (xs : List SizedItem) → IsDirLine l p → IsKeptKey dir (l ∷ ms) name type xs → ⊥
-dir_or_kept dir l ms p name type xs h k = let a = kept_type dir l ms name type xs k in dir_not_key l p name type a.0 h a.1
+dir_or_skipped : (links : Bool) (dir : List (List ℕ)) (l : List ℕ) (ms : List (List ℕ)) (p : List (List ℕ)) (items : ℕ) → IsDirLine l p → IsSkippedKey links dir (l ∷ ms) items → ⊥
+dir_or_skipped links dir l ms p items h k = let b = skipped_type links dir l ms items k in dir_not_key l p b.1.name b.1.type b.0 h b.1.key.key
 
-dir_or_skipped : (dir : List (List ℕ)) (l : List ℕ) (ms : List (List ℕ)) (p : List (List ℕ)) (items : ℕ) → IsDirLine l p → IsSkippedKey dir (l ∷ ms) items → ⊥
-dir_or_skipped dir l ms p items h k = let b = skipped_type dir l ms items k in dir_not_key l p b.1.name b.1.type b.0 h b.1.key.key
-
-pub one_line : (l line : List ℕ) (ls : List (List ℕ)) → l ∷ ls ≡ line ∷ [] → (l ≡ line) × (ls ≡ [])
-one_line l line ls e = (cc, cc)
-
-pub acts_once : (dir : List (List ℕ)) (l : List ℕ) (ls ms rest left : List (List ℕ)) (act that : Act) → SpellsAct dir (l ∷ ls) act → SpellsAct dir (l ∷ ms) that → ls ++ rest ≡ ms ++ left
+pub acts_once : (links : Bool) (dir : List (List ℕ)) (l : List ℕ) (ls ms rest left : List (List ℕ)) (act that : Act) → SpellsAct links dir (l ∷ ls) act → SpellsAct links dir (l ∷ ms) that → ls ++ rest ≡ ms ++ left
     → SameBlock (l ∷ ls) (l ∷ ms) rest left act that
-acts_once dir l ls ms rest left (Make p) (Make q) h k e =
+acts_once links dir l ls ms rest left (Make p) (Make q) h k e =
     let a = one_line l h.0 ls h.1 in
     let b = one_line l k.0 ms k.1 in
     record {
@@ -307,34 +408,33 @@ acts_once dir l ls ms rest left (Make p) (Make q) h k e =
       rest_is = sym (ap (λ (z : List (List ℕ)). z ++ rest) a.1) ∙ e ∙ ap (λ (z : List (List ℕ)). z ++ left) b.1;
       act_is = ap (λ (z : List (List ℕ)). Make z) (dir_once l p q (subst (λ (z : List ℕ). IsDirLine z p) (sym a.0) h.2) (subst (λ (z : List ℕ). IsDirLine z q) (sym b.0) k.2));
     }
-acts_once dir l ls ms rest left (Make p) (Write q w) h k e =
-    let a = one_line l h.0 ls h.1 in absurd (dir_or_kept dir l ms p k.0 k.1 k.2 (subst (λ (z : List ℕ). IsDirLine z p) (sym a.0) h.2) k.3)
-acts_once dir l ls ms rest left (Make p) (Skip m) h k e =
-    let a = one_line l h.0 ls h.1 in absurd (dir_or_skipped dir l ms p m (subst (λ (z : List ℕ). IsDirLine z p) (sym a.0) h.2) k)
-acts_once dir l ls ms rest left (Write p v) (Make q) h k e =
-    let b = one_line l k.0 ms k.1 in absurd (dir_or_kept dir l ls q h.0 h.1 h.2 (subst (λ (z : List ℕ). IsDirLine z q) (sym b.0) k.2) h.3)
-acts_once dir l ls ms rest left (Write p v) (Write q w) h k e =
-    let same = kept_once dir l ls ms rest left h.0 k.0 h.1 k.1 h.2 k.2 h.3 k.3 e in
-    let path : p ≡ q = h.4 ∙ ap (λ (n : List ℕ). dir ++ n ∷ []) same.name_is ∙ sym k.4 in
-    let value : v ≡ w = h.5 ∙ ap (λ (t : Tid). held_with t h.2) same.type_is ∙ ap (held_with k.1) same.xs_are ∙ sym k.5 in
-    record { own_is = same.own_is; rest_is = same.rest_is; act_is = ap (λ (z : List (List ℕ)). Write z v) path ∙ ap (λ (z : HeldValue). Write q z) value }
-acts_once dir l ls ms rest left (Write p v) (Skip m) h k e = absurd (kept_or_skipped dir l ls ms h.0 h.1 h.2 m h.3 k)
-acts_once dir l ls ms rest left (Skip n) (Make q) h k e =
-    let b = one_line l k.0 ms k.1 in absurd (dir_or_skipped dir l ls q n (subst (λ (z : List ℕ). IsDirLine z q) (sym b.0) k.2) h)
-acts_once dir l ls ms rest left (Skip n) (Write q w) h k e = absurd (kept_or_skipped dir l ms ls k.0 k.1 k.2 n k.3 h)
-acts_once dir l ls ms rest left (Skip n) (Skip m) h k e =
-    let same = skipped_once dir l ls ms rest left n m h k e in record { own_is = same.own_is; rest_is = same.rest_is; act_is = ap (λ (z : ℕ). Skip z) same.items_are }
+acts_once links dir l ls ms rest left (Make p) (Write q w) h k e =
+    let a = one_line l h.0 ls h.1 in absurd (dir_or_written links dir l ms p k.0 w (subst (λ (z : List ℕ). IsDirLine z p) (sym a.0) h.2) k.1)
+acts_once links dir l ls ms rest left (Make p) (Skip m) h k e =
+    let a = one_line l h.0 ls h.1 in absurd (dir_or_skipped links dir l ms p m (subst (λ (z : List ℕ). IsDirLine z p) (sym a.0) h.2) k)
+acts_once links dir l ls ms rest left (Write p v) (Make q) h k e =
+    let b = one_line l k.0 ms k.1 in absurd (dir_or_written links dir l ls q h.0 v (subst (λ (z : List ℕ). IsDirLine z q) (sym b.0) k.2) h.1)
+acts_once links dir l ls ms rest left (Write p v) (Write q w) h k e =
+    let same = written_once links dir l ls ms rest left h.0 k.0 v w h.1 k.1 e in
+    let path : p ≡ q = h.2 ∙ ap (λ (n : List ℕ). dir ++ n ∷ []) same.name_is ∙ sym k.2 in
+    record { own_is = same.own_is; rest_is = same.rest_is; act_is = ap (λ (z : List (List ℕ)). Write z v) path ∙ ap (λ (z : HeldValue). Write q z) same.value_is }
+acts_once links dir l ls ms rest left (Write p v) (Skip m) h k e = absurd (written_or_skipped links dir l ls ms h.0 v m h.1 k)
+acts_once links dir l ls ms rest left (Skip n) (Make q) h k e =
+    let b = one_line l k.0 ms k.1 in absurd (dir_or_skipped links dir l ls q n (subst (λ (z : List ℕ). IsDirLine z q) (sym b.0) k.2) h)
+acts_once links dir l ls ms rest left (Skip n) (Write q w) h k e = absurd (written_or_skipped links dir l ms ls k.0 w n k.1 h)
+acts_once links dir l ls ms rest left (Skip n) (Skip m) h k e =
+    let same = skipped_once links dir l ls ms rest left n m h k e in record { own_is = same.own_is; rest_is = same.rest_is; act_is = ap (λ (z : ℕ). Skip z) same.items_are }
 
 pub same_cons : (l m : List ℕ) (xs ys : List (List ℕ)) → l ∷ xs ≡ m ∷ ys → (l ≡ m) × (xs ≡ ys)
 same_cons l m xs ys e = (cc, cc)
 
-heads_once : (dir own other rest left : List (List ℕ)) (act that : Act) → SpellsAct dir own act → SpellsAct dir other that → own ++ rest ≡ other ++ left → HeadOf own → HeadOf other → SameBlock own other rest left act that
-heads_once dir [] other rest left act that h k e a b = absurd (let d : [] ≡ a.head ∷ a.more = a.is in cc)
-heads_once dir (l ∷ ls) [] rest left act that h k e a b = absurd (let d : [] ≡ b.head ∷ b.more = b.is in cc)
-heads_once dir (l ∷ ls) (m ∷ ms) rest left act that h k e a b =
+heads_once : (links : Bool) (dir own other rest left : List (List ℕ)) (act that : Act) → SpellsAct links dir own act → SpellsAct links dir other that → own ++ rest ≡ other ++ left → HeadOf own → HeadOf other → SameBlock own other rest left act that
+heads_once links dir [] other rest left act that h k e a b = absurd (let d : [] ≡ a.head ∷ a.more = a.is in cc)
+heads_once links dir (l ∷ ls) [] rest left act that h k e a b = absurd (let d : [] ≡ b.head ∷ b.more = b.is in cc)
+heads_once links dir (l ∷ ls) (m ∷ ms) rest left act that h k e a b =
     let s = same_cons l m (ls ++ rest) (ms ++ left) e in
     subst (λ (z : List ℕ). SameBlock (l ∷ ls) (z ∷ ms) rest left act that) s.0
-    (acts_once dir l ls ms rest left act that h (subst (λ (z : List ℕ). SpellsAct dir (z ∷ ms) that) (sym s.0) k) s.1)
+    (acts_once links dir l ls ms rest left act that h (subst (λ (z : List ℕ). SpellsAct links dir (z ∷ ms) that) (sym s.0) k) s.1)
 
 -- lines that are passed over, and the lines of a step behind them
 
@@ -346,33 +446,33 @@ pub not_passed_head : (line : List ℕ) (own rest others : List (List ℕ)) → 
 not_passed_head line own rest others a e h =
     let s = same_cons a.head line (a.more ++ rest) others (sym (ap (λ (z : List (List ℕ)). z ++ rest) a.is) ∙ e) in a.read (subst IsPassed (sym s.0) h)
 
-pub first_once : (dir passed others own other rest left : List (List ℕ)) (act that : Act) → ArePassed passed → ArePassed others → SpellsAct dir own act → SpellsAct dir other that
+pub first_once : (links : Bool) (dir passed others own other rest left : List (List ℕ)) (act that : Act) → ArePassed passed → ArePassed others → SpellsAct links dir own act → SpellsAct links dir other that
     → passed ++ (own ++ rest) ≡ others ++ (other ++ left) → SameFirst passed others own other rest left act that
-first_once dir [] [] own other rest left act that p q h k e = record { passed_are = refl; block = heads_once dir own other rest left act that h k e (head_of dir own act h) (head_of dir other that k) }
-first_once dir [] (y ∷ ys) own other rest left act that p q h k e = absurd (not_passed_head y own rest (ys ++ (other ++ left)) (head_of dir own act h) e q.0)
-first_once dir (x ∷ xs) [] own other rest left act that p q h k e = absurd (not_passed_head x other left (xs ++ (own ++ rest)) (head_of dir other that k) (sym e) p.0)
-first_once dir (x ∷ xs) (y ∷ ys) own other rest left act that p q h k e =
+first_once links dir [] [] own other rest left act that p q h k e = record { passed_are = refl; block = heads_once links dir own other rest left act that h k e (head_of links dir own act h) (head_of links dir other that k) }
+first_once links dir [] (y ∷ ys) own other rest left act that p q h k e = absurd (not_passed_head y own rest (ys ++ (other ++ left)) (head_of links dir own act h) e q.0)
+first_once links dir (x ∷ xs) [] own other rest left act that p q h k e = absurd (not_passed_head x other left (xs ++ (own ++ rest)) (head_of links dir other that k) (sym e) p.0)
+first_once links dir (x ∷ xs) (y ∷ ys) own other rest left act that p q h k e =
     let s = same_cons x y (xs ++ (own ++ rest)) (ys ++ (other ++ left)) e in
-    let r = first_once dir xs ys own other rest left act that p.1 q.1 h k s.1 in
+    let r = first_once links dir xs ys own other rest left act that p.1 q.1 h k s.1 in
     record { passed_are = ap (λ (z : List ℕ). z ∷ xs) s.0 ∙ ap (λ (zs : List (List ℕ)). y ∷ zs) r.passed_are; block = r.block }
 
-pub none_left : (dir lines passed own rest : List (List ℕ)) (act : Act) → ArePassed lines → lines ≡ passed ++ (own ++ rest) → SpellsAct dir own act → ⊥
-none_left dir [] [] own rest act h e k = (let a = head_of dir own act k in let d : [] ≡ a.head ∷ (a.more ++ rest) = e ∙ ap (λ (z : List (List ℕ)). z ++ rest) a.is in absurd (cc))
-none_left dir [] (x ∷ xs) own rest act h e k = absurd (cc)
-none_left dir (l ∷ ls) [] own rest act h e k = not_passed_head l own rest ls (head_of dir own act k) (sym e) h.0
-none_left dir (l ∷ ls) (x ∷ xs) own rest act h e k = none_left dir ls xs own rest act h.1 (same_cons l x ls (xs ++ (own ++ rest)) e).1 k
+pub none_left : (links : Bool) (dir lines passed own rest : List (List ℕ)) (act : Act) → ArePassed lines → lines ≡ passed ++ (own ++ rest) → SpellsAct links dir own act → ⊥
+none_left links dir [] [] own rest act h e k = (let a = head_of links dir own act k in let d : [] ≡ a.head ∷ (a.more ++ rest) = e ∙ ap (λ (z : List (List ℕ)). z ++ rest) a.is in absurd (cc))
+none_left links dir [] (x ∷ xs) own rest act h e k = absurd (cc)
+none_left links dir (l ∷ ls) [] own rest act h e k = not_passed_head l own rest ls (head_of links dir own act k) (sym e) h.0
+none_left links dir (l ∷ ls) (x ∷ xs) own rest act h e k = none_left links dir ls xs own rest act h.1 (same_cons l x ls (xs ++ (own ++ rest)) e).1 k
 
-pub one_reading : (number : ℕ) (dir lines : List (List ℕ)) (steps others : List TextStep) → SpellsSteps number dir lines steps → SpellsSteps number dir lines others → steps ≡ others
-one_reading number dir lines [] [] h k = refl
-one_reading number dir lines [] (o ∷ os) h k = absurd (none_left dir lines k.0 k.1 k.2 o.act h k.3 k.6)
-one_reading number dir lines (s ∷ ss) [] h k = absurd (none_left dir lines h.0 h.1 h.2 s.act k h.3 h.6)
-one_reading number dir lines (s ∷ ss) (o ∷ os) h k =
-    let f = first_once dir h.0 k.0 h.1 k.1 h.2 k.2 s.act o.act h.4 k.4 h.6 k.6 (sym h.3 ∙ k.3) in
+pub one_reading : (links : Bool) (number : ℕ) (dir lines : List (List ℕ)) (steps others : List TextStep) → SpellsSteps links number dir lines steps → SpellsSteps links number dir lines others → steps ≡ others
+one_reading links number dir lines [] [] h k = refl
+one_reading links number dir lines [] (o ∷ os) h k = absurd (none_left links dir lines k.0 k.1 k.2 o.act h k.3 k.6)
+one_reading links number dir lines (s ∷ ss) [] h k = absurd (none_left links dir lines h.0 h.1 h.2 s.act k h.3 h.6)
+one_reading links number dir lines (s ∷ ss) (o ∷ os) h k =
+    let f = first_once links dir h.0 k.0 h.1 k.1 h.2 k.2 s.act o.act h.4 k.4 h.6 k.6 (sym h.3 ∙ k.3) in
     let line : s.line ≡ o.line = h.5 ∙ ap (λ (z : List (List ℕ)). number + length z) f.passed_are ∙ sym k.5 in
     let step : s ≡ o = ap (λ (n : ℕ). record { line = n; act = s.act }) line ∙ ap (λ (a : Act). record { line = o.line; act = a }) f.block.act_is in
     let at : number + length h.0 + length h.1 ≡ number + length k.0 + length k.1 =
     ap (λ (z : List (List ℕ)). number + length z + length h.1) f.passed_are ∙ ap (λ (z : List (List ℕ)). number + length k.0 + length z) f.block.own_is in
-    let first : SpellsSteps (number + length k.0 + length k.1) (dir_after dir s.act) h.2 ss = subst (λ (n : ℕ). SpellsSteps n (dir_after dir s.act) h.2 ss) at h.7 in
-    let second : SpellsSteps (number + length k.0 + length k.1) (dir_after dir o.act) h.2 ss = subst (λ (a : Act). SpellsSteps (number + length k.0 + length k.1) (dir_after dir a) h.2 ss) f.block.act_is first in
-    let third : SpellsSteps (number + length k.0 + length k.1) (dir_after dir o.act) k.2 ss = subst (λ (z : List (List ℕ)). SpellsSteps (number + length k.0 + length k.1) (dir_after dir o.act) z ss) f.block.rest_is second in
-    ap (λ (z : TextStep). z ∷ ss) step ∙ ap (λ (zs : List TextStep). o ∷ zs) (one_reading (number + length k.0 + length k.1) (dir_after dir o.act) k.2 ss os third k.7)
+    let first : SpellsSteps links (number + length k.0 + length k.1) (dir_after dir s.act) h.2 ss = subst (λ (n : ℕ). SpellsSteps links n (dir_after dir s.act) h.2 ss) at h.7 in
+    let second : SpellsSteps links (number + length k.0 + length k.1) (dir_after dir o.act) h.2 ss = subst (λ (a : Act). SpellsSteps links (number + length k.0 + length k.1) (dir_after dir a) h.2 ss) f.block.act_is first in
+    let third : SpellsSteps links (number + length k.0 + length k.1) (dir_after dir o.act) k.2 ss = subst (λ (z : List (List ℕ)). SpellsSteps links (number + length k.0 + length k.1) (dir_after dir o.act) z ss) f.block.rest_is second in
+    ap (λ (z : TextStep). z ∷ ss) step ∙ ap (λ (zs : List TextStep). o ∷ zs) (one_reading links (number + length k.0 + length k.1) (dir_after dir o.act) k.2 ss os third k.7)

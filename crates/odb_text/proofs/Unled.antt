@@ -9,8 +9,9 @@ use Rattle.odb_tree.specs.Rows.{Rows, row_at}
 use Rattle.odb_tree.specs.Lookups.{dir_fault}
 use Rattle.odb_tree.specs.Links.{is_link, is_link_value, target_of, Met, has_names, met_at, first_link, follow, lead, links_limit, resolved, through}
 use Rattle.odb_tree.specs.Calls.{children_or, list_reply}
-use Rattle.odb_tree.specs.Trees.{IsDir, ArePlaced, AreApart, IsTree}
+use Rattle.odb_tree.specs.Trees.{IsDir, IsPlaced, ArePlaced, AreApart, IsTree}
 use Rattle.odb_text.proofs.Found.{row_found, placed_in}
+use Rattle.odb_text.proofs.LedThere.{further_none}
 
 first_none : (a b : Option Met) → option_or a b ≡ None → a ≡ None
 first_none None b h = refl
@@ -86,3 +87,13 @@ dir_unled s p last tree dir = by_flag s.links
 pub listed_there : (s : Rows) (p : List (List ℕ)) (children : List Child) → IsTree s → IsDir s.rows p → through (resolved s p true) (λ q. list_reply s q) ≡ Ok children
     → children_or s.rows p (dir_fault s.rows p) ≡ Ok children
 listed_there s p children tree dir h = subst (λ (r : Result (List (List ℕ)) OdbRefusal). through r (λ q. list_reply s q) ≡ Ok children) (dir_unled s p true tree dir) h
+
+-- and so is that of what may be made in one
+pub placed_unled : (s : Rows) (q : List (List ℕ)) → IsTree s → IsPlaced s.rows q → resolved s q false ≡ Ok q
+placed_unled s q tree k = by_flag s.links
+  where
+    by_flag : (links : Bool) → cond links (lead links_limit s.rows false 0 q) (Ok q) ≡ Ok q
+    by_flag true =
+        ap (follow (lead 15 s.rows false 1) 0 q)
+        (ap (first_link s.rows false []) k.path ∙ further_none s.rows k.parent k.name (dirs_unmet (length k.parent) s.rows k.parent tree.placed tree.apart k.there (omega arith)))
+    by_flag false = refl

@@ -13,6 +13,7 @@ use Rattle.odb_value.specs.declared.items.Item.{Item}
 use Rattle.odb_value.specs.declared.items.Item.TheVariants.{UInt8, Int8, Char, UInt16, Int16, UInt32, Int32, Bool as Truth, Text, Int64, UInt64}
 use Rattle.odb_value.specs.Items.{tid_of, IsItem, is_kept}
 use Rattle.odb_value.specs.Values.{HeldValue, IsValue, IsShorter, IsSizeOf, size_limit, items_limit}
+use Rattle.odb_value.specs.LinkValues.{is_link_type}
 use Rattle.odb_value.specs.ValueChanges.{size_with_item}
 use Rattle.odb_tree.specs.declared.refusals.OdbRefusal.{OdbRefusal}
 use Rattle.odb_tree.specs.declared.refusals.OdbRefusal.TheVariants.{Limit}
@@ -20,7 +21,7 @@ use Rattle.odb_tree.specs.declared.refusals.What.TheVariants.{Items, Size}
 use Rattle.odb_tree.specs.Rows.{Rows}
 use Rattle.odb_text.specs.LineForms.{IsPassed, IsDirLine, IsSingle, IsArray}
 use Rattle.odb_text.proofs.KeyLines.{single_once}
-use Rattle.odb_text.specs.ItemLines.{is_string, IsItemAlone}
+use Rattle.odb_text.specs.ItemLines.{is_string, IsItemAlone, IsLinkAlone}
 use Rattle.odb_text.specs.declared.acts.Act.{Act}
 use Rattle.odb_text.specs.declared.acts.Act.TheVariants.{Make, Write, Skip}
 use Rattle.odb_text.specs.declared.faults.ItemsFault.{ItemsFault}
@@ -35,7 +36,7 @@ use Rattle.odb_text.specs.LineForms.{behind_blank}
 use Rattle.odb_value.specs.ItemTexts.{item_read}
 use Rattle.std.specs.Str.Lines.{lines}
 use Rattle.odb_text.proofs.DumpItems.{lines_push, size_push, raised_within, read_tid, read_short}
-use Rattle.odb_text.proofs.Beginnings.{begins_nothing, not_both, kept_is_not_skipped, GoesOnNowhere}
+use Rattle.odb_text.proofs.Beginnings.{begins_nothing, not_both, kept_is_not_skipped, kept_is_no_link, GoesOnNowhere}
 
 -- the sizes of items
 
@@ -153,7 +154,7 @@ same_value type xs items size e d =
 pub no_many : (n : ℕ) → n ≤ items_limit → many_fault n ≡ None
 no_many n h = ap (λ (t : Bool). cond t (Some (Limit Items)) None) (le-ltb items_limit n h)
 
-no_wide : (n : ℕ) → n ≤ size_limit → wide_fault n ≡ None
+pub no_wide : (n : ℕ) → n ≤ size_limit → wide_fault n ≡ None
 no_wide n h = ap (λ (t : Bool). cond t (Some (Limit Size)) None) (le-ltb size_limit n h)
 
 pub wide : (n : ℕ) → size_limit < n → wide_fault n ≡ Some (Limit Size)
@@ -183,22 +184,22 @@ array_value dir line name type n behind items size rest h many a =
     let len : length items ≡ n = ap length a.items_are ∙ length-map a.xs (λ (x : SizedItem). x.item) ∙ a.as_many in
     key_is_value type a.xs items size a.items_are a.size_is a.within (omega (arith, len, h.array.some)) (omega (arith, len, many)) a.sound
 
-pub array_block : (dir : List (List ℕ)) (line name : List ℕ) (type : Tid) (n : ℕ) (behind : List (List ℕ)) (items : List Item) (size : ℕ) (rest : List (List ℕ))
+pub array_block : (links : Bool) (dir : List (List ℕ)) (line name : List ℕ) (type : Tid) (n : ℕ) (behind : List (List ℕ)) (items : List Item) (size : ℕ) (rest : List (List ℕ))
     → IsArrayHead dir line name type n → n ≤ items_limit → AreRead type behind n items size rest
-    → IsBlock dir (line ∷ behind) (Write (dir ++ name ∷ []) (record { tid = type; size = size_for (is_string type) type size; items = items })) rest (n + 1)
-array_block dir line name type n behind items size rest h many a =
+    → IsBlock links dir (line ∷ behind) (Write (dir ++ name ∷ []) (record { tid = type; size = size_for (is_string type) type size; items = items })) rest (n + 1)
+array_block links dir line name type n behind items size rest h many a =
     let len : length items ≡ n = ap length a.items_are ∙ length-map a.xs (λ (x : SizedItem). x.item) ∙ a.as_many in
     record {
       own = line ∷ a.own;
       whole = ap (λ (l : List (List ℕ)). line ∷ l) a.whole;
       counted = omega (arith, a.many);
-      spells = (name, type, a.xs, inr (n, h, a.as_many, a.spell), refl, same_value type a.xs items size a.items_are a.size_is);
+      spells = (name, inl (type, a.xs, inr (n, h, a.as_many, a.spell), same_value type a.xs items size a.items_are a.size_is), refl);
       within = no_own_limit (dir ++ name ∷ []) (record { tid = type; size = size_for (is_string type) type size; items = items }) (omega (arith, len, many)) (size_is_small type size a.within);
     }
 
-pub array_fault : (dir : List (List ℕ)) (line name : List ℕ) (type : Tid) (n : ℕ) (behind : List (List ℕ)) (fault : ItemsFault)
-    → IsArrayHead dir line name type n → n ≤ items_limit → StopsAtItem type behind n fault → IsBlockFault dir (line ∷ behind) (block_fault fault)
-array_fault dir line name type n behind (BadItem at) h many b =
+pub array_fault : (links : Bool) (dir : List (List ℕ)) (line name : List ℕ) (type : Tid) (n : ℕ) (behind : List (List ℕ)) (fault : ItemsFault)
+    → IsArrayHead dir line name type n → n ≤ items_limit → StopsAtItem type behind n fault → IsBlockFault links dir (line ∷ behind) (block_fault fault)
+array_fault links dir line name type n behind (BadItem at) h many b =
     let a = b.read in
     record {
       opened = line ∷ a.own;
@@ -215,7 +216,7 @@ array_fault dir line name type n behind (BadItem at) h many b =
         subst (λ (k : ℕ). NextIsNot (IsSomeItemLine type k) b.rest) (sym a.as_many) b.fault_is.1,
       ));
     }
-array_fault dir line name type n behind WideItem h many b =
+array_fault links dir line name type n behind WideItem h many b =
     let a = b.read in
     let w = b.fault_is in
     let x : SizedItem = record { size = w.given; item = w.item } in
@@ -243,7 +244,7 @@ array_fault dir line name type n behind WideItem h many b =
         refl,
       ));
     }
-array_fault dir line name type n behind NoMemory h many b = tt
+array_fault links dir line name type n behind NoMemory h many b = tt
 
 -- a key of one item
 
@@ -253,10 +254,10 @@ single_value type text items size a =
     let len : length items ≡ 1 = ap length a.items_are in
     key_is_value type (a.x ∷ []) items size a.items_are a.size_is a.within (omega (arith, len)) (omega (arith, len)) a.sound
 
-pub single_block : (dir : List (List ℕ)) (line name : List ℕ) (type : Tid) (rest text : List ℕ) (behind : List (List ℕ)) (items : List Item) (size : ℕ)
+pub single_block : (links : Bool) (dir : List (List ℕ)) (line name : List ℕ) (type : Tid) (rest text : List ℕ) (behind : List (List ℕ)) (items : List Item) (size : ℕ)
     → IsKeyIn dir line name type rest → is_kept type ≡ true → IsSingle rest text → IsAloneRead type text items size
-    → IsBlock dir (line ∷ behind) (Write (dir ++ name ∷ []) (record { tid = type; size = size_for (is_string type) type size; items = items })) behind 1
-single_block dir line name type rest text behind items size key kept single a =
+    → IsBlock links dir (line ∷ behind) (Write (dir ++ name ∷ []) (record { tid = type; size = size_for (is_string type) type size; items = items })) behind 1
+single_block links dir line name type rest text behind items size key kept single a =
     let len : length items ≡ 1 = ap length a.items_are in
     record {
       own = line ∷ [];
@@ -264,32 +265,35 @@ single_block dir line name type rest text behind items size key kept single a =
       counted = refl;
       spells = (
         name,
-        type,
-        a.x ∷ [],
-        inl (a.x, record { rest = rest; key = key; kept = kept; text = text; single = single; item = a.spells }, refl, refl),
+        inl (
+          type,
+          a.x ∷ [],
+          inl (a.x, record { rest = rest; key = key; kept = kept; text = text; single = single; item = a.spells }, refl, refl),
+          same_value type (a.x ∷ []) items size a.items_are a.size_is,
+        ),
         refl,
-        same_value type (a.x ∷ []) items size a.items_are a.size_is,
       );
       within = no_own_limit (dir ++ name ∷ []) (record { tid = type; size = size_for (is_string type) type size; items = items }) (omega (arith, len)) (size_is_small type size a.within);
     }
 
 -- nothing begins with the line
-pub bad_line : (dir : List (List ℕ)) (line : List ℕ) (behind : List (List ℕ)) → BeginsNothing dir line → IsBadAt dir (line ∷ behind) 0
-bad_line dir line behind b = record { opened = []; rest = line ∷ behind; whole = refl; place = refl; leaves = inl (line, behind, refl, refl, b) }
+pub bad_line : (links : Bool) (dir : List (List ℕ)) (line : List ℕ) (behind : List (List ℕ)) → BeginsNothing links dir line → IsBadAt links dir (line ∷ behind) 0
+bad_line links dir line behind b = record { opened = []; rest = line ∷ behind; whole = refl; place = refl; leaves = inl (line, behind, refl, refl, b) }
 
-pub single_fault : (dir : List (List ℕ)) (line name : List ℕ) (type : Tid) (rest text : List ℕ) (behind : List (List ℕ)) (fault : ItemsFault)
+pub single_fault : (links : Bool) (dir : List (List ℕ)) (line name : List ℕ) (type : Tid) (rest text : List ℕ) (behind : List (List ℕ)) (fault : ItemsFault)
     → IsKeyIn dir line name type rest → is_kept type ≡ true → IsSingle rest text → (IsPassed line → ⊥) → ((p : List (List ℕ)) → IsDirLine line p → ⊥)
-    → IsAloneFault type text fault → IsBlockFault dir (line ∷ behind) (block_fault fault)
-single_fault dir line name type rest text behind (BadItem at) key kept single no_pass no_dir a =
-    subst (IsBadAt dir (line ∷ behind)) (sym a.0)
-    (bad_line dir line behind (begins_nothing dir line name type rest key.key no_pass no_dir (record {
+    → IsAloneFault type text fault → IsBlockFault links dir (line ∷ behind) (block_fault fault)
+single_fault links dir line name type rest text behind (BadItem at) key kept single no_pass no_dir a =
+    subst (IsBadAt links dir (line ∷ behind)) (sym a.0)
+    (bad_line links dir line behind (begins_nothing links dir line name type rest key.key no_pass no_dir (record {
       single = λ (deep : length dir < depth_limit) (k : is_kept type ≡ true) (other : List ℕ) (size : ℕ) (item : Item) (s : IsSingle rest other) (i : IsItemAlone type other size item).
           a.1 size item (subst (λ (l : List ℕ). IsItemAlone type l size item) (single_once rest other text s single) i);
       array = λ (deep : length dir < depth_limit) (k : is_kept type ≡ true) (n : ℕ) (f : IsArray rest n). not_both rest text n single f;
-      skipped_single = λ (deep : length dir < depth_limit) (k : is_skipped type ≡ true) (other : List ℕ) (s : IsSingle rest other). kept_is_not_skipped type kept k;
-      skipped_array = λ (deep : length dir < depth_limit) (k : is_skipped type ≡ true) (n : ℕ) (f : IsArray rest n). kept_is_not_skipped type kept k;
+      link = λ (deep : length dir < depth_limit) (k : links ≡ true) (l : is_link_type type ≡ true) (other : List ℕ) (size : ℕ) (link : List ℕ) (s : IsSingle rest other) (i : IsLinkAlone other size link). kept_is_no_link type kept l;
+      skipped_single = λ (deep : length dir < depth_limit) (k : is_skipped links type ≡ true) (other : List ℕ) (s : IsSingle rest other). kept_is_not_skipped links type kept k;
+      skipped_array = λ (deep : length dir < depth_limit) (k : is_skipped links type ≡ true) (n : ℕ) (f : IsArray rest n). kept_is_not_skipped links type kept k;
     })))
-single_fault dir line name type rest text behind WideItem key kept single no_pass no_dir a =
+single_fault links dir line name type rest text behind WideItem key kept single no_pass no_dir a =
     let v : HeldValue = held_with type (a.x ∷ []) in
     let size : v.size ≡ max (size_with_item a.x.size a.x.item) 0 = ap (λ (b : Bool). size_for b type (size_given (a.x ∷ []))) a.string in
     record {
@@ -298,26 +302,26 @@ single_fault dir line name type rest text behind WideItem key kept single no_pas
       whole = refl;
       refused = λ (s : Rows). inl (
         Write (dir ++ name ∷ []) v,
-        (name, type, a.x ∷ [], inl (a.x, record { rest = rest; key = key; kept = kept; text = text; single = single; item = a.spells }, refl, refl), refl, refl),
+        (name, inl (type, a.x ∷ [], inl (a.x, record { rest = rest; key = key; kept = kept; text = text; single = single; item = a.spells }, refl, refl), refl), refl),
         ap (λ (o : Option OdbRefusal). option_or o (rows_fault s (Write (dir ++ name ∷ []) v))) (wide v.size (omega (arith, size, raised_least a.x.size a.x.item, a.wide))),
       );
     }
-single_fault dir line name type rest text behind NoMemory key kept single no_pass no_dir a = tt
+single_fault links dir line name type rest text behind NoMemory key kept single no_pass no_dir a = tt
 
 -- too many items
 
-pub too_many : (dir : List (List ℕ)) (line name : List ℕ) (type : Tid) (rest : List ℕ) (n : ℕ) (behind : List (List ℕ))
-    → IsKeyIn dir line name type rest → is_kept type ≡ true → IsArray rest n → items_limit < n → IsRefusedAlways dir (line ∷ behind) (Limit Items)
-too_many dir line name type rest n behind key kept array many = record {
+pub too_many : (links : Bool) (dir : List (List ℕ)) (line name : List ℕ) (type : Tid) (rest : List ℕ) (n : ℕ) (behind : List (List ℕ))
+    → IsKeyIn dir line name type rest → is_kept type ≡ true → IsArray rest n → items_limit < n → IsRefusedAlways links dir (line ∷ behind) (Limit Items)
+too_many links dir line name type rest n behind key kept array many = record {
   opened = line ∷ [];
   rest = behind;
   whole = refl;
   refused = λ (s : Rows). inr (inl ((line, n, refl, many, inl (name, type, record { rest = rest; key = key; kept = kept; array = array })), refl));
 }
 
-pub too_many_skipped : (dir : List (List ℕ)) (line name : List ℕ) (type : Tid) (rest : List ℕ) (n : ℕ) (behind : List (List ℕ))
-    → IsKeyIn dir line name type rest → is_skipped type ≡ true → IsArray rest n → items_limit < n → IsRefusedAlways dir (line ∷ behind) (Limit Items)
-too_many_skipped dir line name type rest n behind key skipped array many = record {
+pub too_many_skipped : (links : Bool) (dir : List (List ℕ)) (line name : List ℕ) (type : Tid) (rest : List ℕ) (n : ℕ) (behind : List (List ℕ))
+    → IsKeyIn dir line name type rest → is_skipped links type ≡ true → IsArray rest n → items_limit < n → IsRefusedAlways links dir (line ∷ behind) (Limit Items)
+too_many_skipped links dir line name type rest n behind key skipped array many = record {
   opened = line ∷ [];
   rest = behind;
   whole = refl;
@@ -326,9 +330,9 @@ too_many_skipped dir line name type rest n behind key skipped array many = recor
 
 -- keys that are skipped
 
-pub skipped_single : (dir : List (List ℕ)) (line name : List ℕ) (type : Tid) (rest text : List ℕ) (behind : List (List ℕ))
-    → IsKeyIn dir line name type rest → is_skipped type ≡ true → IsSingle rest text → IsBlock dir (line ∷ behind) (Skip 0) behind 1
-skipped_single dir line name type rest text behind key skipped single = record {
+pub skipped_single : (links : Bool) (dir : List (List ℕ)) (line name : List ℕ) (type : Tid) (rest text : List ℕ) (behind : List (List ℕ))
+    → IsKeyIn dir line name type rest → is_skipped links type ≡ true → IsSingle rest text → IsBlock links dir (line ∷ behind) (Skip 0) behind 1
+skipped_single links dir line name type rest text behind key skipped single = record {
   own = line ∷ [];
   whole = refl;
   counted = refl;
@@ -336,9 +340,9 @@ skipped_single dir line name type rest text behind key skipped single = record {
   within = refl;
 }
 
-pub skipped_array : (dir : List (List ℕ)) (line name : List ℕ) (type : Tid) (rest : List ℕ) (n : ℕ) (behind left : List (List ℕ))
-    → IsKeyIn dir line name type rest → is_skipped type ≡ true → IsArray rest n → n ≤ items_limit → AreSkipped behind n left → IsBlock dir (line ∷ behind) (Skip n) left (n + 1)
-skipped_array dir line name type rest n behind left key skipped array many a = record {
+pub skipped_array : (links : Bool) (dir : List (List ℕ)) (line name : List ℕ) (type : Tid) (rest : List ℕ) (n : ℕ) (behind left : List (List ℕ))
+    → IsKeyIn dir line name type rest → is_skipped links type ≡ true → IsArray rest n → n ≤ items_limit → AreSkipped behind n left → IsBlock links dir (line ∷ behind) (Skip n) left (n + 1)
+skipped_array links dir line name type rest n behind left key skipped array many a = record {
   own = line ∷ a.own;
   whole = ap (λ (l : List (List ℕ)). line ∷ l) a.whole;
   counted = omega (arith, a.many);
@@ -346,9 +350,9 @@ skipped_array dir line name type rest n behind left key skipped array many a = r
   within = no_many n many;
 }
 
-pub skipped_fault : (dir : List (List ℕ)) (line name : List ℕ) (type : Tid) (rest : List ℕ) (n at : ℕ) (behind : List (List ℕ))
-    → IsKeyIn dir line name type rest → is_skipped type ≡ true → IsArray rest n → n ≤ items_limit → SkipsOnlyTo behind n at → IsBadAt dir (line ∷ behind) (at + 1)
-skipped_fault dir line name type rest n at behind key skipped array many b =
+pub skipped_fault : (links : Bool) (dir : List (List ℕ)) (line name : List ℕ) (type : Tid) (rest : List ℕ) (n at : ℕ) (behind : List (List ℕ))
+    → IsKeyIn dir line name type rest → is_skipped links type ≡ true → IsArray rest n → n ≤ items_limit → SkipsOnlyTo behind n at → IsBadAt links dir (line ∷ behind) (at + 1)
+skipped_fault links dir line name type rest n at behind key skipped array many b =
     let a = b.skipped in
     record {
       opened = line ∷ a.own;
@@ -372,12 +376,13 @@ skipped_fault dir line name type rest n at behind key skipped array many b =
       ));
     }
 
-pub nowhere_kept : (dir : List (List ℕ)) (type : Tid) (rest : List ℕ) → is_kept type ≡ true → ((text : List ℕ) → IsSingle rest text → ⊥) → ((n : ℕ) → IsArray rest n → ⊥) → GoesOnNowhere dir type rest
-nowhere_kept dir type rest kept no_single no_array = record {
+pub nowhere_kept : (links : Bool) (dir : List (List ℕ)) (type : Tid) (rest : List ℕ) → is_kept type ≡ true → ((text : List ℕ) → IsSingle rest text → ⊥) → ((n : ℕ) → IsArray rest n → ⊥) → GoesOnNowhere links dir type rest
+nowhere_kept links dir type rest kept no_single no_array = record {
   single = λ (deep : length dir < depth_limit) (k : is_kept type ≡ true) (text : List ℕ) (size : ℕ) (item : Item) (s : IsSingle rest text) (i : IsItemAlone type text size item). no_single text s;
   array = λ (deep : length dir < depth_limit) (k : is_kept type ≡ true) (n : ℕ) (f : IsArray rest n). no_array n f;
-  skipped_single = λ (deep : length dir < depth_limit) (k : is_skipped type ≡ true) (text : List ℕ) (s : IsSingle rest text). no_single text s;
-  skipped_array = λ (deep : length dir < depth_limit) (k : is_skipped type ≡ true) (n : ℕ) (f : IsArray rest n). no_array n f;
+  link = λ (deep : length dir < depth_limit) (k : links ≡ true) (l : is_link_type type ≡ true) (text : List ℕ) (size : ℕ) (link : List ℕ) (s : IsSingle rest text) (i : IsLinkAlone text size link). no_single text s;
+  skipped_single = λ (deep : length dir < depth_limit) (k : is_skipped links type ≡ true) (text : List ℕ) (s : IsSingle rest text). no_single text s;
+  skipped_array = λ (deep : length dir < depth_limit) (k : is_skipped links type ≡ true) (n : ℕ) (f : IsArray rest n). no_array n f;
 }
 
 pub count_some : (most n count : ℕ) → Some count ≡ up_to most n → (count ≡ n) × (n ≤ most)
@@ -394,22 +399,23 @@ count_none most n e = cases (nat_le n most) refl e
     cases true is k = absurd (cc)
     cases false is k = grind (arith, nat_tests, is)
 
-pub nowhere_skipped : (dir : List (List ℕ)) (type : Tid) (rest : List ℕ) → ((text : List ℕ) → IsSingle rest text → ⊥) → ((n : ℕ) → IsArray rest n → ⊥) → GoesOnNowhere dir type rest
-nowhere_skipped dir type rest no_single no_array = record {
+pub nowhere_skipped : (links : Bool) (dir : List (List ℕ)) (type : Tid) (rest : List ℕ) → ((text : List ℕ) → IsSingle rest text → ⊥) → ((n : ℕ) → IsArray rest n → ⊥) → GoesOnNowhere links dir type rest
+nowhere_skipped links dir type rest no_single no_array = record {
   single = λ (deep : length dir < depth_limit) (k : is_kept type ≡ true) (text : List ℕ) (size : ℕ) (item : Item) (s : IsSingle rest text) (i : IsItemAlone type text size item). no_single text s;
   array = λ (deep : length dir < depth_limit) (k : is_kept type ≡ true) (n : ℕ) (f : IsArray rest n). no_array n f;
-  skipped_single = λ (deep : length dir < depth_limit) (k : is_skipped type ≡ true) (text : List ℕ) (s : IsSingle rest text). no_single text s;
-  skipped_array = λ (deep : length dir < depth_limit) (k : is_skipped type ≡ true) (n : ℕ) (f : IsArray rest n). no_array n f;
+  link = λ (deep : length dir < depth_limit) (k : links ≡ true) (l : is_link_type type ≡ true) (text : List ℕ) (size : ℕ) (link : List ℕ) (s : IsSingle rest text) (i : IsLinkAlone text size link). no_single text s;
+  skipped_single = λ (deep : length dir < depth_limit) (k : is_skipped links type ≡ true) (text : List ℕ) (s : IsSingle rest text). no_single text s;
+  skipped_array = λ (deep : length dir < depth_limit) (k : is_skipped links type ≡ true) (n : ℕ) (f : IsArray rest n). no_array n f;
 }
 
 -- the same block at an equal path and value
 
-pub block_at : (dir ls rest : List (List ℕ)) (count : ℕ) (p q : List (List ℕ)) (v w : HeldValue) → p ≡ q → v ≡ w → IsBlock dir ls (Write p v) rest count → IsBlock dir ls (Write q w) rest count
-block_at dir ls rest count p q v w e d b =
-    subst (λ (x : HeldValue). IsBlock dir ls (Write q x) rest count) d (subst (λ (x : List (List ℕ)). IsBlock dir ls (Write x v) rest count) e b)
+pub block_at : (links : Bool) (dir ls rest : List (List ℕ)) (count : ℕ) (p q : List (List ℕ)) (v w : HeldValue) → p ≡ q → v ≡ w → IsBlock links dir ls (Write p v) rest count → IsBlock links dir ls (Write q w) rest count
+block_at links dir ls rest count p q v w e d b =
+    subst (λ (x : HeldValue). IsBlock links dir ls (Write q x) rest count) d (subst (λ (x : List (List ℕ)). IsBlock links dir ls (Write x v) rest count) e b)
 
-pub block_rest : (dir ls : List (List ℕ)) (act : Act) (bytes others : List ℕ) (count : ℕ) → bytes ≡ others → IsBlock dir ls act (lines bytes) count → IsBlock dir ls act (lines others) count
-block_rest dir ls act bytes others count e b = subst (λ (x : List ℕ). IsBlock dir ls act (lines x) count) e b
+pub block_rest : (links : Bool) (dir ls : List (List ℕ)) (act : Act) (bytes others : List ℕ) (count : ℕ) → bytes ≡ others → IsBlock links dir ls act (lines bytes) count → IsBlock links dir ls act (lines others) count
+block_rest links dir ls act bytes others count e b = subst (λ (x : List ℕ). IsBlock links dir ls act (lines x) count) e b
 
 -- the one item
 
@@ -426,8 +432,8 @@ alone_read type text given size item items width spells e short t =
       sound = subst (All (IsItem type)) (sym t.one_more) (All-push (IsItem type) [] item (All-nil (IsItem type)) t.sound);
     }
 
-pub make_block : (dir : List (List ℕ)) (line : List ℕ) (p behind : List (List ℕ)) → IsDirLine line p → IsBlock dir (line ∷ behind) (Make p) behind 1
-make_block dir line p behind d = record { own = line ∷ []; whole = refl; counted = refl; spells = (line, refl, d); within = refl }
+pub make_block : (links : Bool) (dir : List (List ℕ)) (line : List ℕ) (p behind : List (List ℕ)) → IsDirLine line p → IsBlock links dir (line ∷ behind) (Make p) behind 1
+make_block links dir line p behind d = record { own = line ∷ []; whole = refl; counted = refl; spells = (line, refl, d); within = refl }
 
 pub wide_is_string : (type : Tid) (text : List ℕ) (size : ℕ) (item : Item) → IsItemAlone type text size item → size_limit < size → is_string type ≡ true
 wide_is_string type text size item i h = cases (is_string type) refl i

@@ -1,7 +1,8 @@
 -- What is read at a time: the lines of one step, or the fault at which they break off.
-use Rattle.std.specs.Prelude.{◌≡◌, true, ℕ, ◌+◌, ◌<◌, ◌≤◌, max, List, [], ◌∷◌, ◌++◌, length, map, All, Option, Some, None}
+use Rattle.std.specs.Prelude.{◌≡◌, Bool, true, ℕ, ◌+◌, ◌<◌, ◌≤◌, max, List, [], ◌∷◌, ◌++◌, length, map, All, Option, Some, None}
 use Rattle.std.specs.List.{AllByRecursion}
 use Rattle.daq_types.specs.declared.types.Tid.{Tid}
+use Rattle.daq_text.specs.Numbers.{up_to}
 use Rattle.odb_value.specs.declared.items.Item.{Item}
 use Rattle.odb_value.specs.Items.{IsItem}
 use Rattle.odb_value.specs.Values.{size_limit, IsShorter}
@@ -12,41 +13,42 @@ use Rattle.odb_tree.specs.declared.refusals.What.TheVariants.{Size}
 use Rattle.odb_tree.specs.Rows.{Rows}
 use Rattle.odb_text.specs.ItemLines.{is_string, IsItemLine, IsItemAlone}
 use Rattle.odb_text.specs.declared.acts.Act.{Act}
+use Rattle.odb_text.specs.declared.links.ReadLink.{ReadLink}
 use Rattle.odb_text.specs.declared.faults.BlockFault.{BlockFault}
 use Rattle.odb_text.specs.declared.faults.BlockFault.TheVariants.{Bad, Refused, NoMemory}
 use Rattle.odb_text.specs.declared.faults.ItemsFault.{ItemsFault}
 use Rattle.odb_text.specs.declared.faults.ItemsFault.TheVariants.{BadItem, WideItem, NoMemory as no_memory}
 use Rattle.odb_text.specs.TextSteps.{own_limit}
-use Rattle.odb_text.specs.Grammar.{SizedItem, AreItemLines, size_given, BeginsBracketed, SpellsAct}
+use Rattle.odb_text.specs.Grammar.{SizedItem, AreItemLines, size_given, BeginsBracketed, IsLinkKey, SpellsAct}
 use Rattle.odb_text.specs.TextFaults.{NextIsNot, IsSomeItemLine, LeavesGrammar, IsRefused}
 
 -- The first lines of the text are those of this step, which no limit of its own refuses, and the rest follows them.
-pub record IsBlock (dir lines : List (List ℕ)) (act : Act) (rest : List (List ℕ)) (count : ℕ) : Type 0 where
+pub record IsBlock (links : Bool) (dir lines : List (List ℕ)) (act : Act) (rest : List (List ℕ)) (count : ℕ) : Type 0 where
   pub own : List (List ℕ)
   pub whole : lines ≡ own ++ rest
   pub counted : count ≡ length own
-  pub spells : SpellsAct dir own act
+  pub spells : SpellsAct links dir own act
   pub within : own_limit act ≡ None
 
 -- The lines leave the grammar at the one with this place.
-pub record IsBadAt (dir lines : List (List ℕ)) (at : ℕ) : Type 0 where
+pub record IsBadAt (links : Bool) (dir lines : List (List ℕ)) (at : ℕ) : Type 0 where
   pub opened : List (List ℕ)
   pub rest : List (List ℕ)
   pub whole : lines ≡ opened ++ rest
   pub place : at ≡ length opened
-  pub leaves : LeavesGrammar dir opened rest
+  pub leaves : LeavesGrammar links dir opened rest
 
 -- The first lines are refused, whatever the rows are.
-pub record IsRefusedAlways (dir lines : List (List ℕ)) (why : OdbRefusal) : Type 0 where
+pub record IsRefusedAlways (links : Bool) (dir lines : List (List ℕ)) (why : OdbRefusal) : Type 0 where
   pub opened : List (List ℕ)
   pub rest : List (List ℕ)
   pub whole : lines ≡ opened ++ rest
-  pub refused : (s : Rows) → IsRefused s dir opened why
+  pub refused : (s : Rows) → IsRefused links s dir opened why
 
-abbrev pub IsBlockFault : (dir lines : List (List ℕ)) → BlockFault → Type 0
-IsBlockFault dir lines (Bad at) = IsBadAt dir lines at
-IsBlockFault dir lines (Refused why) = IsRefusedAlways dir lines why
-IsBlockFault dir lines NoMemory = Unit {0}
+abbrev pub IsBlockFault : (links : Bool) → (dir lines : List (List ℕ)) → BlockFault → Type 0
+IsBlockFault links dir lines (Bad at) = IsBadAt links dir lines at
+IsBlockFault links dir lines (Refused why) = IsRefusedAlways links dir lines why
+IsBlockFault links dir lines NoMemory = Unit {0}
 
 -- the fault of a key whose items are at fault
 abbrev pub block_fault : ItemsFault → BlockFault
@@ -159,3 +161,9 @@ abbrev pub IsAloneFault : Tid → (text : List ℕ) → ItemsFault → Type 0
 IsAloneFault type text (BadItem at) = (at ≡ 0) × ((size : ℕ) (item : Item) → IsItemAlone type text size item → ⊥)
 IsAloneFault type text WideItem = IsWideAlone type text
 IsAloneFault type text no_memory = Unit {0}
+
+-- The line is that of a link, which was read from it.
+pub record ReadsLink (dir : List (List ℕ)) (line name : List ℕ) (read : ReadLink) : Type 0 where
+  pub size : ℕ
+  pub key : IsLinkKey dir line name size read.text
+  pub given : read.size ≡ up_to size_limit size

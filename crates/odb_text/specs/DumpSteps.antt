@@ -34,7 +34,7 @@ acts_of steps = map (λ (step : TextStep). step.act) steps
 -- The lines of the dump are those of these steps.
 pub record DumpFollowsWalk (s : Rows) : Type 0 where
   pub steps : List TextStep
-  pub reads : SpellsSteps 1 [] (lines (dump_text s)) steps
+  pub reads : SpellsSteps s.links 1 [] (lines (dump_text s)) steps
   pub acts_are : acts_of steps ≡ dump_acts s
 
 -- a row but for its number
@@ -49,15 +49,19 @@ content_of r = record { path = r.path; value = r.value }
 abbrev pub contents_of : Rows → List RowContent
 contents_of s = map content_of (walk s)
 
+-- the new database, which keeps links where this one does
+abbrev pub new_like : Rows → Rows
+new_like s = record no_rows { links = s.links }
+
 -- Steps lead from a new database to this one but for the numbers of its rows: none is refused, and none skips a key.
 pub record RemakesRows (s : Rows) (steps : List TextStep) : Type 0 where
   pub after : Rows
-  pub ran : run_steps steps no_rows ≡ Ok after
+  pub ran : run_steps steps (new_like s) ≡ Ok after
   pub same : contents_of after ≡ contents_of s
   pub none_skipped : keys_skipped steps ≡ 0
 
 -- A dump loads again: its lines are those of such steps.
 pub record LoadsAgain (s : Rows) : Type 0 where
   pub steps : List TextStep
-  pub reads : SpellsSteps 1 [] (lines (dump_text s)) steps
+  pub reads : SpellsSteps s.links 1 [] (lines (dump_text s)) steps
   pub remakes : RemakesRows s steps

@@ -4,7 +4,9 @@ use Rattle.std.specs.Fmt.{decimal}
 use Rattle.std.specs.Str.Parse.{digits_value}
 use Rattle.daq_types.specs.declared.types.Tid.{Tid}
 use Rattle.daq_types.specs.declared.types.Tid.TheVariants as tid
+use Rattle.odb_value.specs.PathText.{path_reply}
 use Rattle.odb_value.specs.declared.items.Item.{Item}
+use Rattle.odb_value.specs.declared.items.Item.TheVariants.{Text}
 use Rattle.odb_value.specs.ItemTexts.{item_read}
 use Rattle.odb_text.specs.LineForms.{behind_blank, IsBracketed}
 
@@ -33,3 +35,12 @@ IsAloneText false type text size item = (item_read type text ≡ Ok item) × (si
 
 abbrev pub IsItemAlone : Tid → (text : List ℕ) → (size : ℕ) → Item → Type 0
 IsItemAlone type text size item = IsAloneText (is_string type) type (behind_blank text) size item
+
+-- a text that is read as a path
+abbrev pub IsPathText : List ℕ → Type 0
+IsPathText text = (target : List (List ℕ)) × (path_reply text ≡ Ok target)
+
+-- what stands behind the colon of a link: a text as that of a STRING, which is read as a path
+pub record IsLinkAlone (text : List ℕ) (size : ℕ) (link : List ℕ) : Type 0 where
+  pub item : IsItemAlone tid.Text text size (Text link)
+  pub path : IsPathText link

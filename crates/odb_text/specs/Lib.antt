@@ -8,4 +8,3 @@ pub mod TextFaults
 pub mod Blocks
 pub mod Loads
 pub mod DumpSteps
-pub mod TextCalls

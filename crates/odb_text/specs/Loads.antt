@@ -1,5 +1,5 @@
 -- A database text is loaded, step by step.
-use Rattle.std.specs.Prelude.{◌≡◌, ℕ, ◌+◌, ◌<◌, ◌≤◌, ◌^◌, List, [], ◌∷◌, ◌++◌, length, Option, None, Ok, ◌⊎◌}
+use Rattle.std.specs.Prelude.{◌≡◌, ℕ, ◌+◌, ◌<◌, ◌≤◌, ◌^◌, Bool, List, [], ◌∷◌, ◌++◌, length, Option, None, Ok, ◌⊎◌}
 use Rattle.std.specs.Str.Lines.{lines}
 use Rattle.odb_tree.specs.declared.refusals.OdbRefusal.{OdbRefusal}
 use Rattle.odb_tree.specs.declared.notes.Watch.{Watch}
@@ -23,7 +23,7 @@ use Rattle.odb_text.specs.Blocks.{IsBadAt}
 -- noted the changes of each step in turn. So many keys are written, and so many are skipped.
 pub record IsLoaded (s : Watched) (own : List (List ℕ)) (loaded : Loaded) (after : Watched) : Type 0 where
   pub steps : List TextStep
-  pub reads : SpellsSteps 1 [] own steps
+  pub reads : SpellsSteps s.rows.links 1 [] own steps
   pub ran : run_steps steps s.rows ≡ Ok after.rows
   pub noted : after.slots ≡ all_noted (changes_in_steps s.rows steps) s.slots
   pub keys : loaded.keys ≡ keys_written steps
@@ -63,32 +63,32 @@ pub record IsPassedOver (old new : Place) (before after : Watched) : Type 0 wher
   pub same_state : after ≡ before
 
 -- A step is done, which is not refused.
-pub record DoesStep (old new : Place) (before after : Watched) : Type 0 where
+pub record DoesStep (links : Bool) (old new : Place) (before after : Watched) : Type 0 where
   pub own : List (List ℕ)
   pub act : Act
   pub whole : old.rest ≡ own ++ new.rest
-  pub spells : SpellsAct old.dir own act
+  pub spells : SpellsAct links old.dir own act
   pub fine : act_fault before.rows act ≡ None
   pub next : new.line ≡ old.line + length own
   pub new_dir : new.dir ≡ dir_after old.dir act
   pub one_more : new.loaded ≡ counts_with old.loaded act
   pub new_state : after ≡ watched_act before act
 
-abbrev pub AdvancesText : (old new : Place) (before after : Watched) → Type 0
-AdvancesText old new before after = IsPassedOver old new before after ⊎ DoesStep old new before after
+abbrev pub AdvancesText : (links : Bool) → (old new : Place) (before after : Watched) → Type 0
+AdvancesText links old new before after = IsPassedOver old new before after ⊎ DoesStep links old new before after
 
 -- the first lines left are refused
-pub record RefusesFirst (at : Place) (now : Rows) (why : OdbRefusal) : Type 0 where
+pub record RefusesFirst (links : Bool) (at : Place) (now : Rows) (why : OdbRefusal) : Type 0 where
   pub opened : List (List ℕ)
   pub left : List (List ℕ)
   pub whole : at.rest ≡ opened ++ left
-  pub refused : IsRefused now at.dir opened why
+  pub refused : IsRefused links now at.dir opened why
 
 -- what is wrong with the lines left
-abbrev pub IsTextFaultAt : Place → (now : Rows) → LoadRefusal → Type 0
-IsTextFaultAt at now (BadLine n) = (place : ℕ) × IsBadAt at.dir at.rest place × (n ≡ at.line + place)
-IsTextFaultAt at now (KeyRefused n why) = RefusesFirst at now why × (n ≡ at.line)
-IsTextFaultAt at now NoMemory = Unit {0}
+abbrev pub IsTextFaultAt : (links : Bool) → Place → (now : Rows) → LoadRefusal → Type 0
+IsTextFaultAt links at now (BadLine n) = (place : ℕ) × IsBadAt links at.dir at.rest place × (n ≡ at.line + place)
+IsTextFaultAt links at now (KeyRefused n why) = RefusesFirst links at now why × (n ≡ at.line)
+IsTextFaultAt links at now NoMemory = Unit {0}
 
 -- The place in a text of which these bytes are left.
 abbrev pub place_at : (bytes : List ℕ) → (line : ℕ) → (dir : List (List ℕ)) → Loaded → Place

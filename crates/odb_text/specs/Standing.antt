@@ -1,10 +1,11 @@
 -- What stands in a directory, found again by its path.
-use Rattle.std.specs.Prelude.{◌≡◌, ℕ, ◌<◌, Bool, false, not, if◌then◌else◌, List, [], ◌∷◌, ◌++◌, length, Option, Some, None}
-use Rattle.odb_value.specs.Paths.{depth_limit}
+use Rattle.std.specs.Prelude.{◌≡◌, ℕ, ◌<◌, Bool, true, false, not, if◌then◌else◌, List, [], ◌∷◌, ◌++◌, length, Option, Some, None, Ok}
+use Rattle.odb_value.specs.Paths.{depth_limit, same_path}
 use Rattle.odb_tree.specs.declared.rows.Row.{Row}
 use Rattle.odb_tree.specs.declared.children.Child.{Child}
 use Rattle.odb_tree.specs.Rows.{Rows, row_at, is_key}
 use Rattle.odb_tree.specs.Lookups.{key_of, seek_key}
+use Rattle.odb_tree.specs.Links.{resolved}
 use Rattle.odb_tree.specs.Calls.{child_of}
 use Rattle.odb_tree.specs.Trees.{IsDir}
 use Rattle.odb_text.specs.Dumps.{row_text, section_text, dirs_text}
@@ -40,3 +41,13 @@ dir_part depth s p child =
 abbrev pub begins_with_key : List Child → Bool
 begins_with_key [] = false
 begins_with_key (child ∷ children) = not child.is_dir
+
+-- a path has an end after its links, of which one at its end is not followed
+abbrev pub IsLed : Rows → List (List ℕ) → Type 0
+IsLed s p = (q : List (List ℕ)) × (resolved s p false ≡ Ok q)
+
+-- The second path is the first one after its links, but for the case of letters.
+pub record IsPlaceOf (s : Rows) (p there : List (List ℕ)) : Type 0 where
+  pub led : List (List ℕ)
+  pub is_led : resolved s p false ≡ Ok led
+  pub same : same_path there led ≡ true

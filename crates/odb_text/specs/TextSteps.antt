@@ -1,6 +1,7 @@
 -- What a database text asks for, and what that does to the rows.
 use Rattle.std.specs.Prelude.{ℕ, Bool, true, false, nat_lt, if◌then◌else◌, List, [], ◌∷◌, ◌++◌, length, sum_by, Option, Some, None, Result, Ok, Err}
 use Rattle.std.specs.Option.{option_or}
+use Rattle.odb_value.specs.Paths.{IsPath}
 use Rattle.odb_value.specs.Values.{HeldValue, size_limit, items_limit}
 use Rattle.odb_tree.specs.declared.rows.NewKey.TheVariants.{Dir}
 use Rattle.odb_tree.specs.declared.refusals.OdbRefusal.{OdbRefusal}
@@ -9,7 +10,8 @@ use Rattle.odb_tree.specs.declared.refusals.What.TheVariants.{Items, Size}
 use Rattle.odb_tree.specs.Rows.{Rows}
 use Rattle.odb_tree.specs.Lookups.{seek_key}
 use Rattle.odb_tree.specs.Links.{resolved, through, led_to}
-use Rattle.odb_tree.specs.Calls.{create_fault, after_create, set_all_fault, after_set_all, set_all_reply}
+use Rattle.odb_tree.specs.Calls.{create_fault, after_create, put_fault, put_reply, after_set_all}
+use Rattle.odb_tree.specs.Databases.{IsHeld}
 use Rattle.odb_tree.specs.Noting.{Change, Watched, changes_of_put, all_noted}
 use Rattle.odb_text.specs.declared.acts.Act.{Act}
 use Rattle.odb_text.specs.declared.acts.Act.TheVariants.{Make, Write, Skip}
@@ -19,7 +21,7 @@ pub record TextStep : Type 0 where
   pub line : ℕ
   pub act : Act
 
--- Making a directory, at the path after its links.
+-- Making a directory, at the path after its links. A link at the path's end is not followed, and is a key.
 
 -- where something stands at the path already, a key is refused, and a directory stays
 abbrev pub there_already : Result (ℕ × HeldValue) OdbRefusal → Option OdbRefusal
@@ -49,7 +51,7 @@ dir_refusal s p = fault_through (resolved s p false) (λ q. create_fault s q Dir
 -- the refusal of `create`, but for what is there already
 abbrev pub make_fault_by : Rows → List (List ℕ) → Option OdbRefusal → Option OdbRefusal
 make_fault_by s p None = None
-make_fault_by s p (Some refusal) = if is_exists refusal then there_already (through (resolved s p true) (λ q. seek_key s.rows q)) else Some refusal
+make_fault_by s p (Some refusal) = if is_exists refusal then there_already (through (resolved s p false) (λ q. seek_key s.rows q)) else Some refusal
 
 abbrev pub make_fault : Rows → List (List ℕ) → Option OdbRefusal
 make_fault s p = make_fault_by s p (dir_refusal s p)
@@ -76,10 +78,10 @@ own_limit (Make p) = None
 own_limit (Write p v) = option_or (many_fault (length v.items)) (wide_fault v.size)
 own_limit (Skip items) = many_fault items
 
--- what the rows say
+-- what the rows say: a directory is made at the path after its links, and a key is put at the path as it is
 abbrev pub rows_fault : Rows → Act → Option OdbRefusal
 rows_fault s (Make p) = make_fault s p
-rows_fault s (Write p v) = set_all_fault s p v
+rows_fault s (Write p v) = put_fault s p v
 rows_fault s (Skip items) = None
 
 abbrev pub act_fault : Rows → Act → Option OdbRefusal
@@ -93,12 +95,18 @@ after_act s (Skip items) = s
 -- the changes that a step makes: writing a key is one `put`
 abbrev pub changes_of_act : Rows → Act → List Change
 changes_of_act s (Make p) = []
-changes_of_act s (Write p v) = changes_of_put s p v (set_all_reply s p v)
+changes_of_act s (Write p v) = changes_of_put s p v (put_reply s p v)
 changes_of_act s (Skip items) = []
 
 -- a watched database after a step
 abbrev pub watched_act : Watched → Act → Watched
 watched_act s act = record { rows = after_act s.rows act; slots = all_noted (changes_of_act s.rows act) s.slots }
+
+-- a path by the rule of paths, and a value, or a link where links are kept
+abbrev pub IsSoundAct : (links : Bool) → Act → Type 0
+IsSoundAct links (Make p) = IsPath p
+IsSoundAct links (Write p v) = IsPath p × IsHeld links v
+IsSoundAct links (Skip items) = Unit {0}
 
 -- All steps.
 

@@ -1,4 +1,4 @@
-ghost use Rattle.std.specs.Prelude.{◌≡◌, ◌≤◌, ◌<◌, ◌+◌, ◌∷◌, ◌++◌, [], ℕ, List, true, false, length, IfOk, IfErr};
+ghost use Rattle.std.specs.Prelude.{◌≡◌, ◌≤◌, ◌<◌, ◌+◌, ◌∷◌, ◌++◌, [], ℕ, List, true, false, ◌&&◌, length, IfOk, IfErr};
 ghost use Rattle.std.specs.Str.Lines.{lines};
 ghost use Rattle.daq_types.specs.declared.types.Tid.{Tid};
 ghost use Rattle.odb_value.specs.Paths.{depth_limit};
@@ -7,11 +7,13 @@ ghost use Rattle.odb_value.specs.Values.{IsValue, items_limit, size_limit};
 ghost use Rattle.odb_text.specs.LineForms.{IsPassed, IsDirLine, IsKeyLine, IsSingle, IsArray};
 ghost use Rattle.odb_text.specs.ItemLines.{is_string};
 ghost use Rattle.odb_text.specs.Grammar.{size_for, IsKeyIn, IsArrayHead, IsSkippedHead, is_skipped};
-ghost use Rattle.odb_text.specs.Blocks.{IsBlock, IsBlockFault, block_fault, IsAloneRead, IsAloneFault};
+ghost use Rattle.odb_value.specs.LinkValues.{is_link_type};
+ghost use Rattle.odb_text.specs.Blocks.{ReadsLink, IsBlock, IsBlockFault, block_fault, IsAloneRead, IsAloneFault};
 
 use crate::acts::Act;
 use crate::arrays::{ItemsSoFar, read_items, take_item};
 use crate::faults::{BlockFault, ItemsFault};
+use crate::links::{ReadLink, link_value, read_link};
 use crate::skips::skip_items;
 use crate::{array, is_string, item_alone, key_line, read_dir_line, single};
 use daq_types::{Name, NoMemory, Tid};
@@ -38,13 +40,26 @@ struct KeyHead<'a> {
     /// What stands behind the type.
     rest: &'a [u8],
     behind: &'a [u8],
+    /// Whether the database keeps links.
+    links: bool,
 }
 
-/// Whether keys of this type are skipped.
-fn is_skipped(tid: Tid) -> bool
-    ensures { result ≡ is_skipped tid }
+/// Whether keys of this type are skipped, by a database that keeps links or none.
+fn is_skipped(links: bool, tid: Tid) -> bool
+    ensures { result ≡ is_skipped links tid }
 {
-    matches!(tid, Tid::Float | Tid::Double | Tid::BitField | Tid::Link)
+    match tid {
+        Tid::Float | Tid::Double | Tid::BitField => true,
+        Tid::Link => !links,
+        _ => false,
+    }
+}
+
+/// Whether keys of this type are links, in a database that keeps links or none.
+fn is_link(links: bool, tid: Tid) -> bool
+    ensures { result ≡ (links && is_link_type tid) }
+{
+    links && matches!(tid, Tid::Link)
 }
 
 /// The path of a key in a directory.
@@ -102,11 +117,11 @@ fn array_key<'a>(
     requires head { IsArrayHead dir.now head.now.line.now head.now.name head.now.tid count }
     requires many { count ≤ items_limit }
     ensures block { IfOk result
-        (λ block. IsBlock dir.now (head.now.line.now ∷ lines head.now.behind.now)
+        (λ block. IsBlock head.now.links dir.now (head.now.line.now ∷ lines head.now.behind.now)
         block.act (lines block.rest.now) block.lines) }
     ensures shorter { IfOk result (λ block. length block.rest.now + block.lines
         ≤ length head.now.behind.now + 1) }
-    ensures fault { IfErr result (IsBlockFault dir.now (head.now.line.now
+    ensures fault { IfErr result (IsBlockFault head.now.links dir.now (head.now.line.now
         ∷ lines head.now.behind.now)) }
 {
     match read_items(alloc, head.tid, count, head.behind) {
@@ -162,11 +177,11 @@ fn single_key<'a>(
     requires no_pass { IsPassed head.now.line.now → ⊥ }
     requires no_dir { (p : List (List ℕ)) → IsDirLine head.now.line.now p → ⊥ }
     ensures block { IfOk result
-        (λ block. IsBlock dir.now (head.now.line.now ∷ lines head.now.behind.now)
+        (λ block. IsBlock head.now.links dir.now (head.now.line.now ∷ lines head.now.behind.now)
         block.act (lines block.rest.now) block.lines) }
     ensures shorter { IfOk result (λ block. length block.rest.now + block.lines
         ≤ length head.now.behind.now + 1) }
-    ensures fault { IfErr result (IsBlockFault dir.now (head.now.line.now
+    ensures fault { IfErr result (IsBlockFault head.now.links dir.now (head.now.line.now
         ∷ lines head.now.behind.now)) }
 {
     match alone(alloc, head.tid, text, head.behind) {
@@ -190,11 +205,11 @@ fn kept_key<'a>(alloc: Global, dir: &Path, head: &KeyHead<'a>) -> Result<Block<'
     requires no_pass { IsPassed head.now.line.now → ⊥ }
     requires no_dir { (p : List (List ℕ)) → IsDirLine head.now.line.now p → ⊥ }
     ensures block { IfOk result
-        (λ block. IsBlock dir.now (head.now.line.now ∷ lines head.now.behind.now)
+        (λ block. IsBlock head.now.links dir.now (head.now.line.now ∷ lines head.now.behind.now)
         block.act (lines block.rest.now) block.lines) }
     ensures shorter { IfOk result (λ block. length block.rest.now + block.lines
         ≤ length head.now.behind.now + 1) }
-    ensures fault { IfErr result (IsBlockFault dir.now (head.now.line.now
+    ensures fault { IfErr result (IsBlockFault head.now.links dir.now (head.now.line.now
         ∷ lines head.now.behind.now)) }
 {
     match single(head.rest) {
@@ -212,15 +227,15 @@ fn kept_key<'a>(alloc: Global, dir: &Path, head: &KeyHead<'a>) -> Result<Block<'
 /// Reads an array that is skipped. The directory stands for the contract alone.
 fn skipped_array<'a>(_dir: &Path, head: &KeyHead<'a>, count: u32) -> Result<Block<'a>, BlockFault>
     requires key { IsKeyIn _dir.now head.now.line.now head.now.name head.now.tid head.now.rest.now }
-    requires skipped { is_skipped head.now.tid ≡ true }
+    requires skipped { is_skipped head.now.links head.now.tid ≡ true }
     requires array { IsArray head.now.rest.now count }
     requires many { count ≤ items_limit }
     ensures block { IfOk result
-        (λ block. IsBlock _dir.now (head.now.line.now ∷ lines head.now.behind.now)
+        (λ block. IsBlock head.now.links _dir.now (head.now.line.now ∷ lines head.now.behind.now)
         block.act (lines block.rest.now) block.lines) }
     ensures shorter { IfOk result (λ block. length block.rest.now + block.lines
         ≤ length head.now.behind.now + 1) }
-    ensures fault { IfErr result (IsBlockFault _dir.now (head.now.line.now
+    ensures fault { IfErr result (IsBlockFault head.now.links _dir.now (head.now.line.now
         ∷ lines head.now.behind.now)) }
 {
     match skip_items(count, head.behind) {
@@ -238,15 +253,15 @@ fn skipped_array<'a>(_dir: &Path, head: &KeyHead<'a>, count: u32) -> Result<Bloc
 /// Reads a key that is skipped.
 fn skipped_key<'a>(dir: &Path, head: &KeyHead<'a>) -> Result<Block<'a>, BlockFault>
     requires key { IsKeyIn dir.now head.now.line.now head.now.name head.now.tid head.now.rest.now }
-    requires skipped { is_skipped head.now.tid ≡ true }
+    requires skipped { is_skipped head.now.links head.now.tid ≡ true }
     requires no_pass { IsPassed head.now.line.now → ⊥ }
     requires no_dir { (p : List (List ℕ)) → IsDirLine head.now.line.now p → ⊥ }
     ensures block { IfOk result
-        (λ block. IsBlock dir.now (head.now.line.now ∷ lines head.now.behind.now)
+        (λ block. IsBlock head.now.links dir.now (head.now.line.now ∷ lines head.now.behind.now)
         block.act (lines block.rest.now) block.lines) }
     ensures shorter { IfOk result (λ block. length block.rest.now + block.lines
         ≤ length head.now.behind.now + 1) }
-    ensures fault { IfErr result (IsBlockFault dir.now (head.now.line.now
+    ensures fault { IfErr result (IsBlockFault head.now.links dir.now (head.now.line.now
         ∷ lines head.now.behind.now)) }
 {
     match single(head.rest) {
@@ -265,17 +280,75 @@ fn skipped_key<'a>(dir: &Path, head: &KeyHead<'a>) -> Result<Block<'a>, BlockFau
     }
 }
 
+/// The step of a link that was read.
+fn link_block<'a>(
+    alloc: Global,
+    dir: &Path,
+    head: &KeyHead<'a>,
+    link: ReadLink,
+) -> Result<Block<'a>, BlockFault>
+    requires read { ReadsLink dir.now head.now.line.now head.now.name link }
+    requires kept { head.now.links ≡ true }
+    ensures block { IfOk result
+        (λ block. IsBlock head.now.links dir.now (head.now.line.now ∷ lines head.now.behind.now)
+        block.act (lines block.rest.now) block.lines) }
+    ensures shorter { IfOk result (λ block. length block.rest.now + block.lines
+        ≤ length head.now.behind.now + 1) }
+    ensures fault { IfErr result (IsBlockFault head.now.links dir.now (head.now.line.now
+        ∷ lines head.now.behind.now)) }
+{
+    let ReadLink { size, text } = link;
+    match size {
+        None => Err(BlockFault::Refused {
+            why: OdbRefusal::Limit { what: What::Size },
+        }),
+        Some(_) => {
+            let path = path_in(alloc, dir, head.name)?;
+            let value = link_value(alloc, text)?;
+            Ok(Block {
+                act: Act::Write { path, value },
+                lines: 1,
+                rest: head.behind,
+            })
+        }
+    }
+}
+
+/// Reads a link.
+fn link_key<'a>(alloc: Global, dir: &Path, head: &KeyHead<'a>) -> Result<Block<'a>, BlockFault>
+    requires key { IsKeyIn dir.now head.now.line.now head.now.name head.now.tid head.now.rest.now }
+    requires link { (head.now.links && is_link_type head.now.tid) ≡ true }
+    requires no_pass { IsPassed head.now.line.now → ⊥ }
+    requires no_dir { (p : List (List ℕ)) → IsDirLine head.now.line.now p → ⊥ }
+    ensures block { IfOk result
+        (λ block. IsBlock head.now.links dir.now (head.now.line.now ∷ lines head.now.behind.now)
+        block.act (lines block.rest.now) block.lines) }
+    ensures shorter { IfOk result (λ block. length block.rest.now + block.lines
+        ≤ length head.now.behind.now + 1) }
+    ensures fault { IfErr result (IsBlockFault head.now.links dir.now (head.now.line.now
+        ∷ lines head.now.behind.now)) }
+{
+    match single(head.rest) {
+        None => Err(BlockFault::Bad { at: 0 }),
+        Some(text) => match read_link(alloc, text) {
+            Err(_) => Err(BlockFault::NoMemory),
+            Ok(None) => Err(BlockFault::Bad { at: 0 }),
+            Ok(Some(link)) => link_block(alloc, dir, head, link),
+        },
+    }
+}
+
 /// Reads a key.
 fn read_key<'a>(alloc: Global, dir: &Path, head: &KeyHead<'a>) -> Result<Block<'a>, BlockFault>
     requires key { IsKeyLine head.now.line.now head.now.name head.now.tid head.now.rest.now }
     requires no_pass { IsPassed head.now.line.now → ⊥ }
     requires no_dir { (p : List (List ℕ)) → IsDirLine head.now.line.now p → ⊥ }
     ensures block { IfOk result
-        (λ block. IsBlock dir.now (head.now.line.now ∷ lines head.now.behind.now)
+        (λ block. IsBlock head.now.links dir.now (head.now.line.now ∷ lines head.now.behind.now)
         block.act (lines block.rest.now) block.lines) }
     ensures shorter { IfOk result (λ block. length block.rest.now + block.lines
         ≤ length head.now.behind.now + 1) }
-    ensures fault { IfErr result (IsBlockFault dir.now (head.now.line.now
+    ensures fault { IfErr result (IsBlockFault head.now.links dir.now (head.now.line.now
         ∷ lines head.now.behind.now)) }
 {
     if dir.names().len() >= MAX_DEPTH {
@@ -284,26 +357,30 @@ fn read_key<'a>(alloc: Global, dir: &Path, head: &KeyHead<'a>) -> Result<Block<'
     if is_kept(head.tid) {
         return kept_key(alloc, dir, head);
     }
-    if is_skipped(head.tid) {
+    if is_skipped(head.links, head.tid) {
         return skipped_key(dir, head);
+    }
+    if is_link(head.links, head.tid) {
+        return link_key(alloc, dir, head);
     }
     Err(BlockFault::Bad { at: 0 })
 }
 
-/// Reads the lines of one step, in this directory. The first of them is `line`, which is not passed over, and `behind` is
-/// the text behind it.
+/// Reads the lines of one step, in this directory of a database that keeps links or none. The first of them is `line`,
+/// which is not passed over, and `behind` is the text behind it.
 pub fn read_block<'a>(
     alloc: Global,
+    links: bool,
     dir: &Path,
     line: &'a [u8],
     behind: &'a [u8],
 ) -> Result<Block<'a>, BlockFault>
     requires { IsPassed line.now → ⊥ }
-    ensures block { IfOk result (λ block. IsBlock dir.now (line.now ∷ lines behind.now) block.act
+    ensures block { IfOk result (λ block. IsBlock links dir.now (line.now ∷ lines behind.now) block.act
         (lines block.rest.now) block.lines) }
     ensures shorter { IfOk result (λ block. length block.rest.now + block.lines
         ≤ length behind.now + 1) }
-    ensures fault { IfErr result (IsBlockFault dir.now (line.now ∷ lines behind.now)) }
+    ensures fault { IfErr result (IsBlockFault links dir.now (line.now ∷ lines behind.now)) }
 {
     match read_dir_line(alloc, line) {
         Err(_) => Err(BlockFault::NoMemory),
@@ -323,6 +400,7 @@ pub fn read_block<'a>(
                     tid,
                     rest,
                     behind,
+                    links,
                 },
             ),
         },

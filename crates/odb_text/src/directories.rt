@@ -7,7 +7,7 @@ use odb_value::{Path, PathRefusal};
 use std::alloc::Global;
 
 /// That a refused path's text has a fault, or that memory was wanting.
-fn has_fault(refusal: PathRefusal) -> Result<(), NoMemory>
+pub fn has_fault(refusal: PathRefusal) -> Result<(), NoMemory>
     ensures { OnOk result (refusal ≢ PathRefusal.NoMemory) }
 {
     match refusal {

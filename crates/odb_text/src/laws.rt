@@ -1,15 +1,16 @@
 //! Laws of dumps and of texts that are loaded: each function does nothing, and its contract is the law.
 
-ghost use Rattle.std.specs.Prelude.{◌≡◌, ◌≢◌, ◌≤◌, ℕ, false, List, [], length, Ok};
+ghost use Rattle.std.specs.Prelude.{◌≡◌, ◌≢◌, ◌≤◌, ℕ, Bool, List, [], length, Ok};
 ghost use Rattle.std.specs.Str.Lines.{lines};
 ghost use Rattle.odb_tree.specs.Rows.{Rows};
 ghost use Rattle.odb_tree.specs.Databases.{IsDatabase};
 ghost use Rattle.odb_text.specs.Dumps.{dump_text, dump_limit};
 ghost use Rattle.odb_text.specs.declared.acts.LoadRefusal.{LoadRefusal};
 ghost use Rattle.odb_text.specs.declared.acts.LoadRefusal.TheVariants.{NoMemory as no_memory};
-ghost use Rattle.odb_text.specs.TextSteps.{TextStep, run_steps};
+ghost use Rattle.std.specs.List.{AllByRecursion};
+ghost use Rattle.odb_text.specs.declared.acts.Act.{Act};
+ghost use Rattle.odb_text.specs.TextSteps.{TextStep, after_act, run_steps, IsSoundAct};
 ghost use Rattle.odb_text.specs.Grammar.{SpellsSteps};
-ghost use Rattle.odb_text.specs.TextCalls.{LeadTextCalls};
 ghost use Rattle.odb_text.specs.TextFaults.{IsTextFault};
 ghost use Rattle.odb_text.specs.DumpSteps.{DumpFollowsWalk, RemakesRows, LoadsAgain};
 
@@ -18,47 +19,48 @@ pub fn dump_is_small()
     ensures { (s : Rows) → IsDatabase s → length (dump_text s) ≤ dump_limit }
 {}
 
-/// The lines of the dump of a database that keeps no links ask for each row of the walk, in its order, and before them for
-/// the root where it has keys.
+/// The lines of a dump ask for each row of the walk, in its order, and before them for the root where it has keys.
 pub fn dump_follows_walk()
-    ensures { (s : Rows) → IsDatabase s → s.links ≡ false → DumpFollowsWalk s }
+    ensures { (s : Rows) → IsDatabase s → DumpFollowsWalk s }
 {}
 
 /// A text that is loaded into a database leaves a database.
 pub fn loading_keeps_a_database()
     ensures { (s : Rows) (after : Rows) (text : List (List ℕ)) (steps : List TextStep)
-        → IsDatabase s → SpellsSteps 1 [] text steps → run_steps steps s ≡ Ok after
+        → IsDatabase s → SpellsSteps s.links 1 [] text steps → run_steps steps s ≡ Ok after
         → IsDatabase after }
 {}
 
-/// What a text asks for of a database that keeps no links, where none of it is refused, is what some legal calls of the main
-/// thread do, each of which makes a directory or writes a key whole.
-pub fn texts_are_calls()
-    ensures { (s : Rows) (after : Rows) (text : List (List ℕ)) (steps : List TextStep)
-        → s.links ≡ false → SpellsSteps 1 [] text steps → run_steps steps s ≡ Ok after
-        → LeadTextCalls s after }
+/// What a text asks for, where none of it is refused, is sound: paths, and values of keys, or links where the database keeps
+/// them. No step changes whether it does.
+pub fn texts_are_sound()
+    ensures acts { (s : Rows) (after : Rows) (text : List (List ℕ)) (steps : List TextStep)
+        → SpellsSteps s.links 1 [] text steps → run_steps steps s ≡ Ok after
+        → AllByRecursion (λ step. IsSoundAct s.links step.act) steps }
+    ensures links { (s : Rows) (act : Act) → (after_act s act).links ≡ s.links }
 {}
 
-/// The dump of a database that keeps no links loads again: its lines ask for steps, and whatever steps they ask for lead
-/// from a new database to the same paths and values in the order of the walk; none of them is refused, and none skips a key.
+/// A dump loads again: its lines ask for steps, and whatever steps they ask for lead from a new database, which keeps links
+/// where the first one does, to the same paths and values in the order of the walk; none of them is refused, and none skips
+/// a key.
 pub fn loads_again()
-    ensures steps { (s : Rows) → IsDatabase s → s.links ≡ false → LoadsAgain s }
-    ensures remade { (s : Rows) (steps : List TextStep) → IsDatabase s → s.links ≡ false
-        → SpellsSteps 1 [] (lines (dump_text s)) steps → RemakesRows s steps }
+    ensures steps { (s : Rows) → IsDatabase s → LoadsAgain s }
+    ensures remade { (s : Rows) (steps : List TextStep) → IsDatabase s
+        → SpellsSteps s.links 1 [] (lines (dump_text s)) steps → RemakesRows s steps }
 {}
 
 /// At most one list of steps stands in the grammar with some lines.
 pub fn one_list_of_steps()
-    ensures { (number : ℕ) (dir : List (List ℕ)) (lines : List (List ℕ)) (steps : List TextStep)
-        (others : List TextStep) → SpellsSteps number dir lines steps
-        → SpellsSteps number dir lines others → steps ≡ others }
+    ensures { (links : Bool) (number : ℕ) (dir : List (List ℕ)) (lines : List (List ℕ)) (steps : List TextStep)
+        (others : List TextStep) → SpellsSteps links number dir lines steps
+        → SpellsSteps links number dir lines others → steps ≡ others }
 {}
 
 /// A text that asks for steps none of which is refused has no line at fault: so `load` answers a line at fault exactly
 /// where there is one, but for want of memory.
 pub fn loaded_text_has_no_fault()
     ensures { (s : Rows) (after : Rows) (text : List (List ℕ)) (steps : List TextStep)
-        (why : LoadRefusal) → SpellsSteps 1 [] text steps → run_steps steps s ≡ Ok after
+        (why : LoadRefusal) → SpellsSteps s.links 1 [] text steps → run_steps steps s ≡ Ok after
         → why ≢ no_memory → IsTextFault s text why → ⊥ }
 {}
 

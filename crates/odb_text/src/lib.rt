@@ -13,6 +13,7 @@ mod items;
 mod keys;
 pub mod laws;
 mod lines;
+mod links;
 mod loading;
 mod passed;
 mod saving;

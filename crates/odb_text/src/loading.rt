@@ -1,5 +1,6 @@
-ghost use Rattle.std.specs.Prelude.{◌≡◌, ◌≢◌, ◌≤◌, ◌<◌, ◌+◌, ◌∷◌, ◌^◌, true, None, Some, length, IfOk, IfErr, OnOk, OnErr};
+ghost use Rattle.std.specs.Prelude.{◌≡◌, ◌≢◌, ◌≤◌, ◌<◌, ◌+◌, ◌∷◌, ◌++◌, [], ◌^◌, true, false, None, Some, length, IfOk, IfErr, OnOk, OnErr};
 ghost use Rattle.std.specs.Str.Lines.{lines};
+ghost use Rattle.odb_value.specs.Paths.{depth_limit};
 ghost use Rattle.odb_tree.specs.Lookups.{seek_key};
 ghost use Rattle.odb_tree.specs.Links.{resolved, through};
 ghost use Rattle.odb_tree.specs.declared.refusals.OdbRefusal.TheVariants.{NoMemory as no_memory};
@@ -8,8 +9,9 @@ ghost use Rattle.odb_text.specs.Dumps.{dump_limit};
 ghost use Rattle.odb_tree.specs.Noting.{all_noted};
 ghost use Rattle.odb_text.specs.declared.acts.Act.TheVariants.{Make, Write};
 ghost use Rattle.odb_text.specs.TextSteps.{is_exists, there_already, make_fault, after_make, rows_fault, after_act, changes_of_act, dir_after, written, skipped};
-ghost use Rattle.odb_tree.specs.Calls.{set_all_fault, after_set_all};
+ghost use Rattle.odb_tree.specs.Calls.{put_fault, after_set_all};
 ghost use Rattle.odb_text.specs.TextFaults.{IsTextFault};
+ghost use Rattle.odb_text.specs.Standing.{IsLed, IsPlaceOf};
 ghost use Rattle.odb_text.specs.Blocks.{IsBlock};
 ghost use Rattle.odb_text.specs.Loads.{IsLoaded, watched_as, AdvancesText, IsTextFaultAt, counts_with, place_at, IsRoomy, IsNear, broken_at, refused_at};
 
@@ -17,6 +19,7 @@ use crate::acts::{Act, LoadRefusal, Loaded};
 use crate::blocks::{Block, read_block};
 use crate::faults::BlockFault;
 use crate::{is_passed, split_line};
+use daq_types::{Name, NoMemory};
 use odb_tree::{Database, NewKey, OdbRefusal};
 use odb_value::{Path, Value};
 use std::alloc::Global;
@@ -51,16 +54,43 @@ fn is_exists(refusal: OdbRefusal) -> bool
     matches!(refusal, OdbRefusal::Exists)
 }
 
-/// That a directory is at the path, where something is there.
+/// The path at which something stands, with the names of its directory as they are spelled there and no link within it.
+fn path_there<D: Database>(
+    alloc: Global,
+    database: &D,
+    above: &Path,
+    name: Name,
+) -> Result<Path, NoMemory>
+    requires short { length above.now < depth_limit }
+    requires led { IsLed (D.rows database.now) (above.now ++ name ∷ []) }
+    ensures { IfOk result (IsPlaceOf (D.rows database.now) (above.now ++ name ∷ [])) }
+{
+    let Ok(number) = database.find(alloc, above) else {
+        return Err(NoMemory);
+    };
+    let Some(mut there) = database.path_of(alloc, number)? else {
+        return Err(NoMemory);
+    };
+    there.push(name)?;
+    Ok(there)
+}
+
+/// That a directory is at the path after its links, where something is there.
 fn is_dir_there<D: Database>(alloc: Global, database: &D, path: &Path) -> Result<(), OdbRefusal>
+    requires { IsLed (D.rows database.now) path.now }
     ensures dir { OnOk result
-        (there_already (through (resolved (D.rows database.now) path.now true)
+        (there_already (through (resolved (D.rows database.now) path.now false)
         (λ q. seek_key (D.rows database.now).rows q)) ≡ None) }
     ensures key { IfErr result (λ why. why ≢ no_memory
-        → there_already (through (resolved (D.rows database.now) path.now true)
+        → there_already (through (resolved (D.rows database.now) path.now false)
         (λ q. seek_key (D.rows database.now).rows q)) ≡ Some why) }
 {
-    let Err(refusal) = database.get(alloc, path) else {
+    let Some((name, above)) = path.names().split_last() else {
+        return Ok(());
+    };
+    let above = Path::of(alloc, above)?;
+    let there = path_there(alloc, database, &above, *name)?;
+    let Err(refusal) = database.raw(alloc, &there) else {
         return Err(OdbRefusal::NotDir);
     };
     has_reason(refusal)
@@ -95,17 +125,15 @@ fn write_key<D: Database>(
     path: &Path,
     value: &Value,
 ) -> Result<(), OdbRefusal>
-    ensures fine { OnOk result (set_all_fault (D.rows database.old) path.now value.now ≡ None) }
+    ensures fine { OnOk result (put_fault (D.rows database.old) path.now value.now ≡ None) }
     ensures written { OnOk result (D.rows database.new
         ≡ after_set_all (D.rows database.old) path.now value.now) }
     ensures noted { OnOk result (D.watches database.new
         ≡ all_noted (changes_of_act (D.rows database.old) (Write path.now value.now))
         (D.watches database.old)) }
     ensures refused { IfErr result (λ why. why ≢ no_memory
-        → set_all_fault (D.rows database.old) path.now value.now ≡ Some why) }
+        → put_fault (D.rows database.old) path.now value.now ≡ Some why) }
 {
-    // Its type tells that the value is no link.
-    let _ = value.tid();
     match database.put(alloc, path, value) {
         Ok(_) => Ok(()),
         Err(refusal) => Err(refusal),
@@ -208,24 +236,26 @@ impl<'a> Cursor<'a> {
 }
 
 /// Does the step of these lines, with which the text begins that is left, and goes on behind them.
+/// Whether links are kept stands for the contract alone.
 fn do_step<'a, D: Database>(
     alloc: Global,
+    _links: bool,
     database: &mut D,
     at: &mut Cursor<'a>,
     block: Block<'a>,
 ) -> Result<(), LoadRefusal>
-    requires block { IsBlock at.old.dir (lines at.old.rest.now) block.act (lines block.rest.now)
+    requires block { IsBlock _links at.old.dir (lines at.old.rest.now) block.act (lines block.rest.now)
         block.lines }
     requires shorter { length block.rest.now + block.lines ≤ length at.old.rest.now }
     requires room { IsRoomy at.old.line (length at.old.rest.now) at.old.loaded }
     ensures on { OnOk result
-        (AdvancesText (place_at at.old.rest.now at.old.line at.old.dir at.old.loaded)
+        (AdvancesText _links (place_at at.old.rest.now at.old.line at.old.dir at.old.loaded)
         (place_at at.new.rest.now at.new.line at.new.dir at.new.loaded)
         (watched_as (D.rows database.old) (D.watches database.old))
         (watched_as (D.rows database.new) (D.watches database.new))) }
     ensures room { OnOk result (IsRoomy at.new.line (length at.new.rest.now) at.new.loaded) }
     ensures shorter { OnOk result (length at.new.rest.now < length at.old.rest.now) }
-    ensures fault { IfErr result (IsTextFaultAt (place_at at.old.rest.now at.old.line at.old.dir
+    ensures fault { IfErr result (IsTextFaultAt _links (place_at at.old.rest.now at.old.line at.old.dir
         at.old.loaded) (D.rows database.old)) }
 {
     match do_act(alloc, database, &block.act) {
@@ -240,6 +270,7 @@ fn do_step<'a, D: Database>(
 /// Does the step that begins with this line.
 fn do_block<'a, D: Database>(
     alloc: Global,
+    links: bool,
     database: &mut D,
     at: &mut Cursor<'a>,
     line: &'a [u8],
@@ -250,24 +281,25 @@ fn do_block<'a, D: Database>(
     requires read { IsPassed line.now → ⊥ }
     requires room { IsRoomy at.old.line (length at.old.rest.now) at.old.loaded }
     ensures on { OnOk result
-        (AdvancesText (place_at at.old.rest.now at.old.line at.old.dir at.old.loaded)
+        (AdvancesText links (place_at at.old.rest.now at.old.line at.old.dir at.old.loaded)
         (place_at at.new.rest.now at.new.line at.new.dir at.new.loaded)
         (watched_as (D.rows database.old) (D.watches database.old))
         (watched_as (D.rows database.new) (D.watches database.new))) }
     ensures room { OnOk result (IsRoomy at.new.line (length at.new.rest.now) at.new.loaded) }
     ensures shorter { OnOk result (length at.new.rest.now < length at.old.rest.now) }
-    ensures fault { IfErr result (IsTextFaultAt (place_at at.old.rest.now at.old.line at.old.dir
+    ensures fault { IfErr result (IsTextFaultAt links (place_at at.old.rest.now at.old.line at.old.dir
         at.old.loaded) (D.rows database.old)) }
 {
-    match read_block(alloc, &at.dir, line, behind) {
+    match read_block(alloc, links, &at.dir, line, behind) {
         Err(fault) => Err(broken_at(at.line, fault)),
-        Ok(block) => do_step(alloc, database, at, block),
+        Ok(block) => do_step(alloc, links, database, at, block),
     }
 }
 
 /// Reads on from this line: passes it over, or does the step that begins with it.
 fn read_on<'a, D: Database>(
     alloc: Global,
+    links: bool,
     database: &mut D,
     at: &mut Cursor<'a>,
     line: &'a [u8],
@@ -277,13 +309,13 @@ fn read_on<'a, D: Database>(
     requires less { length behind.now < length at.old.rest.now }
     requires room { IsRoomy at.old.line (length at.old.rest.now) at.old.loaded }
     ensures on { OnOk result
-        (AdvancesText (place_at at.old.rest.now at.old.line at.old.dir at.old.loaded)
+        (AdvancesText links (place_at at.old.rest.now at.old.line at.old.dir at.old.loaded)
         (place_at at.new.rest.now at.new.line at.new.dir at.new.loaded)
         (watched_as (D.rows database.old) (D.watches database.old))
         (watched_as (D.rows database.new) (D.watches database.new))) }
     ensures room { OnOk result (IsRoomy at.new.line (length at.new.rest.now) at.new.loaded) }
     ensures shorter { OnOk result (length at.new.rest.now < length at.old.rest.now) }
-    ensures fault { IfErr result (IsTextFaultAt (place_at at.old.rest.now at.old.line at.old.dir
+    ensures fault { IfErr result (IsTextFaultAt links (place_at at.old.rest.now at.old.line at.old.dir
         at.old.loaded) (D.rows database.old)) }
 {
     if is_passed(line) {
@@ -291,7 +323,7 @@ fn read_on<'a, D: Database>(
         at.line += 1;
         return Ok(());
     }
-    do_block(alloc, database, at, line, behind)
+    do_block(alloc, links, database, at, line, behind)
 }
 
 /// Does what a text asks for, up to the first fault.
@@ -315,8 +347,9 @@ fn load_into<D: Database>(
             skipped: 0,
         },
     };
+    let links = database.keeps_links();
     while let Some((line, behind)) = split_line(at.rest) {
-        read_on(alloc, database, &mut at, line, behind)?;
+        read_on(alloc, links, database, &mut at, line, behind)?;
     }
     Ok(at.loaded)
 }

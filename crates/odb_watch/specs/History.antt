@@ -20,7 +20,7 @@ EntryWrites rows (Notes w reply) after cs = (after ≡ rows) × (cs ≡ [])
 EntryWrites rows (Unwatch w reply) after cs = (after ≡ rows) × (cs ≡ [])
 EntryWrites rows (Save reply) after cs = (after ≡ rows) × (cs ≡ [])
 EntryWrites rows (Load text (Ok loaded)) after cs =
-    (steps : List TextStep) × SpellsSteps 1 [] (lines text) steps × (run_steps steps rows ≡ Ok after) × (cs ≡ changes_in_steps rows steps)
+    (steps : List TextStep) × SpellsSteps rows.links 1 [] (lines text) steps × (run_steps steps rows ≡ Ok after) × (cs ≡ changes_in_steps rows steps)
 EntryWrites rows (Load text (Err why)) after cs = (after ≡ rows) × (cs ≡ [])
 
 abbrev pub EntriesWrite : (rows : Rows) → List WatchEntry → (after : Rows) → List Change → Type 0

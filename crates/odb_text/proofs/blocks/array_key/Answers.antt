@@ -11,12 +11,12 @@ key_value-value-requires-clause-value c =
 
 pub returns-in-Err-clause-fault : goal.returns-in-Err-clause-fault
 returns-in-Err-clause-fault c =
-    subst (IsBlockFault c.args.dir.now (c.args.head.now.line.now ∷ lines c.args.head.now.behind.now)) (sym c.items_fault.ensures)
-    (array_fault c.args.dir.now c.args.head.now.line.now c.args.head.now.name c.args.head.now.tid c.args.count (lines c.args.head.now.behind.now) c.in-Err.fault c.requires.head c.requires.many c.in-Err.ensures.fault)
+    subst (IsBlockFault c.args.head.now.links c.args.dir.now (c.args.head.now.line.now ∷ lines c.args.head.now.behind.now)) (sym c.items_fault.ensures)
+    (array_fault c.args.head.now.links c.args.dir.now c.args.head.now.line.now c.args.head.now.name c.args.head.now.tid c.args.count (lines c.args.head.now.behind.now) c.in-Err.fault c.requires.head c.requires.many c.in-Err.ensures.fault)
 
 pub returns-in_ok-path-in-Ok-clause-block : goal.returns-in_ok-path-in-Ok-clause-block
 returns-in_ok-path-in-Ok-clause-block c =
-    block_at c.args.dir.now (c.args.head.now.line.now ∷ lines c.args.head.now.behind.now) (lines c.in-Ok.read.rest.now) (c.args.count + 1) _ c.in_ok-path-in-Ok.path _ c.key_value-value.result
+    block_at c.args.head.now.links c.args.dir.now (c.args.head.now.line.now ∷ lines c.args.head.now.behind.now) (lines c.in-Ok.read.rest.now) (c.args.count + 1) _ c.in_ok-path-in-Ok.path _ c.key_value-value.result
     (sym c.in_ok-path-in-Ok.ensures) (sym c.key_value-value.ensures)
-    (array_block c.args.dir.now c.args.head.now.line.now c.args.head.now.name c.args.head.now.tid c.args.count (lines c.args.head.now.behind.now) c.in-Ok.read.items.items c.in-Ok.read.size (lines c.in-Ok.read.rest.now)
+    (array_block c.args.head.now.links c.args.dir.now c.args.head.now.line.now c.args.head.now.name c.args.head.now.tid c.args.count (lines c.args.head.now.behind.now) c.in-Ok.read.items.items c.in-Ok.read.size (lines c.in-Ok.read.rest.now)
     c.requires.head c.requires.many c.in-Ok.ensures.read)

@@ -7,9 +7,9 @@ use Rattle.odb_text.proofs.blocks.read_block.Goals as goal
 
 pub returns-in-Ok-Some-clause-block : goal.returns-in-Ok-Some-clause-block
 returns-in-Ok-Some-clause-block c =
-    make_block c.args.dir.now c.args.line.now c.in-Ok-Some.path (lines c.args.behind.now) (at_some (IsDirLine c.args.line.now) c.in-Ok-Some.field-0 c.in-Ok-Some.path c.in-Ok-Some.field-0-is c.in-Ok-Some.ensures.some)
+    make_block c.args.links c.args.dir.now c.args.line.now c.in-Ok-Some.path (lines c.args.behind.now) (at_some (IsDirLine c.args.line.now) c.in-Ok-Some.field-0 c.in-Ok-Some.path c.in-Ok-Some.field-0-is c.in-Ok-Some.ensures.some)
 
 pub returns-in-None-clause-fault : goal.returns-in-None-clause-fault
 returns-in-None-clause-fault c =
-    bad_line c.args.dir.now c.args.line.now (lines c.args.behind.now)
-    (begins_no_key c.args.dir.now c.args.line.now c.in-None.ensures.none c.requires (at_none c.in-Ok-None.field-0 c.in-Ok-None.field-0-is c.in-Ok-None.ensures.none))
+    bad_line c.args.links c.args.dir.now c.args.line.now (lines c.args.behind.now)
+    (begins_no_key c.args.links c.args.dir.now c.args.line.now c.in-None.ensures.none c.requires (at_none c.in-Ok-None.field-0 c.in-Ok-None.field-0-is c.in-Ok-None.ensures.none))

@@ -6,14 +6,14 @@ use Rattle.odb_text.proofs.blocks.single_key.Goals as goal
 
 pub returns-in-Err-clause-fault : goal.returns-in-Err-clause-fault
 returns-in-Err-clause-fault c =
-    subst (IsBlockFault c.args.dir.now (c.args.head.now.line.now ∷ lines c.args.head.now.behind.now)) (sym c.items_fault.ensures)
-    (single_fault c.args.dir.now c.args.head.now.line.now c.args.head.now.name c.args.head.now.tid c.args.head.now.rest.now c.args.text.now (lines c.args.head.now.behind.now) c.in-Err.fault
+    subst (IsBlockFault c.args.head.now.links c.args.dir.now (c.args.head.now.line.now ∷ lines c.args.head.now.behind.now)) (sym c.items_fault.ensures)
+    (single_fault c.args.head.now.links c.args.dir.now c.args.head.now.line.now c.args.head.now.name c.args.head.now.tid c.args.head.now.rest.now c.args.text.now (lines c.args.head.now.behind.now) c.in-Err.fault
     c.requires.key c.requires.kept c.requires.single c.requires.no_pass c.requires.no_dir c.in-Err.ensures.fault)
 
 pub returns-in_ok-path-in-Ok-clause-block : goal.returns-in_ok-path-in-Ok-clause-block
 returns-in_ok-path-in-Ok-clause-block c =
-    block_rest c.args.dir.now (c.args.head.now.line.now ∷ lines c.args.head.now.behind.now) _ c.args.head.now.behind.now c.in-Ok.read.rest.now 1 (sym c.in-Ok.ensures.rest)
-    (block_at c.args.dir.now (c.args.head.now.line.now ∷ lines c.args.head.now.behind.now) (lines c.args.head.now.behind.now) 1 _ c.in_ok-path-in-Ok.path _ c.key_value-value.result
+    block_rest c.args.head.now.links c.args.dir.now (c.args.head.now.line.now ∷ lines c.args.head.now.behind.now) _ c.args.head.now.behind.now c.in-Ok.read.rest.now 1 (sym c.in-Ok.ensures.rest)
+    (block_at c.args.head.now.links c.args.dir.now (c.args.head.now.line.now ∷ lines c.args.head.now.behind.now) (lines c.args.head.now.behind.now) 1 _ c.in_ok-path-in-Ok.path _ c.key_value-value.result
     (sym c.in_ok-path-in-Ok.ensures) (sym c.key_value-value.ensures)
-    (single_block c.args.dir.now c.args.head.now.line.now c.args.head.now.name c.args.head.now.tid c.args.head.now.rest.now c.args.text.now (lines c.args.head.now.behind.now) c.in-Ok.read.items.items c.in-Ok.read.size
+    (single_block c.args.head.now.links c.args.dir.now c.args.head.now.line.now c.args.head.now.name c.args.head.now.tid c.args.head.now.rest.now c.args.text.now (lines c.args.head.now.behind.now) c.in-Ok.read.items.items c.in-Ok.read.size
     c.requires.key c.requires.kept c.requires.single c.in-Ok.ensures.read))

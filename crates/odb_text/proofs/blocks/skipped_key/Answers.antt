@@ -7,17 +7,17 @@ use Rattle.odb_text.proofs.blocks.skipped_key.Goals as goal
 
 pub returns-in-Some-clause-block : goal.returns-in-Some-clause-block
 returns-in-Some-clause-block c =
-    skipped_single c.args.dir.now c.args.head.now.line.now c.args.head.now.name c.args.head.now.tid c.args.head.now.rest.now c.in-Some.field-0.now (lines c.args.head.now.behind.now)
+    skipped_single c.args.head.now.links c.args.dir.now c.args.head.now.line.now c.args.head.now.name c.args.head.now.tid c.args.head.now.rest.now c.in-Some.field-0.now (lines c.args.head.now.behind.now)
     c.requires.key c.requires.skipped c.in-Some.ensures.some
 
 pub returns-in-None-array-clause-fault : goal.returns-in-None-array-clause-fault
 returns-in-None-array-clause-fault c =
-    bad_line c.args.dir.now c.args.head.now.line.now (lines c.args.head.now.behind.now)
-    (begins_nothing c.args.dir.now c.args.head.now.line.now c.args.head.now.name c.args.head.now.tid c.args.head.now.rest.now c.requires.key.key c.requires.no_pass c.requires.no_dir
-    (nowhere_skipped c.args.dir.now c.args.head.now.tid c.args.head.now.rest.now c.in-None.ensures.none c.in-None-array.ensures.none))
+    bad_line c.args.head.now.links c.args.dir.now c.args.head.now.line.now (lines c.args.head.now.behind.now)
+    (begins_nothing c.args.head.now.links c.args.dir.now c.args.head.now.line.now c.args.head.now.name c.args.head.now.tid c.args.head.now.rest.now c.requires.key.key c.requires.no_pass c.requires.no_dir
+    (nowhere_skipped c.args.head.now.links c.args.dir.now c.args.head.now.tid c.args.head.now.rest.now c.in-None.ensures.none c.in-None-array.ensures.none))
 
 pub returns-in-Some-None-clause-fault : goal.returns-in-Some-None-clause-fault
 returns-in-Some-None-clause-fault c =
     let h = c.in-Some-None.ensures.some in
-    too_many_skipped c.args.dir.now c.args.head.now.line.now c.args.head.now.name c.args.head.now.tid c.args.head.now.rest.now h.0 (lines c.args.head.now.behind.now)
+    too_many_skipped c.args.head.now.links c.args.dir.now c.args.head.now.line.now c.args.head.now.name c.args.head.now.tid c.args.head.now.rest.now h.0 (lines c.args.head.now.behind.now)
     c.requires.key c.requires.skipped h.1.0 (count_none items_limit h.0 (sym c.in-Some-None.field-0-is ∙ h.1.1))
