@@ -20,7 +20,6 @@ use Rattle.odb_text.specs.declared.acts.Act.{Act}
 use Rattle.odb_text.specs.declared.acts.Act.TheVariants.{Make, Write, Skip}
 use Rattle.odb_text.specs.TextSteps.{TextStep, fault_through, dir_refusal, after_make_by, own_limit, rows_fault, act_fault, after_act, or_refused, run_steps, IsSoundAct}
 use Rattle.odb_text.specs.Grammar.{SpellsSteps}
-
 use Rattle.odb_watch.specs.declared.entry.WatchEntry.{WatchEntry}
 use Rattle.odb_watch.specs.declared.entry.WatchEntry.TheVariants.{Call, Watch, Notes, Unwatch, Save, Load}
 use Rattle.odb_watch.specs.Steps.{StepsDatabase, LeadsDatabase}

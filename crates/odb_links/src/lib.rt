@@ -1,0 +1,6 @@
+//! An online database that keeps links, over one that keeps none: a link is a STRING key of the database below, whose row's
+//! number stands beside it with the path that the link goes to.
+#![tactic(auto)]
+
+mod leading;
+mod links;
