@@ -25,7 +25,7 @@ use Rattle.odb_tree.specs.Calls.{last_name}
 use Rattle.odb_tree.specs.Walks.{walk_below, walk}
 use Rattle.odb_tree.proofs.WalkLaws.{and_left, and_right}
 use Rattle.odb_tree.specs.Trees.{AreShort}
-use Rattle.odb_tree.specs.Links.{IsLink}
+use Rattle.odb_value.specs.LinkValues.{IsLink}
 use Rattle.odb_tree.specs.Databases.{IsHeld, IsRow, IsDatabase}
 use Rattle.odb_tree.proofs.EachRow.{short_rows}
 use Rattle.odb_tree.proofs.Whole.{has_rows}
