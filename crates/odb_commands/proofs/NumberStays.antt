@@ -66,13 +66,15 @@ act_keeps laws s (Skip items) none sound has = has
 steps_keep : NumberLaws → (links : Bool) (s after : Rows) (steps : List TextStep) → links ≡ s.links → AllByRecursion (λ (step : TextStep). IsSoundAct links step.act) steps → run_steps steps s ≡ Ok after
     → HasRunNumber s.rows → HasRunNumber after.rows
 steps_keep laws links s after [] same sound ran has = (let one : s ≡ after = cc in subst (λ (t : Rows). HasRunNumber t.rows) one has)
-steps_keep laws links s after (step ∷ steps) same sound ran has = by (act_fault s step.act) refl ran
+steps_keep laws links s after (step ∷ steps) same sound ran has =
+    by (act_fault s step.act) refl ran (λ none rest.
+    steps_keep laws links (after_act s step.act) after steps (same ∙ sym (laws.links s step.act)) sound.1 rest
+    (act_keeps laws s step.act none (subst (λ (kept : Bool). IsSoundAct kept step.act) same sound.0) has))
   where
-    by : (o : Option OdbRefusal) → act_fault s step.act ≡ o → or_refused step.line o (run_steps steps (after_act s step.act)) ≡ Ok after → HasRunNumber after.rows
-    by None none rest =
-        steps_keep laws links (after_act s step.act) after steps (same ∙ sym (laws.links s step.act)) sound.1 rest
-        (act_keeps laws s step.act none (subst (λ (kept : Bool). IsSoundAct kept step.act) same sound.0) has)
-    by (Some why) is rest = absurd (cc)
+    by : (o : Option OdbRefusal) → act_fault s step.act ≡ o → or_refused step.line o (run_steps steps (after_act s step.act)) ≡ Ok after
+        → (act_fault s step.act ≡ None → run_steps steps (after_act s step.act) ≡ Ok after → HasRunNumber after.rows) → HasRunNumber after.rows
+    by None none rest go = go none rest
+    by (Some why) is rest go = absurd (cc)
 
 -- The calls.
 
