@@ -3,6 +3,17 @@ use crate::rows::{PLAIN, Row};
 use daq_mem::{FileFail, FileOp};
 use worked_dumps::{BEGIN, END, EVENT};
 
+/// The second and the third event of the front-end, of 40 and 48 bytes.
+const SECOND_EVENT: &[u8] = b"\
+    \x01\x00\x00\x00\x02\x00\x00\x00\xE8\x03\x00\x00\x18\x00\x00\x00\
+    \x10\x00\x00\x00\x01\x00\x00\x00\x47\x45\x4E\x30\x06\x00\x08\x00\
+    \xD9\x63\xA9\xC4\x55\x1F\xC8\xEA";
+
+const THIRD_EVENT: &[u8] = b"\
+    \x01\x00\x00\x00\x03\x00\x00\x00\xE8\x03\x00\x00\x20\x00\x00\x00\
+    \x18\x00\x00\x00\x01\x00\x00\x00\x47\x45\x4E\x30\x06\x00\x0C\x00\
+    \x06\x58\xFB\x1C\xF7\xB7\x27\x53\x87\xB4\x03\xBC\x00\x00\x00\x00";
+
 /// The end record of a piece of run 1 behind which another piece follows: at the time of the start, with an empty dump.
 const PIECE_END: &[u8] = b"\x01\x80\x4D\x49\x01\x00\x00\x00\xE8\x03\x00\x00\x00\x00\x00\x00";
 
@@ -64,8 +75,11 @@ pub static TOOL_ROWS: [Row; 6] = [
     Row {
         title: "Pieces of one run, and a file of another",
         old_files: &[
-            ("run00001sub0000.mid", &[BEGIN, EVENT, EVENT, PIECE_END]),
-            ("run00001sub0001.mid", &[BEGIN, EVENT, END]),
+            (
+                "run00001sub0000.mid",
+                &[BEGIN, EVENT, SECOND_EVENT, PIECE_END],
+            ),
+            ("run00001sub0001.mid", &[BEGIN, THIRD_EVENT, END]),
             ("run00002sub0000.mid", &[OTHER_RUN]),
         ],
         tools: &[

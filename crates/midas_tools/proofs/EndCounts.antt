@@ -2,9 +2,8 @@
 use Rattle.std.proofs.Common.{◌≡◌, ◌∙◌, ℕ, ◌≤◌, List, Option, inl, inr, sym, subst, arith}
 use Rattle.daq_io.specs.Counts.{Rose, RoseBy}
 use Rattle.daq_io.specs.Seen.{Seen}
-use Rattle.mid_format.specs.declared.faults.MidFault.{MidFault}
 use Rattle.midas_tools.specs.Dumps.{DumpsTo, ReadCounts}
-use Rattle.midas_tools.specs.Findings.{SourceByEnd, RefusesFile, SaysWhy, Printed, ClosesWell, ClosedAs, SinkByEnd, FilesByEnd, ClashCounts}
+use Rattle.midas_tools.specs.Findings.{RefusesFile, SaysWhy, Printed, ClosesWell, ClosedAs, SinkByEnd, FilesByEnd, ClashCounts}
 use Rattle.midas_tools.specs.declared.opening.Refused.{Refused}
 use Rattle.midas_tools.specs.declared.opening.Refused.TheVariants.{NameCompressed, NameMissing, OpenFailed}
 use Rattle.midas_tools.specs.declared.ends.InputFault.TheVariants.{Mid, Compressed, Missing, ScriptTooLong, OtherRun}

@@ -1,18 +1,17 @@
 -- How what was read of a file, by its name, makes what was gathered of the files up to it.
-use Rattle.std.proofs.Common.{◌≡◌, ◌≢◌, ◌∙◌, ℕ, zero, suc, ◌+◌, ◌≤◌, ◌<◌, ◌^◌, List, [], ◌∷◌, ◌++◌, length, take, drop, get_or, All, Option, Some, None, IfSome, inl, inr, refl, ap, sym, subst, arith, length-append, append_assoc}
-use Rattle.std.specs.Prelude.{true, false, is_some, unwrap_or, IsTrue, IsSome, IsNone}
+use Rattle.std.proofs.Common.{◌≡◌, ◌≢◌, ◌∙◌, ℕ, zero, suc, ◌+◌, ◌<◌, List, [], ◌∷◌, ◌++◌, length, take, drop, get_or, Option, Some, IfSome, inl, inr, refl, ap, sym, subst, arith, length-append}
+use Rattle.std.specs.Prelude.{true, false, is_some, IsTrue, IsSome, IsNone}
 use Rattle.std.proofs.lemmas.List.{take_more}
 use Rattle.std.proofs.lemmas.List.Elements.{All-append, All-nil, All-cons}
 use Rattle.daq_types.specs.Names.{is_compressed}
 use Rattle.daq_types.specs.declared.events.Event.{Event}
-use Rattle.daq_io.specs.Counts.{Rose, RoseBy}
+use Rattle.daq_io.specs.Counts.{Rose}
 use Rattle.daq_io.specs.Seen.{KeepsFiles, Seen, Stored}
 use Rattle.daq_io.specs.FileLeft.{told_left}
-use Rattle.event.specs.Events.{all_encoded}
-use Rattle.midas_tools.specs.Pieces.{ArePieces, AreOneRun, IsPiece, IsPieceFault, bytes_of}
+use Rattle.midas_tools.specs.Pieces.{IsPiece, IsPieceFault}
 use Rattle.midas_tools.specs.Together.{ArePlain, HaveBytes, HoldsFault, HoldsRun, IsWrong, OfFirst}
 use Rattle.midas_tools.specs.Findings.{IsThere, IsFileOpened, RefusesFile, ClosesWell, ClosedAs, ClashCounts, FilesByEnd, SourceByEnd}
-use Rattle.midas_tools.specs.Gathering.{AreGathered, EndsRefused, GathersAll, GathersTo, HasGathered, IsWrongBehind, LooksFor, OfName, ReadsName, ReadsPiece, StopsWrong, TakesPiece, no_extent}
+use Rattle.midas_tools.specs.Gathering.{AreGathered, EndsRefused, GathersAll, GathersTo, IsWrongBehind, LooksFor, OfName, ReadsName, ReadsPiece, TakesPiece, no_extent}
 use Rattle.midas_tools.specs.declared.extents.Extent.{Extent}
 use Rattle.midas_tools.specs.declared.opening.Refused.{Refused}
 use Rattle.midas_tools.specs.declared.opening.Refused.TheVariants.{NameCompressed, NameMissing, OpenFailed}

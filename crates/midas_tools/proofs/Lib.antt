@@ -3,7 +3,6 @@ mod Summing
 mod Pieces
 mod Gathered
 mod Told
-mod OneFile
 mod Ending
 mod EndCounts
 mod Dumping

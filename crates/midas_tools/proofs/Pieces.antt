@@ -1,16 +1,15 @@
 -- Files that are the pieces of one run, one by one.
-use Rattle.std.proofs.Common.{◌≡◌, ◌≢◌, ◌∙◌, ℕ, suc, ◌+◌, ◌≤◌, ◌<◌, ◌^◌, List, [], ◌∷◌, ◌++◌, length, All, Option, Some, None, IfSome, refl, ap, sym, subst, arith, append_assoc}
-use Rattle.std.specs.Prelude.{true, false, is_some, unwrap_or, IsTrue, IsNone}
+use Rattle.std.proofs.Common.{◌≡◌, ◌∙◌, ℕ, suc, ◌+◌, ◌≤◌, ◌<◌, ◌^◌, List, [], ◌∷◌, ◌++◌, length, Option, Some, None, refl, ap, sym, subst, arith, append_assoc}
+use Rattle.std.specs.Prelude.{true, false, unwrap_or, IsNone}
 use Rattle.std.proofs.lemmas.List.{append-nil}
 use Rattle.daq_types.specs.Names.{is_compressed}
 use Rattle.daq_types.specs.declared.events.Event.{Event}
 use Rattle.daq_io.specs.Seen.{Seen, Stored}
 use Rattle.mid_format.specs.Faults.{run_at}
-use Rattle.mid_format.specs.ReadLaws.{AreSameRun}
 use Rattle.mid_format.proofs.ReadLaws.{one_whole, run_of_whole, whole_no_fault}
 use Rattle.mid_format.specs.declared.faults.MidFault.{MidFault}
 use Rattle.midas_tools.specs.Pieces.{ArePieces, AreOneRun, IsPiece, IsPieceFault, bytes_of}
-use Rattle.midas_tools.specs.Together.{ArePlain, AreSoundTogether, FindsWrong, HaveBytes, HoldsFault, HoldsRun, IsWrong}
+use Rattle.midas_tools.specs.Together.{ArePlain, AreSoundTogether, FindsWrong, HaveBytes, HoldsFault, IsWrong}
 use Rattle.midas_tools.specs.Findings.{IsThere}
 use Rattle.midas_tools.specs.declared.ends.InputFault.{InputFault}
 use Rattle.midas_tools.specs.declared.ends.InputFault.TheVariants.{Mid, Compressed, Missing, ScriptTooLong, OtherRun}
@@ -50,7 +49,7 @@ same_file a b e = ap (file_or a) e
 one_there : (seen : Seen) (name : List ℕ) (a b : List ℕ) → IsThere seen name (λ found. found ≡ a) → IsThere seen name (λ found. found ≡ b) → a ≡ b
 one_there seen name a b s t = sym s.fact ∙ ap (λ (file : Stored). file.bytes) (same_file s.file t.file (sym s.at_is ∙ t.at_is)) ∙ t.fact
 
-have_one : (seen : Seen) (names a b : List (List ℕ)) → HaveBytes seen names a → HaveBytes seen names b → a ≡ b
+pub have_one : (seen : Seen) (names a b : List (List ℕ)) → HaveBytes seen names a → HaveBytes seen names b → a ≡ b
 have_one seen [] [] [] g h = refl
 have_one seen [] [] (y ∷ b) g h = absurd h
 have_one seen [] (x ∷ a) b g h = absurd g

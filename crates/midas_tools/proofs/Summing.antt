@@ -1,5 +1,5 @@
 -- What was read of a file behind others of its run: its events are taken behind theirs, and it is whole or wrong.
-use Rattle.std.proofs.Common.{◌≡◌, ◌≢◌, ◌∙◌, ℕ, ◌+◌, ◌-◌, ◌≤◌, ◌<◌, ◌^◌, List, [], ◌∷◌, ◌++◌, length, Option, Some, None, Result, Ok, Err, IfSome, refl, ap, sym, subst, arith, length-append, append_assoc}
+use Rattle.std.proofs.Common.{◌≡◌, ◌≢◌, ◌∙◌, ℕ, ◌+◌, ◌≤◌, ◌<◌, ◌^◌, List, [], ◌∷◌, ◌++◌, length, Option, Some, None, Ok, IfSome, refl, ap, sym, subst, arith, length-append, append_assoc}
 use Rattle.std.specs.Prelude.{true, false, is_some, unwrap_or, IsSome, IsNone, ◌↔◌}
 use Rattle.std.proofs.lemmas.List.{append-nil}
 use Rattle.std.specs.Io.KnownBytes.{Consumes, IsAtEnd}
@@ -7,7 +7,6 @@ use Rattle.daq_types.specs.declared.events.Event.{Event}
 use Rattle.event.specs.Events.{encoding, all_encoded}
 use Rattle.event.proofs.Events.{length-encoding}
 use Rattle.event.specs.declared.head.Header.{Header}
-use Rattle.mid_format.specs.Faults.{run_at}
 use Rattle.mid_format.specs.HasRead.{HasRead, IsReadSoFar, begins_at}
 use Rattle.mid_format.specs.Opened.{run_number_of}
 use Rattle.mid_format.specs.AtHand.{TakesNext, TakesSoFar}
@@ -18,8 +17,8 @@ use Rattle.mid_format.specs.declared.faults.MidFault.{MidFault}
 use Rattle.mid_format.specs.declared.faults.MidFault.TheVariants.{Truncated, NoBegin, NoEnd, AfterEnd, TooBig, ReadFault, BadRecord, TooLong}
 use Rattle.mid_format.specs.declared.progress.Progress.{Progress}
 use Rattle.midas_tools.specs.Summaries.{SumsSome}
-use Rattle.midas_tools.specs.Pieces.{IsPiece, HasOwnFault, IsOfOtherRun, in_file}
-use Rattle.midas_tools.specs.Gathering.{EndsAtFault, HasGathered, IsOther, IsWrongBehind, ReadsPiece, TakesPiece, extent_behind}
+use Rattle.midas_tools.specs.Pieces.{IsPiece, in_file}
+use Rattle.midas_tools.specs.Gathering.{EndsAtFault, IsOther, IsWrongBehind, ReadsPiece, TakesPiece, extent_behind}
 use Rattle.midas_tools.specs.declared.extents.Extent.{Extent}
 use Rattle.midas_tools.specs.declared.ends.InputFault.TheVariants.{Mid, Compressed, Missing, ScriptTooLong, OtherRun}
 use Rattle.midas_tools.specs.declared.ends.ToolEnd.{ToolEnd}

@@ -1,17 +1,14 @@
 -- How what was gathered and printed makes the end of a tool that reads several files.
-use Rattle.std.proofs.Common.{◌≡◌, ◌≢◌, ◌∙◌, ℕ, suc, zero, ◌+◌, ◌≤◌, ◌<◌, List, [], ◌∷◌, ◌++◌, length, take, drop, get_or, All, Option, Some, None, Bool, nat_lt, ◌⊎◌, inl, inr, refl, ap, sym, subst, arith}
+use Rattle.std.proofs.Common.{◌≡◌, ◌≢◌, ◌∙◌, ℕ, ◌+◌, ◌<◌, List, [], ◌∷◌, length, take, drop, get_or, Option, Bool, nat_lt, inl, inr, refl, ap, sym, subst, arith}
 use Rattle.std.specs.Prelude.{IsTrue, IsSome, false, unwrap_or}
 use Rattle.std.proofs.lemmas.List.Elements.{All-nil}
-use Rattle.std.specs.Io.KnownBytes.{Appends, Keeps}
 use Rattle.daq_types.specs.Names.{is_compressed}
 use Rattle.daq_types.specs.declared.events.Event.{Event}
-use Rattle.daq_io.specs.Counts.{Rose, RoseBy}
 use Rattle.daq_io.specs.Seen.{Seen}
 use Rattle.midas_tools.specs.Texts.{bad_file_line}
-use Rattle.midas_tools.specs.Pieces.{bytes_of}
-use Rattle.midas_tools.specs.Together.{AreSoundTogether, EndsTogether, FindsTogether, FindsWrong, HoldsRun, OfFirst, TellsRun, WritesTogether}
-use Rattle.midas_tools.specs.Findings.{CallCounts, ClashCounts, Completes, FilesByEnd, Printed, SinkByEnd, Unprinted, WritesAll, WritesPart}
-use Rattle.midas_tools.specs.Gathering.{GathersAll, GathersTo, LooksFor, SaysStop, StopsWrong, TellsEnd}
+use Rattle.midas_tools.specs.Together.{AreSoundTogether, EndsTogether, FindsTogether, OfFirst, TellsRun, WritesTogether}
+use Rattle.midas_tools.specs.Findings.{CallCounts, ClashCounts, Completes, FilesByEnd, Printed, SinkByEnd, WritesAll}
+use Rattle.midas_tools.specs.Gathering.{GathersAll, GathersTo, LooksFor, SaysStop, TellsEnd}
 use Rattle.midas_tools.specs.declared.extents.Extent.{Extent}
 use Rattle.midas_tools.specs.declared.ends.InputFault.{InputFault}
 use Rattle.midas_tools.specs.declared.ends.InputFault.TheVariants.{Mid, Compressed, Missing, ScriptTooLong, OtherRun}

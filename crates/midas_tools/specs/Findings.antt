@@ -1,5 +1,5 @@
 -- What a tool finds under a name, what it prints of it, and how it ends.
-use Rattle.std.specs.Prelude.{◌≡◌, ◌≢◌, ◌≤◌, ℕ, false, List, [], ◌++◌, Option, Some, None, IsTrue, IsSome, IsNone, IfSome, ◌⊎◌, ⊤}
+use Rattle.std.specs.Prelude.{◌≡◌, ◌≢◌, ◌≤◌, ℕ, false, List, [], Option, Some, None, IsTrue, IsSome, IsNone, ◌⊎◌, ⊤}
 use Rattle.std.specs.Io.KnownBytes.{Appends, Keeps}
 use Rattle.daq_types.specs.Names.{is_compressed}
 use Rattle.daq_io.specs.Counts.{Rose, RoseBy}
@@ -43,8 +43,8 @@ abbrev pub Completes : (Sound : Type 0) (sink_old sink_new files_old files_new :
 Completes Sound sink_old sink_new files_old files_new end =
     Sound → ¬ Rose sink_old sink_new → ¬ Rose files_old files_new → (end ≡ Done) ⊎ (end ≡ NoMemory)
 
--- What a tool finds, and its text: `Says bytes fault text` says that the tool prints this text of a file of these bytes,
--- which is a run file, or has this fault first. A compressed name is not looked for, and a missing one is not opened.
+-- What a tool finds that reads one file, and its text: `Says bytes fault text` says that the tool prints this text of a file of
+-- these bytes, which is a run file, or has this fault first. A compressed name is not looked for, and a missing one is not opened.
 abbrev pub Finds : (Says : List ℕ → Option MidFault → List ℕ → Type 0) (seen : Seen) (name text : List ℕ) → ToolEnd → Type 0
 Finds Says seen name text Done = (is_compressed name ≡ false) × (IsTrue seen.tells → IsThere seen name (λ bytes. Says bytes None text))
 Finds Says seen name text (Input (Mid fault)) = (is_compressed name ≡ false) × (fault ≢ ReadFault) × (IsTrue seen.tells → IsThere seen name (λ bytes. Says bytes (Some fault) text))
@@ -68,15 +68,6 @@ pub record WritesPart (Found : (text : List ℕ) → ToolEnd → Type 0) (told_o
   pub text : List ℕ
   pub finds : Found text found
   pub written : AppendsPart told_old told_new text
-
--- What a tool writes of one file that prints when it has read all: its text, a part of it where the sink fails, and nothing where a
--- call on the files fails or there is no memory, which is so only of a file that is there.
-abbrev pub Writes : (Says : List ℕ → Option MidFault → List ℕ → Type 0) (seen : Seen) (name : List ℕ) (told_old told_new : Option (List ℕ)) → ToolEnd → Type 0
-Writes Says seen name told_old told_new Done = WritesAll (Finds Says seen name) told_old told_new Done
-Writes Says seen name told_old told_new (Input fault) = WritesAll (Finds Says seen name) told_old told_new (Input fault)
-Writes Says seen name told_old told_new FileFault = (is_compressed name ≡ false) × Keeps told_old told_new
-Writes Says seen name told_old told_new SinkFault = WritesPart (Finds Says seen name) told_old told_new
-Writes Says seen name told_old told_new NoMemory = (is_compressed name ≡ false) × Keeps told_old told_new × (IsTrue seen.tells → IsSome (seen.at name))
 
 -- the sink's count of faults: it rose exactly where the sink failed
 abbrev pub SinkByEnd : ToolEnd → (old new : ℕ) → Type 0

@@ -4,7 +4,6 @@ use Rattle.daq_types.specs.Names.{is_compressed}
 use Rattle.daq_types.specs.declared.events.Event.{Event}
 use Rattle.daq_io.specs.Seen.{Seen}
 use Rattle.event.specs.Events.{all_encoded}
-use Rattle.mid_format.specs.HasRead.{HasRead}
 use Rattle.mid_format.specs.Opened.{run_number_of}
 use Rattle.mid_format.specs.declared.faults.MidFault.{MidFault}
 use Rattle.mid_format.specs.declared.faults.MidFault.TheVariants.{ReadFault}

@@ -1,6 +1,7 @@
 -- Files that are, in order, the pieces of one run, and what is wrong with one behind such pieces.
-use Rattle.std.specs.Prelude.{◌≡◌, ◌≢◌, ◌≤◌, ◌+◌, ◌-◌, ◌^◌, ℕ, List, [], ◌∷◌, ◌++◌, length, Option, Some}
+use Rattle.std.specs.Prelude.{◌≡◌, ◌≢◌, ◌≤◌, ◌+◌, ◌-◌, ◌^◌, ℕ, List, [], ◌∷◌, ◌++◌, length, Some}
 use Rattle.daq_types.specs.declared.events.Event.{Event}
+use Rattle.event.specs.RunFile.{IsRunFile}
 use Rattle.mid_format.specs.Faults.{run_at}
 use Rattle.mid_format.specs.HasRead.{IsMidFault}
 use Rattle.mid_format.specs.ReadLaws.{IsWholeFile}
@@ -9,7 +10,25 @@ use Rattle.mid_format.specs.declared.faults.MidFault.TheVariants.{Truncated, NoB
 use Rattle.midas_tools.specs.declared.ends.InputFault.{InputFault}
 use Rattle.midas_tools.specs.declared.ends.InputFault.TheVariants.{Mid, Compressed, Missing, ScriptTooLong, OtherRun}
 
--- The bytes are a run file of this run with these events.
+-- In order each file has its events in this sense, and these are the events of all, one file behind the other.
+abbrev pub AreJoined : (HasEvents : List ℕ → List Event → Type 0) (files : List (List ℕ)) (events : List Event) → Type 0
+AreJoined HasEvents [] events = events ≡ []
+AreJoined HasEvents (bytes ∷ files) events = (first : List Event) × (later : List Event) × HasEvents bytes first × AreJoined HasEvents files later × (events ≡ first ++ later)
+
+-- The bytes are those of a run file of this run with these events; of a number that is too large for its field in a header they
+-- have the lower bytes.
+pub record IsRunFileWith (run : ℕ) (bytes : List ℕ) (events : List Event) : Type 0 where
+  pub time0 : ℕ
+  pub dump0 : List ℕ
+  pub time1 : ℕ
+  pub dump1 : List ℕ
+  pub file : IsRunFile bytes run time0 dump0 events time1 dump1
+
+-- Each file is such a run file, and these are the events of all.
+abbrev pub AreRunFilesWith : (run : ℕ) (files : List (List ℕ)) (events : List Event) → Type 0
+AreRunFilesWith run = AreJoined (IsRunFileWith run)
+
+-- The bytes are a run file of this run with these events, and each number fits in its field: so it is of what was read.
 pub record IsPiece (run : ℕ) (bytes : List ℕ) (events : List Event) : Type 0 where
   pub time0 : ℕ
   pub dump0 : List ℕ
@@ -17,10 +36,9 @@ pub record IsPiece (run : ℕ) (bytes : List ℕ) (events : List Event) : Type 0
   pub dump1 : List ℕ
   pub whole : IsWholeFile bytes run time0 dump0 events time1 dump1
 
--- Each file is a run file of this run, and these are the events of all, one file behind the other.
+-- Each file is a run file of this run, and these are the events of all.
 abbrev pub ArePieces : (run : ℕ) (files : List (List ℕ)) (events : List Event) → Type 0
-ArePieces run [] events = events ≡ []
-ArePieces run (bytes ∷ files) events = (first : List Event) × (later : List Event) × IsPiece run bytes first × ArePieces run files later × (events ≡ first ++ later)
+ArePieces run = AreJoined (IsPiece run)
 
 -- how many bytes files have together
 abbrev pub bytes_of : List (List ℕ) → ℕ

@@ -1,5 +1,5 @@
 -- What a tool finds under the names of several files that it reads in order as those of one run, and what it writes of them.
-use Rattle.std.specs.Prelude.{◌≡◌, ◌≢◌, ◌<◌, ℕ, true, false, nat_lt, List, [], ◌∷◌, ◌++◌, length, All, Option, Some, IsTrue, IsSome, IsNone, ⊤}
+use Rattle.std.specs.Prelude.{◌≡◌, ◌≢◌, ◌<◌, ℕ, false, nat_lt, List, [], ◌∷◌, ◌++◌, length, All, Option, IsTrue, IsSome, IsNone, ⊤}
 use Rattle.std.specs.Io.KnownBytes.{Keeps}
 use Rattle.daq_types.specs.Names.{is_compressed}
 use Rattle.daq_types.specs.declared.events.Event.{Event}

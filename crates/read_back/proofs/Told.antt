@@ -1,12 +1,13 @@
 -- What `analyze` prints of a run file of a session is the report of an analyzer that asked for the same events.
-use Rattle.std.proofs.Common.{◌≡◌, ◌∙◌, ℕ, ◌<◌, ◌^◌, List, [], ◌∷◌, ◌++◌, length, All, Option, Some, None, ap, sym, subst, get_or}
+use Rattle.std.proofs.Common.{◌≡◌, ◌∙◌, ℕ, ◌<◌, ◌^◌, List, [], ◌∷◌, ◌++◌, length, All, Option, Some, refl, ap, sym, subst, arith, get_or}
 use Rattle.std.specs.Prelude.{IsTrue, slice_get}
 use Rattle.std.specs.Io.KnownBytes.{Appends}
+use Rattle.std.proofs.lemmas.List.{append-nil}
 use Rattle.std.proofs.lemmas.List.Elements.{All-map, All-filter, All-contains}
 use Rattle.std.proofs.lemmas.Option.{slice_get-get_or, slice_get_within, get_or_from_slice_get}
 use Rattle.daq_types.specs.declared.events.Event.{Event}
 use Rattle.daq_types.specs.declared.runs.RunState.TheVariants.{Stopped}
-use Rattle.daq_io.specs.Seen.{Seen, Stored, stored_closed}
+use Rattle.daq_io.specs.Seen.{Seen, stored_closed}
 use Rattle.event.specs.Events.{matches}
 use Rattle.event.specs.RunFile.{IsRunFile}
 use Rattle.turn_lock.specs.Closing.{history_of}
@@ -33,9 +34,9 @@ use Rattle.session_objects.specs.declared.record.BufferRecord.{BufferRecord}
 use Rattle.session_objects.specs.declared.record.SessionRecord.{SessionRecord}
 use Rattle.session_laws.specs.ClosedSessions.{ClosedSession}
 use Rattle.daq_session.specs.ToldRecords.{IsFileOfRun, IsFrontEvent, RunTells, events_of_run}
-use Rattle.midas_tools.specs.Analyses.{Analyzes, analysis_text}
-use Rattle.midas_tools.specs.Findings.{IsThere, Writes}
-use Rattle.midas_tools.specs.Together.{WritesTogether}
+use Rattle.midas_tools.specs.Analyses.{analysis_text}
+use Rattle.midas_tools.specs.Pieces.{AreRunFilesWith, bytes_of}
+use Rattle.midas_tools.specs.Together.{HaveBytes, TellsRun, WritesTogether}
 use Rattle.midas_tools.specs.Texts.{run_number_line}
 use Rattle.midas_tools.specs.declared.ends.ToolEnd.{ToolEnd}
 use Rattle.midas_tools.specs.declared.ends.ToolEnd.TheVariants.{Done}
@@ -44,23 +45,15 @@ use Rattle.read_back.proofs.Alike.{one_channel, made_id, id_small, run_small}
 
 -- the law of what `analyze` prints
 abbrev pub AnalysisPrinted : Type 0
-AnalysisPrinted = (bytes : List ℕ) → (run time0 : ℕ) → (dump0 : List ℕ) → (events : List Event) → (time1 : ℕ) → (dump1 text : List ℕ)
-    → IsRunFile bytes run time0 dump0 events time1 dump1 → run < 2 ^ 32 → All (λ e. e.id < 2 ^ 16) events → Analyzes bytes None text
-    → text ≡ analysis_text run events (length bytes)
-
--- the law that one file is read as one
-abbrev pub OneFileWritten : Type 0
-OneFileWritten = (seen : Seen) → (name : List ℕ) → (told_old told_new : Option (List ℕ)) → (end : ToolEnd)
-    → WritesTogether analysis_text seen (name ∷ []) told_old told_new end → Writes Analyzes seen name told_old told_new end
+AnalysisPrinted = (seen : Seen) → (names files : List (List ℕ)) → (run : ℕ) → (events : List Event) → (text : List ℕ)
+    → HaveBytes seen names files → 0 < length files → AreRunFilesWith run files events → run < 2 ^ 32 → All (λ e. e.id < 2 ^ 16) events
+    → TellsRun analysis_text seen names text → text ≡ analysis_text run events (bytes_of files)
 
 abbrev HasShortId : Event → Type 0
 HasShortId e = e.id < 2 ^ 16
 
 one_buffer : (a b : BufferRecord) → Some a ≡ Some b → a ≡ b
 one_buffer a b same = cc
-
-same_bytes : (file : Stored) (bytes : List ℕ) → Some file ≡ Some (stored_closed bytes) → file.bytes ≡ bytes
-same_bytes file bytes same = let one : file ≡ stored_closed bytes = cc in ap (λ (s : Stored). s.bytes) one
 
 module _ (c : ClosedSession) (moments : (client : ℕ) → List ℕ) (own : MainOwn) (declared : Declared) (buffers : List BufferRecord) (first now : RunFiles) (run : RunRecord)
     (sound : AreSound declared) (tells : RunTells c moments own declared buffers first now run) where
@@ -83,7 +76,7 @@ module _ (c : ClosedSession) (moments : (client : ℕ) → List ℕ) (own : Main
       (All-filter (λ (at : ℕ × Sent). matches channel.id channel.mask at.1.event) (λ (at : ℕ × Sent). HasShortId at.1.event) whole
       (λ k d inside. event_small channel.buffer b k (get_or whole k d) there (slice_get-get_or whole k d inside)))
 
-  module _ (prints : AnalysisPrinted) (one : OneFileWritten) (file : FileRecord) (report : Totals) (has : HasFileAndReport declared buffers c.engine run file report) where
+  module _ (prints : AnalysisPrinted) (file : FileRecord) (report : Totals) (has : HasFileAndReport declared buffers c.engine run file report) where
     last : (dump : List ℕ) × IsFileOfRun declared buffers c.files run tells.so.fits.start.dump dump file
     last = let its = tells.files has.index file has.file_at has.ended in (its.0, its.2)
 
@@ -110,27 +103,34 @@ module _ (c : ClosedSession) (moments : (client : ℕ) → List ℕ) (own : Main
     same_report : report_of (events_of_run its_file.of.channel its_file.of.buffer run.start) ≡ report
     same_report = ap report_of (sym same_events) ∙ sym has.counted.counts.told.report_is ∙ has.report_is
 
-    text_is : (bytes text : List ℕ) → bytes ≡ its_file.bytes → Analyzes bytes None text → text ≡ run_number_line run.run ++ report_text [] report
-    text_is bytes text same says =
-        let printed : text ≡ analysis_text run.run (events_of_run its_file.of.channel its_file.of.buffer run.start) (length its_file.bytes) =
-        prints its_file.bytes run.run run.time0 tells.so.fits.start.dump (events_of_run its_file.of.channel its_file.of.buffer run.start) run.time1 last.0 text its_file.are
-        (run_small (have_of tells.so.fits.start.are.got) run.run tells.so.fits.start.are.number) (all_small its_file.of.channel its_file.of.buffer its_file.of.there) (subst (λ (b : List ℕ). Analyzes b None text) same says) in
-        printed ∙ ap (λ (t : Totals). run_number_line run.run ++ report_text [] t) same_report
+    -- the file is there, alone
+    has_bytes : (seen : Seen) → IsTrue c.files.tells → seen.at file.name ≡ c.files.at file.name → HaveBytes seen (file.name ∷ []) (its_file.bytes ∷ [])
+    has_bytes seen files_tell at = (record { file = stored_closed its_file.bytes; at_is = at ∙ its_file.stored.holds files_tell; fact = refl }, tt)
 
-    written : (seen : Seen) (told_old told_new : Option (List ℕ)) → IsTrue c.files.tells → IsTrue seen.tells → seen.at file.name ≡ c.files.at file.name
+    abbrev its_events : List Event
+    its_events = events_of_run its_file.of.channel its_file.of.buffer run.start
+
+    -- and is a run file of all events
+    has_events : AreRunFilesWith run.run (its_file.bytes ∷ []) its_events
+    has_events = (its_events, [], record { time0 = run.time0; dump0 = tells.so.fits.start.dump; time1 = run.time1; dump1 = last.0; file = its_file.are }, refl, sym (append-nil its_events))
+
+    text_is : (seen : Seen) (text : List ℕ) → IsTrue c.files.tells → seen.at file.name ≡ c.files.at file.name → TellsRun analysis_text seen (file.name ∷ []) text → text ≡ run_number_line run.run ++ report_text [] report
+    text_is seen text files_tell at tells_run =
+        prints seen (file.name ∷ []) (its_file.bytes ∷ []) run.run its_events text (has_bytes seen files_tell at) (omega arith) has_events
+        (run_small (have_of tells.so.fits.start.are.got) run.run tells.so.fits.start.are.number) (all_small its_file.of.channel its_file.of.buffer its_file.of.there) tells_run
+        ∙ ap (λ (t : Totals). run_number_line run.run ++ report_text [] t) same_report
+
+    written : (seen : Seen) (told_old told_new : Option (List ℕ)) → IsTrue c.files.tells → IsTrue seen.tells → All (λ name. seen.at name ≡ c.files.at name) (file.name ∷ [])
         → WritesTogether analysis_text seen (file.name ∷ []) told_old told_new Done → Appends told_old told_new (run_number_line run.run ++ report_text [] report)
-    written seen told_old told_new files_tell tell at together =
-        let wrote : Writes Analyzes seen file.name told_old told_new Done = one seen file.name told_old told_new Done together in
-        let there : IsThere seen file.name (λ bytes. Analyzes bytes None wrote.text) = wrote.finds.1 tell in
-        let same : there.file.bytes ≡ its_file.bytes = same_bytes there.file its_file.bytes (sym there.at_is ∙ at ∙ its_file.stored.holds files_tell) in
-        subst (λ (t : List ℕ). Appends told_old told_new t) (text_is there.file.bytes wrote.text same there.fact) wrote.written
+    written seen told_old told_new files_tell tell at wrote =
+        subst (λ (t : List ℕ). Appends told_old told_new t) (text_is seen wrote.text files_tell (at 0 file.name (omega arith)) (wrote.finds.1 tell)) wrote.written
 
-    prints_report : PrintsReport c.files file.name run.run report
+    prints_report : PrintsReport c.files (file.name ∷ []) run.run report
     prints_report seen told_old told_new end files_tell tell at wrote done =
         written seen told_old told_new files_tell tell at (subst (λ (e : ToolEnd). WritesTogether analysis_text seen (file.name ∷ []) told_old told_new e) done wrote)
 
-pub reports_back : AnalysisPrinted → OneFileWritten → ReportsReadBack
-reports_back prints one = λ c moments own declared buffers first now run sound tells file report has. prints_report c moments own declared buffers first now run sound tells prints one file report has
+pub reports_back : AnalysisPrinted → ReportsReadBack
+reports_back prints = λ c moments own declared buffers first now run sound tells file report has. prints_report c moments own declared buffers first now run sound tells prints file report has
 
 pub session_back : {D F : Type 0} {g : _} (told : MemberTold Generator F) (r : SessionRecord D g) → ReportsReadBack → SessionReadsBack told r
 session_back told r back = λ first_files final run_files kept number run at came file report has.

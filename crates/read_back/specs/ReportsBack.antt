@@ -1,5 +1,5 @@
 -- A run file and a report of one run that came about in a session: what `analyze` prints of the one is the other.
-use Rattle.std.specs.Prelude.{◌≡◌, ℕ, suc, ◌+◌, ◌∷◌, ◌++◌, IsTrue, List, [], length, slice_get, Contains, Option, Some}
+use Rattle.std.specs.Prelude.{◌≡◌, ℕ, suc, ◌+◌, ◌∷◌, ◌++◌, IsTrue, List, [], length, All, slice_get, Contains, Option, Some}
 use Rattle.std.specs.Io.KnownBytes.{Appends}
 use Rattle.daq_types.specs.Callers.{caller_of_client}
 use Rattle.daq_types.specs.declared.runs.ChannelState.TheVariants.{Ended}
@@ -62,12 +62,12 @@ pub record HasFileAndReport (declared : Declared) (buffers : List BufferRecord) 
   pub counted : IsCountedInRun (seat_client declared place) analyzer buffers engine run.start tally
   pub through : SawThrough (history_of counted.buffer.closed) (caller_of_client (seat_client declared place)) counted.counts.told
 
--- A call of `analyze` with this name that ends well writes the number of the run and this report, and nothing else: on any files
--- that tell the name's file, which is that of these run files, told too.
-abbrev pub PrintsReport : (files : Seen) (name : List ℕ) (run : ℕ) (report : Totals) → Type 0
-PrintsReport files name run report = (seen : Seen) → (told_old told_new : Option (List ℕ)) → (end : ToolEnd) →
-    IsTrue files.tells → IsTrue seen.tells → seen.at name ≡ files.at name →
-    WritesTogether analysis_text seen (name ∷ []) told_old told_new end → end ≡ Done →
+-- A call of `analyze` with these names that ends well writes the number of the run and this report, and nothing else: on any
+-- files that tell the names' files, which are those of these run files, told too.
+abbrev pub PrintsReport : (files : Seen) (names : List (List ℕ)) (run : ℕ) (report : Totals) → Type 0
+PrintsReport files names run report = (seen : Seen) → (told_old told_new : Option (List ℕ)) → (end : ToolEnd) →
+    IsTrue files.tells → IsTrue seen.tells → All (λ name. seen.at name ≡ files.at name) names →
+    WritesTogether analysis_text seen names told_old told_new end → end ≡ Done →
     Appends told_old told_new (run_number_line run ++ report_text [] report)
 
 -- Where the declarations are sound and all is so that is told of a run: the file and the report of one request agree.
@@ -75,7 +75,7 @@ abbrev pub ReportsReadBack : Type 0
 ReportsReadBack = (c : ClosedSession) → (moments : (client : ℕ) → List ℕ) → (own : MainOwn) → (declared : Declared) →
     (buffers : List BufferRecord) → (first now : RunFiles) → (run : RunRecord) → AreSound declared →
     RunTells c moments own declared buffers first now run → (file : FileRecord) → (report : Totals) →
-    HasFileAndReport declared buffers c.engine run file report → PrintsReport c.files file.name run.run report
+    HasFileAndReport declared buffers c.engine run file report → PrintsReport c.files (file.name ∷ []) run.run report
 
 -- So it is with each run that came about of a session of which this record is kept.
 abbrev pub SessionReadsBack : {D F : Type 0} {g : _} → MemberTold Generator F → SessionRecord D g → Type 0
@@ -83,4 +83,4 @@ SessionReadsBack {D} {F} told r = (first_files : F) → (final : SessionStage) �
     KeepsSession told first_files final run_files r → (number : ℕ) → (run : RunRecord) →
     slice_get r.runs number ≡ Some run → run.outcome ≡ Completed → (file : FileRecord) → (report : Totals) →
     HasFileAndReport final.declared r.buffers (history_of r.engine) run file report →
-    PrintsReport (told.seen run_files) file.name run.run report
+    PrintsReport (told.seen run_files) (file.name ∷ []) run.run report

@@ -4,7 +4,7 @@ ghost use Rattle.session_objects.specs.Members.{generator_makes, generator_takes
 ghost use Rattle.read_back.specs.ReportsBack.{ReportsReadBack, SessionReadsBack};
 
 use daq_io::{Files, Pick};
-use midas_tools::laws::{analysis_printed, one_file};
+use midas_tools::laws::analysis_printed;
 use odb_lock::{LockedDatabase, WatchedSeen};
 use odb_tree::Database;
 use odb_watch::WatchEntry;
@@ -17,7 +17,6 @@ pub fn reports_read_back()
     ensures { ReportsReadBack }
 {
     analysis_printed();
-    one_file();
 }
 
 /// So it is with each run that came about of a session of which a record is kept, and with its run files as the session left them.

@@ -1,10 +1,8 @@
-use Rattle.std.proofs.Common.{◌≡◌, ◌≢◌, ◌∙◌, ◌≤◌, ◌+◌, List, ℕ, [], take, get_or, refl, rules, arith, sym, subst}
-use Rattle.daq_types.specs.declared.events.Event.{Event}
+use Rattle.std.proofs.Common.{◌∙◌, ◌≤◌, List, ℕ, refl, rules, arith, sym, subst}
 use Rattle.daq_io.proofs.SeenLaws.{Same-trans}
-use Rattle.midas_tools.specs.Findings.{ClashCounts, FilesByEnd}
-use Rattle.midas_tools.specs.Gathering.{GathersTo, ReadsName}
+use Rattle.midas_tools.specs.Findings.{FilesByEnd}
+use Rattle.midas_tools.specs.Gathering.{ReadsName}
 use Rattle.midas_tools.specs.declared.ends.ToolEnd.{ToolEnd}
-use Rattle.midas_tools.specs.declared.ends.ToolEnd.TheVariants.{Done}
 use Rattle.midas_tools.proofs.Gathered.{clash_first, gathered_none, goes_on, name_at, reads_too, stops_at}
 use Rattle.midas_tools.proofs.gathering.gather_all.Goals as goal
 

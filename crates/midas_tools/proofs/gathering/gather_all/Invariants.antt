@@ -1,5 +1,5 @@
 -- The files up to here were gathered, and no call on them failed.
-use Rattle.std.proofs.Common.{◌≡◌, ◌≤◌, ◌<◌, take}
+use Rattle.std.proofs.Common.{◌≡◌, ◌≤◌, take}
 use Rattle.daq_io.specs.Seen.{Same}
 use Rattle.event.specs.Events.{event_limit}
 use Rattle.midas_tools.specs.Gathering.{GathersAll}

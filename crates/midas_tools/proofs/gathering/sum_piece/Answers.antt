@@ -1,8 +1,7 @@
-use Rattle.std.proofs.Common.{◌≡◌, ◌∙◌, ◌≤◌, ◌^◌, Bool, true, false, not, Option, Some, None, refl, rules, ap, sym, subst, ℕ, IfSome}
-use Rattle.std.specs.Prelude.{is_some}
+use Rattle.std.proofs.Common.{◌∙◌, ◌≤◌, not, Option, Some, None, refl, rules, ap, sym, subst, ℕ, IfSome}
 use Rattle.midas_tools.specs.Gathering.{EndsAtFault, ReadsPiece, extent_behind}
 use Rattle.midas_tools.specs.declared.ends.ToolEnd.{ToolEnd}
-use Rattle.midas_tools.proofs.Summing.{fault_piece, other_by, piece_done, piece_other, sums_more, sums_none, takes_so_far}
+use Rattle.midas_tools.proofs.Summing.{fault_piece, other_by, piece_done, piece_other, sums_more, sums_none}
 use Rattle.midas_tools.proofs.gathering.sum_piece.Goals as goal
 
 pub events-init : goal.events-init

@@ -1,10 +1,8 @@
-use Rattle.std.proofs.Common.{◌≡◌, ◌≢◌, ◌∙◌, ◌≤◌, ℕ, List, [], get_or, length, nat_lt, refl, arith, subst}
+use Rattle.std.proofs.Common.{◌≡◌, ℕ, List, length, nat_lt, refl, arith, subst}
 use Rattle.daq_types.specs.declared.events.Event.{Event}
 use Rattle.midas_tools.specs.Findings.{ClashCounts, FilesByEnd, call_counts}
-use Rattle.midas_tools.specs.Gathering.{GathersAll, GathersTo, LooksFor, no_extent}
-use Rattle.midas_tools.specs.declared.ends.InputFault.{InputFault}
+use Rattle.midas_tools.specs.Gathering.{GathersTo, LooksFor, no_extent}
 use Rattle.midas_tools.specs.declared.ends.ToolEnd.{ToolEnd}
-use Rattle.midas_tools.specs.declared.ends.ToolEnd.TheVariants.{Done, SinkFault}
 use Rattle.midas_tools.proofs.Gathered.{name_at}
 use Rattle.midas_tools.proofs.Told.{by_all, by_stop, ends_together, files_cut, looks_to, sink_all, sink_stop, writes_all, writes_stop}
 use Rattle.midas_tools.proofs.telling.tell_files.Goals as goal

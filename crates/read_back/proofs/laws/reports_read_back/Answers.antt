@@ -1,6 +1,5 @@
-use Rattle.midas_tools.specs.Analyses.{analysis_text}
 use Rattle.read_back.proofs.Told.{reports_back}
 use Rattle.read_back.proofs.laws.reports_read_back.Goals as goal
 
 pub returns : goal.returns
-returns c = reports_back c.analysis_printed.ensures (c.one_file.ensures analysis_text)
+returns c = reports_back c.analysis_printed.ensures
