@@ -9,7 +9,7 @@ use Rattle.daq_io.specs.Counts.{Rose}
 use Rattle.daq_io.specs.Seen.{KeepsFiles, Seen, Stored}
 use Rattle.daq_io.specs.FileLeft.{told_left}
 use Rattle.midas_tools.specs.Pieces.{IsPiece, IsPieceFault}
-use Rattle.midas_tools.specs.Together.{ArePlain, HaveBytes, HoldsFault, HoldsRun, IsWrong, OfFirst}
+use Rattle.midas_tools.specs.Together.{ArePlain, HaveBytes, HoldsFault, HaveOneRun, IsWrong, OfFirst}
 use Rattle.midas_tools.specs.Findings.{IsThere, IsFileOpened, RefusesFile, ClosesWell, ClosedAs, ClashCounts, FilesByEnd, SourceByEnd}
 use Rattle.midas_tools.specs.Gathering.{AreGathered, EndsRefused, GathersAll, GathersTo, IsWrongBehind, LooksFor, OfName, ReadsName, ReadsPiece, TakesPiece, no_extent}
 use Rattle.midas_tools.specs.declared.extents.Extent.{Extent}
@@ -157,7 +157,7 @@ module _ (Old New : List Event → Type 0) (seen : Seen) (names : List (List ℕ
             };
       }
 
-  abbrev holds_by : IsTrue seen.tells → (run : ℕ) → IfSome old.run (λ other. run ≡ other) → HoldsRun seen names
+  abbrev holds_by : IsTrue seen.tells → (run : ℕ) → IfSome old.run (λ other. run ≡ other) → HaveOneRun seen names
   holds_by tells run same =
       let a : AreGathered seen names g.run g.gathered.events old.bytes = g.told tells in
       record {
@@ -171,7 +171,7 @@ module _ (Old New : List Event → Type 0) (seen : Seen) (names : List (List ℕ
         };
       }
 
-  abbrev pub holds_run : IsTrue seen.tells → HoldsRun seen names
+  abbrev pub holds_run : IsTrue seen.tells → HaveOneRun seen names
   holds_run tells =
       let a : AreGathered seen names g.run g.gathered.events old.bytes = g.told tells in
       record { files = a.files; have = a.have; run = g.run; events = g.gathered.events; are = record { pieces = a.pieces; counted = omega (arith, a.size_is, g.gathered.within) } }
@@ -270,7 +270,7 @@ pub first_all : (Taken : List Event → Type 0) (seen : Seen) (names : List (Lis
 first_all Taken seen [] extent some g = absurd (omega (arith, some))
 first_all Taken seen (name ∷ names) extent some g = (g.plain 0 name (omega arith), λ tells. first_have seen name names (g.told tells).files (g.told tells).have)
 
-pub no_run : (seen : Seen) → HoldsRun seen []
+pub no_run : (seen : Seen) → HaveOneRun seen []
 no_run seen = record { files = []; have = tt; run = 0; events = []; are = record { pieces = refl; counted = omega arith } }
 
 any_default : (names : List (List ℕ)) (at : ℕ) (d e : List ℕ) → at < length names → get_or names at d ≡ get_or names at e

@@ -1,6 +1,7 @@
 mod Types
 mod Summing
 mod Pieces
+mod OneWrong
 mod Gathered
 mod Told
 mod Ending

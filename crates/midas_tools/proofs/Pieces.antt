@@ -43,7 +43,7 @@ abbrev file_or : Stored → Option Stored → Stored
 file_or file None = file
 file_or file (Some other) = other
 
-same_file : (a b : Stored) → Some a ≡ Some b → a ≡ b
+pub same_file : (a b : Stored) → Some a ≡ Some b → a ≡ b
 same_file a b e = ap (file_or a) e
 
 one_there : (seen : Seen) (name : List ℕ) (a b : List ℕ) → IsThere seen name (λ found. found ≡ a) → IsThere seen name (λ found. found ≡ b) → a ≡ b
@@ -92,12 +92,12 @@ bytes_parts [] bytes back = omega arith
 bytes_parts (first ∷ front) bytes back = omega (arith, bytes_parts front bytes back)
 
 -- files that are pieces are those of one run
-one_run : (run other : ℕ) (files : List (List ℕ)) (events events' : List Event) → 0 < length files → ArePieces run files events → ArePieces other files events' → run ≡ other
+pub one_run : (run other : ℕ) (files : List (List ℕ)) (events events' : List Event) → 0 < length files → ArePieces run files events → ArePieces other files events' → run ≡ other
 one_run run other [] events events' some p q = absurd (omega (arith, some))
 one_run run other (bytes ∷ files) events events' some p q =
     (one_whole bytes run p.2.time0 p.2.dump0 p.0 p.2.time1 p.2.dump1 other q.2.time0 q.2.dump0 q.0 q.2.time1 q.2.dump1 p.2.whole q.2.whole).run_is
 
-have_length : (seen : Seen) (names files : List (List ℕ)) → HaveBytes seen names files → length names ≡ length files
+pub have_length : (seen : Seen) (names files : List (List ℕ)) → HaveBytes seen names files → length names ≡ length files
 have_length seen [] [] h = refl
 have_length seen [] (x ∷ files) h = absurd h
 have_length seen (name ∷ names) [] h = absurd h
@@ -156,7 +156,7 @@ module _ (seen : Seen) (before : List (List ℕ)) (name : List ℕ) (run : ℕ) 
   pub no_other_run : (file found : ℕ) → 0 < length before → HoldsFault seen before name (OtherRun file found) → ⊥
   no_other_run file found some w = no_other w.holds.run w.holds.events (its_pieces (OtherRun file found) w) file found some (its_fault (OtherRun file found) w)
 
-no_wrong : (seen : Seen) (before : List (List ℕ)) (name : List ℕ) (fault : InputFault) (behind : List (List ℕ)) → AreSoundTogether seen (before ++ name ∷ behind) → IsWrong seen before name fault → ⊥
+pub no_wrong : (seen : Seen) (before : List (List ℕ)) (name : List ℕ) (fault : InputFault) (behind : List (List ℕ)) → AreSoundTogether seen (before ++ name ∷ behind) → IsWrong seen before name fault → ⊥
 no_wrong seen before name (Mid f) behind sound w =
     no_own_fault seen before name sound.holds.run sound.holds.files sound.holds.events sound.holds.are (have_parts seen before name behind sound.holds.files sound.holds.have) f (w.2 sound.tells)
 no_wrong seen before name Compressed behind sound w = let clash : true ≡ false = sym w.0 ∙ plain_at before name behind sound.plain in absurd cc

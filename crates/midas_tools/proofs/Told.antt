@@ -1,13 +1,13 @@
 -- How what was gathered and printed makes the end of a tool that reads several files.
 use Rattle.std.proofs.Common.{◌≡◌, ◌≢◌, ◌∙◌, ℕ, ◌+◌, ◌<◌, List, [], ◌∷◌, length, take, drop, get_or, Option, Bool, nat_lt, inl, inr, refl, ap, sym, subst, arith}
-use Rattle.std.specs.Prelude.{IsTrue, IsSome, false, unwrap_or}
+use Rattle.std.specs.Prelude.{IsTrue, IsSome, false, unwrap_or, ⊤}
 use Rattle.std.proofs.lemmas.List.Elements.{All-nil}
 use Rattle.daq_types.specs.Names.{is_compressed}
 use Rattle.daq_types.specs.declared.events.Event.{Event}
 use Rattle.daq_io.specs.Seen.{Seen}
 use Rattle.midas_tools.specs.Texts.{bad_file_line}
-use Rattle.midas_tools.specs.Together.{AreSoundTogether, EndsTogether, FindsTogether, OfFirst, TellsRun, WritesTogether}
-use Rattle.midas_tools.specs.Findings.{CallCounts, ClashCounts, Completes, FilesByEnd, Printed, SinkByEnd, WritesAll}
+use Rattle.midas_tools.specs.Together.{AreSoundTogether, EndsBy, FindsTogether, FindsWrong, IsFirstWrong, OfFirst, TellsRun, WritesTogether}
+use Rattle.midas_tools.specs.Findings.{CallCounts, ClashCounts, ComesTo, FilesByEnd, Printed, SinkByEnd, WritesAll}
 use Rattle.midas_tools.specs.Gathering.{GathersAll, GathersTo, LooksFor, SaysStop, TellsEnd}
 use Rattle.midas_tools.specs.declared.extents.Extent.{Extent}
 use Rattle.midas_tools.specs.declared.ends.InputFault.{InputFault}
@@ -15,6 +15,7 @@ use Rattle.midas_tools.specs.declared.ends.InputFault.TheVariants.{Mid, Compress
 use Rattle.midas_tools.specs.declared.ends.ToolEnd.{ToolEnd}
 use Rattle.midas_tools.specs.declared.ends.ToolEnd.TheVariants.{Done, Input, FileFault, SinkFault, NoMemory}
 use Rattle.midas_tools.proofs.Pieces.{finds_none}
+use Rattle.midas_tools.proofs.OneWrong.{first_one}
 use Rattle.midas_tools.proofs.Gathered.{first_all, holds_run, no_run, split_at}
 
 -- What was written
@@ -121,17 +122,44 @@ module _ (By : ToolEnd → Type 0) (told_old told_new : Option (List ℕ)) (sink
 pub files_cut : (old new : ℕ) (end : ToolEnd) (fault : InputFault) → FilesByEnd end old new → end ≡ Input fault → FilesByEnd SinkFault old new
 files_cut old new end fault by is = let same : new ≡ old = subst (λ (e : ToolEnd). FilesByEnd e old new) is by in omega (arith, same)
 
--- Completeness
+-- Causes
 
-completes_by : (Text : ℕ → List Event → ℕ → List ℕ) (seen : Seen) (names : List (List ℕ)) (told_old told_new : Option (List ℕ)) (counts : CallCounts) (end : ToolEnd) → WritesTogether Text seen names told_old told_new end
-    → SinkByEnd end counts.sink_old counts.sink_new → FilesByEnd end counts.files_old counts.files_new
-    → Completes (AreSoundTogether seen names) counts.sink_old counts.sink_new counts.files_old counts.files_new end
-completes_by Text seen names told_old told_new counts Done w s f = λ h calm_sink calm_files. inl refl
-completes_by Text seen names told_old told_new counts (Input fault) w s f = λ h calm_sink calm_files. absurd (finds_none seen names fault w.text h w.finds)
-completes_by Text seen names told_old told_new counts FileFault w s f = λ h calm_sink calm_files. absurd (calm_files f)
-completes_by Text seen names told_old told_new counts SinkFault w s f = λ h calm_sink calm_files. absurd (calm_sink s)
-completes_by Text seen names told_old told_new counts NoMemory w s f = λ h calm_sink calm_files. inr refl
+-- what was found, by the end that this leads to where no call failed and there was memory
+abbrev pub FoundAs : Seen → (names : List (List ℕ)) → ToolEnd → Type 0
+FoundAs seen names Done = IsTrue seen.tells → AreSoundTogether seen names
+FoundAs seen names (Input fault) = (text : List ℕ) × FindsWrong seen names fault text
+FoundAs seen names FileFault = ⊤
+FoundAs seen names SinkFault = ⊤
+FoundAs seen names NoMemory = ⊤
+
+module _ (seen : Seen) (names : List (List ℕ)) (counts : CallCounts) where
+  completes_by : (end : ToolEnd) → FoundAs seen names end → SinkByEnd end counts.sink_old counts.sink_new → FilesByEnd end counts.files_old counts.files_new
+      → ComesTo (AreSoundTogether seen names) Done counts.sink_old counts.sink_new counts.files_old counts.files_new end
+  completes_by Done found s f = λ h calm_sink calm_files. inl refl
+  completes_by (Input fault) found s f = λ h calm_sink calm_files. absurd (finds_none seen names fault found.0 h found.1)
+  completes_by FileFault found s f = λ h calm_sink calm_files. absurd (calm_files f)
+  completes_by SinkFault found s f = λ h calm_sink calm_files. absurd (calm_sink s)
+  completes_by NoMemory found s f = λ h calm_sink calm_files. inr refl
+
+  faulty_by : (fault : InputFault) (end : ToolEnd) → FoundAs seen names end → SinkByEnd end counts.sink_old counts.sink_new → FilesByEnd end counts.files_old counts.files_new
+      → ComesTo (IsFirstWrong seen names fault) (Input fault) counts.sink_old counts.sink_new counts.files_old counts.files_new end
+  faulty_by fault Done found s f = λ h calm_sink calm_files. absurd (finds_none seen names fault h.text (found h.tells) h.wrong)
+  faulty_by fault (Input other) found s f = λ h calm_sink calm_files. inl (ap Input (first_one seen names h.tells other fault found.0 h.text found.1 h.wrong))
+  faulty_by fault FileFault found s f = λ h calm_sink calm_files. absurd (calm_files f)
+  faulty_by fault SinkFault found s f = λ h calm_sink calm_files. absurd (calm_sink s)
+  faulty_by fault NoMemory found s f = λ h calm_sink calm_files. inr refl
+
+  pub ends_by : (end : ToolEnd) → FoundAs seen names end → SinkByEnd end counts.sink_old counts.sink_new → FilesByEnd end counts.files_old counts.files_new
+      → (length names ≡ 1 → ClashCounts end counts.clashes_old counts.clashes_new) → EndsBy end seen names counts
+  ends_by end found s f c = record { sink = s; files = f; completes = completes_by end found s f; faulty = λ fault. faulty_by fault end found s f; clashes = c }
+
+found_as : (Text : ℕ → List Event → ℕ → List ℕ) (seen : Seen) (names : List (List ℕ)) (told_old told_new : Option (List ℕ)) (end : ToolEnd) → WritesTogether Text seen names told_old told_new end → FoundAs seen names end
+found_as Text seen names told_old told_new Done w = λ tells. record { plain = w.finds.0; tells = tells; holds = (w.finds.1 tells).holds }
+found_as Text seen names told_old told_new (Input fault) w = (w.text, w.finds)
+found_as Text seen names told_old told_new FileFault w = tt
+found_as Text seen names told_old told_new SinkFault w = tt
+found_as Text seen names told_old told_new NoMemory w = tt
 
 pub ends_together : (Text : ℕ → List Event → ℕ → List ℕ) (seen : Seen) (names : List (List ℕ)) (told_old told_new : Option (List ℕ)) (counts : CallCounts) (end : ToolEnd) → WritesTogether Text seen names told_old told_new end
-    → SinkByEnd end counts.sink_old counts.sink_new → FilesByEnd end counts.files_old counts.files_new → (length names ≡ 1 → ClashCounts end counts.clashes_old counts.clashes_new) → EndsTogether end seen names counts
-ends_together Text seen names told_old told_new counts end w s f c = record { sink = s; files = f; completes = completes_by Text seen names told_old told_new counts end w s f; clashes = c }
+    → SinkByEnd end counts.sink_old counts.sink_new → FilesByEnd end counts.files_old counts.files_new → (length names ≡ 1 → ClashCounts end counts.clashes_old counts.clashes_new) → EndsBy end seen names counts
+ends_together Text seen names told_old told_new counts end w s f c = ends_by seen names counts end (found_as Text seen names told_old told_new end w) s f c

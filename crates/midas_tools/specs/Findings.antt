@@ -5,8 +5,6 @@ use Rattle.daq_types.specs.Names.{is_compressed}
 use Rattle.daq_io.specs.Counts.{Rose, RoseBy}
 use Rattle.daq_io.specs.Seen.{Stored, Seen, Opens}
 use Rattle.daq_io.specs.Streams.{AppendsPart}
-use Rattle.daq_types.specs.declared.events.Event.{Event}
-use Rattle.mid_format.specs.ReadLaws.{IsWholeFile}
 use Rattle.mid_format.specs.declared.faults.MidFault.{MidFault}
 use Rattle.mid_format.specs.declared.faults.MidFault.TheVariants.{ReadFault}
 use Rattle.midas_tools.specs.Texts.{bad_line}
@@ -22,26 +20,10 @@ pub record IsThere (seen : Seen) (name : List ℕ) (Fact : List ℕ → Type 0) 
   pub at_is : seen.at name ≡ Some file
   pub fact : Fact file.bytes
 
--- The bytes are a run file.
-pub record IsRun (bytes : List ℕ) : Type 0 where
-  pub run : ℕ
-  pub time0 : ℕ
-  pub dump0 : List ℕ
-  pub events : List Event
-  pub time1 : ℕ
-  pub dump1 : List ℕ
-  pub whole : IsWholeFile bytes run time0 dump0 events time1 dump1
-
--- There is a file of this name that is a run file, and the name is not compressed.
-pub record HasRun (seen : Seen) (name : List ℕ) : Type 0 where
-  pub plain : is_compressed name ≡ false
-  pub tells : IsTrue seen.tells
-  pub there : IsThere seen name IsRun
-
--- What is sound leads to the end `Done`, unless a call failed or there was no memory.
-abbrev pub Completes : (Sound : Type 0) (sink_old sink_new files_old files_new : ℕ) → ToolEnd → Type 0
-Completes Sound sink_old sink_new files_old files_new end =
-    Sound → ¬ Rose sink_old sink_new → ¬ Rose files_old files_new → (end ≡ Done) ⊎ (end ≡ NoMemory)
+-- Where this is so it leads to this end, unless a call failed or there was no memory.
+abbrev pub ComesTo : (Fact : Type 0) (wanted : ToolEnd) (sink_old sink_new files_old files_new : ℕ) → ToolEnd → Type 0
+ComesTo Fact wanted sink_old sink_new files_old files_new end =
+    Fact → ¬ Rose sink_old sink_new → ¬ Rose files_old files_new → (end ≡ wanted) ⊎ (end ≡ NoMemory)
 
 -- What a tool finds that reads one file, and its text: `Says bytes fault text` says that the tool prints this text of a file of
 -- these bytes, which is a run file, or has this fault first. A compressed name is not looked for, and a missing one is not opened.
@@ -121,14 +103,6 @@ call_counts sink_faults faults clashes bytes_read out_old out_new files_old file
   read_old = bytes_read files_old;
   read_new = bytes_read files_new;
 }
-
--- The end of a tool comes by its cause: a fault exactly where its count rose and no earlier cause holds, a missing file with
--- a clash, and of what is sound `Done`, unless a call failed or there was no memory.
-pub record EndsBy (end : ToolEnd) (Sound : Type 0) (counts : CallCounts) : Type 0 where
-  pub sink : SinkByEnd end counts.sink_old counts.sink_new
-  pub files : FilesByEnd end counts.files_old counts.files_new
-  pub completes : Completes Sound counts.sink_old counts.sink_new counts.files_old counts.files_new end
-  pub clashes : ClashCounts end counts.clashes_old counts.clashes_new
 
 -- the source's count of faults by that end
 abbrev pub SourceByEnd : ToolEnd → (old new : ℕ) → Type 0

@@ -7,7 +7,7 @@ use Rattle.daq_io.specs.Seen.{Seen}
 use Rattle.mid_format.specs.declared.faults.MidFault.TheVariants.{ReadFault}
 use Rattle.midas_tools.specs.Texts.{bad_file_line}
 use Rattle.midas_tools.specs.Pieces.{AreOneRun, IsPieceFault, bytes_of}
-use Rattle.midas_tools.specs.Findings.{IsThere, WritesAll, WritesPart, ClashCounts, SinkByEnd, FilesByEnd, Completes, CallCounts}
+use Rattle.midas_tools.specs.Findings.{IsThere, WritesAll, WritesPart, ClashCounts, SinkByEnd, FilesByEnd, ComesTo, CallCounts}
 use Rattle.midas_tools.specs.declared.ends.InputFault.{InputFault}
 use Rattle.midas_tools.specs.declared.ends.InputFault.TheVariants.{Mid, Compressed, Missing, ScriptTooLong, OtherRun}
 use Rattle.midas_tools.specs.declared.ends.ToolEnd.{ToolEnd}
@@ -25,7 +25,7 @@ HaveBytes seen (name ∷ names) [] = ⊥
 HaveBytes seen (name ∷ names) (bytes ∷ files) = IsThere seen name (λ found. found ≡ bytes) × HaveBytes seen names files
 
 -- The files of these names are there, and are the pieces of one run.
-pub record HoldsRun (seen : Seen) (names : List (List ℕ)) : Type 0 where
+pub record HaveOneRun (seen : Seen) (names : List (List ℕ)) : Type 0 where
   pub files : List (List ℕ)
   pub have : HaveBytes seen names files
   pub run : ℕ
@@ -34,20 +34,20 @@ pub record HoldsRun (seen : Seen) (names : List (List ℕ)) : Type 0 where
 
 -- And this is the text of that run: of its number, of all events, and of how many bytes the files have together.
 pub record TellsRun (Text : (run : ℕ) (events : List Event) (size : ℕ) → List ℕ) (seen : Seen) (names : List (List ℕ)) (text : List ℕ) : Type 0 where
-  pub holds : HoldsRun seen names
+  pub holds : HaveOneRun seen names
   pub text_is : text ≡ Text holds.run holds.events (bytes_of holds.files)
 
 -- The file of this name has this fault, behind those of other names, which are the pieces of one run.
 pub record HoldsFault (seen : Seen) (before : List (List ℕ)) (name : List ℕ) (fault : InputFault) : Type 0 where
-  pub holds : HoldsRun seen before
+  pub holds : HaveOneRun seen before
   pub there : IsThere seen name (λ bytes. IsPieceFault holds.run (bytes_of holds.files) bytes fault)
 
 -- What is wrong with the file of this name, of which those before are the pieces of one run: its own bytes, its name, that
 -- there is none, or that it is of another run than they.
 abbrev pub IsWrong : Seen → (before : List (List ℕ)) (name : List ℕ) → InputFault → Type 0
 IsWrong seen before name (Mid fault) = (is_compressed name ≡ false) × (fault ≢ ReadFault) × (IsTrue seen.tells → HoldsFault seen before name (Mid fault))
-IsWrong seen before name Compressed = IsTrue (is_compressed name) × (IsTrue seen.tells → HoldsRun seen before)
-IsWrong seen before name Missing = (is_compressed name ≡ false) × (IsTrue seen.tells → HoldsRun seen before × IsNone (seen.at name))
+IsWrong seen before name Compressed = IsTrue (is_compressed name) × (IsTrue seen.tells → HaveOneRun seen before)
+IsWrong seen before name Missing = (is_compressed name ≡ false) × (IsTrue seen.tells → HaveOneRun seen before × IsNone (seen.at name))
 IsWrong seen before name ScriptTooLong = ⊥
 IsWrong seen before name (OtherRun file run) = (is_compressed name ≡ false) × (0 < length before) × (file ≡ length before) × (IsTrue seen.tells → HoldsFault seen before name (OtherRun file run))
 
@@ -60,6 +60,12 @@ pub record FindsWrong (seen : Seen) (names : List (List ℕ)) (fault : InputFaul
   pub plain : ArePlain before
   pub wrong : IsWrong seen before name fault
   pub text_is : text ≡ bad_file_line (nat_lt 1 (length names)) name fault
+
+-- This is what is wrong with the first of these names whose file is wrong, of files that are told.
+pub record IsFirstWrong (seen : Seen) (names : List (List ℕ)) (fault : InputFault) : Type 0 where
+  pub tells : IsTrue seen.tells
+  pub text : List ℕ
+  pub wrong : FindsWrong seen names fault text
 
 -- what a tool finds under these names, and its text
 abbrev pub FindsTogether : (Text : (run : ℕ) (events : List Event) (size : ℕ) → List ℕ) (seen : Seen) (names : List (List ℕ)) (text : List ℕ) → ToolEnd → Type 0
@@ -88,13 +94,14 @@ WritesTogether Text seen names told_old told_new NoMemory =
 pub record AreSoundTogether (seen : Seen) (names : List (List ℕ)) : Type 0 where
   pub plain : ArePlain names
   pub tells : IsTrue seen.tells
-  pub holds : HoldsRun seen names
+  pub holds : HaveOneRun seen names
 
--- The end of a tool that reads the files of these names comes by its cause: a fault exactly where its count rose and no earlier
--- cause holds, of the pieces of one run `Done`, unless a call failed or there was no memory; and where the one file is missing,
--- with a clash.
-pub record EndsTogether (end : ToolEnd) (seen : Seen) (names : List (List ℕ)) (counts : CallCounts) : Type 0 where
+-- The end of a tool that reads the files of these names comes by its cause: a fault of the sink or of the files exactly where its
+-- count rose and no earlier cause holds. Where no call failed and there was memory it is `Done` of the pieces of one run, and of
+-- others what is first wrong. And where the one file is missing a clash was counted.
+pub record EndsBy (end : ToolEnd) (seen : Seen) (names : List (List ℕ)) (counts : CallCounts) : Type 0 where
   pub sink : SinkByEnd end counts.sink_old counts.sink_new
   pub files : FilesByEnd end counts.files_old counts.files_new
-  pub completes : Completes (AreSoundTogether seen names) counts.sink_old counts.sink_new counts.files_old counts.files_new end
+  pub completes : ComesTo (AreSoundTogether seen names) Done counts.sink_old counts.sink_new counts.files_old counts.files_new end
+  pub faulty : (fault : InputFault) → ComesTo (IsFirstWrong seen names fault) (Input fault) counts.sink_old counts.sink_new counts.files_old counts.files_new end
   pub clashes : length names ≡ 1 → ClashCounts end counts.clashes_old counts.clashes_new

@@ -2,7 +2,7 @@ ghost use Rattle.std.specs.Prelude.{◌≡◌, ◌≤◌, ◌<◌, length};
 ghost use Rattle.daq_io.specs.Seen.{Same};
 ghost use Rattle.midas_tools.specs.Checks.{check_text};
 ghost use Rattle.midas_tools.specs.Findings.{call_counts};
-ghost use Rattle.midas_tools.specs.Together.{EndsTogether, WritesTogether};
+ghost use Rattle.midas_tools.specs.Together.{EndsBy, WritesTogether};
 
 use crate::ends::ToolEnd;
 use crate::lines::add_ok;
@@ -55,9 +55,9 @@ pub fn check_file<F: Files, K: Sink>(
     // What was found, and what was written of it.
     ensures writes { WritesTogether check_text (F.seen files) names.now (K.written out.old)
         (K.written out.new) result.0 }
-    // A fault is the end exactly where its count rose and no earlier cause holds, and the files of one run lead to the end
-    // `Done`, unless a call failed or there was no memory.
-    ensures ends { EndsTogether result.0 (F.seen files) names.now (call_counts K.faults F.faults
+    // A fault of the sink or of the files is the end exactly where its count rose and no earlier cause holds. Unless a call
+    // failed or there was no memory, the files of one run lead to the end `Done`, and others to what is first wrong.
+    ensures ends { EndsBy result.0 (F.seen files) names.now (call_counts K.faults F.faults
         F.clashes F.bytes_read out.old out.new files result.1) }
     ensures same { Same (F.seen files) (F.seen result.1) }
 {

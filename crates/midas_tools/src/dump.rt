@@ -1,4 +1,4 @@
-ghost use Rattle.std.specs.Prelude.{◌≡◌, ◌≤◌, ◌<◌, ℕ, List, [], Option, IfOk, OnOk, OnErr, vec_len};
+ghost use Rattle.std.specs.Prelude.{◌≡◌, ◌≤◌, ◌<◌, ◌∷◌, ℕ, List, [], Option, IfOk, OnOk, OnErr, vec_len};
 ghost use Rattle.std.specs.Io.KnownBytes.{Appends};
 ghost use Rattle.daq_io.specs.Counts.{CountsFault};
 ghost use Rattle.daq_io.specs.Seen.{Same};
@@ -6,8 +6,9 @@ ghost use Rattle.daq_io.specs.Streams.{AppendsPart};
 ghost use Rattle.event.specs.Events.{event_limit};
 ghost use Rattle.mid_format.specs.HasRead.{nothing_read};
 ghost use Rattle.midas_tools.specs.Dumps.{DumpsTo, EndsText, HandEnds, HandHalts, ListsTo, Printing, PrintsOn, ReadCounts, SinkHalts, SourceHalts, WritesOn, end_lines, end_of, ended_text, fault_lines, new_begin};
-ghost use Rattle.midas_tools.specs.Findings.{EndsBy, HasRun, SinkByEnd, call_counts};
+ghost use Rattle.midas_tools.specs.Findings.{SinkByEnd, call_counts};
 ghost use Rattle.midas_tools.specs.Printing.{PassesText};
+ghost use Rattle.midas_tools.specs.Together.{EndsBy};
 
 use crate::areas::print_event;
 use crate::blocks::new_block;
@@ -253,9 +254,9 @@ pub fn dump_file<F: Files, K: Sink>(
     // What was found, and what was written of it.
     ensures writes { WritesOn (F.seen files) name.now (F.bytes_read files)
         (F.bytes_read result.1) (K.written out.old) (K.written out.new) result.0 }
-    // A fault is the end exactly where its count rose and no earlier cause holds, and a run file leads to the end `Done`,
-    // unless a call failed or there was no memory.
-    ensures ends { EndsBy result.0 (HasRun (F.seen files) name.now) (call_counts K.faults F.faults
+    // A fault of the sink or of the files is the end exactly where its count rose and no earlier cause holds. Unless a call
+    // failed or there was no memory, a run file leads to the end `Done`, and another to what is wrong with it.
+    ensures ends { EndsBy result.0 (F.seen files) (name.now ∷ []) (call_counts K.faults F.faults
         F.clashes F.bytes_read out.old out.new files result.1) }
     // Where memory is wanting the files were not called.
     ensures uncalled { result.0 ≡ ToolEnd.NoMemory → result.1 ≡ files }

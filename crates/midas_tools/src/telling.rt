@@ -2,7 +2,7 @@ ghost use Rattle.std.specs.Prelude.{◌≡◌, ◌≤◌, ◌<◌, length};
 ghost use Rattle.daq_io.specs.Seen.{Same};
 ghost use Rattle.midas_tools.specs.Findings.{ClashCounts, FilesByEnd, call_counts};
 ghost use Rattle.midas_tools.specs.Gathering.{LooksFor, TellsEnd};
-ghost use Rattle.midas_tools.specs.Together.{EndsTogether, WritesTogether};
+ghost use Rattle.midas_tools.specs.Together.{EndsBy, WritesTogether};
 
 use crate::closing::{close_file, print};
 use crate::ends::ToolEnd;
@@ -58,7 +58,7 @@ pub fn tell_files<F: Files, K: Sink, T: Summary>(
     requires few { length names.now ≤ 10000 }
     ensures writes { WritesTogether T.text (F.seen files) names.now (K.written out.old)
         (K.written out.new) result.0 }
-    ensures ends { EndsTogether result.0 (F.seen files) names.now (call_counts K.faults F.faults
+    ensures ends { EndsBy result.0 (F.seen files) names.now (call_counts K.faults F.faults
         F.clashes F.bytes_read out.old out.new files result.1) }
     ensures same { Same (F.seen files) (F.seen result.1) }
 {

@@ -11,6 +11,13 @@ pub returns-then-compressed-clause-writes : goal.returns-then-compressed-clause-
 returns-then-compressed-clause-writes g c =
     dump_refused (g.F.Files.seen c.args.files) c.args.name.now _ _ (g.K.Sink.written c.args.out.now) (g.K.Sink.written c.refuse.new.out) 0 0 0 0 _ _ NameCompressed c.refuse.result (search rules, refl) c.refuse.ensures refl
 
+pub returns-then-compressed-clause-ends : goal.returns-then-compressed-clause-ends
+returns-then-compressed-clause-ends g c =
+    dump_ends _ _ _ _ (call_counts g.K.Sink.faults g.F.Files.faults g.F.Files.clashes g.F.Files.bytes_read c.args.out.now c.refuse.new.out c.args.files c.args.files) c.refuse.result (returns-then-compressed-clause-writes g c)
+    (refused_sink _ _ _ _ NameCompressed c.refuse.result c.refuse.ensures)
+    (refused_files (g.F.Files.faults c.args.files) (g.F.Files.faults c.args.files) (g.F.Files.seen c.args.files) c.args.name.now (g.F.Files.clashes c.args.files) (g.F.Files.clashes c.args.files) _ _ _ _ NameCompressed c.refuse.result (search rules, refl) c.refuse.ensures)
+    (refused_clashes (g.F.Files.clashes c.args.files) (g.F.Files.clashes c.args.files) (g.F.Files.seen c.args.files) c.args.name.now (g.F.Files.faults c.args.files) (g.F.Files.faults c.args.files) _ _ _ _ NameCompressed c.refuse.result (search rules, refl) c.refuse.ensures)
+
 pub returns-in-Ok-open-clause-writes : goal.returns-in-Ok-open-clause-writes
 returns-in-Ok-open-clause-writes g c =
     dump_read (g.F.Files.seen c.args.files) c.args.name.now (g.F.Files.bytes_read c.args.files) (g.F.Files.bytes_read c.close_file.result.1) (g.K.Sink.written c.args.out.now) (g.K.Sink.written c.dump_source-end.new.out)
