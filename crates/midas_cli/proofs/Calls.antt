@@ -1,9 +1,8 @@
 -- The words of a tool name one tool and one list of files.
-use Rattle.std.proofs.Common.{◌≡◌, ◌∙◌, ◌<◌, ◌≤◌, ◌⊎◌, ℕ, List, [], ◌∷◌, length, drop, Option, Some, ap, sym, subst, inl, inr, arith}
+use Rattle.std.proofs.Common.{◌≡◌, ◌∙◌, ◌<◌, ◌≤◌, ◌⊎◌, ℕ, List, [], ◌∷◌, length, drop, get_or, Option, Some, ap, sym, subst, inl, inr, arith}
 use Rattle.daq_io.specs.Seen.{Seen}
 use Rattle.command_words.specs.CommandLine.{FormIs, IsForm, IsOnFiles, IsToolCall, most_files}
 use Rattle.command_words.specs.declared.forms.Tool.{Tool}
-use Rattle.command_words.specs.declared.forms.Tool.TheVariants.{Check, Dump, Analyze}
 use Rattle.command_words.specs.declared.forms.Form.{Form}
 use Rattle.command_words.specs.declared.forms.Form.TheVariants.{Run, OnFiles, Generate}
 use Rattle.midas_tools.specs.Findings.{CallCounts}
@@ -18,10 +17,11 @@ tool_or a (Run cooperative) = a
 tool_or a (OnFiles b) = b
 tool_or a (Generate number) = a
 
-most : (tool : Tool) → most_files tool ≤ 10000
-most Check = omega arith
-most Dump = omega arith
-most Analyze = omega arith
+-- one name, which is the first
+pub one_name : (names : List (List ℕ)) (first : List ℕ) → length names ≤ 1 → first ≡ get_or names 0 first → 0 < length names → first ∷ [] ≡ names
+one_name [] first few is some = absurd (omega (arith, some))
+one_name (name ∷ []) first few is some = ap (λ (n : List ℕ). n ∷ []) is
+one_name (name ∷ other ∷ names) first few is some = absurd (omega (arith, few))
 
 module _ (words : List (List ℕ)) (tool : Tool) (call : IsToolCall tool words) (names : List (List ℕ)) (are : names ≡ drop 1 words) where
   names_are : names ≡ call.0
@@ -30,8 +30,8 @@ module _ (words : List (List ℕ)) (tool : Tool) (call : IsToolCall tool words) 
   pub some : 0 < length names
   some = subst (λ (ns : List (List ℕ)). 0 < length ns) (sym names_are) call.1.some
 
-  pub few : length names ≤ 10000
-  few = subst (λ (ns : List (List ℕ)). length ns ≤ 10000) (sym names_are) (omega (arith, call.1.few, most tool))
+  pub few : length names ≤ most_files tool
+  few = subst (λ (ns : List (List ℕ)). length ns ≤ most_files tool) (sym names_are) call.1.few
 
   -- whichever tool and names the words are said to have, they are these
   pub so_called : ((words : List (List ℕ)) (a b : Form) → IsForm a words → IsForm b words → a ≡ b) → (P : Tool → List (List ℕ) → Type 0) → P tool names → (called : Tool) (given : List (List ℕ)) → IsOnFiles called given words → P called given

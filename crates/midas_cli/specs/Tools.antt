@@ -6,8 +6,8 @@ use Rattle.midas_cli.specs.declared.causes.Cause.TheVariants as causes
 use Rattle.midas_tools.specs.Analyses.{analysis_text}
 use Rattle.midas_tools.specs.Checks.{check_text}
 use Rattle.midas_tools.specs.Dumps.{WritesOn}
-use Rattle.midas_tools.specs.Findings.{CallCounts, EndsBy, HasRun}
-use Rattle.midas_tools.specs.Together.{EndsTogether, OfFirst, WritesTogether}
+use Rattle.midas_tools.specs.Findings.{CallCounts}
+use Rattle.midas_tools.specs.Together.{EndsBy, OfFirst, WritesTogether}
 use Rattle.midas_tools.specs.declared.ends.ToolEnd.{ToolEnd}
 use Rattle.midas_tools.specs.declared.ends.ToolEnd.TheVariants.{Done, Input, FileFault, SinkFault, NoMemory}
 use Rattle.command_words.specs.declared.forms.Tool.{Tool}
@@ -30,15 +30,9 @@ ToolWrites Dump seen names counts told_old told_new end =
     × (end ≡ NoMemory → (counts.files_new ≡ counts.files_old) × (counts.clashes_new ≡ counts.clashes_old) × (counts.read_new ≡ counts.read_old))
 ToolWrites Analyze seen names counts told_old told_new end = WritesTogether analysis_text seen names told_old told_new end
 
--- why each tool ends
-abbrev pub ToolEnds : Tool → (seen : Seen) (names : List (List ℕ)) → CallCounts → ToolEnd → Type 0
-ToolEnds Check seen names counts end = EndsTogether end seen names counts
-ToolEnds Dump seen names counts end = OfFirst names (λ name. EndsBy end (HasRun seen name) counts)
-ToolEnds Analyze seen names counts end = EndsTogether end seen names counts
-
 -- A tool was run on the files of these names, and this is its cause.
 pub record ToolRan (tool : Tool) (seen : Seen) (names : List (List ℕ)) (told_old told_new : Option (List ℕ)) (counts : CallCounts) (first : Option (List ℕ)) (cause : Cause) : Type 0 where
   pub end : ToolEnd
   pub cause_is : IsCauseOf end first cause
   pub writes : ToolWrites tool seen names counts told_old told_new end
-  pub ends : ToolEnds tool seen names counts end
+  pub ends : EndsBy end seen names counts

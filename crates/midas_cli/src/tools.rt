@@ -1,9 +1,10 @@
 ghost use Rattle.std.specs.Prelude.{◌≡◌, ◌≢◌, ◌≤◌, ◌<◌, ◌⊎◌, ℕ, List, [], None, length};
-ghost use Rattle.command_words.specs.CommandLine.{IsOnFiles, IsToolCall};
+ghost use Rattle.command_words.specs.CommandLine.{IsOnFiles, IsToolCall, most_files};
 ghost use Rattle.daq_io.specs.Seen.{Same};
 ghost use Rattle.midas_cli.specs.Outcomes.{status_of};
-ghost use Rattle.midas_cli.specs.Tools.{IsCauseOf, ToolEnds, ToolRan, ToolWrites};
+ghost use Rattle.midas_cli.specs.Tools.{IsCauseOf, ToolRan, ToolWrites};
 ghost use Rattle.midas_tools.specs.Findings.{call_counts};
+ghost use Rattle.midas_tools.specs.Together.{EndsBy};
 
 use crate::causes::Cause;
 use crate::outcome::Outcome;
@@ -39,12 +40,12 @@ fn call_tool<F: Files, K: Sink>(
     out: &mut K,
 ) -> (ToolEnd, F)
     requires some { 0 < length names.now }
-    requires few { length names.now ≤ 10000 }
+    requires few { length names.now ≤ most_files tool }
     ensures writes { ToolWrites tool (F.seen files) names.now (call_counts K.faults F.faults
         F.clashes F.bytes_read out.old out.new files result.1) (K.written out.old)
         (K.written out.new) result.0 }
-    ensures ends { ToolEnds tool (F.seen files) names.now (call_counts K.faults F.faults F.clashes
-        F.bytes_read out.old out.new files result.1) result.0 }
+    ensures ends { EndsBy result.0 (F.seen files) names.now (call_counts K.faults F.faults
+        F.clashes F.bytes_read out.old out.new files result.1) }
     ensures same { Same (F.seen files) (F.seen result.1) }
 {
     match tool {
@@ -62,7 +63,7 @@ fn run_on<S, K: Sink, F: Files, E, C, P>(
     outside: Outside<S, K, F, E, C, P>,
 ) -> (Outcome, Outside<S, K, F, E, C, P>)
     requires some { 0 < length names.now }
-    requires few { length names.now ≤ 10000 }
+    requires few { length names.now ≤ most_files tool }
     ensures status { result.0.status ≡ status_of result.0.cause }
     ensures ran { ToolRan tool (F.seen outside.run_files) names.now (K.written outside.out)
         (K.written result.1.out)
