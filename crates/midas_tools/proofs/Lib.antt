@@ -1,6 +1,6 @@
 mod Types
 mod Summing
-mod Pieces
+pub mod Pieces
 mod OneWrong
 mod Gathered
 mod Told

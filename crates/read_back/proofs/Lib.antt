@@ -1,2 +1,3 @@
 mod Alike
+mod FilesBack
 mod Told

@@ -40,14 +40,10 @@ use Rattle.midas_tools.specs.Together.{HaveBytes, TellsRun, WritesTogether}
 use Rattle.midas_tools.specs.Texts.{run_number_line}
 use Rattle.midas_tools.specs.declared.ends.ToolEnd.{ToolEnd}
 use Rattle.midas_tools.specs.declared.ends.ToolEnd.TheVariants.{Done}
-use Rattle.read_back.specs.ReportsBack.{HasFileAndReport, PrintsReport, ReportsReadBack, SessionReadsBack}
+use Rattle.read_back.specs.FilesBack.{PrintsReport}
+use Rattle.read_back.specs.ReportsBack.{HasFileAndReport, ReportsReadBack, SessionReadsBack}
+use Rattle.read_back.proofs.FilesBack.{AnalysisPrinted}
 use Rattle.read_back.proofs.Alike.{one_channel, made_id, id_small, run_small}
-
--- the law of what `analyze` prints
-abbrev pub AnalysisPrinted : Type 0
-AnalysisPrinted = (seen : Seen) → (names files : List (List ℕ)) → (run : ℕ) → (events : List Event) → (text : List ℕ)
-    → HaveBytes seen names files → 0 < length files → AreRunFilesWith run files events → run < 2 ^ 32 → All (λ e. e.id < 2 ^ 16) events
-    → TellsRun analysis_text seen names text → text ≡ analysis_text run events (bytes_of files)
 
 abbrev HasShortId : Event → Type 0
 HasShortId e = e.id < 2 ^ 16

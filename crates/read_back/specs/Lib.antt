@@ -1,1 +1,2 @@
+pub mod FilesBack
 pub mod ReportsBack

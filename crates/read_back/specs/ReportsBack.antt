@@ -1,13 +1,10 @@
 -- A run file and a report of one run that came about in a session: what `analyze` prints of the one is the other.
-use Rattle.std.specs.Prelude.{◌≡◌, ℕ, suc, ◌+◌, ◌∷◌, ◌++◌, IsTrue, List, [], length, All, slice_get, Contains, Option, Some}
-use Rattle.std.specs.Io.KnownBytes.{Appends}
+use Rattle.std.specs.Prelude.{◌≡◌, ℕ, suc, ◌+◌, ◌∷◌, List, [], length, slice_get, Contains, Some}
 use Rattle.daq_types.specs.Callers.{caller_of_client}
 use Rattle.daq_types.specs.declared.runs.ChannelState.TheVariants.{Ended}
 use Rattle.daq_types.specs.declared.runs.StartOutcome.TheVariants.{Completed}
-use Rattle.daq_io.specs.Seen.{Seen}
 use Rattle.turn_lock.specs.Closing.{history_of}
 use Rattle.event_report.specs.Reports.{Totals}
-use Rattle.event_report.specs.Texts.{report_text}
 use Rattle.member_model.specs.RunEngines.{EngineHistory}
 use Rattle.frontend_kit.specs.declared.generator.Generator.{Generator}
 use Rattle.mid_logger.specs.declared.channel_spec.ChannelSpec.{ChannelSpec}
@@ -26,11 +23,7 @@ use Rattle.session_laws.specs.ClosedSessions.{ClosedSession}
 use Rattle.session_lines.specs.Stages.{SessionStage}
 use Rattle.daq_session.specs.Sessions.{KeepsSession}
 use Rattle.daq_session.specs.ToldRecords.{IsCountedInRun, RunTells}
-use Rattle.midas_tools.specs.Analyses.{analysis_text}
-use Rattle.midas_tools.specs.Together.{WritesTogether}
-use Rattle.midas_tools.specs.Texts.{run_number_line}
-use Rattle.midas_tools.specs.declared.ends.ToolEnd.{ToolEnd}
-use Rattle.midas_tools.specs.declared.ends.ToolEnd.TheVariants.{Done}
+use Rattle.read_back.specs.FilesBack.{PrintsReport}
 
 -- The channel and the analyzer read the same buffer, and ask there for the same events.
 pub record AsksAlike (channel : ChannelSpec) (d : AnalyzerDeclared) : Type 0 where
@@ -61,14 +54,6 @@ pub record HasFileAndReport (declared : Declared) (buffers : List BufferRecord) 
   pub report_is : tally.report ≡ report
   pub counted : IsCountedInRun (seat_client declared place) analyzer buffers engine run.start tally
   pub through : SawThrough (history_of counted.buffer.closed) (caller_of_client (seat_client declared place)) counted.counts.told
-
--- A call of `analyze` with these names that ends well writes the number of the run and this report, and nothing else: on any
--- files that tell the names' files, which are those of these run files, told too.
-abbrev pub PrintsReport : (files : Seen) (names : List (List ℕ)) (run : ℕ) (report : Totals) → Type 0
-PrintsReport files names run report = (seen : Seen) → (told_old told_new : Option (List ℕ)) → (end : ToolEnd) →
-    IsTrue files.tells → IsTrue seen.tells → All (λ name. seen.at name ≡ files.at name) names →
-    WritesTogether analysis_text seen names told_old told_new end → end ≡ Done →
-    Appends told_old told_new (run_number_line run ++ report_text [] report)
 
 -- Where the declarations are sound and all is so that is told of a run: the file and the report of one request agree.
 abbrev pub ReportsReadBack : Type 0

@@ -1,6 +1,7 @@
 //! Laws of what is read back of a session: each function does nothing, and its contract is the law.
 ghost use Rattle.daq_members.specs.Members.{member_told};
 ghost use Rattle.session_objects.specs.Members.{generator_makes, generator_takes};
+ghost use Rattle.read_back.specs.FilesBack.{FilesReadBack};
 ghost use Rattle.read_back.specs.ReportsBack.{ReportsReadBack, SessionReadsBack};
 
 use daq_io::{Files, Pick};
@@ -10,6 +11,14 @@ use odb_tree::Database;
 use odb_watch::WatchEntry;
 use session_objects::SessionRecord;
 use turn_lock::Machine;
+
+/// What `analyze` prints of all the files of a run that were closed, in order, is the number of the run and the report over all
+/// its events, however these were cut into files.
+pub fn files_read_back()
+    ensures { FilesReadBack }
+{
+    analysis_printed();
+}
 
 /// What the record of a run has of an analyzer that saw the run through is what `analyze` prints of the file of a channel that asks
 /// for the same events, behind the number of the run.
