@@ -10,7 +10,7 @@ use Rattle.mid_format.specs.declared.faults.MidFault.TheVariants.{Truncated, NoB
 use Rattle.midas_tools.specs.declared.ends.InputFault.{InputFault}
 use Rattle.midas_tools.specs.declared.ends.InputFault.TheVariants.{Mid, Compressed, Missing, ScriptTooLong, OtherRun}
 
--- In order each file has its events in this sense, and these are the events of all, one file behind the other.
+-- Each file has some events, as `HasEvents` says of its bytes, and these are the events of all, one file behind the other.
 abbrev pub AreJoined : (HasEvents : List ℕ → List Event → Type 0) (files : List (List ℕ)) (events : List Event) → Type 0
 AreJoined HasEvents [] events = events ≡ []
 AreJoined HasEvents (bytes ∷ files) events = (first : List Event) × (later : List Event) × HasEvents bytes first × AreJoined HasEvents files later × (events ≡ first ++ later)
@@ -28,7 +28,7 @@ pub record IsRunFileWith (run : ℕ) (bytes : List ℕ) (events : List Event) : 
 abbrev pub AreRunFilesWith : (run : ℕ) (files : List (List ℕ)) (events : List Event) → Type 0
 AreRunFilesWith run = AreJoined (IsRunFileWith run)
 
--- The bytes are a run file of this run with these events, and each number fits in its field: so it is of what was read.
+-- The bytes are a run file of this run with these events, and each number fits in its field, as in what was read.
 pub record IsPiece (run : ℕ) (bytes : List ℕ) (events : List Event) : Type 0 where
   pub time0 : ℕ
   pub dump0 : List ℕ

@@ -1,5 +1,5 @@
 -- The files of a run that are closed are run files, whose names are those that `analyze` is given.
-use Rattle.std.proofs.Common.{◌≡◌, ◌∙◌, ℕ, zero, suc, ◌+◌, ◌<◌, ◌≤◌, ◌^◌, List, [], ◌∷◌, ◌++◌, length, All, Option, Some, refl, ap, sym, subst, arith}
+use Rattle.std.proofs.Common.{◌≡◌, ◌∙◌, ℕ, suc, ◌<◌, ◌≤◌, ◌^◌, List, [], ◌∷◌, ◌++◌, length, All, refl, sym, subst, arith}
 use Rattle.std.specs.Prelude.{IsTrue}
 use Rattle.std.specs.Io.KnownBytes.{Appends}
 use Rattle.std.proofs.lemmas.List.Elements.{All-cons, All-head, All-tail}
@@ -7,7 +7,7 @@ use Rattle.daq_types.specs.declared.events.Event.{Event}
 use Rattle.daq_io.specs.Seen.{IsStored, Seen, stored_closed}
 use Rattle.event.specs.Events.{encoding, record_limit}
 use Rattle.event.specs.RunFile.{end_record, IsFileEvent}
-use Rattle.event_report.specs.Reports.{Totals, report_of}
+use Rattle.event_report.specs.Reports.{report_of}
 use Rattle.event_report.specs.Texts.{report_text}
 use Rattle.midas_tools.specs.Analyses.{analysis_text}
 use Rattle.midas_tools.specs.Findings.{IsThere}
@@ -19,7 +19,7 @@ use Rattle.midas_tools.specs.declared.ends.ToolEnd.TheVariants.{Done}
 use Rattle.midas_tools.proofs.Pieces.{have_one}
 use Rattle.sub_files.specs.Cuts.{joined}
 use Rattle.sub_files.specs.Pieces.{AreFilesStored, Series, begun_piece, between, piece_name}
-use Rattle.read_back.specs.FilesBack.{AreClosed, FilesReadBack, PrintsReport, piece_names}
+use Rattle.read_back.specs.FilesBack.{FilesReadBack, PrintsReport, piece_names}
 
 -- the law of what `analyze` prints
 abbrev pub AnalysisPrinted : Type 0
@@ -53,29 +53,40 @@ module _ (s : Series) (time1 : ℕ) (dump1 : List ℕ) where
   all_there seen files number [] tell at stored = absurd stored
   all_there seen files number (piece ∷ []) tell at stored = (one_there seen files (piece_name s number) _ tell (All-head (λ name. seen.at name ≡ files.at name) (piece_name s number) [] at) stored, tt)
   all_there seen files number (piece ∷ (next ∷ pieces)) tell at stored =
-      let names = piece_names s (suc number) (length (next ∷ pieces)) in
-      (one_there seen files (piece_name s number) _ tell (All-head (λ name. seen.at name ≡ files.at name) (piece_name s number) (piece_names s (suc number) (length (next ∷ pieces))) at) stored.0,
-      all_there seen files (suc number) (next ∷ pieces) tell (All-tail (λ name. seen.at name ≡ files.at name) (piece_name s number) (piece_names s (suc number) (length (next ∷ pieces))) at) stored.1)
+      let names = piece_names s (suc number) (length (next ∷ pieces)) in (
+        one_there seen files (piece_name s number) _ tell (All-head (λ name. seen.at name ≡ files.at name) (piece_name s number) (piece_names s (suc number) (length (next ∷ pieces))) at) stored.0,
+        all_there seen files (suc number) (next ∷ pieces) tell (All-tail (λ name. seen.at name ≡ files.at name) (piece_name s number) (piece_names s (suc number) (length (next ∷ pieces))) at) stored.1,
+      )
 
   module _ (begins_small : length s.dump ≤ record_limit) (ends_small : length dump1 ≤ record_limit) where
     all_whole : (pieces : List (List Event)) → 1 ≤ length pieces → All IsFileEvent (joined pieces) → bytes_of (whole_files pieces) ≤ 2 ^ 62 → AreRunFilesWith s.head.run (whole_files pieces) (joined pieces)
     all_whole [] some fine counted = absurd (omega (arith, some))
-    all_whole (piece ∷ []) some fine counted =
-        (piece, [], record {
-          time0 = s.head.time;
-          dump0 = s.dump;
-          time1 = time1;
-          dump1 = dump1;
-          file = record { is_file = refl; begins_small = begins_small; ends_small = ends_small; fine = fine_front piece [] fine; counted = omega (arith, counted) };
-        }, refl, refl)
-    all_whole (piece ∷ (next ∷ pieces)) some fine counted =
-        (piece, joined (next ∷ pieces), record {
-          time0 = s.head.time;
-          dump0 = s.dump;
-          time1 = s.head.time;
-          dump1 = [];
-          file = record { is_file = refl; begins_small = begins_small; ends_small = omega arith; fine = fine_front piece (joined (next ∷ pieces)) fine; counted = omega (arith, counted) };
-        }, all_whole (next ∷ pieces) (omega arith) (fine_back piece (joined (next ∷ pieces)) fine) (omega (arith, counted)), refl)
+    all_whole (piece ∷ []) some fine counted = (
+      piece,
+      [],
+      record {
+        time0 = s.head.time;
+        dump0 = s.dump;
+        time1 = time1;
+        dump1 = dump1;
+        file = record { is_file = refl; begins_small = begins_small; ends_small = ends_small; fine = fine_front piece [] fine; counted = omega (arith, counted) };
+      },
+      refl,
+      refl,
+    )
+    all_whole (piece ∷ (next ∷ pieces)) some fine counted = (
+      piece,
+      joined (next ∷ pieces),
+      record {
+        time0 = s.head.time;
+        dump0 = s.dump;
+        time1 = s.head.time;
+        dump1 = [];
+        file = record { is_file = refl; begins_small = begins_small; ends_small = omega arith; fine = fine_front piece (joined (next ∷ pieces)) fine; counted = omega (arith, counted) };
+      },
+      all_whole (next ∷ pieces) (omega arith) (fine_back piece (joined (next ∷ pieces)) fine) (omega (arith, counted)),
+      refl,
+    )
 
 some_whole : (s : Series) (time1 : ℕ) (dump1 : List ℕ) (pieces : List (List Event)) → 1 ≤ length pieces → 0 < length (whole_files s time1 dump1 pieces)
 some_whole s time1 dump1 [] some = absurd (omega (arith, some))

@@ -1,5 +1,5 @@
 -- What `analyze` prints of a run file of a session is the report of an analyzer that asked for the same events.
-use Rattle.std.proofs.Common.{◌≡◌, ◌∙◌, ℕ, ◌<◌, ◌^◌, List, [], ◌∷◌, ◌++◌, length, All, Option, Some, refl, ap, sym, subst, arith, get_or}
+use Rattle.std.proofs.Common.{◌≡◌, ◌∙◌, ℕ, ◌<◌, ◌^◌, List, [], ◌∷◌, ◌++◌, All, Option, Some, refl, ap, sym, subst, arith, get_or}
 use Rattle.std.specs.Prelude.{IsTrue, slice_get}
 use Rattle.std.specs.Io.KnownBytes.{Appends}
 use Rattle.std.proofs.lemmas.List.{append-nil}
@@ -9,7 +9,6 @@ use Rattle.daq_types.specs.declared.events.Event.{Event}
 use Rattle.daq_types.specs.declared.runs.RunState.TheVariants.{Stopped}
 use Rattle.daq_io.specs.Seen.{Seen, stored_closed}
 use Rattle.event.specs.Events.{matches}
-use Rattle.event.specs.RunFile.{IsRunFile}
 use Rattle.turn_lock.specs.Closing.{history_of}
 use Rattle.buffer_core.specs.Readers.{wanted}
 use Rattle.buffer_core.specs.Runs.{segment}
@@ -35,7 +34,7 @@ use Rattle.session_objects.specs.declared.record.SessionRecord.{SessionRecord}
 use Rattle.session_laws.specs.ClosedSessions.{ClosedSession}
 use Rattle.daq_session.specs.ToldRecords.{IsFileOfRun, IsFrontEvent, RunTells, events_of_run}
 use Rattle.midas_tools.specs.Analyses.{analysis_text}
-use Rattle.midas_tools.specs.Pieces.{AreRunFilesWith, bytes_of}
+use Rattle.midas_tools.specs.Pieces.{AreRunFilesWith}
 use Rattle.midas_tools.specs.Together.{HaveBytes, TellsRun, WritesTogether}
 use Rattle.midas_tools.specs.Texts.{run_number_line}
 use Rattle.midas_tools.specs.declared.ends.ToolEnd.{ToolEnd}

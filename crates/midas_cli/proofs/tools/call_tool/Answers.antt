@@ -1,4 +1,4 @@
-use Rattle.std.proofs.Common.{◌≡◌, ◌≤◌, ℕ, List, length, subst, arith}
+use Rattle.std.proofs.Common.{◌≤◌, ℕ, List, length, subst}
 use Rattle.command_words.specs.CommandLine.{most_files}
 use Rattle.command_words.specs.declared.forms.Tool.{Tool}
 use Rattle.midas_tools.specs.Findings.{call_counts}

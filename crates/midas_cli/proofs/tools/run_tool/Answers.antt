@@ -1,4 +1,4 @@
-use Rattle.std.proofs.Common.{◌≡◌, ◌∙◌, ◌⊎◌, ℕ, List, inl}
+use Rattle.std.proofs.Common.{◌∙◌, ℕ, List, inl}
 use Rattle.command_words.specs.declared.forms.Tool.{Tool}
 use Rattle.midas_cli.specs.Tools.{ToolRan}
 use Rattle.midas_tools.specs.Findings.{call_counts}
