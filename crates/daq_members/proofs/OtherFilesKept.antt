@@ -62,7 +62,7 @@ head_run spec client (Asking o) head own got seen opened at is = (let same : o �
 head_run spec client (Writing o begun) head own got seen opened at is = (let same : o ≡ opened = cc (is) in at.holds.run ∙ ap (λ (x : ChannelRun). x.run) same)
 head_run spec client (Draining run) head own got seen opened at is = (let same : run.opened ≡ opened = cc (is) in at.holds.run ∙ ap (λ (x : ChannelRun). x.run) same)
 head_run spec client (Drained run) head own got seen opened at is = (let same : run.opened ≡ opened = cc (is) in at.holds.run ∙ ap (λ (x : ChannelRun). x.run) same)
-head_run spec client (Broken run) head own got seen opened at is = (let same : run.opened ≡ opened = cc (is) in at.number ∙ ap (λ (x : ChannelRun). x.run) same)
+head_run spec client (Broken run fallen) head own got seen opened at is = (let same : run.opened ≡ opened = cc (is) in at.left.number ∙ ap (λ (x : ChannelRun). x.run) same)
 
 port_there : (ports : List Access) (n : ℕ) → n < length ports → (a : Access) × (slice_get ports n ≡ Some a)
 port_there [] n within = absurd (omega arith)

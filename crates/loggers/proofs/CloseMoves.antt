@@ -36,7 +36,7 @@ settled_run (Asking opened) = inl refl
 settled_run (Writing opened begun) = inl refl
 settled_run (Draining run) = inl refl
 settled_run (Drained run) = inr refl
-settled_run (Broken run) = inr refl
+settled_run (Broken run fallen) = inr refl
 
 -- where there is a run behind the step, it was that before
 same_run : (before later : Option ChannelRun) (o : ChannelRun) → (later ≡ before) ⊎ (later ≡ None) → later ≡ Some o → before ≡ Some o
@@ -131,8 +131,8 @@ run_left keep turns start time dump state (Drained run) before head a old new fa
   told = read_told state run time dump old new faults later closes;
   left = (keep before.spec before.client (Drained run) state time dump head a.own a.got old new faults later closes stands).1;
 }
-run_left keep turns start time dump state (Broken run) before head a old new faults later is settled at stands closes =
-    let broken : HasBroken before.spec head run time dump a.own a.got new = (keep before.spec before.client (Broken run) state time dump head a.own a.got old new faults later closes stands).1 in
+run_left keep turns start time dump state (Broken run fallen) before head a old new faults later is settled at stands closes =
+    let broken : HasBroken before.spec head run time dump a.own a.got new = (keep before.spec before.client (Broken run fallen) state time dump head a.own a.got old new faults later closes stands).1 in
     record {
       run = run;
       is = ap (λ (s : ChannelStage). channel_run s) is;
@@ -150,7 +150,7 @@ settled_idle (Asking opened) settled = absurd (cc (settled))
 settled_idle (Writing opened begun) settled = absurd (cc (settled))
 settled_idle (Draining run) settled = absurd (cc (settled))
 settled_idle (Drained run) settled = refl
-settled_idle (Broken run) settled = refl
+settled_idle (Broken run fallen) settled = refl
 
 -- the run of the channel whose file is ended, behind that
 pub left_now : ClosesKeep → ClosesChange → (turns : List MemberTurn) (stop : MemberTurn) (state : ChannelState) (slots : List (Option Channel)) (ports : List Access) (n : ℕ) (before after : Channel) (a : Access) (files later : RunFiles) → slot_at slots n ≡ Some before

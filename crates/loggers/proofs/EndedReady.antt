@@ -17,11 +17,12 @@ use Rattle.loggers.proofs.SlotLists.{one_changed}
 use Rattle.loggers.proofs.CloseMoves.{settled_idle}
 use Rattle.loggers.proofs.FinishedLogger.{all_settled}
 
--- Each channel stood there before, with its spec and its room for an event.
+-- Each channel stood there before, with its spec, its limit and its room for an event.
 record ComesFrom (slots : List (Option Channel)) (n : ℕ) (after : Channel) : Type 0 where
   before : Channel
   there : slot_at slots n ≡ Some before
   spec : after.spec ≡ before.spec
+  limit : after.sub_bytes ≡ before.sub_bytes
   room : after.event.room ≡ before.event.room
 
 record KeepsSlots (slots later : List (Option Channel)) : Type 0 where
@@ -46,10 +47,11 @@ settled_slot slots time dump k None a b there same to =
 settled_slot slots time dump k (Some before) a b there ends to =
     let after : Channel = ends.after in
     let spec : after.spec ≡ before.spec = ap (λ (c : Channel). c.spec) ends.ends.channel in
+    let limit : after.sub_bytes ≡ before.sub_bytes = ap (λ (c : Channel). c.sub_bytes) ends.ends.channel in
     let room : after.event.room ≡ before.event.room = ap (λ (c : Channel). c.event.room) ends.ends.channel in
     let was : ComesFrom slots k before = to.keeps.from k before there in
     let stage : after.stage ≡ Idle = ap (λ (c : Channel). c.stage) ends.ends.channel ∙ settled_idle before.stage (to.settled k before there (omega arith)) in
-    let here : ComesFrom slots k after = record { before = was.before; there = was.there; spec = spec ∙ was.spec; room = room ∙ was.room } in
+    let here : ComesFrom slots k after = record { before = was.before; there = was.there; spec = spec ∙ was.spec; limit = limit ∙ was.limit; room = room ∙ was.room } in
     let now : SettledTo slots (suc k) (record { slots = slice_set a.slots k (Some after); files = b.files; states = b.states }) = record {
       keeps = record {
         many = length-set a.slots k (Some after) ∙ to.keeps.many;
@@ -66,7 +68,7 @@ settled_below slots time dump (suc n) a b steps to = settled_slot slots time dum
 
 all_ended : (time : ℕ) (dump : Option (List ℕ)) (a b : EndingMoment) → list_all is_settled_slot a.slots ≡ true → InTurn (λ number. EndsSlotAt time dump number) (length a.slots) a b → SettledTo a.slots (length a.slots) b
 all_ended time dump a b settled steps = settled_below a.slots time dump (length a.slots) a b steps (record {
-  keeps = record { many = refl; from = λ n c stood. record { before = c; there = stood; spec = refl; room = refl } };
+  keeps = record { many = refl; from = λ n c stood. record { before = c; there = stood; spec = refl; limit = refl; room = refl } };
   idle = λ n c stood below. absurd (omega arith);
   settled = λ n c stood above. all_settled a.slots n c settled stood;
 })
@@ -84,6 +86,7 @@ ended_ready time dump a b ports settled steps files ready =
     let to : SettledTo a.slots (length a.slots) b = all_ended time dump a b settled steps in
     record {
       many = omega (arith, ready.many, to.keeps.many);
+      unlimited = λ n c stood. let f : ComesFrom a.slots n c = to.keeps.from n c stood in f.limit ∙ ready.unlimited n f.before f.there;
       served = λ n c stood.
           let f : ComesFrom a.slots n c = to.keeps.from n c stood in
           subst (λ (s : ChannelSpec). s.buffer < length ports) (sym f.spec) (ready.served n f.before f.there);

@@ -126,7 +126,7 @@ step_leaves runs Step n before a b s there spec held among files =
 opened_run : (runs : List ℕ) (spec : ChannelSpec) (order : Order) (dump : List ℕ) (r : Result ⊤ Why) (a b : ChannelAt) → OpensBy r spec order dump a b → Contains runs order.run → ((opened : ChannelRun) → channel_run a.stage ≡ Some opened → Contains runs opened.run)
     → (opened : ChannelRun) → channel_run b.stage ≡ Some opened → Contains runs opened.run
 opened_run runs spec order dump (Ok done) a b opens among held opened is =
-    let asked : channel_run b.stage ≡ Some (record { run = order.run; start = order.start; file = opens.file; client = opens.asks.client; request = opens.asks.request }) = ap channel_run opens.asks.stage in
+    let asked : channel_run b.stage ≡ Some (record { run = order.run; start = order.start; time = order.time; at = opens.at; client = opens.asks.client; request = opens.asks.request }) = ap channel_run opens.asks.stage in
     let same : order.run ≡ opened.run = cc (asked, is) in
     subst (λ (n : ℕ). Contains runs n) same among
 opened_run runs spec order dump (Err why) a b opens among held opened is = held opened (sym (ap channel_run opens.0) ∙ is)
@@ -190,7 +190,7 @@ begun_run place (Asking opened) = refl
 begun_run place (Writing opened begun) = refl
 begun_run place (Draining run) = refl
 begun_run place (Drained run) = refl
-begun_run place (Broken run) = refl
+begun_run place (Broken run fallen) = refl
 
 pub ended_run : (place : Option ℕ) (stage : ChannelStage) → channel_run (stage_ended stage place) ≡ channel_run stage
 ended_run place Idle = refl
@@ -198,7 +198,7 @@ ended_run place (Asking opened) = refl
 ended_run place (Writing opened begun) = refl
 ended_run place (Draining run) = refl
 ended_run place (Drained run) = refl
-ended_run place (Broken run) = refl
+ended_run place (Broken run fallen) = refl
 
 -- Turns.
 
@@ -299,7 +299,7 @@ settled_run (Asking o) opened is = is
 settled_run (Writing o begun) opened is = is
 settled_run (Draining run) opened is = is
 settled_run (Drained run) opened is = absurd (cc (is))
-settled_run (Broken run) opened is = absurd (cc (is))
+settled_run (Broken run fallen) opened is = absurd (cc (is))
 
 -- behind endings at most these files changed, and those that are written are open
 record EndedSo (runs : List ℕ) (a b : EndingMoment) : Type 0 where

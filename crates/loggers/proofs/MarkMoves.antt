@@ -84,12 +84,12 @@ begun_written place s = refl
 
 ended_run : (ended : Option ℕ) (s : ChannelStage) → channel_run (stage_ended s ended) ≡ channel_run s
 ended_run ended (Writing opened begun) = refl
-ended_run ended (Broken run) = refl
+ended_run ended (Broken run fallen) = refl
 ended_run ended s = refl
 
 ended_written : (ended : Option ℕ) (s : ChannelStage) → written_run (stage_ended s ended) ≡ written_run s
 ended_written ended (Writing opened begun) = refl
-ended_written ended (Broken run) = refl
+ended_written ended (Broken run fallen) = refl
 ended_written ended s = refl
 
 -- Calls that end no run.
@@ -200,7 +200,7 @@ begin_stage law spec client (Asking opened) start place head own got seen is sta
 begin_stage law spec client (Writing opened begun) start place head own got seen is stands = absurd is
 begin_stage law spec client (Draining run) start place head own got seen is stands = absurd is
 begin_stage law spec client (Drained run) start place head own got seen is stands = absurd is
-begin_stage law spec client (Broken run) start place head own got seen is stands = absurd is
+begin_stage law spec client (Broken run fallen) start place head own got seen is stands = absurd is
 
 -- the stage of a channel whose run was begun
 pub begun_started : (stage : ChannelStage) (start place : ℕ) → IsAskingStage start stage → IsStartedStage start (stage_begun stage place)
@@ -209,7 +209,7 @@ begun_started (Asking opened) start place is = is
 begun_started (Writing opened begun) start place is = absurd is
 begun_started (Draining run) start place is = absurd is
 begun_started (Drained run) start place is = absurd is
-begun_started (Broken run) start place is = absurd is
+begun_started (Broken run fallen) start place is = absurd is
 
 -- each channel behind the begin of a run
 pub begins_from : (start buffer : ℕ) (a b : LoggerMoment) (begins : BeginsBuffer start buffer a b) → (n : ℕ) (c : Channel) → slot_at b.slots n ≡ Some c → IsFrom (λ s. stage_begun s begins.0) a.slots buffer n c
@@ -326,8 +326,8 @@ begins_started spec client (Writing opened begun) start head own got seen is sta
     subst (λ (n : ℕ). HasBegunRun own n) is (begins_read own got opened.client spec.id spec.mask opened.request opened.start begun at.events at.reads)
 begins_started spec client (Draining run) start head own got seen is stands = absurd is
 begins_started spec client (Drained run) start head own got seen is stands = absurd is
-begins_started spec client (Broken run) start head own got seen is stands =
-    let at : BrokenAt spec client run head own got seen = stands.at in
+begins_started spec client (Broken run fallen) start head own got seen is stands =
+    let at : BrokenAt spec client run fallen head own got seen = stands.at in
     let on : HasReadOn own got run.opened.client spec.id spec.mask run.opened.request run.opened.start run.begun at.events =
     subst (λ (e : Option ℕ). HasReadPart e own got run.opened.client spec.id spec.mask run.opened.request run.opened.start run.begun at.events) is.on at.reads in
     subst (λ (n : ℕ). HasBegunRun own n) is.of (begins_read_on own got run.opened.client spec.id spec.mask run.opened.request run.opened.start run.begun at.events on)
@@ -371,8 +371,8 @@ end_started law spec client (Writing opened begun) start reply head own got seen
     subst (λ (n : ℕ). ChannelStands spec client (stage_ended (Writing opened begun) (place_marked reply)) head (own ++ End n reply ∷ []) got seen) is (law spec client (Writing opened begun) opened reply head own got seen refl tt stands)
 end_started law spec client (Draining run) start reply head own got seen is stands = absurd is
 end_started law spec client (Drained run) start reply head own got seen is stands = absurd is
-end_started law spec client (Broken run) start reply head own got seen is stands =
-    subst (λ (n : ℕ). ChannelStands spec client (stage_ended (Broken run) (place_marked reply)) head (own ++ End n reply ∷ []) got seen) is.of (law spec client (Broken run) run.opened reply head own got seen refl tt stands)
+end_started law spec client (Broken run fallen) start reply head own got seen is stands =
+    subst (λ (n : ℕ). ChannelStands spec client (stage_ended (Broken run fallen) (place_marked reply)) head (own ++ End n reply ∷ []) got seen) is.of (law spec client (Broken run fallen) run.opened reply head own got seen refl tt stands)
 
 end_client : (client : Option ℕ) (start : ℕ) (reply : Result ℕ MarkRefusal) → LeavesClient client (End start reply)
 end_client None start reply = tt
@@ -395,7 +395,7 @@ started_ended turns own (Asking opened) start reply never begun is = absurd is
 started_ended turns own (Writing opened place) start reply never begun is = record { of = is; so = λ are. ended_now own start reply begun (never are) }
 started_ended turns own (Draining run) start reply never begun is = absurd is
 started_ended turns own (Drained run) start reply never begun is = absurd is
-started_ended turns own (Broken run) start reply never begun is = record {
+started_ended turns own (Broken run fallen) start reply never begun is = record {
   of = is.of;
   so = λ are. subst (λ (e : Option ℕ). IsEndedSo (own ++ End start reply ∷ []) start (end_marked e (place_marked reply))) (sym is.on) (ended_now own start reply begun (never are));
 }

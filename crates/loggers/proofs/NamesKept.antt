@@ -153,7 +153,7 @@ head_run spec client (Asking o) head own got seen opened at is = (let same : o �
 head_run spec client (Writing o begun) head own got seen opened at is = (let same : o ≡ opened = cc (is) in at.holds.run ∙ ap (λ (x : ChannelRun). x.run) same)
 head_run spec client (Draining run) head own got seen opened at is = (let same : run.opened ≡ opened = cc (is) in at.holds.run ∙ ap (λ (x : ChannelRun). x.run) same)
 head_run spec client (Drained run) head own got seen opened at is = (let same : run.opened ≡ opened = cc (is) in at.holds.run ∙ ap (λ (x : ChannelRun). x.run) same)
-head_run spec client (Broken run) head own got seen opened at is = (let same : run.opened ≡ opened = cc (is) in at.number ∙ ap (λ (x : ChannelRun). x.run) same)
+head_run spec client (Broken run fallen) head own got seen opened at is = (let same : run.opened ≡ opened = cc (is) in at.left.number ∙ ap (λ (x : ChannelRun). x.run) same)
 
 stage_start : (stage : ChannelStage) (turns : List MemberTurn) (own : List BufferEntry) (start : ℕ) (opened : ChannelRun) → IsStoppingStage turns own start stage → channel_run stage ≡ Some opened → opened.start ≡ start
 stage_start Idle turns own start opened at is = absurd at
@@ -161,7 +161,7 @@ stage_start (Asking o) turns own start opened at is = absurd at
 stage_start (Writing o begun) turns own start opened at is = absurd at
 stage_start (Draining run) turns own start opened at is = (let same : run.opened ≡ opened = cc (is) in ap (λ (x : ChannelRun). x.start) (sym same) ∙ at.of)
 stage_start (Drained run) turns own start opened at is = (let same : run.opened ≡ opened = cc (is) in ap (λ (x : ChannelRun). x.start) (sym same) ∙ at.of)
-stage_start (Broken run) turns own start opened at is = (let same : run.opened ≡ opened = cc (is) in ap (λ (x : ChannelRun). x.start) (sym same) ∙ at.of)
+stage_start (Broken run fallen) turns own start opened at is = (let same : run.opened ≡ opened = cc (is) in ap (λ (x : ChannelRun). x.start) (sym same) ∙ at.of)
 
 answered_more : (order : Order) (dump : Option (List ℕ)) (states : _) (earlier : List MemberTurn) (run : ℕ) → IsStoppedRunOf (logger_turn Stop order dump None ∷ earlier) run → IsStoppedRunOf (stop_answered order dump states earlier) run
 answered_more order dump states earlier run is = record {
@@ -199,7 +199,7 @@ started_start (Asking o) start opened at is = absurd at
 started_start (Writing o begun) start opened at is = (let same : o ≡ opened = cc (is) in ap (λ (x : ChannelRun). x.start) (sym same) ∙ at)
 started_start (Draining run) start opened at is = absurd at
 started_start (Drained run) start opened at is = absurd at
-started_start (Broken run) start opened at is = (let same : run.opened ≡ opened = cc (is) in ap (λ (x : ChannelRun). x.start) (sym same) ∙ at.of)
+started_start (Broken run fallen) start opened at is = (let same : run.opened ≡ opened = cc (is) in ap (λ (x : ChannelRun). x.start) (sym same) ∙ at.of)
 
 part_start : (part : RunPart) (turns : List MemberTurn) (own : List BufferEntry) (start : ℕ) (stage : ChannelStage) (opened : ChannelRun) → IsStagePart part turns own start stage → channel_run stage ≡ Some opened → opened.start ≡ start
 part_start Refused turns own start stage opened at is = absurd (no_run stage opened at is)

@@ -38,7 +38,7 @@ opens_slot : (specs : List (Option ChannelSpec)) (order : Order) (dump : List �
 opens_slot specs order dump n None a b there same o = subst (λ (m : LoggerMoment). Opens specs order.run m) (sym same) o
 opens_slot specs order dump n (Some before) a b there s o =
     let opens = s.step.opens in
-    let opened : ChannelRun = record { run = order.run; start = order.start; file = opens.file; client = opens.asks.client; request = opens.asks.request } in
+    let opened : ChannelRun = record { run = order.run; start = order.start; time = order.time; at = opens.at; client = opens.asks.client; request = opens.asks.request } in
     let of : channel_run s.after.stage ≡ Some opened = ap channel_run opens.asks.stage in
     record {
       specs_are = ap specs_in s.slots ∙ (specs_set a.slots n before s.after there s.step.spec ∙ o.specs_are);

@@ -134,7 +134,7 @@ opening_one Good order dump n before a b there s g =
     let o = s.step.opens in
     let name_n : List ℕ = file_name_by before.spec.pattern order.run in
     let touches : Touches a.files.seen b.files.seen name_n = o.makes.touches in
-    let opened : ChannelRun = record { run = order.run; start = order.start; file = o.file; client = o.asks.client; request = o.asks.request } in
+    let opened : ChannelRun = record { run = order.run; start = order.start; time = order.time; at = o.at; client = o.asks.client; request = o.asks.request } in
     let of : channel_run s.after.stage ≡ Some opened = ap channel_run o.asks.stage in
     let slots : List (Option Channel) = slice_set a.slots n (Some s.after) in
     let none_n : Good name_n None = elim (g.each name_n) as (λ w. Good name_n None) [
@@ -326,7 +326,7 @@ removes_by spec (Asking opened) old new f g none r = (r.0.touches, surely new _ 
 removes_by spec (Writing opened begun) old new f g none r = (r.0.touches, surely new _ f g none r.1)
 removes_by spec (Draining run) old new f g none r = (r.0.touches, surely new _ f g none r.1)
 removes_by spec (Drained run) old new f g none r = (r.0.touches, surely new _ f g none r.1)
-removes_by spec (Broken run) old new f g none r = (r.0, surely new _ f g none r.2)
+removes_by spec (Broken run fallen) old new f g none r = (r.0, surely new _ f g none r.2)
 
 -- the files behind that
 record Aborted (Good : List ℕ → Option Stored → Type 0) (k : ℕ) (before : Channel) (a : LoggerMoment) (new : Seen) : Type 0 where

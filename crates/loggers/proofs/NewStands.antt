@@ -95,6 +95,7 @@ new_stands specs rooms slots ports seen new have unused = record {
 pub new_ready : (specs : List ChannelSpec) (rooms : List ℕ) (slots : List (Option Channel)) (ports : List Access) (seen : Seen) → HasNewChannels specs rooms slots → HavePorts specs ports → IsLoggerReady slots ports seen
 new_ready specs rooms slots ports seen new have = record {
   many = omega (arith, new.many);
+  unlimited = λ n c stood. ap (λ (x : Channel). x.sub_bytes) (new.only n c stood).1.1.is;
   served = λ n c stood. let f : IsFresh specs c = fresh_at specs rooms slots n c new stood in have f.place c.spec f.there;
   files = record {
     files = λ n c stood. rw (fresh_at specs rooms slots n c new stood).stage tt;

@@ -42,7 +42,7 @@ record IsMade (order : Order) (spec : ChannelSpec) (old : Seen) (opened : Channe
 
 open_made : (order : Order) (dump : List ℕ) (r : Result ⊤ Why) (s : ChannelStep) → OpensChannel order dump r s → s.before.stage ≡ Idle → (o : ChannelRun) → channel_run s.after.stage ≡ Some o → IsMade order s.before.spec s.files.seen o
 open_made order dump (Ok done) s opens idle o is =
-    let made : ChannelRun = record { run = order.run; start = order.start; file = opens.opens.file; client = opens.opens.asks.client; request = opens.opens.asks.request } in
+    let made : ChannelRun = record { run = order.run; start = order.start; time = order.time; at = opens.opens.at; client = opens.opens.asks.client; request = opens.opens.asks.request } in
     let at_stage : channel_run s.after.stage ≡ Some made = ap (λ (x : ChannelStage). channel_run x) opens.opens.asks.stage in
     let both : Some made ≡ Some o = sym at_stage ∙ is in
     let same : made ≡ o = cc (both) in
@@ -70,7 +70,7 @@ open_self keep order dump (Err why) s opens idle small none k =
 
 -- the file of another channel stays
 open_leaves : (spec : ChannelSpec) (run written : Option ChannelRun) (name : List ℕ) (old new : Seen) → OpensRunFile name old new → ((s : ChannelRun) → run ≡ Some s → IsTrue old.tells → old.at (file_name_by spec.pattern s.run) ≡ None → ⊥)
-    → ((s : ChannelRun) → written ≡ Some s → IsTrue (old.writes s.file)) → LeavesRunFile spec run written old new
+    → ((s : ChannelRun) → written ≡ Some s → IsTrue (old.writes s.at.file)) → LeavesRunFile spec run written old new
 open_leaves spec None written name old new opens there used = tt
 open_leaves spec (Some s) written name old new opens there used = record {
   tells = opens.touches.tells;
@@ -78,10 +78,10 @@ open_leaves spec (Some s) written name old new opens there used = record {
     | inl gone ↦ opens.touches.others (file_name_by spec.pattern s.run) (λ same. there s refl told (ap (λ (n : List ℕ). old.at n) same ∙ gone told))
     | inr same ↦ same (file_name_by spec.pattern s.run)
   ];
-  number = number_left old new written (λ k is. opens.numbers k.file (used k is));
+  number = number_left old new written (λ k is. opens.numbers k.at.file (used k is));
 }
 
-file_used : (slots : List (Option Channel)) (seen : Seen) (m : ℕ) (d : Channel) → HaveFilesOpen slots seen → slot_at slots m ≡ Some d → (s : ChannelRun) → written_run d.stage ≡ Some s → IsTrue (seen.writes s.file)
+file_used : (slots : List (Option Channel)) (seen : Seen) (m : ℕ) (d : Channel) → HaveFilesOpen slots seen → slot_at slots m ≡ Some d → (s : ChannelRun) → written_run d.stage ≡ Some s → IsTrue (seen.writes s.at.file)
 file_used slots seen m d open_files stood s is = (subst (λ (w : Option ChannelRun). IsOpenFile seen d.spec w) is (open_files.files m d stood)).0
 
 -- the opening of a run by one channel, or its refusal, as a step among all channels
@@ -129,8 +129,8 @@ open_moves keep alone change file_there beside files order dump r turns slots po
             let names_same : file_name_by d.spec.pattern q.run ≡ file_name_by before.spec.pattern o.run = sym same ∙ ap (λ (x : ChannelSpec). file_name_by x.pattern o.run) opens.spec in
             not_gone m d stood q other_is told_before (ap (λ (l : List ℕ). old.at l) names_same ∙ made.gone told_before);
         numbers = λ o q is other_is same.
-            let free : old.writes o.file ≡ false = open_fresh order dump r s opens idle o is in
-            let used : IsTrue (old.writes q.file) = file_used slots old m d open_files stood q other_is in
+            let free : old.writes o.at.file ≡ false = open_fresh order dump r s opens idle o is in
+            let used : IsTrue (old.writes q.at.file) = file_used slots old m d open_files stood q other_is in
             let never : true ≡ false = sym used ∙ (ap (λ (k : ℕ). old.writes k) (sym same) ∙ free) in
             cc (never);
       };

@@ -18,6 +18,7 @@ use Rattle.member_model.specs.SentCalls.{EachCall}
 use Rattle.member_model.specs.OwnCalls.{calls_after, gives_after, gave_number, IsOwnCall, AreOwnCalls, SendsNone}
 use Rattle.mid_logger.specs.declared.channel_spec.ChannelSpec.{ChannelSpec}
 use Rattle.mid_logger.specs.declared.pulled.Pulled.{Pulled}
+use Rattle.sub_files.specs.declared.open_file.Fallen.{Fallen}
 use Rattle.mid_logger.specs.declared.stage.BegunRun.{BegunRun}
 use Rattle.mid_logger.specs.declared.stage.ChannelRun.{ChannelRun}
 use Rattle.mid_logger.specs.declared.stage.ChannelStage.{ChannelStage}
@@ -144,7 +145,7 @@ pub opens_owned : (spec : ChannelSpec) (order : Order) (dump : List ℕ) (r : Re
 opens_owned spec order dump (Ok done) a b opens kept own asks = (
   asks_owned spec a.client b.client (Some opens.asks.request) a.port b.port opens.asks.asks kept own,
   λ opened is.
-      let both : asking_run (Asking (record { run = order.run; start = order.start; file = opens.file; client = opens.asks.client; request = opens.asks.request })) ≡ Some opened = sym (ap (λ (s : ChannelStage). asking_run s) opens.asks.stage) ∙ is in
+      let both : asking_run (Asking (record { run = order.run; start = order.start; time = order.time; at = opens.at; client = opens.asks.client; request = opens.asks.request })) ≡ Some opened = sym (ap (λ (s : ChannelStage). asking_run s) opens.asks.stage) ∙ is in
       opens.asks.client_is ∙ ap (λ (o : Option ChannelRun). option_map (λ (r : ChannelRun). r.client) o) both,
 )
 opens_owned spec order dump (Err why) a b opens kept own asks =
@@ -173,7 +174,7 @@ reading_asks (Asking opened) run is = absurd (cc (is))
 reading_asks (Writing opened begun) run is = ap (λ (o : Option BegunRun). option_map (λ (r : BegunRun). r.opened) o) is
 reading_asks (Draining r) run is = ap (λ (o : Option BegunRun). option_map (λ (r : BegunRun). r.opened) o) is
 reading_asks (Drained r) run is = absurd (cc (is))
-reading_asks (Broken r) run is = absurd (cc (is))
+reading_asks (Broken r fallen) run is = absurd (cc (is))
 
 stage_as_was : (client : Option ℕ) (stage later : ChannelStage) → later ≡ stage → AsksFor client stage → AsksFor client later
 stage_as_was client stage later same asks = subst (λ (s : ChannelStage). AsksFor client s) (sym same) asks
@@ -184,8 +185,8 @@ none_asked client opened is = absurd (cc (is))
 drained_asks : (client : Option ℕ) (run : BegunRun) → AsksFor client (Drained run)
 drained_asks client run opened is = absurd (cc (is))
 
-broken_asks : (client : Option ℕ) (run : BegunRun) → AsksFor client (Broken run)
-broken_asks client run opened is = absurd (cc (is))
+broken_asks : (client : Option ℕ) (run : BegunRun) (fallen : Fallen) → AsksFor client (Broken run fallen)
+broken_asks client run fallen opened is = absurd (cc (is))
 
 leaves_owned : (p : PullOf) (client : Option ℕ) (answer : Pulled) → LeavesAll p answer → KeepsOwnCalls p.port.own → IsOwnClient client p.port.own → AsksFor client p.stage → PullOwned client p
 leaves_owned p client answer leaves kept own asks = (owned_same client p.port p.later_port leaves.port kept own, stage_as_was client p.stage p.later_stage leaves.stage asks)
@@ -199,7 +200,7 @@ takes_owned p client run place e true early takes is kept own asks = drains_owne
 takes_owned p client run place e false true takes is kept own asks = leaves_owned p client _ takes kept own asks
 takes_owned p client run place e false false takes is kept own asks = elim takes as (λ w. PullOwned client p) [
   | inl writes ↦ (owned_same client p.port p.later_port writes.port kept own, stage_as_was client p.stage p.later_stage writes.stage asks)
-  | inr breaks ↦ (cancel_owned client run.opened p.port p.later_port breaks.port kept own is, stage_as_was client (Broken run) p.later_stage breaks.stage (broken_asks client run))
+  | inr breaks ↦ (cancel_owned client run.opened p.port p.later_port breaks.port kept own is, stage_as_was client (Broken run breaks.fallen) p.later_stage breaks.stage (broken_asks client run breaks.fallen))
 ]
 
 none_owned : (p : PullOf) (client : Option ℕ) (run : BegunRun) (drains : Bool) → FindsNone drains p run → client ≡ Some run.opened.client → KeepsOwnCalls p.port.own → IsOwnClient client p.port.own → AsksFor client p.stage → PullOwned client p
@@ -232,7 +233,7 @@ begun_asks place (Asking opened) = refl
 begun_asks place (Writing opened begun) = refl
 begun_asks place (Draining run) = refl
 begun_asks place (Drained run) = refl
-begun_asks place (Broken run) = refl
+begun_asks place (Broken run fallen) = refl
 
 pub ended_asks : (ended : Option ℕ) (stage : ChannelStage) → asking_run (stage_ended stage ended) ≡ asking_run stage
 ended_asks ended Idle = refl
@@ -240,7 +241,7 @@ ended_asks ended (Asking opened) = refl
 ended_asks ended (Writing opened begun) = refl
 ended_asks ended (Draining run) = refl
 ended_asks ended (Drained run) = refl
-ended_asks ended (Broken run) = refl
+ended_asks ended (Broken run fallen) = refl
 
 pub settled_asks : (stage : ChannelStage) → asking_run (stage_settled stage) ≡ asking_run stage
 settled_asks Idle = refl
@@ -248,4 +249,4 @@ settled_asks (Asking opened) = refl
 settled_asks (Writing opened begun) = refl
 settled_asks (Draining run) = refl
 settled_asks (Drained run) = refl
-settled_asks (Broken run) = refl
+settled_asks (Broken run fallen) = refl

@@ -246,7 +246,7 @@ pulled_apart : (old new : Seen) (before after d : Channel) → new.tells ≡ old
 pulled_apart old new before after d tells spec client keeps apart = record {
   clients = λ same m n is other_is. apart.clients (ap (λ (s : ChannelSpec). s.buffer) (sym spec) ∙ same) m n (sym client ∙ is) other_is;
   names = λ r s is other_is told e. apart.names r s (sym keeps.run ∙ is) other_is (subst (λ (b : Bool). IsTrue b) tells told) (ap (λ (x : ChannelSpec). file_name_by x.pattern r.run) (sym spec) ∙ e);
-  numbers = λ r s is other_is. elim keeps.written as (λ w. r.file ≢ s.file) [
+  numbers = λ r s is other_is. elim keeps.written as (λ w. r.at.file ≢ s.at.file) [
     | inl same ↦ apart.numbers r s (sym same ∙ is) other_is
     | inr none ↦ absurd (let never : None ≡ Some r = sym none ∙ is in cc (never))
   ];

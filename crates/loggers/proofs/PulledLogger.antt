@@ -14,6 +14,7 @@ use Rattle.mid_logger.specs.declared.channel_spec.ChannelSpec.{ChannelSpec}
 use Rattle.mid_logger.specs.declared.pulled.Pulled.{Pulled}
 use Rattle.mid_logger.specs.declared.stage.BegunRun.{BegunRun}
 use Rattle.mid_logger.specs.declared.stage.ChannelRun.{ChannelRun}
+use Rattle.sub_files.specs.declared.open_file.Fallen.{Fallen}
 use Rattle.mid_logger.specs.declared.stage.ChannelStage.{ChannelStage}
 use Rattle.mid_logger.specs.declared.stage.ChannelStage.TheVariants.{Idle, Asking, Writing, Draining, Drained, Broken}
 use Rattle.mid_logger.specs.Channels.{run_begun, reading_run, is_behind_end}
@@ -32,20 +33,24 @@ use Rattle.loggers.proofs.PullMoves.{GrowsOn, pull_grows, ended_stays, pull_stan
 
 -- Stages.
 
+-- the stage is that of the run that broke off
+abbrev BrokeOff : (run : BegunRun) → (later : ChannelStage) → Type 0
+BrokeOff run later = (fallen : Fallen) × (later ≡ Broken run fallen)
+
 -- the stage behind a pull: the same, or that of the run that was read
 abbrev StageBehind : (run : BegunRun) → (drains : Bool) → (stage later : ChannelStage) → Type 0
-StageBehind run true stage later = (later ≡ stage) ⊎ ((later ≡ Drained run) ⊎ (later ≡ Broken run))
-StageBehind run false stage later = (later ≡ stage) ⊎ (later ≡ Broken run)
+StageBehind run true stage later = (later ≡ stage) ⊎ ((later ≡ Drained run) ⊎ BrokeOff run later)
+StageBehind run false stage later = (later ≡ stage) ⊎ BrokeOff run later
 
-takes_stage : (p : PullOf) (run : BegunRun) (place : ℕ) (e : Event) (early : Bool) → TakesBy false early p run place e → (p.later_stage ≡ p.stage) ⊎ (p.later_stage ≡ Broken run)
+takes_stage : (p : PullOf) (run : BegunRun) (place : ℕ) (e : Event) (early : Bool) → TakesBy false early p run place e → (p.later_stage ≡ p.stage) ⊎ BrokeOff run p.later_stage
 takes_stage p run place e true takes = inl takes.stage
-takes_stage p run place e false takes = elim takes as (λ w. (p.later_stage ≡ p.stage) ⊎ (p.later_stage ≡ Broken run)) [
+takes_stage p run place e false takes = elim takes as (λ w. (p.later_stage ≡ p.stage) ⊎ BrokeOff run p.later_stage) [
   | inl writes ↦ inl writes.stage
-  | inr breaks ↦ inr breaks.stage
+  | inr breaks ↦ inr (breaks.fallen, breaks.stage)
 ]
 
-or_broken : (run : BegunRun) (stage later : ChannelStage) → (later ≡ stage) ⊎ (later ≡ Broken run) → StageBehind run true stage later
-or_broken run stage later either = elim either as (λ w. (later ≡ stage) ⊎ ((later ≡ Drained run) ⊎ (later ≡ Broken run))) [
+or_broken : (run : BegunRun) (stage later : ChannelStage) → (later ≡ stage) ⊎ BrokeOff run later → StageBehind run true stage later
+or_broken run stage later either = elim either as (λ w. (later ≡ stage) ⊎ ((later ≡ Drained run) ⊎ BrokeOff run later)) [
   | inl same ↦ inl same
   | inr broken ↦ inr (inr broken)
 ]
@@ -84,7 +89,7 @@ stopping_grown turns x y start (Asking opened) grows is = absurd is
 stopping_grown turns x y start (Writing opened begun) grows is = absurd is
 stopping_grown turns x y start (Draining run) grows is = ended_grown turns x y start run grows is
 stopping_grown turns x y start (Drained run) grows is = ended_grown turns x y start run grows is
-stopping_grown turns x y start (Broken run) grows is = ended_grown turns x y start run grows is
+stopping_grown turns x y start (Broken run fallen) grows is = ended_grown turns x y start run grows is
 
 part_grown : (turns : List MemberTurn) (x y : Access) (part : RunPart) (start : ℕ) (stage : ChannelStage) → GrowsOn x y → IsStagePart part turns x.own start stage → IsStagePart part turns y.own start stage
 part_grown turns x y Refused start stage grows is = is
@@ -110,11 +115,11 @@ started_pulled p room start (Writing opened begun) is pulls at =
     let once : PullsOnce p (run_begun opened begun) room = once_reply p room (run_begun opened begun) (ap (λ (s : ChannelStage). reading_run s) is) pulls in
     elim (writing_reply (record p { port = once.middle }) opened begun once.reply once.event is once.taken) as (λ w. IsStartedStage start p.later_stage) [
       | inl same ↦ subst (λ (s : ChannelStage). IsStartedStage start s) (sym (same ∙ is)) at
-      | inr broken ↦ subst (λ (s : ChannelStage). IsStartedStage start s) (sym broken) (record { of = at; on = refl })
+      | inr broken ↦ subst (λ (s : ChannelStage). IsStartedStage start s) (sym broken.1) (record { of = at; on = refl })
     ]
 started_pulled p room start (Draining run) is pulls at = absurd at
 started_pulled p room start (Drained run) is pulls at = absurd at
-started_pulled p room start (Broken run) is pulls at = subst (λ (s : ChannelStage). IsStartedStage start s) (sym (unread p room (ap (λ (s : ChannelStage). reading_run s) is) pulls ∙ is)) at
+started_pulled p room start (Broken run fallen) is pulls at = subst (λ (s : ChannelStage). IsStartedStage start s) (sym (unread p room (ap (λ (s : ChannelStage). reading_run s) is) pulls ∙ is)) at
 
 stopping_pulled : (turns : List MemberTurn) (own : List BufferEntry) (p : PullOf) (room start : ℕ) (stage : ChannelStage) → p.stage ≡ stage → Pulls p room → IsStoppingStage turns own start stage → IsStoppingStage turns own start p.later_stage
 stopping_pulled turns own p room start Idle is pulls at = absurd at
@@ -126,11 +131,11 @@ stopping_pulled turns own p room start (Draining run) is pulls at =
       | inl same ↦ subst (λ (s : ChannelStage). IsStoppingStage turns own start s) (sym (same ∙ is)) at
       | inr done ↦ elim done as (λ w. IsStoppingStage turns own start p.later_stage) [
         | inl drained ↦ subst (λ (s : ChannelStage). IsStoppingStage turns own start s) (sym drained) at
-        | inr broken ↦ subst (λ (s : ChannelStage). IsStoppingStage turns own start s) (sym broken) at
+        | inr broken ↦ subst (λ (s : ChannelStage). IsStoppingStage turns own start s) (sym broken.1) at
       ]
     ]
 stopping_pulled turns own p room start (Drained run) is pulls at = subst (λ (s : ChannelStage). IsStoppingStage turns own start s) (sym (unread p room (ap (λ (s : ChannelStage). reading_run s) is) pulls ∙ is)) at
-stopping_pulled turns own p room start (Broken run) is pulls at = subst (λ (s : ChannelStage). IsStoppingStage turns own start s) (sym (unread p room (ap (λ (s : ChannelStage). reading_run s) is) pulls ∙ is)) at
+stopping_pulled turns own p room start (Broken run fallen) is pulls at = subst (λ (s : ChannelStage). IsStoppingStage turns own start s) (sym (unread p room (ap (λ (s : ChannelStage). reading_run s) is) pulls ∙ is)) at
 
 part_pulled : (turns : List MemberTurn) (own : List BufferEntry) (p : PullOf) (room : ℕ) (part : RunPart) (start : ℕ) → Pulls p room → IsStagePart part turns own start p.stage → IsStagePart part turns own start p.later_stage
 part_pulled turns own p room Refused start pulls at = unread p room (ap (λ (s : ChannelStage). reading_run s) at) pulls ∙ at

@@ -11,6 +11,7 @@ use Rattle.buffer_core.specs.declared.entry.BufferEntry.{BufferEntry}
 use Rattle.buffer_core.specs.Ports.{Access}
 use Rattle.buffer_core.specs.Slots.{slot_at}
 use Rattle.buffer_core.proofs.SlotLaws.{slot_change_all}
+use Rattle.sub_files.specs.declared.open_file.OpenFile.{OpenFile}
 use Rattle.mid_logger.specs.declared.channel.Channel.{Channel}
 use Rattle.mid_logger.specs.declared.channel_spec.ChannelSpec.{ChannelSpec}
 use Rattle.mid_logger.specs.declared.pulled.Pulled.{Pulled}
@@ -35,25 +36,25 @@ in_use : (seen : Seen) (number : ℕ) → IsTrue (seen.writes number) → IsTrue
 in_use seen number used = ap (λ (b : Bool). b || seen.reads number) used
 
 -- a file whose number stays is open as it was
-pub open_left : (spec : ChannelSpec) (old new : Seen) (written : Option ChannelRun) → ((s : ChannelRun) → written ≡ Some s → IsTrue (old.writes s.file) → KeepsNumber old new s.file) → IsOpenFile old spec written → IsOpenFile new spec written
+pub open_left : (spec : ChannelSpec) (old new : Seen) (written : Option ChannelRun) → ((s : ChannelRun) → written ≡ Some s → IsTrue (old.writes s.at.file) → KeepsNumber old new s.at.file) → IsOpenFile old spec written → IsOpenFile new spec written
 open_left spec old new None keeps file = tt
 open_left spec old new (Some s) keeps file =
-    let kept : KeepsNumber old new s.file = keeps s refl file.0 in
-    (kept.writes ∙ file.0, kept.name (in_use old s.file file.0) ∙ file.1)
+    let kept : KeepsNumber old new s.at.file = keeps s refl file.0 in
+    (kept.writes ∙ file.0, kept.name (in_use old s.at.file file.0) ∙ file.1, file.2)
 
 -- a change of one run's file leaves the numbers of others
-pub numbers_left : (spec : ChannelSpec) (run written other : Option ChannelRun) (old new : Seen) → ChangesFile spec run written old new → HaveNumbersApart written other → (s : ChannelRun) → other ≡ Some s → KeepsNumber old new s.file
+pub numbers_left : (spec : ChannelSpec) (run written other : Option ChannelRun) (old new : Seen) → ChangesFile spec run written old new → HaveNumbersApart written other → (s : ChannelRun) → other ≡ Some s → KeepsNumber old new s.at.file
 numbers_left spec None written other old new changes apart s is =
-    let now : KeepsNumber old old s.file = record { writes = refl; reads = refl; name = λ used. refl; left = λ reads. refl } in
-    subst (λ (n : Seen). KeepsNumber old n s.file) (sym changes) now
-numbers_left spec (Some opened) written other old new changes apart s is = changes.others s.file (λ r writes same. apart r s writes is (sym same))
+    let now : KeepsNumber old old s.at.file = record { writes = refl; reads = refl; name = λ used. refl; left = λ reads. refl } in
+    subst (λ (n : Seen). KeepsNumber old n s.at.file) (sym changes) now
+numbers_left spec (Some opened) written other old new changes apart s is = changes.others s.at.file (λ r writes same. apart r s writes is (sym same))
 
 -- the number that is written stays, or none is written any more
 abbrev pub LeavesWritten : (before after : Channel) → Type 0
 LeavesWritten before after = (written_run after.stage ≡ written_run before.stage) ⊎ (written_run after.stage ≡ None)
 
 still_apart : (before after : Channel) (other : Option ChannelRun) → LeavesWritten before after → HaveNumbersApart (written_run before.stage) other → HaveNumbersApart (written_run after.stage) other
-still_apart before after other leaves apart r s is other_is = elim leaves as (λ w. r.file ≢ s.file) [
+still_apart before after other leaves apart r s is other_is = elim leaves as (λ w. r.at.file ≢ s.at.file) [
   | inl same ↦ apart r s (sym same ∙ is) other_is
   | inr none ↦ absurd (let never : None ≡ Some r = sym none ∙ is in cc (never))
 ]
@@ -88,11 +89,12 @@ files_kept slots n before after old new there own open_before = record {
 
 -- The moments of a step.
 
-pub step_ready : (Step : ChannelStep → Type 0) (n : ℕ) (before : Channel) (a b : LoggerMoment) (s : StepsChannel Step n before a b) → slot_at a.slots n ≡ Some before → s.after.spec ≡ before.spec → HaveFilesOpen (slice_set a.slots n (Some s.after)) b.files.seen
+pub step_ready : (Step : ChannelStep → Type 0) (n : ℕ) (before : Channel) (a b : LoggerMoment) (s : StepsChannel Step n before a b) → slot_at a.slots n ≡ Some before → s.after.spec ≡ before.spec → s.after.sub_bytes ≡ before.sub_bytes → HaveFilesOpen (slice_set a.slots n (Some s.after)) b.files.seen
     → IsLoggerReady a.slots a.ports a.files.seen → IsLoggerReady b.slots b.ports b.files.seen
-step_ready Step n before a b s there spec files ready =
+step_ready Step n before a b s there spec limit files ready =
     let now : IsLoggerReady (slice_set a.slots n (Some s.after)) (slice_set a.ports before.spec.buffer s.later_port) b.files.seen = record {
       many = omega (arith, many_set a.slots n (Some s.after), ready.many);
+      unlimited = one_changed (λ k x. x.sub_bytes ≡ 0) a.slots n s.after (λ x e. limit ∙ ready.unlimited n before there) (λ k x other e. ready.unlimited k x e) before there;
       served = λ m c stood. omega (
         arith,
         many_set a.ports before.spec.buffer s.later_port,
@@ -107,7 +109,7 @@ step_ready Step n before a b s there spec files ready =
 pub pulled_ready : PullsChange → (answer : Pulled) (n : ℕ) (before : Channel) (a b : LoggerMoment) → slot_at a.slots n ≡ Some before → StepsChannel (PullsChannel answer) n before a b → IsLoggerReady a.slots a.ports a.files.seen → IsLoggerReady b.slots b.ports b.files.seen
 pulled_ready change answer n before a b there s ready =
     let changes = change _ before.event.room before.spec s.step.pulls (ready.files.files n before there) in
-    step_ready (PullsChannel answer) n before a b s there s.step.spec
+    step_ready (PullsChannel answer) n before a b s there s.step.spec s.step.limit
     (files_kept a.slots n before s.after a.files.seen b.files.seen there
     (record { spec = s.step.spec; written = changes.1.written; changes = changes.0; file = subst (λ (sp : ChannelSpec). IsOpenFile b.files.seen sp (written_run s.after.stage)) (sym s.step.spec) changes.2 }) ready.files) ready
 
@@ -128,7 +130,7 @@ abort_own before after old new is changes = record {
 pub aborted_ready : AbortsChange → (n : ℕ) (slot : Option Channel) (a b : LoggerMoment) → slot_at a.slots n ≡ slot → StepsSlot AbortsChannel n slot a b → IsLoggerReady a.slots a.ports a.files.seen → IsLoggerReady b.slots b.ports b.files.seen
 aborted_ready change n None a b there step ready = subst (λ (m : LoggerMoment). IsLoggerReady m.slots m.ports m.files.seen) (sym step) ready
 aborted_ready change n (Some before) a b there s ready =
-    step_ready AbortsChannel n before a b s there (ap (λ (c : Channel). c.spec) s.step.channel)
+    step_ready AbortsChannel n before a b s there (ap (λ (c : Channel). c.spec) s.step.channel) (ap (λ (c : Channel). c.sub_bytes) s.step.channel)
     (files_kept a.slots n before s.after a.files.seen b.files.seen there
     (abort_own before s.after a.files.seen b.files.seen s.step.channel (change before.spec before.stage a.files.seen b.files.seen a.files.faults b.files.faults s.step.removes)) ready.files) ready
 
@@ -140,7 +142,7 @@ settled_written (Asking opened) = inl refl
 settled_written (Writing opened begun) = inl refl
 settled_written (Draining run) = inl refl
 settled_written (Drained run) = inr refl
-settled_written (Broken run) = inl refl
+settled_written (Broken run fallen) = inl refl
 
 -- the file of a stage that is not settled stays in use
 settled_file : (spec : ChannelSpec) (stage : ChannelStage) (old new : Seen) → (written_run (stage_settled stage) ≡ None) ⊎ (new ≡ old) → IsOpenFile old spec (written_run stage) → IsOpenFile new spec (written_run (stage_settled stage))
@@ -149,21 +151,21 @@ settled_file spec (Asking opened) old new either file = elim either as (λ w. Is
 settled_file spec (Writing opened begun) old new either file = elim either as (λ w. IsOpenFile new spec (Some opened)) [ inl none ↦ absurd (cc (none)) | inr same ↦ subst (λ (s : Seen). IsOpenFile s spec (Some opened)) (sym same) file ]
 settled_file spec (Draining run) old new either file = elim either as (λ w. IsOpenFile new spec (Some run.opened)) [ inl none ↦ absurd (cc (none)) | inr same ↦ subst (λ (s : Seen). IsOpenFile s spec (Some run.opened)) (sym same) file ]
 settled_file spec (Drained run) old new either file = tt
-settled_file spec (Broken run) old new either file = tt
+settled_file spec (Broken run fallen) old new either file = tt
 
 -- Opening a run.
 
 -- where a channel with no file opens one, or none, the others' files stay, and the new number is none of theirs
 pub opened_files : (slots : List (Option Channel)) (n : ℕ) (before after : Channel) (name : List ℕ) (old new : Seen) → slot_at slots n ≡ Some before → OpensRunFile name old new → IsOpenFile new after.spec (written_run after.stage)
-    → ((r : ChannelRun) → written_run after.stage ≡ Some r → old.writes r.file ≡ false) → HaveFilesOpen slots old → HaveFilesOpen (slice_set slots n (Some after)) new
+    → ((r : ChannelRun) → written_run after.stage ≡ Some r → old.writes r.at.file ≡ false) → HaveFilesOpen slots old → HaveFilesOpen (slice_set slots n (Some after)) new
 opened_files slots n before after name old new there opens file fresh open_before =
-    let used : (m : ℕ) (c : Channel) (s : ChannelRun) → slot_at slots m ≡ Some c → written_run c.stage ≡ Some s → IsTrue (old.writes s.file) =
+    let used : (m : ℕ) (c : Channel) (s : ChannelRun) → slot_at slots m ≡ Some c → written_run c.stage ≡ Some s → IsTrue (old.writes s.at.file) =
     λ m c s stood is. (subst (λ (w : Option ChannelRun). IsOpenFile old c.spec w) is (open_before.files m c stood)).0 in
     let apart : (m : ℕ) (c : Channel) → slot_at slots m ≡ Some c → HaveNumbersApart (written_run after.stage) (written_run c.stage) =
     λ m c stood r s is other_is same. (let never : true ≡ false = sym (used m c s stood other_is) ∙ (ap (λ (k : ℕ). old.writes k) (sym same) ∙ fresh r is) in cc (never)) in
     record {
       files = one_changed (λ m c. IsOpenFile new c.spec (written_run c.stage)) slots n after (λ b stood. file)
-          (λ m c other stood. open_left c.spec old new (written_run c.stage) (λ s is in_use_before. opens.numbers s.file in_use_before) (open_before.files m c stood)) before there;
+          (λ m c other stood. open_left c.spec old new (written_run c.stage) (λ s is in_use_before. opens.numbers s.at.file in_use_before) (open_before.files m c stood)) before there;
       numbers = λ k m c d differ first second.
           one_changed (λ i x. (j : ℕ) (y : Channel) → i ≢ j → slot_at (slice_set slots n (Some after)) j ≡ Some y → HaveNumbersApart (written_run x.stage) (written_run y.stage)) slots n after
           (λ b stood j y other at_j. one_changed (λ i x. n ≢ i → HaveNumbersApart (written_run after.stage) (written_run x.stage)) slots n after (λ b2 stood2 never. absurd (never refl)) (λ i x other2 stood2 ne. apart i x stood2) before there j y at_j other)
@@ -174,24 +176,24 @@ opened_files slots n before after name old new there opens file fresh open_befor
     }
 
 -- a number that a run is opened under was free; at a refusal the channel stays idle
-pub open_fresh : (order : Order) (dump : List ℕ) (r : Result ⊤ Why) (s : ChannelStep) → OpensChannel order dump r s → s.before.stage ≡ Idle → (o : ChannelRun) → written_run s.after.stage ≡ Some o → s.files.seen.writes o.file ≡ false
+pub open_fresh : (order : Order) (dump : List ℕ) (r : Result ⊤ Why) (s : ChannelStep) → OpensChannel order dump r s → s.before.stage ≡ Idle → (o : ChannelRun) → written_run s.after.stage ≡ Some o → s.files.seen.writes o.at.file ≡ false
 open_fresh order dump (Ok done) s opens idle o is =
-    let made : ChannelRun = record { run = order.run; start = order.start; file = opens.opens.file; client = opens.opens.asks.client; request = opens.opens.asks.request } in
+    let made : ChannelRun = record { run = order.run; start = order.start; time = order.time; at = opens.opens.at; client = opens.opens.asks.client; request = opens.opens.asks.request } in
     let at_stage : written_run s.after.stage ≡ Some made = ap (λ (x : ChannelStage). written_run x) opens.opens.asks.stage in
     let both : Some made ≡ Some o = sym at_stage ∙ is in
     let same : made ≡ o = cc (both) in
-    subst (λ (k : ChannelRun). s.files.seen.writes k.file ≡ false) same opens.opens.makes.was_free.writes
+    subst (λ (k : ChannelRun). s.files.seen.writes k.at.file ≡ false) same opens.opens.makes.was_free.writes
 open_fresh order dump (Err why) s opens idle o is = absurd (let never : None ≡ Some o = sym (ap (λ (x : ChannelStage). written_run x) (opens.opens.0 ∙ idle)) ∙ is in cc (never))
 
 open_file : (order : Order) (dump : List ℕ) (r : Result ⊤ Why) (s : ChannelStep) → OpensChannel order dump r s → s.before.stage ≡ Idle → IsOpenFile s.later_files.seen s.before.spec (written_run s.after.stage)
-open_file order dump (Ok done) s opens idle = rw opens.opens.asks.stage (opens.opens.makes.writes, opens.opens.makes.named)
+open_file order dump (Ok done) s opens idle = rw opens.opens.asks.stage (opens.opens.makes.writes, opens.opens.makes.named, ap (λ (x : OpenFile). x.sub) opens.opens.first)
 open_file order dump (Err why) s opens idle = rw (opens.opens.0, idle) tt
 
 pub opened_ready : OpensChange → (order : Order) (dump : List ℕ) (r : Result ⊤ Why) (n : ℕ) (before : Channel) (a b : LoggerMoment) → slot_at a.slots n ≡ Some before → before.stage ≡ Idle → StepsChannel (OpensChannel order dump r) n before a b
     → IsLoggerReady a.slots a.ports a.files.seen → IsLoggerReady b.slots b.ports b.files.seen
 opened_ready change order dump r n before a b there idle s ready =
     let opens : OpensRunFile _ a.files.seen b.files.seen = change before.spec order dump r _ _ s.step.opens in
-    step_ready (OpensChannel order dump r) n before a b s there s.step.spec
+    step_ready (OpensChannel order dump r) n before a b s there s.step.spec s.step.limit
     (opened_files a.slots n before s.after _ a.files.seen b.files.seen there opens
     (subst (λ (sp : ChannelSpec). IsOpenFile b.files.seen sp (written_run s.after.stage)) (sym s.step.spec) (open_file order dump r _ s.step idle))
     (open_fresh order dump r _ s.step idle) ready.files) ready
@@ -202,6 +204,7 @@ pub called_ready : (entry : BufferEntry) (buffer : ℕ) (a b : LoggerMoment) →
 called_ready entry buffer a b calls ready =
     let now : IsLoggerReady a.slots (slice_set a.ports buffer calls.later_port) a.files.seen = record {
       many = ready.many;
+      unlimited = ready.unlimited;
       served = λ n c there. omega (arith, many_set a.ports buffer calls.later_port, ready.served n c there);
       files = ready.files;
     } in
@@ -210,6 +213,10 @@ called_ready entry buffer a b calls ready =
 noted_spec : (note : ChannelStage → ChannelStage) (buffer : ℕ) (c : Channel) (hit : Bool) → (if hit then record c { stage = note c.stage } else c).spec ≡ c.spec
 noted_spec note buffer c true = refl
 noted_spec note buffer c false = refl
+
+noted_limit : (note : ChannelStage → ChannelStage) (buffer : ℕ) (c : Channel) (hit : Bool) → (if hit then record c { stage = note c.stage } else c).sub_bytes ≡ c.sub_bytes
+noted_limit note buffer c true = refl
+noted_limit note buffer c false = refl
 
 noted_written : (note : ChannelStage → ChannelStage) (c : Channel) (hit : Bool) → ((stage : ChannelStage) → written_run (note stage) ≡ written_run stage) → written_run (if hit then record c { stage = note c.stage } else c).stage ≡ written_run c.stage
 noted_written note c true keeps = keeps c.stage
@@ -238,6 +245,9 @@ marked_ready entry note buffer a b keeps marks ready =
     let written : (c : Channel) → written_run (noted_channel note buffer c).stage ≡ written_run c.stage = λ c. noted_written note c (c.spec.buffer == buffer) keeps in
     let now : IsLoggerReady (map (option_map (noted_channel note buffer)) a.slots) b.ports b.files.seen = record {
       many = omega (arith, called.many, length-map a.slots (option_map (noted_channel note buffer)));
+      unlimited = λ n c there.
+          let was : WasNoted note buffer a.slots n c = was_noted note buffer a.slots n c there in
+          ap (λ (x : Channel). x.sub_bytes) was.is ∙ (noted_limit note buffer was.before (was.before.spec.buffer == buffer) ∙ called.unlimited n was.before was.there);
       served = λ n c there.
           let was : WasNoted note buffer a.slots n c = was_noted note buffer a.slots n c there in
           subst (λ (x : Channel). x.spec.buffer < length b.ports) (sym was.is) (subst (λ (sp : ChannelSpec). sp.buffer < length b.ports) (sym (specs was.before)) (called.served n was.before was.there));
@@ -267,7 +277,7 @@ begun_stays place stage = refl
 
 ended_stays : (ended : Option ℕ) (stage : ChannelStage) → written_run (stage_ended stage ended) ≡ written_run stage
 ended_stays ended (Writing opened begun) = refl
-ended_stays ended (Broken run) = refl
+ended_stays ended (Broken run fallen) = refl
 ended_stays ended stage = refl
 
 pub begins_ready : (start buffer : ℕ) (a b : LoggerMoment) → BeginsBuffer start buffer a b → IsLoggerReady a.slots a.ports a.files.seen → IsLoggerReady b.slots b.ports b.files.seen
@@ -287,7 +297,7 @@ none_or_same (Asking opened) state time dump old new faults later closes = inr c
 none_or_same (Writing opened begun) state time dump old new faults later closes = inr closes.1
 none_or_same (Draining run) state time dump old new faults later closes = inr closes.1
 none_or_same (Drained run) state time dump old new faults later closes = inl refl
-none_or_same (Broken run) state time dump old new faults later closes = inl refl
+none_or_same (Broken run fallen) state time dump old new faults later closes = inl refl
 
 -- the files behind the ending of one channel's
 pub ended_files : ClosesChange → (time : ℕ) (dump : Option (List ℕ)) (state : ChannelState) (slots : List (Option Channel)) (n : ℕ) (before after : Channel) (files later : RunFiles) → slot_at slots n ≡ Some before → EndsChannel time dump state before after files later

@@ -247,7 +247,7 @@ begun_off place (Asking opened) = refl
 begun_off place (Writing opened begun) = refl
 begun_off place (Draining was) = refl
 begun_off place (Drained was) = refl
-begun_off place (Broken was) = refl
+begun_off place (Broken was fallen) = refl
 
 ended_off : (ended : Option ℕ) → KeepsOff (λ stage. stage_ended stage ended)
 ended_off ended Idle = refl
@@ -255,7 +255,7 @@ ended_off ended (Asking opened) = refl
 ended_off ended (Writing opened begun) = refl
 ended_off ended (Draining was) = refl
 ended_off ended (Drained was) = refl
-ended_off ended (Broken was) = refl
+ended_off ended (Broken was fallen) = refl
 
 mark_kept : (entry : BufferEntry) (note : ChannelStage → ChannelStage) (buffer : ℕ) (a b : LoggerMoment) → KeepsOff note → MarksBuffer entry note buffer a b → Kept a b
 mark_kept entry note buffer a b keeps marks =
@@ -401,7 +401,7 @@ settled_none (Asking opened) = refl
 settled_none (Writing opened begun) = refl
 settled_none (Draining run) = refl
 settled_none (Drained run) = refl
-settled_none (Broken run) = refl
+settled_none (Broken run fallen) = refl
 
 otherwise_off : (stage : ChannelStage) → faults_of_state (state_otherwise stage) ≡ off_of stage
 otherwise_off Idle = refl
@@ -409,7 +409,7 @@ otherwise_off (Asking opened) = refl
 otherwise_off (Writing opened begun) = refl
 otherwise_off (Draining run) = refl
 otherwise_off (Drained run) = refl
-otherwise_off (Broken run) = refl
+otherwise_off (Broken run fallen) = refl
 
 -- what is told of a channel whose file is ended had a fault, which was counted now, or for which it had broken off
 record ToldBy (stage : ChannelStage) (state : ChannelState) (f g : ℕ) : Type 0 where

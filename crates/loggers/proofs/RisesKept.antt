@@ -159,7 +159,7 @@ begun_off place (Asking opened) = refl
 begun_off place (Writing opened begun) = refl
 begun_off place (Draining was) = refl
 begun_off place (Drained was) = refl
-begun_off place (Broken was) = refl
+begun_off place (Broken was fallen) = refl
 
 ended_off : (ended : Option ℕ) → KeepsOff (λ stage. stage_ended stage ended)
 ended_off ended Idle = refl
@@ -167,7 +167,7 @@ ended_off ended (Asking opened) = refl
 ended_off ended (Writing opened begun) = refl
 ended_off ended (Draining was) = refl
 ended_off ended (Drained was) = refl
-ended_off ended (Broken was) = refl
+ended_off ended (Broken was fallen) = refl
 
 mark_rises : (told : ℕ) (entry : BufferEntry) (note : ChannelStage → ChannelStage) (buffer : ℕ) (a b : LoggerMoment) → KeepsOff note → MarksBuffer entry note buffer a b → RisesSo told 0 a b
 mark_rises told entry note buffer a b keeps marks =
@@ -390,7 +390,7 @@ reading_off (Asking opened) run reads = refl
 reading_off (Writing opened begun) run reads = refl
 reading_off (Draining was) run reads = refl
 reading_off (Drained was) run reads = refl
-reading_off (Broken was) run reads = absurd (cc (reads))
+reading_off (Broken was fallen) run reads = absurd (cc (reads))
 
 read_clean : (p : PullOf) (answer : Pulled) → off_of p.stage ≡ 0 → p.answer ≡ answer → (answer ≡ Broke → ⊥) → PullClean p
 read_clean p answer off is other = record { stays = λ none. off; broke = λ broke. absurd (other (sym is ∙ broke)) }
@@ -462,7 +462,7 @@ settled_off (Asking opened) = refl
 settled_off (Writing opened begun) = refl
 settled_off (Draining run) = refl
 settled_off (Drained run) = refl
-settled_off (Broken run) = refl
+settled_off (Broken run fallen) = refl
 
 -- a file that is closed without a word of a fault had none
 read_quiet : (state : ChannelState) (run : BegunRun) (time : ℕ) (dump : Option (List ℕ)) (a b : Seen) (f g : ℕ) → ClosesRead state run time dump a b f g → faults_of_state state ≡ 0 → g ≡ f
@@ -479,7 +479,7 @@ closed_quiet (Asking opened) state time dump a b f g closes none = (refl, closes
 closed_quiet (Writing opened begun) state time dump a b f g closes none = (refl, closes.2)
 closed_quiet (Draining run) state time dump a b f g closes none = (refl, closes.2)
 closed_quiet (Drained run) state time dump a b f g closes none = (refl, read_quiet state run time dump a b f g closes none)
-closed_quiet (Broken run) state time dump a b f g closes none =
+closed_quiet (Broken run fallen) state time dump a b f g closes none =
     let one : faults_of_state state ≡ 1 = ap faults_of_state closes.0 in
     absurd (omega (arith, none, one))
 

@@ -14,6 +14,7 @@ use Rattle.mid_logger.specs.declared.channel.Channel.{Channel}
 use Rattle.mid_logger.specs.declared.pulled.Pulled.{Pulled}
 use Rattle.loggers.specs.Moments.{RunFiles, LoggerMoment, ChannelStep, StepsChannel, StepsSlot, StepsAt, LeavesOthers, CallsBuffer}
 use Rattle.loggers.specs.ChannelSteps.{OpensChannel, PullsChannel}
+use Rattle.loggers.specs.Finishing.{EndingMoment, EndsNumbered, EndsSlot}
 use Rattle.loggers.specs.SlotPulls.{PullsSlot}
 
 -- The lists.
@@ -81,6 +82,9 @@ called_at {P} access entry buffer slots ports p q files there called = record {
 
 pub slot_pulls : (answer : Pulled) (n : ℕ) (slot : Option Channel) (before : Channel) (a b : LoggerMoment) → slot ≡ Some before → StepsChannel (PullsChannel answer) n before a b → PullsSlot slot n answer a b
 slot_pulls answer n slot before a b is step = subst (λ (o : Option Channel). PullsSlot o n answer a b) (sym is) step
+
+pub slot_ends : (time : ℕ) (dump : Option (List ℕ)) (n : ℕ) (slot : Option Channel) (before : Channel) (a b : EndingMoment) → slot ≡ Some before → EndsNumbered time dump n before a b → EndsSlot time dump n slot a b
+slot_ends time dump n slot before a b is ends = subst (λ (o : Option Channel). EndsSlot time dump n o a b) (sym is) ends
 
 -- the moments before and behind a step of a slot
 abbrev pub slot_before : (ports : List Access) → (files : RunFiles) → List (Option Channel) → LoggerMoment

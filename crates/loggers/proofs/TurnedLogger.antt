@@ -97,7 +97,7 @@ stopping_more t turns own start (Asking opened) is = absurd is
 stopping_more t turns own start (Writing opened begun) is = absurd is
 stopping_more t turns own start (Draining run) is = record { of = is.of; so = λ are. is.so are.1 }
 stopping_more t turns own start (Drained run) is = record { of = is.of; so = λ are. is.so are.1 }
-stopping_more t turns own start (Broken run) is = record { of = is.of; so = λ are. is.so are.1 }
+stopping_more t turns own start (Broken run fallen) is = record { of = is.of; so = λ are. is.so are.1 }
 
 part_more : (t : MemberTurn) (turns : List MemberTurn) (own : List BufferEntry) (part : RunPart) (start : ℕ) (stage : ChannelStage) → IsStagePart part turns own start stage → IsStagePart part (t ∷ turns) own start stage
 part_more t turns own Refused start stage is = is

@@ -18,6 +18,7 @@ use Rattle.loggers.specs.Moments.{RunFiles, ChannelStep}
 -- was a file of its name.
 pub record OpensChannel (order : Order) (dump : List ℕ) (result : Result ⊤ Why) (s : ChannelStep) : Type 0 where
   pub spec : s.after.spec ≡ s.before.spec
+  pub limit : s.after.sub_bytes ≡ s.before.sub_bytes
   pub event : s.after.event ≡ s.before.event
   pub opens : OpensBy result s.before.spec order dump
       (record {
@@ -55,6 +56,7 @@ pub record AbortsChannel (s : ChannelStep) : Type 0 where
 -- The channel pulls once, with this answer.
 pub record PullsChannel (answer : Pulled) (s : ChannelStep) : Type 0 where
   pub spec : s.after.spec ≡ s.before.spec
+  pub limit : s.after.sub_bytes ≡ s.before.sub_bytes
   pub client : s.after.client ≡ s.before.client
   pub room : s.after.event.room ≡ s.before.event.room
   pub failed : s.after.failed ≡ failed_by answer s.before.failed

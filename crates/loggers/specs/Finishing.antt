@@ -20,7 +20,7 @@ use Rattle.loggers.specs.ChannelSteps.{EndsChannel}
 -- the channel's client has read the run, or the channel broke off
 abbrev pub is_settled_stage : ChannelStage → Bool
 is_settled_stage (Drained run) = true
-is_settled_stage (Broken run) = true
+is_settled_stage (Broken run fallen) = true
 is_settled_stage stage = false
 
 abbrev pub is_settled_slot : Option Channel → Bool

@@ -103,13 +103,13 @@ pub record IsEndedRun (turns : List MemberTurn) (own : List BufferEntry) (start 
 -- The stage of a channel while its run goes on, and while its stop is not answered.
 abbrev pub IsStartedStage : (start : ℕ) → ChannelStage → Type 0
 IsStartedStage start (Writing opened begun) = opened.start ≡ start
-IsStartedStage start (Broken run) = IsUnended start run
+IsStartedStage start (Broken run fallen) = IsUnended start run
 IsStartedStage start stage = ⊥
 
 abbrev pub IsStoppingStage : List MemberTurn → List BufferEntry → (start : ℕ) → ChannelStage → Type 0
 IsStoppingStage turns own start (Draining run) = IsEndedRun turns own start run
 IsStoppingStage turns own start (Drained run) = IsEndedRun turns own start run
-IsStoppingStage turns own start (Broken run) = IsEndedRun turns own start run
+IsStoppingStage turns own start (Broken run fallen) = IsEndedRun turns own start run
 IsStoppingStage turns own start stage = ⊥
 
 abbrev pub IsStagePart : RunPart → List MemberTurn → List BufferEntry → (start : ℕ) → ChannelStage → Type 0

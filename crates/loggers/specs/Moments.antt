@@ -113,7 +113,7 @@ AreIdleChannels slots = (n : ℕ) → (c : Channel) → slot_at slots n ≡ Some
 
 -- two channels that write files write them under two numbers
 abbrev pub HaveNumbersApart : (written other : Option ChannelRun) → Type 0
-HaveNumbersApart written other = (r s : ChannelRun) → written ≡ Some r → other ≡ Some s → r.file ≢ s.file
+HaveNumbersApart written other = (r s : ChannelRun) → written ≡ Some r → other ≡ Some s → r.at.file ≢ s.at.file
 
 -- The file that each channel writes, if it does, is in use for writing, under its name and a number of its own.
 pub record HaveFilesOpen (slots : List (Option Channel)) (seen : Seen) : Type 0 where
@@ -121,9 +121,11 @@ pub record HaveFilesOpen (slots : List (Option Channel)) (seen : Seen) : Type 0 
   pub numbers : (n m : ℕ) → (c d : Channel) → n ≢ m → slot_at slots n ≡ Some c → slot_at slots m ≡ Some d →
       HaveNumbersApart (written_run c.stage) (written_run d.stage)
 
--- The channels are not too many, there is a port to the buffer of each, and their files are open.
+-- The channels are not too many, none has a limit for its files, there is a port to the buffer of each, and their files are
+-- open.
 pub record IsLoggerReady (slots : List (Option Channel)) (ports : List Access) (seen : Seen) : Type 0 where
   pub many : length slots ≤ channel_limit
+  pub unlimited : (n : ℕ) → (c : Channel) → slot_at slots n ≡ Some c → c.sub_bytes ≡ 0
   pub served : (n : ℕ) → (c : Channel) → slot_at slots n ≡ Some c → c.spec.buffer < length ports
   pub files : HaveFilesOpen slots seen
 

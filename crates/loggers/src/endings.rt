@@ -47,7 +47,7 @@ fn end_slot<F: Files>(
         (files_by F.seen F.faults F.clashes F.first files.new) states.new) }
 {
     if let Some(channel) = slot {
-        states[number] = channel.close(files, time, dump);
+        states[number] = channel.close(files, time, dump).state;
     }
 }
 

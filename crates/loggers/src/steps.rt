@@ -99,6 +99,7 @@ fn abort_slot<R: Wait, F: Files, P: BufferPort>(
     files: &mut F,
     ports: &mut Ports<P>,
 )
+    requires unlimited { (c : a_channel) → slot.old ≡ Some c → c.sub_bytes ≡ 0 }
     requires served { (c : a_channel) → slot.old ≡ Some c → c.spec.buffer < length ports.old }
     requires file { (c : a_channel) → slot.old ≡ Some c →
         IsOpenFile (F.seen files.old) c.spec (written_run c.stage) }
@@ -154,6 +155,7 @@ fn pull_slot<R: Wait, F: Files, P: BufferPort>(
     files: &mut F,
     ports: &mut Ports<P>,
 ) -> Pulled
+    requires unlimited { (c : a_channel) → slot.old ≡ Some c → c.sub_bytes ≡ 0 }
     requires served { (c : a_channel) → slot.old ≡ Some c → c.spec.buffer < length ports.old }
     requires file { (c : a_channel) → slot.old ≡ Some c →
         IsOpenFile (F.seen files.old) c.spec (written_run c.stage) }
@@ -173,7 +175,8 @@ fn pull_slot<R: Wait, F: Files, P: BufferPort>(
     let Some(port) = ports.get_mut(channel.spec.buffer as usize) else {
         unreachable!()
     };
-    channel.pull(rt, files, port)
+    // No channel has a limit, so no second file is begun with the dump of the start.
+    channel.pull(rt, files, port, &[])
 }
 
 /// Pulls once on the channel of this number, where there is one.

@@ -1,7 +1,8 @@
 ghost use Rattle.std.specs.Prelude.{◌≡◌, ◌≤◌, ◌-◌, IfOk, min, length};
 ghost use Rattle.event.specs.Events.{event_limit, record_limit};
 ghost use Rattle.mid_logger.specs.declared.stage.ChannelStage.TheVariants.{Idle};
-ghost use Rattle.mid_logger.specs.Channels.{IsOpenFile, written_run};
+ghost use Rattle.mid_logger.specs.Channels.{written_run};
+ghost use Rattle.mid_logger.specs.PieceFiles.{IsLastOpen};
 ghost use Rattle.plain_buffer.specs.OwningPorts.{owned_access};
 
 use buffer_core::BufferPort;
@@ -49,6 +50,7 @@ fn new_channel(alloc: Global, pattern: Pattern) -> Result<Channel, NoMemory>
             id: 65535,
             mask: 65535,
         },
+        sub_bytes: 0,
         client: None,
         stage: ChannelStage::Idle,
         failed: false,
@@ -68,7 +70,7 @@ fn open<R: Wait, F: Files, P: BufferPort>(
     requires small { length dump.now ≤ record_limit }
     ensures size { (P.access port.new).size ≡ (P.access port.old).size }
     ensures room { channel.new.event ≡ channel.old.event }
-    ensures file { IsOpenFile (F.seen files.new) channel.new.spec
+    ensures file { IsLastOpen (F.seen files.new) channel.new.spec
         (written_run channel.new.stage) }
 {
     channel.open(rt, files, port, &order(), dump)
@@ -110,12 +112,12 @@ fn pull<R: Wait, F: Files, P: BufferPort>(
     port: &mut P,
     channel: &mut Channel,
 ) -> Pulled
-    requires file { IsOpenFile (F.seen files.old) channel.old.spec (written_run channel.old.stage) }
+    requires file { IsLastOpen (F.seen files.old) channel.old.spec (written_run channel.old.stage) }
     requires room { min event_limit ((P.access port.old).size - 24) ≤ channel.old.event.room }
     ensures room { channel.new.event.room ≡ channel.old.event.room }
-    ensures file { IsOpenFile (F.seen files.new) channel.new.spec (written_run channel.new.stage) }
+    ensures file { IsLastOpen (F.seen files.new) channel.new.spec (written_run channel.new.stage) }
 {
-    channel.pull(rt, files, port)
+    channel.pull(rt, files, port, DUMP)
 }
 
 /// The name of the file of run 1.
@@ -146,7 +148,7 @@ fn run_of_one_event<R: Wait, F: Files, P: BufferPort>(
 ) -> Pulled
     requires idle { channel.old.stage ≡ Idle }
     requires room { min event_limit ((P.access port.old).size - 24) ≤ channel.old.event.room }
-    ensures file { IsOpenFile (F.seen files.new) channel.new.spec
+    ensures file { IsLastOpen (F.seen files.new) channel.new.spec
         (written_run channel.new.stage) }
 {
     let _ = open(rt, files, port, channel, DUMP);
@@ -189,7 +191,7 @@ fn run_and_close<R: Wait>(
 {
     let mut port = new_port(alloc)?;
     let pulled = run_of_one_event(rt, files, &mut port, channel);
-    let state = channel.close(files, 1010, &None);
+    let state = channel.close(files, 1010, &None).state;
     Ok(Outcome {
         pulled,
         state,

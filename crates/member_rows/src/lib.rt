@@ -19,6 +19,8 @@ mod making;
 #[cfg(test)]
 mod patterns;
 #[cfg(test)]
+mod piece_tests;
+#[cfg(test)]
 mod states;
 #[cfg(test)]
 mod turns;

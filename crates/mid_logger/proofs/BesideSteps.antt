@@ -33,13 +33,13 @@ OtherAt spec client stage head a seen = ChannelStands spec client stage head a.o
 
 -- Files.
 
-number_left : (old new : Seen) (written : Option ChannelRun) → ((s : ChannelRun) → written ≡ Some s → KeepsNumber old new s.file) → LeavesNumber written old new
+number_left : (old new : Seen) (written : Option ChannelRun) → ((s : ChannelRun) → written ≡ Some s → KeepsNumber old new s.at.file) → LeavesNumber written old new
 number_left old new None keeps = tt
 number_left old new (Some s) keeps = keeps s refl
 
 -- at most the file of this name changed, and the number of the other run is kept
 run_left : (spec : ChannelSpec) (old new : Seen) (name : List ℕ) (run written : Option ChannelRun) → Touches old new name → ((s : ChannelRun) → run ≡ Some s → IsTrue old.tells → name ≢ file_name_by spec.pattern s.run)
-    → ((s : ChannelRun) → written ≡ Some s → KeepsNumber old new s.file) → LeavesRunFile spec run written old new
+    → ((s : ChannelRun) → written ≡ Some s → KeepsNumber old new s.at.file) → LeavesRunFile spec run written old new
 run_left spec old new name None written touches names keeps = tt
 run_left spec old new name (Some s) written touches names keeps = record {
   tells = touches.tells;
@@ -48,7 +48,7 @@ run_left spec old new name (Some s) written touches names keeps = record {
 }
 
 pub changed_beside : (other : ChannelSpec) (other_client : Option ℕ) (stage : ChannelStage) (head : FileHead) (own : List BufferEntry) (got : List GotEvent) (old new : Seen) (name : List ℕ) → Touches old new name
-    → ((s : ChannelRun) → channel_run stage ≡ Some s → IsTrue old.tells → name ≢ file_name_by other.pattern s.run) → ((s : ChannelRun) → written_run stage ≡ Some s → KeepsNumber old new s.file)
+    → ((s : ChannelRun) → channel_run stage ≡ Some s → IsTrue old.tells → name ≢ file_name_by other.pattern s.run) → ((s : ChannelRun) → written_run stage ≡ Some s → KeepsNumber old new s.at.file)
     → ChannelStands other other_client stage head own got old → ChannelStands other other_client stage head own got new
 changed_beside other other_client stage head own got old new name touches names keeps stands =
     files_beside other other_client stage head own got old new stands (run_left other old new name (channel_run stage) (written_run stage) touches names keeps)
@@ -58,8 +58,8 @@ changed_beside other other_client stage head own got old new name touches names 
 record BesideRun (seen : Seen) (opened : ChannelRun) (spec other : ChannelSpec) (other_client : Option ℕ) (other_stage : ChannelStage) : Type 0 where
   client : (d : ℕ) → other_client ≡ Some d → opened.client ≢ d
   names : (s : ChannelRun) → channel_run other_stage ≡ Some s → IsTrue seen.tells → file_name_by spec.pattern opened.run ≢ file_name_by other.pattern s.run
-  numbers : (s : ChannelRun) → written_run other_stage ≡ Some s → opened.file ≢ s.file
-  named : seen.name_of opened.file ≡ file_name_by spec.pattern opened.run
+  numbers : (s : ChannelRun) → written_run other_stage ≡ Some s → opened.at.file ≢ s.at.file
+  named : seen.name_of opened.at.file ≡ file_name_by spec.pattern opened.run
 
 leaves_cancel : (other_client : Option ℕ) (c number : ℕ) (reply : Result ⊤ RequestRefusal) → ((d : ℕ) → other_client ≡ Some d → c ≢ d) → LeavesClient other_client (Cancel c number reply)
 leaves_cancel None c number reply apart = tt
@@ -84,10 +84,10 @@ receive_beside other other_client stage head a b seen c room reply e apart gave 
     (leaves_run stage (Receive c room reply) tt) (given_named c room reply e))
 
 file_beside : (spec other : ChannelSpec) (other_client : Option ℕ) (stage : ChannelStage) (head : FileHead) (a : Access) (old new : Seen) (opened : ChannelRun) → BesideRun old opened spec other other_client stage
-    → Touches old new (old.name_of opened.file) → KeepsOthers old new opened.file → OtherAt other other_client stage head a old → OtherAt other other_client stage head a new
+    → Touches old new (old.name_of opened.at.file) → KeepsOthers old new opened.at.file → OtherAt other other_client stage head a old → OtherAt other other_client stage head a new
 file_beside spec other other_client stage head a old new opened beside touches others stands =
     changed_beside other other_client stage head a.own a.got old new (file_name_by spec.pattern opened.run) (subst (λ (m : List ℕ). Touches old new m) beside.named touches) beside.names
-    (λ s is. others s.file (λ same. beside.numbers s is (sym same))) stands
+    (λ s is. others s.at.file (λ same. beside.numbers s is (sym same))) stands
 
 -- A pull.
 
@@ -150,7 +150,7 @@ stage_beside spec other client other_client other_stage head other_head p room (
 stage_beside spec other client other_client other_stage head other_head p room (Draining run) is pulls file at apart stands =
     run_beside spec other client other_client other_stage other_head p run room at.at.of at.own_client (ap (λ (s : ChannelStage). channel_run s) is) (ap (λ (s : ChannelStage). written_run s) is) file apart pulls stands
 stage_beside spec other client other_client other_stage head other_head p room (Drained run) is pulls file at apart stands = left_beside other other_client other_stage other_head p _ pulls stands
-stage_beside spec other client other_client other_stage head other_head p room (Broken run) is pulls file at apart stands = left_beside other other_client other_stage other_head p _ pulls stands
+stage_beside spec other client other_client other_stage head other_head p room (Broken run fallen) is pulls file at apart stands = left_beside other other_client other_stage other_head p _ pulls stands
 
 pub pulls_beside : (p : PullOf) (room : ℕ) (spec : ChannelSpec) (client : Option ℕ) (head : FileHead) (other : ChannelSpec) (other_client : Option ℕ) (other_stage : ChannelStage) (other_head : FileHead) → Pulls p room → IsOpenFile p.files spec (written_run p.stage)
     → ChannelStands spec client p.stage head p.port.own p.port.got p.files → ChannelsApart p.files spec client p.stage other other_client other_stage → OtherAt other other_client other_stage other_head p.port p.files
@@ -169,17 +169,17 @@ standing_beside spec other client other_client (Writing opened begun) other_stag
 standing_beside spec other client other_client (Draining run) other_stage head other_head a b seen cancels at apart stands =
     cancel_beside other other_client other_stage other_head a b seen run.opened (λ d is. apart run.opened.client d at.at.of is) (subst (λ (c : Option ℕ). IsOwnClient c a.own) at.at.of at.own_client) cancels stands
 standing_beside spec other client other_client (Drained run) other_stage head other_head a b seen cancels at apart stands = rw cancels stands
-standing_beside spec other client other_client (Broken run) other_stage head other_head a b seen cancels at apart stands = rw cancels stands
+standing_beside spec other client other_client (Broken run fallen) other_stage head other_head a b seen cancels at apart stands = rw cancels stands
 
 removed_beside : (spec other : ChannelSpec) (client other_client : Option ℕ) (stage other_stage : ChannelStage) (other_head : FileHead) (a : Access) (old new : Seen) (faults later : ℕ) (written : Option ChannelRun) (broken : Option BegunRun) → RemovesFile written broken spec old new faults later
     → ((r s : ChannelRun) → written ≡ Some r → channel_run other_stage ≡ Some s → IsTrue old.tells → file_name_by spec.pattern r.run ≢ file_name_by other.pattern s.run)
     → ((r : BegunRun) (s : ChannelRun) → broken ≡ Some r → channel_run other_stage ≡ Some s → IsTrue old.tells → file_name_by spec.pattern r.opened.run ≢ file_name_by other.pattern s.run)
-    → ((r s : ChannelRun) → written ≡ Some r → written_run other_stage ≡ Some s → r.file ≢ s.file) → OtherAt other other_client other_stage other_head a old → OtherAt other other_client other_stage other_head a new
+    → ((r s : ChannelRun) → written ≡ Some r → written_run other_stage ≡ Some s → r.at.file ≢ s.at.file) → OtherAt other other_client other_stage other_head a old → OtherAt other other_client other_stage other_head a new
 removed_beside spec other client other_client stage other_stage other_head a old new faults later (Some opened) broken removes names broken_names numbers stands =
     changed_beside other other_client other_stage other_head a.own a.got old new (file_name_by spec.pattern opened.run) removes.0.touches (λ s is told. names opened s refl is told)
-    (λ s is. removes.0.others s.file (λ same. numbers opened s refl is (sym same))) stands
+    (λ s is. removes.0.others s.at.file (λ same. numbers opened s refl is (sym same))) stands
 removed_beside spec other client other_client stage other_stage other_head a old new faults later None (Some run) removes names broken_names numbers stands =
-    changed_beside other other_client other_stage other_head a.own a.got old new (file_name_by spec.pattern run.opened.run) removes.0 (λ s is told. broken_names run s refl is told) (λ s is. removes.1 s.file) stands
+    changed_beside other other_client other_stage other_head a.own a.got old new (file_name_by spec.pattern run.opened.run) removes.0 (λ s is told. broken_names run s refl is told) (λ s is. removes.1 s.at.file) stands
 removed_beside spec other client other_client stage other_stage other_head a old new faults later None None removes names broken_names numbers stands = rw removes.0 stands
 
 run_of_written : (stage : ChannelStage) (r : ChannelRun) → written_run stage ≡ Some r → channel_run stage ≡ Some r
@@ -188,10 +188,10 @@ run_of_written (Asking opened) r is = is
 run_of_written (Writing opened begun) r is = is
 run_of_written (Draining run) r is = is
 run_of_written (Drained run) r is = is
-run_of_written (Broken run) r is = absurd (cc (is))
+run_of_written (Broken run fallen) r is = absurd (cc (is))
 
 run_of_broken : (stage : ChannelStage) (r : BegunRun) → broken_run stage ≡ Some r → channel_run stage ≡ Some r.opened
-run_of_broken (Broken run) r is = let same : run ≡ r = cc (is) in ap (λ (x : BegunRun). Some x.opened) same
+run_of_broken (Broken run fallen) r is = let same : run ≡ r = cc (is) in ap (λ (x : BegunRun). Some x.opened) same
 run_of_broken stage r is = absurd (cc (is))
 
 pub aborts_beside : (spec : ChannelSpec) (client : Option ℕ) (stage : ChannelStage) (head : FileHead) (other : ChannelSpec) (other_client : Option ℕ) (other_stage : ChannelStage) (other_head : FileHead) (a b : Access) (old new : Seen) (faults later : ℕ)
@@ -206,11 +206,11 @@ aborts_beside spec client stage head other other_client other_stage other_head a
 
 -- Ending a file.
 
-closed_beside : (spec other : ChannelSpec) (client other_client : Option ℕ) (run : BegunRun) (other_stage : ChannelStage) (other_head : FileHead) (own : List BufferEntry) (got : List GotEvent) (old new : Seen) (bytes : List ℕ) → Closes old new run.opened.file bytes
+closed_beside : (spec other : ChannelSpec) (client other_client : Option ℕ) (run : BegunRun) (other_stage : ChannelStage) (other_head : FileHead) (own : List BufferEntry) (got : List GotEvent) (old new : Seen) (bytes : List ℕ) → Closes old new run.opened.at.file bytes
     → IsOpenFile old spec (Some run.opened) → ChannelsApart old spec client (Drained run) other other_client other_stage → ChannelStands other other_client other_stage other_head own got old → ChannelStands other other_client other_stage other_head own got new
 closed_beside spec other client other_client run other_stage other_head own got old new bytes closes file apart stands =
     changed_beside other other_client other_stage other_head own got old new (file_name_by spec.pattern run.opened.run) (subst (λ (m : List ℕ). Touches old new m) file.1 closes.touches)
-    (λ s is told. apart.names run.opened s refl is told) (λ s is. closes.others s.file (λ same. apart.numbers run.opened s refl is (sym same))) stands
+    (λ s is told. apart.names run.opened s refl is told) (λ s is. closes.others s.at.file (λ same. apart.numbers run.opened s refl is (sym same))) stands
 
 read_beside : (spec other : ChannelSpec) (client other_client : Option ℕ) (run : BegunRun) (state : ChannelState) (other_stage : ChannelStage) (other_head : FileHead) (time : ℕ) (dump : Option (List ℕ)) (own : List BufferEntry) (got : List GotEvent) (old new : Seen) (faults later : ℕ)
     → ClosesRead state run time dump old new faults later → IsOpenFile old spec (Some run.opened) → ChannelsApart old spec client (Drained run) other other_client other_stage → ChannelStands other other_client other_stage other_head own got old

@@ -3,6 +3,7 @@ use Rattle.std.specs.Prelude.{◌≡◌, ℕ, take, drop, List, [], ◌∷◌, �
 use Rattle.std.proofs.Common.{ap, sym, subst, ◌∙◌, inl, inr, append_assoc}
 use Rattle.std.proofs.lemmas.List.{take-append-drop}
 use mathlib.Core.List.{IsPrefix}
+use Rattle.daq_types.specs.declared.events.Event.{Event}
 use Rattle.daq_types.specs.declared.runs.ChannelState.{ChannelState}
 use Rattle.daq_types.specs.declared.runs.ChannelState.TheVariants.{Broken as IsBroken}
 use Rattle.event.specs.RunFile.{begun_file}
@@ -18,7 +19,8 @@ use Rattle.mid_logger.specs.declared.stage.BegunRun.{BegunRun}
 use Rattle.mid_logger.specs.declared.stage.ChannelRun.{ChannelRun}
 use Rattle.mid_logger.specs.declared.stage.ChannelStage.{ChannelStage}
 use Rattle.mid_logger.specs.declared.stage.ChannelStage.TheVariants.{Idle, Asking, Writing, Draining, Drained, Broken}
-use Rattle.mid_logger.specs.Channels.{FileHead, IsOwnClient, AsksNothing, DrainedAt, BrokenAt, ChannelStands, CancelsRequest, ClosesPart}
+use Rattle.sub_files.specs.declared.open_file.Fallen.{Fallen}
+use Rattle.mid_logger.specs.Channels.{FileHead, IsOwnClient, AsksNothing, FileHolds, FileLeft, StandsWith, DrainedAt, BrokenAt, ChannelStands, CancelsRequest, ClosesPart}
 use Rattle.mid_logger.specs.ChannelTurns.{asking_run, drained_run, broken_run}
 use Rattle.mid_logger.specs.ChannelEnds.{CancelsStanding, ClosesRead, ClosesFile, HasClosed, HasBroken, HasLeftRead, HasLeft, last_bytes, stage_settled}
 use Rattle.mid_logger.proofs.OwnSteps.{own_push, own_client_push}
@@ -26,32 +28,36 @@ use Rattle.mid_logger.proofs.ReadSteps.{asks_still, asks_no_more}
 
 -- Calling off.
 
-cancelled : (spec : ChannelSpec) (client : Option ℕ) (stage : ChannelStage) (opened : ChannelRun) (head : FileHead) (a b : Access) (seen later : Seen) → client ≡ Some opened.client → IsAsking a.own opened.client spec.id spec.mask opened.request → CancelsRequest a b opened
-    → ChannelStands spec client stage head a.own a.got seen → ChannelStands spec client Idle head b.own b.got later
-cancelled spec client stage opened head a b seen later of asking cancels stands =
+cancelled : (Holds Other : ChannelRun → List Event → Type 0) (Left More : ChannelRun → Fallen → List Event → Type 0) (spec : ChannelSpec) (client : Option ℕ) (stage : ChannelStage) (opened : ChannelRun) (a b : Access) → client ≡ Some opened.client → IsAsking a.own opened.client spec.id spec.mask opened.request → CancelsRequest a b opened
+    → StandsWith Holds Left spec client stage a.own a.got → StandsWith Other More spec client Idle b.own b.got
+cancelled Holds Other Left More spec client stage opened a b of asking cancels stands =
     let cancel : BufferEntry = Cancel opened.client opened.request cancels.0 in
-    let now : ChannelStands spec client Idle head (a.own ++ cancel ∷ []) a.got later = record {
+    let now : StandsWith Other More spec client Idle (a.own ++ cancel ∷ []) a.got = record {
       port = own_push a.own cancel stands.port tt (subst (λ (c : Option ℕ). IsOwnClient c a.own) of stands.own_client);
       own_client = own_client_push client a.own cancel stands.own_client;
       at = subst (λ (c : Option ℕ). AsksNothing c (a.own ++ cancel ∷ [])) (sym of) (asks_no_more a.own opened.client spec.id spec.mask opened.request cancels.0 asking);
     } in
     rw (cancels.1.own, cancels.1.got_is) now
 
-idle_with : (spec : ChannelSpec) (client : Option ℕ) (stage : ChannelStage) (head : FileHead) (a b : Access) (seen later : Seen) → b ≡ a → AsksNothing client a.own → ChannelStands spec client stage head a.own a.got seen → ChannelStands spec client Idle head b.own b.got later
-idle_with spec client stage head a b seen later same nothing stands =
-    let now : ChannelStands spec client Idle head a.own a.got later = record { port = stands.port; own_client = stands.own_client; at = nothing } in
+idle_with : (Holds Other : ChannelRun → List Event → Type 0) (Left More : ChannelRun → Fallen → List Event → Type 0) (spec : ChannelSpec) (client : Option ℕ) (stage : ChannelStage) (a b : Access) → b ≡ a → AsksNothing client a.own → StandsWith Holds Left spec client stage a.own a.got → StandsWith Other More spec client Idle b.own b.got
+idle_with Holds Other Left More spec client stage a b same nothing stands =
+    let now : StandsWith Other More spec client Idle a.own a.got = record { port = stands.port; own_client = stands.own_client; at = nothing } in
     rw same now
+
+pub off_with : (Holds Other : ChannelRun → List Event → Type 0) (Left More : ChannelRun → Fallen → List Event → Type 0) (spec : ChannelSpec) (client : Option ℕ) (stage : ChannelStage) (a b : Access) → CancelsStanding (asking_run stage) a b → StandsWith Holds Left spec client stage a.own a.got
+    → StandsWith Other More spec client Idle b.own b.got
+off_with Holds Other Left More spec client Idle a b cancels stands = idle_with Holds Other Left More spec client Idle a b cancels stands.at stands
+off_with Holds Other Left More spec client (Asking opened) a b cancels stands = cancelled Holds Other Left More spec client (Asking opened) opened a b stands.at.of (asking_for a.own opened.client spec.id spec.mask opened.request opened.start stands.at.asking) cancels stands
+off_with Holds Other Left More spec client (Writing opened begun) a b cancels stands =
+    cancelled Holds Other Left More spec client (Writing opened begun) opened a b stands.at.of (asks_still None a.own a.got opened.client spec.id spec.mask opened.request opened.start begun stands.at.events stands.at.reads) cancels stands
+off_with Holds Other Left More spec client (Draining run) a b cancels stands =
+    cancelled Holds Other Left More spec client (Draining run) run.opened a b stands.at.of (asks_still run.ended a.own a.got run.opened.client spec.id spec.mask run.opened.request run.opened.start run.begun stands.at.events stands.at.reads) cancels stands
+off_with Holds Other Left More spec client (Drained run) a b cancels stands = idle_with Holds Other Left More spec client (Drained run) a b cancels stands.at.nothing stands
+off_with Holds Other Left More spec client (Broken run fallen) a b cancels stands = idle_with Holds Other Left More spec client (Broken run fallen) a b cancels stands.at.nothing stands
 
 pub called_off : (spec : ChannelSpec) (client : Option ℕ) (stage : ChannelStage) (head : FileHead) (a b : Access) (seen later : Seen) → CancelsStanding (asking_run stage) a b → ChannelStands spec client stage head a.own a.got seen
     → ChannelStands spec client Idle head b.own b.got later
-called_off spec client Idle head a b seen later cancels stands = idle_with spec client Idle head a b seen later cancels stands.at stands
-called_off spec client (Asking opened) head a b seen later cancels stands = cancelled spec client (Asking opened) opened head a b seen later stands.at.of (asking_for a.own opened.client spec.id spec.mask opened.request opened.start stands.at.asking) cancels stands
-called_off spec client (Writing opened begun) head a b seen later cancels stands =
-    cancelled spec client (Writing opened begun) opened head a b seen later stands.at.of (asks_still None a.own a.got opened.client spec.id spec.mask opened.request opened.start begun stands.at.events stands.at.reads) cancels stands
-called_off spec client (Draining run) head a b seen later cancels stands =
-    cancelled spec client (Draining run) run.opened head a b seen later stands.at.of (asks_still run.ended a.own a.got run.opened.client spec.id spec.mask run.opened.request run.opened.start run.begun stands.at.events stands.at.reads) cancels stands
-called_off spec client (Drained run) head a b seen later cancels stands = idle_with spec client (Drained run) head a b seen later cancels stands.at.nothing stands
-called_off spec client (Broken run) head a b seen later cancels stands = idle_with spec client (Broken run) head a b seen later cancels stands.at.nothing stands
+called_off spec client stage head a b seen later cancels stands = off_with (FileHolds spec head seen) (FileHolds spec head later) (FileLeft spec head seen) (FileLeft spec head later) spec client stage a b cancels stands
 
 -- Ending a file.
 
@@ -65,10 +71,10 @@ settled spec client (Asking opened) state time dump head own got old new faults 
 settled spec client (Writing opened begun) state time dump head own got old new faults later closes stands = same_files spec client (Writing opened begun) head own got old new closes.1 stands
 settled spec client (Draining run) state time dump head own got old new faults later closes stands = same_files spec client (Draining run) head own got old new closes.1 stands
 settled spec client (Drained run) state time dump head own got old new faults later closes stands = record { port = stands.port; own_client = stands.own_client; at = stands.at.nothing }
-settled spec client (Broken run) state time dump head own got old new faults later closes stands = record { port = stands.port; own_client = stands.own_client; at = stands.at.nothing }
+settled spec client (Broken run fallen) state time dump head own got old new faults later closes stands = record { port = stands.port; own_client = stands.own_client; at = stands.at.nothing }
 
 whole_left : (spec : ChannelSpec) (client : Option ℕ) (run : BegunRun) (head : FileHead) (time : ℕ) (dump : Option (List ℕ)) (own : List BufferEntry) (got : List GotEvent) (old new : Seen) → DrainedAt spec client run head own got old
-    → Closes old new run.opened.file (last_bytes run.opened.run run.ended time dump) → HasClosed spec head run time dump own got new
+    → Closes old new run.opened.at.file (last_bytes run.opened.run run.ended time dump) → HasClosed spec head run time dump own got new
 whole_left spec client run head time dump own got old new at closes = record {
   events = at.events;
   number = at.holds.run;
@@ -82,7 +88,7 @@ first_part : (front whole : List ℕ) (count : ℕ) → IsPrefix (front ++ take 
 first_part front whole count = (drop count whole, append_assoc front (take count whole) (drop count whole) ∙ ap (λ (l : List ℕ). front ++ l) (take-append-drop count whole))
 
 part_left : (spec : ChannelSpec) (client : Option ℕ) (run : BegunRun) (head : FileHead) (time : ℕ) (dump : Option (List ℕ)) (own : List BufferEntry) (got : List GotEvent) (old new : Seen) → DrainedAt spec client run head own got old
-    → ClosesPart old new run.opened.file (last_bytes run.opened.run run.ended time dump) → HasBroken spec head run time dump own got new
+    → ClosesPart old new run.opened.at.file (last_bytes run.opened.run run.ended time dump) → HasBroken spec head run time dump own got new
 part_left spec client run head time dump own got old new at part = record {
   events = at.events;
   bytes = begun_file head.run head.time head.dump at.events ++ take part.count (last_bytes run.opened.run run.ended time dump);
@@ -98,12 +104,12 @@ read_left : (spec : ChannelSpec) (client : Option ℕ) (run : BegunRun) (state :
 read_left spec client run IsBroken head time dump own got old new faults later at closes = part_left spec client run head time dump own got old new at closes.0
 read_left spec client run state head time dump own got old new faults later at closes = whole_left spec client run head time dump own got old new at closes.1
 
-broken_left : (spec : ChannelSpec) (client : Option ℕ) (run : BegunRun) (head : FileHead) (time : ℕ) (dump : Option (List ℕ)) (own : List BufferEntry) (got : List GotEvent) (seen : Seen) → BrokenAt spec client run head own got seen → HasBroken spec head run time dump own got seen
-broken_left spec client run head time dump own got seen at =
-    record { events = at.events; bytes = at.bytes; number = at.number; small = at.small; fine = at.fine; stored = at.stored; reads = inl (at.reads, at.front) }
+broken_left : (spec : ChannelSpec) (client : Option ℕ) (run : BegunRun) (fallen : Fallen) (head : FileHead) (time : ℕ) (dump : Option (List ℕ)) (own : List BufferEntry) (got : List GotEvent) (seen : Seen) → BrokenAt spec client run fallen head own got seen → HasBroken spec head run time dump own got seen
+broken_left spec client run fallen head time dump own got seen at =
+    record { events = at.events; bytes = at.left.bytes; number = at.left.number; small = at.left.small; fine = at.left.fine; stored = at.left.stored; reads = inl (at.reads, at.left.front) }
 
 pub left_by : (spec : ChannelSpec) (client : Option ℕ) (stage : ChannelStage) (state : ChannelState) (time : ℕ) (dump : Option (List ℕ)) (head : FileHead) (own : List BufferEntry) (got : List GotEvent) (old new : Seen) (faults later : ℕ)
     → ClosesFile (drained_run stage) stage state time dump old new faults later → ChannelStands spec client stage head own got old → HasLeft (drained_run stage) (broken_run stage) state spec head time dump own got new
 left_by spec client (Drained run) state time dump head own got old new faults later closes stands = read_left spec client run state head time dump own got old new faults later stands.at closes
-left_by spec client (Broken run) state time dump head own got old new faults later closes stands = rw closes.1 (broken_left spec client run head time dump own got old stands.at)
+left_by spec client (Broken run fallen) state time dump head own got old new faults later closes stands = rw closes.1 (broken_left spec client run fallen head time dump own got old stands.at)
 left_by spec client stage state time dump head own got old new faults later closes stands = tt

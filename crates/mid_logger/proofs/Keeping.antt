@@ -38,7 +38,7 @@ none_changed name written old new same =
     rw same now
 
 -- a file that is written under this number, in place of any number but its own
-own_changed : (spec : ChannelSpec) (opened : ChannelRun) (old new : Seen) → IsOpenFile old spec (Some opened) → Touches old new (old.name_of opened.file) → ((number : ℕ) → number ≢ opened.file → KeepsNumber old new number)
+own_changed : (spec : ChannelSpec) (opened : ChannelRun) (old new : Seen) → IsOpenFile old spec (Some opened) → Touches old new (old.name_of opened.at.file) → ((number : ℕ) → number ≢ opened.at.file → KeepsNumber old new number)
     → ChangesOne (file_name_by spec.pattern opened.run) (Some opened) old new
 own_changed spec opened old new file touches others = record {
   touches = subst (λ (m : List ℕ). Touches old new m) file.1 touches;
@@ -109,7 +109,7 @@ stage_file spec p room (Drained run) is pulls file = (
   none_changed (file_name_by spec.pattern run.opened.run) (Some run.opened) p.files p.later_files pulls.files,
   rw pulls.stage (record { run = refl; written = inl refl }),
 )
-stage_file spec p room (Broken run) is pulls file = (
+stage_file spec p room (Broken run fallen) is pulls file = (
   none_changed (file_name_by spec.pattern run.opened.run) None p.files p.later_files pulls.files,
   rw pulls.stage (record { run = refl; written = inl refl }),
 )
@@ -128,7 +128,7 @@ abort_changes spec (Asking opened) old new faults later removes = record { touch
 abort_changes spec (Writing opened begun) old new faults later removes = record { touches = removes.0.touches; others = λ number other. removes.0.others number (other opened refl) }
 abort_changes spec (Draining run) old new faults later removes = record { touches = removes.0.touches; others = λ number other. removes.0.others number (other run.opened refl) }
 abort_changes spec (Drained run) old new faults later removes = record { touches = removes.0.touches; others = λ number other. removes.0.others number (other run.opened refl) }
-abort_changes spec (Broken run) old new faults later removes = record { touches = removes.0; others = λ number other. removes.1 number }
+abort_changes spec (Broken run fallen) old new faults later removes = record { touches = removes.0; others = λ number other. removes.1 number }
 
 -- Ending a file.
 
@@ -144,7 +144,7 @@ close_changes spec (Asking opened) state time dump old new faults later closes f
 close_changes spec (Writing opened begun) state time dump old new faults later closes file = none_changed _ _ old new closes.1
 close_changes spec (Draining run) state time dump old new faults later closes file = none_changed _ _ old new closes.1
 close_changes spec (Drained run) state time dump old new faults later closes file = read_changes spec run state time dump old new faults later closes file
-close_changes spec (Broken run) state time dump old new faults later closes file = none_changed _ _ old new closes.1
+close_changes spec (Broken run fallen) state time dump old new faults later closes file = none_changed _ _ old new closes.1
 
 -- Opening a run.
 

@@ -10,3 +10,5 @@ pub mod OpenBeside
 pub mod OpenAlone
 pub mod LeftSteps
 pub mod Keeping
+pub mod PieceSteps
+pub mod OneFile

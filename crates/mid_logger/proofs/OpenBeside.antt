@@ -18,6 +18,7 @@ use Rattle.mid_logger.specs.declared.stage.ChannelRun.{ChannelRun}
 use Rattle.mid_logger.specs.declared.stage.ChannelStage.{ChannelStage}
 use Rattle.mid_logger.specs.declared.stage.ChannelStage.TheVariants.{Idle, Asking, Writing, Draining, Drained, Broken}
 use Rattle.mid_logger.specs.Patterns.{NamePattern, file_name_by}
+use Rattle.sub_files.specs.declared.open_file.OpenFile.{OpenFile}
 use Rattle.mid_logger.specs.Channels.{FileHead, IsOwnClient, ChannelStands, channel_run, written_run}
 use Rattle.mid_logger.specs.RecordFiles.{IsGone, UndoesFile}
 use Rattle.mid_logger.specs.ChannelTurns.{logger_name, HasClient, MakesRequest, AsksEvents, ChannelAt, StartsAsking, RefusesRun, OpensBy}
@@ -112,15 +113,15 @@ file_there other client (Asking opened) head own got seen stands s is told gone 
 file_there other client (Writing opened begun) head own got seen stands s is told gone = other_name other.pattern seen opened s _ is (stands.at.holds.file.holds told) gone
 file_there other client (Draining run) head own got seen stands s is told gone = other_name other.pattern seen run.opened s _ is (stands.at.holds.file.holds told) gone
 file_there other client (Drained run) head own got seen stands s is told gone = other_name other.pattern seen run.opened s _ is (stands.at.holds.file.holds told) gone
-file_there other client (Broken run) head own got seen stands s is told gone = other_name other.pattern seen run.opened s _ is (stands.at.stored.holds told) gone
+file_there other client (Broken run fallen) head own got seen stands s is told gone = other_name other.pattern seen run.opened s _ is (stands.at.left.stored.holds told) gone
 
-file_used : (other : ChannelSpec) (client : Option ℕ) (stage : ChannelStage) (head : FileHead) (own : List BufferEntry) (got : List GotEvent) (seen : Seen) → ChannelStands other client stage head own got seen → (s : ChannelRun) → written_run stage ≡ Some s → IsTrue (seen.writes s.file)
+file_used : (other : ChannelSpec) (client : Option ℕ) (stage : ChannelStage) (head : FileHead) (own : List BufferEntry) (got : List GotEvent) (seen : Seen) → ChannelStands other client stage head own got seen → (s : ChannelRun) → written_run stage ≡ Some s → IsTrue (seen.writes s.at.file)
 file_used other client Idle head own got seen stands s is = absurd (cc (is))
-file_used other client (Asking opened) head own got seen stands s is = let same : opened ≡ s = cc (is) in subst (λ (r : ChannelRun). IsTrue (seen.writes r.file)) same stands.at.holds.file.writes
-file_used other client (Writing opened begun) head own got seen stands s is = let same : opened ≡ s = cc (is) in subst (λ (r : ChannelRun). IsTrue (seen.writes r.file)) same stands.at.holds.file.writes
-file_used other client (Draining run) head own got seen stands s is = let same : run.opened ≡ s = cc (is) in subst (λ (r : ChannelRun). IsTrue (seen.writes r.file)) same stands.at.holds.file.writes
-file_used other client (Drained run) head own got seen stands s is = let same : run.opened ≡ s = cc (is) in subst (λ (r : ChannelRun). IsTrue (seen.writes r.file)) same stands.at.holds.file.writes
-file_used other client (Broken run) head own got seen stands s is = absurd (cc (is))
+file_used other client (Asking opened) head own got seen stands s is = let same : opened ≡ s = cc (is) in subst (λ (r : ChannelRun). IsTrue (seen.writes r.at.file)) same stands.at.holds.file.writes
+file_used other client (Writing opened begun) head own got seen stands s is = let same : opened ≡ s = cc (is) in subst (λ (r : ChannelRun). IsTrue (seen.writes r.at.file)) same stands.at.holds.file.writes
+file_used other client (Draining run) head own got seen stands s is = let same : run.opened ≡ s = cc (is) in subst (λ (r : ChannelRun). IsTrue (seen.writes r.at.file)) same stands.at.holds.file.writes
+file_used other client (Drained run) head own got seen stands s is = let same : run.opened ≡ s = cc (is) in subst (λ (r : ChannelRun). IsTrue (seen.writes r.at.file)) same stands.at.holds.file.writes
+file_used other client (Broken run fallen) head own got seen stands s is = absurd (cc (is))
 
 -- a name that is free is not that of the other channel's file
 names_apart : (other : ChannelSpec) (client : Option ℕ) (stage : ChannelStage) (head : FileHead) (own : List BufferEntry) (got : List GotEvent) (seen : Seen) (name : List ℕ) → IsGone seen name → ChannelStands other client stage head own got seen
@@ -129,9 +130,9 @@ names_apart other client stage head own got seen name gone stands s is told same
     file_there other client stage head own got seen stands s is told (subst (λ (n : List ℕ). seen.at n ≡ None) same (gone told))
 
 numbers_apart : {seen new : Seen} {name bytes : List ℕ} {n : ℕ} (other : ChannelSpec) (client : Option ℕ) (stage : ChannelStage) (head : FileHead) (own : List BufferEntry) (got : List GotEvent) → Creates seen new name n bytes → ChannelStands other client stage head own got seen
-    → (s : ChannelRun) → written_run stage ≡ Some s → n ≢ s.file
+    → (s : ChannelRun) → written_run stage ≡ Some s → n ≢ s.at.file
 numbers_apart {seen} {new} {name} {bytes} {n} other client stage head own got creates stands s is same =
-    let used : seen.writes s.file ≡ true = file_used other client stage head own got seen stands s is in
+    let used : seen.writes s.at.file ≡ true = file_used other client stage head own got seen stands s is in
     let never : true ≡ false = sym used ∙ (ap (λ (k : ℕ). seen.writes k) (sym same) ∙ creates.was_free.writes) in
     cc (never)
 
@@ -140,11 +141,11 @@ numbers_apart {seen} {new} {name} {bytes} {n} other client stage head own got cr
 undone_beside : {Rises : ℕ → ℕ → Type 0} (other : ChannelSpec) (client : Option ℕ) (stage : ChannelStage) (head : FileHead) (own : List BufferEntry) (got : List GotEvent) (old new : Seen) (name : List ℕ) (faults later : ℕ) → UndoesFile Rises old new name faults later
     → ChannelStands other client stage head own got old → ChannelStands other client stage head own got new
 undone_beside other client stage head own got old new name faults later undoes stands =
-    changed_beside other client stage head own got old new name undoes.touches (names_apart other client stage head own got old name undoes.fresh stands) (λ s is. undoes.numbers s.file) stands
+    changed_beside other client stage head own got old new name undoes.touches (names_apart other client stage head own got old name undoes.fresh stands) (λ s is. undoes.numbers s.at.file) stands
 
 same_number : (old new : Seen) (written : Option ChannelRun) → KeepsNumbers old new → LeavesNumber written old new
 same_number old new None keeps = tt
-same_number old new (Some s) keeps = keeps s.file
+same_number old new (Some s) keeps = keeps s.at.file
 
 same_left : (spec : ChannelSpec) (run written : Option ChannelRun) (old new : Seen) → Same old new → LeavesRunFile spec run written old new
 same_left spec None written old new same = tt
@@ -173,10 +174,10 @@ refusal_beside spec other name BufferRefused a b other_client other_stage other_
     (undone_beside other other_client other_stage other_head b.port.own b.port.got a.files b.files name a.faults b.faults refuses.1 asks.0, asks.1)
 
 -- the run that is opened is apart from the other channel's
-opened_apart : (spec other : ChannelSpec) (order : Order) (a b : ChannelAt) (file : ℕ) (bytes : List ℕ) (other_client : Option ℕ) (other_stage : ChannelStage) (other_head : FileHead) → Creates a.files b.files (file_name_by spec.pattern order.run) file bytes
-    → (starts : StartsAsking spec order file a b) → Differ b.client other_client → OtherAt other other_client other_stage other_head a.port a.files → ChannelsApart b.files spec b.client b.stage other other_client other_stage
-opened_apart spec other order a b file bytes other_client other_stage other_head creates starts differ stands =
-    let opened : ChannelRun = record { run = order.run; start = order.start; file = file; client = starts.client; request = starts.request } in
+opened_apart : (spec other : ChannelSpec) (order : Order) (a b : ChannelAt) (at : OpenFile) (bytes : List ℕ) (other_client : Option ℕ) (other_stage : ChannelStage) (other_head : FileHead) → Creates a.files b.files (file_name_by spec.pattern order.run) at.file bytes
+    → (starts : StartsAsking spec order at a b) → Differ b.client other_client → OtherAt other other_client other_stage other_head a.port a.files → ChannelsApart b.files spec b.client b.stage other other_client other_stage
+opened_apart spec other order a b at bytes other_client other_stage other_head creates starts differ stands =
+    let opened : ChannelRun = record { run = order.run; start = order.start; time = order.time; at = at; client = starts.client; request = starts.request } in
     let now : ChannelsApart b.files spec b.client (Asking opened) other other_client other_stage = record {
       clients = differ;
       names = λ r s is other_is told.
@@ -185,7 +186,7 @@ opened_apart spec other order a b file bytes other_client other_stage other_head
           (names_apart other other_client other_stage other_head a.port.own a.port.got a.files (file_name_by spec.pattern order.run) creates.fresh stands s other_is (sym creates.touches.tells ∙ told));
       numbers = λ r s is other_is.
           let same : opened ≡ r = cc (is) in
-          subst (λ (k : ChannelRun). k.file ≢ s.file) same (numbers_apart other other_client other_stage other_head a.port.own a.port.got creates stands s other_is);
+          subst (λ (k : ChannelRun). k.at.file ≢ s.at.file) same (numbers_apart other other_client other_stage other_head a.port.own a.port.got creates stands s other_is);
     } in
     rw starts.stage now
 
@@ -196,8 +197,8 @@ opens_beside spec order dump (Ok done) a b head other other_client other_stage o
     let asks = asks_beside spec other a.client b.client (Some opens.asks.request) other_client other_stage other_head a.port b.port a.files opens.asks.asks (none_in b.port.taken_back none) at.own_client apart.clients stands in (
       changed_beside other other_client other_stage other_head b.port.own b.port.got a.files b.files (file_name_by spec.pattern order.run) opens.makes.touches
           (names_apart other other_client other_stage other_head a.port.own a.port.got a.files (file_name_by spec.pattern order.run) opens.makes.fresh stands)
-          (λ s is. opens.makes.others s.file (λ same. numbers_apart other other_client other_stage other_head a.port.own a.port.got opens.makes stands s is (sym same))) asks.0,
-      opened_apart spec other order a b opens.file _ other_client other_stage other_head opens.makes opens.asks asks.1 stands,
+          (λ s is. opens.makes.others s.at.file (λ same. numbers_apart other other_client other_stage other_head a.port.own a.port.got opens.makes stands s is (sym same))) asks.0,
+      opened_apart spec other order a b opens.at _ other_client other_stage other_head opens.makes opens.asks asks.1 stands,
     )
 opens_beside spec order dump (Err why) a b head other other_client other_stage other_head opens none idle at apart stands =
     let refused = refusal_beside spec other (file_name_by spec.pattern order.run) why a b other_client other_stage other_head opens.1 (none_in b.port.taken_back none) at.own_client apart.clients stands in

@@ -24,6 +24,7 @@ use Rattle.mid_logger.specs.declared.stage.ChannelRun.{ChannelRun}
 use Rattle.mid_logger.specs.declared.stage.ChannelStage.{ChannelStage}
 use Rattle.mid_logger.specs.declared.stage.ChannelStage.TheVariants.{Idle, Asking}
 use Rattle.mid_logger.specs.Patterns.{file_name_by}
+use Rattle.sub_files.specs.declared.open_file.OpenFile.{OpenFile}
 use Rattle.mid_logger.specs.Channels.{FileHead, KeepsOwnCalls, FileHolds, ChannelStands, written_run, IsOpenFile}
 use Rattle.mid_logger.specs.ChannelTurns.{logger_name, HasClient, MakesRequest, AsksEvents, ChannelAt, StartsAsking, RefusesRun, OpensBy, IsRefusalOf}
 use Rattle.mid_logger.proofs.OwnSteps.{own_push, own_client_push, gave_stays}
@@ -164,11 +165,11 @@ refused_kept : (spec : ChannelSpec) (client later : Option ℕ) (a b : Access) (
 refused_kept spec client later a b head seen asks none stands =
     no_request_kept spec later asks.middle b head seen asks.asked (attach_kept spec client later a asks.middle head seen asks.attached (still_none spec later None asks.middle b asks.asked none) stands)
 
-asking_kept : (spec : ChannelSpec) (order : Order) (file : ℕ) (a b : ChannelAt) (before head : FileHead) (seen : Seen) (starts : StartsAsking spec order file a b) → NoneTaken b.port
-    → FileHolds spec head seen (record { run = order.run; start = order.start; file = file; client = starts.client; request = starts.request }) [] → ChannelStands spec a.client Idle before a.port.own a.port.got seen
+asking_kept : (spec : ChannelSpec) (order : Order) (at : OpenFile) (a b : ChannelAt) (before head : FileHead) (seen : Seen) (starts : StartsAsking spec order at a b) → NoneTaken b.port
+    → FileHolds spec head seen (record { run = order.run; start = order.start; time = order.time; at = at; client = starts.client; request = starts.request }) [] → ChannelStands spec a.client Idle before a.port.own a.port.got seen
     → ChannelStands spec b.client b.stage head b.port.own b.port.got seen
-asking_kept spec order file a b before head seen starts none holds stands =
-    let opened : ChannelRun = record { run = order.run; start = order.start; file = file; client = starts.client; request = starts.request } in
+asking_kept spec order at a b before head seen starts none holds stands =
+    let opened : ChannelRun = record { run = order.run; start = order.start; time = order.time; at = at; client = starts.client; request = starts.request } in
     let middle : Access = starts.asks.middle in
     let request : BufferEntry = Request starts.client spec.id spec.mask All (Ok starts.request) in
     let has : ChannelStands spec b.client Idle before middle.own middle.got seen =
@@ -202,7 +203,7 @@ pub opened_kept : (spec : ChannelSpec) (order : Order) (dump : List ℕ) (r : Re
 opened_kept spec order dump (Err why) a b opens idle small = tt
 opened_kept spec order dump (Ok u) a b opens idle small = λ before none stands.
     let at_idle : ChannelStands spec a.client Idle before a.port.own a.port.got a.files = subst (λ (s : ChannelStage). ChannelStands spec a.client s before a.port.own a.port.got a.files) idle stands in
-    asking_kept spec order opens.file a b before (head_of order dump) b.files opens.asks (none_in b.port.taken_back none)
+    asking_kept spec order opens.at a b before (head_of order dump) b.files opens.asks (none_in b.port.taken_back none)
     (record { run = refl; small = small; fine = All-nil IsFileEvent; file = Creates-IsWritten opens.makes })
     (idle_elsewhere spec a.client before before a.port.own a.port.got a.files b.files at_idle)
 
@@ -222,13 +223,13 @@ not_opened_kept spec order dump (Err why) a b opens idle = λ head none stands.
 
 -- the file of the run that was opened is in use for writing, under its name
 pub opened_file : (spec : ChannelSpec) (order : Order) (dump : List ℕ) (r : Result ⊤ Why) (a b : ChannelAt) → OpensBy r spec order dump a b → a.stage ≡ Idle → IsOpenFile b.files spec (written_run b.stage)
-opened_file spec order dump (Ok u) a b opens idle = rw opens.asks.stage (opens.makes.writes, opens.makes.named)
+opened_file spec order dump (Ok u) a b opens idle = rw opens.asks.stage (opens.makes.writes, opens.makes.named, ap (λ (x : OpenFile). x.sub) opens.first)
 opened_file spec order dump (Err why) a b opens idle = rw (opens.0, idle) tt
 
 -- Whether the name was taken.
 
 -- a run whose file was begun is not refused for its name
-pub begun_not_taken : (r : Result ⊤ Why) (file channel : ℕ) (Taken : Type 0) → IfErr r (λ why. why ≡ BufferRefused) → (IsErrOf (Ok file) NameTaken ↔ Taken) → IsErrOf r (Exists channel) ↔ Taken
+pub begun_not_taken : {T : Type 0} (r : Result ⊤ Why) (file : T) (channel : ℕ) (Taken : Type 0) → IfErr r (λ why. why ≡ BufferRefused) → (IsErrOf (Ok file) NameTaken ↔ Taken) → IsErrOf r (Exists channel) ↔ Taken
 begun_not_taken (Ok u) file channel Taken why taken = (λ is. absurd (cc (is)), λ has. absurd (let never = taken.1 has in cc (never)))
 begun_not_taken (Err x) file channel Taken why taken = (
   λ is. absurd (let refused : x ≡ Exists channel = cc (is) in let never : BufferRefused ≡ Exists channel = sym why ∙ refused in cc (never)),
@@ -236,7 +237,7 @@ begun_not_taken (Err x) file channel Taken why taken = (
 )
 
 -- a run whose file could not be begun is refused for its name exactly where that was why
-pub refused_taken : (why : NameRefused) (channel : ℕ) (answer : Why) (Taken : Type 0) → IsRefusalOf why channel answer → (IsErrOf {T = ℕ} (Err why) NameTaken ↔ Taken) → IsErrOf {T = ⊤} (Err answer) (Exists channel) ↔ Taken
+pub refused_taken : {T : Type 0} (why : NameRefused) (channel : ℕ) (answer : Why) (Taken : Type 0) → IsRefusalOf why channel answer → (IsErrOf {T = T} (Err why) NameTaken ↔ Taken) → IsErrOf {T = ⊤} (Err answer) (Exists channel) ↔ Taken
 refused_taken NameTaken channel answer Taken is taken = (λ same. taken.0 refl, λ has. ap (λ (w : Why). Err w) is)
 refused_taken Missing channel answer Taken is taken = absurd is
 refused_taken Failed channel answer Taken is taken = (

@@ -144,11 +144,11 @@ begun_file_part run time dump events e count = (
       ∙ (ap (λ (l : List ℕ). begun_file run time dump events ++ l) (take-append-drop count (encoding e)) ∙ begun_file_push run time dump events e),
 )
 
-pub holds_more : (spec : ChannelSpec) (head : FileHead) (seen later : Seen) (opened : ChannelRun) (events : List Event) (e : Event) → IsGiven e → FileHolds spec head seen opened events → Extends seen later opened.file (encoding e)
+pub holds_more : (spec : ChannelSpec) (head : FileHead) (seen later : Seen) (opened : ChannelRun) (events : List Event) (e : Event) → IsGiven e → FileHolds spec head seen opened events → Extends seen later opened.at.file (encoding e)
     → FileHolds spec head later opened (events ++ e ∷ [])
 holds_more spec head seen later opened events e given holds extends = record {
   run = holds.run;
   small = holds.small;
   fine = All-push IsFileEvent events e holds.fine (file_event e given);
-  file = subst (λ (bytes : List ℕ). IsWritten later opened.file (file_name_by spec.pattern opened.run) bytes) (begun_file_push head.run head.time head.dump events e) (IsWritten-Extends holds.file extends);
+  file = subst (λ (bytes : List ℕ). IsWritten later opened.at.file (file_name_by spec.pattern opened.run) bytes) (begun_file_push head.run head.time head.dump events e) (IsWritten-Extends holds.file extends);
 }

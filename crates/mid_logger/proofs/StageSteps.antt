@@ -19,7 +19,8 @@ use Rattle.mid_logger.specs.declared.stage.ChannelRun.{ChannelRun}
 use Rattle.mid_logger.specs.declared.stage.ChannelStage.{ChannelStage}
 use Rattle.mid_logger.specs.declared.stage.ChannelStage.TheVariants.{Idle, Asking, Writing, Draining, Drained, Broken}
 use Rattle.mid_logger.specs.Patterns.{file_name_by}
-use Rattle.mid_logger.specs.Channels.{FileHead, AsksNothing, FileHolds, ReadsUntil, ReadingAt, HasReadUntil, HasReadPart, StageAt, ChannelStands, run_begun}
+use Rattle.sub_files.specs.declared.open_file.Fallen.{Fallen}
+use Rattle.mid_logger.specs.Channels.{FileHead, AsksNothing, FileHolds, FileLeft, ReadsUntil, ReadingWith, ReadingAt, HasReadUntil, HasReadPart, StageWith, StandsWith, StageAt, ChannelStands, run_begun}
 use Rattle.mid_logger.specs.Beside.{LeavesClient, LeavesRunOn, LeavesFile, LeavesChannelFile}
 use Rattle.mid_logger.proofs.OwnSteps.{own_push, own_client_push, nothing_push}
 use Rattle.mid_logger.proofs.ReadSteps.{leaves_receive}
@@ -143,68 +144,72 @@ asks_beside (Some client) own e nothing leaves = nothing_push own client e nothi
 beside_of : (client : Option ℕ) (c : ℕ) (e : BufferEntry) (gs : List GotEvent) → client ≡ Some c → LeavesClient client e → name_given e ≡ map name_of gs → GoesBeside c e gs
 beside_of client c e gs of leaves named = goes_beside c e gs (subst (λ (o : Option ℕ). LeavesClient o e) of leaves) named
 
-reading_beside : (spec : ChannelSpec) (client : Option ℕ) (run : BegunRun) (head : FileHead) (own : List BufferEntry) (got : List GotEvent) (seen : Seen) (e : BufferEntry) (gs : List GotEvent) → LeavesClient client e → EndsNot run.opened.start e → name_given e ≡ map name_of gs
-    → ReadingAt spec client run head own got seen → ReadingAt spec client run head (own ++ e ∷ []) (got ++ gs) seen
-reading_beside spec client run head own got seen e gs leaves ends named at = record {
+reading_beside : (Holds : ChannelRun → List Event → Type 0) (spec : ChannelSpec) (client : Option ℕ) (run : BegunRun) (own : List BufferEntry) (got : List GotEvent) (e : BufferEntry) (gs : List GotEvent) → LeavesClient client e → EndsNot run.opened.start e → name_given e ≡ map name_of gs
+    → ReadingWith Holds spec client run own got → ReadingWith Holds spec client run (own ++ e ∷ []) (got ++ gs)
+reading_beside Holds spec client run own got e gs leaves ends named at = record {
   events = at.events;
   of = at.of;
   reads = reads_beside run.ended own got run.opened.client spec.id spec.mask run.opened.request run.opened.start run.begun at.events e gs (beside_of client run.opened.client e gs at.of leaves named) ends at.reads;
   holds = at.holds;
 }
 
-stage_beside : (spec : ChannelSpec) (client : Option ℕ) (stage : ChannelStage) (head : FileHead) (own : List BufferEntry) (got : List GotEvent) (seen : Seen) (e : BufferEntry) (gs : List GotEvent) → LeavesClient client e → LeavesRunOn stage e → name_given e ≡ map name_of gs
-    → StageAt spec client stage head own got seen → StageAt spec client stage head (own ++ e ∷ []) (got ++ gs) seen
-stage_beside spec client Idle head own got seen e gs leaves ends named at = asks_beside client own e at leaves
-stage_beside spec client (Asking opened) head own got seen e gs leaves ends named at = record {
+stage_beside : (Holds : ChannelRun → List Event → Type 0) (Left : ChannelRun → Fallen → List Event → Type 0) (spec : ChannelSpec) (client : Option ℕ) (stage : ChannelStage) (own : List BufferEntry) (got : List GotEvent) (e : BufferEntry) (gs : List GotEvent) → LeavesClient client e → LeavesRunOn stage e → name_given e ≡ map name_of gs
+    → StageWith Holds Left spec client stage own got → StageWith Holds Left spec client stage (own ++ e ∷ []) (got ++ gs)
+stage_beside Holds Left spec client Idle own got e gs leaves ends named at = asks_beside client own e at leaves
+stage_beside Holds Left spec client (Asking opened) own got e gs leaves ends named at = record {
   of = at.of;
   asking = asking_push own opened.client spec.id spec.mask opened.request opened.start e at.asking (beside_of client opened.client e gs at.of leaves named).leaves ends;
   holds = at.holds;
 }
-stage_beside spec client (Writing opened begun) head own got seen e gs leaves ends named at = reading_beside spec client (run_begun opened begun) head own got seen e gs leaves ends named at
-stage_beside spec client (Draining run) head own got seen e gs leaves ends named at = reading_beside spec client run head own got seen e gs leaves ends named at
-stage_beside spec client (Drained run) head own got seen e gs leaves ends named at = record {
+stage_beside Holds Left spec client (Writing opened begun) own got e gs leaves ends named at = reading_beside Holds spec client (run_begun opened begun) own got e gs leaves ends named at
+stage_beside Holds Left spec client (Draining run) own got e gs leaves ends named at = reading_beside Holds spec client run own got e gs leaves ends named at
+stage_beside Holds Left spec client (Drained run) own got e gs leaves ends named at = record {
   events = at.events;
   of = at.of;
   nothing = asks_beside client own e at.nothing leaves;
   reads = until_push run.ended own got run.opened.client spec.id spec.mask run.opened.request run.opened.start run.begun at.events e gs at.reads;
   holds = at.holds;
 }
-stage_beside spec client (Broken run) head own got seen e gs leaves ends named at = record {
+stage_beside Holds Left spec client (Broken run fallen) own got e gs leaves ends named at = record {
   events = at.events;
-  bytes = at.bytes;
   of = at.of;
   nothing = asks_beside client own e at.nothing leaves;
   reads = part_push run.ended own got run.opened.client spec.id spec.mask run.opened.request run.opened.start run.begun at.events e gs at.reads;
-  number = at.number;
-  small = at.small;
-  fine = at.fine;
-  stored = at.stored;
-  front = at.front;
+  left = at.left;
 }
 
-pub calls_beside : (spec : ChannelSpec) (client : Option ℕ) (stage : ChannelStage) (head : FileHead) (own : List BufferEntry) (got : List GotEvent) (seen : Seen) (e : BufferEntry) (gs : List GotEvent) → ChannelStands spec client stage head own got seen
-    → SendsNone e → IsOwnCall e (calls_after [] own) → LeavesClient client e → LeavesRunOn stage e → name_given e ≡ map name_of gs → ChannelStands spec client stage head (own ++ e ∷ []) (got ++ gs) seen
-calls_beside spec client stage head own got seen e gs stands none is_own leaves ends named = record {
+-- whatever is said of the files
+calls_with : (Holds : ChannelRun → List Event → Type 0) (Left : ChannelRun → Fallen → List Event → Type 0) (spec : ChannelSpec) (client : Option ℕ) (stage : ChannelStage) (own : List BufferEntry) (got : List GotEvent) (e : BufferEntry) (gs : List GotEvent) → StandsWith Holds Left spec client stage own got
+    → SendsNone e → IsOwnCall e (calls_after [] own) → LeavesClient client e → LeavesRunOn stage e → name_given e ≡ map name_of gs → StandsWith Holds Left spec client stage (own ++ e ∷ []) (got ++ gs)
+calls_with Holds Left spec client stage own got e gs stands none is_own leaves ends named = record {
   port = own_push own e stands.port none is_own;
   own_client = own_client_push client own e stands.own_client;
-  at = stage_beside spec client stage head own got seen e gs leaves ends named stands.at;
+  at = stage_beside Holds Left spec client stage own got e gs leaves ends named stands.at;
 }
 
 -- The same, where the call gives no event.
+pub call_with : (Holds : ChannelRun → List Event → Type 0) (Left : ChannelRun → Fallen → List Event → Type 0) (spec : ChannelSpec) (client : Option ℕ) (stage : ChannelStage) (own : List BufferEntry) (got : List GotEvent) (e : BufferEntry) → StandsWith Holds Left spec client stage own got
+    → SendsNone e → IsOwnCall e (calls_after [] own) → LeavesClient client e → LeavesRunOn stage e → name_given e ≡ [] → StandsWith Holds Left spec client stage (own ++ e ∷ []) got
+call_with Holds Left spec client stage own got e stands none is_own leaves ends named =
+    subst (λ (l : List GotEvent). StandsWith Holds Left spec client stage (own ++ e ∷ []) l) (append-nil got) (calls_with Holds Left spec client stage own got e [] stands none is_own leaves ends named)
+
+pub calls_beside : (spec : ChannelSpec) (client : Option ℕ) (stage : ChannelStage) (head : FileHead) (own : List BufferEntry) (got : List GotEvent) (seen : Seen) (e : BufferEntry) (gs : List GotEvent) → ChannelStands spec client stage head own got seen
+    → SendsNone e → IsOwnCall e (calls_after [] own) → LeavesClient client e → LeavesRunOn stage e → name_given e ≡ map name_of gs → ChannelStands spec client stage head (own ++ e ∷ []) (got ++ gs) seen
+calls_beside spec client stage head own got seen e gs stands none is_own leaves ends named = calls_with (FileHolds spec head seen) (FileLeft spec head seen) spec client stage own got e gs stands none is_own leaves ends named
+
 pub call_beside : (spec : ChannelSpec) (client : Option ℕ) (stage : ChannelStage) (head : FileHead) (own : List BufferEntry) (got : List GotEvent) (seen : Seen) (e : BufferEntry) → ChannelStands spec client stage head own got seen
     → SendsNone e → IsOwnCall e (calls_after [] own) → LeavesClient client e → LeavesRunOn stage e → name_given e ≡ [] → ChannelStands spec client stage head (own ++ e ∷ []) got seen
-call_beside spec client stage head own got seen e stands none is_own leaves ends named =
-    subst (λ (l : List GotEvent). ChannelStands spec client stage head (own ++ e ∷ []) l seen) (append-nil got) (calls_beside spec client stage head own got seen e [] stands none is_own leaves ends named)
+call_beside spec client stage head own got seen e stands none is_own leaves ends named = call_with (FileHolds spec head seen) (FileLeft spec head seen) spec client stage own got e stands none is_own leaves ends named
 
 -- Files.
 
 in_use : (s : Seen) (n : ℕ) → IsTrue (s.writes n) → InUse s n
 in_use s n h = rw h refl
 
-written_left : {old new : Seen} {name bytes : List ℕ} (opened : ChannelRun) → IsWritten old opened.file name bytes → LeavesFile old new name (Some opened) → IsWritten new opened.file name bytes
+written_left : {old new : Seen} {name bytes : List ℕ} (opened : ChannelRun) → IsWritten old opened.at.file name bytes → LeavesFile old new name (Some opened) → IsWritten new opened.at.file name bytes
 written_left {old} {new} {name} {bytes} opened p leaves = record {
   writes = leaves.number.writes ∙ p.writes;
-  named = leaves.number.name (in_use old opened.file p.writes) ∙ p.named;
+  named = leaves.number.name (in_use old opened.at.file p.writes) ∙ p.named;
   holds = λ told. let before : IsTrue old.tells = sym leaves.tells ∙ told in leaves.at before ∙ p.holds before;
 }
 
@@ -213,6 +218,10 @@ stored_left {old} p leaves = record { holds = λ told. let before : IsTrue old.t
 
 holds_left : (spec : ChannelSpec) (head : FileHead) (old new : Seen) (opened : ChannelRun) (events : List Event) → FileHolds spec head old opened events → LeavesFile old new (file_name_by spec.pattern opened.run) (Some opened) → FileHolds spec head new opened events
 holds_left spec head old new opened events holds leaves = record { run = holds.run; small = holds.small; fine = holds.fine; file = written_left opened holds.file leaves }
+
+broken_left : (spec : ChannelSpec) (head : FileHead) (old new : Seen) (opened : ChannelRun) (fallen : Fallen) (events : List Event) → FileLeft spec head old opened fallen events → LeavesFile old new (file_name_by spec.pattern opened.run) None → FileLeft spec head new opened fallen events
+broken_left spec head old new opened fallen events left leaves =
+    record { bytes = left.bytes; number = left.number; small = left.small; fine = left.fine; stored = stored_left left.stored leaves; front = left.front }
 
 reading_left : (spec : ChannelSpec) (client : Option ℕ) (run : BegunRun) (head : FileHead) (own : List BufferEntry) (got : List GotEvent) (old new : Seen) → ReadingAt spec client run head own got old
     → LeavesFile old new (file_name_by spec.pattern run.opened.run) (Some run.opened) → ReadingAt spec client run head own got new
@@ -226,18 +235,8 @@ stage_left spec client (Writing opened begun) head own got old new at leaves = r
 stage_left spec client (Draining run) head own got old new at leaves = reading_left spec client run head own got old new at leaves
 stage_left spec client (Drained run) head own got old new at leaves =
     record { events = at.events; of = at.of; nothing = at.nothing; reads = at.reads; holds = holds_left spec head old new run.opened at.events at.holds leaves }
-stage_left spec client (Broken run) head own got old new at leaves = record {
-  events = at.events;
-  bytes = at.bytes;
-  of = at.of;
-  nothing = at.nothing;
-  reads = at.reads;
-  number = at.number;
-  small = at.small;
-  fine = at.fine;
-  stored = stored_left at.stored leaves;
-  front = at.front;
-}
+stage_left spec client (Broken run fallen) head own got old new at leaves =
+    record { events = at.events; of = at.of; nothing = at.nothing; reads = at.reads; left = broken_left spec head old new run.opened fallen at.events at.left leaves }
 
 pub files_beside : (spec : ChannelSpec) (client : Option ℕ) (stage : ChannelStage) (head : FileHead) (own : List BufferEntry) (got : List GotEvent) (old new : Seen) → ChannelStands spec client stage head own got old
     → LeavesChannelFile spec stage old new → ChannelStands spec client stage head own got new

@@ -1,4 +1,5 @@
--- What leaves a channel as it stands: calls on its port that name other clients, and changes of other files.
+-- What leaves a channel as it stands, of which each run has one file: calls on its port that name other clients, and changes of
+-- other files.
 use Rattle.std.specs.Prelude.{◌≡◌, ◌≢◌, ℕ, IsTrue, List, [], ◌∷◌, ◌++◌, map, Option, Some, None, Result, ⊤}
 use Rattle.daq_types.specs.declared.runs.ChannelState.{ChannelState}
 use Rattle.daq_types.specs.declared.runs.Order.{Order}
@@ -36,7 +37,7 @@ LeavesRunOn stage entry = ⊤
 -- the number under which the file of the run, if there is one, is written is in use as it was
 abbrev pub LeavesNumber : Option ChannelRun → (old new : Seen) → Type 0
 LeavesNumber None old new = ⊤
-LeavesNumber (Some opened) old new = KeepsNumber old new opened.file
+LeavesNumber (Some opened) old new = KeepsNumber old new opened.at.file
 
 -- The file of this name stays as it is, where it is told, and so does the number under which it is written, if it is.
 pub record LeavesFile (old new : Seen) (name : List ℕ) (written : Option ChannelRun) : Type 0 where
@@ -74,7 +75,7 @@ FilesBeside = (spec : ChannelSpec) → (client : Option ℕ) → (stage : Channe
 pub record ChannelsApart (seen : Seen) (spec : ChannelSpec) (client : Option ℕ) (stage : ChannelStage) (other : ChannelSpec) (other_client : Option ℕ) (other_stage : ChannelStage) : Type 0 where
   pub clients : (c d : ℕ) → client ≡ Some c → other_client ≡ Some d → c ≢ d
   pub names : (r s : ChannelRun) → channel_run stage ≡ Some r → channel_run other_stage ≡ Some s → IsTrue seen.tells → file_name_by spec.pattern r.run ≢ file_name_by other.pattern s.run
-  pub numbers : (r s : ChannelRun) → written_run stage ≡ Some r → written_run other_stage ≡ Some s → r.file ≢ s.file
+  pub numbers : (r s : ChannelRun) → written_run stage ≡ Some r → written_run other_stage ≡ Some s → r.at.file ≢ s.at.file
 
 -- What one channel pulls leaves what another channel on the buffer keeps.
 abbrev pub PullsBeside : Type 0

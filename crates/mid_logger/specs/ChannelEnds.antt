@@ -30,7 +30,7 @@ CancelsStanding (Some opened) a b = CancelsRequest a b opened
 -- failed it may stay. Where there is neither, nothing is done.
 abbrev pub RemovesFile : (written : Option ChannelRun) → (broken : Option BegunRun) → ChannelSpec → (a b : Seen) → (faults later : ℕ) → Type 0
 RemovesFile (Some opened) broken spec a b faults later =
-    DropsFile a b opened.file (file_name_by spec.pattern opened.run) × (IsGone b (file_name_by spec.pattern opened.run) ⊎ Rose faults later)
+    DropsFile a b opened.at.file (file_name_by spec.pattern opened.run) × (IsGone b (file_name_by spec.pattern opened.run) ⊎ Rose faults later)
 RemovesFile None (Some run) spec a b faults later =
     Touches a b (file_name_by spec.pattern run.opened.run) × KeepsNumbers a b × (IsGone b (file_name_by spec.pattern run.opened.run) ⊎ Rose faults later)
 RemovesFile None None spec a b faults later = (b ≡ a) × (later ≡ faults)
@@ -55,7 +55,7 @@ state_otherwise (Asking opened) = IsWriting
 state_otherwise (Writing opened begun) = IsWriting
 state_otherwise (Draining run) = IsWriting
 state_otherwise (Drained run) = IsWriting
-state_otherwise (Broken run) = IsBroken
+state_otherwise (Broken run fallen) = IsBroken
 
 -- the stage behind the answer to a stop
 abbrev pub stage_settled : ChannelStage → ChannelStage
@@ -66,9 +66,9 @@ stage_settled stage = Idle
 
 -- The file of a run that was read is closed with its last bytes; or a call on it failed, and it has a first part of them.
 abbrev pub ClosesRead : ChannelState → BegunRun → (time : ℕ) → (dump : Option (List ℕ)) → (a b : Seen) → (faults later : ℕ) → Type 0
-ClosesRead IsBroken run time dump a b faults later = ClosesPart a b run.opened.file (last_bytes run.opened.run run.ended time dump) × Rose faults later
+ClosesRead IsBroken run time dump a b faults later = ClosesPart a b run.opened.at.file (last_bytes run.opened.run run.ended time dump) × Rose faults later
 ClosesRead state run time dump a b faults later =
-    (state ≡ state_ended run.ended dump) × Closes a b run.opened.file (last_bytes run.opened.run run.ended time dump) × (later ≡ faults)
+    (state ≡ state_ended run.ended dump) × Closes a b run.opened.at.file (last_bytes run.opened.run run.ended time dump) × (later ≡ faults)
 
 -- What becomes of a channel's file: where its client has read the run, it is closed; else no call is made.
 abbrev pub ClosesFile : Option BegunRun → ChannelStage → ChannelState → (time : ℕ) → (dump : Option (List ℕ)) → (a b : Seen) → (faults later : ℕ) → Type 0

@@ -18,6 +18,8 @@ use Rattle.mid_logger.specs.declared.stage.ChannelRun.{ChannelRun}
 use Rattle.mid_logger.specs.declared.stage.BegunRun.{BegunRun}
 use Rattle.mid_logger.specs.declared.stage.ChannelStage.{ChannelStage}
 use Rattle.mid_logger.specs.declared.stage.ChannelStage.TheVariants.{Idle, Asking, Writing, Draining, Drained, Broken}
+use Rattle.sub_files.specs.declared.open_file.OpenFile.{OpenFile}
+use Rattle.sub_files.specs.Rolls.{first_file}
 use Rattle.mid_logger.specs.Patterns.{file_name_by}
 use Rattle.mid_logger.specs.Pulls.{NamesMore}
 use Rattle.mid_logger.specs.RecordFiles.{RoseTwice, UndoesFile}
@@ -29,11 +31,11 @@ asking_run (Asking opened) = Some opened
 asking_run (Writing opened begun) = Some opened
 asking_run (Draining run) = Some run.opened
 asking_run (Drained run) = None
-asking_run (Broken run) = None
+asking_run (Broken run fallen) = None
 
 -- the run that broke off
 abbrev pub broken_run : ChannelStage → Option BegunRun
-broken_run (Broken run) = Some run
+broken_run (Broken run fallen) = Some run
 broken_run stage = None
 
 -- the run that the client has read, whose file has no end record yet
@@ -72,19 +74,20 @@ pub record ChannelAt : Type 0 where
   pub files : Seen
   pub faults : ℕ
 
--- the channel asks for the events of the run of this order, whose file has this number
-pub record StartsAsking (spec : ChannelSpec) (order : Order) (file : ℕ) (a b : ChannelAt) : Type 0 where
+-- the channel asks for the events of the run of this order, whose first file is this one
+pub record StartsAsking (spec : ChannelSpec) (order : Order) (at : OpenFile) (a b : ChannelAt) : Type 0 where
   pub client : ℕ
   pub request : ℕ
-  pub stage : b.stage ≡ Asking (record { run = order.run; start = order.start; file = file; client = client; request = request })
+  pub stage : b.stage ≡ Asking (record { run = order.run; start = order.start; time = order.time; at = at; client = client; request = request })
   pub client_is : b.client ≡ Some client
   pub asks : AsksEvents spec a.client b.client (Some request) a.port b.port
 
--- The run is opened: its file is made and has the begin record, and the channel asks for its events.
+-- The run is opened: its first file is made and has the begin record, and the channel asks for its events.
 pub record OpensRun (spec : ChannelSpec) (order : Order) (dump : List ℕ) (a b : ChannelAt) : Type 0 where
-  pub file : ℕ
-  pub makes : Creates a.files b.files (file_name_by spec.pattern order.run) file (begun_file order.run order.time dump [])
-  pub asks : StartsAsking spec order file a b
+  pub at : OpenFile
+  pub first : at ≡ first_file dump at.file
+  pub makes : Creates a.files b.files (file_name_by spec.pattern order.run) at.file (begun_file order.run order.time dump [])
+  pub asks : StartsAsking spec order at a b
 
 -- nothing is called on the port
 pub record LeavesPort (a b : ChannelAt) : Type 0 where

@@ -1,4 +1,4 @@
--- A channel of the logger: its calls on the buffer that it reads, what it got there, and its file.
+-- A channel of the logger: its calls on the buffer that it reads, what it got there, and its files.
 use Rattle.std.specs.Prelude.{◌≡◌, ◌≤◌, ℕ, nat_le, Bool, false, true, IsTrue, length, All, Result, Ok, Err, List, [], Option, Some, None, ⊤}
 use mathlib.Core.List.{IsPrefix}
 use Rattle.daq_types.specs.declared.events.Event.{Event}
@@ -19,6 +19,7 @@ use Rattle.mid_logger.specs.declared.stage.ChannelRun.{ChannelRun}
 use Rattle.mid_logger.specs.declared.stage.BegunRun.{BegunRun}
 use Rattle.mid_logger.specs.declared.stage.ChannelStage.{ChannelStage}
 use Rattle.mid_logger.specs.declared.stage.ChannelStage.TheVariants.{Idle, Asking, Writing, Draining, Drained, Broken}
+use Rattle.sub_files.specs.declared.open_file.Fallen.{Fallen}
 use Rattle.mid_logger.specs.Patterns.{file_name_by}
 pub use Rattle.sub_files.specs.RecordFiles.{ClosesPart}
 
@@ -43,18 +44,30 @@ abbrev pub AsksNothing : Option ℕ → List BufferEntry → Type 0
 AsksNothing None own = ⊤
 AsksNothing (Some client) own = (n : ℕ) → asks (calls_after [] own) client n ≡ false
 
--- The file of the open run is being written, and has the begin record and these events, which may stand in a run file.
+-- The file of the open run, its only one, is being written, and has the begin record and these events, which may stand in a run
+-- file.
 pub record FileHolds (spec : ChannelSpec) (head : FileHead) (seen : Seen) (opened : ChannelRun) (events : List Event) : Type 0 where
   pub run : head.run ≡ opened.run
   pub small : length head.dump ≤ record_limit
   pub fine : All IsFileEvent events
-  pub file : IsWritten seen opened.file (file_name_by spec.pattern opened.run) (begun_file head.run head.time head.dump events)
+  pub file : IsWritten seen opened.at.file (file_name_by spec.pattern opened.run) (begun_file head.run head.time head.dump events)
+
+-- The only file of the run that broke off is closed and begins as one does that has the begin record and these events.
+pub record FileLeft (spec : ChannelSpec) (head : FileHead) (seen : Seen) (opened : ChannelRun) (fallen : Fallen) (events : List Event) : Type 0 where
+  pub bytes : List ℕ
+  pub number : head.run ≡ opened.run
+  pub small : length head.dump ≤ record_limit
+  pub fine : All IsFileEvent events
+  pub stored : IsStored seen (file_name_by spec.pattern opened.run) bytes
+  pub front : IsPrefix bytes (begun_file head.run head.time head.dump events)
+
+-- How far a channel is, where `Holds` says what its files hold that are being written, and `Left` what those have that broke off.
 
 -- the run is not begun yet
-pub record AskingAt (spec : ChannelSpec) (client : Option ℕ) (opened : ChannelRun) (head : FileHead) (own : List BufferEntry) (seen : Seen) : Type 0 where
+pub record AskingWith (Holds : ChannelRun → List Event → Type 0) (spec : ChannelSpec) (client : Option ℕ) (opened : ChannelRun) (own : List BufferEntry) : Type 0 where
   pub of : client ≡ Some opened.client
   pub asking : IsAskingFor own opened.client spec.id spec.mask opened.request opened.start
-  pub holds : FileHolds spec head seen opened []
+  pub holds : Holds opened []
 
 -- the place is one of the run: from its begin on, and below its end, where that is marked
 abbrev pub is_in_run : (begun : ℕ) → (ended : Option ℕ) → (place : ℕ) → Bool
@@ -66,63 +79,74 @@ abbrev pub ReadsUntil : (ended : Option ℕ) → List BufferEntry → List GotEv
 ReadsUntil None own got client id mask request start begun events = IsReading own got client id mask request start begun events
 ReadsUntil (Some end) own got client id mask request start begun events = IsDraining own got client id mask request start begun end events
 
--- the client reads the run, and the file holds the events that it got
-pub record ReadingAt (spec : ChannelSpec) (client : Option ℕ) (run : BegunRun) (head : FileHead) (own : List BufferEntry) (got : List GotEvent) (seen : Seen) : Type 0 where
+-- the client reads the run, and the files hold the events that it got
+pub record ReadingWith (Holds : ChannelRun → List Event → Type 0) (spec : ChannelSpec) (client : Option ℕ) (run : BegunRun) (own : List BufferEntry) (got : List GotEvent) : Type 0 where
   pub events : List Event
   pub of : client ≡ Some run.opened.client
   pub reads : ReadsUntil run.ended own got run.opened.client spec.id spec.mask run.opened.request run.opened.start run.begun events
-  pub holds : FileHolds spec head seen run.opened events
+  pub holds : Holds run.opened events
 
 -- The client has read the run to its end, where that was marked; where it could not be, up to some point.
 abbrev pub HasReadUntil : (ended : Option ℕ) → List BufferEntry → List GotEvent → (client id mask request start begun : ℕ) → List Event → Type 0
 HasReadUntil None own got client id mask request start begun events = HasReadOn own got client id mask request start begun events
 HasReadUntil (Some end) own got client id mask request start begun events = HasReadRun own got client id mask request start begun end events
 
--- the client has read the run, its request is cancelled, and the file holds the events that it got
-pub record DrainedAt (spec : ChannelSpec) (client : Option ℕ) (run : BegunRun) (head : FileHead) (own : List BufferEntry) (got : List GotEvent) (seen : Seen) : Type 0 where
+-- the client has read the run, its request is cancelled, and the files hold the events that it got
+pub record DrainedWith (Holds : ChannelRun → List Event → Type 0) (spec : ChannelSpec) (client : Option ℕ) (run : BegunRun) (own : List BufferEntry) (got : List GotEvent) : Type 0 where
   pub events : List Event
   pub of : client ≡ Some run.opened.client
   pub nothing : AsksNothing client own
   pub reads : HasReadUntil run.ended own got run.opened.client spec.id spec.mask run.opened.request run.opened.start run.begun events
-  pub holds : FileHolds spec head seen run.opened events
+  pub holds : Holds run.opened events
 
 -- the client has read a first part of the run, of which the end is marked or not
 abbrev pub HasReadPart : (ended : Option ℕ) → List BufferEntry → List GotEvent → (client id mask request start begun : ℕ) → List Event → Type 0
 HasReadPart None own got client id mask request start begun events = HasReadOn own got client id mask request start begun events
 HasReadPart (Some end) own got client id mask request start begun events = HasCutRun own got client id mask request start begun end events
 
--- The client has read a part of the run, its request is cancelled, and the closed file begins as one does that has the begin
--- record and the events that it got.
-pub record BrokenAt (spec : ChannelSpec) (client : Option ℕ) (run : BegunRun) (head : FileHead) (own : List BufferEntry) (got : List GotEvent) (seen : Seen) : Type 0 where
+-- the client has read a part of the run, its request is cancelled, and the files are left with the events that it got
+pub record BrokenWith (Left : ChannelRun → Fallen → List Event → Type 0) (spec : ChannelSpec) (client : Option ℕ) (run : BegunRun) (fallen : Fallen) (own : List BufferEntry) (got : List GotEvent) : Type 0 where
   pub events : List Event
-  pub bytes : List ℕ
   pub of : client ≡ Some run.opened.client
   pub nothing : AsksNothing client own
   pub reads : HasReadPart run.ended own got run.opened.client spec.id spec.mask run.opened.request run.opened.start run.begun events
-  pub number : head.run ≡ run.opened.run
-  pub small : length head.dump ≤ record_limit
-  pub fine : All IsFileEvent events
-  pub stored : IsStored seen (file_name_by spec.pattern run.opened.run) bytes
-  pub front : IsPrefix bytes (begun_file head.run head.time head.dump events)
+  pub left : Left run.opened fallen events
 
 -- a run that is on
 abbrev pub run_begun : ChannelRun → (begun : ℕ) → BegunRun
 run_begun opened begun = record { opened = opened; begun = begun; ended = None }
 
 -- a channel in this stage
-abbrev pub StageAt : ChannelSpec → Option ℕ → ChannelStage → FileHead → List BufferEntry → List GotEvent → Seen → Type 0
-StageAt spec client Idle head own got seen = AsksNothing client own
-StageAt spec client (Asking opened) head own got seen = AskingAt spec client opened head own seen
-StageAt spec client (Writing opened begun) head own got seen = ReadingAt spec client (run_begun opened begun) head own got seen
-StageAt spec client (Draining run) head own got seen = ReadingAt spec client run head own got seen
-StageAt spec client (Drained run) head own got seen = DrainedAt spec client run head own got seen
-StageAt spec client (Broken run) head own got seen = BrokenAt spec client run head own got seen
+abbrev pub StageWith : (Holds : ChannelRun → List Event → Type 0) → (Left : ChannelRun → Fallen → List Event → Type 0) → ChannelSpec → Option ℕ → ChannelStage → List BufferEntry → List GotEvent → Type 0
+StageWith Holds Left spec client Idle own got = AsksNothing client own
+StageWith Holds Left spec client (Asking opened) own got = AskingWith Holds spec client opened own
+StageWith Holds Left spec client (Writing opened begun) own got = ReadingWith Holds spec client (run_begun opened begun) own got
+StageWith Holds Left spec client (Draining run) own got = ReadingWith Holds spec client run own got
+StageWith Holds Left spec client (Drained run) own got = DrainedWith Holds spec client run own got
+StageWith Holds Left spec client (Broken run fallen) own got = BrokenWith Left spec client run fallen own got
 
 -- a channel, with the calls of the logger on its buffer, what the logger got there, and the files
-pub record ChannelStands (spec : ChannelSpec) (client : Option ℕ) (stage : ChannelStage) (head : FileHead) (own : List BufferEntry) (got : List GotEvent) (seen : Seen) : Type 0 where
+pub record StandsWith (Holds : ChannelRun → List Event → Type 0) (Left : ChannelRun → Fallen → List Event → Type 0) (spec : ChannelSpec) (client : Option ℕ) (stage : ChannelStage) (own : List BufferEntry) (got : List GotEvent) : Type 0 where
   pub port : KeepsOwnCalls own
   pub own_client : IsOwnClient client own
-  pub at : StageAt spec client stage head own got seen
+  pub at : StageWith Holds Left spec client stage own got
+
+-- A channel of which each run has one file.
+
+abbrev pub ReadingAt : ChannelSpec → Option ℕ → BegunRun → FileHead → List BufferEntry → List GotEvent → Seen → Type 0
+ReadingAt spec client run head own got seen = ReadingWith (FileHolds spec head seen) spec client run own got
+
+abbrev pub DrainedAt : ChannelSpec → Option ℕ → BegunRun → FileHead → List BufferEntry → List GotEvent → Seen → Type 0
+DrainedAt spec client run head own got seen = DrainedWith (FileHolds spec head seen) spec client run own got
+
+abbrev pub BrokenAt : ChannelSpec → Option ℕ → BegunRun → Fallen → FileHead → List BufferEntry → List GotEvent → Seen → Type 0
+BrokenAt spec client run fallen head own got seen = BrokenWith (FileLeft spec head seen) spec client run fallen own got
+
+abbrev pub StageAt : ChannelSpec → Option ℕ → ChannelStage → FileHead → List BufferEntry → List GotEvent → Seen → Type 0
+StageAt spec client stage head own got seen = StageWith (FileHolds spec head seen) (FileLeft spec head seen) spec client stage own got
+
+abbrev pub ChannelStands : ChannelSpec → Option ℕ → ChannelStage → FileHead → List BufferEntry → List GotEvent → Seen → Type 0
+ChannelStands spec client stage head own got seen = StandsWith (FileHolds spec head seen) (FileLeft spec head seen) spec client stage own got
 
 -- the run whose file is being written
 abbrev pub written_run : ChannelStage → Option ChannelRun
@@ -131,12 +155,13 @@ written_run (Asking opened) = Some opened
 written_run (Writing opened begun) = Some opened
 written_run (Draining run) = Some run.opened
 written_run (Drained run) = Some run.opened
-written_run (Broken run) = None
+written_run (Broken run fallen) = None
 
--- the file of the run, if there is one, is in use for writing, under its name
+-- the file of the run, if there is one, is the first one, and in use for writing, under its name
 abbrev pub IsOpenFile : Seen → ChannelSpec → Option ChannelRun → Type 0
 IsOpenFile seen spec None = ⊤
-IsOpenFile seen spec (Some opened) = IsTrue (seen.writes opened.file) × (seen.name_of opened.file ≡ file_name_by spec.pattern opened.run)
+IsOpenFile seen spec (Some opened) =
+    IsTrue (seen.writes opened.at.file) × (seen.name_of opened.at.file ≡ file_name_by spec.pattern opened.run) × (opened.at.sub ≡ 0)
 
 -- the name of the file of this run, if there is one
 abbrev pub channel_file : ChannelSpec → Option ChannelRun → List ℕ
@@ -156,7 +181,7 @@ end_marked (Some end) mark = Some end
 -- the stage once the run was ended at this place, or could not be
 abbrev pub stage_ended : ChannelStage → (ended : Option ℕ) → ChannelStage
 stage_ended (Writing opened begun) ended = Draining (record { opened = opened; begun = begun; ended = ended })
-stage_ended (Broken run) ended = Broken (record run { ended = end_marked run.ended ended })
+stage_ended (Broken run fallen) ended = Broken (record run { ended = end_marked run.ended ended }) fallen
 stage_ended stage ended = stage
 
 -- a run whose client is being drained is not ended again
@@ -171,7 +196,7 @@ channel_run (Asking opened) = Some opened
 channel_run (Writing opened begun) = Some opened
 channel_run (Draining run) = Some run.opened
 channel_run (Drained run) = Some run.opened
-channel_run (Broken run) = Some run.opened
+channel_run (Broken run fallen) = Some run.opened
 
 -- the place of a mark, where it was accepted
 abbrev pub place_marked : Result ℕ MarkRefusal → Option ℕ

@@ -1,4 +1,4 @@
--- What each step of a channel keeps of it, and which file it changes.
+-- What each step of a channel keeps of it, of which each run has one file, and which file it changes.
 use Rattle.std.specs.Prelude.{◌≡◌, ◌≢◌, ◌≤◌, ℕ, length, IsTrue, OnOk, OnErr, List, [], ◌∷◌, ◌++◌, Option, Some, None, Result, Ok, ◌⊎◌, ⊤}
 use Rattle.daq_types.specs.declared.runs.ChannelState.{ChannelState}
 use Rattle.daq_types.specs.declared.runs.Order.{Order}
@@ -25,7 +25,7 @@ use Rattle.mid_logger.specs.ChannelEnds.{CancelsStanding, RemovesFile, ClosesFil
 -- At most the file of this name changed, and every number stays but that of the run that is written, if there is one.
 pub record ChangesOne (name : List ℕ) (written : Option ChannelRun) (old new : Seen) : Type 0 where
   pub touches : Touches old new name
-  pub others : (number : ℕ) → ((r : ChannelRun) → written ≡ Some r → number ≢ r.file) → KeepsNumber old new number
+  pub others : (number : ℕ) → ((r : ChannelRun) → written ≡ Some r → number ≢ r.at.file) → KeepsNumber old new number
 
 -- at most the file of the run, if there is one, changed
 abbrev pub ChangesFile : ChannelSpec → (run written : Option ChannelRun) → (old new : Seen) → Type 0

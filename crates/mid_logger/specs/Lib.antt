@@ -6,3 +6,4 @@ pub mod ChannelTurns
 pub mod ChannelEnds
 pub mod Beside
 pub mod Keeping
+pub mod PieceFiles

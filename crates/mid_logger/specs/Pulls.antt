@@ -4,6 +4,7 @@ use Rattle.daq_types.specs.declared.events.Event.{Event}
 use Rattle.event.specs.Events.{encoding}
 use Rattle.daq_io.specs.Counts.{Rose, first_of}
 use Rattle.daq_io.specs.Seen.{Seen, Extends}
+use Rattle.sub_files.specs.declared.open_file.Fallen.{Fallen}
 use Rattle.buffer_core.specs.declared.replies.Received.{Received}
 use Rattle.buffer_core.specs.declared.replies.Received.TheVariants.{Got, Empty, NoClient, SmallBuf}
 use Rattle.buffer_core.specs.Ports.{Access, Receives, GivesSound}
@@ -39,29 +40,15 @@ pub record DrainsClient (p : PullOf) (run : BegunRun) (answer : Pulled) : Type 0
   pub port : CancelsRequest p.port p.later_port run.opened
   pub files : p.later_files ≡ p.files
 
--- the event is written
-pub record WritesEvent (p : PullOf) (run : BegunRun) (place : ℕ) (event : Event) : Type 0 where
-  pub answer_is : p.answer ≡ Wrote place
-  pub stage : p.later_stage ≡ p.stage
-  pub port : p.later_port ≡ p.port
-  pub files : Extends p.files p.later_files run.opened.file (encoding event)
-
--- the append failed: the request is cancelled, and the file closed with a part of the event at its end
-pub record BreaksChannel (p : PullOf) (run : BegunRun) (event : Event) : Type 0 where
-  pub answer_is : p.answer ≡ Broke
-  pub stage : p.later_stage ≡ Broken run
-  pub port : CancelsRequest p.port p.later_port run.opened
-  pub files : ClosesPart p.files p.later_files run.opened.file (encoding event)
-
-abbrev pub TakesBy : (behind early : Bool) → PullOf → BegunRun → (place : ℕ) → Event → Type 0
-TakesBy true early p run place event = DrainsClient p run (Dropped place)
-TakesBy false true p run place event = LeavesAll p (Dropped place)
-TakesBy false false p run place event = WritesEvent p run place event ⊎ BreaksChannel p run event
-
 -- What is done with an event that was got: the first one at or behind the end of the run drains the client; one from before
--- its begin is dropped; any other is written.
-abbrev pub TakesEvent : PullOf → BegunRun → (place : ℕ) → Event → Type 0
-TakesEvent p run place event = TakesBy (is_behind_end run.ended place) (nat_lt place run.begun) p run place event
+-- its begin is dropped; with any other is done what `Takes` says.
+abbrev pub TakesWith : (Takes : PullOf → BegunRun → ℕ → Event → Type 0) → (behind early : Bool) → PullOf → BegunRun → (place : ℕ) → Event → Type 0
+TakesWith Takes true early p run place event = DrainsClient p run (Dropped place)
+TakesWith Takes false true p run place event = LeavesAll p (Dropped place)
+TakesWith Takes false false p run place event = Takes p run place event
+
+abbrev pub TakesRun : (Takes : PullOf → BegunRun → ℕ → Event → Type 0) → PullOf → BegunRun → (place : ℕ) → Event → Type 0
+TakesRun Takes p run place event = TakesWith Takes (is_behind_end run.ended place) (nat_lt place run.begun) p run place event
 
 -- a stage in which a client that finds no event is drained
 abbrev pub drains_at_none : ChannelStage → Bool
@@ -73,25 +60,57 @@ FindsNone true p run = DrainsClient p run Nothing
 FindsNone false p run = LeavesAll p Nothing
 
 -- What is done at the reply of a receive. There is room for each event.
-abbrev pub TakesReply : PullOf → BegunRun → Received → Event → Type 0
-TakesReply p run (Got place start) event = TakesEvent p run place event
-TakesReply p run (Empty gate last) event = FindsNone (drains_at_none p.stage) p run
-TakesReply p run NoClient event = LeavesAll p Nothing
-TakesReply p run (SmallBuf need) event = ⊥
+abbrev pub TakesReplyWith : (Takes : PullOf → BegunRun → ℕ → Event → Type 0) → PullOf → BegunRun → Received → Event → Type 0
+TakesReplyWith Takes p run (Got place start) event = TakesRun Takes p run place event
+TakesReplyWith Takes p run (Empty gate last) event = FindsNone (drains_at_none p.stage) p run
+TakesReplyWith Takes p run NoClient event = LeavesAll p Nothing
+TakesReplyWith Takes p run (SmallBuf need) event = ⊥
 
 -- One receive, and what is done at its reply.
-pub record PullsOnce (p : PullOf) (run : BegunRun) (room : ℕ) : Type 0 where
+pub record PullsOnceWith (Takes : PullOf → BegunRun → ℕ → Event → Type 0) (p : PullOf) (run : BegunRun) (room : ℕ) : Type 0 where
   pub reply : Received
   pub event : Event
   pub middle : Access
   pub received : Receives p.port middle run.opened.client room reply event
   pub sound : GivesSound reply event
-  pub taken : TakesReply (record p { port = middle }) run reply event
+  pub taken : TakesReplyWith Takes (record p { port = middle }) run reply event
 
 -- where the channel reads no run, nothing is done
+abbrev pub PullsInWith : (Takes : PullOf → BegunRun → ℕ → Event → Type 0) → Option BegunRun → PullOf → (room : ℕ) → Type 0
+PullsInWith Takes None p room = LeavesAll p Nothing
+PullsInWith Takes (Some run) p room = PullsOnceWith Takes p run room
+
+-- What a pull does with events of a run that has one file.
+
+-- the event is written
+pub record WritesEvent (p : PullOf) (run : BegunRun) (place : ℕ) (event : Event) : Type 0 where
+  pub answer_is : p.answer ≡ Wrote place
+  pub stage : p.later_stage ≡ p.stage
+  pub port : p.later_port ≡ p.port
+  pub files : Extends p.files p.later_files run.opened.at.file (encoding event)
+
+-- the append failed: the request is cancelled, and the file closed with a part of the event at its end
+pub record BreaksChannel (p : PullOf) (run : BegunRun) (event : Event) : Type 0 where
+  pub fallen : Fallen
+  pub answer_is : p.answer ≡ Broke
+  pub stage : p.later_stage ≡ Broken run fallen
+  pub port : CancelsRequest p.port p.later_port run.opened
+  pub files : ClosesPart p.files p.later_files run.opened.at.file (encoding event)
+
+abbrev pub TakesOne : PullOf → BegunRun → (place : ℕ) → Event → Type 0
+TakesOne p run place event = WritesEvent p run place event ⊎ BreaksChannel p run event
+
+abbrev pub TakesBy : (behind early : Bool) → PullOf → BegunRun → (place : ℕ) → Event → Type 0
+TakesBy behind early p run place event = TakesWith TakesOne behind early p run place event
+
+abbrev pub TakesReply : PullOf → BegunRun → Received → Event → Type 0
+TakesReply p run reply event = TakesReplyWith TakesOne p run reply event
+
+abbrev pub PullsOnce : PullOf → BegunRun → (room : ℕ) → Type 0
+PullsOnce p run room = PullsOnceWith TakesOne p run room
+
 abbrev pub PullsIn : Option BegunRun → PullOf → (room : ℕ) → Type 0
-PullsIn None p room = LeavesAll p Nothing
-PullsIn (Some run) p room = PullsOnce p run room
+PullsIn run p room = PullsInWith TakesOne run p room
 
 -- what a pull does
 abbrev pub Pulls : PullOf → (room : ℕ) → Type 0

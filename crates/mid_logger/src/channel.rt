@@ -1,29 +1,33 @@
-ghost use Rattle.std.specs.Prelude.{◌≡◌, ◌≤◌, ◌-◌, ◌++◌, ◌∷◌, [], true, ℕ, List, Result, min, IsTrue, OnOk, OnErr, Ok, Err, Some, None};
-ghost use Rattle.event.specs.Events.{encoding, event_limit};
-ghost use Rattle.daq_io.specs.Counts.{CountsFault, NamesFirst};
-ghost use Rattle.daq_io.specs.Seen.{Seen, Extends, Closes};
+ghost use Rattle.std.specs.Prelude.{◌≡◌, ◌≤◌, ◌-◌, ◌++◌, ◌∷◌, [], true, ℕ, List, Result, min, length, Ok, Some, None};
+ghost use Rattle.event.specs.Events.{event_limit, record_limit};
+ghost use Rattle.daq_io.specs.Seen.{Seen};
 ghost use Rattle.buffer_core.specs.declared.replies.MarkRefusal.{MarkRefusal};
 ghost use Rattle.buffer_core.specs.declared.entry.BufferEntry.{BufferEntry};
 ghost use Rattle.buffer_core.specs.declared.entry.BufferEntry.TheVariants.{Begin, End};
 ghost use Rattle.buffer_core.specs.Ports.{GotEvent};
+ghost use Rattle.sub_files.specs.Rolls.{RisesWith};
 ghost use Rattle.mid_logger.specs.declared.stage.ChannelRun.{ChannelRun};
 ghost use Rattle.mid_logger.specs.declared.stage.ChannelStage.TheVariants.{Asking, Drained, Broken};
-ghost use Rattle.mid_logger.specs.Channels.{FileHead, ChannelStands, IsOpenFile, ClosesPart, CancelsRequest, is_behind_end, reading_run, written_run, channel_file, stage_begun, stage_ended, end_marked, channel_run, place_marked, EndsOnce};
-ghost use Rattle.mid_logger.specs.Pulls.{TakesEvent, PullsOnce, Pulls, PullFaults, PullFirst, NamesMore, failed_by, drains_at_none};
+ghost use Rattle.mid_logger.specs.Channels.{FileHead, CancelsRequest, is_behind_end, reading_run, written_run, stage_begun, stage_ended, end_marked, channel_run, place_marked, EndsOnce};
+ghost use Rattle.mid_logger.specs.Pulls.{TakesRun, PullsOnceWith, Pulls, PullFaults, PullFirst, failed_by, drains_at_none};
+ghost use Rattle.mid_logger.specs.PieceFiles.{CutStands, HasLastOpen, IsLastOpen, TakesPiece, PullsPieces, PullNames, open_name, name_behind, files_by, stage_at};
 
 use crate::channel_spec::ChannelSpec;
 use crate::pulled::Pulled;
 use crate::stage::{BegunRun, ChannelRun, ChannelStage};
 use buffer_core::{BufferPort, Received};
-use daq_io::{Failed, Files};
+use daq_io::Files;
 use event::EventBuf;
 use std::sync::Wait;
+use sub_files::{Fallen, OpenFile, RunHead};
 
 /// A channel of the logger: what it writes, its client at the buffer, how far it is, whether a call on the files ever
 /// failed in a call of it, and room for an event.
 #[derive(Drop)]
 pub struct Channel {
     pub spec: ChannelSpec,
+    /// The most bytes of a file; 0 for any number.
+    pub sub_bytes: u32,
     pub client: Option<u32>,
     pub stage: ChannelStage,
     pub failed: bool,
@@ -97,11 +101,46 @@ fn ended_stage(stage: ChannelStage, ended: Option<u64>) -> ChannelStage
                 ended,
             },
         },
-        ChannelStage::Broken { run } => ChannelStage::Broken {
+        ChannelStage::Broken { run, fallen } => ChannelStage::Broken {
             run: BegunRun {
                 opened: run.opened,
                 begun: run.begun,
                 ended: ended_first(run.ended, ended),
+            },
+            fallen,
+        },
+        other => other,
+    }
+}
+
+/// The run, with this file being written.
+fn opened_at(opened: ChannelRun, at: OpenFile) -> ChannelRun
+    ensures { result ≡ record opened { at = at } }
+{
+    ChannelRun {
+        run: opened.run,
+        start: opened.start,
+        time: opened.time,
+        at,
+        client: opened.client,
+        request: opened.request,
+    }
+}
+
+/// The stage, with this file being written.
+fn stage_at(stage: ChannelStage, at: OpenFile) -> ChannelStage
+    ensures { result ≡ stage_at stage at }
+{
+    match stage {
+        ChannelStage::Writing { opened, begun } => ChannelStage::Writing {
+            opened: opened_at(opened, at),
+            begun,
+        },
+        ChannelStage::Draining { run } => ChannelStage::Draining {
+            run: BegunRun {
+                opened: opened_at(run.opened, at),
+                begun: run.begun,
+                ended: run.ended,
             },
         },
         other => other,
@@ -109,60 +148,77 @@ fn ended_stage(stage: ChannelStage, ended: Option<u64>) -> ChannelStage
 }
 
 impl Channel {
-    /// Cancels the request and closes the file, after a call on it failed.
-    fn break_off<R: Wait, F: Files, P: BufferPort>(
+    /// Cancels the request, after a call on the files failed, which are closed.
+    fn break_off<R: Wait, P: BufferPort>(
         &mut self,
         rt: &R,
-        files: &mut F,
         port: &mut P,
         run: BegunRun,
+        fallen: Fallen,
     )
-        requires file { IsTrue ((F.seen files.old).writes run.opened.file) }
         ensures stage { self.new ≡ record self.old
-            { stage = Broken run; failed = true } }
+            { stage = Broken run fallen; failed = true } }
         ensures cancelled { CancelsRequest (P.access port.old) (P.access port.new) run.opened }
-        ensures closed { Closes (F.seen files.old) (F.seen files.new) run.opened.file [] }
-        ensures faults { F.faults files.old ≤ F.faults files.new }
-        ensures clashes { F.clashes files.new ≡ F.clashes files.old }
-        ensures first { NamesMore ((F.seen files.old).name_of run.opened.file) (F.first files.old)
-            (F.first files.new) }
     {
-        let opened = run.opened;
-        let _ = port.cancel(rt, opened.client, opened.request);
-        let _ = files.close(opened.file);
-        self.stage = ChannelStage::Broken { run };
+        let _ = port.cancel(rt, run.opened.client, run.opened.request);
+        self.stage = ChannelStage::Broken { run, fallen };
         self.failed = true;
     }
 
-    /// Writes the event that was got. Where that fails the channel breaks off.
+    /// Writes the event that was got, and begins the next file before where this one has no room for it. Where a call on
+    /// the files fails the channel breaks off.
     fn write<R: Wait, F: Files, P: BufferPort>(
         &mut self,
         rt: &R,
         files: &mut F,
         port: &mut P,
         run: BegunRun,
-    ) -> Result<(), Failed>
-        requires file { IsTrue ((F.seen files.old).writes run.opened.file) }
-        ensures wrote { OnOk result (Extends (F.seen files.old) (F.seen files.new) run.opened.file
-            (encoding self.old.event.event)) }
-        ensures same { OnOk result (self.new ≡ self.old) }
-        ensures quiet { OnOk result (P.access port.new ≡ P.access port.old) }
-        ensures broken { OnErr result (self.new ≡ record self.old
-            { stage = Broken run; failed = true }) }
-        ensures cancelled { OnErr result
-            (CancelsRequest (P.access port.old) (P.access port.new) run.opened) }
-        ensures closed { OnErr result (ClosesPart (F.seen files.old) (F.seen files.new)
-            run.opened.file (encoding self.old.event.event)) }
-        ensures faults { CountsFault (F.faults files.old) (F.faults files.new) result }
-        ensures clashes { F.clashes files.new ≡ F.clashes files.old }
-        ensures first { NamesFirst ((F.seen files.old).name_of run.opened.file) (F.first files.old)
-            (F.first files.new) result }
+        place: u64,
+        dump: &[u8],
+    ) -> Pulled
+        requires file { HasLastOpen (F.seen files.old) self.old.spec run.opened }
+        requires small { length dump.now ≤ record_limit }
+        ensures spec { self.new.spec ≡ self.old.spec }
+        ensures limit { self.new.sub_bytes ≡ self.old.sub_bytes }
+        ensures client { self.new.client ≡ self.old.client }
+        ensures room { self.new.event.room ≡ self.old.event.room }
+        ensures failed { self.new.failed ≡ failed_by result self.old.failed }
+        ensures takes { TakesPiece self.old.sub_bytes self.old.spec dump.now (record {
+          stage = self.old.stage;
+          later_stage = self.new.stage;
+          port = P.access port.old;
+          later_port = P.access port.new;
+          files = F.seen files.old;
+          later_files = F.seen files.new;
+          answer = result;
+        }) run place self.old.event.event }
+        ensures few { files_by self.old.stage ≤ 10000 → files_by self.new.stage ≤ 10000 }
+        ensures faults { PullFaults result (F.faults files.old) (F.faults files.new) }
+        ensures clashes { RisesWith self.old.sub_bytes (F.clashes files.old)
+            (F.clashes files.new) }
+        ensures first { PullNames result (open_name self.old.spec (Some run.opened))
+            (name_behind self.old.spec (Some run.opened)) (F.first files.old)
+            (F.first files.new) }
+        ensures own_first { self.old.sub_bytes ≡ 0 → PullFirst result
+            (open_name self.old.spec (Some run.opened)) (F.first files.old) (F.first files.new) }
+        ensures file { reading_run self.old.stage ≡ Some run →
+            IsLastOpen (F.seen files.new) self.new.spec (written_run self.new.stage) }
     {
-        match files.append(run.opened.file, self.event.bytes()) {
-            Ok(()) => Ok(()),
-            Err(Failed) => {
-                self.break_off(rt, files, port, run);
-                Err(Failed)
+        let head = RunHead {
+            run: run.opened.run,
+            time: run.opened.time,
+        };
+        let mut at = run.opened.at;
+        let limit = self.sub_bytes;
+        let event = self.event.bytes();
+        match at.write(files, &self.spec.pattern, limit, head, dump, event) {
+            Ok(()) => {
+                self.stage = stage_at(self.stage, at);
+                Pulled::Wrote { place }
+            }
+            Err(fallen) => {
+                self.break_off(rt, port, run, fallen);
+                Pulled::Broke
             }
         }
     }
@@ -185,13 +241,16 @@ impl Channel {
         port: &mut P,
         run: BegunRun,
         place: u64,
+        dump: &[u8],
     ) -> Pulled
-        requires file { IsTrue ((F.seen files.old).writes run.opened.file) }
+        requires file { HasLastOpen (F.seen files.old) self.old.spec run.opened }
+        requires small { length dump.now ≤ record_limit }
         ensures spec { self.new.spec ≡ self.old.spec }
+        ensures limit { self.new.sub_bytes ≡ self.old.sub_bytes }
         ensures client { self.new.client ≡ self.old.client }
         ensures room { self.new.event.room ≡ self.old.event.room }
         ensures failed { self.new.failed ≡ failed_by result self.old.failed }
-        ensures takes { TakesEvent (record {
+        ensures takes { TakesRun (TakesPiece self.old.sub_bytes self.old.spec dump.now) (record {
           stage = self.old.stage;
           later_stage = self.new.stage;
           port = P.access port.old;
@@ -200,10 +259,17 @@ impl Channel {
           later_files = F.seen files.new;
           answer = result;
         }) run place self.old.event.event }
+        ensures few { files_by self.old.stage ≤ 10000 → files_by self.new.stage ≤ 10000 }
         ensures faults { PullFaults result (F.faults files.old) (F.faults files.new) }
-        ensures clashes { F.clashes files.new ≡ F.clashes files.old }
-        ensures first { PullFirst result ((F.seen files.old).name_of run.opened.file)
-            (F.first files.old) (F.first files.new) }
+        ensures clashes { RisesWith self.old.sub_bytes (F.clashes files.old)
+            (F.clashes files.new) }
+        ensures first { PullNames result (open_name self.old.spec (Some run.opened))
+            (name_behind self.old.spec (Some run.opened)) (F.first files.old)
+            (F.first files.new) }
+        ensures own_first { self.old.sub_bytes ≡ 0 → PullFirst result
+            (open_name self.old.spec (Some run.opened)) (F.first files.old) (F.first files.new) }
+        ensures file { reading_run self.old.stage ≡ Some run →
+            IsLastOpen (F.seen files.new) self.new.spec (written_run self.new.stage) }
     {
         if is_behind(run.ended, place) {
             self.end_reading(rt, port, run);
@@ -212,26 +278,27 @@ impl Channel {
         if place < run.begun {
             return Pulled::Dropped { place };
         }
-        match self.write(rt, files, port, run) {
-            Ok(()) => Pulled::Wrote { place },
-            Err(Failed) => Pulled::Broke,
-        }
+        self.write(rt, files, port, run, place, dump)
     }
 
-    /// Receives once, where the channel reads a run, and takes what it gets.
+    /// Receives once, where the channel reads a run, and takes what it gets. The dump is that of the run's start: each file of
+    /// the run begins with it.
     pub fn pull<R: Wait, F: Files, P: BufferPort>(
         &mut self,
         rt: &R,
         files: &mut F,
         port: &mut P,
+        dump: &[u8],
     ) -> Pulled
-        requires file { IsOpenFile (F.seen files.old) self.old.spec (written_run self.old.stage) }
+        requires file { IsLastOpen (F.seen files.old) self.old.spec (written_run self.old.stage) }
+        requires small { length dump.now ≤ record_limit }
         requires room { min event_limit ((P.access port.old).size - 24) ≤ self.old.event.room }
         ensures spec { self.new.spec ≡ self.old.spec }
+        ensures limit { self.new.sub_bytes ≡ self.old.sub_bytes }
         ensures client { self.new.client ≡ self.old.client }
         ensures room { self.new.event.room ≡ self.old.event.room }
         ensures failed { self.new.failed ≡ failed_by result self.old.failed }
-        ensures pulls { Pulls (record {
+        ensures pulls { PullsPieces self.old.sub_bytes self.old.spec dump.now (record {
           stage = self.old.stage;
           later_stage = self.new.stage;
           port = P.access port.old;
@@ -240,18 +307,32 @@ impl Channel {
           later_files = F.seen files.new;
           answer = result;
         }) self.old.event.room }
+        ensures few { files_by self.old.stage ≤ 10000 → files_by self.new.stage ≤ 10000 }
         ensures faults { PullFaults result (F.faults files.old) (F.faults files.new) }
-        ensures clashes { F.clashes files.new ≡ F.clashes files.old }
-        ensures first { PullFirst result (channel_file self.old.spec (written_run self.old.stage))
-            (F.first files.old) (F.first files.new) }
-        ensures file { IsOpenFile (F.seen files.new) self.new.spec (written_run self.new.stage) }
-        ensures keeps { (head : FileHead) →
-            ChannelStands self.old.spec self.old.client self.old.stage head (P.access port.old).own
+        ensures clashes { RisesWith self.old.sub_bytes (F.clashes files.old)
+            (F.clashes files.new) }
+        ensures first { PullNames result (open_name self.old.spec (written_run self.old.stage))
+            (name_behind self.old.spec (written_run self.old.stage)) (F.first files.old)
+            (F.first files.new) }
+        ensures own_first { self.old.sub_bytes ≡ 0 → PullFirst result
+            (open_name self.old.spec (written_run self.old.stage)) (F.first files.old) (F.first files.new) }
+        ensures one { self.old.sub_bytes ≡ 0 → Pulls (record {
+          stage = self.old.stage;
+          later_stage = self.new.stage;
+          port = P.access port.old;
+          later_port = P.access port.new;
+          files = F.seen files.old;
+          later_files = F.seen files.new;
+          answer = result;
+        }) self.old.event.room }
+        ensures file { IsLastOpen (F.seen files.new) self.new.spec (written_run self.new.stage) }
+        ensures keeps { (head : FileHead) → head.dump ≡ dump.now →
+            CutStands self.old.sub_bytes self.old.spec self.old.client self.old.stage head (P.access port.old).own
             (P.access port.old).got (F.seen files.old) →
-            ChannelStands self.new.spec self.new.client self.new.stage head (P.access port.new).own
+            CutStands self.new.sub_bytes self.new.spec self.new.client self.new.stage head (P.access port.new).own
             (P.access port.new).got (F.seen files.new) }
     {
-        self.pull_once(rt, files, port)
+        self.pull_once(rt, files, port, dump)
     }
 
     /// Receives once, where the channel reads a run, and takes what it gets.
@@ -260,14 +341,17 @@ impl Channel {
         rt: &R,
         files: &mut F,
         port: &mut P,
+        dump: &[u8],
     ) -> Pulled
-        requires file { IsOpenFile (F.seen files.old) self.old.spec (written_run self.old.stage) }
+        requires file { IsLastOpen (F.seen files.old) self.old.spec (written_run self.old.stage) }
+        requires small { length dump.now ≤ record_limit }
         requires room { min event_limit ((P.access port.old).size - 24) ≤ self.old.event.room }
         ensures spec { self.new.spec ≡ self.old.spec }
+        ensures limit { self.new.sub_bytes ≡ self.old.sub_bytes }
         ensures client { self.new.client ≡ self.old.client }
         ensures room { self.new.event.room ≡ self.old.event.room }
         ensures failed { self.new.failed ≡ failed_by result self.old.failed }
-        ensures pulls { Pulls (record {
+        ensures pulls { PullsPieces self.old.sub_bytes self.old.spec dump.now (record {
           stage = self.old.stage;
           later_stage = self.new.stage;
           port = P.access port.old;
@@ -276,16 +360,22 @@ impl Channel {
           later_files = F.seen files.new;
           answer = result;
         }) self.old.event.room }
+        ensures few { files_by self.old.stage ≤ 10000 → files_by self.new.stage ≤ 10000 }
         ensures faults { PullFaults result (F.faults files.old) (F.faults files.new) }
-        ensures clashes { F.clashes files.new ≡ F.clashes files.old }
-        ensures first { PullFirst result (channel_file self.old.spec (written_run self.old.stage))
-            (F.first files.old) (F.first files.new) }
+        ensures clashes { RisesWith self.old.sub_bytes (F.clashes files.old)
+            (F.clashes files.new) }
+        ensures first { PullNames result (open_name self.old.spec (written_run self.old.stage))
+            (name_behind self.old.spec (written_run self.old.stage)) (F.first files.old)
+            (F.first files.new) }
+        ensures own_first { self.old.sub_bytes ≡ 0 → PullFirst result
+            (open_name self.old.spec (written_run self.old.stage)) (F.first files.old) (F.first files.new) }
+        ensures file { IsLastOpen (F.seen files.new) self.new.spec (written_run self.new.stage) }
     {
         let Some(run) = run_read(self.stage) else {
             return Pulled::Nothing;
         };
         let stopped = is_stopped(self.stage);
-        self.pull_run(rt, files, port, run, stopped)
+        self.pull_run(rt, files, port, run, stopped, dump)
     }
 
     /// Receives once in this run. Where the run was stopped a client that finds nothing is drained.
@@ -296,15 +386,18 @@ impl Channel {
         port: &mut P,
         run: BegunRun,
         stopped: bool,
+        dump: &[u8],
     ) -> Pulled
-        requires file { IsTrue ((F.seen files.old).writes run.opened.file) }
+        requires file { HasLastOpen (F.seen files.old) self.old.spec run.opened }
+        requires small { length dump.now ≤ record_limit }
         requires room { min event_limit ((P.access port.old).size - 24) ≤ self.old.event.room }
         requires stopped { stopped ≡ drains_at_none self.old.stage }
         ensures spec { self.new.spec ≡ self.old.spec }
+        ensures limit { self.new.sub_bytes ≡ self.old.sub_bytes }
         ensures client { self.new.client ≡ self.old.client }
         ensures room { self.new.event.room ≡ self.old.event.room }
         ensures failed { self.new.failed ≡ failed_by result self.old.failed }
-        ensures pulls { PullsOnce (record {
+        ensures pulls { PullsOnceWith (TakesPiece self.old.sub_bytes self.old.spec dump.now) (record {
           stage = self.old.stage;
           later_stage = self.new.stage;
           port = P.access port.old;
@@ -313,13 +406,20 @@ impl Channel {
           later_files = F.seen files.new;
           answer = result;
         }) run self.old.event.room }
+        ensures few { files_by self.old.stage ≤ 10000 → files_by self.new.stage ≤ 10000 }
         ensures faults { PullFaults result (F.faults files.old) (F.faults files.new) }
-        ensures clashes { F.clashes files.new ≡ F.clashes files.old }
-        ensures first { PullFirst result ((F.seen files.old).name_of run.opened.file)
-            (F.first files.old) (F.first files.new) }
+        ensures clashes { RisesWith self.old.sub_bytes (F.clashes files.old)
+            (F.clashes files.new) }
+        ensures first { PullNames result (open_name self.old.spec (Some run.opened))
+            (name_behind self.old.spec (Some run.opened)) (F.first files.old)
+            (F.first files.new) }
+        ensures own_first { self.old.sub_bytes ≡ 0 → PullFirst result
+            (open_name self.old.spec (Some run.opened)) (F.first files.old) (F.first files.new) }
+        ensures file { reading_run self.old.stage ≡ Some run →
+            IsLastOpen (F.seen files.new) self.new.spec (written_run self.new.stage) }
     {
         match port.receive(rt, run.opened.client, &mut self.event) {
-            Received::Got { place, .. } => self.take(rt, files, port, run, place),
+            Received::Got { place, .. } => self.take(rt, files, port, run, place, dump),
             Received::Empty { .. } if stopped => {
                 self.end_reading(rt, port, run);
                 Pulled::Nothing
@@ -332,16 +432,18 @@ impl Channel {
     /// Notes that the run was begun in the buffer, at this place.
     pub fn note_begun(&mut self, begun: u64)
         ensures spec { self.new.spec ≡ self.old.spec }
+        ensures limit { self.new.sub_bytes ≡ self.old.sub_bytes }
         ensures client { self.new.client ≡ self.old.client }
         ensures failed { self.new.failed ≡ self.old.failed }
         ensures event { self.new.event ≡ self.old.event }
         ensures stage { self.new.stage ≡ stage_begun self.old.stage begun }
         ensures file { written_run self.new.stage ≡ written_run self.old.stage }
+        ensures few { files_by self.new.stage ≡ files_by self.old.stage }
         ensures keeps { (opened : ChannelRun) → (head : FileHead) → (own : List BufferEntry) →
             (got : List GotEvent) → (seen : Seen) →
             self.old.stage ≡ Asking opened →
-            ChannelStands self.old.spec self.old.client self.old.stage head own got seen →
-            ChannelStands self.new.spec self.new.client self.new.stage head
+            CutStands self.old.sub_bytes self.old.spec self.old.client self.old.stage head own got seen →
+            CutStands self.new.sub_bytes self.new.spec self.new.client self.new.stage head
             (own ++ Begin opened.start (Ok begun) ∷ []) got seen }
     {
         self.stage = begun_stage(self.stage, begun);
@@ -350,17 +452,19 @@ impl Channel {
     /// Notes that the run was ended in the buffer, at this place; none, where the buffer refused that.
     pub fn note_ended(&mut self, ended: Option<u64>)
         ensures spec { self.new.spec ≡ self.old.spec }
+        ensures limit { self.new.sub_bytes ≡ self.old.sub_bytes }
         ensures client { self.new.client ≡ self.old.client }
         ensures failed { self.new.failed ≡ self.old.failed }
         ensures event { self.new.event ≡ self.old.event }
         ensures stage { self.new.stage ≡ stage_ended self.old.stage ended }
         ensures file { written_run self.new.stage ≡ written_run self.old.stage }
+        ensures few { files_by self.new.stage ≡ files_by self.old.stage }
         ensures keeps { (opened : ChannelRun) → (reply : Result ℕ MarkRefusal) → (head : FileHead) →
             (own : List BufferEntry) → (got : List GotEvent) → (seen : Seen) →
             channel_run self.old.stage ≡ Some opened → ended ≡ place_marked reply →
             EndsOnce self.old.stage reply →
-            ChannelStands self.old.spec self.old.client self.old.stage head own got seen →
-            ChannelStands self.new.spec self.new.client self.new.stage head
+            CutStands self.old.sub_bytes self.old.spec self.old.client self.old.stage head own got seen →
+            CutStands self.new.sub_bytes self.new.spec self.new.client self.new.stage head
             (own ++ End opened.start reply ∷ []) got seen }
     {
         self.stage = ended_stage(self.stage, ended);

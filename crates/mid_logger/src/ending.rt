@@ -1,16 +1,18 @@
 //! How a channel calls a run off, and how it ends the file of a run that its client has read.
 
-ghost use Rattle.std.specs.Prelude.{◌≡◌, ◌≤◌, List, IsTrue, IfSome, IfOk, OnOk, OnErr, length};
+ghost use Rattle.std.specs.Prelude.{◌≡◌, ◌≤◌, ◌<◌, ◌^◌, ◌+◌, List, IsTrue, IsSome, IfSome, IfOk, OnOk, OnErr, Some, length};
 ghost use Rattle.event.specs.Events.{record_limit};
 ghost use Rattle.daq_io.specs.Counts.{CountsFault, NamesFirst};
 ghost use Rattle.daq_io.specs.Seen.{Closes};
 ghost use Rattle.buffer_core.specs.declared.entry.BufferEntry.{BufferEntry};
 ghost use Rattle.buffer_core.specs.Ports.{GotEvent};
+ghost use Rattle.sub_files.specs.Cuts.{last_number};
 ghost use Rattle.mid_logger.specs.declared.stage.ChannelStage.TheVariants.{Idle};
-ghost use Rattle.mid_logger.specs.Channels.{FileHead, ChannelStands, ClosesPart, IsOpenFile, channel_run, written_run, channel_file};
+ghost use Rattle.mid_logger.specs.Channels.{FileHead, ClosesPart, IsOpenFile, channel_run, written_run, channel_file};
 ghost use Rattle.mid_logger.specs.Pulls.{NamesMore};
 ghost use Rattle.mid_logger.specs.ChannelTurns.{NotesFault, asking_run, broken_run, drained_run};
-ghost use Rattle.mid_logger.specs.ChannelEnds.{CancelsStanding, RemovesFile, ClosesFile, HasLeft, last_bytes, state_ended, state_otherwise, stage_settled};
+ghost use Rattle.mid_logger.specs.ChannelEnds.{CancelsStanding, RemovesFile, ClosesFile, last_bytes, state_ended, state_otherwise, stage_settled};
+ghost use Rattle.mid_logger.specs.PieceFiles.{CutStands, IsLastOpen, HasLeftFiles, DropsRun, RemovesRun, NamesRun, ClosesOpen, files_by, files_within, name_written, EndNames, both_done, end_of};
 
 use crate::channel::Channel;
 use crate::stage::{BegunRun, ChannelRun, ChannelStage};
@@ -18,7 +20,17 @@ use buffer_core::BufferPort;
 use daq_io::{Failed, Files};
 use daq_types::{Bytes, ChannelState};
 use std::sync::Wait;
-use sub_files::end_file;
+use sub_files::{end_file, remove_files};
+
+/// What is told of a channel at the stop of its run.
+#[derive(Clone, Copy, PartialEq, Eq)]
+pub struct ChannelEnd {
+    pub state: ChannelState,
+    /// How many files of the run it made.
+    pub files: u32,
+    /// How many of these, the first ones, have both records and were closed without a fault.
+    pub framed: u32,
+}
 
 /// The run whose request stands.
 fn run_asked(stage: ChannelStage) -> Option<ChannelRun>
@@ -42,16 +54,6 @@ fn run_written(stage: ChannelStage) -> Option<ChannelRun>
         ChannelStage::Draining { run } => Some(run.opened),
         ChannelStage::Drained { run } => Some(run.opened),
         ChannelStage::Idle | ChannelStage::Broken { .. } => None,
-    }
-}
-
-/// The run that broke off.
-fn run_broken(stage: ChannelStage) -> Option<BegunRun>
-    ensures { result ≡ broken_run stage }
-{
-    match stage {
-        ChannelStage::Broken { run } => Some(run),
-        _ => None,
     }
 }
 
@@ -88,6 +90,102 @@ fn settled_stage(stage: ChannelStage) -> ChannelStage
     }
 }
 
+/// The run that the channel writes, or that broke off.
+fn run_had(stage: ChannelStage) -> Option<ChannelRun>
+    ensures { result ≡ channel_run stage }
+{
+    match stage {
+        ChannelStage::Idle => None,
+        ChannelStage::Asking { opened } => Some(opened),
+        ChannelStage::Writing { opened, .. } => Some(opened),
+        ChannelStage::Draining { run } => Some(run.opened),
+        ChannelStage::Drained { run } => Some(run.opened),
+        ChannelStage::Broken { run, .. } => Some(run.opened),
+    }
+}
+
+/// How many files of its run a channel has made.
+fn files_by(stage: ChannelStage) -> u32
+    requires few { files_by stage < 2 ^ 32 }
+    ensures { result ≡ files_by stage }
+{
+    match stage {
+        ChannelStage::Idle => 0,
+        ChannelStage::Asking { opened } => opened.at.sub + 1,
+        ChannelStage::Writing { opened, .. } => opened.at.sub + 1,
+        ChannelStage::Draining { run } => run.opened.at.sub + 1,
+        ChannelStage::Drained { run } => run.opened.at.sub + 1,
+        ChannelStage::Broken { fallen, .. } => fallen.files,
+    }
+}
+
+/// How many files of its run a channel has made: one, unless there is a limit.
+fn files_within(limit: u32, stage: ChannelStage) -> u32
+    requires few { files_within limit stage < 2 ^ 32 }
+    ensures { result ≡ files_within limit stage }
+{
+    if 0 < limit { files_by(stage) } else { 1 }
+}
+
+/// What is told of a channel in this state, whose stage was this before its file was ended.
+fn told_end(stage: ChannelStage, state: ChannelState) -> ChannelEnd
+    requires few { IfSome (drained_run stage) (λ run. run.opened.at.sub ≤ last_number) }
+    ensures told { result ≡ end_of stage state }
+    ensures state { result.state ≡ state }
+{
+    match stage {
+        ChannelStage::Drained { run } => {
+            let sub = run.opened.at.sub;
+            let framed = match state {
+                ChannelState::Ended => sub + 1,
+                _ => sub,
+            };
+            ChannelEnd {
+                state,
+                files: sub + 1,
+                framed,
+            }
+        }
+        ChannelStage::Broken { fallen, .. } => ChannelEnd {
+            state,
+            files: fallen.files,
+            framed: fallen.framed,
+        },
+        _ => ChannelEnd {
+            state,
+            files: 0,
+            framed: 0,
+        },
+    }
+}
+
+/// Whether both were done.
+fn both(first: Result<(), Failed>, second: Result<(), Failed>) -> Result<(), Failed>
+    ensures { result ≡ both_done first second }
+{
+    match first {
+        Ok(()) => second,
+        Err(failed) => Err(failed),
+    }
+}
+
+/// Closes the file that is written in this stage, if there is one.
+fn close_written<F: Files>(files: &mut F, stage: ChannelStage) -> Result<(), Failed>
+    requires { IfSome (written_run stage) (λ opened.
+        IsTrue ((F.seen files.old).writes opened.at.file)) }
+    ensures some { OnErr result (IsSome (written_run stage)) }
+    ensures closes { ClosesOpen (written_run stage) (F.seen files.old) (F.seen files.new) }
+    ensures faults { CountsFault (F.faults files.old) (F.faults files.new) result }
+    ensures clashes { F.clashes files.new ≡ F.clashes files.old }
+    ensures first { NamesFirst (name_written (F.seen files.old) (written_run stage))
+        (F.first files.old) (F.first files.new) result }
+{
+    match run_written(stage) {
+        Some(opened) => files.close(opened.at.file),
+        None => Ok(()),
+    }
+}
+
 /// Ends the file of a run that was read: it gets its end record, where the end of the run was marked and there is a dump,
 /// and is closed, also where a call on it fails.
 fn close_read<F: Files>(
@@ -96,29 +194,29 @@ fn close_read<F: Files>(
     time: u32,
     dump: &Option<Bytes>,
 ) -> Result<ChannelState, Failed>
-    requires writes { IsTrue ((F.seen files.old).writes run.opened.file) }
+    requires writes { IsTrue ((F.seen files.old).writes run.opened.at.file) }
     requires small { IfSome dump.now (λ bytes. length bytes ≤ record_limit) }
     ensures state { IfOk result (λ state. state ≡ state_ended run.ended dump.now) }
-    ensures whole { OnOk result (Closes (F.seen files.old) (F.seen files.new) run.opened.file
+    ensures whole { OnOk result (Closes (F.seen files.old) (F.seen files.new) run.opened.at.file
         (last_bytes run.opened.run run.ended time dump.now)) }
-    ensures part { OnErr result (ClosesPart (F.seen files.old) (F.seen files.new) run.opened.file
+    ensures part { OnErr result (ClosesPart (F.seen files.old) (F.seen files.new) run.opened.at.file
         (last_bytes run.opened.run run.ended time dump.now)) }
     ensures faults { CountsFault (F.faults files.old) (F.faults files.new) result }
     ensures clashes { F.clashes files.new ≡ F.clashes files.old }
-    ensures first { NamesFirst ((F.seen files.old).name_of run.opened.file) (F.first files.old)
+    ensures first { NamesFirst ((F.seen files.old).name_of run.opened.at.file) (F.first files.old)
         (F.first files.new) result }
 {
     let Some(_) = run.ended else {
-        files.close(run.opened.file)?;
+        files.close(run.opened.at.file)?;
         return Ok(ChannelState::NoMark);
     };
     let Some(bytes) = dump else {
-        files.close(run.opened.file)?;
+        files.close(run.opened.at.file)?;
         return Ok(ChannelState::NoEnd);
     };
     end_file(
         files,
-        run.opened.file,
+        run.opened.at.file,
         run.opened.run,
         time,
         bytes.as_slice(),
@@ -137,88 +235,123 @@ impl Channel {
         }
     }
 
-    /// Removes the file of the run that is written, which is closed first, or that broke off. A failure is kept in mind.
-    fn remove_file<F: Files>(&mut self, files: &mut F)
-        requires { IsOpenFile (F.seen files.old) self.old.spec (written_run self.old.stage) }
+    /// Closes the file that is written, if there is one, and removes all files of the run, by rising number. A failure is kept
+    /// in mind.
+    fn drop_files<F: Files>(&mut self, files: &mut F, opened: ChannelRun)
+        requires run { channel_run self.old.stage ≡ Some opened }
+        requires file { IsLastOpen (F.seen files.old) self.old.spec (written_run self.old.stage) }
+        requires few { files_within self.old.sub_bytes self.old.stage ≤ 10000 }
         ensures channel { self.new ≡ record self.old { failed = self.new.failed } }
-        ensures removes { RemovesFile (written_run self.old.stage) (broken_run self.old.stage)
-            self.old.spec (F.seen files.old) (F.seen files.new) (F.faults files.old)
-            (F.faults files.new) }
+        ensures drops { DropsRun self.old.spec (written_run self.old.stage) opened.run
+            (files_within self.old.sub_bytes self.old.stage) (F.seen files.old)
+            (F.seen files.new) (F.faults files.old) (F.faults files.new) }
         ensures failed { NotesFault self.old.failed self.new.failed (F.faults files.old)
             (F.faults files.new) }
         ensures clashes { F.clashes files.new ≡ F.clashes files.old }
-        ensures first { NamesMore (channel_file self.old.spec (channel_run self.old.stage))
-            (F.first files.old) (F.first files.new) }
+        ensures first { NamesRun self.old.spec (Some opened) (written_run self.old.stage)
+            (files_within self.old.sub_bytes self.old.stage) (F.first files.old)
+            (F.first files.new) }
     {
-        if let Some(opened) = run_written(self.stage) {
-            let name = self.spec.pattern.name(opened.run, 0);
-            self.drop_run(files, opened.file, &name);
-            return;
-        }
-        if let Some(run) = run_broken(self.stage) {
-            match files.remove(&self.spec.pattern.name(run.opened.run, 0)) {
-                Ok(()) => {}
-                Err(Failed) => self.failed = true,
-            }
+        let stage = self.stage;
+        let closed = close_written(files, stage);
+        let many = files_within(self.sub_bytes, stage);
+        let removed = remove_files(files, &self.spec.pattern, opened.run, many);
+        match both(closed, removed) {
+            Ok(()) => {}
+            Err(Failed) => self.failed = true,
         }
     }
 
-    /// Calls the run off, if there is one: its request is cancelled, and its file closed and removed.
-    pub fn abort<R: Wait, F: Files, P: BufferPort>(&mut self, rt: &R, files: &mut F, port: &mut P)
-        requires file { IsOpenFile (F.seen files.old) self.old.spec (written_run self.old.stage) }
-        ensures channel { self.new ≡ record self.old { stage = Idle; failed = self.new.failed } }
-        ensures cancels { CancelsStanding (asking_run self.old.stage) (P.access port.old)
-            (P.access port.new) }
-        ensures removes { RemovesFile (written_run self.old.stage) (broken_run self.old.stage)
-            self.old.spec (F.seen files.old) (F.seen files.new) (F.faults files.old)
-            (F.faults files.new) }
-        ensures failed { NotesFault self.old.failed self.new.failed (F.faults files.old)
-            (F.faults files.new) }
-        ensures clashes { F.clashes files.new ≡ F.clashes files.old }
-        ensures first { NamesMore (channel_file self.old.spec (channel_run self.old.stage))
-            (F.first files.old) (F.first files.new) }
-        ensures keeps { (head : FileHead) →
-            ChannelStands self.old.spec self.old.client self.old.stage head (P.access port.old).own
-            (P.access port.old).got (F.seen files.old) →
-            ChannelStands self.new.spec self.new.client self.new.stage head (P.access port.new).own
-            (P.access port.new).got (F.seen files.new) }
-    {
-        self.cancel_standing(rt, port);
-        self.remove_file(files);
-        self.stage = ChannelStage::Idle;
-    }
-
-    /// Ends the file of a run that the channel's client has read, and answers what became of it. A channel that broke off
-    /// says so; one that still reads its run goes on.
-    pub fn close<F: Files>(
-        &mut self,
-        files: &mut F,
-        time: u32,
-        dump: &Option<Bytes>,
-    ) -> ChannelState
-        requires file { IsOpenFile (F.seen files.old) self.old.spec (written_run self.old.stage) }
-        requires small { IfSome dump.now (λ bytes. length bytes ≤ record_limit) }
-        ensures channel { self.new ≡ record self.old
-            { stage = stage_settled self.old.stage; failed = self.new.failed } }
-        ensures closes { ClosesFile (drained_run self.old.stage) self.old.stage result time dump.now
+    /// Removes the files of the channel's run, if it has one.
+    fn remove_run<F: Files>(&mut self, files: &mut F)
+        requires file { IsLastOpen (F.seen files.old) self.old.spec (written_run self.old.stage) }
+        requires few { files_within self.old.sub_bytes self.old.stage ≤ 10000 }
+        ensures channel { self.new ≡ record self.old { failed = self.new.failed } }
+        ensures removes { RemovesRun (channel_run self.old.stage) (written_run self.old.stage)
+            self.old.spec (files_within self.old.sub_bytes self.old.stage)
             (F.seen files.old) (F.seen files.new) (F.faults files.old) (F.faults files.new) }
         ensures failed { NotesFault self.old.failed self.new.failed (F.faults files.old)
             (F.faults files.new) }
         ensures clashes { F.clashes files.new ≡ F.clashes files.old }
-        ensures first { NamesMore (channel_file self.old.spec (channel_run self.old.stage))
+        ensures first { NamesRun self.old.spec (channel_run self.old.stage)
+            (written_run self.old.stage)
+            (files_within self.old.sub_bytes self.old.stage) (F.first files.old)
+            (F.first files.new) }
+    {
+        let Some(opened) = run_had(self.stage) else {
+            return;
+        };
+        self.drop_files(files, opened);
+    }
+
+    /// Calls the run off, if there is one: its request is cancelled, the file that is written is closed, and all files of the
+    /// run are removed, by rising number.
+    pub fn abort<R: Wait, F: Files, P: BufferPort>(&mut self, rt: &R, files: &mut F, port: &mut P)
+        requires file { IsLastOpen (F.seen files.old) self.old.spec (written_run self.old.stage) }
+        requires few { files_within self.old.sub_bytes self.old.stage ≤ 10000 }
+        ensures channel { self.new ≡ record self.old { stage = Idle; failed = self.new.failed } }
+        ensures cancels { CancelsStanding (asking_run self.old.stage) (P.access port.old)
+            (P.access port.new) }
+        ensures removes { RemovesRun (channel_run self.old.stage) (written_run self.old.stage)
+            self.old.spec (files_within self.old.sub_bytes self.old.stage)
+            (F.seen files.old) (F.seen files.new) (F.faults files.old) (F.faults files.new) }
+        ensures one { self.old.sub_bytes ≡ 0 →
+            IsOpenFile (F.seen files.old) self.old.spec (written_run self.old.stage) →
+            RemovesFile (written_run self.old.stage) (broken_run self.old.stage)
+            self.old.spec (F.seen files.old) (F.seen files.new) (F.faults files.old)
+            (F.faults files.new) }
+        ensures failed { NotesFault self.old.failed self.new.failed (F.faults files.old)
+            (F.faults files.new) }
+        ensures clashes { F.clashes files.new ≡ F.clashes files.old }
+        ensures first { NamesRun self.old.spec (channel_run self.old.stage)
+            (written_run self.old.stage)
+            (files_within self.old.sub_bytes self.old.stage) (F.first files.old)
+            (F.first files.new) }
+        ensures own_first { self.old.sub_bytes ≡ 0 →
+            IsOpenFile (F.seen files.old) self.old.spec (written_run self.old.stage) →
+            NamesMore (channel_file self.old.spec (channel_run self.old.stage))
+            (F.first files.old) (F.first files.new) }
+        ensures keeps { (head : FileHead) →
+            CutStands self.old.sub_bytes self.old.spec self.old.client self.old.stage head (P.access port.old).own
+            (P.access port.old).got (F.seen files.old) →
+            CutStands self.new.sub_bytes self.new.spec self.new.client self.new.stage head (P.access port.new).own
+            (P.access port.new).got (F.seen files.new) }
+    {
+        self.cancel_standing(rt, port);
+        self.remove_run(files);
+        self.stage = ChannelStage::Idle;
+    }
+
+    /// Ends the file of a run that the channel's client has read, and answers what became of the run's files. A channel that
+    /// broke off says so; one that still reads its run goes on.
+    pub fn close<F: Files>(&mut self, files: &mut F, time: u32, dump: &Option<Bytes>) -> ChannelEnd
+        requires file { IsLastOpen (F.seen files.old) self.old.spec (written_run self.old.stage) }
+        requires small { IfSome dump.now (λ bytes. length bytes ≤ record_limit) }
+        ensures channel { self.new ≡ record self.old
+            { stage = stage_settled self.old.stage; failed = self.new.failed } }
+        ensures told { result ≡ end_of self.old.stage result.state }
+        ensures closes { ClosesFile (drained_run self.old.stage) self.old.stage result.state time
+            dump.now (F.seen files.old) (F.seen files.new) (F.faults files.old)
+            (F.faults files.new) }
+        ensures failed { NotesFault self.old.failed self.new.failed (F.faults files.old)
+            (F.faults files.new) }
+        ensures clashes { F.clashes files.new ≡ F.clashes files.old }
+        ensures first { EndNames self.old.spec (drained_run self.old.stage)
             (F.first files.old) (F.first files.new) }
         ensures left { (head : FileHead) → (own : List BufferEntry) → (got : List GotEvent) →
-            ChannelStands self.old.spec self.old.client self.old.stage head own got
+            CutStands self.old.sub_bytes self.old.spec self.old.client self.old.stage head own got
             (F.seen files.old) →
-            HasLeft (drained_run self.old.stage) (broken_run self.old.stage) result self.old.spec
-            head time dump.now own got (F.seen files.new) }
+            HasLeftFiles self.old.stage result.state self.old.sub_bytes self.old.spec head time dump.now own got
+            (F.seen files.new) }
         ensures keeps { (head : FileHead) → (own : List BufferEntry) → (got : List GotEvent) →
-            ChannelStands self.old.spec self.old.client self.old.stage head own got
+            CutStands self.old.sub_bytes self.old.spec self.old.client self.old.stage head own got
             (F.seen files.old) →
-            ChannelStands self.new.spec self.new.client self.new.stage head own got
+            CutStands self.new.sub_bytes self.new.spec self.new.client self.new.stage head own got
             (F.seen files.new) }
     {
-        self.close_file(files, time, dump)
+        let stage = self.stage;
+        let state = self.close_file(files, time, dump);
+        told_end(stage, state)
     }
 
     /// Ends the file of a run that the channel's client has read, and answers what became of it.
@@ -228,7 +361,7 @@ impl Channel {
         time: u32,
         dump: &Option<Bytes>,
     ) -> ChannelState
-        requires file { IsOpenFile (F.seen files.old) self.old.spec (written_run self.old.stage) }
+        requires file { IsLastOpen (F.seen files.old) self.old.spec (written_run self.old.stage) }
         requires small { IfSome dump.now (λ bytes. length bytes ≤ record_limit) }
         ensures channel { self.new ≡ record self.old
             { stage = stage_settled self.old.stage; failed = self.new.failed } }
@@ -237,7 +370,7 @@ impl Channel {
         ensures failed { NotesFault self.old.failed self.new.failed (F.faults files.old)
             (F.faults files.new) }
         ensures clashes { F.clashes files.new ≡ F.clashes files.old }
-        ensures first { NamesMore (channel_file self.old.spec (channel_run self.old.stage))
+        ensures first { EndNames self.old.spec (drained_run self.old.stage)
             (F.first files.old) (F.first files.new) }
     {
         let stage = self.stage;

@@ -1,4 +1,4 @@
-//! What leaves a channel as it stands: each function does nothing, and its contract is the law.
+//! What leaves a channel as it stands, of which each run has one file: each function does nothing, and its contract is the law.
 
 ghost use Rattle.mid_logger.specs.Keeping.{PullsKeep, PullsChange, AbortsKeep, AbortsChange, ClosesKeep, ClosesChange, OpensKeep, OpensChange, OpensAlone, FilesThere, BegunKeeps, EndedKeeps};
 ghost use Rattle.mid_logger.specs.Beside.{AbortsBeside, CallsBeside, ClosesBeside, FilesBeside, LeftBeside, OpensBeside, PullsBeside};

@@ -1,13 +1,14 @@
 //! How a channel opens the file of a run and asks for its events, and how it calls a run off.
 
-ghost use Rattle.std.specs.Prelude.{◌≡◌, ◌≢◌, ◌≤◌, ◌⊎◌, ◌↔◌, [], IsTrue, IsSome, IsErrOf, OnOk, OnErr, IfErr, IfSome, Some, None, codes, length};
+ghost use Rattle.std.specs.Prelude.{◌≡◌, ◌≢◌, ◌≤◌, ◌<◌, ◌^◌, ◌⊎◌, ◌↔◌, [], IsTrue, IsSome, IsErrOf, OnOk, OnErr, IfErr, IfSome, Some, None, codes, length};
 ghost use Rattle.std.specs.Option.{option_map};
 ghost use Rattle.daq_types.specs.declared.runs.Why.TheVariants.{Exists};
 ghost use Rattle.event.specs.Events.{record_limit};
 ghost use Rattle.daq_io.specs.Counts.{Rose};
 ghost use Rattle.mid_logger.specs.declared.stage.ChannelStage.TheVariants.{Idle};
 ghost use Rattle.mid_logger.specs.Patterns.{file_name_by};
-ghost use Rattle.mid_logger.specs.Channels.{FileHead, ChannelStands, IsOpenFile, written_run};
+ghost use Rattle.mid_logger.specs.Channels.{FileHead, IsOpenFile, written_run};
+ghost use Rattle.mid_logger.specs.PieceFiles.{CutStands, IsLastOpen, files_by};
 ghost use Rattle.mid_logger.specs.Pulls.{NamesMore};
 ghost use Rattle.mid_logger.specs.RecordFiles.{DropsFile, IsGone};
 ghost use Rattle.mid_logger.specs.ChannelTurns.{AsksEvents, StartsAsking, HasClient, OpensBy, OpenFaults, OpenClashes, OpenFirst, NotesFault, IsRefusalOf, failed_at};
@@ -18,7 +19,7 @@ use buffer_core::BufferPort;
 use daq_io::{Failed, Files, NameRefused};
 use daq_types::{FileName, Kind, Name, Order, Why};
 use std::sync::Wait;
-use sub_files::{begin_file, drop_file};
+use sub_files::{OpenFile, RunHead, drop_file};
 
 /// A client with its one request.
 #[derive(Clone, Copy, Debug, PartialEq, Eq)]
@@ -26,6 +27,11 @@ struct Reader {
     client: u32,
     request: u32,
 }
+
+/// That a limit is one of 32 bits.
+fn in_range(limit: u32)
+    ensures { limit < 2 ^ 32 }
+{}
 
 /// The name under which the logger attaches its clients.
 fn client_name() -> Name
@@ -92,7 +98,7 @@ impl Channel {
     }
 
     /// Closes and removes the file of this number and name. A failure is kept in mind.
-    pub(crate) fn drop_run<F: Files>(&mut self, files: &mut F, file: u32, name: &FileName)
+    fn drop_run<F: Files>(&mut self, files: &mut F, file: u32, name: &FileName)
         requires writes { IsTrue ((F.seen files.old).writes file) }
         requires named { (F.seen files.old).name_of file ≡ name.now }
         ensures channel { self.new ≡ record self.old { failed = self.new.failed } }
@@ -118,14 +124,15 @@ impl Channel {
         files: &mut F,
         port: &mut P,
         order: &Order,
-        file: u32,
-        name: &FileName,
+        at: OpenFile,
     ) -> Result<(), Why>
-        requires writes { IsTrue ((F.seen files.old).writes file) }
-        requires named { (F.seen files.old).name_of file ≡ name.now }
+        requires writes { IsTrue ((F.seen files.old).writes at.file) }
+        requires named { (F.seen files.old).name_of at.file
+            ≡ file_name_by self.old.spec.pattern order.now.run }
         ensures spec { self.new.spec ≡ self.old.spec }
+        ensures limit { self.new.sub_bytes ≡ self.old.sub_bytes }
         ensures event { self.new.event ≡ self.old.event }
-        ensures asks { OnOk result (StartsAsking self.old.spec order.now file (record {
+        ensures asks { OnOk result (StartsAsking self.old.spec order.now at (record {
           client = self.old.client;
           stage = self.old.stage;
           port = P.access port.old;
@@ -145,14 +152,17 @@ impl Channel {
             (AsksEvents self.old.spec self.old.client self.new.client None
             (P.access port.old) (P.access port.new)) }
         ensures drops { OnErr result
-            (DropsFile (F.seen files.old) (F.seen files.new) file name.now) }
-        ensures gone { OnErr result (IsGone (F.seen files.new) name.now
+            (DropsFile (F.seen files.old) (F.seen files.new) at.file
+            (file_name_by self.old.spec.pattern order.now.run)) }
+        ensures gone { OnErr result (IsGone (F.seen files.new)
+            (file_name_by self.old.spec.pattern order.now.run)
             ⊎ Rose (F.faults files.old) (F.faults files.new)) }
         ensures faults { OpenFaults result (F.faults files.old) (F.faults files.new) }
         ensures failed { NotesFault self.old.failed self.new.failed (F.faults files.old)
             (F.faults files.new) }
         ensures clashes { F.clashes files.new ≡ F.clashes files.old }
-        ensures first { OpenFirst result name.now (F.first files.old) (F.first files.new) }
+        ensures first { OpenFirst result (file_name_by self.old.spec.pattern order.now.run)
+            (F.first files.old) (F.first files.new) }
     {
         match self.ask(rt, port) {
             Some(Reader { client, request }) => {
@@ -160,7 +170,8 @@ impl Channel {
                     opened: ChannelRun {
                         run: order.run,
                         start: order.start,
-                        file,
+                        time: order.time,
+                        at,
                         client,
                         request,
                     },
@@ -168,7 +179,8 @@ impl Channel {
                 Ok(())
             }
             None => {
-                self.drop_run(files, file, name);
+                let name = self.spec.pattern.name(order.run, 0);
+                self.drop_run(files, at.file, &name);
                 Err(Why::BufferRefused)
             }
         }
@@ -187,6 +199,7 @@ impl Channel {
         requires idle { self.old.stage ≡ Idle }
         requires small { length dump.now ≤ record_limit }
         ensures spec { self.new.spec ≡ self.old.spec }
+        ensures limit { self.new.sub_bytes ≡ self.old.sub_bytes }
         ensures event { self.new.event ≡ self.old.event }
         ensures opens { OpensBy result self.old.spec order.now dump.now (record {
           client = self.old.client;
@@ -211,20 +224,24 @@ impl Channel {
         ensures first { OpenFirst result (file_name_by self.old.spec.pattern order.now.run)
             (F.first files.old) (F.first files.new) }
         ensures file { IsOpenFile (F.seen files.new) self.new.spec (written_run self.new.stage) }
+        ensures open_file { IsLastOpen (F.seen files.new) self.new.spec
+            (written_run self.new.stage) }
+        ensures few { files_by self.new.stage ≤ 10000 }
         ensures asking { OnOk result ((before : FileHead) → (P.access port.new).taken_back ≡ [] →
-            ChannelStands self.old.spec self.old.client self.old.stage before
+            CutStands self.old.sub_bytes self.old.spec self.old.client self.old.stage before
             (P.access port.old).own (P.access port.old).got (F.seen files.old) →
-            ChannelStands self.new.spec self.new.client self.new.stage (record {
+            CutStands self.new.sub_bytes self.new.spec self.new.client self.new.stage (record {
               run = order.now.run;
               time = order.now.time;
               dump = dump.now;
             }) (P.access port.new).own (P.access port.new).got (F.seen files.new)) }
         ensures idle { OnErr result ((head : FileHead) → (P.access port.new).taken_back ≡ [] →
-            ChannelStands self.old.spec self.old.client self.old.stage head
+            CutStands self.old.sub_bytes self.old.spec self.old.client self.old.stage head
             (P.access port.old).own (P.access port.old).got (F.seen files.old) →
-            ChannelStands self.new.spec self.new.client self.new.stage head
+            CutStands self.new.sub_bytes self.new.spec self.new.client self.new.stage head
             (P.access port.new).own (P.access port.new).got (F.seen files.new)) }
     {
+        in_range(self.sub_bytes);
         self.open_run(rt, files, port, order, dump)
     }
 
@@ -240,6 +257,7 @@ impl Channel {
         requires idle { self.old.stage ≡ Idle }
         requires small { length dump.now ≤ record_limit }
         ensures spec { self.new.spec ≡ self.old.spec }
+        ensures limit { self.new.sub_bytes ≡ self.old.sub_bytes }
         ensures event { self.new.event ≡ self.old.event }
         ensures opens { OpensBy result self.old.spec order.now dump.now (record {
           client = self.old.client;
@@ -264,9 +282,12 @@ impl Channel {
         ensures first { OpenFirst result (file_name_by self.old.spec.pattern order.now.run)
             (F.first files.old) (F.first files.new) }
     {
-        let name = self.spec.pattern.name(order.run, 0);
-        match begin_file(files, &name, order.run, order.time, dump) {
-            Ok(file) => self.start_asking(rt, files, port, order, file, &name),
+        let head = RunHead {
+            run: order.run,
+            time: order.time,
+        };
+        match OpenFile::begin(files, &self.spec.pattern, head, dump) {
+            Ok(at) => self.start_asking(rt, files, port, order, at),
             Err(why) => Err(self.refusal(why)),
         }
     }

@@ -1,3 +1,5 @@
+use sub_files::{Fallen, OpenFile};
+
 /// A run that a channel writes.
 #[derive(Clone, Copy)]
 pub struct ChannelRun {
@@ -5,8 +7,10 @@ pub struct ChannelRun {
     pub run: u32,
     /// The start number.
     pub start: u32,
-    /// The number under which the file is written.
-    pub file: u32,
+    /// The time of its start, in seconds.
+    pub time: u32,
+    /// The file that is written.
+    pub at: OpenFile,
     /// The client that reads the buffer.
     pub client: u32,
     /// The number of its request.
@@ -28,14 +32,14 @@ pub struct BegunRun {
 pub enum ChannelStage {
     /// It writes no run.
     Idle,
-    /// The file has its begin record, and the request was made; the run is not begun yet.
+    /// The first file has its begin record, and the request was made; the run is not begun yet.
     Asking { opened: ChannelRun },
     /// The run is on. It was begun at this place.
     Writing { opened: ChannelRun, begun: u64 },
     /// The run was stopped, and the client is not drained.
     Draining { run: BegunRun },
-    /// The client was drained, and its request cancelled. The file has no end record yet.
+    /// The client was drained, and its request cancelled. The last file has no end record yet.
     Drained { run: BegunRun },
-    /// A call on the file failed. The file was closed, and the request cancelled. The run goes on, and may yet be ended.
-    Broken { run: BegunRun },
+    /// A call on the files failed. They were closed, and the request cancelled. The run goes on, and may yet be ended.
+    Broken { run: BegunRun, fallen: Fallen },
 }

@@ -21,6 +21,7 @@ use Rattle.member_model.specs.RunEngines.{Sheet, Answer, Tally, EngineEntry}
 use Rattle.member_model.specs.Turns.{MemberTurn, HasTurn, AreEngineTurns}
 use Rattle.member_model.specs.TurnCalls.{member_turns}
 use Rattle.mid_logger.specs.declared.channel.Channel.{Channel}
+use Rattle.sub_files.specs.declared.open_file.Fallen.{Fallen}
 use Rattle.mid_logger.specs.declared.stage.BegunRun.{BegunRun}
 use Rattle.mid_logger.specs.declared.stage.ChannelStage.{ChannelStage}
 use Rattle.mid_logger.specs.declared.stage.ChannelStage.TheVariants.{Idle, Asking, Writing, Draining, Drained, Broken}
@@ -116,18 +117,18 @@ states_none (s ∷ ss) none = omega (arith, state_none s (λ is. none 0 (ap (λ 
 abbrev slot_off : Option Channel → ℕ
 slot_off slot = cond (passes (λ (x : Channel). is_some (broken_run x.stage)) slot) 1 0
 
-slots_none : (slots : List (Option Channel)) → ((n : ℕ) (ch : Channel) (run : BegunRun) → slot_at slots n ≡ Some ch → ch.stage ≡ Broken run → ⊥) → broken_off slots ≡ 0
+slots_none : (slots : List (Option Channel)) → ((n : ℕ) (ch : Channel) (run : BegunRun) (fallen : Fallen) → slot_at slots n ≡ Some ch → ch.stage ≡ Broken run fallen → ⊥) → broken_off slots ≡ 0
 slots_none [] none = refl
-slots_none (None ∷ os) none = slots_none os (λ n ch run there is. none (suc n) ch run there is)
-slots_none (Some ch ∷ os) none = omega (arith, stage_none ch.stage (λ run is. none 0 ch run refl is), slots_none os (λ n x run there is. none (suc n) x run there is), sum_by-cons slot_off (Some ch) os)
+slots_none (None ∷ os) none = slots_none os (λ n ch run fallen there is. none (suc n) ch run fallen there is)
+slots_none (Some ch ∷ os) none = omega (arith, stage_none ch.stage (λ run fallen is. none 0 ch run fallen refl is), slots_none os (λ n x run fallen there is. none (suc n) x run fallen there is), sum_by-cons slot_off (Some ch) os)
   where
-    stage_none : (stage : ChannelStage) → ((run : BegunRun) → stage ≡ Broken run → ⊥) → off_of stage ≡ 0
+    stage_none : (stage : ChannelStage) → ((run : BegunRun) (fallen : Fallen) → stage ≡ Broken run fallen → ⊥) → off_of stage ≡ 0
     stage_none Idle never = refl
     stage_none (Asking opened) never = refl
     stage_none (Writing opened begun) never = refl
     stage_none (Draining run) never = refl
     stage_none (Drained run) never = refl
-    stage_none (Broken run) never = absurd (never run refl)
+    stage_none (Broken run fallen) never = absurd (never run fallen refl)
 
 -- Records.
 
@@ -344,8 +345,8 @@ module _ (laws : RiseLaws) (c : ClosedSession) (ends : MembersAtEnd c) where
       undone_none t has StartAbort is = absurd (calls_none_off t has is)
 
       -- a channel that broke off has a run whose stop is not answered
-      off_none : (n : ℕ) (ch : Channel) (run : BegunRun) → slot_at c.slots n ≡ Some ch → ch.stage ≡ Broken run → ⊥
-      off_none n ch run there is =
+      off_none : (n : ℕ) (ch : Channel) (run : BegunRun) (fallen : Fallen) → slot_at c.slots n ≡ Some ch → ch.stage ≡ Broken run fallen → ⊥
+      off_none n ch run fallen there is =
           let holds = stands.holds in
           let started : IsStartedRun ts run.opened = laws.undone.started ends.logger.run ends.logger.stop_dump c.slots ends.logger.ports ts c.files stands are n ch run.opened there (ap channel_run is) in
           let start = started.is_start.is_start in
@@ -354,13 +355,13 @@ module _ (laws : RiseLaws) (c : ClosedSession) (ends : MembersAtEnd c) where
           let served = there_within ends.logger.ports ch.spec.buffer (holds.served n ch there) in
           let port : Access = served.0 in
           let at_port : slice_get ends.logger.ports ch.spec.buffer ≡ Some port = served.1 in
-          let stage : IsStageOf ends.logger.run ts port.own (Broken run) = subst (λ (s : ChannelStage). IsStageOf ends.logger.run ts port.own s) is (holds.stages n ch port there at_port) in
+          let stage : IsStageOf ends.logger.run ts port.own (Broken run fallen) = subst (λ (s : ChannelStage). IsStageOf ends.logger.run ts port.own s) is (holds.stages n ch port there at_port) in
           by_run ends.logger.run turns port stage holds.told (holds.going are)
         where
           ended_turn : (start : ℕ) → run.opened.start ≡ start → TurnsOf run.opened.start → HasEndTurn ts start
           ended_turn start of turns = record { turn = turns.stop; stands = turns.stops.stands; ends = inl turns.stops.is; of = turns.stops.of ∙ of }
 
-          by_part : (r : LoggedRun) (part : RunPart) → r.part ≡ part → TurnsOf run.opened.start → (port : Access) → IsStagePart part ts port.own r.start (Broken run) → IsPartTold part ts r.start ends.logger.stop_dump → (r.part ≡ Started → HasEndTurn ts r.start → ⊥) → ⊥
+          by_part : (r : LoggedRun) (part : RunPart) → r.part ≡ part → TurnsOf run.opened.start → (port : Access) → IsStagePart part ts port.own r.start (Broken run fallen) → IsPartTold part ts r.start ends.logger.stop_dump → (r.part ≡ Started → HasEndTurn ts r.start → ⊥) → ⊥
           by_part r WasRefused part turns port stage told going = absurd (cc (stage))
           by_part r Started part turns port stage told going = going part (ended_turn r.start stage.of turns)
           by_part r (Stopping time) part turns port stage told going =
@@ -371,7 +372,7 @@ module _ (laws : RiseLaws) (c : ClosedSession) (ends : MembersAtEnd c) where
               let both : None ≡ Some turns.answer = ap (λ (u : MemberTurn). u.answer) same ∙ turns.answered in
               cc (both)
 
-          by_run : (o : Option LoggedRun) → TurnsOf run.opened.start → (port : Access) → IsStageOf o ts port.own (Broken run) → IsRunTold o ts ends.logger.stop_dump → IsStillGoing o ts → ⊥
+          by_run : (o : Option LoggedRun) → TurnsOf run.opened.start → (port : Access) → IsStageOf o ts port.own (Broken run fallen) → IsRunTold o ts ends.logger.stop_dump → IsStillGoing o ts → ⊥
           by_run None turns port stage told going = absurd (cc (stage))
           by_run (Some r) turns port stage told going = by_part r r.part refl turns port stage told (λ part ended. going r refl part ended)
 

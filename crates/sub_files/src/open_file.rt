@@ -4,7 +4,7 @@ ghost use Rattle.std.specs.Prelude.{ℕ, ◌≡◌, ◌≢◌, ◌≤◌, ◌<�
 ghost use Rattle.daq_types.specs.declared.events.Event.{Event};
 ghost use Rattle.event.specs.Events.{encoding, record_limit};
 ghost use Rattle.event.specs.RunFile.{begun_file, end_record as end_event};
-ghost use Rattle.daq_io.specs.Counts.{CountsFault, CountsNamed, CountsClash, NamesFirst, NamesFirstOf, Rose};
+ghost use Rattle.daq_io.specs.Counts.{CountsFault, CountsNamed, CountsClash, NamesFirst, NamesFirstOf, Rose, first_of};
 ghost use Rattle.daq_io.specs.Seen.{Same, Creates, Extends, Closes};
 ghost use Rattle.sub_files.specs.RecordFiles.{ClosesPart, NamesMore, UndoesFile, RoseTwice, RemovesNames, AreGone, NamesOneOf};
 ghost use Rattle.sub_files.specs.Patterns.{piece_name_by};
@@ -109,6 +109,7 @@ impl OpenFile {
             (begin_bytes head dump.now)) }
         ensures fallen { IfErr result (λ fallen. fallen
             ≡ fallen_at (self.sub + 2) (self.sub + 1)) }
+        ensures many { IfErr result (λ fallen. fallen.files ≤ 10000) }
         ensures faults { CountsFault (F.faults files.old) (F.faults files.new) result }
         ensures clashes { F.clashes files.new ≡ F.clashes files.old }
         ensures first { NamesFirst ((F.seen files.old).name_of file) (F.first files.old)
@@ -149,6 +150,7 @@ impl OpenFile {
             (F.seen files.old) (F.seen files.new)) }
         ensures fails { IfErr result (λ fallen. FailsRoll head dump.now self file fallen
             (F.seen files.old) (F.seen files.new)) }
+        ensures many { IfErr result (λ fallen. fallen.files ≤ 10000) }
         ensures faults { CountsFault (F.faults files.old) (F.faults files.new) result }
         ensures clashes { F.clashes files.new ≡ F.clashes files.old }
         ensures quiet { OnOk result (F.first files.new ≡ F.first files.old) }
@@ -186,6 +188,7 @@ impl OpenFile {
         ensures fails { IfErr result (λ fallen.
             FailsMove (piece_name_by pattern.now head.run (self.sub + 1)) head dump.now self fallen
             (F.seen files.old) (F.seen files.new)) }
+        ensures many { IfErr result (λ fallen. fallen.files ≤ 10000) }
         ensures faults { CountsFault (F.faults files.old) (F.faults files.new) result }
         ensures taken { IfOk result (λ ready.
             ClashesBy false ready.taken (F.clashes files.old) (F.clashes files.new)) }
@@ -225,6 +228,7 @@ impl OpenFile {
             ≡ counted_in limit self (length event.now)) }
         ensures fails { IfErr result (λ fallen. AppendsNone self event.now fallen
             (F.seen files.old) (F.seen files.new)) }
+        ensures many { IfErr result (λ fallen. fallen.files ≤ 10000) }
         ensures faults { CountsFault (F.faults files.old) (F.faults files.new) result }
         ensures clashes { F.clashes files.new ≡ F.clashes files.old }
         ensures first { NamesFirst ((F.seen files.old).name_of self.file) (F.first files.old)
@@ -265,6 +269,7 @@ impl OpenFile {
             (F.seen files.old) (F.seen files.new)) }
         ensures file { IfOk result (λ ready. IsOpenPiece (F.seen files.new)
             (series_of pattern.now limit head dump.now) ready) }
+        ensures many { IfErr result (λ fallen. fallen.files ≤ 10000) }
         ensures faults { CountsFault (F.faults files.old) (F.faults files.new) result }
         ensures taken { IfOk result (λ ready.
             ClashesBy self.taken ready.taken (F.clashes files.old) (F.clashes files.new)) }
@@ -273,6 +278,7 @@ impl OpenFile {
         ensures first { OnErr result (NamesOne (piece_name_by pattern.now head.run self.sub)
             (piece_name_by pattern.now head.run (self.sub + 1)) (F.first files.old)
             (F.first files.new)) }
+        ensures unlimited { limit ≡ 0 → IfOk result (λ ready. ready ≡ self) }
     {
         if self.begins_next(limit, dump.len(), size) {
             self.move_on(files, pattern, head, dump)
@@ -302,6 +308,7 @@ impl OpenFile {
             (F.seen files.old) (F.seen files.new)) }
         ensures file { OnOk result (IsOpenPiece (F.seen files.new)
             (series_of pattern.now limit head dump.now) self.new) }
+        ensures many { IfErr result (λ fallen. fallen.files ≤ 10000) }
         ensures faults { CountsFault (F.faults files.old) (F.faults files.new) result }
         ensures taken { OnOk result
             (ClashesBy self.old.taken self.new.taken (F.clashes files.old) (F.clashes files.new)) }
@@ -310,6 +317,8 @@ impl OpenFile {
         ensures first { OnErr result (NamesOne (piece_name_by pattern.now head.run self.old.sub)
             (piece_name_by pattern.now head.run (self.old.sub + 1)) (F.first files.old)
             (F.first files.new)) }
+        ensures own_first { limit ≡ 0 → OnErr result (F.first files.new
+            ≡ first_of (F.first files.old) (piece_name_by pattern.now head.run self.old.sub)) }
     {
         match self.make_ready(files, pattern, limit, head, dump, event.len()) {
             Ok(ready) => match ready.append(files, limit, event) {
@@ -347,6 +356,7 @@ impl OpenFile {
             (F.seen files.old) (F.seen files.new)) }
         ensures file { OnOk result (IsOpenPiece (F.seen files.new)
             (series_of pattern.now limit head dump.now) self.new) }
+        ensures many { IfErr result (λ fallen. fallen.files ≤ 10000) }
         ensures faults { CountsFault (F.faults files.old) (F.faults files.new) result }
         ensures taken { OnOk result
             (ClashesBy self.old.taken self.new.taken (F.clashes files.old) (F.clashes files.new)) }
@@ -355,6 +365,8 @@ impl OpenFile {
         ensures first { OnErr result (NamesOne (piece_name_by pattern.now head.run self.old.sub)
             (piece_name_by pattern.now head.run (self.old.sub + 1)) (F.first files.old)
             (F.first files.new)) }
+        ensures own_first { limit ≡ 0 → OnErr result (F.first files.new
+            ≡ first_of (F.first files.old) (piece_name_by pattern.now head.run self.old.sub)) }
         ensures holds { OnOk result
             (HoldsMore (series_of pattern.now limit head dump.now) self.old self.new event.now
             (F.seen files.old) (F.seen files.new)) }

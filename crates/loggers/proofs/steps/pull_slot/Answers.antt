@@ -1,6 +1,12 @@
 use Rattle.loggers.specs.ChannelSteps.{PullsChannel}
 use Rattle.loggers.proofs.StepEntries.{lent_at, lent_port, stepped, slot_pulls}
+use Rattle.mid_logger.specs.Channels.{written_run}
+use Rattle.mid_logger.proofs.PieceSteps.{last_open}
+use Rattle.mid_logger.proofs.OneFile.{one_clashes, pull_name}
 use Rattle.loggers.proofs.steps.pull_slot.Goals as goal
+
+pub pull-requires-clause-file : goal.pull-requires-clause-file
+pull-requires-clause-file g c = last_open _ _ _ (c.requires.file c.in-Some.channel c.in-Some.is)
 
 pub pull-requires-clause-room : goal.pull-requires-clause-room
 pull-requires-clause-room g c =
@@ -18,12 +24,13 @@ returns g c = record {
       (lent_at c.args.ports.now c.in-Some.channel.spec.buffer c.in-Some-get_mut.port.now (c.requires.served c.in-Some.channel c.in-Some.is) c.in-Some-get_mut.ensures.entry.1)
       (record {
         spec = c.pull.ensures.spec;
+        limit = c.pull.ensures.limit;
         client = c.pull.ensures.client;
         room = c.pull.ensures.room;
         failed = c.pull.ensures.failed;
-        pulls = c.pull.ensures.pulls;
+        pulls = c.pull.ensures.one (c.requires.unlimited c.in-Some.channel c.in-Some.is);
         faults = c.pull.ensures.faults;
-        clashes = c.pull.ensures.clashes;
-        first = c.pull.ensures.first;
+        clashes = one_clashes _ _ _ (c.requires.unlimited c.in-Some.channel c.in-Some.is) c.pull.ensures.clashes;
+        first = pull_name c.in-Some.channel.spec (written_run c.in-Some.channel.stage) (g.F.Files.seen c.args.files.now) c.pull.result _ _ (c.requires.file c.in-Some.channel c.in-Some.is) (c.pull.ensures.own_first (c.requires.unlimited c.in-Some.channel c.in-Some.is));
       }));
 }

@@ -1,16 +1,20 @@
-use Rattle.std.proofs.Common.{ℕ, List, subst}
-use Rattle.daq_io.proofs.SeenLaws.{Extends-name}
-use Rattle.mid_logger.specs.Channels.{ClosesPart}
-use Rattle.sub_files.proofs.FileParts.{part_closed, first_once}
+use Rattle.std.specs.Prelude.{ℕ, List}
+use Rattle.std.proofs.Common.{ap, inr, refl, subst}
+use Rattle.sub_files.specs.Rolls.{FailsNext}
+use Rattle.mid_logger.specs.declared.channel.Channel.{Channel}
+use Rattle.mid_logger.specs.PieceFiles.{run_series}
+use Rattle.mid_logger.proofs.PieceSteps.{moved_few}
 use Rattle.mid_logger.proofs.channel.Channel.write.Goals as goal
 
-pub returns-in-Err-clause-closed : goal.returns-in-Err-clause-closed
-returns-in-Err-clause-closed g c =
-    subst (λ (bytes : List ℕ). ClosesPart (g.F.Files.seen c.args.files.now) (g.F.Files.seen c.break_off.new.files) c.args.run.opened.file bytes) c.bytes.ensures
-    (part_closed c.bytes.result.now c.in-Err.ensures.part c.break_off.ensures.closed)
+pub returns-in-Err-clause-takes : goal.returns-in-Err-clause-takes
+returns-in-Err-clause-takes g c = inr (record {
+  fallen = c.in-Err.fallen;
+  answer_is = refl;
+  stage = ap (λ (x : Channel). x.stage) c.break_off.ensures.stage;
+  port = c.break_off.ensures.cancelled;
+  files = subst (λ (bytes : List ℕ). FailsNext (run_series c.args.self.now.sub_bytes c.args.self.now.spec c.args.run.opened c.args.dump.now) c.args.run.opened.at bytes c.in-Err.fallen (g.F.Files.seen c.args.files.now) (g.F.Files.seen c.write.new.files))
+      c.bytes-event.ensures c.in-Err.ensures.fails;
+})
 
-pub returns-in-Err-clause-first : goal.returns-in-Err-clause-first
-returns-in-Err-clause-first g c = record {
-  done = tt;
-  failed = first_once _ _ _ _ _ c.in-Err.ensures.first.failed (Extends-name c.in-Err.ensures.part.extends) c.break_off.ensures.first;
-}
+pub returns-in-Ok-clause-few : goal.returns-in-Ok-clause-few
+returns-in-Ok-clause-few g c = λ few. rw c.stage_at-self.ensures (moved_few c.args.self.now.stage _ c.in-Ok.ensures.file.few few)
