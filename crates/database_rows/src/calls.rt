@@ -12,14 +12,22 @@ use std::test::Fail;
 pub enum Call {
     Dir,
     Keys(Tid, u32),
+    /// A link to this path.
+    Link(&'static str),
     /// The item of this type and text, at an index.
     Set(u32, Tid, &'static str),
     /// A text of so many bytes, at an index.
     SetLong(u32, usize),
     /// So many items of a new key.
     SetAll(Tid, u32),
+    /// The same at the path as it is.
+    Put(Tid, u32),
     /// How many items.
     Get,
+    /// 1 where the value at the path as it is is that of a link, and 0 for any other.
+    Raw,
+    /// How many of the path's names have a row.
+    Walk,
     Find,
     /// How many children.
     List,
@@ -114,6 +122,30 @@ fn set_all<D: Database>(alloc: Global, database: &mut D, path: &Path, tid: Tid, 
     database.set_all(alloc, path, &value)
 }
 
+/// A link at this path to the path of a text.
+fn link<D: Database>(alloc: Global, database: &mut D, path: &Path, target: &str) -> Reply {
+    match Path::read(alloc, target.as_bytes()) {
+        Ok(target) => database.create(alloc, path, &NewKey::Link { target }),
+        Err(_) => Err(OdbRefusal::NoMemory),
+    }
+}
+
+fn put<D: Database>(alloc: Global, database: &mut D, path: &Path, tid: Tid, len: u32) -> Reply {
+    let value = value_of(alloc, tid, len)?;
+    database.put(alloc, path, &value)
+}
+
+/// Whether the value is that of a link.
+fn is_link(value: Result<Value, OdbRefusal>) -> Reply {
+    Ok(matches!(value?.tid(), Tid::Link) as u32)
+}
+
+/// How many of the path's names have a row, up to 32.
+fn walked<D: Database>(database: &D, path: &Path) -> u32 {
+    let mut numbers = [0; 32];
+    database.walk(path, &mut numbers)
+}
+
 fn child<D: Database>(alloc: Global, database: &D, path: &Path, place: usize, name: &str) -> Reply {
     let children = database.list(alloc, path)?;
     match children.as_slice().get(place) {
@@ -146,10 +178,14 @@ fn reply<D: Database>(alloc: Global, database: &mut D, path: &Path, call: Call) 
     match call {
         Call::Dir => database.create(alloc, path, &NewKey::Dir),
         Call::Keys(tid, len) => database.create(alloc, path, &NewKey::Keys { tid, len }),
+        Call::Link(target) => link(alloc, database, path, target),
         Call::Set(index, tid, text) => set(alloc, database, path, index, tid, text),
         Call::SetLong(index, len) => set_long(alloc, database, path, index, len),
         Call::SetAll(tid, len) => set_all(alloc, database, path, tid, len),
+        Call::Put(tid, len) => put(alloc, database, path, tid, len),
         Call::Get => items_in(database.get(alloc, path)),
+        Call::Raw => is_link(database.raw(alloc, path)),
+        Call::Walk => Ok(walked(database, path)),
         Call::Find => database.find(alloc, path),
         Call::List => children_in(database.list(alloc, path)),
         Call::Child(place, name) => child(alloc, database, path, place, name),

@@ -3,6 +3,7 @@ use crate::calls::{is_saved, load_text};
 use LoadRefusal::{BadLine, KeyRefused};
 use daq_types::{NoMemory, Tid};
 use odb_arena::ArenaTree;
+use odb_links::LinkTree;
 use odb_text::{LoadRefusal, Loaded};
 use odb_tree::{Database, OdbRefusal, PlainTree, What};
 use std::alloc::Global;
@@ -403,18 +404,15 @@ fn comes_so<D: Database>(alloc: Global, mut database: D, row: &Row) -> Result<bo
 }
 
 #[test]
-fn links_in_texts_are_skipped(rt: HostRuntime) -> Result<(), Fail> {
+fn links_in_texts(rt: HostRuntime) -> Result<(), Fail> {
+    let alloc = rt.alloc();
     for row in TEXTS {
-        assert!(rt;
-            comes_so(rt.alloc(), PlainTree::new(rt.alloc()), row)?,
-            "{}",
-            row.1
-        );
-        assert!(rt;
-            comes_so(rt.alloc(), ArenaTree::new(rt.alloc()), row)?,
-            "{}",
-            row.1
-        );
+        let plain = comes_so(alloc, PlainTree::new(alloc), row)?;
+        assert!(rt; plain, "plain: {}", row.1);
+        let arena = comes_so(alloc, ArenaTree::new(alloc), row)?;
+        assert!(rt; arena, "arena: {}", row.1);
+        let linked = comes_so(alloc, LinkTree::new(alloc, ArenaTree::new(alloc)), row)?;
+        assert!(rt; linked, "linked: {}", row.1);
     }
     Ok(())
 }

@@ -1,8 +1,9 @@
-//! Rows of calls, a copy's too, for both databases.
+//! Rows of calls, a copy's too, for all databases, and for those that keep links.
 use crate::calls::{Call, Reply, Row, run};
 use crate::texts::{BEGUN, ENDED_EMPTY, SESSION};
 use daq_types::Tid;
 use odb_arena::ArenaTree;
+use odb_links::LinkTree;
 use odb_tree::{Database, OdbRefusal, PlainTree, What};
 use std::alloc::Global;
 use std::process::Abort;
@@ -269,6 +270,73 @@ const STORIES: &[Story] = &[
     (RUN_ENDED, &[], &[]),
 ];
 
+const LEADS_NOWHERE: Reply = Err(OdbRefusal::BadLink { steps: 16 });
+
+const LINK_NOT_KEPT: Reply = Err(OdbRefusal::NotKept { tid: Tid::Link });
+
+/// A database that keeps no links makes none.
+const NO_LINKS: &[Row] = &[
+    ("/A", Call::Link("/B"), LINK_NOT_KEPT),
+    ("/A", Call::Find, Err(OdbRefusal::NoKey)),
+    ("/A/x", Call::Put(Tid::UInt32, 2), Ok(2)),
+    ("/A/x", Call::Link("/B"), Err(OdbRefusal::Exists)),
+    ("/A/x", Call::Raw, Ok(0)),
+    ("/a/X/y", Call::Walk, Ok(2)),
+    ("/A/x", Call::Put(Tid::UInt8, 2), HAS_UINT32),
+];
+
+/// Links are made, to a directory, to one another, to themselves and to nothing, and paths go through them.
+const LINKS: &[Row] = &[
+    ("/A/x", Call::Keys(Tid::UInt32, 1), Ok(2)),
+    ("/L", Call::Link("/A"), Ok(3)),
+    ("/l/X", Call::Find, Ok(2)),
+    ("/L", Call::Find, Ok(1)),
+    ("/L", Call::List, Ok(1)),
+    ("/L", Call::Get, Err(OdbRefusal::NotValue)),
+    ("/L", Call::Raw, Ok(1)),
+    ("/A/x", Call::Raw, Ok(0)),
+    ("/L/x", Call::Raw, Err(OdbRefusal::NotDir)),
+    ("/L/x", Call::Put(Tid::UInt32, 1), Err(OdbRefusal::NotDir)),
+    ("/L/x", Call::Delete, Err(OdbRefusal::NotDir)),
+    ("/L/y", Call::Keys(Tid::UInt8, 1), Ok(4)),
+    ("/A/y", Call::Find, Ok(4)),
+    ("/L", Call::Keys(Tid::UInt8, 1), Err(OdbRefusal::Exists)),
+    ("/L", Call::Link("/B"), Err(OdbRefusal::Exists)),
+    ("/M", Call::Link("/L"), Ok(5)),
+    ("/M/x", Call::Find, Ok(2)),
+    ("/M/x", Call::Walk, Ok(1)),
+    ("/M/d/k", Call::Link("/A/x"), Ok(7)),
+    ("/A/d/k", Call::Get, Ok(1)),
+    ("/C", Call::Link("/C"), Ok(8)),
+    ("/C", Call::Get, LEADS_NOWHERE),
+    ("/C/x", Call::Dir, LEADS_NOWHERE),
+    ("/C", Call::Dir, Err(OdbRefusal::Exists)),
+    ("/C", Call::Raw, Ok(1)),
+    ("/N", Call::Link("/B/z"), Ok(9)),
+    ("/N", Call::Find, Err(OdbRefusal::NoKey)),
+    ("/N", Call::SetAll(Tid::UInt32, 2), Ok(11)),
+    ("/B/z", Call::Get, Ok(2)),
+    ("/N", Call::Resize(3), Ok(11)),
+    ("/B/z", Call::Get, Ok(3)),
+    (
+        "/N",
+        Call::Put(Tid::UInt32, 1),
+        Err(OdbRefusal::TypeMismatch { have: Tid::Link }),
+    ),
+];
+
+/// A link is removed, and not what it leads to.
+const LINKS_ON_COPY: &[Row] = &[
+    ("/L", Call::Delete, Ok(1)),
+    ("/M/x", Call::Find, Err(OdbRefusal::NoKey)),
+    ("/A/x", Call::Find, Ok(2)),
+    ("/A", Call::Delete, Ok(5)),
+    ("/N", Call::Get, Ok(3)),
+];
+
+/// The first database has its links still.
+const LINKS_BEHIND: &[Row] = &[("/M/x", Call::Find, Ok(2)), ("/M/d/k", Call::Raw, Err(OdbRefusal::NotDir))];
+
 /// Makes the calls on a copy of the database.
 fn run_on_copy<D: Database>(
     rt: &impl Abort,
@@ -293,11 +361,23 @@ fn play<D: Database>(
 }
 
 #[test]
-fn both_databases_reply_by_the_rows(rt: HostRuntime) -> Result<(), Fail> {
+fn all_databases_reply_by_the_rows(rt: HostRuntime) -> Result<(), Fail> {
     let alloc = rt.alloc();
     for story in STORIES {
         play(&rt, alloc, PlainTree::new(alloc), *story)?;
         play(&rt, alloc, ArenaTree::new(alloc), *story)?;
+        play(&rt, alloc, LinkTree::new(alloc, ArenaTree::new(alloc)), *story)?;
     }
     Ok(())
+}
+
+#[test]
+fn links_are_followed_where_they_are_kept(rt: HostRuntime) -> Result<(), Fail> {
+    let alloc = rt.alloc();
+    let none: Story = (NO_LINKS, &[], &[]);
+    play(&rt, alloc, PlainTree::new(alloc), none)?;
+    play(&rt, alloc, ArenaTree::new(alloc), none)?;
+    let some: Story = (LINKS, LINKS_ON_COPY, LINKS_BEHIND);
+    play(&rt, alloc, LinkTree::new(alloc, PlainTree::new(alloc)), some)?;
+    play(&rt, alloc, LinkTree::new(alloc, ArenaTree::new(alloc)), some)
 }

@@ -9,6 +9,7 @@ use daq_mem::{FileFail, FileOp, MemFiles};
 use daq_text::TextBuffer;
 use daq_types::{FileName, NoMemory};
 use odb_arena::ArenaTree;
+use odb_links::LinkTree;
 use odb_commands::{run_command, run_watch_command};
 use odb_lock::{OdbPass, OdbPasses, SharedAccess, SharedOdb};
 use odb_script::{Command, DatabaseCommand};
@@ -256,6 +257,23 @@ const FAILING: &[Line] = &[
     ("load a.odb", b"loaded 0 skipped 0\n"),
 ];
 
+/// Lines on a database that keeps links.
+const KEPT_LINKS: &[Line] = &[
+    ("create UINT32 /A/x", b""),
+    ("link /L /A", b""),
+    ("set /L/x 5", b""),
+    ("get /A/x", b"x = UINT32 : 5\n"),
+    ("rm /L/x", b"refused 5: NotDir\n"),
+    ("link /C /C", b""),
+    ("get /C", b"refused 7: BadLink 16\n"),
+    ("rm /L", b""),
+    ("get /A/x", b"x = UINT32 : 5\n"),
+    ("link /W /A", b""),
+    ("watch /W/x", b"watch 0\n"),
+    ("set /W/x 6", b""),
+    ("notes 0", b"/A/x[0]\nlost 0\n"),
+];
+
 /// Lines on a database that keeps no links. What is wrong with the first path comes before what is wrong with the second.
 const LINKS: &[Line] = &[
     ("create UINT32 /A/x", b""),
@@ -361,6 +379,14 @@ fn links_that_are_not_kept(rt: HostRuntime) -> Result<(), Fail> {
     let alloc = rt.alloc();
     let mut files = new_files(alloc, Vec::new(alloc))?;
     check_session(&rt, alloc, ArenaTree::new(alloc), &mut files, LINKS)
+}
+
+#[test]
+fn links_that_are_kept(rt: HostRuntime) -> Result<(), Fail> {
+    let alloc = rt.alloc();
+    let mut files = new_files(alloc, Vec::new(alloc))?;
+    let database = LinkTree::new(alloc, ArenaTree::new(alloc));
+    check_session(&rt, alloc, database, &mut files, KEPT_LINKS)
 }
 
 #[test]
