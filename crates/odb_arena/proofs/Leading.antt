@@ -1,5 +1,5 @@
 -- Going along names from directory to directory.
-use Rattle.std.proofs.Common.{◌≡◌, ℕ, ◌+◌, ◌-◌, ◌<◌, ◌≤◌, Bool, true, false, not, cond, ◌&&◌, eqb, List, [], ◌∷◌, ◌++◌, length, take, drop, get_or, Option, Some, None, Err, refl, sym, ap, ◌∙◌, subst, arith, length-append, append_assoc, inl, inr, ◌⊎◌}
+use Rattle.std.proofs.Common.{◌≡◌, ℕ, ◌+◌, ◌-◌, ◌<◌, ◌≤◌, Bool, true, false, not, cond, ◌&&◌, eqb, List, [], ◌∷◌, ◌++◌, length, take, drop, get_or, Option, Some, None, Ok, Err, refl, sym, ap, ◌∙◌, subst, arith, length-append, append_assoc, inl, inr, ◌⊎◌}
 use Rattle.std.specs.Option.{option_map, option_or}
 use Rattle.std.proofs.lemmas.Bool.Decides.{nat_tests}
 use Rattle.std.proofs.lemmas.List.{take_more, drop_all, take_all, take-append-drop, length-drop, length-take-le}
@@ -366,6 +366,37 @@ seek_found s names front r last o tree some is end h e row =
     let met : obstacle_to s.rows names ≡ None = ap (obstacle_from (Some NoKey) s.rows []) (sym is) ∙ (sym (obstacle_is s front r (Some NoKey) tree h) ∙ e) in
     ap (λ (x : Option OdbRefusal). found_row x (row_at s.rows names)) met
     ∙ ap (found_row None) (sym (reached_row s names front r last o some is end h (passed_all s.rows front r NoKey e) row))
+
+-- nothing is in the way of a row that is there
+
+way_clear : (s : Rows) (q names : List (List ℕ)) (last : List ℕ) (r : Row) → IsTree s → row_at s.rows (q ++ (names ++ last ∷ [])) ≡ Some r → obstacle_from (Some NoKey) s.rows q names ≡ None
+way_clear s q [] last r tree e = refl
+way_clear s q (n ∷ names) last r tree e = at (row_at s.rows (q ++ n ∷ [])) refl (way_clear s (q ++ n ∷ []) names last r tree (ap (row_at s.rows) (append_assoc q (n ∷ []) (names ++ last ∷ [])) ∙ e))
+  where
+    there : row_at s.rows ((q ++ n ∷ []) ++ (names ++ last ∷ [])) ≡ Some r
+    there = ap (row_at s.rows) (append_assoc q (n ∷ []) (names ++ last ∷ [])) ∙ e
+
+    blocked : NoDir s.rows (q ++ n ∷ []) → ⊥
+    blocked none = let k : None ≡ Some r = sym (none_deep s (q ++ n ∷ []) (names ++ last ∷ []) tree (more_some q n) none (more_some names last)) ∙ there in absurd (cc)
+
+    same : (x y : Row) → Some x ≡ Some y → is_key x ≡ true → is_key y ≡ true
+    same x y h k = cc
+
+    kind : (d : Row) → row_at s.rows (q ++ n ∷ []) ≡ Some d → (t : Bool) → is_key d ≡ t → obstacle_from (Some NoKey) s.rows (q ++ n ∷ []) names ≡ None
+        → option_or (obstacle_at (Some NoKey) (Some d)) (obstacle_from (Some NoKey) s.rows (q ++ n ∷ []) names) ≡ None
+    kind d h true k rest = absurd (blocked (λ x f. same d x (sym h ∙ f) k))
+    kind d h false k rest = ap (λ (t : Bool). option_or (cond t (Some NotDir) None) (obstacle_from (Some NoKey) s.rows (q ++ n ∷ []) names)) k ∙ rest
+
+    at : (o : Option Row) → row_at s.rows (q ++ n ∷ []) ≡ o → obstacle_from (Some NoKey) s.rows (q ++ n ∷ []) names ≡ None
+        → option_or (obstacle_at (Some NoKey) o) (obstacle_from (Some NoKey) s.rows (q ++ n ∷ []) names) ≡ None
+    at None h rest = absurd (blocked (no_dir s.rows (q ++ n ∷ []) h))
+    at (Some d) h rest = kind d h (is_key d) refl rest
+
+pub seek_there : (s : Rows) (names : List (List ℕ)) (r : Row) → IsTree s → 0 < length names → row_at s.rows names ≡ Some r → seek s.rows names ≡ Ok r
+seek_there s names r tree some e =
+    let last = any_last names some in
+    let clear : obstacle_to s.rows names ≡ None = way_clear s [] (parent_of names) last.0 r tree (ap (row_at s.rows) (sym last.1) ∙ e) in
+    ap (λ (o : Option OdbRefusal). found_row o (row_at s.rows names)) clear ∙ ap (found_row None) e
 
 pub no_some : {X : Type 0} (o : Option X) → ((x : X) → o ≡ Some x → ⊥) → o ≡ None
 no_some None h = refl

@@ -12,7 +12,7 @@ use Rattle.odb_value.specs.Values.{HeldValue}
 use Rattle.odb_tree.specs.declared.rows.Row.{Row}
 use Rattle.odb_tree.specs.declared.children.Child.{Child}
 use Rattle.odb_tree.specs.Rows.{Rows, no_rows, row_at, row_numbered, rows_outside, is_key, bytes_in, bytes_of_row, total_of}
-use Rattle.odb_tree.specs.Lookups.{parent_of}
+use Rattle.odb_tree.specs.Lookups.{parent_of, seek}
 use Rattle.odb_tree.specs.Calls.{path_with, child_of, after_delete}
 use Rattle.odb_tree.specs.Trees.{IsTree, with_rows}
 use Rattle.odb_tree.specs.Databases.{IsDatabase, IsRow}
@@ -31,7 +31,7 @@ use Rattle.odb_arena.specs.Growth.{dir_path, row_in_dir, CanAdd, IsLeaf}
 use Rattle.odb_arena.proofs.Below.{below_same, path_is, number_is}
 use Rattle.odb_arena.proofs.Whole.{child_is}
 use Rattle.odb_arena.proofs.Finding.{all_last, none_row, or_left}
-use Rattle.odb_arena.proofs.Leading.{rising_found, not_reached, whole_names, found_or}
+use Rattle.odb_arena.proofs.Leading.{rising_found, not_reached, whole_names, found_or, seek_there}
 use Rattle.odb_arena.proofs.Growing.{arena_more, next_some, row_there, found_some, some_is}
 use Rattle.std.proofs.lemmas.List.Sums.{sum_by-cons}
 use Rattle.odb_arena.proofs.Cutting.{arena_less}
@@ -181,6 +181,16 @@ leaf_row t s number leaf h is = sym (number_is (row_of t.nodes.entries) t.next n
 
 pub leaf_found : (t : Inside) (s : Rows) (number : ℕ) (leaf : IsLeaf s number) → IsWholeArena t → rows_of t ≡ s → row_at (rows_of t).rows leaf.row.path ≡ Some leaf.row
 leaf_found t s number leaf h is = row_there (row_of t.nodes.entries) (names_at t.root t.nodes.entries) t.next t.count t.bytes number leaf.row h (leaf_row t s number leaf h is)
+
+-- the row of a node is found at its path
+pub seek_again : (t : Inside) (s : Rows) (k : ℕ) (node : Node) (names : List (List ℕ)) → IsWholeArena t → rows_of t ≡ s → Some node ≡ node_at t.nodes.entries k → node.row.path ≡ names
+    → seek s.rows names ≡ Ok node.row
+seek_again t s k node names h is at path =
+    let there : row_at (rows_of t).rows node.row.path ≡ Some node.row =
+    row_there (row_of t.nodes.entries) (names_at t.root t.nodes.entries) t.next t.count t.bytes k node.row h (ap (option_map (λ (n : Node). n.row)) (sym at)) in
+    let some : 0 < length node.row.path = found_some [] (rows_of t).rows node.row.path node.row h.database.tree.placed there in
+    ap (λ (x : Rows). seek x.rows names) (sym is)
+    ∙ (ap (seek (rows_of t).rows) (sym path) ∙ seek_there (rows_of t) node.row.path node.row h.database.tree some there)
 
 pub leaf_some : (t : Inside) (s : Rows) (number : ℕ) (leaf : IsLeaf s number) → IsWholeArena t → rows_of t ≡ s → 0 < length leaf.row.path
 leaf_some t s number leaf h is = found_some [] (rows_of t).rows leaf.row.path leaf.row h.database.tree.placed (leaf_found t s number leaf h is)

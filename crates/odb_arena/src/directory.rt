@@ -1,6 +1,7 @@
 ghost use Rattle.std.specs.Prelude.{◌≡◌, ◌-◌, ◌++◌, [], Bool, None, true, false, nat_eq, OnOk, OnErr, IfOk, map};
 ghost use Rattle.std.specs.Cmp.Lexicographic.{pointwise};
 ghost use Rattle.std.specs.Map.{lookup};
+ghost use Rattle.std.specs.Option.{option_copied};
 ghost use Rattle.odb_arena.specs.Names.{folded, names_in, child_in, with_child, without_name, last_named, last_child};
 
 use crate::folded::Folded;
@@ -28,17 +29,17 @@ impl Directory {
     }
 
     /// What stands under a name.
-    pub fn child(&self, name: &Name) -> Option<Child>
-        ensures { result ≡ child_in (folded name.now) (names_in true self.now)
+    pub fn child(&self, name: &Name) -> Option<&Child>
+        ensures { option_copied result ≡ child_in (folded name.now) (names_in true self.now)
             (names_in false self.now) }
     {
         let key = Folded::of(name);
         if !self.dirs.is_empty() {
             if let Some(child) = self.dirs.get(&key) {
-                return Some(*child);
+                return Some(child);
             }
         }
-        self.keys.get(&key).copied()
+        self.keys.get(&key)
     }
 
     /// Adds a child under a name that is free among those of its kind, behind them.

@@ -1,11 +1,11 @@
 ghost use Rattle.std.specs.Prelude.{◌≡◌, Bool, true, false, [], ℕ, None, nat_eq, OnOk, OnErr, IfOk, Some, ◌++◌, map, ◌<◌, ◌≤◌, ◌^◌};
 ghost use Rattle.odb_tree.specs.Rows.{bytes_in};
-ghost use Rattle.std.specs.Option.{unwrap_or};
+ghost use Rattle.std.specs.Option.{unwrap_or, option_copied};
 ghost use Rattle.std.specs.Cmp.Lexicographic.{pointwise};
 ghost use Rattle.std.specs.Map.{lookup};
 ghost use Rattle.indexmap.specs.IndexMap.{spare};
 ghost use Rattle.odb_arena.specs.Names.{folded, names_in, child_in, with_child, without_name, last_child};
-ghost use Rattle.odb_arena.specs.Arena.{row_of, names_at, names_entered, names_left, bytes_of_found, IsAltered};
+ghost use Rattle.odb_arena.specs.Arena.{node_at, row_of, names_at, names_entered, names_left, bytes_of_found, IsAltered};
 ghost use Rattle.odb_tree.specs.declared.rows.Row.{Row};
 ghost use Rattle.odb_arena.specs.declared.directory.Directory.{Directory};
 ghost use Rattle.odb_tree.specs.Changes.{RowCanPut, RowCanResize};
@@ -73,21 +73,34 @@ pub fn bytes_in(value: &Option<Value>) -> u64
     }
 }
 
+/// The node with this number. A node's place is one below its number until a row is removed, so it is looked for there
+/// first.
+pub fn node_with(nodes: &IndexMap<u32, Node>, number: u32) -> Option<&Node>
+    ensures value { option_copied result ≡ node_at nodes.now.entries number }
+{
+    if let Some((found, node)) = nodes.get_index((number as usize).wrapping_sub(1)) {
+        if *found == number {
+            return Some(node);
+        }
+    }
+    nodes.get(&number)
+}
+
 /// What stands under a name in the directory with this number, of which the root has 0.
-pub fn child_at(
-    root: &Directory,
-    nodes: &IndexMap<u32, Node>,
+pub fn child_at<'a>(
+    root: &'a Directory,
+    nodes: &'a IndexMap<u32, Node>,
     at: u32,
     name: &Name,
-) -> Option<Child>
-    ensures { result ≡ child_in (folded name.now)
+) -> Option<&'a Child>
+    ensures { option_copied result ≡ child_in (folded name.now)
         (unwrap_or (names_at root.now nodes.now.entries true at) [])
         (unwrap_or (names_at root.now nodes.now.entries false at) []) }
 {
     if at == 0 {
         return root.child(name);
     }
-    match nodes.get(&at) {
+    match node_with(nodes, at) {
         Some(node) => node.below.child(name),
         None => None,
     }
@@ -149,7 +162,7 @@ pub fn bytes_at(nodes: &IndexMap<u32, Node>, number: u32) -> u64
     ensures bytes { result ≡ bytes_of_found (row_of nodes.now.entries number) }
     ensures small { result < 2 ^ 48 }
 {
-    match nodes.get(&number) {
+    match node_with(nodes, number) {
         Some(node) => bytes_in(&node.row.value),
         None => 0,
     }

@@ -1,6 +1,7 @@
-ghost use Rattle.std.specs.Prelude.{◌≡◌};
+ghost use Rattle.std.specs.Prelude.{◌≡◌, ◌↔◌, IsTrue};
 ghost use Rattle.odb_arena.specs.Reaching.{obstacle_met};
 
+use daq_types::Name;
 use odb_tree::OdbRefusal;
 
 /// How far directories lead along some names.
@@ -28,4 +29,19 @@ impl Reached {
             missing
         }
     }
+}
+
+/// Whether two paths have the same names, as they are spelled.
+pub fn is_spelled(a: &[Name], b: &[Name]) -> bool
+    ensures { IsTrue result ↔ (a.now ≡ b.now) }
+{
+    if a.len() != b.len() {
+        return false;
+    }
+    for i in 0..a.len() {
+        if a[i].as_slice() != b[i].as_slice() {
+            return false;
+        }
+    }
+    true
 }

@@ -22,9 +22,9 @@ ghost use Rattle.odb_tree.specs.Databases.{IsDatabase};
 use crate::directory::Directory;
 use crate::node::{
     Node, bytes_at, bytes_in, child_at, children_at, copy_nodes, enter_at, last_child_at, leave_at,
-    put_in, replace_in, resize_in,
+    node_with, put_in, replace_in, resize_in,
 };
-use crate::reaching::Reached;
+use crate::reaching::{Reached, is_spelled};
 use daq_types::{Name, NoMemory};
 use indexmap::IndexMap;
 use odb_tree::{
@@ -34,6 +34,7 @@ use odb_tree::{
 };
 use odb_value::{Item, MAX_DEPTH, Path, Value, is_front};
 use std::alloc::Global;
+use std::cell::Cell;
 use std::marker::Model;
 
 /// A database in an arena.
@@ -44,6 +45,8 @@ pub struct ArenaTree {
     next: u64,
     count: usize,
     bytes: u64,
+    /// The number of the row that was found last, which the next call is mostly about too: a key is got before it is set.
+    found: Cell<u32>,
 }
 
 impl Model for ArenaTree {
@@ -69,12 +72,13 @@ impl ArenaTree {
             next: 1,
             count: 0,
             bytes: 0,
+            found: Cell::new(0),
         }
     }
 
     /// What stands under a name in the directory with this number.
-    fn child(&self, at: u32, name: &Name) -> Option<Child>
-        ensures { (p : List (List ℕ)) → path_with self.now.rows at ≡ Some p → result
+    fn child(&self, at: u32, name: &Name) -> Option<&Child>
+        ensures { (p : List (List ℕ)) → path_with self.now.rows at ≡ Some p → option_copied result
             ≡ option_map child_of (row_at self.now.rows (p ++ name.now ∷ [])) }
     {
         let _ = name.as_slice();
@@ -89,7 +93,7 @@ impl ArenaTree {
         let Some(child) = self.child(at, name) else {
             return None;
         };
-        match self.nodes.get(&child.row) {
+        match node_with(&self.nodes, child.row) {
             Some(node) => Some(&node.row),
             None => None,
         }
@@ -147,8 +151,23 @@ impl ArenaTree {
         self.row_under(reached.at, &names[names.len() - 1])
     }
 
-    /// The row at a path that is not the root's, or why it is not reached.
-    fn seek(&self, names: &[Name]) -> Result<&Row, OdbRefusal>
+    /// The row that was found last, where these names are its path as it is spelled.
+    fn found_again(&self, names: &[Name]) -> Option<&Row>
+        ensures { IfSome result (λ row. seek self.now.rows names.now ≡ Ok row.now) }
+    {
+        let _ = &self.root;
+        let Some(node) = node_with(&self.nodes, self.found.get()) else {
+            return None;
+        };
+        if is_spelled(node.row.path.names(), names) {
+            Some(&node.row)
+        } else {
+            None
+        }
+    }
+
+    /// The row at a path that is not the root's, or why it is not reached, from the root down.
+    fn seek_down(&self, names: &[Name]) -> Result<&Row, OdbRefusal>
         requires { 0 < length names.now }
         ensures found { IfOk result (λ row. seek self.now.rows names.now ≡ Ok row.now) }
         ensures refused { IfErr result (λ refusal. seek self.now.rows names.now ≡ Err refusal) }
@@ -160,8 +179,23 @@ impl ArenaTree {
             return Err(refusal);
         }
         match self.row_under(reached.at, &names[names.len() - 1]) {
-            Some(row) => Ok(row),
+            Some(row) => {
+                self.found.set(row.number);
+                Ok(row)
+            }
             None => Err(OdbRefusal::NoKey),
+        }
+    }
+
+    /// The row at a path that is not the root's, or why it is not reached.
+    fn seek(&self, names: &[Name]) -> Result<&Row, OdbRefusal>
+        requires { 0 < length names.now }
+        ensures found { IfOk result (λ row. seek self.now.rows names.now ≡ Ok row.now) }
+        ensures refused { IfErr result (λ refusal. seek self.now.rows names.now ≡ Err refusal) }
+    {
+        match self.found_again(names) {
+            Some(row) => Ok(row),
+            None => self.seek_down(names),
         }
     }
 
@@ -208,7 +242,7 @@ impl ArenaTree {
         if number == 0 {
             return Some(&[]);
         }
-        match self.nodes.get(&number) {
+        match node_with(&self.nodes, number) {
             Some(node) => Some(node.row.path.names()),
             None => None,
         }
@@ -802,6 +836,7 @@ impl Database for ArenaTree {
             next: self.next,
             count: self.count,
             bytes: self.bytes,
+            found: Cell::new(0),
         })
     }
 }

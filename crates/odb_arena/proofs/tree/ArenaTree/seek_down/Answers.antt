@@ -1,7 +1,7 @@
 use Rattle.std.proofs.Common.{Some, None, sym, subst, ◌∙◌}
 use Rattle.odb_tree.specs.Trees.{IsTree}
 use Rattle.odb_arena.proofs.Leading.{seek_refused, seek_found, no_some}
-use Rattle.odb_arena.proofs.tree.ArenaTree.seek.Goals as goal
+use Rattle.odb_arena.proofs.tree.ArenaTree.seek_down.Goals as goal
 
 pub returns-in-Some-clause-refused : goal.returns-in-Some-clause-refused
 returns-in-Some-clause-refused c =
