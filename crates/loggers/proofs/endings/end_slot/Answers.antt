@@ -1,6 +1,5 @@
-use Rattle.std.specs.Prelude.{List, Option, Some, slice_set}
+use Rattle.std.specs.Prelude.{Some, slice_set}
 use Rattle.std.proofs.Common.{refl}
-use Rattle.mid_logger.specs.declared.channel.Channel.{Channel}
 use Rattle.mid_logger.proofs.PieceSteps.{last_open}
 use Rattle.mid_logger.proofs.OneFile.{end_name}
 use Rattle.loggers.specs.Moments.{RunFiles}
