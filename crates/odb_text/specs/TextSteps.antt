@@ -66,7 +66,7 @@ after_make s p = after_make_by s p (dir_refusal s p)
 
 -- Refusals.
 
--- no key has more items, and no STRING a greater item size: this is known of the lines alone
+-- no key has more items, and no STRING or LINK a greater item size: this is known of the lines alone
 abbrev pub many_fault : (items : ℕ) → Option OdbRefusal
 many_fault items = if nat_lt items_limit items then Some (Limit Items) else None
 

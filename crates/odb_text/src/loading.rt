@@ -354,11 +354,12 @@ fn load_into<D: Database>(
     Ok(at.loaded)
 }
 
-/// Loads a text of at most 268,435,456 bytes: makes the directories and writes the keys that it asks for, in its order,
-/// and skips keys of four types of which the database keeps no values. The lines of a text that is loaded are those of
-/// steps none of which is refused, and watches of the database note each key that is written, item by item. Else a line
-/// at fault is told: the lines before it are those of steps none of which is refused, and there the text leaves the
-/// grammar, or what it asks for is refused; the database and its watches are as they were.
+/// Loads a text of at most 268,435,456 bytes: makes the directories and writes the keys that it asks for, in its order.
+/// Each directory is made at its path after its links, and each key is put at its path as it is. Keys of the types FLOAT,
+/// DOUBLE and BITFIELD are skipped, and those of type LINK where the database keeps no links. The lines of a text that is
+/// loaded are those of steps none of which is refused, and watches of the database note each key that is written, item by
+/// item. Else a line at fault is told: the lines before it are those of steps none of which is refused, and there the text
+/// leaves the grammar, or what it asks for is refused; the database and its watches are as they were.
 #[tactic(auto, using(crate::proofs::Loads::loaded_from))]
 pub fn load<D: Database>(
     alloc: Global,
