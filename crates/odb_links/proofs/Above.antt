@@ -1,5 +1,5 @@
 -- In a tree nothing stands below a path at which no directory is.
-use Rattle.std.proofs.Common.{◌≡◌, ℕ, ◌<◌, Bool, true, false, cond, List, [], ◌∷◌, ◌++◌, length, Option, Some, None, ◌⊎◌, inl, inr, refl, sym, ap, ◌∙◌, subst, arith, length-append, append_assoc, append-nil, ◌+◌, ◌-◌, take, get_or}
+use Rattle.std.proofs.Common.{◌≡◌, ◌≢◌, Result, Ok, Err, ℕ, ◌<◌, Bool, true, false, cond, List, [], ◌∷◌, ◌++◌, length, Option, Some, None, ◌⊎◌, inl, inr, refl, sym, ap, ◌∙◌, subst, arith, length-append, append_assoc, append-nil, ◌+◌, ◌-◌, take, get_or}
 use Rattle.std.specs.Option.{option_or, option_map, is_some}
 use Rattle.std.specs.List.{find}
 use Rattle.std.proofs.lemmas.List.{take_more, take_all}
@@ -8,7 +8,8 @@ use Rattle.odb_tree.specs.declared.rows.Row.{Row}
 use Rattle.odb_tree.specs.declared.refusals.OdbRefusal.{OdbRefusal}
 use Rattle.odb_tree.specs.declared.refusals.OdbRefusal.TheVariants.{NotDir, NoKey}
 use Rattle.odb_tree.specs.Rows.{Rows, row_at, is_key}
-use Rattle.odb_tree.specs.Lookups.{parent_of, obstacle_at, obstacle_from, obstacle_to, obstacle_to_new}
+use Rattle.odb_tree.specs.Lookups.{parent_of, obstacle_at, obstacle_from, obstacle_to, found_row, seek}
+use Rattle.odb_tree.specs.Calls.{number_reply, find_reply}
 use Rattle.odb_tree.specs.Links.{numbers_along, number_and}
 use Rattle.odb_tree.specs.Trees.{HasDir, IsDir, IsPlaced, ArePlaced, AreApart, IsTree}
 use Rattle.odb_tree.specs.WalkLaws.{NoneAt}
@@ -140,3 +141,26 @@ root_free s r tree e =
     let placed = placed_found [] s.rows [] r tree.placed e in
     let long : length r.path ≡ 0 = same_long r.path [] (found_passes s.rows [] r e) in
     omega (arith, long, ap (λ (p : List (List ℕ)). length p) placed.path, length-append placed.parent (placed.name ∷ []))
+
+-- what `find` tells of what stands at a path
+
+found_number : (o : Option Row) (n : ℕ) → Ok n ≡ number_reply (found_row None o) → (r : Row) × (o ≡ Some r) × (r.number ≡ n)
+found_number None n e = absurd (cc)
+found_number (Some r) n e = (r, refl, (let same : n ≡ r.number = cc in sym same))
+
+pub found_there : (s : Rows) (p : List (List ℕ)) (n : ℕ) → 0 < length p → Ok n ≡ find_reply s p → (r : Row) × (row_at s.rows p ≡ Some r) × (r.number ≡ n)
+found_there s [] n some e = absurd (omega (arith, some))
+found_there s (name ∷ names) n some e = at (obstacle_to s.rows (name ∷ names)) e
+  where
+    at : (o : Option OdbRefusal) → Ok n ≡ number_reply (found_row o (row_at s.rows (name ∷ names))) → (r : Row) × (row_at s.rows (name ∷ names) ≡ Some r) × (r.number ≡ n)
+    at None k = found_number (row_at s.rows (name ∷ names)) n k
+    at (Some why) k = absurd (cc)
+
+pub not_found_there : (s : Rows) (p : List (List ℕ)) (why : OdbRefusal) → IsTree s → Err why ≡ find_reply s p → (p ≢ []) × (row_at s.rows p ≡ None)
+not_found_there s [] why tree e = absurd (cc)
+not_found_there s (name ∷ names) why tree e = (λ k. absurd (cc), nothing (row_at s.rows (name ∷ names)) (λ r there. absurd (found r there)))
+  where
+    found : (r : Row) → row_at s.rows (name ∷ names) ≡ Some r → ⊥
+    found r there =
+        let clear = nothing_before s (Some NoKey) (name ∷ names) r tree (omega arith) there in
+        let k : Err why ≡ Ok r.number = e ∙ (ap (λ (o : Option OdbRefusal). number_reply (found_row o (row_at s.rows (name ∷ names)))) clear ∙ ap (λ (o : Option Row). number_reply (found_row None o)) there) in absurd (cc)

@@ -5,3 +5,7 @@ pub mod LinkPlaces
 pub mod Following
 pub mod Replies
 pub mod SeenCalls
+pub mod Kept
+pub mod Stands
+pub mod Written
+pub mod Views

@@ -25,17 +25,14 @@ use Rattle.odb_tree.specs.Making.{Way, way_to, new_row, new_number, created}
 use Rattle.odb_tree.specs.Links.{is_link, is_link_value, first_link, resolved}
 use Rattle.odb_tree.specs.Calls.{reply_or, exists_fault, kept_fault, items_fault, new_value, after_create, create_fault, create_reply, type_fault, index_fault, after_set, set_fault, set_reply_to, set_reply, after_set_all_at, after_set_all, directory_fault, value_fault, tid_fault, there_fault, own_fault, number_at, set_all_fault, set_all_reply, after_resize, resize_reply_to, resize_reply, value_reply, get_reply, number_reply, find_reply, children_of, children_or, list_reply, path_with, is_row_below, after_delete, count_gone, delete_reply}
 use Rattle.odb_tree.proofs.EachRow.{row_has, all_changed}
-use Rattle.odb_tree.proofs.Led.{none_at_end, resolved_ends}
+use Rattle.odb_tree.proofs.Led.{none_at_end, resolved_freed}
 use Rattle.odb_tree.proofs.WalkLaws.{true_false}
 use Rattle.odb_links.specs.declared.links.Link.{Link}
 use Rattle.odb_links.specs.Seen.{link_numbered, is_linked, typed, as_seen, seen, AreInOrder, HasText, IsRight, AreLinks}
+use Rattle.odb_links.specs.Writing.{IsFree}
 use Rattle.odb_links.proofs.Retyped.{Retypes, row_mapped, numbered_mapped, there_mapped, obstacle_mapped, sought, seek_mapped, dir_fault_mapped, absent_mapped, number_found_mapped, exists_mapped, outside_mapped, children_mapped, limit_mapped, path_mapped, below_mapped, change_mapped}
 use Rattle.odb_links.proofs.Above.{root_free}
 use Rattle.odb_links.proofs.Marked.{seen_retypes, seen_plain, seen_linked, unlinked_above, order_longer, not_linked, no_link_at, right_plain, right_at, way_seen, created_seen, made_above}
-
--- nothing that is at the path is a link
-abbrev pub IsFree : List Link → Rows → List (List ℕ) → Type 0
-IsFree links s q = (r : Row) → row_at s.rows q ≡ Some r → is_linked links r.number ≡ false
 
 linked_is_link : (links : List Link) (r : Row) → IsRight links r → is_linked links r.number ≡ true → is_link (as_seen links r) ≡ true
 linked_is_link links r right linked = at (link_numbered links r.number) refl linked
@@ -59,7 +56,7 @@ pub free_after : (links : List Link) (s : Rows) (p q : List (List ℕ)) → AreL
 free_after links s p q h e r there =
     tested (is_linked links r.number) (λ linked.
     true_false (is_link (as_seen links r)) (linked_is_link links r (row_has (IsRight links) s.rows q r h.right there) linked)
-    (none_at_end (seen links s).rows [] q (as_seen links r) (resolved_ends (seen links s) p q refl e)
+    (none_at_end (seen links s).rows [] q (as_seen links r) (resolved_freed (seen links s) p q true refl e)
     (λ root. root_free s r h.database.tree (subst (λ (x : List (List ℕ)). row_at s.rows x ≡ Some r) root there))
     (row_mapped (as_seen links) (seen_retypes links) s.rows q ∙ ap (option_map (as_seen links)) there)))
 

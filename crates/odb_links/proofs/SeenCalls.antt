@@ -21,7 +21,7 @@ use Rattle.odb_tree.specs.declared.entry.DatabaseEntry.{DatabaseEntry}
 use Rattle.odb_tree.specs.declared.entry.DatabaseEntry.TheVariants.{Create, Set, SetAll, Get, Find, ListDir, Delete, Resize, PathOf}
 use Rattle.odb_tree.specs.Rows.{Rows, row_at, change_at}
 use Rattle.odb_tree.specs.Links.{resolved, meets_link, through, led_to}
-use Rattle.odb_tree.specs.Calls.{Gives, GivesIf, GivesItem, IsRowsReply, rows_after, is_row_below, create_reply, set_reply, set_all_reply, get_reply, find_reply, list_reply, resize_reply, after_create, after_set, after_set_all, after_set_all_at, after_resize, after_delete, new_value}
+use Rattle.odb_tree.specs.Calls.{Gives, GivesIf, GivesItem, IsRowsReply, rows_after, rows_there, is_row_below, create_reply, set_reply, set_all_reply, get_reply, find_reply, list_reply, resize_reply, after_create, after_set, after_set_all, after_set_all_at, after_resize, after_delete, new_value}
 use Rattle.odb_tree.specs.Databases.{IsSoundCall, IsSoundKey}
 use Rattle.odb_tree.specs.Noting.{Change, note_of, with_note, is_of, with_change, noted_all, all_noted, changes_from, changes_for, changes_of}
 use Rattle.odb_tree.proofs.Noted.{none_noted}
@@ -29,8 +29,9 @@ use Rattle.odb_tree.proofs.Led.{unlinked, unmet, after_unlinked, resolved_path}
 use Rattle.odb_tree.proofs.Sound.{database_after, links_after}
 use Rattle.odb_links.specs.declared.links.Link.{Link}
 use Rattle.odb_links.specs.Seen.{is_linked, as_seen, seen, AreInOrder, IsRight, AreLinks}
+use Rattle.odb_links.specs.Writing.{IsFree}
 use Rattle.odb_links.proofs.Marked.{order_longer}
-use Rattle.odb_links.proofs.Replies.{IsFree, free_after, IsNoLink, created_plain, create_same, set_leaves, set_same, resize_leaves, resize_same, set_all_leaves, set_all_same, get_same, find_same, list_same, below_same, right_created, right_changed}
+use Rattle.odb_links.proofs.Replies.{free_after, IsNoLink, created_plain, create_same, set_leaves, set_same, resize_leaves, resize_same, set_all_leaves, set_all_same, get_same, find_same, list_same, below_same, right_created, right_changed}
 
 -- notes
 
@@ -75,7 +76,7 @@ still_links links s step h sound reply kept = record {
   right = kept.1;
 }
 
-gives_below : {X : Type 0} (given : Result X OdbRefusal) (s : Rows) (q : List (List ℕ)) (last : Bool) (reply : List (List ℕ) → Result X OdbRefusal) → s.links ≡ false → Gives given (through (resolved s q last) reply) → Gives given (reply q)
+pub gives_below : {X : Type 0} (given : Result X OdbRefusal) (s : Rows) (q : List (List ℕ)) (last : Bool) (reply : List (List ℕ) → Result X OdbRefusal) → s.links ≡ false → Gives given (through (resolved s q last) reply) → Gives given (reply q)
 gives_below given s q last reply plain h = subst (λ (r : Result (List (List ℕ)) OdbRefusal). Gives given (through r reply)) (unlinked s q last plain) h
 
 gives_here : {X : Type 0} (given : Result X OdbRefusal) (t : Rows) (p q : List (List ℕ)) (last : Bool) (reply : List (List ℕ) → Result X OdbRefusal) (below : Result X OdbRefusal) → resolved t p last ≡ Ok q → reply q ≡ below → Gives given below → Gives given (through (resolved t p last) reply)
@@ -149,7 +150,7 @@ set_seen links s p q index item reply h path sound e given = record {
         ∙ (sym (set_leaves links s q index item free) ∙ ap (λ (r : Result (List (List ℕ)) OdbRefusal). led_to (seen links s) r (λ x. after_set (seen links s) x index item)) (sym e))
     leaves (Err why) = refl
 
-right_written : (links : List Link) (s : Rows) (q : List (List ℕ)) (v : HeldValue) (o : Option Row) → AreLinks links s → IsFree links s q
+pub right_written : (links : List Link) (s : Rows) (q : List (List ℕ)) (v : HeldValue) (o : Option Row) → AreLinks links s → IsFree links s q
     → AreInOrder 1 links (after_set_all_at s q v o).next × All (IsRight links) (after_set_all_at s q v o).rows
 right_written links s q v None h free = right_created links s q (Some v) h.order h.right
 right_written links s q v (Some r) h free = (h.order, right_changed links s q (λ _. v) free h.right)
@@ -223,3 +224,56 @@ pub find_seen : (links : List Link) (s : Rows) (p q : List (List ℕ)) (reply : 
 find_seen links s p q reply h e given =
     found_more (meets_link (seen links s) p true) reply (through (resolved (seen links s) p true) (λ x. find_reply (seen links s) x))
     (subst (λ (r : Result (List (List ℕ)) OdbRefusal). reply ≡ through r (λ x. find_reply (seen links s) x)) (sym e) (find_below s q reply h.plain given ∙ sym (find_same links s q)))
+
+-- calls whose path has no end
+
+pub no_end : {X : Type 0} (led : Result (List (List ℕ)) OdbRefusal) (reply : List (List ℕ) → Result X OdbRefusal) (why : OdbRefusal) → (why ≢ NoMemory → led ≡ Err why) → Gives (Err why) (through led reply)
+no_end led reply why h memory = ap (λ (r : Result (List (List ℕ)) OdbRefusal). through r reply) (h memory)
+
+no_end_told : {X : Type 0} (met : Bool) (led : Result (List (List ℕ)) OdbRefusal) (reply : List (List ℕ) → Result X OdbRefusal) (why : OdbRefusal) → (why ≢ NoMemory → led ≡ Err why) → (why ≡ NoMemory → met ≡ true)
+    → GivesIf met (Err why) (through led reply)
+no_end_told true led reply why h memory = no_end led reply why h
+no_end_told false led reply why h memory = sym (ap (λ (r : Result (List (List ℕ)) OdbRefusal). through r reply) (h (λ e. let k : false ≡ true = memory e in absurd (cc))))
+
+pub no_end_found : (met : Bool) (led : Result (List (List ℕ)) OdbRefusal) (reply : List (List ℕ) → Result ℕ OdbRefusal) (why : OdbRefusal) → (why ≢ NoMemory → led ≡ Err why) → (why ≡ NoMemory → met ≡ true)
+    → GivesIf met (Err why) (through led reply)
+no_end_found met led reply why h memory = no_end_told met led reply why h memory
+
+pub no_end_set : (met : Bool) (type : Tid) (led : Result (List (List ℕ)) OdbRefusal) (reply : List (List ℕ) → Result ℕ OdbRefusal) (why : OdbRefusal) → (why ≢ NoMemory → led ≡ Err why) → (why ≡ NoMemory → met ≡ true)
+    → GivesItem met type (Err why) (through led reply)
+no_end_set met tid.Text led reply why h memory = no_end led reply why h
+no_end_set met _ led reply why h memory = no_end_told met led reply why h memory
+
+-- a refusal notes nothing
+pub refusal_notes : (s : Rows) (reply : Result ℕ OdbRefusal) (why : OdbRefusal) (first count : ℕ) (ws : List (Option Watch)) → reply ≡ Err why → ws ≡ all_noted (changes_for s reply first count) ws
+refusal_notes s reply why first count ws e = subst (λ (r : Result ℕ OdbRefusal). ws ≡ all_noted (changes_for s r first count) ws) (sym e) (sym (none_noted ws))
+
+-- making a link, and what is no link
+
+pub plain_kind : (kind : NewKey) → (kind ≡ Dir) ⊎ ((type : Tid) × (len : ℕ) × (kind ≡ Keys type len)) → IsNoLink kind
+plain_kind kind (inl is) target e = let k : Dir ≡ new_link target = sym is ∙ e in absurd (cc)
+plain_kind kind (inr is) target e = let k : Keys is.0 is.1 ≡ new_link target = sym is.2 ∙ e in absurd (cc)
+
+pub create_refused : (s : Rows) (p : List (List ℕ)) (kind : NewKey) (reply : Result ℕ OdbRefusal) (why : OdbRefusal) (ws : List (Option Watch)) → reply ≡ Err why → ws ≡ all_noted (changes_of s (Create p kind reply)) ws
+create_refused s p Dir reply why ws e = sym (none_noted ws)
+create_refused s p (Keys type len) reply why ws e = refusal_notes (rows_after s (Create p (Keys type len) reply)) reply why 0 1 ws e
+create_refused s p (new_link target) reply why ws e = refusal_notes (rows_after s (Create p (new_link target) reply)) reply why 0 1 ws e
+
+-- a link made at the path after its links
+pub record IsLinkMade (t : Rows) (p q target : List (List ℕ)) (kind : NewKey) (reply : Result ℕ OdbRefusal) : Type 0 where
+  pub reply_is : IsRowsReply t (Create p kind reply)
+  pub after : rows_there t (Create q (new_link target) reply) ≡ rows_after t (Create p kind reply)
+  pub notes : (ws : List (Option Watch)) → all_noted (changes_for (rows_there t (Create q (new_link target) reply)) reply 0 1) ws ≡ all_noted (changes_of t (Create p kind reply)) ws
+
+pub link_made : (t : Rows) (p q target : List (List ℕ)) (kind : NewKey) (reply : Result ℕ OdbRefusal) → resolved t p false ≡ Ok q → kind ≡ new_link target → Gives reply (create_reply t q (new_link target))
+    → IsLinkMade t p q target kind reply
+link_made t p q target kind reply e is given =
+    subst (λ (k : NewKey). IsLinkMade t p q target k reply) (sym is) (record {
+      reply_is = gives_here reply t p q false (λ x. create_reply t x (new_link target)) (create_reply t q (new_link target)) e refl given;
+      after = left reply;
+      notes = λ ws. ap (λ (x : Rows). all_noted (changes_for x reply 0 1) ws) (left reply);
+    })
+  where
+    left : (r : Result ℕ OdbRefusal) → rows_there t (Create q (new_link target) r) ≡ rows_after t (Create p (new_link target) r)
+    left (Ok n) = sym (ap (λ (r : Result (List (List ℕ)) OdbRefusal). led_to t r (λ x. after_create t x (new_link target))) e)
+    left (Err why) = refl

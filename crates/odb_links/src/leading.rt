@@ -1,5 +1,6 @@
 ghost use Rattle.std.specs.Prelude.{◌≡◌, ◌≢◌, ◌≤◌, ◌^◌, true, [], length, unwrap_or, Some, None, Ok, Err, IfOk, IfErr, IfSome, MatchOption};
 ghost use Rattle.std.specs.Option.{option_map, option_copied};
+ghost use Rattle.odb_value.specs.Paths.{IsPath};
 ghost use Rattle.odb_tree.specs.declared.refusals.OdbRefusal.TheVariants.{NoMemory as no_memory};
 ghost use Rattle.odb_tree.specs.Links.{first_link, follow, resolved, meets_link};
 ghost use Rattle.odb_tree.specs.Calls.{Gives};
@@ -37,12 +38,7 @@ fn target_met<'a>(links: &'a [Link], row: u32, rest: &[Name], last: bool) -> Opt
 
 /// The first link that is followed, where the rows at the first of these names, the first two and so on have these
 /// numbers.
-fn hit_among<'a>(
-    links: &'a [Link],
-    numbers: &[u32],
-    names: &[Name],
-    last: bool,
-) -> Option<Hit<'a>>
+fn hit_among<'a>(links: &'a [Link], numbers: &[u32], names: &[Name], last: bool) -> Option<Hit<'a>>
     requires order { AreInOrder 1 links.now (2 ^ 32) }
     requires within { length numbers.now ≤ length names.now }
     ensures first { MatchOption result (hit_among links.now last numbers.now names.now ≡ None)
@@ -69,7 +65,7 @@ fn first_hit<'a, D: Database>(
     ensures first { MatchOption result
         (first_link (seen links.now (D.rows tree.now)).rows last [] path.now ≡ None)
         (λ hit. first_link (seen links.now (D.rows tree.now)).rows last [] path.now
-            ≡ Some (met_by path.now hit)) }
+        ≡ Some (met_by path.now hit)) }
     ensures depth { IfSome result (λ hit. hit.depth ≤ length path.now) }
 {
     if links.is_empty() {
@@ -81,12 +77,7 @@ fn first_hit<'a, D: Database>(
 }
 
 /// The path by this link, which is followed after so many others.
-fn onward(
-    alloc: Global,
-    hit: &Hit<'_>,
-    names: &[Name],
-    steps: u32,
-) -> Result<Path, OdbRefusal>
+fn onward(alloc: Global, hit: &Hit<'_>, names: &[Name], steps: u32) -> Result<Path, OdbRefusal>
     requires { hit.now.depth ≤ length names.now }
     ensures { Gives result (follow Ok steps names.now (Some (met_by names.now hit.now))) }
 {
@@ -104,12 +95,15 @@ fn onward(
 
 /// The path after its links, or the one that is given.
 pub fn goal<'a>(led: &'a Option<Path>, path: &'a Path) -> &'a Path
-    ensures { result.now ≡ unwrap_or led.now path.now }
+    ensures path { result.now ≡ unwrap_or led.now path.now }
+    ensures is_path { IsPath result.now }
 {
-    match led {
+    let goal = match led {
         Some(led) => led,
         None => path,
-    }
+    };
+    let _ = goal.names();
+    goal
 }
 
 /// The path after its links, of which one at its end is followed with `last` alone; None where no link is followed.

@@ -4,3 +4,9 @@
 
 mod leading;
 mod links;
+mod making;
+#[cfg(test)]
+mod tests;
+mod tree;
+
+pub use tree::LinkTree;

@@ -1,0 +1,47 @@
+use Rattle.std.proofs.Common.{◌≡◌, ◌≢◌, ◌-◌, ℕ, List, Option, Result, Ok, Err, true, false, length, unwrap_or, refl, sym, ap, ◌∙◌, subst}
+use Rattle.std.proofs.lemmas.Result.{err_from_is_err_and}
+use Rattle.odb_value.specs.Values.{HeldValue}
+use Rattle.odb_value.specs.Items.{tid_of}
+use Rattle.odb_tree.specs.declared.children.Child.{Child}
+use Rattle.odb_tree.specs.declared.refusals.OdbRefusal.{OdbRefusal}
+use Rattle.odb_tree.specs.declared.refusals.OdbRefusal.TheVariants.{NoMemory}
+use Rattle.odb_tree.specs.declared.entry.DatabaseEntry.TheVariants.{Find}
+use Rattle.odb_tree.specs.Links.{resolved, meets_link}
+use Rattle.odb_tree.specs.Calls.{IsRowsReply, rows_after, create_reply, set_reply, set_all_reply, resize_reply, get_reply, list_reply, find_reply}
+use Rattle.odb_tree.specs.Noting.{Watched, all_noted, changes_of}
+use Rattle.odb_tree.specs.Databases.{IsDatabase}
+use Rattle.odb_tree.specs.Rows.{Rows}
+use Rattle.odb_links.specs.declared.links.Link.{Link}
+use Rattle.odb_links.specs.Seen.{seen, AreLinks}
+use Rattle.odb_links.proofs.SeenCalls.{find_seen, no_end_found}
+use Rattle.odb_links.proofs.Views.{database_seen}
+use Rattle.odb_links.proofs.tree.LinkTreeDatabase.find.Goals as goal
+
+pub returns-in_err-led-clause-reply : goal.returns-in_err-led-clause-reply
+returns-in_err-led-clause-reply g c =
+    let s : Rows = g.D.Database.rows c.self.inside.tree in
+    let links : List Link = c.self.inside.links.items in
+    let p : List (List ℕ) = c.args.path.now in
+    let why : OdbRefusal = c.in_err-led.field-0.0 in
+    let told = err_from_is_err_and c.from_residual.result c.from_residual.ensures.1 in
+    let is : c.from_residual.result ≡ Err why = told.1 ∙ ap (λ (x : OdbRefusal). Err x) told.2 in
+    let refused : why ≢ NoMemory → resolved (seen links s) p true ≡ Err why =
+    subst (λ (l : List Link). why ≢ NoMemory → resolved (seen l s) p true ≡ Err why) c.as_slice.ensures.value c.in_err-led.ensures.refused in
+    subst (λ (r : Result ℕ OdbRefusal). IsRowsReply c.args.self.now.rows (Find p r)) (sym is)
+    (subst (λ (w : Watched). IsRowsReply w.rows (Find p (Err why))) c.self.view_is (no_end_found (meets_link (seen links s) p true) (resolved (seen links s) p true) (λ x. find_reply (seen links s) x) why refused (λ k. subst (λ (l : List Link). meets_link (seen l s) p true ≡ true) c.as_slice.ensures.value (c.in_err-led.ensures.memory (ap (λ (x : OdbRefusal). Err x) k)))))
+
+pub returns-clause-reply : goal.returns-clause-reply
+returns-clause-reply g c =
+    let s : Rows = g.D.Database.rows c.self.inside.tree in
+    let links : List Link = c.self.inside.links.items in
+    let p : List (List ℕ) = c.args.path.now in
+    let q : List (List ℕ) = c.goal.result.now in
+    let e : resolved (seen links s) p true ≡ Ok q =
+    subst (λ (l : List Link). resolved (seen l s) p true ≡ Ok (unwrap_or c.in_ok-led.led p)) c.as_slice.ensures.value c.in_ok-led.ensures.led ∙ ap (λ (x : List (List ℕ)). Ok x) (sym c.goal.ensures.path) in
+    subst (λ (w : Watched). IsRowsReply w.rows (Find p c.find.result)) c.self.view_is (find_seen links s p q c.find.result c.self.invariant e c.find.ensures.reply)
+
+pub returns-in_err-led-clause-database : goal.returns-in_err-led-clause-database
+returns-in_err-led-clause-database g c = subst (λ (w : Watched). IsDatabase w.rows) c.self.view_is (database_seen c.self.inside.links.items (g.D.Database.rows c.self.inside.tree) c.self.invariant)
+
+pub returns-clause-database : goal.returns-clause-database
+returns-clause-database g c = subst (λ (w : Watched). IsDatabase w.rows) c.self.view_is (database_seen c.self.inside.links.items (g.D.Database.rows c.self.inside.tree) c.self.invariant)

@@ -1,0 +1,78 @@
+use Rattle.std.proofs.Common.{◌≡◌, ◌≢◌, ◌-◌, ℕ, List, Option, Result, Ok, Err, true, false, length, unwrap_or, refl, sym, ap, ◌∙◌, subst}
+use Rattle.std.proofs.lemmas.Result.{err_from_is_err_and}
+use Rattle.odb_value.specs.Values.{HeldValue}
+use Rattle.odb_value.specs.Items.{tid_of}
+use Rattle.odb_tree.specs.declared.children.Child.{Child}
+use Rattle.odb_tree.specs.declared.refusals.OdbRefusal.{OdbRefusal}
+use Rattle.odb_tree.specs.declared.refusals.OdbRefusal.TheVariants.{NoMemory}
+use Rattle.odb_tree.specs.declared.entry.DatabaseEntry.TheVariants.{Set}
+use Rattle.odb_tree.specs.Links.{resolved, meets_link}
+use Rattle.odb_tree.specs.Calls.{IsRowsReply, rows_after, create_reply, set_reply, set_all_reply, resize_reply, get_reply, list_reply, find_reply}
+use Rattle.odb_tree.specs.Noting.{Watched, all_noted, changes_of}
+use Rattle.odb_tree.specs.Rows.{Rows}
+use Rattle.odb_links.specs.declared.links.Link.{Link}
+use Rattle.odb_links.specs.Seen.{seen, AreLinks}
+use Rattle.odb_links.proofs.SeenCalls.{IsSeenAs, set_seen, no_end_set, refusal_notes}
+use Rattle.odb_links.proofs.tree.LinkTreeDatabase.set.Goals as goal
+
+pub returns-in_err-led-clause-reply : goal.returns-in_err-led-clause-reply
+returns-in_err-led-clause-reply g c =
+    let s : Rows = g.D.Database.rows c.self.inside.tree in
+    let links : List Link = c.self.inside.links.items in
+    let p : List (List ℕ) = c.args.path.now in
+    let why : OdbRefusal = c.in_err-led.field-0.0 in
+    let told = err_from_is_err_and c.from_residual.result c.from_residual.ensures.1 in
+    let is : c.from_residual.result ≡ Err why = told.1 ∙ ap (λ (x : OdbRefusal). Err x) told.2 in
+    let refused : why ≢ NoMemory → resolved (seen links s) p true ≡ Err why =
+    subst (λ (l : List Link). why ≢ NoMemory → resolved (seen l s) p true ≡ Err why) c.as_slice.ensures.value c.in_err-led.ensures.refused in
+    subst (λ (r : Result ℕ OdbRefusal). IsRowsReply c.args.self.now.rows (Set p c.args.index c.args.item.now r)) (sym is)
+    (subst (λ (w : Watched). IsRowsReply w.rows (Set p c.args.index c.args.item.now (Err why))) c.self.view_is (no_end_set (meets_link (seen links s) p true) (tid_of c.args.item.now) (resolved (seen links s) p true) (λ x. set_reply (seen links s) x c.args.index c.args.item.now) why refused (λ k. subst (λ (l : List Link). meets_link (seen l s) p true ≡ true) c.as_slice.ensures.value (c.in_err-led.ensures.memory (ap (λ (x : OdbRefusal). Err x) k)))))
+
+pub returns-in_err-led-clause-notes : goal.returns-in_err-led-clause-notes
+returns-in_err-led-clause-notes g c =
+    let told = err_from_is_err_and c.from_residual.result c.from_residual.ensures.1 in
+    refusal_notes (rows_after c.args.self.now.rows (Set c.args.path.now c.args.index c.args.item.now c.from_residual.result)) c.from_residual.result told.0 c.args.index 1 c.args.self.now.slots told.1
+
+pub returns-clause-reply : goal.returns-clause-reply
+returns-clause-reply g c =
+    let s : Rows = g.D.Database.rows c.self.inside.tree in
+    let links : List Link = c.self.inside.links.items in
+    let p : List (List ℕ) = c.args.path.now in
+    let q : List (List ℕ) = c.goal.result.now in
+    let e : resolved (seen links s) p true ≡ Ok q =
+    subst (λ (l : List Link). resolved (seen l s) p true ≡ Ok (unwrap_or c.in_ok-led.led p)) c.as_slice.ensures.value c.in_ok-led.ensures.led ∙ ap (λ (x : List (List ℕ)). Ok x) (sym c.goal.ensures.path) in
+    let call = set_seen links s p q c.args.index c.args.item.now c.set.result c.self.invariant c.goal.ensures.is_path c.tid.ensures.is_item.sound e c.set.ensures.reply in
+    subst (λ (w : Watched). IsRowsReply w.rows (Set p c.args.index c.args.item.now c.set.result)) c.self.view_is call.reply
+
+pub returns-clause-after : goal.returns-clause-after
+returns-clause-after g c =
+    let s : Rows = g.D.Database.rows c.self.inside.tree in
+    let links : List Link = c.self.inside.links.items in
+    let p : List (List ℕ) = c.args.path.now in
+    let q : List (List ℕ) = c.goal.result.now in
+    let e : resolved (seen links s) p true ≡ Ok q =
+    subst (λ (l : List Link). resolved (seen l s) p true ≡ Ok (unwrap_or c.in_ok-led.led p)) c.as_slice.ensures.value c.in_ok-led.ensures.led ∙ ap (λ (x : List (List ℕ)). Ok x) (sym c.goal.ensures.path) in
+    let call = set_seen links s p q c.args.index c.args.item.now c.set.result c.self.invariant c.goal.ensures.is_path c.tid.ensures.is_item.sound e c.set.ensures.reply in
+    ap (seen links) c.set.ensures.after ∙ (call.after ∙ ap (λ (w : Watched). rows_after w.rows (Set p c.args.index c.args.item.now c.set.result)) c.self.view_is)
+
+pub returns-clause-notes : goal.returns-clause-notes
+returns-clause-notes g c =
+    let s : Rows = g.D.Database.rows c.self.inside.tree in
+    let links : List Link = c.self.inside.links.items in
+    let p : List (List ℕ) = c.args.path.now in
+    let q : List (List ℕ) = c.goal.result.now in
+    let e : resolved (seen links s) p true ≡ Ok q =
+    subst (λ (l : List Link). resolved (seen l s) p true ≡ Ok (unwrap_or c.in_ok-led.led p)) c.as_slice.ensures.value c.in_ok-led.ensures.led ∙ ap (λ (x : List (List ℕ)). Ok x) (sym c.goal.ensures.path) in
+    let call = set_seen links s p q c.args.index c.args.item.now c.set.result c.self.invariant c.goal.ensures.is_path c.tid.ensures.is_item.sound e c.set.ensures.reply in
+    c.set.ensures.notes ∙ (call.notes (g.D.Database.watches c.self.inside.tree) ∙ ap (λ (w : Watched). all_noted (changes_of w.rows (Set p c.args.index c.args.item.now c.set.result)) w.slots) c.self.view_is)
+
+pub invariant_of-self : goal.invariant_of-self
+invariant_of-self g c =
+    let s : Rows = g.D.Database.rows c.self.inside.tree in
+    let links : List Link = c.self.inside.links.items in
+    let p : List (List ℕ) = c.args.path.now in
+    let q : List (List ℕ) = c.goal.result.now in
+    let e : resolved (seen links s) p true ≡ Ok q =
+    subst (λ (l : List Link). resolved (seen l s) p true ≡ Ok (unwrap_or c.in_ok-led.led p)) c.as_slice.ensures.value c.in_ok-led.ensures.led ∙ ap (λ (x : List (List ℕ)). Ok x) (sym c.goal.ensures.path) in
+    let call = set_seen links s p q c.args.index c.args.item.now c.set.result c.self.invariant c.goal.ensures.is_path c.tid.ensures.is_item.sound e c.set.ensures.reply in
+    subst (AreLinks links) (sym c.set.ensures.after) call.links_kept
