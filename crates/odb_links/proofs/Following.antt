@@ -19,7 +19,7 @@ use Rattle.odb_tree.specs.Calls.{Gives}
 use Rattle.odb_tree.proofs.EachRow.{row_has}
 use Rattle.odb_tree.proofs.Led.{no_link_row}
 use Rattle.odb_links.specs.declared.links.Link.{Link}
-use Rattle.odb_links.specs.Seen.{link_numbered, is_linked, typed, as_seen, seen, HasText, IsRight, AreLinks}
+use Rattle.odb_links.specs.Seen.{link_numbered, is_linked, typed, as_seen, seen, HoldsLinkText, IsRight, AreLinks}
 use Rattle.odb_links.specs.declared.leading.Hit.{Hit}
 use Rattle.odb_links.specs.Places.{hit_at, hit_among, met_by}
 use Rattle.odb_links.proofs.Retyped.{row_mapped}

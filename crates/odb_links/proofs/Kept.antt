@@ -27,7 +27,7 @@ use Rattle.odb_tree.specs.Noting.{all_noted, changes_of_put}
 use Rattle.odb_tree.proofs.EachRow.{row_has}
 use Rattle.odb_tree.proofs.Sound.{ok_none, database_put}
 use Rattle.odb_links.specs.declared.links.Link.{Link}
-use Rattle.odb_links.specs.Seen.{link_numbered, is_linked, typed, as_seen, seen, AreInOrder, HasText, IsRight, AreLinks, with_link}
+use Rattle.odb_links.specs.Seen.{link_numbered, is_linked, typed, as_seen, seen, LinksRise, HoldsLinkText, IsRight, AreLinks, with_link}
 use Rattle.odb_links.specs.Writing.{IsForLinks}
 use Rattle.odb_links.proofs.Retyped.{row_mapped, obstacle_mapped, limit_mapped, change_mapped}
 use Rattle.odb_links.proofs.Marked.{seen_retypes, seen_linked, seen_same, unlinked_above, right_at, right_plain, way_seen, created_seen}
@@ -75,20 +75,20 @@ same_linked links n m target linked = elim (eqb_tells m n) [
     not_both : {t : Bool} → t ≡ true → t ≡ false → ⊥
     not_both h k = cc
 
-order_replaced : (from : ℕ) (links : List Link) (next n : ℕ) (target : List (List ℕ)) → AreInOrder from links next → is_linked links n ≡ true → AreInOrder from (with_link links n target) next
+order_replaced : (from : ℕ) (links : List Link) (next n : ℕ) (target : List (List ℕ)) → LinksRise from links next → is_linked links n ≡ true → LinksRise from (with_link links n target) next
 order_replaced from [] next n target h linked = absurd (cc)
 order_replaced from (x ∷ xs) next n target h linked = at (eqb x.row n) refl linked (λ k. order_replaced (x.row + 1) xs next n target h.1 k)
   where
-    at : (t : Bool) → eqb x.row n ≡ t → is_some (cond t (Some x) (link_numbered xs n)) ≡ true → (is_linked xs n ≡ true → AreInOrder (x.row + 1) (with_link xs n target) next)
-        → AreInOrder from (cond t (record { row = n; target = target } ∷ xs) (x ∷ with_link xs n target)) next
-    at true e k ih = let same : x.row ≡ n = test_is x.row n e in (subst (λ (m : ℕ). from ≤ m) same h.0, subst (λ (m : ℕ). AreInOrder (m + 1) xs next) same h.1)
+    at : (t : Bool) → eqb x.row n ≡ t → is_some (cond t (Some x) (link_numbered xs n)) ≡ true → (is_linked xs n ≡ true → LinksRise (x.row + 1) (with_link xs n target) next)
+        → LinksRise from (cond t (record { row = n; target = target } ∷ xs) (x ∷ with_link xs n target)) next
+    at true e k ih = let same : x.row ≡ n = test_is x.row n e in (subst (λ (m : ℕ). from ≤ m) same h.0, subst (λ (m : ℕ). LinksRise (m + 1) xs next) same h.1)
     at false e k ih = (h.0, ih k)
 
-order_pushed : (from : ℕ) (links : List Link) (next n more : ℕ) (target : List (List ℕ)) → AreInOrder from links next → next ≤ n → n < more → AreInOrder from (with_link links n target) more
+order_pushed : (from : ℕ) (links : List Link) (next n more : ℕ) (target : List (List ℕ)) → LinksRise from links next → next ≤ n → n < more → LinksRise from (with_link links n target) more
 order_pushed from [] next n more target h l k = (omega (arith, h, l), omega (arith, k))
 order_pushed from (x ∷ xs) next n more target h l k =
     let rest = unlinked_above (x.row + 1) xs next n h.1 l in
-    subst (λ (t : Bool). AreInOrder from (cond t (record { row = n; target = target } ∷ xs) (x ∷ with_link xs n target)) more) (sym (test_false x.row n (λ e. absurd (omega (arith, e, rest.1, l)))))
+    subst (λ (t : Bool). LinksRise from (cond t (record { row = n; target = target } ∷ xs) (x ∷ with_link xs n target)) more) (sym (test_false x.row n (λ e. absurd (omega (arith, e, rest.1, l)))))
     (h.0, order_pushed (x.row + 1) xs next n more target h.1 l k)
 
 -- numbers of rows
@@ -121,11 +121,11 @@ rising_lower from low (x ∷ xs) next l h = All-cons (λ (r : Row). low ≤ r.nu
 
 -- rows with other numbers are right as before
 right_other : (links : List Link) (n : ℕ) (target : List (List ℕ)) (r : Row) → r.number ≢ n → IsRight links r → IsRight (with_link links n target) r
-right_other links n target r other right = subst (λ (o : Option Link). IfSome o (λ (l : Link). HasText l.target r)) (sym (with_other links n r.number target other)) right
+right_other links n target r other right = subst (λ (o : Option Link). IfSome o (λ (l : Link). HoldsLinkText l.target r)) (sym (with_other links n r.number target other)) right
 
-right_here : (links : List Link) (n : ℕ) (target : List (List ℕ)) (r : Row) → r.number ≡ n → HasText target r → IsRight (with_link links n target) r
+right_here : (links : List Link) (n : ℕ) (target : List (List ℕ)) (r : Row) → r.number ≡ n → HoldsLinkText target r → IsRight (with_link links n target) r
 right_here links n target r is text =
-    subst (λ (o : Option Link). IfSome o (λ (l : Link). HasText l.target r)) (sym (ap (link_numbered (with_link links n target)) is ∙ with_same links n target)) text
+    subst (λ (o : Option Link). IfSome o (λ (l : Link). HoldsLinkText l.target r)) (sym (ap (link_numbered (with_link links n target)) is ∙ with_same links n target)) text
 
 -- what is written: a text in the database below, which is a link here
 pub record IsText (v : HeldValue) (target : List (List ℕ)) : Type 0 where
@@ -133,7 +133,7 @@ pub record IsText (v : HeldValue) (target : List (List ℕ)) : Type 0 where
   pub link : IsLink (typed tid.Link v)
   pub goes : target_of_items v.items ≡ target
 
-has_text : (v : HeldValue) (target : List (List ℕ)) (r : Row) → IsText v target → r.value ≡ Some v → HasText target r
+has_text : (v : HeldValue) (target : List (List ℕ)) (r : Row) → IsText v target → r.value ≡ Some v → HoldsLinkText target r
 has_text v target r h e = record { held = v; value = e; of_type = h.of_type; link = h.link; goes = ap target_of_value e ∙ h.goes }
 
 -- the rows

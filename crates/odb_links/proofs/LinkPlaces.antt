@@ -12,21 +12,21 @@ use Rattle.std.proofs.lemmas.Bool.{cases_lt}
 use Rattle.std.proofs.lemmas.Bool.Decides.{nat_tests}
 use Rattle.odb_tree.specs.Limits.{IsWithin}
 use Rattle.odb_links.specs.declared.links.Link.{Link}
-use Rattle.odb_links.specs.Seen.{link_numbered, AreInOrder, AreLinks, with_link}
-use Rattle.odb_links.specs.Places.{StandsAt}
+use Rattle.odb_links.specs.Seen.{link_numbered, LinksRise, AreLinks, with_link}
+use Rattle.odb_links.specs.Places.{LinkStands}
 use Rattle.odb_links.proofs.Marked.{order_longer}
 
-pub order_wide : (links : List Link) (next : ℕ) → AreInOrder 1 links next → next ≤ 2 ^ 32 → AreInOrder 1 links (2 ^ 32)
+pub order_wide : (links : List Link) (next : ℕ) → LinksRise 1 links next → next ≤ 2 ^ 32 → LinksRise 1 links (2 ^ 32)
 order_wide links next h l = order_longer 1 links next (2 ^ 32) h l
 
 -- numbers rise
 
-row_from : (from : ℕ) (links : List Link) (next i : ℕ) (d : Link) → AreInOrder from links next → i < length links → from ≤ (get_or links i d).row
+row_from : (from : ℕ) (links : List Link) (next i : ℕ) (d : Link) → LinksRise from links next → i < length links → from ≤ (get_or links i d).row
 row_from from [] next i d h l = absurd (omega (arith, l))
 row_from from (x ∷ xs) next zero d h l = h.0
 row_from from (x ∷ xs) next (suc i) d h l = let rest = row_from (x.row + 1) xs next i d h.1 (omega (arith, l)) in omega (arith, rest, h.0)
 
-rows_rise : (from : ℕ) (links : List Link) (next i j : ℕ) (d : Link) → AreInOrder from links next → i ≤ j → j < length links → (get_or links i d).row ≤ (get_or links j d).row
+rows_rise : (from : ℕ) (links : List Link) (next i j : ℕ) (d : Link) → LinksRise from links next → i ≤ j → j < length links → (get_or links i d).row ≤ (get_or links j d).row
 rows_rise from [] next i j d h le l = absurd (omega (arith, l))
 rows_rise from (x ∷ xs) next zero zero d h le l = omega arith
 rows_rise from (x ∷ xs) next zero (suc j) d h le l = let rest = row_from (x.row + 1) xs next j d h.1 (omega (arith, l)) in omega (arith, rest)
@@ -53,7 +53,7 @@ index_rises a b n Greater Less le p q = absurd (omega arith)
 index_rises a b n Greater Equal le p q = absurd (omega arith)
 index_rises a b n Greater Greater le p q = omega arith
 
-searchable : (n : ℕ) (links : List Link) (next : ℕ) → AreInOrder 1 links next → IsNonDecreasingBy (λ (l : Link). ordering_index (nat_cmp l.row n)) links
+searchable : (n : ℕ) (links : List Link) (next : ℕ) → LinksRise 1 links next → IsNonDecreasingBy (λ (l : Link). ordering_index (nat_cmp l.row n)) links
 searchable n links next h i j d le below =
     let a : ℕ = (get_or links i d).row in
     let b : ℕ = (get_or links j d).row in
@@ -66,7 +66,7 @@ test_false : (a b : ℕ) → a ≢ b → eqb a b ≡ false
 test_false a b h = grind (arith, nat_tests, h)
 
 -- the link at a place is found, and another put there
-found_at : (from : ℕ) (links : List Link) (next at n : ℕ) (d : Link) → AreInOrder from links next → at < length links → (get_or links at d).row ≡ n
+found_at : (from : ℕ) (links : List Link) (next at n : ℕ) (d : Link) → LinksRise from links next → at < length links → (get_or links at d).row ≡ n
     → (link_numbered links n ≡ Some (get_or links at d)) × ((target : List (List ℕ)) → with_link links n target ≡ slice_set links at (record { row = n; target = target }))
 found_at from [] next at n d h l is = absurd (omega (arith, l))
 found_at from (x ∷ xs) next zero n d h l is =
@@ -87,8 +87,8 @@ not_found [] n h = refl
 not_found (x ∷ xs) n h =
     ap (λ (t : Bool). cond t (Some x) (link_numbered xs n)) (test_false x.row n (h 0 x (omega arith))) ∙ not_found xs n (λ k d l. h (suc k) d (omega (arith, l)))
 
-pub link_found : (links : List Link) (n next : ℕ) (r : Result ℕ ℕ) → AreInOrder 1 links next → IsBinarySearchResult (λ (l : Link). nat_cmp l.row n) links r → IsSearchInRange r (length links)
-    → MatchResult r (StandsAt links n) (λ _. link_numbered links n ≡ None)
+pub link_found : (links : List Link) (n next : ℕ) (r : Result ℕ ℕ) → LinksRise 1 links next → IsBinarySearchResult (λ (l : Link). nat_cmp l.row n) links r → IsSearchInRange r (length links)
+    → MatchResult r (LinkStands links n) (λ _. link_numbered links n ≡ None)
 link_found links n next (Ok i) h is range = record {
   below = range;
   row_is = λ d. equal_if (get_or links i d).row n _ refl (is d);
@@ -102,7 +102,7 @@ link_found links n next (Err i) h is range =
     ])
 
 -- another target at its place, or a link at the end
-pub replaced : (links : List Link) (n next at : ℕ) (target : List (List ℕ)) → AreInOrder 1 links next → StandsAt links n at → slice_set links at (record { row = n; target = target }) ≡ with_link links n target
+pub replaced : (links : List Link) (n next at : ℕ) (target : List (List ℕ)) → LinksRise 1 links next → LinkStands links n at → slice_set links at (record { row = n; target = target }) ≡ with_link links n target
 replaced links n next at target h stands =
     let d : Link = record { row = n; target = target } in sym ((found_at 1 links next at n d h stands.below (stands.row_is d)).1 target)
 

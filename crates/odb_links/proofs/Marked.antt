@@ -17,7 +17,7 @@ use Rattle.odb_tree.specs.Links.{is_link, is_link_value, target_of, target_of_va
 use Rattle.odb_tree.specs.Trees.{AreRising, IsTree}
 use Rattle.odb_tree.proofs.EachRow.{row_has}
 use Rattle.odb_links.specs.declared.links.Link.{Link}
-use Rattle.odb_links.specs.Seen.{link_numbered, is_linked, typed, as_seen, seen, AreInOrder, HasText, IsRight, AreLinks, with_link}
+use Rattle.odb_links.specs.Seen.{link_numbered, is_linked, typed, as_seen, seen, LinksRise, HoldsLinkText, IsRight, AreLinks, with_link}
 use Rattle.odb_links.proofs.Retyped.{Retypes, way_mapped}
 
 -- rows as they are seen
@@ -87,18 +87,18 @@ test_self : (a b : ℕ) → a ≡ b → eqb a b ≡ true
 test_self a b h = grind (arith, nat_tests, h)
 
 -- a number that no row has yet is no link's
-pub unlinked_above : (from : ℕ) (links : List Link) (next n : ℕ) → AreInOrder from links next → next ≤ n → (link_numbered links n ≡ None) × (from ≤ next)
+pub unlinked_above : (from : ℕ) (links : List Link) (next n : ℕ) → LinksRise from links next → next ≤ n → (link_numbered links n ≡ None) × (from ≤ next)
 unlinked_above from [] next n h l = (refl, h)
 unlinked_above from (x ∷ xs) next n h l =
     let rest = unlinked_above (x.row + 1) xs next n h.1 l in
     (ap (λ (t : Bool). cond t (Some x) (link_numbered xs n)) (test_false x.row n (omega (arith, rest.1, l))) ∙ rest.0, omega (arith, h.0, rest.1))
 
-pub unlinked_below : (from : ℕ) (links : List Link) (next n : ℕ) → AreInOrder from links next → n < from → link_numbered links n ≡ None
+pub unlinked_below : (from : ℕ) (links : List Link) (next n : ℕ) → LinksRise from links next → n < from → link_numbered links n ≡ None
 unlinked_below from [] next n h l = refl
 unlinked_below from (x ∷ xs) next n h l =
     ap (λ (t : Bool). cond t (Some x) (link_numbered xs n)) (test_above x.row n (omega (arith, h.0, l))) ∙ unlinked_below (x.row + 1) xs next n h.1 (omega (arith, h.0, l))
 
-pub order_longer : (from : ℕ) (links : List Link) (next more : ℕ) → AreInOrder from links next → next ≤ more → AreInOrder from links more
+pub order_longer : (from : ℕ) (links : List Link) (next more : ℕ) → LinksRise from links next → next ≤ more → LinksRise from links more
 order_longer from [] next more h l = omega (arith, h, l)
 order_longer from (x ∷ xs) next more h l = (h.0, order_longer (x.row + 1) xs next more h.1 l)
 
@@ -114,10 +114,10 @@ no_link_at links n h = of_test (link_numbered links n) h
 
 -- a row that is no link's is right
 pub right_plain : (links : List Link) (r : Row) → link_numbered links r.number ≡ None → IsRight links r
-right_plain links r h = subst (λ (o : Option Link). IfSome o (λ (l : Link). HasText l.target r)) (sym h) tt
+right_plain links r h = subst (λ (o : Option Link). IfSome o (λ (l : Link). HoldsLinkText l.target r)) (sym h) tt
 
-pub right_at : (links : List Link) (r : Row) (l : Link) → IsRight links r → link_numbered links r.number ≡ Some l → HasText l.target r
-right_at links r l h e = subst (λ (o : Option Link). IfSome o (λ (x : Link). HasText x.target r)) e h
+pub right_at : (links : List Link) (r : Row) (l : Link) → IsRight links r → link_numbered links r.number ≡ Some l → HoldsLinkText l.target r
+right_at links r l h e = subst (λ (o : Option Link). IfSome o (λ (x : Link). HoldsLinkText x.target r)) e h
 
 -- new rows
 

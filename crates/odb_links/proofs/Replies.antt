@@ -28,7 +28,7 @@ use Rattle.odb_tree.proofs.EachRow.{row_has, all_changed}
 use Rattle.odb_tree.proofs.Led.{none_at_end, resolved_freed}
 use Rattle.odb_tree.proofs.WalkLaws.{true_false}
 use Rattle.odb_links.specs.declared.links.Link.{Link}
-use Rattle.odb_links.specs.Seen.{link_numbered, is_linked, typed, as_seen, seen, AreInOrder, HasText, IsRight, AreLinks}
+use Rattle.odb_links.specs.Seen.{link_numbered, is_linked, typed, as_seen, seen, LinksRise, HoldsLinkText, IsRight, AreLinks}
 use Rattle.odb_links.specs.Writing.{IsFree}
 use Rattle.odb_links.proofs.Retyped.{Retypes, row_mapped, numbered_mapped, there_mapped, obstacle_mapped, sought, seek_mapped, dir_fault_mapped, absent_mapped, number_found_mapped, exists_mapped, outside_mapped, children_mapped, limit_mapped, path_mapped, below_mapped, change_mapped}
 use Rattle.odb_links.proofs.Above.{root_free}
@@ -82,7 +82,7 @@ same_new_number links s q = ap (λ (w : Way). s.next + length w.dirs) (way_seen 
 -- new rows
 
 -- a row with a new number is no link's
-pub created_plain : (links : List Link) (s : Rows) (q : List (List ℕ)) (value : Option HeldValue) → AreInOrder 1 links s.next → created (seen links s) q value ≡ seen links (created s q value)
+pub created_plain : (links : List Link) (s : Rows) (q : List (List ℕ)) (value : Option HeldValue) → LinksRise 1 links s.next → created (seen links s) q value ≡ seen links (created s q value)
 created_plain links s q value order =
     created_seen links links s q value value refl
     (seen_plain links (new_row s q value) (not_linked links (new_number s q) (unlinked_above 1 links s.next (new_number s q) order (omega arith)).0))
@@ -142,7 +142,7 @@ resize_same links s q len free = ap (resize_reply_to (seen links s) q len) (same
     at (Ok key) =
         ap (λ (o : Option OdbRefusal). reply_or o key.0) (same_limit links (len_fault len) (after_resize (seen links s) q len) (after_resize s q len) (resize_leaves links s q len free))
 
-pub set_all_leaves : (links : List Link) (s : Rows) (q : List (List ℕ)) (v : HeldValue) → AreInOrder 1 links s.next → IsFree links s q → after_set_all (seen links s) q v ≡ seen links (after_set_all s q v)
+pub set_all_leaves : (links : List Link) (s : Rows) (q : List (List ℕ)) (v : HeldValue) → LinksRise 1 links s.next → IsFree links s q → after_set_all (seen links s) q v ≡ seen links (after_set_all s q v)
 set_all_leaves links s q v order free = ap (after_set_all_at (seen links s) q v) (same_row links s q free) ∙ at (row_at s.rows q)
   where
     at : (o : Option Row) → after_set_all_at (seen links s) q v o ≡ seen links (after_set_all_at s q v o)
@@ -161,7 +161,7 @@ number_same links s q free = ap (number_at (seen links s) q) (same_row links s q
     at (Some r) = refl
 
 -- with any refusal of types
-pub write_same : (links : List Link) (s : Rows) (q : List (List ℕ)) (v : HeldValue) (refused : Option OdbRefusal) → AreInOrder 1 links s.next → IsFree links s q
+pub write_same : (links : List Link) (s : Rows) (q : List (List ℕ)) (v : HeldValue) (refused : Option OdbRefusal) → LinksRise 1 links s.next → IsFree links s q
     → reply_or (option_or (obstacle_to_new (seen links s).rows q) (option_or (value_fault (seen links s).rows q) (option_or refused (option_or (there_fault v.tid (row_at (seen links s).rows q)) (limit_fault (own_fault v) (after_set_all (seen links s) q v))))))
     (number_at (seen links s) q (row_at (seen links s).rows q))
     ≡ reply_or (option_or (obstacle_to_new s.rows q) (option_or (value_fault s.rows q) (option_or refused (option_or (there_fault v.tid (row_at s.rows q)) (limit_fault (own_fault v) (after_set_all s q v)))))) (number_at s q (row_at s.rows q))
@@ -169,7 +169,7 @@ write_same links s q v refused order free =
     let obstacle : obstacle_to_new (seen links s).rows q ≡ obstacle_to_new s.rows q = obstacle_mapped (as_seen links) (seen_retypes links) None s.rows [] (parent_of q) in
     rw (obstacle, value_same links s q free, number_same links s q free, same_limit links (own_fault v) (after_set_all (seen links s) q v) (after_set_all s q v) (set_all_leaves links s q v order free), same_row links s q free) refl
 
-pub set_all_same : (links : List Link) (s : Rows) (q : List (List ℕ)) (v : HeldValue) → AreInOrder 1 links s.next → IsFree links s q → set_all_reply (seen links s) q v ≡ set_all_reply s q v
+pub set_all_same : (links : List Link) (s : Rows) (q : List (List ℕ)) (v : HeldValue) → LinksRise 1 links s.next → IsFree links s q → set_all_reply (seen links s) q v ≡ set_all_reply s q v
 set_all_same links s q v order free = write_same links s q v (tid_fault v.tid) order free
 
 -- look-ups
@@ -206,15 +206,15 @@ delete_same links s p =
 -- links stay
 
 -- rows made have new numbers
-right_made : (links : List Link) (s : Rows) (q : List (List ℕ)) (value : Option HeldValue) → AreInOrder 1 links s.next → All (IsRight links) s.rows → All (IsRight links) (created s q value).rows
+right_made : (links : List Link) (s : Rows) (q : List (List ℕ)) (value : Option HeldValue) → LinksRise 1 links s.next → All (IsRight links) s.rows → All (IsRight links) (created s q value).rows
 right_made links s q value order right =
     All-append (IsRight links) s.rows ((way_to s q).dirs ++ new_row s q value ∷ []) right
     (All-push (IsRight links) (way_to s q).dirs (new_row s q value)
     (All-weaker (λ (r : Row). s.next ≤ r.number) (IsRight links) (λ r l. right_plain links r (unlinked_above 1 links s.next r.number order l).0) (way_to s q).dirs (made_above s q))
     (right_plain links (new_row s q value) (unlinked_above 1 links s.next (new_number s q) order (omega arith)).0))
 
-pub right_created : (links : List Link) (s : Rows) (q : List (List ℕ)) (value : Option HeldValue) → AreInOrder 1 links s.next → All (IsRight links) s.rows
-    → AreInOrder 1 links (created s q value).next × All (IsRight links) (created s q value).rows
+pub right_created : (links : List Link) (s : Rows) (q : List (List ℕ)) (value : Option HeldValue) → LinksRise 1 links s.next → All (IsRight links) s.rows
+    → LinksRise 1 links (created s q value).next × All (IsRight links) (created s q value).rows
 right_created links s q value order right = (order_longer 1 links s.next (created s q value).next order (omega arith), right_made links s q value order right)
 
 pub right_changed : (links : List Link) (s : Rows) (q : List (List ℕ)) (g : HeldValue → HeldValue) → IsFree links s q → All (IsRight links) s.rows → All (IsRight links) (change_at s.rows q g)

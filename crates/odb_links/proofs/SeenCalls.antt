@@ -28,7 +28,7 @@ use Rattle.odb_tree.proofs.Noted.{none_noted}
 use Rattle.odb_tree.proofs.Led.{unlinked, unmet, after_unlinked, resolved_path}
 use Rattle.odb_tree.proofs.Sound.{database_after, links_after}
 use Rattle.odb_links.specs.declared.links.Link.{Link}
-use Rattle.odb_links.specs.Seen.{is_linked, as_seen, seen, AreInOrder, IsRight, AreLinks}
+use Rattle.odb_links.specs.Seen.{is_linked, as_seen, seen, LinksRise, IsRight, AreLinks}
 use Rattle.odb_links.specs.Writing.{IsFree}
 use Rattle.odb_links.proofs.Marked.{order_longer}
 use Rattle.odb_links.proofs.Replies.{free_after, IsNoLink, created_plain, create_same, set_leaves, set_same, resize_leaves, resize_same, set_all_leaves, set_all_same, get_same, find_same, list_same, below_same, right_created, right_changed}
@@ -68,7 +68,7 @@ pub record IsSeenAs (links : List Link) (s : Rows) (step entry : DatabaseEntry) 
   pub notes : (ws : List (Option Watch)) → all_noted (changes_of s step) ws ≡ all_noted (changes_of (seen links s) entry) ws
 
 -- links are kept where the order and the texts are
-pub still_links : (links : List Link) (s : Rows) (step : DatabaseEntry) → AreLinks links s → IsSoundCall step → IsRowsReply s step → AreInOrder 1 links (rows_after s step).next × All (IsRight links) (rows_after s step).rows → AreLinks links (rows_after s step)
+pub still_links : (links : List Link) (s : Rows) (step : DatabaseEntry) → AreLinks links s → IsSoundCall step → IsRowsReply s step → LinksRise 1 links (rows_after s step).next × All (IsRight links) (rows_after s step).rows → AreLinks links (rows_after s step)
 still_links links s step h sound reply kept = record {
   plain = links_after s step reply ∙ h.plain;
   database = database_after s step h.database sound reply;
@@ -97,8 +97,8 @@ create_seen links s p q kind reply h plain path e given = record {
     sound (Keys type len) no_link = tt
     sound (new_link target) no_link = absurd (no_link target refl)
 
-    kept : (reply : Result ℕ OdbRefusal) → AreInOrder 1 links (rows_after s (Create q kind reply)).next × All (IsRight links) (rows_after s (Create q kind reply)).rows
-    kept (Ok n) = subst (λ (t : Rows). AreInOrder 1 links t.next × All (IsRight links) t.rows) (sym (after_unlinked s (Create q kind (Ok n)) h.plain)) (right_created links s q (new_value kind) h.order h.right)
+    kept : (reply : Result ℕ OdbRefusal) → LinksRise 1 links (rows_after s (Create q kind reply)).next × All (IsRight links) (rows_after s (Create q kind reply)).rows
+    kept (Ok n) = subst (λ (t : Rows). LinksRise 1 links t.next × All (IsRight links) t.rows) (sym (after_unlinked s (Create q kind (Ok n)) h.plain)) (right_created links s q (new_value kind) h.order h.right)
     kept (Err why) = (h.order, h.right)
 
     leaves : (k : NewKey) (reply : Result ℕ OdbRefusal) → seen links (rows_after s (Create q k reply)) ≡ rows_after (seen links s) (Create p k reply)
@@ -140,8 +140,8 @@ set_seen links s p q index item reply h path sound e given = record {
     free : IsFree links s q
     free = free_after links s p q h e
 
-    kept : (reply : Result ℕ OdbRefusal) → AreInOrder 1 links (rows_after s (Set q index item reply)).next × All (IsRight links) (rows_after s (Set q index item reply)).rows
-    kept (Ok n) = subst (λ (t : Rows). AreInOrder 1 links t.next × All (IsRight links) t.rows) (sym (after_unlinked s (Set q index item (Ok n)) h.plain)) (h.order, right_changed links s q (λ v. put_in v index item) free h.right)
+    kept : (reply : Result ℕ OdbRefusal) → LinksRise 1 links (rows_after s (Set q index item reply)).next × All (IsRight links) (rows_after s (Set q index item reply)).rows
+    kept (Ok n) = subst (λ (t : Rows). LinksRise 1 links t.next × All (IsRight links) t.rows) (sym (after_unlinked s (Set q index item (Ok n)) h.plain)) (h.order, right_changed links s q (λ v. put_in v index item) free h.right)
     kept (Err why) = (h.order, h.right)
 
     leaves : (reply : Result ℕ OdbRefusal) → seen links (rows_after s (Set q index item reply)) ≡ rows_after (seen links s) (Set p index item reply)
@@ -151,7 +151,7 @@ set_seen links s p q index item reply h path sound e given = record {
     leaves (Err why) = refl
 
 pub right_written : (links : List Link) (s : Rows) (q : List (List ℕ)) (v : HeldValue) (o : Option Row) → AreLinks links s → IsFree links s q
-    → AreInOrder 1 links (after_set_all_at s q v o).next × All (IsRight links) (after_set_all_at s q v o).rows
+    → LinksRise 1 links (after_set_all_at s q v o).next × All (IsRight links) (after_set_all_at s q v o).rows
 right_written links s q v None h free = right_created links s q (Some v) h.order h.right
 right_written links s q v (Some r) h free = (h.order, right_changed links s q (λ _. v) free h.right)
 
@@ -167,8 +167,8 @@ set_all_seen links s p q v reply h path sound e given = record {
     free : IsFree links s q
     free = free_after links s p q h e
 
-    kept : (reply : Result ℕ OdbRefusal) → AreInOrder 1 links (rows_after s (SetAll q v reply)).next × All (IsRight links) (rows_after s (SetAll q v reply)).rows
-    kept (Ok n) = subst (λ (t : Rows). AreInOrder 1 links t.next × All (IsRight links) t.rows) (sym (after_unlinked s (SetAll q v (Ok n)) h.plain)) (right_written links s q v (row_at s.rows q) h free)
+    kept : (reply : Result ℕ OdbRefusal) → LinksRise 1 links (rows_after s (SetAll q v reply)).next × All (IsRight links) (rows_after s (SetAll q v reply)).rows
+    kept (Ok n) = subst (λ (t : Rows). LinksRise 1 links t.next × All (IsRight links) t.rows) (sym (after_unlinked s (SetAll q v (Ok n)) h.plain)) (right_written links s q v (row_at s.rows q) h free)
     kept (Err why) = (h.order, h.right)
 
     leaves : (reply : Result ℕ OdbRefusal) → seen links (rows_after s (SetAll q v reply)) ≡ rows_after (seen links s) (SetAll p v reply)
@@ -189,8 +189,8 @@ resize_seen links s p q len reply h path e given = record {
     free : IsFree links s q
     free = free_after links s p q h e
 
-    kept : (reply : Result ℕ OdbRefusal) → AreInOrder 1 links (rows_after s (Resize q len reply)).next × All (IsRight links) (rows_after s (Resize q len reply)).rows
-    kept (Ok n) = subst (λ (t : Rows). AreInOrder 1 links t.next × All (IsRight links) t.rows) (sym (after_unlinked s (Resize q len (Ok n)) h.plain)) (h.order, right_changed links s q (λ v. resized v len) free h.right)
+    kept : (reply : Result ℕ OdbRefusal) → LinksRise 1 links (rows_after s (Resize q len reply)).next × All (IsRight links) (rows_after s (Resize q len reply)).rows
+    kept (Ok n) = subst (λ (t : Rows). LinksRise 1 links t.next × All (IsRight links) t.rows) (sym (after_unlinked s (Resize q len (Ok n)) h.plain)) (h.order, right_changed links s q (λ v. resized v len) free h.right)
     kept (Err why) = (h.order, h.right)
 
     leaves : (reply : Result ℕ OdbRefusal) → seen links (rows_after s (Resize q len reply)) ≡ rows_after (seen links s) (Resize p len reply)

@@ -21,7 +21,7 @@ use Rattle.odb_tree.specs.Databases.{IsHeld, IsRow, IsDatabase}
 use Rattle.odb_tree.specs.Calls.{IsRowsReply, rows_after, after_delete, delete_reply, path_with, is_below_path, is_row_below}
 use Rattle.odb_tree.proofs.Sound.{database_after}
 use Rattle.odb_links.specs.declared.links.Link.{Link}
-use Rattle.odb_links.specs.Seen.{link_numbered, is_linked, typed, as_seen, seen, AreInOrder, HasText, IsRight, AreLinks}
+use Rattle.odb_links.specs.Seen.{link_numbered, is_linked, typed, as_seen, seen, LinksRise, HoldsLinkText, IsRight, AreLinks}
 use Rattle.odb_links.proofs.Retyped.{Retypes, total_mapped}
 use Rattle.odb_links.proofs.Marked.{seen_retypes, seen_plain, seen_linked, seen_same, right_at, not_linked, right_plain}
 use Rattle.odb_links.proofs.Replies.{delete_leaves, right_outside}
@@ -167,15 +167,15 @@ filtered_same keep (x ∷ xs) n h = at (keep x) refl (eqb x.row n) refl (filtere
     at false e true k ih = let z : true ≡ false = sym (h x (test_is x.row n k)) ∙ e in absurd (cc)
     at false e false k ih = ih
 
-order_filter : (keep : Link → Bool) (from : ℕ) (links : List Link) (next : ℕ) → AreInOrder from links next → AreInOrder from (filter keep links) next
+order_filter : (keep : Link → Bool) (from : ℕ) (links : List Link) (next : ℕ) → LinksRise from links next → LinksRise from (filter keep links) next
 order_filter keep from [] next h = h
 order_filter keep from (x ∷ xs) next h = at (keep x) (order_filter keep (x.row + 1) xs next h.1)
   where
-    lower : (low high : ℕ) (ls : List Link) → low ≤ high → AreInOrder high ls next → AreInOrder low ls next
+    lower : (low high : ℕ) (ls : List Link) → low ≤ high → LinksRise high ls next → LinksRise low ls next
     lower low high [] l k = omega (arith, l, k)
     lower low high (y ∷ ys) l k = (omega (arith, l, k.0), k.1)
 
-    at : (t : Bool) → AreInOrder (x.row + 1) (filter keep xs) next → AreInOrder from (cond t (x ∷ filter keep xs) (filter keep xs)) next
+    at : (t : Bool) → LinksRise (x.row + 1) (filter keep xs) next → LinksRise from (cond t (x ∷ filter keep xs) (filter keep xs)) next
     at true k = (h.0, k)
     at false k = lower from (x.row + 1) (filter keep xs) (omega (arith, h.0)) k
 
@@ -191,7 +191,7 @@ right_left : (links : List Link) (t : Rows) (rows : List Row) → All (IsThere t
 right_left links t [] there right = All-nil (IsRight (left_links links t))
 right_left links t (r ∷ rs) there right =
     All-cons (IsRight (left_links links t)) r rs
-    (subst (λ (o : Option Link). IfSome o (λ (l : Link). HasText l.target r)) (sym (left_numbered links t r (All-head (IsThere t.rows) r rs there))) (All-head (IsRight links) r rs right))
+    (subst (λ (o : Option Link). IfSome o (λ (l : Link). HoldsLinkText l.target r)) (sym (left_numbered links t r (All-head (IsThere t.rows) r rs there))) (All-head (IsRight links) r rs right))
     (right_left links t rs (All-tail (IsThere t.rows) r rs there) (All-tail (IsRight links) r rs right))
 
 pub record AreLeft (links : List Link) (s t : Rows) (p : List (List ℕ)) : Type 0 where
@@ -206,7 +206,7 @@ links_left links s t p gone h path reply left =
       links_kept = record {
         plain = ap (λ (x : Rows). x.links) left ∙ h.plain;
         database = database;
-        order = order_filter (λ (l : Link). is_row_below t l.row 0) 1 links t.next (subst (λ (x : Rows). AreInOrder 1 links x.next) (sym left) h.order);
+        order = order_filter (λ (l : Link). is_row_below t l.row 0) 1 links t.next (subst (λ (x : Rows). LinksRise 1 links x.next) (sym left) h.order);
         right = right_left links t t.rows there right;
       };
       after = ap (λ (l : List Row). (let x : Rows = record { rows = l; next = t.next; links = true } in x))

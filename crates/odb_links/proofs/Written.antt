@@ -45,7 +45,7 @@ use Rattle.odb_tree.specs.Trees.{IsTree}
 use Rattle.odb_tree.proofs.Led.{unlinked, no_link_row, value_no_link}
 use Rattle.odb_tree.proofs.Sound.{database_put}
 use Rattle.odb_links.specs.declared.links.Link.{Link}
-use Rattle.odb_links.specs.Seen.{link_numbered, is_linked, typed, as_seen, seen, AreInOrder, IsRight, AreLinks}
+use Rattle.odb_links.specs.Seen.{link_numbered, is_linked, typed, as_seen, seen, LinksRise, IsRight, AreLinks}
 use Rattle.odb_links.specs.Writing.{RowAt, IsFree, IsForLinks, as_size, text_held, IsTextTo}
 use Rattle.odb_links.proofs.Retyped.{row_mapped, obstacle_mapped, exists_mapped, seek_mapped, sought}
 use Rattle.odb_links.proofs.Above.{nothing_before, root_free}

@@ -7,7 +7,7 @@ use Rattle.odb_links.specs.declared.leading.Hit.{Hit}
 use Rattle.odb_links.specs.Seen.{link_numbered}
 
 -- the link with this row stands at this place
-pub record StandsAt (links : List Link) (row at : ℕ) : Type 0 where
+pub record LinkStands (links : List Link) (row at : ℕ) : Type 0 where
   pub below : at < length links
   pub row_is : (d : Link) → (slice_index_or links at d).row ≡ row
   pub is : (d : Link) → link_numbered links row ≡ Some (slice_index_or links at d)

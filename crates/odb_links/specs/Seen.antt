@@ -33,12 +33,12 @@ abbrev pub seen : List Link → Rows → Rows
 seen links s = record { rows = map (as_seen links) s.rows; next = s.next; links = true }
 
 -- the links stand in the order of their rows' numbers, which begin here or later and are below the next one
-abbrev pub AreInOrder : (from : ℕ) → List Link → (next : ℕ) → Type 0
-AreInOrder from [] next = from ≤ next
-AreInOrder from (l ∷ ls) next = (from ≤ l.row) × AreInOrder (l.row + 1) ls next
+abbrev pub LinksRise : (from : ℕ) → List Link → (next : ℕ) → Type 0
+LinksRise from [] next = from ≤ next
+LinksRise from (l ∷ ls) next = (from ≤ l.row) × LinksRise (l.row + 1) ls next
 
 -- in the database below, the row of a link to this path is a STRING key with the link's text and item size
-pub record HasText (target : List (List ℕ)) (r : Row) : Type 0 where
+pub record HoldsLinkText (target : List (List ℕ)) (r : Row) : Type 0 where
   pub held : HeldValue
   pub value : r.value ≡ Some held
   pub of_type : held.tid ≡ tid.Text
@@ -47,13 +47,13 @@ pub record HasText (target : List (List ℕ)) (r : Row) : Type 0 where
 
 -- a row that has the number of a link has its text
 abbrev pub IsRight : List Link → Row → Type 0
-IsRight links r = IfSome (link_numbered links r.number) (λ (l : Link). HasText l.target r)
+IsRight links r = IfSome (link_numbered links r.number) (λ (l : Link). HoldsLinkText l.target r)
 
 -- the links are those of some rows of a database that keeps none
 pub record AreLinks (links : List Link) (s : Rows) : Type 0 where
   pub plain : s.links ≡ false
   pub database : IsDatabase s
-  pub order : AreInOrder 1 links s.next
+  pub order : LinksRise 1 links s.next
   pub right : All (IsRight links) s.rows
 
 -- the links where this row is one to this path, too, or in place of another

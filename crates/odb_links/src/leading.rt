@@ -4,7 +4,7 @@ ghost use Rattle.odb_value.specs.Paths.{IsPath};
 ghost use Rattle.odb_tree.specs.declared.refusals.OdbRefusal.TheVariants.{NoMemory as no_memory};
 ghost use Rattle.odb_tree.specs.Links.{first_link, follow, resolved, meets_link};
 ghost use Rattle.odb_tree.specs.Calls.{Gives};
-ghost use Rattle.odb_links.specs.Seen.{link_numbered, AreInOrder, AreLinks, seen};
+ghost use Rattle.odb_links.specs.Seen.{link_numbered, LinksRise, AreLinks, seen};
 ghost use Rattle.odb_links.specs.Places.{hit_at, hit_among, met_by};
 
 use crate::links::{Link, target_of};
@@ -25,7 +25,7 @@ pub struct Hit<'a> {
 
 /// Where the row leads to as a link that is followed, with these names behind it.
 fn target_met<'a>(links: &'a [Link], row: u32, rest: &[Name], last: bool) -> Option<&'a Path>
-    requires { AreInOrder 1 links.now (2 ^ 32) }
+    requires { LinksRise 1 links.now (2 ^ 32) }
     ensures { option_copied result ≡ option_map (λ met. met.target)
         (hit_at last rest.now (link_numbered links.now row)) }
 {
@@ -39,7 +39,7 @@ fn target_met<'a>(links: &'a [Link], row: u32, rest: &[Name], last: bool) -> Opt
 /// The first link that is followed, where the rows at the first of these names, the first two and so on have these
 /// numbers.
 fn hit_among<'a>(links: &'a [Link], numbers: &[u32], names: &[Name], last: bool) -> Option<Hit<'a>>
-    requires order { AreInOrder 1 links.now (2 ^ 32) }
+    requires order { LinksRise 1 links.now (2 ^ 32) }
     requires within { length numbers.now ≤ length names.now }
     ensures first { MatchOption result (hit_among links.now last numbers.now names.now ≡ None)
         (λ hit. hit_among links.now last numbers.now names.now ≡ Some (met_by names.now hit)) }

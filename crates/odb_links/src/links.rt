@@ -2,8 +2,8 @@ ghost use Rattle.std.specs.Prelude.{◌≡◌, ◌<◌, ◌^◌, None, IfOk, Mat
 ghost use Rattle.std.specs.Option.{option_map, option_copied};
 ghost use Rattle.std.specs.List.{filter};
 ghost use Rattle.odb_tree.specs.Calls.{is_row_below};
-ghost use Rattle.odb_links.specs.Seen.{link_numbered, AreInOrder, with_link};
-ghost use Rattle.odb_links.specs.Places.{StandsAt};
+ghost use Rattle.odb_links.specs.Seen.{link_numbered, LinksRise, with_link};
+ghost use Rattle.odb_links.specs.Places.{LinkStands};
 
 use daq_types::NoMemory;
 use odb_tree::Database;
@@ -19,8 +19,8 @@ pub struct Link {
 
 /// Where the link with this row stands.
 fn place_of(links: &[Link], row: u32) -> Option<usize>
-    requires { AreInOrder 1 links.now (2 ^ 32) }
-    ensures { MatchOption result (link_numbered links.now row ≡ None) (StandsAt links.now row) }
+    requires { LinksRise 1 links.now (2 ^ 32) }
+    ensures { MatchOption result (link_numbered links.now row ≡ None) (LinkStands links.now row) }
 {
     match links.binary_search_by_key(&row, |link| link.row) {
         Ok(at) => Some(at),
@@ -30,7 +30,7 @@ fn place_of(links: &[Link], row: u32) -> Option<usize>
 
 /// Where the link with this row goes to, if it is one.
 pub fn target_of(links: &[Link], row: u32) -> Option<&Path>
-    requires { AreInOrder 1 links.now (2 ^ 32) }
+    requires { LinksRise 1 links.now (2 ^ 32) }
     ensures { option_copied result ≡ option_map (λ link. link.target)
         (link_numbered links.now row) }
 {
@@ -42,7 +42,7 @@ pub fn target_of(links: &[Link], row: u32) -> Option<&Path>
 
 /// The row is now that of a link to this path. Takes no memory.
 pub fn keep(links: &mut Vec<Link>, row: u32, target: Path)
-    requires order { AreInOrder 1 links.old.items (2 ^ 32) }
+    requires order { LinksRise 1 links.old.items (2 ^ 32) }
     requires room { vec_len links.old < vec_capacity links.old }
     ensures { links.new.items ≡ with_link links.old.items row target }
 {

@@ -7,7 +7,7 @@ use Rattle.odb_tree.specs.Calls.{Gives, put_reply}
 use Rattle.odb_tree.specs.Noting.{changes_of_put, all_noted}
 use Rattle.odb_tree.proofs.Noted.{none_noted}
 use Rattle.odb_links.specs.declared.links.Link.{Link}
-use Rattle.odb_links.specs.Seen.{seen, typed, AreInOrder}
+use Rattle.odb_links.specs.Seen.{seen, typed, LinksRise}
 use Rattle.odb_links.proofs.LinkPlaces.{order_wide}
 use Rattle.odb_links.proofs.Kept.{reply_written, link_kept}
 use Rattle.odb_links.proofs.making.keep_link.Goals as goal
@@ -27,7 +27,7 @@ returns-in_err-row-clause-reply g c =
 
 pub keep-requires-clause-order : goal.keep-requires-clause-order
 keep-requires-clause-order g c =
-    subst (λ (l : List Link). AreInOrder 1 l (2 ^ 32)) (sym c.reserve.ensures.items) (order_wide c.args.links.now.items _ c.requires.links.order c.requires.links.database.within.next)
+    subst (λ (l : List Link). LinksRise 1 l (2 ^ 32)) (sym c.reserve.ensures.items) (order_wide c.args.links.now.items _ c.requires.links.order c.requires.links.database.within.next)
 
 pub returns-clause-reply : goal.returns-clause-reply
 returns-clause-reply g c =
