@@ -179,7 +179,7 @@ fn ended<R: Wait>(
 }
 
 /// What comes of the run.
-fn outcome<R: Wait>(rt: &R, alloc: Global, plan: Plan) -> Result<Outcome, Fail> {
+fn came_of<R: Wait>(rt: &R, alloc: Global, plan: Plan) -> Result<Outcome, Fail> {
     let mut files = files_before(alloc, plan)?;
     let pattern = Pattern::new("run%05dsub%04d.mid", true)?;
     let end = ended(rt, alloc, &mut files, pattern, plan)?;
@@ -192,7 +192,7 @@ fn outcome<R: Wait>(rt: &R, alloc: Global, plan: Plan) -> Result<Outcome, Fail> 
 }
 
 /// A run in which no call fails.
-fn plan(limit: u32, events: u32, taken: bool) -> Plan {
+fn planned(limit: u32, events: u32, taken: bool) -> Plan {
     Plan {
         limit,
         events,
@@ -243,36 +243,36 @@ fn broken(files: u32, framed: u32, first: usize, second: Option<usize>) -> Outco
 #[test]
 fn a_file_ends_before_it_would_pass_the_limit(rt: HostRuntime) -> Result<(), Fail> {
     let one = whole(1, 136, None, None);
-    assert!(rt; outcome(&rt, rt.alloc(), plan(0, 2, false))? == one);
-    assert!(rt; outcome(&rt, rt.alloc(), plan(121, 2, false))? == one);
-    assert!(rt; outcome(&rt, rt.alloc(), plan(120, 2, false))? == one);
+    assert!(rt; came_of(&rt, rt.alloc(), planned(0, 2, false))? == one);
+    assert!(rt; came_of(&rt, rt.alloc(), planned(121, 2, false))? == one);
+    assert!(rt; came_of(&rt, rt.alloc(), planned(120, 2, false))? == one);
     let two = whole(2, 96, Some(96), None);
-    assert!(rt; outcome(&rt, rt.alloc(), plan(119, 2, false))? == two);
+    assert!(rt; came_of(&rt, rt.alloc(), planned(119, 2, false))? == two);
     let three = whole(3, 96, Some(96), Some(96));
-    assert!(rt; outcome(&rt, rt.alloc(), plan(39, 3, false))? == three);
-    assert!(rt; outcome(&rt, rt.alloc(), plan(119, 0, false))? == whole(1, 56, None, None));
-    assert!(rt; outcome(&rt, rt.alloc(), plan(119, 2, true))? == whole(1, 136, Some(1), None));
+    assert!(rt; came_of(&rt, rt.alloc(), planned(39, 3, false))? == three);
+    assert!(rt; came_of(&rt, rt.alloc(), planned(119, 0, false))? == whole(1, 56, None, None));
+    assert!(rt; came_of(&rt, rt.alloc(), planned(119, 2, true))? == whole(1, 136, Some(1), None));
     Ok(())
 }
 
 /// Where a call fails the files are left so far, and closed.
 #[test]
 fn a_failed_call_breaks_the_channel(rt: HostRuntime) -> Result<(), Fail> {
-    let create = outcome(&rt, rt.alloc(), failing(FileOp::Create, 1))?;
+    let create = came_of(&rt, rt.alloc(), failing(FileOp::Create, 1))?;
     assert!(rt; create == broken(1, 0, 80, None));
-    let end_header = outcome(&rt, rt.alloc(), failing(FileOp::Append, 3))?;
+    let end_header = came_of(&rt, rt.alloc(), failing(FileOp::Append, 3))?;
     assert!(rt; end_header == broken(2, 0, 80, Some(0)));
-    let end_dump = outcome(&rt, rt.alloc(), failing(FileOp::Append, 4))?;
+    let end_dump = came_of(&rt, rt.alloc(), failing(FileOp::Append, 4))?;
     assert!(rt; end_dump == broken(2, 0, 96, Some(0)));
-    let close = outcome(&rt, rt.alloc(), failing(FileOp::Close, 0))?;
+    let close = came_of(&rt, rt.alloc(), failing(FileOp::Close, 0))?;
     assert!(rt; close == broken(2, 0, 96, Some(0)));
-    let begin_header = outcome(&rt, rt.alloc(), failing(FileOp::Append, 5))?;
+    let begin_header = came_of(&rt, rt.alloc(), failing(FileOp::Append, 5))?;
     assert!(rt; begin_header == broken(2, 1, 96, Some(0)));
-    let begin_dump = outcome(&rt, rt.alloc(), failing(FileOp::Append, 6))?;
+    let begin_dump = came_of(&rt, rt.alloc(), failing(FileOp::Append, 6))?;
     assert!(rt; begin_dump == broken(2, 1, 96, Some(16)));
-    let event = outcome(&rt, rt.alloc(), failing(FileOp::Append, 7))?;
+    let event = came_of(&rt, rt.alloc(), failing(FileOp::Append, 7))?;
     assert!(rt; event == broken(2, 1, 96, Some(40)));
-    let last = outcome(&rt, rt.alloc(), failing(FileOp::Append, 8))?;
+    let last = came_of(&rt, rt.alloc(), failing(FileOp::Append, 8))?;
     assert!(rt; last == broken(2, 1, 96, Some(80)));
     Ok(())
 }
