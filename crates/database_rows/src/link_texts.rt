@@ -391,6 +391,24 @@ const TEXTS: &[Row] = &[
             "[/C]\n\n[/C/x]\n\n",
         ),
     ),
+    (
+        "C = LINK : [3] /C\n",
+        "[/C]\n",
+        (
+            Err(KeyRefused {
+                line: 1,
+                why: OdbRefusal::NotDir,
+            }),
+            "[/]\nC = LINK : [3] /C\n\n",
+        ),
+        (
+            Ok(Loaded {
+                keys: 0,
+                skipped: 0,
+            }),
+            "[/C]\n\n",
+        ),
+    ),
 ];
 
 /// Whether a new database has the outcome that a row tells for its kind.

@@ -274,6 +274,20 @@ const LEADS_NOWHERE: Reply = Err(OdbRefusal::BadLink { steps: 16 });
 
 const LINK_NOT_KEPT: Reply = Err(OdbRefusal::NotKept { tid: Tid::Link });
 
+/// A path of 32 names of 31 bytes, the longest that there is, whose text has 1,024 bytes.
+const LONGEST: &str =
+    "/0123456789012345678901234567890/0123456789012345678901234567890/0123456789012345678901234567890\
+    /0123456789012345678901234567890/0123456789012345678901234567890/0123456789012345678901234567890\
+    /0123456789012345678901234567890/0123456789012345678901234567890/0123456789012345678901234567890\
+    /0123456789012345678901234567890/0123456789012345678901234567890/0123456789012345678901234567890\
+    /0123456789012345678901234567890/0123456789012345678901234567890/0123456789012345678901234567890\
+    /0123456789012345678901234567890/0123456789012345678901234567890/0123456789012345678901234567890\
+    /0123456789012345678901234567890/0123456789012345678901234567890/0123456789012345678901234567890\
+    /0123456789012345678901234567890/0123456789012345678901234567890/0123456789012345678901234567890\
+    /0123456789012345678901234567890/0123456789012345678901234567890/0123456789012345678901234567890\
+    /0123456789012345678901234567890/0123456789012345678901234567890/0123456789012345678901234567890\
+    /0123456789012345678901234567890/0123456789012345678901234567890";
+
 /// A database that keeps no links makes none.
 const NO_LINKS: &[Row] = &[
     ("/A", Call::Link("/B"), LINK_NOT_KEPT),
@@ -323,6 +337,10 @@ const LINKS: &[Row] = &[
         Call::Put(Tid::UInt32, 1),
         Err(OdbRefusal::TypeMismatch { have: Tid::Link }),
     ),
+    ("/Q", Call::Link(LONGEST), LIMIT_SIZE),
+    ("/Q", Call::Find, Err(OdbRefusal::NoKey)),
+    ("/A/x", Call::Link(LONGEST), Err(OdbRefusal::Exists)),
+    ("/A/x/y", Call::Link(LONGEST), Err(OdbRefusal::NotDir)),
 ];
 
 /// A link is removed, and not what it leads to.
@@ -335,7 +353,10 @@ const LINKS_ON_COPY: &[Row] = &[
 ];
 
 /// The first database has its links still.
-const LINKS_BEHIND: &[Row] = &[("/M/x", Call::Find, Ok(2)), ("/M/d/k", Call::Raw, Err(OdbRefusal::NotDir))];
+const LINKS_BEHIND: &[Row] = &[
+    ("/M/x", Call::Find, Ok(2)),
+    ("/M/d/k", Call::Raw, Err(OdbRefusal::NotDir)),
+];
 
 /// Makes the calls on a copy of the database.
 fn run_on_copy<D: Database>(
@@ -366,7 +387,12 @@ fn all_databases_reply_by_the_rows(rt: HostRuntime) -> Result<(), Fail> {
     for story in STORIES {
         play(&rt, alloc, PlainTree::new(alloc), *story)?;
         play(&rt, alloc, ArenaTree::new(alloc), *story)?;
-        play(&rt, alloc, LinkTree::new(alloc, ArenaTree::new(alloc)), *story)?;
+        play(
+            &rt,
+            alloc,
+            LinkTree::new(alloc, ArenaTree::new(alloc)),
+            *story,
+        )?;
     }
     Ok(())
 }
@@ -378,6 +404,16 @@ fn links_are_followed_where_they_are_kept(rt: HostRuntime) -> Result<(), Fail> {
     play(&rt, alloc, PlainTree::new(alloc), none)?;
     play(&rt, alloc, ArenaTree::new(alloc), none)?;
     let some: Story = (LINKS, LINKS_ON_COPY, LINKS_BEHIND);
-    play(&rt, alloc, LinkTree::new(alloc, PlainTree::new(alloc)), some)?;
-    play(&rt, alloc, LinkTree::new(alloc, ArenaTree::new(alloc)), some)
+    play(
+        &rt,
+        alloc,
+        LinkTree::new(alloc, PlainTree::new(alloc)),
+        some,
+    )?;
+    play(
+        &rt,
+        alloc,
+        LinkTree::new(alloc, ArenaTree::new(alloc)),
+        some,
+    )
 }

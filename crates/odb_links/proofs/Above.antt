@@ -1,23 +1,21 @@
 -- In a tree nothing stands below a path at which no directory is.
-use Rattle.std.proofs.Common.{◌≡◌, ◌≢◌, Result, Ok, Err, ℕ, ◌<◌, Bool, true, false, cond, List, [], ◌∷◌, ◌++◌, length, Option, Some, None, ◌⊎◌, inl, inr, refl, sym, ap, ◌∙◌, subst, arith, length-append, append_assoc, append-nil, ◌+◌, ◌-◌, take, get_or}
-use Rattle.std.specs.Option.{option_or, option_map, is_some}
-use Rattle.std.specs.List.{find}
+use Rattle.std.proofs.Common.{◌≡◌, ◌≢◌, Ok, Err, ℕ, ◌<◌, Bool, true, false, cond, List, [], ◌∷◌, ◌++◌, length, Option, Some, None, ◌⊎◌, inl, inr, refl, sym, ap, ◌∙◌, subst, arith, length-append, append_assoc, append-nil, ◌+◌, ◌-◌, take, get_or}
+use Rattle.std.specs.Option.{option_or}
 use Rattle.std.proofs.lemmas.List.{take_more, take_all}
-use Rattle.odb_value.specs.Paths.{is_front, same_path}
+use Rattle.odb_value.specs.Paths.{same_path}
 use Rattle.odb_tree.specs.declared.rows.Row.{Row}
 use Rattle.odb_tree.specs.declared.refusals.OdbRefusal.{OdbRefusal}
 use Rattle.odb_tree.specs.declared.refusals.OdbRefusal.TheVariants.{NotDir, NoKey}
 use Rattle.odb_tree.specs.Rows.{Rows, row_at, is_key}
-use Rattle.odb_tree.specs.Lookups.{parent_of, obstacle_at, obstacle_from, obstacle_to, found_row, seek}
+use Rattle.odb_tree.specs.Lookups.{parent_of, obstacle_at, obstacle_from, obstacle_to, found_row}
 use Rattle.odb_tree.specs.Calls.{number_reply, find_reply}
-use Rattle.odb_tree.specs.Links.{numbers_along, number_and}
 use Rattle.odb_tree.specs.Trees.{HasDir, IsDir, IsPlaced, ArePlaced, AreApart, IsTree}
 use Rattle.odb_tree.specs.WalkLaws.{NoneAt}
-use Rattle.odb_tree.proofs.WalkLaws.{true_false, front_trans}
+use Rattle.odb_tree.proofs.WalkLaws.{front_trans}
 use Rattle.odb_tree.proofs.Trees.{front_more, front_within, same_long, same_front, long_same, none_same, is_dir_append}
 use Rattle.odb_tree.proofs.Placed.{none_around}
 
-found_or : (t : Bool) (x r : Row) (o : Option Row) → cond t (Some x) o ≡ Some r → ((t ≡ true) × (x ≡ r)) ⊎ ((t ≡ false) × (o ≡ Some r))
+pub found_or : (t : Bool) (x r : Row) (o : Option Row) → cond t (Some x) o ≡ Some r → ((t ≡ true) × (x ≡ r)) ⊎ ((t ≡ false) × (o ≡ Some r))
 found_or true x r o h = inl (refl, cc)
 found_or false x r o h = inr (refl, h)
 

@@ -1,25 +1,22 @@
 -- The links that a path meets, from the numbers of the rows along it, and the path after them.
-use Rattle.std.proofs.Common.{◌≡◌, ◌≢◌, ℕ, zero, suc, ◌+◌, ◌-◌, ◌<◌, ◌≤◌, ◌^◌, Bool, true, false, cond, ◌&&◌, ◌||◌, ltb, List, [], ◌∷◌, ◌++◌, length, map, drop, get_or, unwrap_or, Option, Some, None, Result, Ok, Err, ◌⊎◌, inl, inr, refl, sym, ap, ◌∙◌, subst, arith, length-append, length-drop, take, eqb, MatchOption}
-use Rattle.std.specs.Prelude.{All, IfSome}
+use Rattle.std.proofs.Common.{◌≡◌, ◌≢◌, ℕ, zero, suc, ◌+◌, ◌-◌, ◌<◌, ◌≤◌, Bool, true, false, cond, ◌&&◌, ◌||◌, ltb, List, [], ◌∷◌, ◌++◌, length, map, drop, get_or, unwrap_or, Option, Some, None, Result, Ok, Err, refl, sym, ap, ◌∙◌, subst, arith, length-append, length-drop, take, eqb, MatchOption}
 use Rattle.std.specs.Option.{option_or, option_map, is_some}
 use Rattle.std.proofs.lemmas.Bool.Decides.{nat_tests}
 use Rattle.std.proofs.lemmas.List.{drop_more, drop_all, take_all}
 use Rattle.std.proofs.Math.Seq.{take-append_seam}
-use Rattle.daq_types.specs.declared.types.Tid.{Tid}
 use Rattle.daq_types.specs.declared.types.Tid.TheVariants as tid
 use Rattle.odb_value.specs.Paths.{depth_limit}
 use Rattle.odb_value.specs.Values.{HeldValue}
 use Rattle.odb_tree.specs.declared.rows.Row.{Row}
 use Rattle.odb_tree.specs.declared.refusals.OdbRefusal.{OdbRefusal}
 use Rattle.odb_tree.specs.declared.refusals.OdbRefusal.TheVariants.{BadLink, NoMemory}
-use Rattle.odb_tree.specs.Rows.{Rows, row_at, change_row}
+use Rattle.odb_tree.specs.Rows.{Rows, row_at}
 use Rattle.odb_tree.specs.Links.{is_link, target_of, target_of_value, Met, has_names, met_at, first_link, follow, lead, numbers_along, number_and}
 use Rattle.odb_tree.specs.Trees.{IsTree}
-use Rattle.odb_tree.specs.Calls.{Gives}
 use Rattle.odb_tree.proofs.EachRow.{row_has}
 use Rattle.odb_tree.proofs.Led.{no_link_row}
 use Rattle.odb_links.specs.declared.links.Link.{Link}
-use Rattle.odb_links.specs.Seen.{link_numbered, is_linked, typed, as_seen, seen, HoldsLinkText, IsRight, AreLinks}
+use Rattle.odb_links.specs.Seen.{link_numbered, typed, as_seen, IsRight, AreLinks}
 use Rattle.odb_links.specs.declared.leading.Hit.{Hit}
 use Rattle.odb_links.specs.Places.{hit_at, hit_among, met_by}
 use Rattle.odb_links.proofs.Retyped.{row_mapped}

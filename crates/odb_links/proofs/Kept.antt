@@ -1,8 +1,8 @@
 -- A link is written: its text below, and its number and target beside.
-use Rattle.std.proofs.Common.{◌≡◌, ◌≢◌, ℕ, zero, suc, ◌+◌, ◌<◌, ◌≤◌, Bool, true, false, cond, eqb, List, [], ◌∷◌, ◌++◌, length, map, Option, Some, None, Result, Ok, Err, ◌⊎◌, inl, inr, refl, sym, ap, ◌∙◌, subst, arith, append_assoc}
+use Rattle.std.proofs.Common.{◌≡◌, ◌≢◌, ℕ, ◌+◌, ◌<◌, ◌≤◌, Bool, true, false, cond, eqb, List, [], ◌∷◌, ◌++◌, length, map, Option, Some, None, Ok, inl, inr, refl, sym, ap, ◌∙◌, subst, arith, append_assoc}
 use Rattle.std.specs.Prelude.{All, IfSome, IsTrue}
 use Rattle.std.specs.Option.{option_or, option_map, is_some}
-use Rattle.std.proofs.lemmas.Bool.Decides.{nat_tests, eqb_tells}
+use Rattle.std.proofs.lemmas.Bool.Decides.{eqb_tells}
 use Rattle.std.proofs.lemmas.List.Elements.{All-nil, All-cons, All-head, All-tail, All-push, All-weaker}
 use Rattle.daq_types.specs.declared.types.Tid.{Tid}
 use Rattle.daq_types.specs.declared.types.Tid.TheVariants as tid
@@ -22,28 +22,21 @@ use Rattle.odb_tree.specs.Making.{Way, way_to, new_row, new_number, created}
 use Rattle.odb_tree.specs.Links.{target_of_items, target_of_value}
 use Rattle.odb_tree.specs.Trees.{AreRising, IsTree}
 use Rattle.odb_tree.specs.Databases.{IsDatabase, IsHeld}
-use Rattle.odb_tree.specs.Calls.{Gives, reply_or, value_fault, directory_fault, link_fault, type_fault, replace_fault, there_fault, own_fault, number_at, after_set_all_at, after_set_all, put_fault, put_reply, after_put}
+use Rattle.odb_tree.specs.Calls.{reply_or, value_fault, directory_fault, link_fault, type_fault, replace_fault, there_fault, own_fault, number_at, after_set_all_at, after_set_all, put_fault, put_reply, after_put}
 use Rattle.odb_tree.specs.Noting.{all_noted, changes_of_put}
 use Rattle.odb_tree.proofs.EachRow.{row_has}
-use Rattle.odb_tree.proofs.Sound.{ok_none, database_put}
+use Rattle.odb_tree.proofs.Sound.{database_put}
 use Rattle.odb_links.specs.declared.links.Link.{Link}
 use Rattle.odb_links.specs.Seen.{link_numbered, is_linked, typed, as_seen, seen, LinksRise, HoldsLinkText, IsRight, AreLinks, with_link}
 use Rattle.odb_links.specs.Writing.{IsForLinks}
 use Rattle.odb_links.proofs.Retyped.{row_mapped, obstacle_mapped, limit_mapped, change_mapped}
-use Rattle.odb_links.proofs.Marked.{seen_retypes, seen_linked, seen_same, unlinked_above, right_at, right_plain, way_seen, created_seen}
+use Rattle.odb_links.proofs.Above.{found_or}
+use Rattle.odb_links.proofs.LinkPlaces.{test_true, test_false}
+use Rattle.odb_links.proofs.Marked.{test_same, seen_retypes, seen_linked, seen_same, unlinked_above, right_at, way_seen, created_seen}
 use Rattle.odb_links.proofs.Replies.{right_created}
 use Rattle.odb_links.proofs.SeenCalls.{notes_seen}
 
 -- another target
-
-test_true : (a b : ℕ) → a ≡ b → eqb a b ≡ true
-test_true a b h = grind (arith, nat_tests, h)
-
-test_false : (a b : ℕ) → a ≢ b → eqb a b ≡ false
-test_false a b h = grind (arith, nat_tests, h)
-
-test_is : (a b : ℕ) → eqb a b ≡ true → a ≡ b
-test_is a b h = grind (arith, nat_tests, h)
 
 pub with_same : (links : List Link) (n : ℕ) (target : List (List ℕ)) → link_numbered (with_link links n target) n ≡ Some (record { row = n; target = target })
 with_same [] n target = ap (λ (t : Bool). cond t (Some (let l : Link = record { row = n; target = target } in l)) None) (test_true n n refl)
@@ -62,7 +55,7 @@ with_other (x ∷ xs) n m target other = at (eqb x.row n) refl (with_other xs n 
         → link_numbered (cond t (record { row = n; target = target } ∷ xs) (x ∷ with_link xs n target)) m ≡ cond (eqb x.row m) (Some x) (link_numbered xs m)
     at true e ih =
         ap (λ (t : Bool). cond t (Some (let l : Link = record { row = n; target = target } in l)) (link_numbered xs m)) (test_false n m (λ k. other (sym k)))
-        ∙ sym (ap (λ (t : Bool). cond t (Some x) (link_numbered xs m)) (test_false x.row m (λ k. other (sym k ∙ test_is x.row n e))))
+        ∙ sym (ap (λ (t : Bool). cond t (Some x) (link_numbered xs m)) (test_false x.row m (λ k. other (sym k ∙ test_same x.row n e))))
     at false e ih = ap (λ (o : Option Link). cond (eqb x.row m) (Some x) o) ih
 
 -- where the number is a link's already, the same rows are links
@@ -81,7 +74,7 @@ order_replaced from (x ∷ xs) next n target h linked = at (eqb x.row n) refl li
   where
     at : (t : Bool) → eqb x.row n ≡ t → is_some (cond t (Some x) (link_numbered xs n)) ≡ true → (is_linked xs n ≡ true → LinksRise (x.row + 1) (with_link xs n target) next)
         → LinksRise from (cond t (record { row = n; target = target } ∷ xs) (x ∷ with_link xs n target)) next
-    at true e k ih = let same : x.row ≡ n = test_is x.row n e in (subst (λ (m : ℕ). from ≤ m) same h.0, subst (λ (m : ℕ). LinksRise (m + 1) xs next) same h.1)
+    at true e k ih = let same : x.row ≡ n = test_same x.row n e in (subst (λ (m : ℕ). from ≤ m) same h.0, subst (λ (m : ℕ). LinksRise (m + 1) xs next) same h.1)
     at false e k ih = (h.0, ih k)
 
 order_pushed : (from : ℕ) (links : List Link) (next n more : ℕ) (target : List (List ℕ)) → LinksRise from links next → next ≤ n → n < more → LinksRise from (with_link links n target) more
@@ -102,10 +95,6 @@ rising_before : (from : ℕ) (xs : List Row) (x : Row) (next : ℕ) → AreRisin
 rising_before from [] x next h = (All-nil (λ (r : Row). r.number < x.number), h.0)
 rising_before from (y ∷ ys) x next h =
     let rest = rising_before (y.number + 1) ys x next h.1 in (All-cons (λ (r : Row). r.number < x.number) y ys (omega (arith, rest.1)) rest.0, omega (arith, rest.1, h.0))
-
-found_or : (t : Bool) (x r : Row) (o : Option Row) → cond t (Some x) o ≡ Some r → ((t ≡ true) × (x ≡ r)) ⊎ ((t ≡ false) × (o ≡ Some r))
-found_or true x r o h = inl (refl, cc)
-found_or false x r o h = inr (refl, h)
 
 rising_from : (from : ℕ) (rows : List Row) (next : ℕ) (p : List (List ℕ)) (r : Row) → AreRising from rows next → row_at rows p ≡ Some r → from ≤ r.number
 rising_from from [] next p r h e = absurd (cc)
@@ -244,12 +233,12 @@ after_links s p v (Some r) = refl
 text_value : (v : HeldValue) → v.tid ≡ tid.Text → IsValueOrLink v → IsValue v
 text_value v e h = value_of_kept v (subst (λ (t : Tid). IsTrue (is_kept t)) (sym e) refl) h
 
-both_right : (links others : List Link) (n : ℕ) (target : List (List ℕ)) (rows : List Row) → All (IsRight links) rows → All (λ (r : Row). r.number < n) rows → All (IsRight (with_link links n target)) rows
-both_right links others n target [] h l = All-nil (IsRight (with_link links n target))
-both_right links others n target (x ∷ xs) h l =
+both_right : (links : List Link) (n : ℕ) (target : List (List ℕ)) (rows : List Row) → All (IsRight links) rows → All (λ (r : Row). r.number < n) rows → All (IsRight (with_link links n target)) rows
+both_right links n target [] h l = All-nil (IsRight (with_link links n target))
+both_right links n target (x ∷ xs) h l =
     All-cons (IsRight (with_link links n target)) x xs
     (right_other links n target x (λ e. absurd (omega (arith, e, All-head (λ (r : Row). r.number < n) x xs l))) (All-head (IsRight links) x xs h))
-    (both_right links others n target xs (All-tail (IsRight links) x xs h) (All-tail (λ (r : Row). r.number < n) x xs l))
+    (both_right links n target xs (All-tail (IsRight links) x xs h) (All-tail (λ (r : Row). r.number < n) x xs l))
 
 above_right : (links : List Link) (n : ℕ) (target : List (List ℕ)) (rows : List Row) → All (IsRight links) rows → All (λ (r : Row). n + 1 ≤ r.number) rows → All (IsRight (with_link links n target)) rows
 above_right links n target [] h l = All-nil (IsRight (with_link links n target))
@@ -273,7 +262,7 @@ right_new links s p v target h text tree =
     let rising : AreRising 1 (front ++ new ∷ []) (n + 1) = subst (λ (l : List Row). AreRising 1 l (n + 1)) split tree.numbered in
     subst (λ (l : List Row). All (IsRight (with_link links n target)) l) (sym split)
     (All-push (IsRight (with_link links n target)) front new
-    (both_right links links n target front (all_front (IsRight links) front (new ∷ []) right) (rising_before 1 front new (n + 1) rising).0)
+    (both_right links n target front (all_front (IsRight links) front (new ∷ []) right) (rising_before 1 front new (n + 1) rising).0)
     (right_here links n target new refl (has_text v target new text refl)))
 
 right_replaced : (links : List Link) (from : ℕ) (rows : List Row) (next : ℕ) (p : List (List ℕ)) (r : Row) (v w : HeldValue) (target : List (List ℕ)) → AreRising from rows next → row_at rows p ≡ Some r → r.value ≡ Some w → IsText v target

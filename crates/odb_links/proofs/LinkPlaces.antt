@@ -1,8 +1,6 @@
 -- Finding links by the numbers of their rows.
-use Rattle.std.proofs.Common.{◌≡◌, ℕ, zero, suc, ◌+◌, ◌-◌, ◌<◌, ◌≤◌, ◌≢◌, ◌^◌, Bool, true, false, cond, eqb, List, [], ◌∷◌, ◌++◌, length, get_or, set, Option, Some, None, Result, Ok, Err, MatchResult, MatchOption, refl, sym, ap, ◌∙◌, subst, arith, inl, inr, ◌⊎◌}
+use Rattle.std.proofs.Common.{◌≡◌, ℕ, zero, suc, ◌+◌, ◌<◌, ◌≤◌, ◌≢◌, ◌^◌, Bool, true, false, cond, eqb, List, [], ◌∷◌, ◌++◌, length, get_or, Some, None, Result, Ok, Err, MatchResult, refl, sym, ap, ◌∙◌, subst, arith, inl, inr}
 use Rattle.std.specs.Prelude.{slice_set}
-use Rattle.std.specs.Option.{option_or, is_some}
-use Rattle.std.specs.Result.{result_ok}
 use Rattle.std.specs.Ordering.{nat_cmp, ordering_index, MatchOrdering}
 use Rattle.std.specs.declared.cmp.Ordering.{Ordering}
 use Rattle.std.specs.declared.cmp.Ordering.TheVariants.{Less, Equal, Greater}
@@ -10,9 +8,8 @@ use Rattle.std.specs.Cmp.{ranked}
 use Rattle.std.specs.List.Sorted.{IsBinarySearchResult, IsSearchInRange, IsNonDecreasingBy}
 use Rattle.std.proofs.lemmas.Bool.{cases_lt}
 use Rattle.std.proofs.lemmas.Bool.Decides.{nat_tests}
-use Rattle.odb_tree.specs.Limits.{IsWithin}
 use Rattle.odb_links.specs.declared.links.Link.{Link}
-use Rattle.odb_links.specs.Seen.{link_numbered, LinksRise, AreLinks, with_link}
+use Rattle.odb_links.specs.Seen.{link_numbered, LinksRise, with_link}
 use Rattle.odb_links.specs.Places.{LinkStands}
 use Rattle.odb_links.proofs.Marked.{order_longer}
 
@@ -59,10 +56,10 @@ searchable n links next h i j d le below =
     let b : ℕ = (get_or links j d).row in
     index_rises a b n (nat_cmp a n) (nat_cmp b n) (rows_rise 1 links next i j d h le below) (ranked a n (nat_cmp a n) refl) (ranked b n (nat_cmp b n) refl)
 
-test_true : (a b : ℕ) → a ≡ b → eqb a b ≡ true
+pub test_true : (a b : ℕ) → a ≡ b → eqb a b ≡ true
 test_true a b h = grind (arith, nat_tests, h)
 
-test_false : (a b : ℕ) → a ≢ b → eqb a b ≡ false
+pub test_false : (a b : ℕ) → a ≢ b → eqb a b ≡ false
 test_false a b h = grind (arith, nat_tests, h)
 
 -- the link at a place is found, and another put there

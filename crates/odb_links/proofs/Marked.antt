@@ -1,23 +1,18 @@
 -- The links beside the rows: which rows they mark, and what stays when the rows change.
-use Rattle.std.proofs.Common.{◌≡◌, ℕ, zero, suc, ◌+◌, ◌<◌, ◌≤◌, Bool, true, false, cond, eqb, List, [], ◌∷◌, ◌++◌, length, map, get_or, set, Option, Some, None, refl, sym, ap, ◌∙◌, subst, arith}
+use Rattle.std.proofs.Common.{◌≡◌, ℕ, ◌+◌, ◌<◌, ◌≤◌, Bool, true, false, cond, eqb, List, [], ◌∷◌, ◌++◌, length, map, Option, Some, None, refl, sym, ap, ◌∙◌, subst, arith}
 use Rattle.std.specs.Prelude.{All, IfSome}
 use Rattle.std.specs.Option.{is_some, option_map}
 use Rattle.std.proofs.lemmas.Bool.Decides.{nat_tests}
 use Rattle.std.proofs.lemmas.List.{map-append}
-use Rattle.std.proofs.lemmas.List.Elements.{All-nil, All-cons, All-head, All-tail, All-append, All-push, All-filter, All-weaker}
-use Rattle.daq_types.specs.declared.types.Tid.{Tid}
+use Rattle.std.proofs.lemmas.List.Elements.{All-nil, All-head, All-tail, All-push, All-weaker}
 use Rattle.daq_types.specs.declared.types.Tid.TheVariants as tid
 use Rattle.odb_value.specs.Values.{HeldValue}
 use Rattle.odb_tree.specs.declared.rows.Row.{Row}
-use Rattle.odb_tree.specs.Rows.{Rows, row_at, is_key, change_row, change_at, bytes_of, bytes_in, bytes_of_row}
+use Rattle.odb_tree.specs.Rows.{Rows, row_at, is_key, change_row, bytes_in, bytes_of_row}
 use Rattle.odb_tree.specs.Making.{Way, further, go_on, way_to, no_way, last_of, new_row, new_number, created}
 use Rattle.odb_tree.specs.Lookups.{parent_of}
-use Rattle.odb_value.specs.LinkValues.{is_link_type, IsLink}
-use Rattle.odb_tree.specs.Links.{is_link, is_link_value, target_of, target_of_value, target_of_items}
-use Rattle.odb_tree.specs.Trees.{AreRising, IsTree}
-use Rattle.odb_tree.proofs.EachRow.{row_has}
 use Rattle.odb_links.specs.declared.links.Link.{Link}
-use Rattle.odb_links.specs.Seen.{link_numbered, is_linked, typed, as_seen, seen, LinksRise, HoldsLinkText, IsRight, AreLinks, with_link}
+use Rattle.odb_links.specs.Seen.{link_numbered, is_linked, typed, as_seen, seen, LinksRise, HoldsLinkText, IsRight}
 use Rattle.odb_links.proofs.Retyped.{Retypes, way_mapped}
 
 -- rows as they are seen
@@ -80,11 +75,8 @@ test_false a b h = grind (arith, nat_tests, h)
 test_above : (a b : ℕ) → b < a → eqb a b ≡ false
 test_above a b h = grind (arith, nat_tests, h)
 
-test_same : (a b : ℕ) → eqb a b ≡ true → a ≡ b
+pub test_same : (a b : ℕ) → eqb a b ≡ true → a ≡ b
 test_same a b h = grind (arith, nat_tests, h)
-
-test_self : (a b : ℕ) → a ≡ b → eqb a b ≡ true
-test_self a b h = grind (arith, nat_tests, h)
 
 -- a number that no row has yet is no link's
 pub unlinked_above : (from : ℕ) (links : List Link) (next n : ℕ) → LinksRise from links next → next ≤ n → (link_numbered links n ≡ None) × (from ≤ next)

@@ -1,10 +1,9 @@
 -- At a path that is no link's each call gives the reply of the database below, and leaves its rows with the same links.
-use Rattle.std.proofs.Common.{◌≡◌, ◌≢◌, ℕ, ◌+◌, ◌≤◌, Bool, true, false, not, cond, eqb, List, [], ◌∷◌, ◌++◌, length, map, Option, Some, None, Result, Ok, Err, ◌⊎◌, inl, inr, refl, sym, ap, ◌∙◌, subst, arith, length-append}
-use Rattle.std.specs.Prelude.{All, IfSome}
+use Rattle.std.proofs.Common.{◌≡◌, ℕ, ◌+◌, ◌≤◌, Bool, true, false, not, List, [], ◌∷◌, ◌++◌, length, map, Option, Some, None, Result, Ok, Err, refl, sym, ap, ◌∙◌, subst, arith}
+use Rattle.std.specs.Prelude.{All}
 use Rattle.std.specs.Option.{option_or, option_map, is_some}
-use Rattle.std.proofs.lemmas.List.{map-append, length-map}
+use Rattle.std.proofs.lemmas.List.{length-map}
 use Rattle.std.proofs.lemmas.List.Elements.{All-append, All-push, All-filter, All-weaker}
-use Rattle.daq_types.specs.declared.types.Tid.{Tid}
 use Rattle.daq_types.specs.declared.types.Tid.TheVariants as tid
 use Rattle.odb_value.specs.Paths.{is_front}
 use Rattle.odb_value.specs.declared.items.Item.{Item}
@@ -16,21 +15,20 @@ use Rattle.odb_tree.specs.declared.rows.NewKey.{NewKey}
 use Rattle.odb_tree.specs.declared.rows.NewKey.TheVariants.{Dir, Keys, Link as new_link}
 use Rattle.odb_tree.specs.declared.children.Child.{Child}
 use Rattle.odb_tree.specs.declared.refusals.OdbRefusal.{OdbRefusal}
-use Rattle.odb_tree.specs.declared.refusals.OdbRefusal.TheVariants.{NotValue}
 use Rattle.odb_tree.specs.declared.refusals.What.{What}
-use Rattle.odb_tree.specs.Rows.{Rows, row_at, is_key, change_row, change_at, rows_outside}
+use Rattle.odb_tree.specs.Rows.{Rows, row_at, change_row, change_at, rows_outside}
 use Rattle.odb_tree.specs.Limits.{text_fault, len_fault, limit_fault}
-use Rattle.odb_tree.specs.Lookups.{parent_of, obstacle_to, obstacle_to_new, found_row, seek, key_or_refusal, seek_key, dir_fault, absent_fault}
+use Rattle.odb_tree.specs.Lookups.{parent_of, obstacle_to, obstacle_to_new, found_row, key_or_refusal, seek_key, dir_fault, absent_fault}
 use Rattle.odb_tree.specs.Making.{Way, way_to, new_row, new_number, created}
-use Rattle.odb_tree.specs.Links.{is_link, is_link_value, first_link, resolved}
-use Rattle.odb_tree.specs.Calls.{reply_or, exists_fault, kept_fault, items_fault, new_value, after_create, create_fault, create_reply, type_fault, index_fault, after_set, set_fault, set_reply_to, set_reply, after_set_all_at, after_set_all, directory_fault, value_fault, tid_fault, there_fault, own_fault, number_at, set_all_fault, set_all_reply, after_resize, resize_reply_to, resize_reply, value_reply, get_reply, number_reply, find_reply, children_of, children_or, list_reply, path_with, is_row_below, after_delete, count_gone, delete_reply}
+use Rattle.odb_tree.specs.Links.{is_link, is_link_value, resolved}
+use Rattle.odb_tree.specs.Calls.{reply_or, exists_fault, kept_fault, items_fault, new_value, after_create, create_fault, create_reply, type_fault, index_fault, after_set, set_reply_to, set_reply, after_set_all_at, after_set_all, directory_fault, value_fault, tid_fault, there_fault, own_fault, number_at, set_all_reply, after_resize, resize_reply_to, resize_reply, value_reply, get_reply, find_reply, children_or, list_reply, path_with, is_row_below, after_delete, count_gone, delete_reply}
 use Rattle.odb_tree.proofs.EachRow.{row_has, all_changed}
 use Rattle.odb_tree.proofs.Led.{none_at_end, resolved_freed}
 use Rattle.odb_tree.proofs.WalkLaws.{true_false}
 use Rattle.odb_links.specs.declared.links.Link.{Link}
-use Rattle.odb_links.specs.Seen.{link_numbered, is_linked, typed, as_seen, seen, LinksRise, HoldsLinkText, IsRight, AreLinks}
+use Rattle.odb_links.specs.Seen.{link_numbered, is_linked, typed, as_seen, seen, LinksRise, IsRight, AreLinks}
 use Rattle.odb_links.specs.Writing.{IsFree}
-use Rattle.odb_links.proofs.Retyped.{Retypes, row_mapped, numbered_mapped, there_mapped, obstacle_mapped, sought, seek_mapped, dir_fault_mapped, absent_mapped, number_found_mapped, exists_mapped, outside_mapped, children_mapped, limit_mapped, path_mapped, below_mapped, change_mapped}
+use Rattle.odb_links.proofs.Retyped.{row_mapped, obstacle_mapped, dir_fault_mapped, absent_mapped, number_found_mapped, exists_mapped, outside_mapped, children_mapped, limit_mapped, path_mapped, below_mapped, change_mapped}
 use Rattle.odb_links.proofs.Above.{root_free}
 use Rattle.odb_links.proofs.Marked.{seen_retypes, seen_plain, seen_linked, unlinked_above, order_longer, not_linked, no_link_at, right_plain, right_at, way_seen, created_seen, made_above}
 

@@ -1,8 +1,8 @@
 -- What reads of the rows no more than numbers, paths, kinds and bytes is the same where types alone are changed.
-use Rattle.std.proofs.Common.{◌≡◌, ℕ, ◌+◌, Bool, true, false, cond, not, ◌&&◌, eqb, List, [], ◌∷◌, ◌++◌, length, map, Option, Some, None, Result, Ok, Err, refl, sym, ap, ◌∙◌, arith}
+use Rattle.std.proofs.Common.{◌≡◌, ℕ, Bool, true, false, cond, not, ◌&&◌, eqb, List, [], ◌∷◌, ◌++◌, length, map, Option, Some, None, Result, Ok, Err, refl, ap, ◌∙◌, arith}
 use Rattle.std.specs.Option.{option_map, option_or, is_some}
 use Rattle.std.specs.List.{find, filter}
-use Rattle.std.proofs.lemmas.List.{length-map, map-append}
+use Rattle.std.proofs.lemmas.List.{length-map}
 use Rattle.std.proofs.lemmas.List.Sums.{sum_by-cons}
 use Rattle.odb_value.specs.Paths.{same_path, is_front}
 use Rattle.odb_tree.specs.declared.rows.Row.{Row}
@@ -16,7 +16,7 @@ use Rattle.odb_tree.specs.Lookups.{obstacle_at, obstacle_from, obstacle_to, foun
 use Rattle.odb_tree.specs.Making.{Way, further, go_on}
 use Rattle.odb_tree.specs.Links.{number_and, numbers_along}
 use Rattle.odb_tree.specs.Limits.{limit_fault}
-use Rattle.odb_tree.specs.Calls.{exists_fault, find_reply, number_reply, child_of, children_of, path_with, is_below_path}
+use Rattle.odb_tree.specs.Calls.{exists_fault, number_reply, child_of, children_of, path_with, is_below_path}
 
 -- a change of rows that leaves the number, the path, the kind and the bytes of each as they are
 pub record Retypes (f : Row → Row) : Type 0 where

@@ -1,7 +1,6 @@
 -- A call at the path after its links, as a call on the database below.
-use Rattle.std.proofs.Common.{◌≡◌, ◌≢◌, ℕ, zero, suc, ◌+◌, ◌-◌, ◌≤◌, Bool, true, false, cond, List, [], ◌∷◌, ◌++◌, length, map, Option, Some, None, Result, Ok, Err, ◌⊎◌, inl, inr, refl, sym, ap, ◌∙◌, subst, arith}
+use Rattle.std.proofs.Common.{◌≡◌, ◌≢◌, ℕ, zero, suc, ◌+◌, ◌-◌, Bool, true, false, cond, List, [], ◌∷◌, length, Option, Some, None, Result, Ok, Err, ◌⊎◌, inl, inr, refl, sym, ap, ◌∙◌, subst}
 use Rattle.std.specs.Prelude.{All}
-use Rattle.std.specs.Option.{option_map, is_some}
 use Rattle.daq_types.specs.declared.types.Tid.{Tid}
 use Rattle.daq_types.specs.declared.types.Tid.TheVariants as tid
 use Rattle.odb_value.specs.Paths.{IsPath}
@@ -18,19 +17,18 @@ use Rattle.odb_tree.specs.declared.notes.Watch.{Watch}
 use Rattle.odb_tree.specs.declared.refusals.OdbRefusal.{OdbRefusal}
 use Rattle.odb_tree.specs.declared.refusals.OdbRefusal.TheVariants.{NoMemory}
 use Rattle.odb_tree.specs.declared.entry.DatabaseEntry.{DatabaseEntry}
-use Rattle.odb_tree.specs.declared.entry.DatabaseEntry.TheVariants.{Create, Set, SetAll, Get, Find, ListDir, Delete, Resize, PathOf}
-use Rattle.odb_tree.specs.Rows.{Rows, row_at, change_at}
+use Rattle.odb_tree.specs.declared.entry.DatabaseEntry.TheVariants.{Create, Set, SetAll, Get, Find, ListDir, Resize}
+use Rattle.odb_tree.specs.Rows.{Rows, row_at}
 use Rattle.odb_tree.specs.Links.{resolved, meets_link, through, led_to}
-use Rattle.odb_tree.specs.Calls.{Gives, GivesIf, GivesItem, IsRowsReply, rows_after, rows_there, is_row_below, create_reply, set_reply, set_all_reply, get_reply, find_reply, list_reply, resize_reply, after_create, after_set, after_set_all, after_set_all_at, after_resize, after_delete, new_value}
+use Rattle.odb_tree.specs.Calls.{Gives, GivesIf, GivesItem, IsRowsReply, rows_after, rows_there, is_row_below, create_reply, set_reply, set_all_reply, get_reply, find_reply, list_reply, resize_reply, after_create, after_set, after_set_all, after_set_all_at, after_resize, new_value}
 use Rattle.odb_tree.specs.Databases.{IsSoundCall, IsSoundKey}
-use Rattle.odb_tree.specs.Noting.{Change, note_of, with_note, is_of, with_change, noted_all, all_noted, changes_from, changes_for, changes_of}
+use Rattle.odb_tree.specs.Noting.{Change, with_note, noted_all, all_noted, changes_from, changes_for, changes_of}
 use Rattle.odb_tree.proofs.Noted.{none_noted}
-use Rattle.odb_tree.proofs.Led.{unlinked, unmet, after_unlinked, resolved_path}
+use Rattle.odb_tree.proofs.Led.{unlinked, unmet, after_unlinked}
 use Rattle.odb_tree.proofs.Sound.{database_after, links_after}
 use Rattle.odb_links.specs.declared.links.Link.{Link}
-use Rattle.odb_links.specs.Seen.{is_linked, as_seen, seen, LinksRise, IsRight, AreLinks}
+use Rattle.odb_links.specs.Seen.{seen, LinksRise, IsRight, AreLinks}
 use Rattle.odb_links.specs.Writing.{IsFree}
-use Rattle.odb_links.proofs.Marked.{order_longer}
 use Rattle.odb_links.proofs.Replies.{free_after, IsNoLink, created_plain, create_same, set_leaves, set_same, resize_leaves, resize_same, set_all_leaves, set_all_same, get_same, find_same, list_same, below_same, right_created, right_changed}
 
 -- notes

@@ -1,11 +1,11 @@
 -- What stands at a path, by the number that `find` answers.
-use Rattle.std.proofs.Common.{◌≡◌, ◌≢◌, ℕ, ◌<◌, ◌≤◌, Bool, true, false, List, [], ◌∷◌, length, Option, Some, None, Result, Ok, Err, ◌⊎◌, inl, inr, refl, sym, ap, ◌∙◌, subst, arith}
-use Rattle.std.specs.Option.{option_map, is_some, option_copied}
+use Rattle.std.proofs.Common.{◌≡◌, ℕ, ◌<◌, Bool, true, false, List, [], ◌∷◌, length, Option, Some, None, Ok, ◌⊎◌, inl, inr, refl, sym, ap, ◌∙◌, subst, arith}
+use Rattle.std.specs.Option.{option_map, is_some}
 use Rattle.odb_tree.specs.declared.rows.Row.{Row}
 use Rattle.odb_tree.specs.Rows.{Rows, row_at}
 use Rattle.odb_tree.specs.Calls.{find_reply}
 use Rattle.odb_links.specs.declared.links.Link.{Link}
-use Rattle.odb_links.specs.Seen.{link_numbered, is_linked, AreLinks}
+use Rattle.odb_links.specs.Seen.{is_linked, AreLinks}
 use Rattle.odb_links.specs.declared.making.Standing.{Standing}
 use Rattle.odb_links.specs.declared.making.Standing.TheVariants.{Nothing, Linked, Other}
 use Rattle.odb_links.specs.Writing.{RowAt, StandsThere, IsFree, IsForLinks}

@@ -1,5 +1,5 @@
 -- The database that is seen is one, from its beginning and after rows went.
-use Rattle.std.proofs.Common.{◌≡◌, ℕ, ◌+◌, ◌≤◌, Bool, true, false, cond, eqb, List, [], ◌∷◌, ◌++◌, length, map, append_assoc, Option, Some, None, Result, Ok, Err, ◌⊎◌, inl, inr, refl, sym, ap, ◌∙◌, subst, arith}
+use Rattle.std.proofs.Common.{◌≡◌, ℕ, ◌+◌, ◌≤◌, Bool, true, false, cond, eqb, List, [], ◌∷◌, ◌++◌, map, Option, Some, None, Ok, inl, inr, refl, sym, ap, ◌∙◌, subst, arith}
 use Rattle.std.specs.Prelude.{All, IfSome}
 use Rattle.std.specs.Option.{option_map, is_some}
 use Rattle.std.specs.List.{filter}
@@ -11,19 +11,18 @@ use Rattle.odb_value.specs.Paths.{IsPath, same_path}
 use Rattle.odb_value.specs.Values.{HeldValue, IsValue}
 use Rattle.odb_value.specs.LinkValues.{IsLink}
 use Rattle.odb_tree.specs.declared.rows.Row.{Row}
-use Rattle.odb_tree.specs.declared.refusals.OdbRefusal.{OdbRefusal}
 use Rattle.odb_tree.specs.declared.entry.DatabaseEntry.TheVariants.{Delete}
-use Rattle.odb_tree.specs.Rows.{Rows, row_numbered, change_row}
-use Rattle.odb_tree.specs.Trees.{HasDir, IsDir, IsPlaced, ArePlaced, AreApart, AreRising, IsTree}
+use Rattle.odb_tree.specs.Rows.{Rows, row_numbered}
+use Rattle.odb_tree.specs.Trees.{HasDir, IsDir, IsPlaced, ArePlaced, AreApart, AreRising}
 use Rattle.odb_tree.specs.WalkLaws.{NoneAt}
-use Rattle.odb_tree.specs.Limits.{IsWithin}
 use Rattle.odb_tree.specs.Databases.{IsHeld, IsRow, IsDatabase}
-use Rattle.odb_tree.specs.Calls.{IsRowsReply, rows_after, after_delete, delete_reply, path_with, is_below_path, is_row_below}
+use Rattle.odb_tree.specs.Calls.{IsRowsReply, after_delete, is_below_path, is_row_below}
 use Rattle.odb_tree.proofs.Sound.{database_after}
 use Rattle.odb_links.specs.declared.links.Link.{Link}
 use Rattle.odb_links.specs.Seen.{link_numbered, is_linked, typed, as_seen, seen, LinksRise, HoldsLinkText, IsRight, AreLinks}
 use Rattle.odb_links.proofs.Retyped.{Retypes, total_mapped}
-use Rattle.odb_links.proofs.Marked.{seen_retypes, seen_plain, seen_linked, seen_same, right_at, not_linked, right_plain}
+use Rattle.odb_links.proofs.LinkPlaces.{test_true}
+use Rattle.odb_links.proofs.Marked.{test_same, seen_retypes, seen_plain, seen_linked, seen_same, right_at, not_linked}
 use Rattle.odb_links.proofs.Replies.{delete_leaves, right_outside}
 use Rattle.odb_links.proofs.Kept.{rising_below}
 
@@ -123,14 +122,8 @@ begun_links s plain database = record { plain = plain; database = database; orde
 
 -- links are forgotten
 
-test_true : (a : ℕ) → eqb a a ≡ true
-test_true a = grind (arith, nat_tests)
-
 test_zero : (a : ℕ) → 1 ≤ a → eqb a 0 ≡ false
 test_zero a h = grind (arith, nat_tests, h)
-
-test_is : (a b : ℕ) → eqb a b ≡ true → a ≡ b
-test_is a b h = grind (arith, nat_tests, h)
 
 -- a row that is there, with its number
 record IsThere (rows : List Row) (r : Row) : Type 0 where
@@ -148,7 +141,7 @@ all_there : (from : ℕ) (rows : List Row) (next : ℕ) → 1 ≤ from → AreRi
 all_there from [] next l h = All-nil (IsThere [])
 all_there from (x ∷ xs) next l h =
     All-cons (IsThere (x ∷ xs)) x xs
-    (record { some = ap (λ (t : Bool). is_some (cond t (Some x) (row_numbered xs x.number))) (test_true x.number); number = omega (arith, l, h.0) })
+    (record { some = ap (λ (t : Bool). is_some (cond t (Some x) (row_numbered xs x.number))) (test_true x.number x.number refl); number = omega (arith, l, h.0) })
     (All-weaker (IsThere xs) (IsThere (x ∷ xs)) (λ r k. there_more xs x r k) xs (all_there (x.number + 1) xs next (omega arith) h.1))
 
 below_root : (s : Rows) (n : ℕ) → is_some (row_numbered s.rows n) ≡ true → 1 ≤ n → is_row_below s n 0 ≡ true
@@ -164,7 +157,7 @@ filtered_same keep (x ∷ xs) n h = at (keep x) refl (eqb x.row n) refl (filtere
   where
     at : (t : Bool) → keep x ≡ t → (b : Bool) → eqb x.row n ≡ b → link_numbered (filter keep xs) n ≡ link_numbered xs n → link_numbered (cond t (x ∷ filter keep xs) (filter keep xs)) n ≡ cond b (Some x) (link_numbered xs n)
     at true e b k ih = ap (λ (c : Bool). cond c (Some x) (link_numbered (filter keep xs) n)) k ∙ ap (λ (o : Option Link). cond b (Some x) o) ih
-    at false e true k ih = let z : true ≡ false = sym (h x (test_is x.row n k)) ∙ e in absurd (cc)
+    at false e true k ih = let z : true ≡ false = sym (h x (test_same x.row n k)) ∙ e in absurd (cc)
     at false e false k ih = ih
 
 order_filter : (keep : Link → Bool) (from : ℕ) (links : List Link) (next : ℕ) → LinksRise from links next → LinksRise from (filter keep links) next

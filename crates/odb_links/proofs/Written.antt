@@ -1,11 +1,11 @@
 -- Links made, written and read at the path as it is.
-use Rattle.std.proofs.Common.{◌≡◌, ◌≢◌, ℕ, zero, suc, ◌+◌, ◌-◌, ◌<◌, ◌≤◌, Bool, true, false, cond, eqb, ltb, ◌||◌, List, [], ◌∷◌, ◌++◌, length, map, Option, Some, None, Result, Ok, Err, ◌⊎◌, inl, inr, refl, sym, ap, ◌∙◌, subst, arith}
-use Rattle.std.specs.Prelude.{All, IfSome, IsTrue, IsErr}
+use Rattle.std.proofs.Common.{◌≡◌, ◌≢◌, ℕ, ◌+◌, ◌<◌, ◌≤◌, Bool, true, false, cond, eqb, ltb, List, [], ◌∷◌, ◌++◌, length, Option, Some, None, Result, Ok, Err, ◌⊎◌, inl, inr, refl, sym, ap, ◌∙◌, subst, arith}
+use Rattle.std.specs.Prelude.{All, IsTrue, IsErr}
 use Rattle.std.specs.Option.{option_or, option_map, is_some}
-use Rattle.std.specs.List.{flat_map, AllByRecursion}
+use Rattle.std.specs.List.{flat_map}
 use Rattle.std.proofs.lemmas.Bool.Decides.{nat_tests}
 use Rattle.std.proofs.lemmas.List.{length-map}
-use Rattle.std.proofs.lemmas.List.Elements.{All-nil, All-cons, All-head, All-tail, All-append, All-from_recursion}
+use Rattle.std.proofs.lemmas.List.Elements.{All-nil, All-cons, All-head, All-tail, All-append}
 use Rattle.daq_types.specs.Names.{IsName, is_outside}
 use Rattle.daq_types.specs.Tids.{tid_code}
 use Rattle.daq_types.specs.declared.types.Tid.{Tid}
@@ -26,33 +26,32 @@ use Rattle.odb_tree.specs.declared.rows.NewKey.TheVariants.{Keys, Link as new_li
 use Rattle.odb_tree.specs.declared.entry.DatabaseEntry.TheVariants.{Create}
 use Rattle.odb_tree.specs.declared.notes.Watch.{Watch}
 use Rattle.odb_tree.specs.declared.refusals.OdbRefusal.{OdbRefusal}
-use Rattle.odb_tree.specs.declared.refusals.OdbRefusal.TheVariants.{Exists, NoKey, NotDir, NotValue, TypeMismatch, Limit, NotKept, NoMemory}
+use Rattle.odb_tree.specs.declared.refusals.OdbRefusal.TheVariants.{Exists, NoKey, NotDir, NotValue, TypeMismatch, Limit, NoMemory}
 use Rattle.odb_tree.specs.declared.refusals.What.{What}
 use Rattle.odb_tree.specs.declared.refusals.What.TheVariants.{Items, Size, Keys as KeyCount}
 use Rattle.odb_value.specs.Items.{is_kept}
 use Rattle.odb_tree.specs.Databases.{IsHeld}
 use Rattle.odb_tree.specs.Rows.{Rows, row_at, is_key, change_row}
-use Rattle.odb_tree.specs.Limits.{rows_limit, passed, limit_fault, text_fault}
+use Rattle.odb_tree.specs.Limits.{rows_limit, limit_fault}
 use Rattle.odb_tree.specs.Lookups.{parent_of, obstacle_at, obstacle_from, obstacle_to_new, found_row, key_of, key_or_refusal, seek, seek_key}
 use Rattle.odb_tree.specs.Making.{new_number, created}
-use Rattle.odb_tree.specs.Links.{resolved, through, target_of_items, target_of, path_or_root, is_link_value}
-use Rattle.odb_tree.specs.Calls.{Gives, IsRowsReply, rows_there, reply_or, exists_fault, kept_fault, items_fault, create_fault, create_reply, after_create, value_fault, directory_fault, link_fault, tid_fault, type_fault, replace_fault, there_fault, own_fault, number_at, after_set_all_at, after_set_all, put_fault, put_reply, after_put, value_reply, get_reply, raw_reply}
+use Rattle.odb_tree.specs.Links.{target_of_items, path_or_root, is_link_value}
+use Rattle.odb_tree.specs.Calls.{Gives, rows_there, reply_or, exists_fault, items_fault, create_reply, after_create, value_fault, directory_fault, link_fault, replace_fault, there_fault, own_fault, number_at, after_set_all_at, after_set_all, put_reply, after_put, value_reply, get_reply, raw_reply}
 use Rattle.odb_tree.specs.Noting.{all_noted, changes_for, changes_of_put}
 use Rattle.odb_tree.proofs.EachRow.{row_has}
 use Rattle.odb_tree.proofs.Noted.{none_noted}
 use Rattle.odb_tree.proofs.Limited.{new_counts}
 use Rattle.odb_tree.specs.Trees.{IsTree}
-use Rattle.odb_tree.proofs.Led.{unlinked, no_link_row, value_no_link}
+use Rattle.odb_tree.proofs.Led.{no_link_row, value_no_link}
 use Rattle.odb_tree.proofs.Sound.{database_put}
 use Rattle.odb_links.specs.declared.links.Link.{Link}
-use Rattle.odb_links.specs.Seen.{link_numbered, is_linked, typed, as_seen, seen, LinksRise, IsRight, AreLinks}
-use Rattle.odb_links.specs.Writing.{RowAt, IsFree, IsForLinks, as_size, text_held, IsTextTo}
+use Rattle.odb_links.specs.Seen.{link_numbered, is_linked, typed, as_seen, seen, IsRight, AreLinks}
+use Rattle.odb_links.specs.Writing.{RowAt, IsFree, as_size, text_held, IsTextTo}
 use Rattle.odb_links.proofs.Retyped.{row_mapped, obstacle_mapped, exists_mapped, seek_mapped, sought}
 use Rattle.odb_links.proofs.Above.{nothing_before, root_free}
-use Rattle.odb_links.proofs.Marked.{seen_retypes, seen_plain, seen_linked, right_at, no_link_at}
-use Rattle.odb_links.proofs.Replies.{created_plain, free_after, set_all_leaves, write_same, get_same, right_created, right_changed}
-use Rattle.odb_links.proofs.SeenCalls.{notes_seen, gives_below, right_written}
-use Rattle.odb_links.proofs.Kept.{IsText}
+use Rattle.odb_links.proofs.Marked.{seen_retypes, seen_plain, seen_linked, right_at}
+use Rattle.odb_links.proofs.Replies.{created_plain, set_all_leaves, write_same}
+use Rattle.odb_links.proofs.SeenCalls.{notes_seen, right_written}
 
 -- texts of paths
 

@@ -95,8 +95,8 @@ fn keep_link<D: Database>(
         (seen links.old.items (D.rows tree.old)) path.now (typed tid.Link text.now) result)
         (D.watches tree.old) }
 {
-    // What the types keep of the path and the text.
-    let (_, _) = (path.names(), text.tid());
+    let _ = path.names();
+    let _ = text.tid();
     links.reserve(1)?;
     let row = tree.put(alloc, path, text)?;
     keep(links, row, target);
@@ -189,7 +189,7 @@ pub fn make_link<D: Database>(
     }
 }
 
-/// The text of a link's value.
+/// The text of a link's value, which has one always.
 fn text_of(value: &Value) -> Option<&TextBytes>
     requires { IsLink value.now }
     ensures { IsTextIn value.now (option_copied result) }
@@ -200,7 +200,7 @@ fn text_of(value: &Value) -> Option<&TextBytes>
     }
 }
 
-/// The target in a link's text.
+/// The path in a link's text. The text is a path's, so that memory alone can be wanting.
 fn read_target(alloc: Global, text: &TextBytes) -> Result<Path, NoMemory>
     requires { IsOk (path_reply text.now) }
     ensures { IfOk result (λ path. path_reply text.now ≡ Ok path) }

@@ -35,6 +35,10 @@ enum Call {
     Delete,
     /// How many rows there are along the path.
     Walk,
+    /// How many names the path of this row has.
+    PathOf(u32),
+    /// 1 where the first row is the second or lies below it.
+    IsBelow(u32, u32),
 }
 
 type Reply = Result<u32, OdbRefusal>;
@@ -63,6 +67,9 @@ const TO_DIRECTORY: &[Row] = &[
     ("/L/y", Call::Key(Tid::UInt8), Ok(5)),
     ("/L/M", Call::Link("/L"), Ok(6)),
     ("/A/m/M/y", Call::Find, Ok(5)),
+    ("", Call::PathOf(6), Ok(2)),
+    ("", Call::IsBelow(6, 1), Ok(1)),
+    ("", Call::IsBelow(3, 1), Ok(0)),
     ("/L", Call::Dir, Err(OdbRefusal::Exists)),
     ("/L", Call::Link("/B"), Err(OdbRefusal::Exists)),
     ("/A", Call::Link("/B"), Err(OdbRefusal::Exists)),
@@ -210,6 +217,11 @@ fn reply<D: Database>(alloc: Global, database: &mut D, at: &Path, call: Call) ->
             let mut numbers = [0; 32];
             Ok(database.walk(at, &mut numbers))
         }
+        Call::PathOf(row) => match database.path_of(alloc, row)? {
+            Some(path) => Ok(path.names().len().min(32) as u32),
+            None => Err(OdbRefusal::NoKey),
+        },
+        Call::IsBelow(row, above) => Ok(database.is_below(row, above) as u32),
     }
 }
 

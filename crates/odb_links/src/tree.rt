@@ -18,7 +18,8 @@ use std::alloc::Global;
 use std::marker::Model;
 
 /// A database that keeps links, over one that keeps none. A call whose path meets no link goes to the database below at
-/// the path as it is, and takes no more memory than that call; only the making of a link takes some for the link itself.
+/// the path as it is, and takes no more memory than that call; but `create` and `put` of a link take some for the link
+/// itself, and `copy` for all of them.
 #[derive(Drop)]
 pub struct LinkTree<D: Database> {
     tree: D,

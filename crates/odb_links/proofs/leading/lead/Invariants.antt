@@ -1,4 +1,3 @@
-use Rattle.odb_tree.specs.Rows.{Rows}
 use Rattle.odb_links.specs.Seen.{seen}
 use Rattle.odb_links.proofs.Following.{IsOnWay}
 use Rattle.odb_links.proofs.leading.lead.Given as goal

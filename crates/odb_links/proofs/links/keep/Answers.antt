@@ -1,4 +1,4 @@
-use Rattle.std.proofs.Common.{◌^◌, List, ◌≡◌, None, subst, ap, ◌∙◌, sym}
+use Rattle.std.proofs.Common.{◌^◌, List, ◌≡◌, None, subst, ◌∙◌, sym}
 use Rattle.odb_links.specs.declared.links.Link.{Link}
 use Rattle.odb_links.specs.Seen.{link_numbered}
 use Rattle.odb_links.specs.Places.{LinkStands}

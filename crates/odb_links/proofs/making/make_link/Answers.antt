@@ -1,8 +1,6 @@
-use Rattle.std.proofs.Common.{◌≡◌, ℕ, List, Option, Some, Result, Ok, Err, subst, sym, ap, ◌∙◌, refl}
+use Rattle.std.proofs.Common.{subst, sym, ◌∙◌, refl}
 use Rattle.std.proofs.lemmas.Result.{err_from_is_err_and}
-use Rattle.odb_value.specs.Values.{HeldValue}
 use Rattle.odb_tree.specs.declared.rows.NewKey.TheVariants.{Link as new_link}
-use Rattle.odb_tree.specs.declared.refusals.OdbRefusal.{OdbRefusal}
 use Rattle.odb_tree.specs.Calls.{Gives}
 use Rattle.odb_tree.proofs.Noted.{none_noted}
 use Rattle.odb_links.specs.Writing.{IsTextTo}

@@ -1,4 +1,4 @@
-use Rattle.std.proofs.Common.{◌≡◌, List, Result, ℕ, sym, ap, subst, ◌∙◌}
+use Rattle.std.proofs.Common.{sym, ap, subst, ◌∙◌}
 use Rattle.odb_tree.specs.Rows.{Rows}
 use Rattle.odb_tree.proofs.Noted.{none_noted}
 use Rattle.odb_links.specs.Seen.{AreLinks, seen}

@@ -1,5 +1,5 @@
 use Rattle.std.proofs.Common.{sym, ◌∙◌}
-use Rattle.odb_links.proofs.Written.{link_typed, value_typed}
+use Rattle.odb_links.proofs.Written.{link_typed}
 use Rattle.odb_links.proofs.making.put_value.Goals as goal
 
 pub put_link-requires-clause-link : goal.put_link-requires-clause-link

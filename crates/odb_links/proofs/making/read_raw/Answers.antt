@@ -1,4 +1,4 @@
-use Rattle.std.proofs.Common.{◌≡◌, List, Result, Ok, Err, ℕ, true, sym, ap, subst, ◌∙◌, inr}
+use Rattle.std.proofs.Common.{Result, Ok, Err, true, sym, ap, subst, ◌∙◌, inr}
 use Rattle.std.proofs.lemmas.Result.{err_from_is_err_and}
 use Rattle.odb_value.specs.Values.{HeldValue}
 use Rattle.odb_tree.specs.declared.refusals.OdbRefusal.{OdbRefusal}

@@ -1,4 +1,4 @@
-use Rattle.std.proofs.Common.{◌≡◌, Ok, Err, false, sym, ap, ◌∙◌}
+use Rattle.std.proofs.Common.{Ok, Err, false, sym, ap, ◌∙◌}
 use Rattle.daq_types.specs.declared.types.Tid.TheVariants as tid
 use Rattle.odb_tree.specs.declared.refusals.OdbRefusal.{OdbRefusal}
 use Rattle.odb_tree.specs.declared.rows.NewKey.TheVariants.{Keys}

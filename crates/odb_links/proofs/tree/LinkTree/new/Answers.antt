@@ -1,4 +1,4 @@
-use Rattle.std.proofs.Common.{◌≡◌, [], List, sym, ap, ◌∙◌, subst}
+use Rattle.std.proofs.Common.{List, sym, ap, ◌∙◌, subst}
 use Rattle.odb_links.specs.declared.links.Link.{Link}
 use Rattle.odb_links.specs.Seen.{seen, AreLinks}
 use Rattle.odb_links.proofs.Views.{begun_seen, begun_links}

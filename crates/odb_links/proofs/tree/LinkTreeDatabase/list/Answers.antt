@@ -1,18 +1,16 @@
-use Rattle.std.proofs.Common.{◌≡◌, ◌≢◌, ◌-◌, ℕ, List, Option, Result, Ok, Err, true, false, length, unwrap_or, refl, sym, ap, ◌∙◌, subst}
+use Rattle.std.proofs.Common.{◌≡◌, ◌≢◌, ℕ, List, Result, Ok, Err, true, unwrap_or, sym, ap, ◌∙◌, subst}
 use Rattle.std.proofs.lemmas.Result.{err_from_is_err_and}
-use Rattle.odb_value.specs.Values.{HeldValue}
-use Rattle.odb_value.specs.Items.{tid_of}
 use Rattle.odb_tree.specs.declared.children.Child.{Child}
 use Rattle.odb_tree.specs.declared.refusals.OdbRefusal.{OdbRefusal}
 use Rattle.odb_tree.specs.declared.refusals.OdbRefusal.TheVariants.{NoMemory}
 use Rattle.odb_tree.specs.declared.entry.DatabaseEntry.TheVariants.{ListDir}
-use Rattle.odb_tree.specs.Links.{resolved, meets_link}
-use Rattle.odb_tree.specs.Calls.{IsRowsReply, rows_after, create_reply, set_reply, set_all_reply, resize_reply, get_reply, list_reply, find_reply}
-use Rattle.odb_tree.specs.Noting.{Watched, all_noted, changes_of}
+use Rattle.odb_tree.specs.Links.{resolved}
+use Rattle.odb_tree.specs.Calls.{IsRowsReply, list_reply}
+use Rattle.odb_tree.specs.Noting.{Watched}
 use Rattle.odb_tree.specs.Databases.{IsDatabase}
 use Rattle.odb_tree.specs.Rows.{Rows}
 use Rattle.odb_links.specs.declared.links.Link.{Link}
-use Rattle.odb_links.specs.Seen.{seen, AreLinks}
+use Rattle.odb_links.specs.Seen.{seen}
 use Rattle.odb_links.proofs.SeenCalls.{list_seen, no_end}
 use Rattle.odb_links.proofs.Views.{database_seen}
 use Rattle.odb_links.proofs.tree.LinkTreeDatabase.list.Goals as goal

@@ -1,4 +1,4 @@
-use Rattle.std.proofs.Common.{◌≡◌, ℕ, List, [], ◌++◌, length, drop, sym, ap, ◌∙◌}
+use Rattle.std.proofs.Common.{ℕ, List, [], ◌++◌, length, drop, sym, ap, ◌∙◌}
 use Rattle.odb_tree.specs.Links.{numbers_along}
 use Rattle.odb_tree.specs.Noting.{Watched}
 use Rattle.odb_links.specs.Seen.{as_seen}
