@@ -1,4 +1,4 @@
--- The members of a session as their crew is made.
+-- The logger as it takes its seat.
 use Rattle.std.proofs.Common.{◌≡◌, ◌∙◌, ℕ, ◌≤◌, List, [], length, ap, sym, refl, subst}
 use Rattle.std.specs.Prelude.{slice_get, Option, None, IfSome}
 use Rattle.daq_types.specs.Callers.{caller_of_client}
@@ -8,7 +8,6 @@ use Rattle.buffer_core.specs.Ports.{Access}
 use Rattle.member_model.specs.RunEngines.{EngineEntry}
 use Rattle.member_model.specs.Turns.{MemberTurn}
 use Rattle.member_model.specs.TurnCalls.{member_turns}
-use Rattle.odb_lock.specs.declared.shared.SharedOdb.{SharedOdb}
 use Rattle.mid_logger.specs.declared.channel_spec.ChannelSpec.{ChannelSpec}
 use Rattle.loggers.specs.declared.logged_run.LoggedRun.{LoggedRun}
 use Rattle.loggers.specs.declared.logger.Logger.{Logger}
@@ -17,54 +16,48 @@ use Rattle.loggers.specs.SlotPulls.{HasEventRoom}
 use Rattle.loggers.specs.Turning.{buffers_begun}
 use Rattle.loggers.specs.LoggerStands.{LoggerStands}
 use Rattle.loggers.specs.Reasons.{GivesReasons}
-use Rattle.frontend_kit.specs.declared.generator.Generator.{Generator}
-use Rattle.session_setup.specs.declared.declared.AnalyzerDeclared.{AnalyzerDeclared}
-use Rattle.session_setup.specs.declared.declared.FrontDeclared.{FrontDeclared}
 use Rattle.daq_members.specs.EngineClients.{EngineClientSeen}
-use Rattle.daq_members.specs.FrontSeats.{FrontSeen}
 use Rattle.daq_members.specs.LoggerSeats.{LoggerSeen, IsFirstLogger, logger_seen}
 use Rattle.daq_members.specs.LoggerTaken.{HaveCaller}
-use Rattle.daq_members.specs.SeatedAnalyzers.{AnalyzerSeen}
-use Rattle.daq_members.specs.Crews.{crew_seen}
 use Rattle.session_objects.specs.declared.objects.SessionObjects.{SessionObjects}
-use Rattle.session_objects.specs.Members.{new_ports, IsNewLogger, AreBareMembers, AreNewMembers}
+use Rattle.session_objects.specs.Members.{new_ports, IsMadeLogger, IsNewLogger}
 use Rattle.session_objects.proofs.BareLaws.{new_port_callers}
 
-module _ {D : Type 0} (fronts : List FrontDeclared) (analyzers : List AnalyzerDeclared) (channels : List ChannelSpec) (objects : SessionObjects) (shared : SharedOdb D)
-    (seats : List (FrontSeen Generator)) (asking : EngineClientSeen) (kept : Logger) (accesses : List Access) (seated_analyzers : List AnalyzerSeen)
-    (bare : AreBareMembers fronts analyzers channels objects shared seats asking kept accesses seated_analyzers) where
+module _ (channels : List ChannelSpec) (objects : SessionObjects) (client : ℕ) (asking : EngineClientSeen) (kept : Logger) (accesses : List Access)
+    (made : IsMadeLogger objects.buffers.items channels kept) (engine : asking.engine ≡ objects.engine) (is : asking.client ≡ client) (none : asking.calls ≡ [])
+    (ports : accesses ≡ new_ports objects.buffers.items (caller_of_client client)) where
   -- it made no call, so it had no turn
   no_turns : member_turns asking.client asking.calls ≡ []
-  no_turns = ap (λ (es : List EngineEntry). member_turns asking.client es) bare.calls
+  no_turns = ap (λ (es : List EngineEntry). member_turns asking.client es) none
 
   -- The logger is ready for its seat, whatever its run files are.
   stands_bare : (seen : Seen) → LoggerStands kept.run kept.stop_dump kept.channels accesses
       (member_turns asking.client asking.calls) seen
   stands_bare seen =
       let A : List Access → Type 0 = λ ps. LoggerStands kept.run kept.stop_dump kept.channels ps (member_turns asking.client asking.calls) seen in
-      let B : List MemberTurn → Type 0 = λ ts. LoggerStands kept.run kept.stop_dump kept.channels (new_ports objects.buffers.items (caller_of_client (length fronts))) ts seen in
-      let C : Option LoggedRun → Type 0 = λ run. LoggerStands run kept.stop_dump kept.channels (new_ports objects.buffers.items (caller_of_client (length fronts))) [] seen in
-      let D' : Option (List ℕ) → Type 0 = λ dump. LoggerStands None dump kept.channels (new_ports objects.buffers.items (caller_of_client (length fronts))) [] seen in
-      subst A (sym bare.ports) (subst B (sym no_turns) (subst C (sym bare.made.run) (subst D' (sym bare.made.stop_dump) (bare.made.stands (caller_of_client (length fronts)) seen))))
+      let B : List MemberTurn → Type 0 = λ ts. LoggerStands kept.run kept.stop_dump kept.channels (new_ports objects.buffers.items (caller_of_client client)) ts seen in
+      let C : Option LoggedRun → Type 0 = λ run. LoggerStands run kept.stop_dump kept.channels (new_ports objects.buffers.items (caller_of_client client)) [] seen in
+      let D' : Option (List ℕ) → Type 0 = λ dump. LoggerStands None dump kept.channels (new_ports objects.buffers.items (caller_of_client client)) [] seen in
+      subst A (sym ports) (subst B (sym no_turns) (subst C (sym made.run) (subst D' (sym made.stop_dump) (made.stands (caller_of_client client) seen))))
 
   caller_bare : HaveCaller (caller_of_client asking.client) accesses
   caller_bare buffer a at =
-      new_port_callers objects.buffers.items (caller_of_client (length fronts)) buffer a (ap (λ (ps : List Access). slice_get ps buffer) (sym bare.ports) ∙ at)
-      ∙ ap caller_of_client (sym bare.is)
+      new_port_callers objects.buffers.items (caller_of_client client) buffer a (ap (λ (ps : List Access). slice_get ps buffer) (sym ports) ∙ at)
+      ∙ ap caller_of_client (sym is)
 
   ready_bare : (seen : Seen) → IsLoggerReady kept.channels accesses seen
   ready_bare seen = let P : List Access → Type 0 = λ ps. IsLoggerReady kept.channels ps seen in
-      subst P (sym bare.ports) (bare.made.ready (caller_of_client (length fronts)) seen)
+      subst P (sym ports) (made.ready (caller_of_client client) seen)
 
   room_bare : (number : ℕ) → HasEventRoom number kept.channels accesses
   room_bare number = let P : List Access → Type 0 = λ ps. HasEventRoom number kept.channels ps in
-      subst P (sym bare.ports) (bare.made.room (caller_of_client (length fronts)) number)
+      subst P (sym ports) (made.room (caller_of_client client) number)
 
   small_bare : IfSome kept.stop_dump (λ bytes. length bytes ≤ record_limit)
-  small_bare = let P : Option (List ℕ) → Type 0 = λ dump. IfSome dump (λ bytes. length bytes ≤ record_limit) in subst P (sym bare.made.stop_dump) tt
+  small_bare = let P : Option (List ℕ) → Type 0 = λ dump. IfSome dump (λ bytes. length bytes ≤ record_limit) in subst P (sym made.stop_dump) tt
 
   reasons_bare : (told : RunFiles) → GivesReasons kept.channels accesses told told (member_turns asking.client asking.calls)
-  reasons_bare told = let P : List MemberTurn → Type 0 = λ ts. GivesReasons kept.channels accesses told told ts in subst P (sym no_turns) (bare.made.reasons accesses told)
+  reasons_bare told = let P : List MemberTurn → Type 0 = λ ts. GivesReasons kept.channels accesses told told ts in subst P (sym no_turns) (made.reasons accesses told)
 
   -- So it is ready for its seat, with these run files.
   pub first_bare : {F : Type 0} (seen : F → Seen) (files : F) → buffers_begun kept.run ≤ length accesses → IsFirstLogger seen (logger_seen asking kept accesses files files)
@@ -73,34 +66,25 @@ module _ {D : Type 0} (fronts : List FrontDeclared) (analyzers : List AnalyzerDe
     caller = caller_bare;
     ready = ready_bare (seen files);
     room = room_bare;
-    fresh = bare.calls;
-    idle = bare.made.idle;
+    fresh = none;
+    idle = made.idle;
     begun = begun;
     small = small_bare;
     reasons = reasons_bare;
   }
 
-  pub logger_bare : {F : Type 0} (files : F) (logger : LoggerSeen F) → logger ≡ logger_seen asking kept accesses files files → IsNewLogger objects (length fronts) channels files logger
-  logger_bare files logger is =
-      let P : LoggerSeen _ → Type 0 = λ l. IsNewLogger objects (length fronts) channels files l in
-      subst P (sym is) (record {
-        engine = bare.engine;
-        is = bare.is;
-        run = bare.made.run;
-        stop_dump = bare.made.stop_dump;
-        calls = bare.calls;
-        slots = bare.made.slots;
-        failed = bare.made.failed;
-        ports = bare.ports;
+  pub logger_bare : {F : Type 0} (files : F) (logger : LoggerSeen F) → logger ≡ logger_seen asking kept accesses files files → IsNewLogger objects client channels files logger
+  logger_bare files logger same =
+      let P : LoggerSeen _ → Type 0 = λ l. IsNewLogger objects client channels files l in
+      subst P (sym same) (record {
+        engine = engine;
+        is = is;
+        run = made.run;
+        stop_dump = made.stop_dump;
+        calls = none;
+        slots = made.slots;
+        failed = made.failed;
+        ports = ports;
         has_files = refl;
         had_files = refl;
       })
-
-  -- So are the members that are made of them.
-  pub crewed : {F : Type 0} (files : F) (logger : LoggerSeen F) → IsNewLogger objects (length fronts) channels files logger →
-      AreNewMembers fronts analyzers channels objects shared files (crew_seen seats logger seated_analyzers)
-  crewed files logger new = record {
-    fronts_are = bare.fronts_are;
-    logger = new;
-    analyzers_are = bare.analyzers_are;
-  }

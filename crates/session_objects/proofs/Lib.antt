@@ -2,7 +2,7 @@ pub mod RosterLaws
 pub mod ClosingLaws
 pub mod OutLaws
 pub mod ChangeLaws
-pub mod UntoldLaws
+pub mod ListedLaws
 pub mod ToldLaws
 pub mod ReturnLaws
 pub mod PlaceLaws
@@ -11,4 +11,4 @@ pub mod SuitLaws
 pub mod BareLaws
 pub mod SeatLaws
 pub mod CrewedLaws
-pub mod ListedLaws
+pub mod MadeLaws

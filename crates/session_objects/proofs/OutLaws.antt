@@ -1,142 +1,131 @@
 -- Which passes are out.
-use Rattle.std.proofs.Common.{◌≡◌, ◌≢◌, ℕ, zero, suc, ◌+◌, ◌<◌, ◌≤◌, Bool, true, false, List, [], ◌∷◌, length, sym, ap, ◌∙◌, refl, subst, ⊎_elim, arith, add-one, if◌then◌else◌}
-use Rattle.std.specs.Prelude.{Contains, nat_lt, slice_get}
-use Rattle.std.proofs.lemmas.Bool.{lt-ltb, le-ltb}
+use Rattle.std.proofs.Common.{◌≡◌, ◌≢◌, ℕ, zero, suc, ◌+◌, ◌<◌, ◌≤◌, ◌==◌, Bool, true, false, List, [], ◌∷◌, sym, ap, ◌∙◌, refl, subst, ⊎_elim, arith, add-one, eq-eqb, ne_eqb, if◌then◌else◌}
+use Rattle.std.specs.Prelude.{Contains, slice_get, Option, Some}
 use mathlib.Core.Logic.{dite}
 use native.Mathlib.Decide.{ℕ_discrete, dec_le}
-use Rattle.session_setup.specs.declared.declared.AnalyzerDeclared.{AnalyzerDeclared}
-use Rattle.session_setup.specs.declared.declared.FrontDeclared.{FrontDeclared}
-use Rattle.session_objects.specs.Kept.{callers_down, senders_down, sends_into, callers_with_logger, analyzers_down, reads_from}
+use Rattle.std.proofs.lemmas.Bool.{lt-ltb, le-ltb}
+use Rattle.session_setup.specs.declared.declared.DeclaredLists.{DeclaredLists}
+use Rattle.session_objects.specs.declared.membership.MemberDeclared.{MemberDeclared}
+use Rattle.session_objects.specs.declared.membership.MemberDeclared.TheVariants.{Logger as WantedLogger}
+use Rattle.session_objects.specs.Kept.{OutNumbers, callers_down, calls_buffer, calls_database, declared_members, own_buffer, out_to, ports_out, buffer_out}
 use Rattle.session_objects.proofs.RosterLaws.{at_first, in_rest, in_list, none_in}
 
--- the main thread and the first so many clients are out
-pub down_all : (n k : ℕ) → k < suc n → Contains (callers_down n) k
-down_all zero k l = at_first 0 [] k (omega arith)
-down_all (suc n) k l = dite (ℕ_discrete k (suc n)) (λ e. at_first (suc n) (callers_down n) k (sym e))
-    (λ other. in_rest (suc n) (callers_down n) k (down_all n k (omega arith)))
+module _ (calls : ℕ → Bool) (others : List ℕ) where
+  -- one client more: it calls the object, or it does not
+  pub down_with : (n : ℕ) → calls n ≡ true → callers_down calls others (suc n) ≡ suc n ∷ callers_down calls others n
+  down_with n e = rw e refl
 
--- and no others
-pub down_only : (n k : ℕ) → Contains (callers_down n) k → k < suc n
-down_only zero k has = ⊎_elim (λ e. omega arith) (λ h. absurd (none_in k h)) (in_list 0 [] k has)
-down_only (suc n) k has = ⊎_elim (λ e. omega arith) (λ h. let l : k < suc n = down_only n k h in omega arith) (in_list (suc n) (callers_down n) k has)
+  pub down_without : (n : ℕ) → calls n ≡ false → callers_down calls others (suc n) ≡ callers_down calls others n
+  down_without n e = rw e refl
 
-module _ (fronts : List FrontDeclared) (buffer : ℕ) where
   under : (s : Bool) (x : ℕ) (xs : List ℕ) (k : ℕ) → Contains xs k → Contains (if s then x ∷ xs else xs) k
   under true x xs k has = in_rest x xs k has
   under false x xs k has = has
 
-  -- each of the first so many front-ends that sends into the buffer has its pass of it
-  pub senders_all : (n client : ℕ) → client < n → sends_into buffer (slice_get fronts client) ≡ true →
-      Contains (senders_down fronts n buffer) (suc client)
-  senders_all zero client l s = absurd (omega arith)
-  senders_all (suc n) client l s = dite (ℕ_discrete client n) (λ e. here e)
-      (λ other. under (sends_into buffer (slice_get fronts n)) (suc n) (senders_down fronts n buffer) (suc client) (senders_all n client (omega arith) s))
+  -- those that were there before the clients are there
+  pub down_others : (n k : ℕ) → Contains others k → Contains (callers_down calls others n) k
+  down_others zero k has = has
+  down_others (suc n) k has = under (calls n) (suc n) (callers_down calls others n) k (down_others n k has)
+
+  -- so is each of the clients that calls the object
+  pub down_all : (n client : ℕ) → client < n → calls client ≡ true → Contains (callers_down calls others n) (suc client)
+  down_all zero client l s = absurd (omega arith)
+  down_all (suc n) client l s = dite (ℕ_discrete client n) (λ e. here e)
+      (λ other. under (calls n) (suc n) (callers_down calls others n) (suc client) (down_all n client (omega arith) s))
     where
-      first : (b : Bool) → b ≡ true → Contains (if b then suc n ∷ senders_down fronts n buffer else senders_down fronts n buffer) (suc n)
-      first true e = at_first (suc n) (senders_down fronts n buffer) (suc n) refl
-      first false e = absurd (cc)
+      here : client ≡ n → Contains (callers_down calls others (suc n)) (suc client)
+      here e =
+          let P : List ℕ → Type 0 = λ ns. Contains ns (suc client) in
+          subst P (sym (down_with n (ap calls (sym e) ∙ s))) (at_first (suc n) (callers_down calls others n) (suc client) (ap suc (sym e)))
 
-      here : client ≡ n → Contains (senders_down fronts (suc n) buffer) (suc client)
-      here e = let P : ℕ → Type 0 = λ m. Contains (senders_down fronts (suc n) buffer) (suc m) in
-          let Q : ℕ → Type 0 = λ m. sends_into buffer (slice_get fronts m) ≡ true in
-          subst P (sym e) (first (sends_into buffer (slice_get fronts n)) (subst Q e s))
-
-  over : (n k : ℕ) (s : Bool) → (Contains (senders_down fronts n buffer) k → k < suc n) →
-      Contains (if s then suc n ∷ senders_down fronts n buffer else senders_down fronts n buffer) k → k < suc (suc n)
-  over n k true below has = ⊎_elim (λ e. omega arith) (λ h. let l : k < suc n = below h in omega arith) (in_list (suc n) (senders_down fronts n buffer) k has)
+  over : (n k : ℕ) (s : Bool) → (Contains (callers_down calls others n) k → k < suc n) →
+      Contains (if s then suc n ∷ callers_down calls others n else callers_down calls others n) k → k < suc (suc n)
+  over n k true below has = ⊎_elim (λ e. omega arith) (λ h. let l : k < suc n = below h in omega arith) (in_list (suc n) (callers_down calls others n) k has)
   over n k false below has = let l : k < suc n = below has in omega arith
 
-  -- and they alone
-  pub senders_only : (n k : ℕ) → Contains (senders_down fronts n buffer) k → k < suc n
-  senders_only zero k has = absurd (none_in k has)
-  senders_only (suc n) k has = over n k (sends_into buffer (slice_get fronts n)) (senders_only n k) has
+  -- and no other one
+  pub down_only : ((k : ℕ) → Contains others k → k < 1) → (n k : ℕ) → Contains (callers_down calls others n) k → k < suc n
+  down_only low zero k has = low k has
+  down_only low (suc n) k has = over n k (calls n) (down_only low n k) has
 
-  -- with the logger, they and it alone
-  pub logger_only : (m k : ℕ) → Contains (callers_with_logger fronts m buffer) k → k < suc (suc (length fronts))
-  logger_only m k has = over (length fronts) k (nat_lt buffer m) (senders_only (length fronts) k) has
+pub none_low : (k : ℕ) → Contains (let nil : List ℕ = [] in nil) k → k < 1
+none_low k has = absurd (none_in k has)
 
-  -- one front-end more
-  pub senders_with : (n : ℕ) → sends_into buffer (slice_get fronts n) ≡ true → senders_down fronts (suc n) buffer ≡ suc n ∷ senders_down fronts n buffer
-  senders_with n e = rw e refl
+pub main_low : (k : ℕ) → Contains (0 ∷ []) k → k < 1
+main_low k has = ⊎_elim (λ e. omega arith) (λ h. absurd (none_in k h)) (in_list 0 [] k has)
 
-  pub senders_without : (n : ℕ) → sends_into buffer (slice_get fronts n) ≡ false → senders_down fronts (suc n) buffer ≡ senders_down fronts n buffer
-  senders_without n e = rw e refl
+-- one pass more of a buffer is out, and none more of another
+pub out_here : (out : OutNumbers) (place number : ℕ) → (buffer_out number place out).buffers place ≡ number ∷ out.buffers place
+out_here out place number = rw (eq-eqb place place refl) refl
 
-  -- the logger has its pass of this buffer, or has it not
-  pub logger_has : (m : ℕ) → buffer < m → callers_with_logger fronts m buffer ≡ suc (length fronts) ∷ senders_down fronts (length fronts) buffer
-  logger_has m l = rw (lt-ltb buffer m l) refl
+pub out_beside : (out : OutNumbers) (place number other : ℕ) → other ≢ place → (buffer_out number place out).buffers other ≡ out.buffers other
+out_beside out place number other apart = rw (ne_eqb place other (λ e. apart (sym e))) refl
 
-  pub logger_lacks : (m : ℕ) → m ≤ buffer → callers_with_logger fronts m buffer ≡ senders_down fronts (length fronts) buffer
-  logger_lacks m l = rw (le-ltb buffer m l) refl
+-- One member more has its passes:
+module _ (lists : DeclaredLists) (client : ℕ) where
+  abbrev wanted_at : ℕ → Option MemberDeclared
+  wanted_at n = slice_get (declared_members lists.fronts lists.analyzers) n
 
-  -- the logger's pass of another buffer does not matter
-  pub logger_beside : (m : ℕ) → buffer ≢ m → callers_with_logger fronts (suc m) buffer ≡ callers_with_logger fronts m buffer
-  logger_beside m other = dite (dec_le m buffer) (λ l. logger_lacks (suc m) (omega arith) ∙ sym (logger_lacks m l))
-      (λ no. logger_has (suc m) (omega arith) ∙ sym (logger_has m (omega arith)))
+  -- of the engine,
+  pub engine_one : (out_to lists (client + 1)).engine ≡ suc client ∷ (out_to lists client).engine
+  engine_one = ap (λ (n : ℕ). (out_to lists n).engine) (add-one client)
 
-  -- the same, where the next number is a sum
-  pub senders_next : (n : ℕ) → sends_into buffer (slice_get fronts n) ≡ true → senders_down fronts (n + 1) buffer ≡ (n + 1) ∷ senders_down fronts n buffer
-  senders_next n e = let P : ℕ → Type 0 = λ m. senders_down fronts m buffer ≡ m ∷ senders_down fronts n buffer in subst P (sym (add-one n)) (senders_with n e)
+  module _ (wanted : MemberDeclared) (at : wanted_at client ≡ Some wanted) where
+    -- of the database, if it calls that,
+    pub database_one : calls_database (Some wanted) ≡ true → (out_to lists (client + 1)).database ≡ suc client ∷ (out_to lists client).database
+    database_one calls_it = ap (λ (n : ℕ). (out_to lists n).database) (add-one client)
+        ∙ down_with (λ n. calls_database (wanted_at n)) (0 ∷ []) client (ap calls_database at ∙ calls_it)
 
-  pub senders_still : (n : ℕ) → sends_into buffer (slice_get fronts n) ≡ false → senders_down fronts (n + 1) buffer ≡ senders_down fronts n buffer
-  senders_still n e = let P : ℕ → Type 0 = λ m. senders_down fronts m buffer ≡ senders_down fronts n buffer in subst P (sym (add-one n)) (senders_without n e)
+    pub database_same : calls_database (Some wanted) ≡ false → (out_to lists (client + 1)).database ≡ (out_to lists client).database
+    database_same not_it = ap (λ (n : ℕ). (out_to lists n).database) (add-one client)
+        ∙ down_without (λ n. calls_database (wanted_at n)) (0 ∷ []) client (ap calls_database at ∙ not_it)
 
-  pub logger_next : (m : ℕ) → buffer ≡ m → callers_with_logger fronts (m + 1) buffer ≡ (length fronts + 1) ∷ callers_with_logger fronts m buffer
-  logger_next m e = logger_has (m + 1) (omega arith) ∙ (let P : ℕ → Type 0 = λ k. k ∷ senders_down fronts (length fronts) buffer ≡ (length fronts + 1) ∷ callers_with_logger fronts m buffer in
-      subst P (add-one (length fronts)) (ap (λ (xs : List ℕ). (length fronts + 1) ∷ xs) (sym (logger_lacks m (omega arith)))))
+    -- and of the buffers that it calls
+    pub buffer_one : (buffer : ℕ) → calls_buffer buffer (Some wanted) ≡ true → (out_to lists (client + 1)).buffers buffer ≡ suc client ∷ (out_to lists client).buffers buffer
+    buffer_one buffer calls_it = ap (λ (n : ℕ). (out_to lists n).buffers buffer) (add-one client)
+        ∙ down_with (λ n. calls_buffer buffer (wanted_at n)) [] client (ap (calls_buffer buffer) at ∙ calls_it)
 
-  pub logger_still : (m : ℕ) → buffer ≢ m → callers_with_logger fronts (m + 1) buffer ≡ callers_with_logger fronts m buffer
-  logger_still m other = let P : ℕ → Type 0 = λ k. callers_with_logger fronts k buffer ≡ callers_with_logger fronts m buffer in subst P (sym (add-one m)) (logger_beside m other)
+    pub buffer_same : (buffer : ℕ) → calls_buffer buffer (Some wanted) ≡ false → (out_to lists (client + 1)).buffers buffer ≡ (out_to lists client).buffers buffer
+    buffer_same buffer not_it = ap (λ (n : ℕ). (out_to lists n).buffers buffer) (add-one client)
+        ∙ down_without (λ n. calls_buffer buffer (wanted_at n)) [] client (ap (calls_buffer buffer) at ∙ not_it)
 
-module _ (analyzers : List AnalyzerDeclared) (first buffer : ℕ) where
-  -- behind another analyzer they are the same still
-  behind_one : (s : Bool) (x : ℕ) (xs : List ℕ) (k : ℕ) → Contains xs k → Contains (if s then x ∷ xs else xs) k
-  behind_one true x xs k has = in_rest x xs k has
-  behind_one false x xs k has = has
+    -- where it calls one alone
+    module _ (one : (number : ℕ) → calls_buffer number (Some wanted) ≡ (own_buffer wanted == number)) where
+      pub own_one : (out_to lists (client + 1)).buffers (own_buffer wanted) ≡ suc client ∷ (out_to lists client).buffers (own_buffer wanted)
+      own_one = buffer_one (own_buffer wanted) (one (own_buffer wanted) ∙ eq-eqb (own_buffer wanted) (own_buffer wanted) refl)
 
-  -- each of the first so many analyzers that reads the buffer has its pass of it
-  pub analyzers_all : (n place : ℕ) → place < n → reads_from buffer (slice_get analyzers place) ≡ true →
-      Contains (analyzers_down analyzers first n buffer) (suc (first + place))
-  analyzers_all zero place l r = absurd (omega arith)
-  analyzers_all (suc n) place l r = dite (ℕ_discrete place n) (λ e. here e)
-      (λ other. behind_one (reads_from buffer (slice_get analyzers n)) (suc (first + n)) (analyzers_down analyzers first n buffer) (suc (first + place)) (analyzers_all n place (omega arith) r))
-    where
-      last : (b : Bool) → b ≡ true → Contains (if b then suc (first + n) ∷ analyzers_down analyzers first n buffer else analyzers_down analyzers first n buffer) (suc (first + n))
-      last true e = at_first (suc (first + n)) (analyzers_down analyzers first n buffer) (suc (first + n)) refl
-      last false e = absurd (cc)
+      pub own_other : (buffer : ℕ) → buffer ≢ own_buffer wanted → (out_to lists (client + 1)).buffers buffer ≡ (out_to lists client).buffers buffer
+      own_other buffer apart = buffer_same buffer (one buffer ∙ ne_eqb (own_buffer wanted) buffer (λ e. apart (sym e)))
 
-      here : place ≡ n → Contains (analyzers_down analyzers first (suc n) buffer) (suc (first + place))
-      here e = let P : ℕ → Type 0 = λ m. Contains (analyzers_down analyzers first (suc n) buffer) (suc (first + m)) in
-          let Q : ℕ → Type 0 = λ m. reads_from buffer (slice_get analyzers m) ≡ true in
-          subst P (sym e) (last (reads_from buffer (slice_get analyzers n)) (subst Q e r))
+      pub own_next : (buffer : ℕ) → (buffer_out (client + 1) (own_buffer wanted) (out_to lists client)).buffers buffer ≡ (out_to lists (client + 1)).buffers buffer
+      own_next buffer = dite (ℕ_discrete buffer (own_buffer wanted))
+          (λ e. let P : ℕ → Type 0 = λ b. (buffer_out (client + 1) (own_buffer wanted) (out_to lists client)).buffers b ≡ (out_to lists (client + 1)).buffers b in
+          subst P (sym e) (out_here (out_to lists client) (own_buffer wanted) (client + 1)
+          ∙ ap (λ (n : ℕ). n ∷ (out_to lists client).buffers (own_buffer wanted)) (add-one client) ∙ sym own_one))
+          (λ apart. out_beside (out_to lists client) (own_buffer wanted) (client + 1) buffer apart ∙ sym (own_other buffer apart))
 
-  beyond : (n k : ℕ) (s : Bool) → (Contains (analyzers_down analyzers first n buffer) k → k < suc (first + n)) →
-      Contains (if s then suc (first + n) ∷ analyzers_down analyzers first n buffer else analyzers_down analyzers first n buffer) k → k < suc (first + suc n)
-  beyond n k true below has = ⊎_elim (λ e. omega arith) (λ h. let l : k < suc (first + n) = below h in omega arith)
-      (in_list (suc (first + n)) (analyzers_down analyzers first n buffer) k has)
-  beyond n k false below has = let l : k < suc (first + n) = below has in omega arith
+  -- One that has a port to each buffer has so many of them.
+  pub port_here : (m buffer : ℕ) → buffer < m → (ports_out lists client m).buffers buffer ≡ (out_to lists (suc client)).buffers buffer
+  port_here m buffer l = rw (lt-ltb buffer m l) refl
 
-  -- and they alone
-  pub analyzers_only : (n k : ℕ) → Contains (analyzers_down analyzers first n buffer) k → k < suc (first + n)
-  analyzers_only zero k has = absurd (none_in k has)
-  analyzers_only (suc n) k has = beyond n k (reads_from buffer (slice_get analyzers n)) (analyzers_only n k) has
+  pub port_gone : (m buffer : ℕ) → m ≤ buffer → (ports_out lists client m).buffers buffer ≡ (out_to lists client).buffers buffer
+  port_gone m buffer l = rw (le-ltb buffer m l) refl
 
-  -- one analyzer more
-  analyzers_with : (n : ℕ) → reads_from buffer (slice_get analyzers n) ≡ true →
-      analyzers_down analyzers first (suc n) buffer ≡ suc (first + n) ∷ analyzers_down analyzers first n buffer
-  analyzers_with n e = rw e refl
+  pub port_beside : (m buffer : ℕ) → buffer ≢ m → (ports_out lists client m).buffers buffer ≡ (ports_out lists client (suc m)).buffers buffer
+  port_beside m buffer other = dite (dec_le m buffer) (λ l. port_gone m buffer l ∙ sym (port_gone (suc m) buffer (omega arith)))
+      (λ no. port_here m buffer (omega arith) ∙ sym (port_here (suc m) buffer (omega arith)))
 
-  analyzers_without : (n : ℕ) → reads_from buffer (slice_get analyzers n) ≡ false →
-      analyzers_down analyzers first (suc n) buffer ≡ analyzers_down analyzers first n buffer
-  analyzers_without n e = rw e refl
+  pub port_now : (m : ℕ) → wanted_at client ≡ Some WantedLogger → (ports_out lists client (suc m)).buffers m ≡ suc client ∷ (ports_out lists client m).buffers m
+  port_now m wanted = port_here (suc m) m (omega arith)
+      ∙ down_with (λ n. calls_buffer m (wanted_at n)) [] client (ap (calls_buffer m) wanted)
+      ∙ ap (λ (ns : List ℕ). suc client ∷ ns) (sym (port_gone m m (omega arith)))
 
-  pub analyzers_next : (n : ℕ) → reads_from buffer (slice_get analyzers n) ≡ true →
-      analyzers_down analyzers first (n + 1) buffer ≡ suc (first + n) ∷ analyzers_down analyzers first n buffer
-  analyzers_next n e = ap (λ (m : ℕ). analyzers_down analyzers first m buffer) (add-one n) ∙ analyzers_with n e
-
-  pub analyzers_still : (n : ℕ) → reads_from buffer (slice_get analyzers n) ≡ false →
-      analyzers_down analyzers first (n + 1) buffer ≡ analyzers_down analyzers first n buffer
-  analyzers_still n e = ap (λ (m : ℕ). analyzers_down analyzers first m buffer) (add-one n) ∙ analyzers_without n e
-
-pub down_next : (n : ℕ) → callers_down (n + 1) ≡ (n + 1) ∷ callers_down n
-down_next n = let P : ℕ → Type 0 = λ m. callers_down m ≡ m ∷ callers_down n in subst P (sym (add-one n)) refl
+  -- one more is taken
+  pub port_next : (m : ℕ) → wanted_at client ≡ Some WantedLogger → (buffer : ℕ) →
+      (buffer_out (client + 1) m (ports_out lists client m)).buffers buffer ≡ (ports_out lists client (m + 1)).buffers buffer
+  port_next m wanted buffer = dite (ℕ_discrete buffer m)
+      (λ e. let P : ℕ → Type 0 = λ b. (buffer_out (client + 1) m (ports_out lists client m)).buffers b ≡ (ports_out lists client (m + 1)).buffers b in
+      subst P (sym e) (out_here (ports_out lists client m) m (client + 1) ∙ ap (λ (n : ℕ). n ∷ (ports_out lists client m).buffers m) (add-one client)
+      ∙ sym (port_now m wanted) ∙ ap (λ (n : ℕ). (ports_out lists client n).buffers m) (sym (add-one m))))
+      (λ apart. out_beside (ports_out lists client m) m (client + 1) buffer apart ∙ port_beside m buffer apart
+      ∙ ap (λ (n : ℕ). (ports_out lists client n).buffers buffer) (sym (add-one m)))

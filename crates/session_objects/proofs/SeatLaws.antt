@@ -1,4 +1,4 @@
--- A front-end as it takes its seat.
+-- Members as they take their seats.
 use Rattle.std.proofs.Common.{◌≡◌, ◌∙◌, ℕ, ◌+◌, ◌≤◌, ◌++◌, ◌∷◌, List, [], length, length-append, ap, sym, refl, subst, arith}
 use Rattle.std.specs.Prelude.{slice_get, Some, None, IsTrue}
 use Rattle.std.proofs.lemmas.Grind.{common_steps}
@@ -16,12 +16,8 @@ use Rattle.daq_members.specs.SeatedAnalyzers.{AnalyzerSeen}
 use Rattle.daq_members.specs.FrontSeats.{FrontSeen}
 use Rattle.daq_members.specs.FrontTaken.{FrontMemberStands}
 use Rattle.session_setup.specs.Setup.{is_buffer_size}
-use Rattle.odb_lock.specs.declared.shared.SharedOdb.{SharedOdb}
-use Rattle.session_setup.specs.declared.declared.AnalyzerDeclared.{AnalyzerDeclared}
-use Rattle.session_setup.specs.declared.declared.FrontDeclared.{FrontDeclared}
-use Rattle.session_objects.specs.declared.objects.SessionObjects.{SessionObjects}
-use Rattle.session_objects.specs.Members.{generator_takes, generator_makes, AreSeated, IsNewFront, IsNewFrontAt, AreNewFronts, IsNewAnalyzer, IsNewAnalyzerAt, AreNewAnalyzers}
-use Rattle.session_objects.proofs.ChangeLaws.{some_same, each_pushed}
+use Rattle.session_objects.specs.Members.{generator_takes, generator_makes, AreSeated}
+use Rattle.session_objects.proofs.ChangeLaws.{each_pushed}
 
 -- what is seen of a front-end is told by its parts
 pub seen_same : (f g : FrontSeen Generator) → f.engine ≡ g.engine → f.client ≡ g.client → f.name ≡ g.name → f.equipment ≡ g.equipment →
@@ -91,32 +87,3 @@ module _ {X : Type 0} (Holds : ℕ → X → Type 0) where
         many = ap length pushed ∙ length-append before (seat ∷ []) ∙ ap (λ (n : ℕ). n + 1) seated.many;
         each = subst At (sym pushed) (each_pushed Holds before seat seated.each (subst Last (sym seated.many) holds));
       }
-
-module _ {D : Type 0} (objects : SessionObjects) (shared : SharedOdb D) (declared : List FrontDeclared) where
-  -- the one at a place is the one that was declared there
-  front_there : (client : ℕ) (wanted : FrontDeclared) (front : FrontSeen Generator) → slice_get declared client ≡ Some wanted →
-      IsNewFrontAt objects shared declared client front → IsNewFront objects shared client wanted front
-  front_there client wanted front at new = let P : FrontDeclared → Type 0 = λ d. IsNewFront objects shared client d front in
-      subst P (some_same new.wanted wanted (sym new.has_wanted ∙ at)) new.is
-
-  -- all front-ends have their seats
-  pub new_fronts : (count : ℕ) (seats : List (FrontSeen Generator)) → count ≡ length declared →
-      AreSeated (IsNewFrontAt objects shared declared) count seats → AreNewFronts objects shared declared seats
-  new_fronts count seats all seated = record {
-    many = seated.many ∙ all;
-    each = λ client wanted front at there. front_there client wanted front at (seated.each client front there);
-  }
-
-module _ (objects : SessionObjects) (first : ℕ) (declared : List AnalyzerDeclared) where
-  analyzer_there : (place : ℕ) (wanted : AnalyzerDeclared) (analyzer : AnalyzerSeen) → slice_get declared place ≡ Some wanted →
-      IsNewAnalyzerAt objects first declared place analyzer → IsNewAnalyzer objects (first + place) wanted analyzer
-  analyzer_there place wanted analyzer at new = let P : AnalyzerDeclared → Type 0 = λ d. IsNewAnalyzer objects (first + place) d analyzer in
-      subst P (some_same new.wanted wanted (sym new.has_wanted ∙ at)) new.is
-
-  -- all analyzers have theirs
-  pub new_analyzers : (count : ℕ) (seats : List AnalyzerSeen) → count ≡ length declared →
-      AreSeated (IsNewAnalyzerAt objects first declared) count seats → AreNewAnalyzers objects first declared seats
-  new_analyzers count seats all seated = record {
-    many = seated.many ∙ all;
-    each = λ place wanted analyzer at there. analyzer_there place wanted analyzer at (seated.each place analyzer there);
-  }

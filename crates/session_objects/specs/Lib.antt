@@ -1,6 +1,5 @@
 pub mod Rosters
 pub mod Objects
-pub mod Memberships
 pub mod Kept
 pub mod Calls
 pub mod Records

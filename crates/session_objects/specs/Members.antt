@@ -1,5 +1,5 @@
 -- The members of a session, as their seats show them.
-use Rattle.std.specs.Prelude.{◌≡◌, ℕ, ◌+◌, ◌-◌, ◌≤◌, min, Bool, nat_le, List, [], map, slice_get, length, Option, Some, None}
+use Rattle.std.specs.Prelude.{◌≡◌, ℕ, ◌+◌, ◌-◌, min, Bool, nat_le, nat_lt, if◌then◌else◌, List, [], ◌∷◌, map, slice_get, length, Option, Some, None}
 use Rattle.daq_types.specs.Callers.{caller_of_client}
 use Rattle.daq_types.specs.declared.events.Event.{Event}
 use Rattle.daq_types.specs.declared.runs.Order.{Order}
@@ -37,11 +37,14 @@ use Rattle.analyzers.specs.declared.analyzer_run.EventRequest.{EventRequest}
 use Rattle.analyzers.specs.Analyzers.{AnalyzerState}
 use Rattle.daq_members.specs.SeatedAnalyzers.{AnalyzerSeen}
 use Rattle.daq_members.specs.Members.{MemberSeen, MemberTold, FrontEnd, Logger, Analyzer}
-use Rattle.daq_members.specs.Crews.{CrewSeen, IsSameCrew, fronts_in, logger_in, analyzers_in, members_of}
+use Rattle.daq_members.specs.Crews.{CrewSeen, IsSameCrew, crew_seen, members_of}
 use Rattle.session_objects.specs.declared.objects.SessionBuffer.{SessionBuffer}
 use Rattle.session_objects.specs.declared.objects.SessionObjects.{SessionObjects}
 use Rattle.session_objects.specs.Objects.{first_analyzer}
-use Rattle.session_objects.specs.Calls.{FrontCalls, AnalyzerCalls, SessionCalls}
+use Rattle.session_objects.specs.declared.membership.MemberDeclared.{MemberDeclared}
+use Rattle.session_objects.specs.declared.membership.MemberDeclared.TheVariants.{FrontEnd as WantedFront, Logger as WantedLogger, Analyzer as WantedAnalyzer}
+use Rattle.session_objects.specs.Kept.{calls_buffer, declared_members}
+use Rattle.session_objects.specs.Calls.{Account, SessionCalls, account_or_none}
 
 -- what is seen of a ring buffer tells its window
 abbrev pub ring_window : CountedWindow → Window
@@ -78,13 +81,6 @@ pub record IsFrontOf {D : Type 0} (objects : SessionObjects) (shared : SharedOdb
   pub access : front.database.database ≡ odb_identity shared
   pub access_caller : front.database.caller ≡ caller_of_client client
 
--- The front-end is the one that was declared with this client number.
-pub record IsFrontAt {D : Type 0} (objects : SessionObjects) (shared : SharedOdb D) (declared : List FrontDeclared) (client : ℕ)
-    (front : FrontSeen Generator) : Type 0 where
-  pub wanted : FrontDeclared
-  pub has_wanted : slice_get declared client ≡ Some wanted
-  pub is : IsFrontOf objects shared client wanted front
-
 -- The front-ends are those that were declared, in their order.
 pub record AreFrontsOf {D : Type 0} (objects : SessionObjects) (shared : SharedOdb D) (declared : List FrontDeclared)
     (seats : List (FrontSeen Generator)) : Type 0 where
@@ -119,12 +115,6 @@ pub record IsAnalyzerOf (objects : SessionObjects) (client : ℕ) (declared : An
   pub port : analyzer.port.buffer ≡ ring_identity buffer.shared
   pub port_caller : analyzer.port.caller ≡ caller_of_client client
 
--- The analyzer is the one that was declared at this place, and the first one has this client number.
-pub record IsAnalyzerAt (objects : SessionObjects) (first : ℕ) (declared : List AnalyzerDeclared) (place : ℕ) (analyzer : AnalyzerSeen) : Type 0 where
-  pub wanted : AnalyzerDeclared
-  pub has_wanted : slice_get declared place ≡ Some wanted
-  pub is : IsAnalyzerOf objects (first + place) wanted analyzer
-
 -- The analyzers are those that were declared, in their order, and the first has this client number.
 pub record AreAnalyzersOf (objects : SessionObjects) (first : ℕ) (declared : List AnalyzerDeclared) (seats : List AnalyzerSeen) : Type 0 where
   pub many : length seats ≡ length declared
@@ -151,27 +141,17 @@ abbrev pub KeepsChannels : {F : Type 0} → MemberTold Generator F → Type 0
 KeepsChannels {F} told = (channels : List ChannelSpec) → (before after : CrewSeen Generator F) →
     IsSameCrew told before after → AreDeclared channels before.logger.slots → AreDeclared channels after.logger.slots
 
--- what the seat of a front-end shows of its calls
-abbrev pub front_calls : FrontSeen Generator → FrontCalls
-front_calls front = record { engine = front.calls; port = front.port; database = front.database.seen }
-
--- what the seat of an analyzer shows of its calls
-abbrev pub analyzer_calls : AnalyzerSeen → AnalyzerCalls
-analyzer_calls analyzer = record { engine = analyzer.calls; port = analyzer.port }
-
--- all calls of a session, by what the main thread and the members know
-abbrev pub session_calls : {F : Type 0} → (engine : List EngineEntry) → (database : List (ℕ × WatchEntry)) →
-    List (FrontSeen Generator) → LoggerSeen F → List AnalyzerSeen → SessionCalls
-session_calls engine database seats logger seated_analyzers = record {
-  main_engine = engine;
-  main_database = database;
-  fronts = map front_calls seats;
-  logger_engine = logger.calls;
-  logger_ports = logger.ports;
-  analyzers = map analyzer_calls seated_analyzers;
-}
-
 -- The members in one list.
+
+-- The member with this client number is the one that was declared.
+pub data IsMemberOf {D F : Type 0} (objects : SessionObjects) (shared : SharedOdb D) (client : ℕ) : MemberDeclared →
+    MemberSeen Generator F → Type 0 where
+  FrontIs : {wanted : FrontDeclared} {front : FrontSeen Generator} → IsFrontOf objects shared client wanted front →
+      IsMemberOf objects shared client (WantedFront wanted) (FrontEnd front)
+  LoggerIs : {logger : LoggerSeen F} → IsLoggerOf objects client logger →
+      IsMemberOf objects shared client WantedLogger (Logger logger)
+  AnalyzerIs : {wanted : AnalyzerDeclared} {analyzer : AnalyzerSeen} → IsAnalyzerOf objects client wanted analyzer →
+      IsMemberOf objects shared client (WantedAnalyzer wanted) (Analyzer analyzer)
 
 -- The list has the members of a session of these declarations, by their client numbers.
 pub record HasMembers {D F : Type 0} (lists : DeclaredLists) (objects : SessionObjects) (shared : SharedOdb D)
@@ -180,38 +160,61 @@ pub record HasMembers {D F : Type 0} (lists : DeclaredLists) (objects : SessionO
   pub laid : members ≡ members_of crew
   pub are : AreMembersOf lists.fronts lists.analyzers objects shared crew.fronts crew.logger crew.analyzers
 
-abbrev pub engine_calls_in : {F : Type 0} → Option (LoggerSeen F) → List EngineEntry
-engine_calls_in None = []
-engine_calls_in (Some logger) = logger.calls
+-- the one port of a member, at the buffer that was declared for it
+abbrev pub port_at : MemberDeclared → Access → (buffer : ℕ) → Option Access
+port_at wanted port buffer = if calls_buffer buffer (Some wanted) then Some port else None
 
-abbrev pub ports_in : {F : Type 0} → Option (LoggerSeen F) → List Access
-ports_in None = []
-ports_in (Some logger) = logger.ports
+-- what a member shows of its calls: a front-end, the logger, an analyzer
+abbrev pub front_account : FrontDeclared → FrontSeen Generator → Account
+front_account wanted front =
+    record { engine = front.calls; port = port_at (WantedFront wanted) front.port; database = front.database.seen }
 
--- all calls of a session, by what the main thread and the members of this list know
-abbrev pub listed_calls : {F : Type 0} → (engine : List EngineEntry) → (database : List (ℕ × WatchEntry)) →
-    List (MemberSeen Generator F) → SessionCalls
-listed_calls engine database members = record {
+abbrev pub logger_account : {F : Type 0} → LoggerSeen F → Account
+logger_account logger = record { engine = logger.calls; port = slice_get logger.ports; database = [] }
+
+abbrev pub analyzer_account : AnalyzerDeclared → AnalyzerSeen → Account
+analyzer_account wanted analyzer =
+    record { engine = analyzer.calls; port = port_at (WantedAnalyzer wanted) analyzer.port; database = [] }
+
+-- of whatever kind it is, if it is of the kind that was declared
+abbrev pub account_of : {F : Type 0} → MemberDeclared → MemberSeen Generator F → Account
+account_of (WantedFront wanted) (FrontEnd front) = front_account wanted front
+account_of WantedLogger (Logger logger) = logger_account logger
+account_of (WantedAnalyzer wanted) (Analyzer analyzer) = analyzer_account wanted analyzer
+account_of wanted member = account_or_none None
+
+-- so each of these members, which were declared so
+abbrev pub accounts_of : {F : Type 0} → List MemberDeclared → List (MemberSeen Generator F) → List Account
+accounts_of [] members = []
+accounts_of (wanted ∷ more) [] = []
+accounts_of (wanted ∷ more) (member ∷ members) = account_of wanted member ∷ accounts_of more members
+
+-- all calls of a session of these declarations, by what the main thread and the members of this list know
+abbrev pub listed_calls : {F : Type 0} → List FrontDeclared → List AnalyzerDeclared → (engine : List EngineEntry) →
+    (database : List (ℕ × WatchEntry)) → List (MemberSeen Generator F) → SessionCalls
+listed_calls fronts analyzers engine database members = record {
   main_engine = engine;
   main_database = database;
-  fronts = map front_calls (fronts_in members);
-  logger_engine = engine_calls_in (logger_in members);
-  logger_ports = ports_in (logger_in members);
-  analyzers = map analyzer_calls (analyzers_in members);
+  members = accounts_of (declared_members fronts analyzers) members;
 }
 
+-- the same, by what the main thread and the members of this crew know
+abbrev pub session_calls : {F : Type 0} → List FrontDeclared → List AnalyzerDeclared → (engine : List EngineEntry) →
+    (database : List (ℕ × WatchEntry)) → List (FrontSeen Generator) → LoggerSeen F → List AnalyzerSeen → SessionCalls
+session_calls fronts analyzers engine database seats logger seated_analyzers =
+    listed_calls fronts analyzers engine database (members_of (crew_seen seats logger seated_analyzers))
+
+-- What was declared with this client number is this, and these calls have this account of it.
+pub record HasAccount (lists : DeclaredLists) (calls : SessionCalls) (client : ℕ) (wanted : MemberDeclared) (account : Account) : Type 0 where
+  pub has_wanted : slice_get (declared_members lists.fronts lists.analyzers) client ≡ Some wanted
+  pub told : slice_get calls.members client ≡ Some account
+
 -- The member is the one with this client number, of a session of these declarations, and made those of these calls that are its own.
-abbrev pub CalledAt : {D F : Type 0} → DeclaredLists → SessionObjects → SharedOdb D → SessionCalls → (client : ℕ) →
-    MemberSeen Generator F → Type 0
-CalledAt lists objects shared calls client (FrontEnd front) =
-    IsFrontAt objects shared lists.fronts client front × (slice_get calls.fronts client ≡ Some (front_calls front))
-CalledAt lists objects shared calls client (Logger logger) =
-    (client ≡ length lists.fronts) × IsLoggerOf objects (length lists.fronts) logger
-    × (calls.logger_engine ≡ logger.calls) × (calls.logger_ports ≡ logger.ports)
-CalledAt lists objects shared calls client (Analyzer analyzer) =
-    (first_analyzer lists.fronts ≤ client)
-    × IsAnalyzerAt objects (first_analyzer lists.fronts) lists.analyzers (client - first_analyzer lists.fronts) analyzer
-    × (slice_get calls.analyzers (client - first_analyzer lists.fronts) ≡ Some (analyzer_calls analyzer))
+pub record CalledAt {D F : Type 0} (lists : DeclaredLists) (objects : SessionObjects) (shared : SharedOdb D) (calls : SessionCalls)
+    (client : ℕ) (member : MemberSeen Generator F) : Type 0 where
+  pub wanted : MemberDeclared
+  pub is : IsMemberOf objects shared client wanted member
+  pub account : HasAccount lists calls client wanted (account_of wanted member)
 
 -- so each of these is
 abbrev pub AreCalledAt : {D F : Type 0} → DeclaredLists → SessionObjects → SharedOdb D → SessionCalls →
@@ -238,20 +241,10 @@ new_access shared caller = shared_access (odb_identity shared) caller []
 abbrev pub new_ports : List SessionBuffer → (caller : ℕ) → List Access
 new_ports buffers caller = map (λ buffer. new_port buffer.shared caller) buffers
 
--- The port is new, and goes to the buffer that was declared for the front-end with this client number, which is its caller.
-pub record IsNewFrontPort (buffers : List SessionBuffer) (declared : List FrontDeclared) (client : ℕ) (port : Access) : Type 0 where
-  pub wanted : FrontDeclared
-  pub has_wanted : slice_get declared client ≡ Some wanted
+-- The port is new, and goes to the buffer of this number; its caller has this client number.
+pub record IsNewPort (buffers : List SessionBuffer) (number client : ℕ) (port : Access) : Type 0 where
   pub buffer : SessionBuffer
-  pub has_buffer : slice_get buffers wanted.buffer ≡ Some buffer
-  pub is : port ≡ new_port buffer.shared (caller_of_client client)
-
--- The port is new, and goes to the buffer that was declared for the analyzer at this place; its caller has this client number.
-pub record IsNewAnalyzerPort (buffers : List SessionBuffer) (declared : List AnalyzerDeclared) (place client : ℕ) (port : Access) : Type 0 where
-  pub wanted : AnalyzerDeclared
-  pub has_wanted : slice_get declared place ≡ Some wanted
-  pub buffer : SessionBuffer
-  pub has_buffer : slice_get buffers wanted.buffer ≡ Some buffer
+  pub has_buffer : slice_get buffers number ≡ Some buffer
   pub is : port ≡ new_port buffer.shared (caller_of_client client)
 
 -- the room for an event that a channel may get from its buffer
@@ -283,13 +276,6 @@ pub record IsNewFront {D : Type 0} (objects : SessionObjects) (shared : SharedOd
   pub has_buffer : slice_get objects.buffers.items declared.buffer ≡ Some buffer
   pub is : front ≡ new_front objects shared client declared buffer
 
--- The front-end is the one that was declared with this client number, and made no call.
-pub record IsNewFrontAt {D : Type 0} (objects : SessionObjects) (shared : SharedOdb D) (declared : List FrontDeclared) (client : ℕ)
-    (front : FrontSeen Generator) : Type 0 where
-  pub wanted : FrontDeclared
-  pub has_wanted : slice_get declared client ≡ Some wanted
-  pub is : IsNewFront objects shared client wanted front
-
 -- The front-ends are those that were declared, in their order, and none made a call.
 pub record AreNewFronts {D : Type 0} (objects : SessionObjects) (shared : SharedOdb D) (declared : List FrontDeclared)
     (seats : List (FrontSeen Generator)) : Type 0 where
@@ -317,12 +303,6 @@ pub record IsNewAnalyzer (objects : SessionObjects) (client : ℕ) (declared : A
   pub buffer : SessionBuffer
   pub has_buffer : slice_get objects.buffers.items declared.buffer ≡ Some buffer
   pub is : analyzer ≡ new_analyzer objects client declared buffer
-
--- The analyzer is the one that was declared at this place, and made no call; the first one has this client number.
-pub record IsNewAnalyzerAt (objects : SessionObjects) (first : ℕ) (declared : List AnalyzerDeclared) (place : ℕ) (analyzer : AnalyzerSeen) : Type 0 where
-  pub wanted : AnalyzerDeclared
-  pub has_wanted : slice_get declared place ≡ Some wanted
-  pub is : IsNewAnalyzer objects (first + place) wanted analyzer
 
 -- The analyzers are those that were declared, in their order, none made a call, and the first has this client number.
 pub record AreNewAnalyzers (objects : SessionObjects) (first : ℕ) (declared : List AnalyzerDeclared) (seats : List AnalyzerSeen) : Type 0 where
@@ -375,15 +355,23 @@ pub record HasNewMembers {D F : Type 0} (lists : DeclaredLists) (channels : List
   pub are : AreMembersOf lists.fronts lists.analyzers objects shared crew.fronts crew.logger crew.analyzers
   pub channels_are : AreDeclared channels crew.logger.slots
 
--- The members, before the run files are the logger's: the front-ends; the logger's client at the engine, the logger, and what its
--- ports tell; and the analyzers.
-pub record AreBareMembers {D : Type 0} (fronts : List FrontDeclared) (analyzers : List AnalyzerDeclared) (channels : List ChannelSpec)
-    (objects : SessionObjects) (shared : SharedOdb D) (seats : List (FrontSeen Generator)) (client : EngineClientSeen) (logger : LoggerState)
-    (accesses : List Access) (seated_analyzers : List AnalyzerSeen) : Type 0 where
-  pub fronts_are : AreNewFronts objects shared fronts seats
-  pub made : IsMadeLogger objects.buffers.items channels logger
-  pub engine : client.engine ≡ objects.engine
-  pub is : client.client ≡ length fronts
-  pub calls : client.calls ≡ []
-  pub ports : accesses ≡ new_ports objects.buffers.items (caller_of_client (length fronts))
-  pub analyzers_are : AreNewAnalyzers objects (first_analyzer fronts) analyzers seated_analyzers
+-- The member with this client number is the one that was declared, and made no call. The logger has these channels and run files.
+pub data IsNewMember {D F : Type 0} (objects : SessionObjects) (shared : SharedOdb D) (channels : List ChannelSpec) (files : F)
+    (client : ℕ) : MemberDeclared → MemberSeen Generator F → Type 0 where
+  NewFront : {wanted : FrontDeclared} {front : FrontSeen Generator} → IsNewFront objects shared client wanted front →
+      IsNewMember objects shared channels files client (WantedFront wanted) (FrontEnd front)
+  NewLogger : {logger : LoggerSeen F} → IsNewLogger objects client channels files logger →
+      IsNewMember objects shared channels files client WantedLogger (Logger logger)
+  NewAnalyzer : {wanted : AnalyzerDeclared} {analyzer : AnalyzerSeen} → IsNewAnalyzer objects client wanted analyzer →
+      IsNewMember objects shared channels files client (WantedAnalyzer wanted) (Analyzer analyzer)
+
+-- The member is the one that was declared with this client number, and made no call.
+pub record IsNewMemberAt {D F : Type 0} (lists : DeclaredLists) (objects : SessionObjects) (shared : SharedOdb D) (files : F)
+    (client : ℕ) (member : MemberSeen Generator F) : Type 0 where
+  pub wanted : MemberDeclared
+  pub has_wanted : slice_get (declared_members lists.fronts lists.analyzers) client ≡ Some wanted
+  pub new : IsNewMember objects shared lists.channels files client wanted member
+
+-- the run files, once so many members are made: the logger has them once it is made, which has this client number
+abbrev pub files_left : {F : Type 0} → (logger clients : ℕ) → F → Option F
+files_left logger clients files = if nat_lt logger clients then None else Some files

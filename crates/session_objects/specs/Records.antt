@@ -26,8 +26,6 @@ use Rattle.odb_watch.specs.Steps.{LeadsDatabase, unwatched}
 use Rattle.odb_watch.specs.History.{AreDue, calls_made}
 use Rattle.odb_lock.specs.declared.shared.SharedOdb.{SharedOdb}
 use Rattle.odb_lock.specs.SharedOdbs.{odb_lock_of, first_database}
-use Rattle.session_setup.specs.declared.declared.AnalyzerDeclared.{AnalyzerDeclared}
-use Rattle.session_setup.specs.declared.declared.FrontDeclared.{FrontDeclared}
 use Rattle.session_objects.specs.declared.objects.SessionBuffer.{SessionBuffer}
 use Rattle.session_objects.specs.declared.objects.SessionObjects.{SessionObjects}
 use Rattle.session_objects.specs.declared.passes.SessionPasses.{SessionPasses}
@@ -51,22 +49,22 @@ pub record HoldsAllOf {M D E : Type 0} {g : _} (passes : List (Pass M D E g)) (c
 
 -- The passes of these objects are here but those with these numbers, and each tells of its caller what stands in these
 -- calls.
-pub record HasCallsBut {D : Type 0} {g : _} (out : OutNumbers) (fronts : List FrontDeclared) (analyzers : List AnalyzerDeclared)
-    (calls : SessionCalls) (objects : SessionObjects) (shared : SharedOdb D) (passes : SessionPasses D g) : Type 0 where
+pub record HasCallsBut {D : Type 0} {g : _} (out : OutNumbers) (calls : SessionCalls)
+    (objects : SessionObjects) (shared : SharedOdb D) (passes : SessionPasses D g) : Type 0 where
   pub engine : KeepsPasses (told_of_engine calls) out.engine (engine_lock_of objects.engine) passes.engine
   pub many : length passes.buffers.items ≡ length objects.buffers.items
   pub buffers : (number : ℕ) → (buffer : SessionBuffer) → (roster : _) →
       slice_get objects.buffers.items number ≡ Some buffer → slice_get passes.buffers.items number ≡ Some roster →
-      KeepsPasses (told_of_buffer fronts analyzers calls number buffer.size) (out.buffers number) (lock_of buffer.shared) roster
+      KeepsPasses (told_of_buffer calls number buffer.size) (out.buffers number) (lock_of buffer.shared) roster
   pub database : KeepsPasses (told_of_database calls) out.database (odb_lock_of shared) passes.database
 
 -- All passes are here.
 abbrev pub none_out : OutNumbers
 none_out = record { engine = []; buffers = λ number. []; database = [] }
 
-abbrev pub HasCalls : {D : Type 0} {g : _} → List FrontDeclared → List AnalyzerDeclared → SessionCalls → SessionObjects → SharedOdb D →
+abbrev pub HasCalls : {D : Type 0} {g : _} → SessionCalls → SessionObjects → SharedOdb D →
     SessionPasses D g → Type 0
-HasCalls fronts analyzers calls objects shared passes = HasCallsBut none_out fronts analyzers calls objects shared passes
+HasCalls calls objects shared passes = HasCallsBut none_out calls objects shared passes
 
 -- The record of a buffer: its history is legal from the buffer as it opened, and led to what the buffer was left as; each
 -- client got what it is owed, and the events of runs stand between their marks.
@@ -99,11 +97,10 @@ pub record HoldsHistories {D : Type 0} {g : _} (objects : SessionObjects) (share
   pub notes : (rows : Rows) → first_database shared ≡ unwatched rows → TellsDueNotes rows (history_of r.database)
 
 -- Each history of the record holds the calls of its callers, and no others.
-pub record HoldsCalls {D : Type 0} {g : _} (fronts : List FrontDeclared) (analyzers : List AnalyzerDeclared) (calls : SessionCalls)
-    (objects : SessionObjects) (shared : SharedOdb D) (r : SessionRecord D g) : Type 0 where
+pub record HoldsCalls {D : Type 0} {g : _} (calls : SessionCalls) (objects : SessionObjects) (shared : SharedOdb D) (r : SessionRecord D g) : Type 0 where
   pub engine : HoldsParts (told_of_engine calls) (passes_of (engine_lock_of objects.engine)) (history_of r.engine)
   pub buffers : (number : ℕ) → (buffer : SessionBuffer) → (closed : BufferRecord) →
       slice_get objects.buffers.items number ≡ Some buffer → slice_get r.buffers number ≡ Some closed →
-      HoldsParts (told_of_buffer fronts analyzers calls number buffer.size) (passes_of (lock_of buffer.shared))
+      HoldsParts (told_of_buffer calls number buffer.size) (passes_of (lock_of buffer.shared))
       (history_of closed.closed)
   pub database : HoldsParts (told_of_database calls) (passes_of (odb_lock_of shared)) (history_of r.database)

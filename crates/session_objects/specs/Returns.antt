@@ -33,6 +33,6 @@ left_also (Analyzer analyzer) left = left
 -- what the logger left.
 pub record ComesBack {D F : Type 0} {g : _} (lists : DeclaredLists) (objects : SessionObjects) (shared : SharedOdb D)
     (engine : List EngineEntry) (database : List (ℕ × WatchEntry)) (crew : CrewSeen Generator F) (back : Returned D F g) : Type 0 where
-  pub calls : HasCalls lists.fronts lists.analyzers (session_calls engine database crew.fronts crew.logger crew.analyzers)
+  pub calls : HasCalls (session_calls lists.fronts lists.analyzers engine database crew.fronts crew.logger crew.analyzers)
       objects shared back.passes
   pub logger : back.logger ≡ logger_end crew.logger

@@ -11,8 +11,6 @@ ghost use Rattle.member_model.specs.RunEngines.{IsLegalEngine};
 ghost use Rattle.transition_lock.specs.SharedEngines.{engine_lock_of, first_engine};
 ghost use Rattle.odb_watch.specs.Steps.{LeadsDatabase};
 ghost use Rattle.odb_lock.specs.SharedOdbs.{odb_lock_of, first_database};
-ghost use Rattle.session_setup.specs.declared.declared.AnalyzerDeclared.{AnalyzerDeclared as Analyzers};
-ghost use Rattle.session_setup.specs.declared.declared.FrontDeclared.{FrontDeclared as Fronts};
 ghost use Rattle.session_objects.specs.Calls.{SessionCalls};
 ghost use Rattle.session_objects.specs.Records.{AreAllPasses, IsRecordOf, HoldsAllOf, HasCalls, HoldsHistories, HoldsCalls};
 
@@ -111,12 +109,10 @@ impl SessionObjects {
         passes: SessionPasses<D>,
         runs: RunRecords,
     ) -> SessionRecord<D>
-        requires { (fronts : List Fronts) × (analyzers : List Analyzers) × (calls : SessionCalls)
-            × HasCalls fronts analyzers calls self database passes }
+        requires { (calls : SessionCalls) × HasCalls calls self database passes }
         ensures histories { HoldsHistories self database result }
-        ensures calls { (fronts : List Fronts) → (analyzers : List Analyzers) →
-            (calls : SessionCalls) → HasCalls fronts analyzers calls self database passes →
-            HoldsCalls fronts analyzers calls self database result }
+        ensures calls { (calls : SessionCalls) → HasCalls calls self database passes →
+            HoldsCalls calls self database result }
         ensures runs { result.runs ≡ runs }
     {
         follows::<Report>();

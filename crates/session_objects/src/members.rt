@@ -1,25 +1,27 @@
 // Making the members of a session.
-ghost use Rattle.std.specs.Prelude.{◌≡◌, ◌<◌, ◌+◌, ◌-◌, [], length, map, min, slice_get, IfOk, OnOk, IfErr};
+ghost use Rattle.std.specs.Prelude.{◌≡◌, ◌≤◌, ◌<◌, ◌+◌, ◌-◌, ◌≢◌, [], length, map, min, slice_get, Contains, Some, None, IfOk, OnOk, OnErr, IfErr};
 ghost use Rattle.daq_types.specs.Callers.{caller_of_client};
+ghost use Rattle.turn_lock.specs.Roster.{numbers_of};
 ghost use Rattle.buffer_lock.specs.SharedPorts.{access_by};
 ghost use Rattle.odb_lock.specs.SharedAccesses.{access_by_pass};
 ghost use Rattle.analyzers.specs.AnalyzerKept.{AnalyzerStands, AnalyzerTells};
 ghost use Rattle.loggers.specs.NewLoggers.{HaveNumbers};
-ghost use Rattle.session_objects.specs.Objects.{first_analyzer, HaveFrontIds, HaveBuffers, SuitMembers};
-ghost use Rattle.session_objects.specs.Memberships.{CanBeSeated};
-ghost use Rattle.session_objects.specs.Kept.{out_to_fronts, out_to_ports, out_to_logger, out_to_analyzers, out_to_members, HasFreshBut};
-ghost use Rattle.session_objects.specs.Members.{ring_window, new_port, new_access, generator_of, event_room_of, event_rooms, idle_analyzer, IsNewFrontPort, IsNewAnalyzerPort, IsNewFrontAt, AreNewFronts, IsNewAnalyzerAt, AreNewAnalyzers, IsMadeLogger, AreBareMembers, HasNewMembers};
+ghost use Rattle.session_objects.specs.declared.membership.MemberDeclared.TheVariants.{FrontEnd, Logger, Analyzer};
+ghost use Rattle.session_objects.specs.Objects.{HaveBuffers, SuitMembers};
+ghost use Rattle.session_objects.specs.Kept.{OutNumbers, declared_members, member_count, out_to, out_to_members, ports_out, engine_out, database_out, buffer_out, HasFreshBut};
+ghost use Rattle.session_objects.specs.Members.{ring_window, new_ports, new_access, generator_of, event_room_of, event_rooms, idle_analyzer, files_left, IsNewPort, IsNewFront, IsNewLogger, IsNewAnalyzer, IsNewMemberAt, IsMadeLogger, AreSeated, HasNewMembers};
 
-use crate::membership::Membership;
-use crate::objects::{SessionBuffer, SessionObjects};
+use crate::membership::{MemberDeclared, Membership};
+use crate::objects::SessionBuffer;
 use crate::passes::{SessionPasses, take_fresh};
-use crate::seats::{SessionAnalyzer, SessionAnalyzers, SessionFront, SessionMembers};
+use crate::seats::{
+    SessionAnalyzer, SessionFront, SessionLogger, SessionMember, SessionMembers,
+};
 use analyzers::Analyzer;
-use buffer_core::BufferPort;
 use buffer_lock::SharedPort;
 use daq_io::Files;
 use daq_members::{
-    AnalyzerMember, AnalyzerMembers, EngineClient, FrontMember, LoggerMember, SentKey, in_one_list,
+    AnalyzerMember, EngineClient, FrontMember, LoggerMember, Member, MemberKind, SentKey,
 };
 use daq_types::{BoundedList, Caller, NoMemory};
 use event::MAX_DATA;
@@ -27,44 +29,14 @@ use front_ends::FrontEnd;
 use frontend_kit::Generator;
 use loggers::{ChannelSpecs, Logger, Ports};
 use mid_logger::ChannelSpec;
-use odb_lock::{LockedDatabase, SharedAccess, SharedOdb, WatchedSeen};
+use odb_lock::{SharedAccess, SharedOdb};
 use odb_tree::Database;
-use odb_watch::{WatchEntry, WatchPort};
 use ring_buffer::RingBuffer;
 use session_setup::{AnalyzerDeclared, FrontDeclared};
 use std::alloc::Global;
-use turn_lock::Machine;
 
 /// How many bytes of its slot in a buffer are not an event's data.
 const SLOT_HEAD: u32 = 24;
-
-/// What a front-end calls by: its client at the engine, its port to its buffer, and its access to the database.
-#[derive(Drop)]
-struct FrontPlaces<'a, D: Database>
-where
-    LockedDatabase<D>: Machine<State = WatchedSeen, Entry = WatchEntry>,
-{
-    engine: EngineClient<'a>,
-    port: SharedPort<'a, RingBuffer>,
-    access: SharedAccess<'a, D>,
-}
-
-/// What an analyzer calls by: its client at the engine, and its port to its buffer.
-#[derive(Drop)]
-struct AnalyzerPlaces<'a> {
-    engine: EngineClient<'a>,
-    port: SharedPort<'a, RingBuffer>,
-}
-
-/// The members, but for the run files and the pick: the logger is yet its client at the engine, the logger and its ports.
-#[derive(Drop)]
-struct BareMembers<'a, P: BufferPort, A: WatchPort> {
-    fronts: Vec<FrontMember<'a, Generator, P, A>>,
-    engine: EngineClient<'a>,
-    logger: Logger,
-    ports: Ports<P>,
-    analyzers: AnalyzerMembers<'a, P>,
-}
 
 /// The equipment that was declared.
 fn generator_of(front: &FrontDeclared) -> Generator
@@ -101,16 +73,41 @@ fn event_rooms(
     Ok(rooms)
 }
 
+/// The channel once more.
+fn copied_channel(channel: &ChannelSpec) -> ChannelSpec
+    ensures { result ≡ channel.now }
+{
+    ChannelSpec {
+        number: channel.number,
+        pattern: channel.pattern.copy(),
+        buffer: channel.buffer,
+        id: channel.id,
+        mask: channel.mask,
+    }
+}
+
+/// The channels once more.
+fn copied_channels(alloc: Global, channels: &[ChannelSpec]) -> Result<ChannelSpecs, NoMemory>
+    ensures { IfOk result (λ copied. copied ≡ channels.now) }
+{
+    let mut copied = BoundedList::new(alloc)?;
+    for channel in channels {
+        copied.try_push(copied_channel(channel))?;
+    }
+    Ok(copied)
+}
+
 /// A logger of these channels, with room for the events of these buffers.
 fn make_logger(
     alloc: Global,
     buffers: &[SessionBuffer],
-    channels: ChannelSpecs,
+    channels: &[ChannelSpec],
 ) -> Result<Logger, NoMemory>
-    requires numbers { HaveNumbers channels }
-    requires read { HaveBuffers channels (length buffers.now) }
-    ensures { IfOk result (IsMadeLogger buffers.now channels) }
+    requires numbers { HaveNumbers channels.now }
+    requires read { HaveBuffers channels.now (length buffers.now) }
+    ensures { IfOk result (IsMadeLogger buffers.now channels.now) }
 {
+    let channels = copied_channels(alloc, channels)?;
     let rooms = event_rooms(alloc, buffers, channels.as_slice())?;
     let logger = Logger::new(alloc, channels, &rooms)?;
     Ok(logger)
@@ -136,282 +133,267 @@ fn make_analyzer(
 }
 
 impl<'a, 's, D: Database> Membership<'a, 's, D> {
-    /// The places of the front-end with this client number, with its passes of its objects.
-    fn place_front(&self, client: u32, passes: &mut SessionPasses<D>) -> FrontPlaces<'a, D>
-        requires client { client < length self.now.lists.now.fronts }
-        requires seats { CanBeSeated self.now.lists.now.fronts self.now.lists.now.analyzers self.now.objects.now
-            self.now.database.now }
-        requires out { HasFreshBut (out_to_fronts self.now.lists.now.fronts client) self.now.objects.now
-            self.now.database.now passes.old }
-        ensures out { HasFreshBut (out_to_fronts self.now.lists.now.fronts (client + 1))
+    /// A port of this client to the buffer of this number, with its pass of that, by which no call was made.
+    fn take_port(
+        &self,
+        client: u32,
+        number: usize,
+        passes: &mut SessionPasses<D>,
+    ) -> SharedPort<'a, RingBuffer>
+        requires client { client < 64 }
+        requires number { number < length self.now.objects.now.buffers.items }
+        requires out { (out : OutNumbers) × HasFreshBut out self.now.objects.now self.now.database.now
+            passes.old }
+        requires there { (roster : _) → slice_get passes.old.buffers.items number ≡ Some roster →
+            Contains (numbers_of roster) (caller_of_client client) }
+        ensures out { (out : OutNumbers) → HasFreshBut out self.now.objects.now self.now.database.now
+            passes.old → HasFreshBut (buffer_out (caller_of_client client) number out)
             self.now.objects.now self.now.database.now passes.new }
-        ensures client { result.engine.client ≡ client }
-        ensures engine { result.engine.engine ≡ self.now.objects.now.engine }
-        ensures calls { result.engine.calls ≡ [] }
-        ensures port { IsNewFrontPort self.now.objects.now.buffers.items self.now.lists.now.fronts client
-            (access_by ring_window result.port) }
-        ensures access { access_by_pass result.access
+        ensures port { IsNewPort self.now.objects.now.buffers.items number client
+            (access_by ring_window result) }
+    {
+        let caller = Caller::of_client(client).number();
+        let pass = passes.take_of_buffer(number, caller);
+        SharedPort::new(&self.objects.buffers[number].shared, pass)
+    }
+
+    /// An access of this client to the database, with its pass of that, by which no call was made.
+    fn take_access(&self, client: u32, passes: &mut SessionPasses<D>) -> SharedAccess<'a, D>
+        requires client { client < 64 }
+        requires out { (out : OutNumbers) × HasFreshBut out self.now.objects.now self.now.database.now
+            passes.old }
+        requires there { Contains (numbers_of passes.old.database) (caller_of_client client) }
+        ensures out { (out : OutNumbers) → HasFreshBut out self.now.objects.now self.now.database.now
+            passes.old → HasFreshBut (database_out (caller_of_client client) out)
+            self.now.objects.now self.now.database.now passes.new }
+        ensures access { access_by_pass result
             ≡ new_access self.now.database.now (caller_of_client client) }
     {
         let caller = Caller::of_client(client).number();
-        let number = self.declared_front(client as usize).buffer as usize;
-        let pass = passes.take_of_buffer(number, caller);
-        let port = SharedPort::new(&self.objects.buffers[number].shared, pass);
-        let access = SharedAccess::new(self.database, take_fresh(&mut passes.database, caller));
-        let engine = EngineClient::new(
-            &self.objects.engine,
-            take_fresh(&mut passes.engine, caller),
-            client,
-        );
-        FrontPlaces {
-            engine,
-            port,
-            access,
-        }
+        SharedAccess::new(self.database, take_fresh(&mut passes.database, caller))
     }
 
-    /// The front-end with this client number.
-    fn seat_front(
-        &self,
-        alloc: Global,
-        client: u32,
-        passes: &mut SessionPasses<D>,
-    ) -> Result<SessionFront<'a, D>, NoMemory>
-        requires client { client < length self.now.lists.now.fronts }
-        requires ids { HaveFrontIds self.now.lists.now.fronts }
-        requires seats { CanBeSeated self.now.lists.now.fronts self.now.lists.now.analyzers self.now.objects.now
-            self.now.database.now }
-        requires out { HasFreshBut (out_to_fronts self.now.lists.now.fronts client) self.now.objects.now
-            self.now.database.now passes.old }
-        ensures out { OnOk result (HasFreshBut (out_to_fronts self.now.lists.now.fronts (client + 1))
-            self.now.objects.now self.now.database.now passes.new) }
-        ensures front { IfOk result (IsNewFrontAt self.now.objects.now self.now.database.now
-            self.now.lists.now.fronts client) }
-    {
-        let FrontPlaces {
-            engine,
-            port,
-            access,
-        } = self.place_front(client, passes);
-        let front = self.declared_front(client as usize);
-        let key = SentKey::new(alloc, front.name)?;
-        let front = FrontEnd::new(alloc, generator_of(front))?;
-        Ok(FrontMember::new(engine, key, front, port, access))
-    }
-
-    /// All front-ends.
-    fn seat_fronts(
-        &self,
-        alloc: Global,
-        passes: &mut SessionPasses<D>,
-    ) -> Result<Vec<SessionFront<'a, D>>, NoMemory>
-        requires ids { HaveFrontIds self.now.lists.now.fronts }
-        requires seats { CanBeSeated self.now.lists.now.fronts self.now.lists.now.analyzers self.now.objects.now
-            self.now.database.now }
-        requires out { HasFreshBut (out_to_fronts self.now.lists.now.fronts 0) self.now.objects.now
-            self.now.database.now passes.old }
-        ensures out { OnOk result (HasFreshBut (out_to_fronts self.now.lists.now.fronts
-            (length self.now.lists.now.fronts)) self.now.objects.now self.now.database.now passes.new) }
-        ensures fronts { IfOk result (λ fronts. AreNewFronts self.now.objects.now
-            self.now.database.now self.now.lists.now.fronts fronts.items) }
-    {
-        let mut fronts = Vec::with_capacity(alloc, self.lists.fronts.len())?;
-        for client in 0..self.lists.fronts.len() as u32 {
-            let front = self.seat_front(alloc, client, passes)?;
-            fronts.push_reserved(front);
-        }
-        Ok(fronts)
-    }
-
-    /// The logger's ports, one to each buffer.
-    fn open_ports(
-        &self,
-        alloc: Global,
-        passes: &mut SessionPasses<D>,
-    ) -> Result<Ports<SharedPort<'a, RingBuffer>>, NoMemory>
-        requires seats { CanBeSeated self.now.lists.now.fronts self.now.lists.now.analyzers self.now.objects.now
-            self.now.database.now }
-        requires out { HasFreshBut (out_to_ports self.now.lists.now.fronts 0) self.now.objects.now
-            self.now.database.now passes.old }
-        ensures out { OnOk result (HasFreshBut (out_to_ports self.now.lists.now.fronts
-            (length self.now.objects.now.buffers.items)) self.now.objects.now self.now.database.now
-            passes.new) }
-        ensures ports { IfOk result (λ ports. map (access_by ring_window) ports
-            ≡ map (λ buffer. new_port buffer.shared (caller_of_client (length self.now.lists.now.fronts)))
-            self.now.objects.now.buffers.items) }
-    {
-        let caller = Caller::of_client(self.lists.fronts.len() as u32).number();
-        let mut ports = BoundedList::new(alloc)?;
-        for number in 0..self.objects.buffers.len() {
-            let pass = passes.take_of_buffer(number, caller);
-            ports.push(SharedPort::new(&self.objects.buffers[number].shared, pass));
-        }
-        Ok(ports)
-    }
-
-    /// The logger's client at the engine, with its pass of that.
-    fn place_logger(&self, passes: &mut SessionPasses<D>) -> EngineClient<'a>
-        requires seats { CanBeSeated self.now.lists.now.fronts self.now.lists.now.analyzers self.now.objects.now
-            self.now.database.now }
-        requires out { HasFreshBut (out_to_ports self.now.lists.now.fronts
-            (length self.now.objects.now.buffers.items)) self.now.objects.now self.now.database.now
+    /// This client at the engine, with its pass of that, by which no call was made.
+    fn take_engine(&self, client: u32, passes: &mut SessionPasses<D>) -> EngineClient<'a>
+        requires client { client < 64 }
+        requires out { (out : OutNumbers) × HasFreshBut out self.now.objects.now self.now.database.now
             passes.old }
-        ensures out { HasFreshBut (out_to_logger self.now.lists.now.fronts
-            (length self.now.objects.now.buffers.items)) self.now.objects.now self.now.database.now
-            passes.new }
-        ensures client { result.client ≡ length self.now.lists.now.fronts }
+        requires there { Contains (numbers_of passes.old.engine) (caller_of_client client) }
+        ensures out { (out : OutNumbers) → HasFreshBut out self.now.objects.now self.now.database.now
+            passes.old → HasFreshBut (engine_out (caller_of_client client) out)
+            self.now.objects.now self.now.database.now passes.new }
+        ensures client { result.client ≡ client }
         ensures engine { result.engine ≡ self.now.objects.now.engine }
         ensures calls { result.calls ≡ [] }
     {
-        let client = self.lists.fronts.len() as u32;
         let caller = Caller::of_client(client).number();
         let pass = take_fresh(&mut passes.engine, caller);
         EngineClient::new(&self.objects.engine, pass, client)
     }
 
-    /// The places of the analyzer at this place of the list, with its passes of its objects.
-    fn place_analyzer(&self, place: u32, passes: &mut SessionPasses<D>) -> AnalyzerPlaces<'a>
-        requires place { place < length self.now.lists.now.analyzers }
-        requires seats { CanBeSeated self.now.lists.now.fronts self.now.lists.now.analyzers self.now.objects.now
-            self.now.database.now }
-        requires out { HasFreshBut (out_to_analyzers self.now.lists.now.fronts self.now.lists.now.analyzers
-            (length self.now.objects.now.buffers.items) place) self.now.objects.now
-            self.now.database.now passes.old }
-        ensures out { HasFreshBut (out_to_analyzers self.now.lists.now.fronts self.now.lists.now.analyzers
-            (length self.now.objects.now.buffers.items) (place + 1)) self.now.objects.now
-            self.now.database.now passes.new }
-        ensures client { result.engine.client ≡ first_analyzer self.now.lists.now.fronts + place }
-        ensures engine { result.engine.engine ≡ self.now.objects.now.engine }
-        ensures calls { result.engine.calls ≡ [] }
-        ensures port { IsNewAnalyzerPort self.now.objects.now.buffers.items self.now.lists.now.analyzers
-            place (first_analyzer self.now.lists.now.fronts + place) (access_by ring_window result.port) }
-    {
-        let client = self.lists.fronts.len() as u32 + 1 + place;
-        let caller = Caller::of_client(client).number();
-        let number = self.declared_analyzer(place as usize).buffer as usize;
-        let pass = passes.take_of_buffer(number, caller);
-        let port = SharedPort::new(&self.objects.buffers[number].shared, pass);
-        let pass = take_fresh(&mut passes.engine, caller);
-        let engine = EngineClient::new(&self.objects.engine, pass, client);
-        AnalyzerPlaces { engine, port }
-    }
-
-    /// The analyzer at this place of the list.
-    fn seat_analyzer(
+    /// The front-end that was declared so with this client number.
+    fn make_front(
         &self,
         alloc: Global,
-        place: u32,
+        client: u32,
+        declared: &FrontDeclared,
+        passes: &mut SessionPasses<D>,
+    ) -> Result<SessionFront<'a, D>, NoMemory>
+        requires declared { slice_get (declared_members self.now.lists.now.fronts
+            self.now.lists.now.analyzers) client ≡ Some (FrontEnd declared.now) }
+        requires suit { SuitMembers self.now.lists.now.fronts self.now.lists.now.analyzers
+            self.now.lists.now.channels self.now.objects.now self.now.database.now }
+        requires out { HasFreshBut (out_to self.now.lists.now client) self.now.objects.now
+            self.now.database.now passes.old }
+        ensures out { OnOk result (HasFreshBut (out_to self.now.lists.now (client + 1))
+            self.now.objects.now self.now.database.now passes.new) }
+        ensures front { IfOk result (IsNewFront self.now.objects.now self.now.database.now client
+            declared.now) }
+    {
+        let key = SentKey::new(alloc, declared.name)?;
+        let front = FrontEnd::new(alloc, generator_of(declared))?;
+        let port = self.take_port(client, declared.buffer as usize, passes);
+        let access = self.take_access(client, passes);
+        let engine = self.take_engine(client, passes);
+        Ok(FrontMember::new(engine, key, front, port, access))
+    }
+
+    /// Ports of this client, one to each buffer.
+    fn take_ports(
+        &self,
+        alloc: Global,
+        client: u32,
+        passes: &mut SessionPasses<D>,
+    ) -> Result<Ports<SharedPort<'a, RingBuffer>>, NoMemory>
+        requires declared { slice_get (declared_members self.now.lists.now.fronts
+            self.now.lists.now.analyzers) client ≡ Some Logger }
+        requires suit { SuitMembers self.now.lists.now.fronts self.now.lists.now.analyzers
+            self.now.lists.now.channels self.now.objects.now self.now.database.now }
+        requires out { HasFreshBut (out_to self.now.lists.now client) self.now.objects.now
+            self.now.database.now passes.old }
+        ensures out { OnOk result (HasFreshBut (ports_out self.now.lists.now client
+            (length self.now.objects.now.buffers.items)) self.now.objects.now
+            self.now.database.now passes.new) }
+        ensures ports { IfOk result (λ ports. map (access_by ring_window) ports
+            ≡ new_ports self.now.objects.now.buffers.items (caller_of_client client)) }
+    {
+        let mut ports = BoundedList::new(alloc)?;
+        for number in 0..self.objects.buffers.len() {
+            ports.push(self.take_port(client, number, passes));
+        }
+        Ok(ports)
+    }
+
+    /// The logger, which has this client number. It gets the run files.
+    fn make_logger_member<F: Files>(
+        &self,
+        alloc: Global,
+        client: u32,
+        passes: &mut SessionPasses<D>,
+        files: &mut Option<F>,
+    ) -> Result<SessionLogger<'a, F>, NoMemory>
+        requires declared { slice_get (declared_members self.now.lists.now.fronts
+            self.now.lists.now.analyzers) client ≡ Some Logger }
+        requires suit { SuitMembers self.now.lists.now.fronts self.now.lists.now.analyzers
+            self.now.lists.now.channels self.now.objects.now self.now.database.now }
+        requires files { (given : F) × (files.old ≡ Some given) }
+        requires out { HasFreshBut (out_to self.now.lists.now client) self.now.objects.now
+            self.now.database.now passes.old }
+        ensures out { OnOk result (HasFreshBut (out_to self.now.lists.now (client + 1))
+            self.now.objects.now self.now.database.now passes.new) }
+        ensures logger { (given : F) → files.old ≡ Some given → IfOk result (IsNewLogger
+            self.now.objects.now client self.now.lists.now.channels given) }
+        ensures files { OnOk result (files.new ≡ None) }
+        ensures kept { OnErr result (files.new ≡ files.old) }
+    {
+        let channels = self.lists.channels.as_slice();
+        let logger = make_logger(alloc, &self.objects.buffers, channels)?;
+        let ports = self.take_ports(alloc, client, passes)?;
+        let engine = self.take_engine(client, passes);
+        let Some(files) = files.take() else {
+            unreachable!()
+        };
+        Ok(LoggerMember::new(engine, logger, ports, files))
+    }
+
+    /// The analyzer that was declared so with this client number.
+    fn make_analyzer_member(
+        &self,
+        alloc: Global,
+        client: u32,
+        declared: &AnalyzerDeclared,
         passes: &mut SessionPasses<D>,
     ) -> Result<SessionAnalyzer<'a>, NoMemory>
-        requires place { place < length self.now.lists.now.analyzers }
-        requires seats { CanBeSeated self.now.lists.now.fronts self.now.lists.now.analyzers self.now.objects.now
-            self.now.database.now }
-        requires out { HasFreshBut (out_to_analyzers self.now.lists.now.fronts self.now.lists.now.analyzers
-            (length self.now.objects.now.buffers.items) place) self.now.objects.now
+        requires declared { slice_get (declared_members self.now.lists.now.fronts
+            self.now.lists.now.analyzers) client ≡ Some (Analyzer declared.now) }
+        requires suit { SuitMembers self.now.lists.now.fronts self.now.lists.now.analyzers
+            self.now.lists.now.channels self.now.objects.now self.now.database.now }
+        requires out { HasFreshBut (out_to self.now.lists.now client) self.now.objects.now
             self.now.database.now passes.old }
-        ensures out { OnOk result (HasFreshBut (out_to_analyzers self.now.lists.now.fronts
-            self.now.lists.now.analyzers (length self.now.objects.now.buffers.items) (place + 1))
+        ensures out { OnOk result (HasFreshBut (out_to self.now.lists.now (client + 1))
             self.now.objects.now self.now.database.now passes.new) }
-        ensures analyzer { IfOk result (IsNewAnalyzerAt self.now.objects.now
-            (first_analyzer self.now.lists.now.fronts) self.now.lists.now.analyzers place) }
+        ensures analyzer { IfOk result (IsNewAnalyzer self.now.objects.now client declared.now) }
     {
-        let analyzer = make_analyzer(
-            alloc,
-            &self.objects.buffers,
-            self.declared_analyzer(place as usize),
-        )?;
-        let AnalyzerPlaces { engine, port } = self.place_analyzer(place, passes);
+        let analyzer = make_analyzer(alloc, &self.objects.buffers, declared)?;
+        let port = self.take_port(client, declared.buffer as usize, passes);
+        let engine = self.take_engine(client, passes);
         Ok(AnalyzerMember::new(engine, analyzer, port))
     }
 
-    /// All analyzers.
-    fn seat_analyzers(
+    /// The member that was declared with this client number, of whatever kind it is. The logger gets the run files.
+    fn make_member<F: Files>(
         &self,
         alloc: Global,
+        client: u32,
         passes: &mut SessionPasses<D>,
-    ) -> Result<SessionAnalyzers<'a>, NoMemory>
-        requires seats { CanBeSeated self.now.lists.now.fronts self.now.lists.now.analyzers self.now.objects.now
-            self.now.database.now }
-        requires out { HasFreshBut (out_to_analyzers self.now.lists.now.fronts self.now.lists.now.analyzers
-            (length self.now.objects.now.buffers.items) 0) self.now.objects.now
+        files: &mut Option<F>,
+    ) -> Result<SessionMember<'a, D, F>, NoMemory>
+        requires client { client < member_count self.now.lists.now.fronts self.now.lists.now.analyzers }
+        requires suit { SuitMembers self.now.lists.now.fronts self.now.lists.now.analyzers
+            self.now.lists.now.channels self.now.objects.now self.now.database.now }
+        requires files { (given : F) × (files.old
+            ≡ files_left (length self.now.lists.now.fronts) client given) }
+        requires out { HasFreshBut (out_to self.now.lists.now client) self.now.objects.now
             self.now.database.now passes.old }
-        ensures out { OnOk result (HasFreshBut (out_to_members self.now.lists.now.fronts
-            self.now.lists.now.analyzers (length self.now.objects.now.buffers.items)) self.now.objects.now
-            self.now.database.now passes.new) }
-        ensures analyzers { IfOk result (λ seats. AreNewAnalyzers self.now.objects.now
-            (first_analyzer self.now.lists.now.fronts) self.now.lists.now.analyzers seats) }
+        ensures out { OnOk result (HasFreshBut (out_to self.now.lists.now (client + 1))
+            self.now.objects.now self.now.database.now passes.new) }
+        ensures member { (given : F) → files.old
+            ≡ files_left (length self.now.lists.now.fronts) client given → IfOk result
+            (IsNewMemberAt self.now.lists.now self.now.objects.now self.now.database.now given client) }
+        ensures files { (given : F) → files.old
+            ≡ files_left (length self.now.lists.now.fronts) client given → OnOk result (files.new
+            ≡ files_left (length self.now.lists.now.fronts) (client + 1) given) }
+        ensures kept { OnErr result (files.new ≡ files.old) }
     {
-        let mut seats = BoundedList::new(alloc)?;
-        for place in 0..self.lists.analyzers.len() as u32 {
-            let analyzer = self.seat_analyzer(alloc, place, passes)?;
-            seats.push(analyzer);
+        let kind = match self.declared(client as usize) {
+            MemberDeclared::FrontEnd(declared) => {
+                MemberKind::FrontEnd(self.make_front(alloc, client, &declared, passes)?)
+            }
+            MemberDeclared::Logger => {
+                MemberKind::Logger(self.make_logger_member(alloc, client, passes, files)?)
+            }
+            MemberDeclared::Analyzer(declared) => {
+                MemberKind::Analyzer(self.make_analyzer_member(alloc, client, &declared, passes)?)
+            }
+        };
+        Ok(Member::new(kind))
+    }
+
+    /// The run files, where so many members are made: they are here, or with the logger among these members.
+    fn files_back<F: Files + Drop>(
+        &self,
+        mut members: SessionMembers<'a, D, F>,
+        files: Option<F>,
+    ) -> F
+        requires files { (given : F) × (files ≡ files_left (length self.now.lists.now.fronts)
+            (length members) given) × AreSeated (IsNewMemberAt self.now.lists.now
+            self.now.objects.now self.now.database.now given) (length members) members }
+        ensures { (given : F) → files.entry ≡ files_left (length self.now.lists.now.fronts)
+            (length members.entry) given → AreSeated (IsNewMemberAt self.now.lists.now
+            self.now.objects.now self.now.database.now given) (length members.entry) members.entry
+            → result ≡ given }
+    {
+        let mut found = files;
+        while let Some(member) = members.pop() {
+            if let MemberKind::Logger(logger) = member.into_kind() {
+                found = Some(logger.into_parts().files);
+            }
         }
-        Ok(seats)
+        let Some(files) = found else {
+            unreachable!()
+        };
+        files
     }
 
-    /// The members, but for the run files and the pick. All memory that they need is taken here.
-    fn bare_members(
-        &self,
-        alloc: Global,
-        channels: ChannelSpecs,
-        passes: &mut SessionPasses<D>,
-    ) -> Result<BareMembers<'a, SharedPort<'a, RingBuffer>, SharedAccess<'a, D>>, NoMemory>
-        requires suit { SuitMembers self.now.lists.now.fronts self.now.lists.now.analyzers channels
-            self.now.objects.now self.now.database.now }
-        requires out { HasFreshBut (out_to_fronts self.now.lists.now.fronts 0) self.now.objects.now
-            self.now.database.now passes.old }
-        ensures out { OnOk result (HasFreshBut (out_to_members self.now.lists.now.fronts
-            self.now.lists.now.analyzers (length self.now.objects.now.buffers.items)) self.now.objects.now
-            self.now.database.now passes.new) }
-        ensures members { IfOk result (λ bare. AreBareMembers self.now.lists.now.fronts
-            self.now.lists.now.analyzers channels self.now.objects.now self.now.database.now
-            bare.fronts.items bare.engine bare.logger (map (access_by ring_window) bare.ports)
-            bare.analyzers) }
-    {
-        let logger = make_logger(alloc, &self.objects.buffers, channels)?;
-        let fronts = self.seat_fronts(alloc, passes)?;
-        let ports = self.open_ports(alloc, passes)?;
-        let engine = self.place_logger(passes);
-        let analyzers = self.seat_analyzers(alloc, passes)?;
-        Ok(BareMembers {
-            fronts,
-            engine,
-            logger,
-            ports,
-            analyzers,
-        })
-    }
-
-    /// The members of a session, by their client numbers, none of which made a call: its front-ends, in their order, the logger with
-    /// these channels, and its analyzers, in their order. Their passes are taken out of those that are kept. The run files come
-    /// back where memory is wanting for the members.
+    /// The members of a session, by their client numbers, none of which made a call: its front-ends, in their order, the logger, and
+    /// its analyzers, in their order. Their passes are taken out of those that are kept. The run files come back where memory is
+    /// wanting for the members.
     pub fn members<F: Files + Drop>(
         &self,
         alloc: Global,
-        channels: ChannelSpecs,
         passes: &mut SessionPasses<D>,
         files: F,
     ) -> Result<SessionMembers<'a, D, F>, F>
-        requires suit { SuitMembers self.now.lists.now.fronts self.now.lists.now.analyzers channels
-            self.now.objects.now self.now.database.now }
-        requires out { HasFreshBut (out_to_fronts self.now.lists.now.fronts 0)
-            self.now.objects.now self.now.database.now passes.old }
-        ensures members { IfOk result (HasNewMembers self.now.lists.now channels
-            self.now.objects.now self.now.database.now files) }
-        ensures out { OnOk result (HasFreshBut (out_to_members self.now.lists.now.fronts
-            self.now.lists.now.analyzers (length self.now.objects.now.buffers.items))
+        requires suit { SuitMembers self.now.lists.now.fronts self.now.lists.now.analyzers
+            self.now.lists.now.channels self.now.objects.now self.now.database.now }
+        requires out { HasFreshBut (out_to self.now.lists.now 0) self.now.objects.now
+            self.now.database.now passes.old }
+        ensures members { IfOk result (HasNewMembers self.now.lists.now
+            self.now.lists.now.channels self.now.objects.now self.now.database.now files) }
+        ensures out { OnOk result (HasFreshBut (out_to_members self.now.lists.now)
             self.now.objects.now self.now.database.now passes.new) }
         ensures files { IfErr result (λ back. back ≡ files) }
     {
-        let Ok(list) = BoundedList::new(alloc) else {
+        let Ok(mut members) = BoundedList::new(alloc) else {
             return Err(files);
         };
-        match self.bare_members(alloc, channels, passes) {
-            Ok(bare) => {
-                let logger = LoggerMember::new(bare.engine, bare.logger, bare.ports, files);
-                Ok(in_one_list(list, bare.fronts, logger, bare.analyzers))
-            }
-            Err(NoMemory) => Err(files),
+        let mut files = Some(files);
+        for client in 0..self.count() {
+            let Ok(member) = self.make_member(alloc, client, passes, &mut files) else {
+                return Err(self.files_back(members, files));
+            };
+            members.push(member);
         }
+        Ok(members)
     }
 }

@@ -1,10 +1,19 @@
 // What the members of a session are made for.
-ghost use Rattle.std.specs.Prelude.{◌≡◌, ◌<◌, length, slice_get, Some};
+ghost use Rattle.std.specs.Prelude.{◌≡◌, ◌<◌, ◌≤◌, length, slice_get, Some};
+ghost use Rattle.session_objects.specs.Kept.{declared_members, member_count, own_buffer};
 
 use crate::objects::SessionObjects;
 use odb_lock::SharedOdb;
 use odb_tree::Database;
 use session_setup::{AnalyzerDeclared, DeclaredLists, FrontDeclared};
+
+/// What was declared with a client number: which kind of member.
+#[derive(Clone, Copy, Debug)]
+pub enum MemberDeclared {
+    FrontEnd(FrontDeclared),
+    Logger,
+    Analyzer(AnalyzerDeclared),
+}
 
 /// What the members of a session call, and which members it has: its objects and its database, and what was declared.
 #[derive(Drop)]
@@ -15,19 +24,41 @@ pub struct Membership<'a, 's, D: Database> {
 }
 
 impl<'a, 's, D: Database> Membership<'a, 's, D> {
-    /// The front-end that was declared with this client number.
-    pub(crate) fn declared_front(&self, client: usize) -> &FrontDeclared
-        requires { client < length self.now.lists.now.fronts }
-        ensures { slice_get self.now.lists.now.fronts client ≡ Some result.now }
+    /// How many members were declared.
+    pub(crate) fn count(&self) -> u32
+        requires few { length self.now.lists.now.fronts ≤ 32 }
+        requires few_analyzers { length self.now.lists.now.analyzers ≤ 8 }
+        ensures { result ≡ member_count self.now.lists.now.fronts self.now.lists.now.analyzers }
     {
-        &self.lists.fronts.as_slice()[client]
+        self.lists.fronts.len() as u32 + 1 + self.lists.analyzers.len() as u32
     }
 
-    /// The analyzer that was declared at this place.
-    pub(crate) fn declared_analyzer(&self, place: usize) -> &AnalyzerDeclared
-        requires { place < length self.now.lists.now.analyzers }
-        ensures { slice_get self.now.lists.now.analyzers place ≡ Some result.now }
+    /// The member that was declared with this client number.
+    pub(crate) fn declared(&self, client: usize) -> MemberDeclared
+        requires { client < member_count self.now.lists.now.fronts self.now.lists.now.analyzers }
+        ensures { slice_get (declared_members self.now.lists.now.fronts
+            self.now.lists.now.analyzers) client ≡ Some result }
     {
-        &self.lists.analyzers.as_slice()[place]
+        let fronts = self.lists.fronts.as_slice();
+        if client < fronts.len() {
+            return MemberDeclared::FrontEnd(fronts[client]);
+        }
+        if client == fronts.len() {
+            return MemberDeclared::Logger;
+        }
+        MemberDeclared::Analyzer(self.lists.analyzers.as_slice()[client - fronts.len() - 1])
+    }
+
+    /// The number of the buffer that the member with this client number calls, where it calls one alone.
+    pub(crate) fn own_buffer(&self, client: usize) -> usize
+        requires { client < member_count self.now.lists.now.fronts self.now.lists.now.analyzers }
+        ensures { (declared : _) → slice_get (declared_members self.now.lists.now.fronts
+            self.now.lists.now.analyzers) client ≡ Some declared → result ≡ own_buffer declared }
+    {
+        match self.declared(client) {
+            MemberDeclared::FrontEnd(front) => front.buffer as usize,
+            MemberDeclared::Logger => 0,
+            MemberDeclared::Analyzer(analyzer) => analyzer.buffer as usize,
+        }
     }
 }

@@ -10,7 +10,7 @@ ghost use Rattle.odb_lock.specs.SharedOdbs.{odb_lock_of};
 ghost use Rattle.session_setup.specs.Setup.{declared_by, is_buffer_size, AreSound};
 ghost use Rattle.session_objects.specs.Rosters.{KeepsFresh};
 ghost use Rattle.session_objects.specs.Objects.{IsBufferOf, AreBuffersOf, AreObjectsOf};
-ghost use Rattle.session_objects.specs.Kept.{out_to_fronts, HasFreshBut};
+ghost use Rattle.session_objects.specs.Kept.{out_to, HasFreshBut};
 
 use crate::objects::{SessionBuffer, SessionObjects};
 use crate::passes::{SessionPasses, take_main};
@@ -111,7 +111,7 @@ impl SessionObjects {
         ensures objects { IfOk result (λ opened. AreObjectsOf lists.now opened.objects) }
         ensures passes { IfOk result (λ opened. (shared : DatabaseShared D) →
             KeepsFresh (main_caller ∷ []) (odb_lock_of shared) database →
-            HasFreshBut (out_to_fronts lists.now.fronts 0) opened.objects shared opened.passes) }
+            HasFreshBut (out_to lists.now 0) opened.objects shared opened.passes) }
 
         // The main thread has its pass of the engine, by which no call was made.
         ensures main { IfOk result (λ opened. number_of opened.main ≡ main_caller) }

@@ -6,12 +6,13 @@ ghost use Rattle.buffer_lock.specs.SharedPorts.{access_by};
 ghost use Rattle.transition_lock.specs.SharedEngines.{engine_lock_of};
 ghost use Rattle.odb_lock.specs.SharedOdbs.{odb_lock_of};
 ghost use Rattle.session_objects.specs.Rosters.{IsMainPass};
-ghost use Rattle.session_objects.specs.Calls.{SessionCalls};
-ghost use Rattle.session_objects.specs.Kept.{out_to, out_to_fronts, out_to_ports, out_to_logger, out_to_analyzers, out_to_members, HasFreshBut};
+ghost use Rattle.session_objects.specs.Calls.{SessionCalls, account_at};
+ghost use Rattle.session_objects.specs.declared.membership.MemberDeclared.TheVariants.{FrontEnd, Logger, Analyzer};
+ghost use Rattle.session_objects.specs.Kept.{declared_members, out_to, out_to_members, ports_out, HasFreshBut};
 ghost use Rattle.session_objects.specs.Records.{HasCallsBut, HasCalls};
 ghost use Rattle.daq_members.specs.Crews.{logger_in, members_of};
-ghost use Rattle.session_objects.specs.Objects.{first_analyzer, HaveCallers};
-ghost use Rattle.session_objects.specs.Members.{ring_window, ArePortsTo, IsFrontAt, IsLoggerOf, IsAnalyzerAt, HasMembers, CalledAt, AreCalledAt, front_calls, analyzer_calls, listed_calls};
+ghost use Rattle.session_objects.specs.Objects.{HaveCallers};
+ghost use Rattle.session_objects.specs.Members.{ring_window, front_account, logger_account, analyzer_account, ArePortsTo, IsFrontOf, IsLoggerOf, IsAnalyzerOf, HasMembers, HasAccount, CalledAt, AreCalledAt, listed_calls};
 ghost use Rattle.session_objects.specs.Returns.{ComesBack, left_also, left_by, logger_end};
 
 use crate::membership::Membership;
@@ -54,14 +55,13 @@ impl<'a, 's, D: Database> Membership<'a, 's, D> {
         passes: &mut SessionPasses<D>,
     )
         ghost calls: { SessionCalls }
-        requires client { IsFrontAt self.now.objects.now self.now.database.now self.now.lists.now.fronts
-            client front }
-        requires calls { slice_get calls.fronts client ≡ Some (front_calls front) }
-        requires out { HasCallsBut (out_to_fronts self.now.lists.now.fronts (client + 1))
-            self.now.lists.now.fronts self.now.lists.now.analyzers calls self.now.objects.now
-            self.now.database.now passes.old }
-        ensures { HasCallsBut (out_to_fronts self.now.lists.now.fronts client) self.now.lists.now.fronts
-            self.now.lists.now.analyzers calls self.now.objects.now self.now.database.now passes.new }
+        requires front { (wanted : _) × IsFrontOf self.now.objects.now self.now.database.now client
+            wanted front × HasAccount self.now.lists.now calls client (FrontEnd wanted)
+            (front_account wanted front) }
+        requires out { HasCallsBut (out_to self.now.lists.now (client + 1)) calls
+            self.now.objects.now self.now.database.now passes.old }
+        ensures { HasCallsBut (out_to self.now.lists.now client) calls self.now.objects.now
+            self.now.database.now passes.new }
     {
         let FrontParts {
             pass,
@@ -71,86 +71,75 @@ impl<'a, 's, D: Database> Membership<'a, 's, D> {
         } = front.into_parts();
         passes.put_to_engine(pass);
         passes.put_to_database(access.into_pass());
-        passes.put_to_buffer(
-            self.declared_front(client).buffer as usize,
-            port.into_pass(),
-        );
+        passes.put_to_buffer(self.own_buffer(client), port.into_pass());
     }
 
-    /// Takes the passes of the logger back.
+    /// Takes the passes of the logger back, which has this client number and is the last one that has them.
     fn take_back_logger<F: Files>(
         &self,
+        client: usize,
         logger: SessionLogger<'a, F>,
         passes: &mut SessionPasses<D>,
     ) -> LoggerEnd<F>
         ghost calls: { SessionCalls }
-        requires logger { IsLoggerOf self.now.objects.now (length self.now.lists.now.fronts) logger }
-        requires fronts { length calls.fronts ≡ length self.now.lists.now.fronts }
-        requires engine { calls.logger_engine ≡ logger.calls }
-        requires ports { calls.logger_ports ≡ logger.ports }
-        requires out { HasCallsBut (out_to_logger self.now.lists.now.fronts
-            (length self.now.objects.now.buffers.items)) self.now.lists.now.fronts self.now.lists.now.analyzers
-            calls self.now.objects.now self.now.database.now passes.old }
+        requires logger { IsLoggerOf self.now.objects.now client logger }
+        requires calls { HasAccount self.now.lists.now calls client Logger (logger_account logger) }
+        requires out { HasCallsBut (out_to self.now.lists.now (client + 1)) calls
+            self.now.objects.now self.now.database.now passes.old }
         ensures end { result ≡ logger_end logger.entry }
-        ensures out { HasCallsBut (out_to_fronts self.now.lists.now.fronts (length self.now.lists.now.fronts))
-            self.now.lists.now.fronts self.now.lists.now.analyzers calls self.now.objects.now
+        ensures out { HasCallsBut (out_to self.now.lists.now client) calls self.now.objects.now
             self.now.database.now passes.new }
     {
         let failed = logger.failed();
         let LoggerParts { pass, ports, files } = logger.into_parts();
         passes.put_to_engine(pass);
-        self.take_back_ports(ports, passes);
+        self.take_back_ports(client, ports, passes);
         LoggerEnd { files, failed }
     }
 
-    /// Takes the passes of the logger's ports back, each to those of its buffer.
+    /// Takes the passes of the ports of this client back, each to those of its buffer.
     fn take_back_ports(
         &self,
+        client: usize,
         mut ports: Ports<SharedPort<'a, RingBuffer>>,
         passes: &mut SessionPasses<D>,
     )
         ghost calls: { SessionCalls }
-        requires many { length ports ≡ length self.now.objects.now.buffers.items }
-        requires ports { ArePortsTo self.now.objects.now.buffers.items
-            (caller_of_client (length self.now.lists.now.fronts)) (map (access_by ring_window) ports) }
-        requires calls { calls.logger_ports ≡ map (access_by ring_window) ports }
-        requires out { HasCallsBut (out_to_ports self.now.lists.now.fronts
-            (length self.now.objects.now.buffers.items)) self.now.lists.now.fronts self.now.lists.now.analyzers
-            calls self.now.objects.now self.now.database.now passes.old }
-        ensures { HasCallsBut (out_to_fronts self.now.lists.now.fronts (length self.now.lists.now.fronts))
-            self.now.lists.now.fronts self.now.lists.now.analyzers calls self.now.objects.now
-            self.now.database.now passes.new }
+        requires wanted { slice_get (declared_members self.now.lists.now.fronts
+            self.now.lists.now.analyzers) client ≡ Some Logger }
+        requires ports { ArePortsTo self.now.objects.now.buffers.items (caller_of_client client)
+            (map (access_by ring_window) ports) }
+        requires calls { (account_at calls client).port
+            ≡ slice_get (map (access_by ring_window) ports) }
+        requires out { HasCallsBut (ports_out self.now.lists.now client (length ports)) calls
+            self.now.objects.now self.now.database.now passes.old }
+        ensures { HasCallsBut (ports_out self.now.lists.now client 0) calls
+            self.now.objects.now self.now.database.now passes.new }
     {
         while let Some(port) = ports.pop() {
             passes.put_to_buffer(ports.len(), port.into_pass());
         }
     }
 
-    /// Takes the passes of the analyzer at this place of the list back, which is the last one that has them.
+    /// Takes the passes of the analyzer with this client number back, which is the last one that has them.
     fn take_back_analyzer(
         &self,
-        place: usize,
+        client: usize,
         analyzer: SessionAnalyzer<'a>,
         passes: &mut SessionPasses<D>,
     )
         ghost calls: { SessionCalls }
-        requires place { IsAnalyzerAt self.now.objects.now (first_analyzer self.now.lists.now.fronts)
-            self.now.lists.now.analyzers place analyzer }
-        requires calls { slice_get calls.analyzers place ≡ Some (analyzer_calls analyzer) }
-        requires fronts { length calls.fronts ≡ length self.now.lists.now.fronts }
-        requires out { HasCallsBut (out_to_analyzers self.now.lists.now.fronts self.now.lists.now.analyzers
-            (length self.now.objects.now.buffers.items) (place + 1)) self.now.lists.now.fronts
-            self.now.lists.now.analyzers calls self.now.objects.now self.now.database.now passes.old }
-        ensures { HasCallsBut (out_to_analyzers self.now.lists.now.fronts self.now.lists.now.analyzers
-            (length self.now.objects.now.buffers.items) place) self.now.lists.now.fronts
-            self.now.lists.now.analyzers calls self.now.objects.now self.now.database.now passes.new }
+        requires analyzer { (wanted : _) × IsAnalyzerOf self.now.objects.now client wanted analyzer
+            × HasAccount self.now.lists.now calls client (Analyzer wanted)
+            (analyzer_account wanted analyzer) }
+        requires out { HasCallsBut (out_to self.now.lists.now (client + 1)) calls
+            self.now.objects.now self.now.database.now passes.old }
+        ensures { HasCallsBut (out_to self.now.lists.now client) calls self.now.objects.now
+            self.now.database.now passes.new }
     {
         let AnalyzerParts { pass, port } = analyzer.into_parts();
         passes.put_to_engine(pass);
-        passes.put_to_buffer(
-            self.declared_analyzer(place).buffer as usize,
-            port.into_pass(),
-        );
+        passes.put_to_buffer(self.own_buffer(client), port.into_pass());
     }
 
     /// Takes the passes of the member with this client number back, which is the last one that has them. Of the logger this also
@@ -165,24 +154,16 @@ impl<'a, 's, D: Database> Membership<'a, 's, D> {
         ghost calls: { SessionCalls }
         requires member { CalledAt self.now.lists.now self.now.objects.now self.now.database.now
             calls client member }
-        requires fronts { length calls.fronts ≡ length self.now.lists.now.fronts }
-        requires out { HasCallsBut (out_to self.now.lists.now.fronts self.now.lists.now.analyzers
-            (length self.now.objects.now.buffers.items) (client + 1)) self.now.lists.now.fronts
-            self.now.lists.now.analyzers calls self.now.objects.now self.now.database.now
-            passes.old }
+        requires out { HasCallsBut (out_to self.now.lists.now (client + 1)) calls
+            self.now.objects.now self.now.database.now passes.old }
         ensures left { left.new ≡ left_also member.entry left.old }
-        ensures out { HasCallsBut (out_to self.now.lists.now.fronts self.now.lists.now.analyzers
-            (length self.now.objects.now.buffers.items) client) self.now.lists.now.fronts
-            self.now.lists.now.analyzers calls self.now.objects.now self.now.database.now
-            passes.new }
+        ensures out { HasCallsBut (out_to self.now.lists.now client) calls self.now.objects.now
+            self.now.database.now passes.new }
     {
         match member.into_kind() {
             MemberKind::FrontEnd(front) => self.take_back_front(client, front, passes),
-            MemberKind::Logger(logger) => *left = Some(self.take_back_logger(logger, passes)),
-            MemberKind::Analyzer(analyzer) => {
-                let place = client - self.lists.fronts.len() - 1;
-                self.take_back_analyzer(place, analyzer, passes)
-            }
+            MemberKind::Logger(logger) => *left = Some(self.take_back_logger(client, logger, passes)),
+            MemberKind::Analyzer(analyzer) => self.take_back_analyzer(client, analyzer, passes),
         }
     }
 
@@ -195,16 +176,11 @@ impl<'a, 's, D: Database> Membership<'a, 's, D> {
         ghost calls: { SessionCalls }
         requires members { AreCalledAt self.now.lists.now self.now.objects.now
             self.now.database.now calls members }
-        requires fronts { length calls.fronts ≡ length self.now.lists.now.fronts }
-        requires out { HasCallsBut (out_to self.now.lists.now.fronts self.now.lists.now.analyzers
-            (length self.now.objects.now.buffers.items) (length members)) self.now.lists.now.fronts
-            self.now.lists.now.analyzers calls self.now.objects.now self.now.database.now
-            passes.old }
+        requires out { HasCallsBut (out_to self.now.lists.now (length members)) calls
+            self.now.objects.now self.now.database.now passes.old }
         ensures left { result ≡ left_by (logger_in members.entry) }
-        ensures out { HasCallsBut (out_to self.now.lists.now.fronts self.now.lists.now.analyzers
-            (length self.now.objects.now.buffers.items) 0) self.now.lists.now.fronts
-            self.now.lists.now.analyzers calls self.now.objects.now self.now.database.now
-            passes.new }
+        ensures out { HasCallsBut (out_to self.now.lists.now 0) calls self.now.objects.now
+            self.now.database.now passes.new }
     {
         let mut left = None;
         while let Some(member) = members.pop() {
@@ -222,19 +198,17 @@ impl<'a, 's, D: Database> Membership<'a, 's, D> {
         main_database: OdbPass<D>,
     ) -> Returned<D, F>
         ghost calls: { SessionCalls }
-        requires calls { calls ≡ listed_calls (own_entries main_engine) (seen_by main_database)
-            members }
+        requires calls { calls ≡ listed_calls self.now.lists.now.fronts self.now.lists.now.analyzers
+            (own_entries main_engine) (seen_by main_database) members }
         requires callers { HaveCallers self.now.lists.now.fronts self.now.lists.now.analyzers
             self.now.objects.now self.now.database.now }
         requires members { HasMembers self.now.lists.now self.now.objects.now self.now.database.now
             members }
-        requires out { HasFreshBut (out_to_members self.now.lists.now.fronts
-            self.now.lists.now.analyzers (length self.now.objects.now.buffers.items))
-            self.now.objects.now self.now.database.now passes }
+        requires out { HasFreshBut (out_to_members self.now.lists.now) self.now.objects.now
+            self.now.database.now passes }
         requires engine { IsMainPass (engine_lock_of self.now.objects.now.engine) main_engine }
         requires database { IsMainPass (odb_lock_of self.now.database.now) main_database }
-        ensures calls { HasCalls self.now.lists.now.fronts self.now.lists.now.analyzers calls
-            self.now.objects.now self.now.database.now result.passes }
+        ensures calls { HasCalls calls self.now.objects.now self.now.database.now result.passes }
         ensures logger { left_by (logger_in members.entry) ≡ Some result.logger }
     {
         let Some(logger) = self.take_back_members(members, &mut passes) else {
@@ -258,9 +232,8 @@ impl<'a, 's, D: Database> Membership<'a, 's, D> {
             self.now.objects.now self.now.database.now }
         requires members { HasMembers self.now.lists.now self.now.objects.now self.now.database.now
             members }
-        requires out { HasFreshBut (out_to_members self.now.lists.now.fronts
-            self.now.lists.now.analyzers (length self.now.objects.now.buffers.items))
-            self.now.objects.now self.now.database.now passes }
+        requires out { HasFreshBut (out_to_members self.now.lists.now) self.now.objects.now
+            self.now.database.now passes }
         requires engine { IsMainPass (engine_lock_of self.now.objects.now.engine) main_engine }
         requires database { IsMainPass (odb_lock_of self.now.database.now) main_database }
         ensures { (crew : _) → members.entry ≡ members_of crew → ComesBack self.now.lists.now

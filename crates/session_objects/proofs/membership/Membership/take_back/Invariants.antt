@@ -3,4 +3,4 @@ use Rattle.session_objects.specs.Members.{listed_calls}
 use Rattle.session_objects.proofs.membership.Membership.take_back.Given as goal
 
 abbrev pub ghost-take_back_all : goal.ghost-take_back_all
-ghost-take_back_all g a = listed_calls (own_entries a.main_engine) (seen_by a.main_database) a.members
+ghost-take_back_all g a = listed_calls a.self.now.lists.now.fronts a.self.now.lists.now.analyzers (own_entries a.main_engine) (seen_by a.main_database) a.members

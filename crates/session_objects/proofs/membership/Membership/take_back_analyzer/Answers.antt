@@ -1,73 +1,74 @@
-use Rattle.std.proofs.Common.{◌≡◌, ◌∙◌, ◌+◌, ◌<◌, ℕ, length, ap, sym, refl, subst}
-use Rattle.std.specs.Prelude.{slice_get, Some}
+use Rattle.std.proofs.Common.{◌≡◌, ◌∙◌, ◌+◌, ◌<◌, ◌==◌, ℕ, true, if◌then◌else◌, length, ap, sym, refl, subst, arith, eq-eqb}
+use Rattle.std.specs.Prelude.{slice_get, Option, Some, None}
 use Rattle.std.proofs.lemmas.Option.{slice_get_within}
-use Rattle.turn_lock.specs.Passes.{number_of, IsOf}
+use Rattle.turn_lock.specs.Passes.{number_of, seen_by, IsOf}
+use Rattle.turn_lock.specs.Roster.{items_of, room_of}
+use Rattle.turn_lock.specs.declared.roster.Passes.{Passes}
 use Rattle.buffer_core.specs.Ports.{Access}
 use Rattle.transition_lock.specs.declared.shared.SharedEngine.{SharedEngine}
 use Rattle.transition_lock.specs.SharedEngines.{engine_lock_of}
-use Rattle.session_setup.specs.declared.declared.AnalyzerDeclared.{AnalyzerDeclared}
-use Rattle.session_objects.specs.Members.{IsAnalyzerOf, analyzer_calls}
-use Rattle.session_objects.specs.Kept.{out_to_analyzers}
-use Rattle.session_objects.proofs.ChangeLaws.{some_same}
-use Rattle.session_objects.proofs.ReturnLaws.{analyzer_back, analyzer_room, analyzer_engine_room, buffer_within}
+use Rattle.odb_watch.specs.DatabasePorts.{DatabaseAccess}
+use Rattle.session_objects.specs.Kept.{declared_members, member_count, out_to}
+use Rattle.session_objects.specs.Members.{analyzer_account}
+use Rattle.session_objects.specs.declared.membership.MemberDeclared.TheVariants.{Analyzer as WantedAnalyzer}
+use Rattle.session_objects.proofs.ListedLaws.{declared_count}
+use Rattle.session_objects.proofs.OutLaws.{engine_one, own_one}
+use Rattle.session_objects.proofs.ReturnLaws.{engine_room, buffer_room, buffer_within, client_engine_back, client_buffer_back, without_database}
 use Rattle.session_objects.proofs.ToldLaws.{port_tells}
 use Rattle.session_objects.proofs.membership.Membership.take_back_analyzer.Goals as goal
 
-pub declared_analyzer-requires : goal.declared_analyzer-requires
-declared_analyzer-requires g c = slice_get_within c.args.self.now.lists.now.analyzers c.args.place c.requires.1.0.wanted c.requires.1.0.has_wanted
+pub own_buffer-requires : goal.own_buffer-requires
+own_buffer-requires g c =
+    let lists = c.args.self.now.lists.now in
+    let l : c.args.client < length (declared_members lists.fronts lists.analyzers) = slice_get_within (declared_members lists.fronts lists.analyzers) c.args.client _ c.requires.1.0.2.has_wanted in
+    let many : length (declared_members lists.fronts lists.analyzers) ≡ member_count lists.fronts lists.analyzers = declared_count lists.fronts lists.analyzers in
+    omega (arith, l, many)
 
 pub put_to_engine-requires : goal.put_to_engine-requires
 put_to_engine-requires g c =
-    analyzer_engine_room c.args.self.now.lists.now.fronts c.args.self.now.lists.now.analyzers g.calls c.args.self.now.objects.now c.args.self.now.database.now (length c.args.self.now.objects.now.buffers.items) c.args.place c.args.passes.now c.requires.1.1.1.1
+    let m = c.args.self.now in
+    engine_room g.calls m.objects.now m.database.now (out_to m.lists.now (c.args.client + 1)) _ (out_to m.lists.now c.args.client).engine c.args.passes.now (engine_one m.lists.now c.args.client) c.requires.1.1
 
 pub put_to_buffer-requires-clause-within : goal.put_to_buffer-requires-clause-within
 put_to_buffer-requires-clause-within g c =
-    let d : AnalyzerDeclared = c.requires.1.0.wanted in
-    let at : slice_get c.args.self.now.lists.now.analyzers c.args.place ≡ Some d = c.requires.1.0.has_wanted in
-    let is : IsAnalyzerOf c.args.self.now.objects.now (length c.args.self.now.lists.now.fronts + 1 + c.args.place) d c.args.analyzer = c.requires.1.0.is in
-    let d0 : AnalyzerDeclared = c.declared_analyzer.result.now in
-    let at0 : slice_get c.args.self.now.lists.now.analyzers c.args.place ≡ Some d0 = c.declared_analyzer.ensures in
-    let P : AnalyzerDeclared → Type 0 = λ z. z.buffer < length c.put_to_engine.new.self.buffers.items in
-    subst P (some_same d d0 (sym at ∙ at0))
-    (buffer_within c.args.self.now.lists.now.fronts c.args.self.now.lists.now.analyzers g.calls c.args.self.now.objects.now c.args.self.now.database.now
-    (out_to_analyzers c.args.self.now.lists.now.fronts c.args.self.now.lists.now.analyzers (length c.args.self.now.objects.now.buffers.items) (c.args.place + 1)) d.buffer is.buffer
-    c.args.passes.now c.put_to_engine.new.self is.has_buffer c.requires.1.1.1.1 c.put_to_engine.ensures.buffers)
+    let m = c.args.self.now in
+    let is = c.requires.1.0.1 in
+    let P : ℕ → Type 0 = λ n. n < length c.put_to_engine.new.self.buffers.items in
+    subst P (sym (c.own_buffer.ensures (WantedAnalyzer c.requires.1.0.0) c.requires.1.0.2.has_wanted))
+    (buffer_within g.calls m.objects.now m.database.now (out_to m.lists.now (c.args.client + 1)) c.requires.1.0.0.buffer is.buffer
+    c.args.passes.now c.put_to_engine.new.self is.has_buffer c.requires.1.1 c.put_to_engine.ensures.buffers)
 
 pub put_to_buffer-requires-clause-room : goal.put_to_buffer-requires-clause-room
 put_to_buffer-requires-clause-room g c =
-    let d : AnalyzerDeclared = c.requires.1.0.wanted in
-    let at : slice_get c.args.self.now.lists.now.analyzers c.args.place ≡ Some d = c.requires.1.0.has_wanted in
-    let is : IsAnalyzerOf c.args.self.now.objects.now (length c.args.self.now.lists.now.fronts + 1 + c.args.place) d c.args.analyzer = c.requires.1.0.is in
-    let d0 : AnalyzerDeclared = c.declared_analyzer.result.now in
-    let at0 : slice_get c.args.self.now.lists.now.analyzers c.args.place ≡ Some d0 = c.declared_analyzer.ensures in
-    let same : d ≡ d0 = some_same d d0 (sym at ∙ at0) in
-    λ roster there. analyzer_room c.args.self.now.lists.now.fronts c.args.self.now.lists.now.analyzers g.calls c.args.self.now.objects.now c.args.self.now.database.now (length c.args.self.now.objects.now.buffers.items) c.args.place d is.buffer
-    c.args.passes.now roster at is.has_buffer c.requires.1.1.1.1
+    let m = c.args.self.now in
+    let is = c.requires.1.0.1 in
+    let d = c.requires.1.0.0 in
+    λ roster there. buffer_room g.calls m.objects.now m.database.now (out_to m.lists.now (c.args.client + 1)) d.buffer _ ((out_to m.lists.now c.args.client).buffers d.buffer) is.buffer c.args.passes.now roster
+    is.has_buffer (own_one m.lists.now c.args.client (WantedAnalyzer d) c.requires.1.0.2.has_wanted (λ n. refl)) c.requires.1.1
     (ap (λ bs. slice_get bs.items d.buffer) (sym c.put_to_engine.ensures.buffers)
-    ∙ ap (λ (z : AnalyzerDeclared). slice_get c.put_to_engine.new.self.buffers.items z.buffer) same ∙ there)
+    ∙ ap (λ (n : ℕ). slice_get c.put_to_engine.new.self.buffers.items n) (sym (c.own_buffer.ensures (WantedAnalyzer d) c.requires.1.0.2.has_wanted)) ∙ there)
 
 pub returns : goal.returns
 returns g c =
-    let d : AnalyzerDeclared = c.requires.1.0.wanted in
-    let at : slice_get c.args.self.now.lists.now.analyzers c.args.place ≡ Some d = c.requires.1.0.has_wanted in
-    let is : IsAnalyzerOf c.args.self.now.objects.now (length c.args.self.now.lists.now.fronts + 1 + c.args.place) d c.args.analyzer = c.requires.1.0.is in
-    let d0 : AnalyzerDeclared = c.declared_analyzer.result.now in
-    let at0 : slice_get c.args.self.now.lists.now.analyzers c.args.place ≡ Some d0 = c.declared_analyzer.ensures in
-    let same : d0 ≡ d = some_same d0 d (sym at0 ∙ at) in
+    let m = c.args.self.now in
+    let lists = m.lists.now in
+    let client : ℕ = c.args.client in
+    let d = c.requires.1.0.0 in
+    let is = c.requires.1.0.1 in
+    let has = c.requires.1.0.2 in
     let parts = c.into_parts-pass.ensures in
     let port = c.into_parts-pass.result.port in
-    let told : Access = c.args.analyzer.port in
-    let client : ℕ = length c.args.self.now.lists.now.fronts + 1 + c.args.place in
-    analyzer_back c.args.self.now.lists.now.fronts c.args.self.now.lists.now.analyzers g.calls c.args.self.now.objects.now c.args.self.now.database.now (length c.args.self.now.objects.now.buffers.items) client c.args.place d0 is.buffer
-    (analyzer_calls c.args.analyzer) c.args.passes.now c.put_to_engine.new.self c.put_to_buffer.new.self
-    c.into_parts-pass.result.pass c.into_pass.result refl c.requires.1.1.1.0
-    at0 (ap (λ (z : AnalyzerDeclared). slice_get c.args.self.now.objects.now.buffers.items z.buffer) same ∙ is.has_buffer) c.requires.1.1.0 c.requires.1.1.1.1
+    let account = analyzer_account d c.args.analyzer in
+    let k1 = client_engine_back g.calls m.objects.now m.database.now lists client (WantedAnalyzer d) account has c.args.passes.now c.put_to_engine.new.self c.into_parts-pass.result.pass c.requires.1.1
     c.put_to_engine.ensures.put c.put_to_engine.ensures.buffers c.put_to_engine.ensures.database
     (parts.number ∙ ap (λ (n : ℕ). n + 1) is.is)
     (let P : SharedEngine → Type 0 = λ e. IsOf (engine_lock_of e) c.into_parts-pass.result.pass in subst P is.engine parts.own)
-    parts.idle parts.calls
-    c.put_to_buffer.ensures.put c.put_to_buffer.ensures.engine c.put_to_buffer.ensures.database
+    parts.idle parts.calls in
+    without_database g.calls m.objects.now m.database.now lists client (WantedAnalyzer d) account has _ _ c.put_to_buffer.new.self refl
+    (client_buffer_back g.calls m.objects.now m.database.now lists client (WantedAnalyzer d) account has _ is.buffer c.args.analyzer.port c.put_to_engine.new.self c.put_to_buffer.new.self c.into_pass.result refl (λ n. refl)
+    is.has_buffer (rw (eq-eqb d.buffer d.buffer refl) refl) k1
+    (rw (c.own_buffer.ensures (WantedAnalyzer d) has.has_wanted) at c.put_to_buffer.ensures.put) c.put_to_buffer.ensures.engine c.put_to_buffer.ensures.database
     (ap (λ p. number_of p) c.into_pass.ensures.pass ∙ ap (λ (a : Access). a.caller) parts.port ∙ is.port_caller)
     (c.into_pass.ensures.told is.buffer.shared (ap (λ (a : Access). a.buffer) parts.port ∙ is.port))
     c.into_pass.ensures.idle
-    (port_tells port told is.buffer.shared is.buffer.size client c.into_pass.result parts.port is.port is.buffer.opens is.port_caller c.into_pass.ensures.pass)
+    (port_tells port c.args.analyzer.port is.buffer.shared is.buffer.size client c.into_pass.result parts.port is.port is.buffer.opens is.port_caller c.into_pass.ensures.pass))

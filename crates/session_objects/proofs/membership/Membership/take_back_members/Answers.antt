@@ -17,7 +17,7 @@ loop-member-init g c = record {
   done = [];
   all = sym (append-nil c.args.members);
   left = refl;
-  out = c.requires.1.1.1.1;
+  out = c.requires.1.1.1;
 }
 
 pub take_back_member-requires : goal.take_back_member-requires
@@ -31,8 +31,8 @@ take_back_member-requires g c =
     let at : slice_get c.args.members (length new) ≡ Some x = ap (λ zs. slice_get zs (length new)) (inv.all ∙ ap (λ zs. zs ++ inv.done) popped) ∙ get_seam new inv.done x in
     let count : length c.loop-member.members ≡ c.len.result + 1 = ap length popped ∙ length-append new (x ∷ []) ∙ ap (λ n. n + 1) (sym same) in
     let C : ℕ → Type 0 = λ n. CalledAt m.lists.now m.objects.now m.database.now g.calls n x in
-    let O : ℕ → Type 0 = λ n. HasCallsBut (out_to m.lists.now.fronts m.lists.now.analyzers (length m.objects.now.buffers.items) n) m.lists.now.fronts m.lists.now.analyzers g.calls m.objects.now m.database.now c.loop-member.passes in
-    λ κs bounds. (bounds.0, (bounds.1, (subst C (sym same) (c.requires.1.1.0 (length new) x at), (c.requires.1.1.1.0, subst O count inv.out))))
+    let O : ℕ → Type 0 = λ n. HasCallsBut (out_to m.lists.now n) g.calls m.objects.now m.database.now c.loop-member.passes in
+    λ κs bounds. (bounds.0, (bounds.1, (subst C (sym same) (c.requires.1.1.0 (length new) x at), subst O count inv.out)))
 
 pub loop-member-preserved : goal.loop-member-preserved
 loop-member-preserved g c =
@@ -42,7 +42,7 @@ loop-member-preserved g c =
     let inv = c.loop-member.invariant in
     let popped : c.loop-member.members ≡ new ++ x ∷ [] = c.in-Some.ensures.last in
     let same : c.len.result ≡ length new = search rules in
-    let O : ℕ → Type 0 = λ n. HasCallsBut (out_to m.lists.now.fronts m.lists.now.analyzers (length m.objects.now.buffers.items) n) m.lists.now.fronts m.lists.now.analyzers g.calls m.objects.now m.database.now c.take_back_member.new.passes in record {
+    let O : ℕ → Type 0 = λ n. HasCallsBut (out_to m.lists.now n) g.calls m.objects.now m.database.now c.take_back_member.new.passes in record {
       done = x ∷ inv.done;
       all = inv.all ∙ ap (λ zs. zs ++ inv.done) popped ∙ append_assoc new (x ∷ []) inv.done;
       left = c.take_back_member.ensures.left ∙ ap (λ (l : Option (LoggerEnd _)). left_also x l) inv.left ∙ one_more_left x inv.done;
@@ -59,5 +59,5 @@ pub returns-clause-out : goal.returns-clause-out
 returns-clause-out g c =
     let m = c.args.self.now in
     let none : c.loop-member.members ≡ [] = search rules in
-    let O : ℕ → Type 0 = λ n. HasCallsBut (out_to m.lists.now.fronts m.lists.now.analyzers (length m.objects.now.buffers.items) n) m.lists.now.fronts m.lists.now.analyzers g.calls m.objects.now m.database.now c.loop-member.passes in
+    let O : ℕ → Type 0 = λ n. HasCallsBut (out_to m.lists.now n) g.calls m.objects.now m.database.now c.loop-member.passes in
     subst O (ap length none) c.loop-member.invariant.out

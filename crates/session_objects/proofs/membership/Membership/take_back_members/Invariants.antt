@@ -13,7 +13,7 @@ invariant-loop-member g l = record {
   done : List (MemberSeen Generator _);
   all : l.fn.members ≡ l.members ++ done;
   left : l.left ≡ left_by (logger_in done);
-  out : HasCallsBut (out_to l.self.lists.now.fronts l.self.lists.now.analyzers (length l.self.objects.now.buffers.items) (length l.members)) l.self.lists.now.fronts l.self.lists.now.analyzers g.calls l.self.objects.now l.self.database.now l.passes;
+  out : HasCallsBut (out_to l.self.lists.now (length l.members)) g.calls l.self.objects.now l.self.database.now l.passes;
 }
 
 abbrev pub decreases-loop-member : goal.decreases-loop-member

@@ -10,16 +10,16 @@ use Rattle.session_objects.proofs.ChangeLaws.{there_below}
 use Rattle.session_objects.proofs.objects.SessionObjects.close.Goals as goal
 
 pub close_buffers-requires-clause-all : goal.close_buffers-requires-clause-all
-close_buffers-requires-clause-all g c = λ number buffer roster at there. all_kept _ _ _ (c.requires.3.buffers number buffer roster at there)
+close_buffers-requires-clause-all g c = λ number buffer roster at there. all_kept _ _ _ (c.requires.1.buffers number buffer roster at there)
 
 pub close_database-requires : goal.close_database-requires
-close_database-requires g c = all_kept _ _ _ c.requires.3.database
+close_database-requires g c = all_kept _ _ _ c.requires.1.database
 
 pub close_engine-requires : goal.close_engine-requires
-close_engine-requires g c = all_kept _ _ _ c.requires.3.engine
+close_engine-requires g c = all_kept _ _ _ c.requires.1.engine
 
 pub returns-clause-calls : goal.returns-clause-calls
-returns-clause-calls g c = λ fronts analyzers calls has. record {
+returns-clause-calls g c = λ calls has. record {
   engine = parts_held _ _ _ _ has.engine c.close_engine.ensures.parts;
   buffers = λ number buffer closed at there.
       let l : number < length c.args.self.buffers.items = slice_get_within c.args.self.buffers.items number buffer at in
