@@ -7,8 +7,6 @@ use Rattle.odb_watch.specs.DatabasePorts.{own_watched}
 use Rattle.odb_lock.specs.declared.shared.SharedOdb.{SharedOdb}
 use Rattle.odb_lock.specs.SharedOdbs.{first_database}
 use Rattle.daq_members.specs.Members.{MemberTold}
-use Rattle.session_setup.specs.declared.declared.AnalyzerDeclared.{AnalyzerDeclared}
-use Rattle.session_setup.specs.declared.declared.FrontDeclared.{FrontDeclared}
 use Rattle.session_objects.specs.declared.record.SessionRecord.{SessionRecord}
 use Rattle.session_objects.specs.Calls.{SessionCalls}
 use Rattle.session_objects.specs.Records.{HasCalls, HoldsCalls, HoldsHistories}
@@ -32,14 +30,14 @@ use Rattle.daq_session.specs.Played.{IsBack, IsEndedSession, IsSessionRecord, Se
 module _ {D F : Type 0} {g : _} (told : MemberTold Generator F) (shared : SharedOdb D) (first_files : F) (final : SessionStage) (run_files : F) where
   -- The passes of what a script leaves are back.
   pub is_back : (ending : Ending) (left : LeftBehind D g) → SessionEnds told shared first_files final ending run_files left → IsBack shared left
-  is_back ending (Session ended) ends = (ends.lists.fronts, ends.lists.analyzers, _, ends.ends.calls)
+  is_back ending (Session ended) ends = (_, ends.ends.calls)
   is_back ending (Unopened passes) ends = (final.database.access.seen, ends.2)
   is_back ending Nothing ends = tt
 
   -- The record of its objects is that of the session.
   pub recorded : (ended : EndedObjects D g) (r : SessionRecord D g) → first_database shared ≡ unwatched session_rows → StageKept final → EndsOver final → StageSpares final
       → IsEndedSession told shared first_files final run_files ended → HoldsHistories ended.objects shared r
-      → ((fronts : List FrontDeclared) → (analyzers : List AnalyzerDeclared) → (calls : SessionCalls) → HasCalls fronts analyzers calls ended.objects shared ended.passes → HoldsCalls fronts analyzers calls ended.objects shared r)
+      → ((calls : SessionCalls) → HasCalls calls ended.objects shared ended.passes → HoldsCalls calls ended.objects shared r)
       → r.runs ≡ ended.runs → IsSessionRecord told first_files final run_files r
   recorded ended r rows kept over spares is histories calls runs = record {
     lists = is.lists;
@@ -64,7 +62,7 @@ module _ {D F : Type 0} {g : _} (told : MemberTold Generator F) (shared : Shared
     first = is.ends.first;
     files = is.ends.files;
     histories = histories;
-    calls = calls is.lists.fronts is.lists.analyzers _ is.ends.calls;
+    calls = calls _ is.ends.calls;
   }
 
 -- a script that ended for want of memory ends so whatever else holds

@@ -88,7 +88,7 @@ cut_tells told script run_files pick replies odb_files clock final files_are rep
 pub calls_told : {D F : Type 0} {g : _} (fronts : List FrontDeclared) (analyzers : List AnalyzerDeclared) (objects : SessionObjects) (shared : SharedOdb D) (passes : SessionPasses D g)
     (engine own : List EngineEntry) (database seen : List (ℕ × WatchEntry)) (seats : List (FrontSeen Generator)) (logger : LoggerSeen F) (last : List AnalyzerSeen)
     → own ≡ engine → seen ≡ database
-    → HasCalls fronts analyzers (session_calls own seen seats logger last) objects shared passes → HasCalls fronts analyzers (session_calls engine database seats logger last) objects shared passes
+    → HasCalls (session_calls fronts analyzers own seen seats logger last) objects shared passes → HasCalls (session_calls fronts analyzers engine database seats logger last) objects shared passes
 calls_told fronts analyzers objects shared passes engine own database seen seats logger last same_engine same_database has =
-    subst (λ (calls : List EngineEntry). HasCalls fronts analyzers (session_calls calls database seats logger last) objects shared passes) same_engine
-    (subst (λ (calls : List (ℕ × WatchEntry)). HasCalls fronts analyzers (session_calls own calls seats logger last) objects shared passes) same_database has)
+    subst (λ (calls : List EngineEntry). HasCalls (session_calls fronts analyzers calls database seats logger last) objects shared passes) same_engine
+    (subst (λ (calls : List (ℕ × WatchEntry)). HasCalls (session_calls fronts analyzers own calls seats logger last) objects shared passes) same_database has)

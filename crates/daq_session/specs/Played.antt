@@ -14,9 +14,7 @@ use Rattle.odb_lock.specs.SharedOdbs.{first_database, odb_lock_of}
 use Rattle.session_runs.specs.declared.records.RunRecord.{RunRecord}
 use Rattle.daq_members.specs.Members.{MemberTold}
 use Rattle.daq_members.specs.Crews.{CrewSeen, KeepContracts}
-use Rattle.session_setup.specs.declared.declared.AnalyzerDeclared.{AnalyzerDeclared}
 use Rattle.session_setup.specs.declared.declared.DeclaredLists.{DeclaredLists}
-use Rattle.session_setup.specs.declared.declared.FrontDeclared.{FrontDeclared}
 use Rattle.session_setup.specs.Setup.{AreSound, Declared, declared_by}
 use Rattle.session_objects.specs.declared.objects.SessionObjects.{SessionObjects}
 use Rattle.session_objects.specs.declared.passes.SessionPasses.{SessionPasses}
@@ -97,8 +95,8 @@ pub record OpenedEnds {D F : Type 0} {g : _} (told : MemberTold Generator F) (li
   pub crew : CrewSeen Generator F
   pub members : AreMembersOf lists.fronts lists.analyzers objects shared crew.fronts crew.logger crew.analyzers
   pub keep : KeepContracts told crew
-  pub calls : HasCalls lists.fronts lists.analyzers
-      (session_calls (closing_calls last.main.own) access.seen crew.fronts crew.logger crew.analyzers) objects shared passes
+  pub calls : HasCalls (session_calls lists.fronts lists.analyzers (closing_calls last.main.own) access.seen crew.fronts crew.logger
+      crew.analyzers) objects shared passes
   pub channels : AreDeclared lists.channels crew.logger.slots
   pub first : crew.logger.first ≡ first_files
   pub files : crew.logger.files ≡ run_files
@@ -193,8 +191,7 @@ pub record PlaysAll {D S O F E C K : Type 0} {g : _} (told : OutsideTold S O F E
 
 -- the passes of what is left are all here
 abbrev pub IsBack : {D : Type 0} {g : _} → SharedOdb D → LeftBehind D g → Type 0
-IsBack shared (Session ended) = (fronts : List FrontDeclared) × (analyzers : List AnalyzerDeclared) × (calls : SessionCalls)
-    × HasCalls fronts analyzers calls ended.objects shared ended.passes
+IsBack shared (Session ended) = (calls : SessionCalls) × HasCalls calls ended.objects shared ended.passes
 IsBack shared (Unopened passes) = (calls : List (ℕ × WatchEntry)) × IsMainAlone shared calls (Unopened passes)
 IsBack shared Nothing = ⊤
 
@@ -225,8 +222,8 @@ pub record IsSessionRecord {D F : Type 0} {g : _} (told : MemberTold Generator F
   pub first : crew.logger.first ≡ first_files
   pub files : crew.logger.files ≡ run_files
   pub histories : HoldsHistories objects shared r
-  pub calls : HoldsCalls lists.fronts lists.analyzers
-      (session_calls (closing_calls last.main.own) final.database.access.seen crew.fronts crew.logger crew.analyzers)
+  pub calls : HoldsCalls
+      (session_calls lists.fronts lists.analyzers (closing_calls last.main.own) final.database.access.seen crew.fronts crew.logger crew.analyzers)
       objects shared r
 
 -- such a record keeps the session

@@ -10,7 +10,7 @@ ghost use Rattle.transition_lock.specs.SharedEngines.{engine_lock_of, first_engi
 ghost use Rattle.session_lines.specs.Stages.{opened_runs};
 ghost use Rattle.session_lines.specs.RunLines.{CutsKeys, KeysMade};
 ghost use Rattle.session_setup.specs.Setup.{declared_by};
-ghost use Rattle.session_objects.specs.Kept.{HasFreshBut, out_to_fronts, out_to_members};
+ghost use Rattle.session_objects.specs.Kept.{HasFreshBut, out_to, out_to_members};
 ghost use Rattle.session_objects.specs.Members.{HasNewMembers};
 ghost use Rattle.session_objects.specs.Objects.{SuitMembers};
 ghost use Rattle.daq_session.specs.NewDatabases.{IsNewDatabase};
@@ -23,8 +23,6 @@ use daq_members::MemberRoom;
 use daq_types::{BoundedList, Name, NoMemory};
 use front_ends::Equipment;
 use frontend_kit::Generator;
-use loggers::ChannelSpecs;
-use mid_logger::ChannelSpec;
 use odb_arena::ArenaTree;
 use odb_links::LinkTree;
 use odb_lock::{LockedDatabase, OdbPass, OdbPasses, SharedAccess, SharedOdb, WatchedSeen};
@@ -158,30 +156,6 @@ pub fn open_keys<'a, R: Wait, D: Database, F: Files + Drop>(
     }
 }
 
-/// The channel once more.
-fn copied_channel(channel: &ChannelSpec) -> ChannelSpec
-    ensures { result ≡ channel.now }
-{
-    ChannelSpec {
-        number: channel.number,
-        pattern: channel.pattern.copy(),
-        buffer: channel.buffer,
-        id: channel.id,
-        mask: channel.mask,
-    }
-}
-
-/// The channels once more.
-fn copied_channels(alloc: Global, channels: &[ChannelSpec]) -> Result<ChannelSpecs, NoMemory>
-    ensures { IfOk result (λ copied. copied ≡ channels.now) }
-{
-    let mut copied = BoundedList::new(alloc)?;
-    for channel in channels {
-        copied.try_push(copied_channel(channel))?;
-    }
-    Ok(copied)
-}
-
 /// What the main thread keeps of the runs of a session that opens: it registers the members.
 fn open_runs<'a, R: Wait>(
     rt: &R,
@@ -211,30 +185,6 @@ fn open_runs<'a, R: Wait>(
     Runs::new(alloc, seat, quota, names, channels, named_analyzers)
 }
 
-/// What `open_runs` gives, and a copy of the declared channels for the logger. So the members are opened with one early end.
-fn open_runs_with_channels<'a, R: Wait>(
-    rt: &R,
-    alloc: Global,
-    objects: &'a SessionObjects,
-    main: EnginePass,
-    lists: &DeclaredLists,
-    quota: u32,
-) -> Result<(Runs<'a>, ChannelSpecs), NoMemory>
-    requires few { length lists.now.fronts ≤ 32 }
-    requires few_analyzers { length lists.now.analyzers ≤ 8 }
-    requires main { number_of main ≡ main_caller }
-    requires own { IsOf (engine_lock_of objects.now.engine) main }
-    requires fresh { IsFresh main }
-    requires opening { first_engine objects.now.engine ≡ engine_opening }
-    ensures runs { IfOk result (λ opened. opened.0 ≡ opened_runs quota (declared_by lists.now)
-        objects.now.engine) }
-    ensures channels { IfOk result (λ opened. opened.1 ≡ lists.now.channels) }
-{
-    let runs = open_runs(rt, alloc, objects, main, lists, quota)?;
-    let channels = copied_channels(alloc, lists.channels.as_slice())?;
-    Ok((runs, channels))
-}
-
 /// What the main thread keeps of the runs of a session that opens, its members, and their pick; or what the members were to meet
 /// outside, where there is no memory for them.
 pub fn open_members<'a, R: Wait, D: Database, F: Files + Drop, K: Pick, G: Gate>(
@@ -252,23 +202,21 @@ pub fn open_members<'a, R: Wait, D: Database, F: Files + Drop, K: Pick, G: Gate>
     requires opening { first_engine places.now.objects.now.engine ≡ engine_opening }
     requires suit { SuitMembers places.now.lists.now.fronts places.now.lists.now.analyzers
         places.now.lists.now.channels places.now.objects.now places.now.shared.now }
-    requires out { HasFreshBut (out_to_fronts places.now.lists.now.fronts 0)
+    requires out { HasFreshBut (out_to places.now.lists.now 0)
         places.now.objects.now places.now.shared.now passes.old }
     ensures runs { IfOk result (λ opened. opened.0 ≡ opened_runs quota
         (declared_by places.now.lists.now) places.now.objects.now.engine) }
     ensures members { IfOk result (λ opened. HasNewMembers places.now.lists.now
         places.now.lists.now.channels places.now.objects.now places.now.shared.now
         side.entry.run_files opened.1) }
-    ensures out { OnOk result (HasFreshBut (out_to_members places.now.lists.now.fronts
-        places.now.lists.now.analyzers (length places.now.objects.now.buffers.items))
+    ensures out { OnOk result (HasFreshBut (out_to_members places.now.lists.now)
         places.now.objects.now places.now.shared.now passes.new) }
     ensures has_pick { IfOk result (λ opened. opened.2 ≡ side.entry.pick) }
     ensures files { IfErr result (λ back. back.run_files ≡ side.entry.run_files) }
     ensures pick { IfErr result (λ back. back.pick ≡ side.entry.pick) }
 {
     let (objects, lists) = (places.objects, places.lists);
-    let Ok((runs, channels)) = open_runs_with_channels(rt, alloc, objects, main, lists, quota)
-    else {
+    let Ok(runs) = open_runs(rt, alloc, objects, main, lists, quota) else {
         return Err(side);
     };
     let membership = Membership {
@@ -282,7 +230,7 @@ pub fn open_members<'a, R: Wait, D: Database, F: Files + Drop, K: Pick, G: Gate>
         gate,
         cooperative,
     } = side;
-    match membership.members(alloc, channels, passes, run_files) {
+    match membership.members(alloc, passes, run_files) {
         Ok(members) => Ok((runs, members, pick)),
         Err(run_files) => Err(MemberSide {
             run_files,

@@ -13,7 +13,7 @@ ghost use Rattle.session_commands.specs.Finishing.{script_point, side_told};
 ghost use Rattle.session_commands.specs.MainEnds.{MainEnds};
 ghost use Rattle.session_setup.specs.Setup.{Declared, declared_by};
 ghost use Rattle.session_setup.specs.SetupLines.{opened_with_defaults};
-ghost use Rattle.session_objects.specs.Kept.{HasFreshBut, out_to_fronts, out_to_members};
+ghost use Rattle.session_objects.specs.Kept.{HasFreshBut, out_to, out_to_members};
 ghost use Rattle.session_objects.specs.Members.{HasNewMembers};
 ghost use Rattle.session_objects.specs.Objects.{SuitMembers};
 ghost use Rattle.daq_session.specs.Environments.{outside_told};
@@ -213,8 +213,7 @@ fn play_opened<
         places.now.lists.now.channels places.now.objects.now places.now.shared.now }
     requires members { (files : F) × HasNewMembers places.now.lists.now
         places.now.lists.now.channels places.now.objects.now places.now.shared.now files members }
-    requires out { HasFreshBut (out_to_members places.now.lists.now.fronts
-        places.now.lists.now.analyzers (length places.now.objects.now.buffers.items))
+    requires out { HasFreshBut (out_to_members places.now.lists.now)
         places.now.objects.now places.now.shared.now passes }
     ensures played { (files : F) → HasNewMembers places.now.lists.now
         places.now.lists.now.channels places.now.objects.now places.now.shared.now files
@@ -300,7 +299,7 @@ pub fn play_objects<
     requires opening { first_engine places.now.objects.now.engine ≡ engine_opening }
     requires suit { SuitMembers places.now.lists.now.fronts places.now.lists.now.analyzers
         places.now.lists.now.channels places.now.objects.now places.now.shared.now }
-    requires out { HasFreshBut (out_to_fronts places.now.lists.now.fronts 0)
+    requires out { HasFreshBut (out_to places.now.lists.now 0)
         places.now.objects.now places.now.shared.now passes }
     ensures played { (declared : Declared)
         → opened_with_defaults declared ≡ declared_by places.now.lists.now

@@ -35,12 +35,18 @@ use Rattle.daq_members.specs.LoggerSeats.{LoggerSeen, IsLoggerSeated}
 use Rattle.daq_members.specs.FrontTaken.{FrontMemberStands}
 use Rattle.daq_members.specs.AnalyzerTaken.{AnalyzerMemberStands}
 use Rattle.daq_members.specs.SeatedAnalyzers.{AnalyzerSeen, IsAnalyzerSeated}
+use Rattle.daq_members.specs.Members.{MemberSeen, FrontEnd, Logger, Analyzer}
+use Rattle.daq_members.specs.Stay.{laid}
 use Rattle.session_objects.specs.declared.objects.SessionBuffer.{SessionBuffer}
 use Rattle.session_objects.specs.declared.record.BufferRecord.{BufferRecord}
 use Rattle.session_objects.specs.declared.record.SessionRecord.{SessionRecord}
-use Rattle.session_objects.specs.Calls.{AnalyzerCalls, FrontCalls, SessionCalls, told_of_engine, told_of_buffer, told_of_database, told_through, client_port, port_behind, analyzer_port_in, port_of_caller, front_port, analyzer_port, analyzer_engine, engine_calls_behind, engine_calls_by, database_seen_by, HoldsParts}
+use Rattle.session_objects.specs.declared.membership.MemberDeclared.{MemberDeclared}
+use Rattle.session_objects.specs.declared.membership.MemberDeclared.TheVariants.{FrontEnd as WantedFront, Logger as WantedLogger, Analyzer as WantedAnalyzer}
+use Rattle.session_objects.specs.Kept.{declared_members}
+use Rattle.session_objects.specs.Calls.{Account, SessionCalls, account_at, account_or_none, told_of_engine, told_of_buffer, told_of_database, told_through, port_of_caller, HoldsParts}
+use Rattle.session_objects.proofs.ListedLaws.{account_there, at_front, at_middle, at_last, in_kinds, no_account}
 use Rattle.session_objects.specs.Objects.{first_analyzer}
-use Rattle.session_objects.specs.Members.{generator_of, generator_takes, generator_makes, IsAnalyzerOf, IsFrontOf, analyzer_calls, front_calls, session_calls}
+use Rattle.session_objects.specs.Members.{generator_of, generator_takes, generator_makes, IsAnalyzerOf, IsFrontOf, analyzer_account, front_account, logger_account, session_calls}
 use Rattle.session_objects.specs.Names.{member_names}
 use Rattle.session_laws.specs.ClosedSessions.{ClosedAnalyzer, ClosedBuffer, ClosedFront, ClosedSession, logger_client, logger_caller, analyzer_client, size_in, history_in, history_of_buffer, got_from_buffer, members_of, engine_calls, calls_on_buffer, calls_on_database}
 use Rattle.session_laws.specs.MembersAtEnd.{AnalyzerAtEnd, FrontAtEnd, IsAccessTo, LoggerAtEnd, MainAtEnd, NoOthers, MembersAtEnd}
@@ -89,7 +95,7 @@ below client n callers less is = omega arith
 
 module _ {D F : Type 0} {g : _} (seen : F → Seen) (fronts : List FrontDeclared) (analyzers : List AnalyzerDeclared) (logger : LoggerSeen F) (r : SessionRecord D g) (ended : SessionEnded seen fronts analyzers logger r) where
   abbrev calls : SessionCalls
-  calls = session_calls ended.own ended.database ended.seats logger ended.seated_analyzers
+  calls = session_calls fronts analyzers ended.own ended.database ended.seats logger ended.seated_analyzers
 
   abbrev closed : ClosedSession
   closed = closed_session (first_database ended.shared) fronts analyzers logger.slots (seen logger.first) (seen logger.files) r
@@ -102,18 +108,34 @@ module _ {D F : Type 0} {g : _} (seen : F → Seen) (fronts : List FrontDeclared
 
   -- The engine.
 
-  -- the calls of the client, where it is none of the front-ends
-  abbrev behind : ℕ → List EngineEntry
-  behind client = engine_calls_behind calls (client - length (map front_calls ended.seats))
+  -- the members, by their client numbers
+  abbrev wanted : List MemberDeclared
+  wanted = declared_members fronts analyzers
+
+  abbrev listed : List (MemberSeen Generator F)
+  listed = laid ended.seats logger ended.seated_analyzers
+
+  front_told : (client : ℕ) (d : FrontDeclared) (front : FrontSeen Generator) → slice_get fronts client ≡ Some d → slice_get ended.seats client ≡ Some front → account_at calls client ≡ front_account d front
+  front_told client d front at seat = ap account_or_none (account_there wanted listed client (WantedFront d) (FrontEnd front) (at_front WantedFront WantedLogger WantedAnalyzer fronts analyzers client d at)
+      (at_front {Z = MemberSeen Generator F} FrontEnd (Logger logger) Analyzer ended.seats ended.seated_analyzers client front seat))
+
+  logger_told : (client : ℕ) → client ≡ length fronts → account_at calls client ≡ logger_account logger
+  logger_told client is = ap account_or_none (account_there wanted listed client WantedLogger (Logger logger) (at_middle WantedFront WantedLogger WantedAnalyzer fronts analyzers client is)
+      (at_middle {Z = MemberSeen Generator F} FrontEnd (Logger logger) Analyzer ended.seats ended.seated_analyzers client (is ∙ sym ended.members.fronts_are.many)))
+
+  analyzer_told : (client place : ℕ) (d : AnalyzerDeclared) (analyzer : AnalyzerSeen) → client ≡ length fronts + 1 + place → slice_get analyzers place ≡ Some d → slice_get ended.seated_analyzers place ≡ Some analyzer
+      → account_at calls client ≡ analyzer_account d analyzer
+  analyzer_told client place d analyzer is at seat = ap account_or_none (account_there wanted listed client (WantedAnalyzer d) (Analyzer analyzer) (at_last WantedFront WantedLogger WantedAnalyzer fronts analyzers client place d is at)
+      (at_last {Z = MemberSeen Generator F} FrontEnd (Logger logger) Analyzer ended.seats ended.seated_analyzers client place analyzer (omega (arith, is, ended.members.fronts_are.many)) seat))
 
   pub engine_by_main : engine_calls closed main_caller ≡ ended.own
   engine_by_main = part_own (told_of_engine calls) _ (history_of r.engine) 0 ended.own ended.calls.engine (omega (arith, ended.callers.engine)) (λ s told. told)
 
-  engine_by : (client : ℕ) → client < length fronts + 1 + length analyzers → engine_calls closed (caller_of_client client) ≡ engine_calls_by (behind client) (slice_get (map front_calls ended.seats) client)
+  engine_by : (client : ℕ) → client < length fronts + 1 + length analyzers → engine_calls closed (caller_of_client client) ≡ (account_at calls client).engine
   engine_by client less =
-      subst (λ (n : ℕ). entries_by n (history_of r.engine) ≡ engine_calls_by (behind client) (slice_get (map front_calls ended.seats) client)) (sym (add-one client))
-      (part_own (told_of_engine calls) _ (history_of r.engine) (suc client) (engine_calls_by (behind client) (slice_get (map front_calls ended.seats) client)) ended.calls.engine (omega (arith, ended.callers.engine, less))
-      (λ s told. subst (λ (n : ℕ). entries_by n s ≡ engine_calls_by (behind client) (slice_get (map front_calls ended.seats) client)) (add-one client) told))
+      subst (λ (n : ℕ). entries_by n (history_of r.engine) ≡ (account_at calls client).engine) (sym (add-one client))
+      (part_own (told_of_engine calls) _ (history_of r.engine) (suc client) ((account_at calls client).engine) ended.calls.engine (omega (arith, ended.callers.engine, less))
+      (λ s told. subst (λ (n : ℕ). entries_by n s ≡ (account_at calls client).engine) (add-one client) told))
 
   no_engine : (by : ℕ) → length fronts + 2 + length analyzers ≤ by → engine_calls closed by ≡ []
   no_engine by past = ended.calls.engine.others by (omega (arith, ended.callers.engine, past))
@@ -122,13 +144,23 @@ module _ {D F : Type 0} {g : _} (seen : F → Seen) (fronts : List FrontDeclared
 
   database_by : (client : ℕ) → client < length fronts → (front : FrontSeen Generator) → slice_get ended.seats client ≡ Some front → calls_on_database closed (caller_of_client client) ≡ entries_by (caller_of_client client) front.database.seen
   database_by client less front at =
-      let is : slice_get (map front_calls ended.seats) client ≡ Some (front_calls front) = map_at front_calls ended.seats client front at in
+      let d = there fronts client less in
       subst (λ (n : ℕ). entries_by n (history_of r.database) ≡ entries_by n front.database.seen) (sym (add-one client))
       (part_own (told_of_database calls) _ (history_of r.database) (suc client) (entries_by (suc client) front.database.seen) ended.calls.database (omega (arith, ended.callers.database, less))
-      (λ s told. ap (entries_by (suc client)) (told ∙ ap database_seen_by is)))
+      (λ s told. ap (entries_by (suc client)) (told ∙ ap (λ (a : Account). a.database) (front_told client d.0 front d.1 at))))
 
-  unseen : (client : ℕ) → length fronts ≤ client → database_seen_by (slice_get (map front_calls ended.seats) client) ≡ []
-  unseen client past = ap database_seen_by (slice_get_past (map front_calls ended.seats) client (omega (arith, many front_calls ended.seats, ended.members.fronts_are.many, past)))
+  unseen : (client : ℕ) → length fronts ≤ client → (account_at calls client).database ≡ []
+  unseen client past = elim (found wanted client) as (λ w. (account_at calls client).database ≡ []) [
+    | inl d ↦ (elim (in_kinds WantedFront WantedLogger WantedAnalyzer fronts analyzers client d.0 d.1) as (λ w. (account_at calls client).database ≡ []) [
+        | inl front ↦ absurd (omega (arith, slice_get_within fronts client front.0 front.1, past))
+        | inr others ↦ (elim others as (λ w. (account_at calls client).database ≡ []) [
+            | inl middle ↦ ap (λ (a : Account). a.database) (logger_told client middle.0)
+            | inr last ↦ (let seat = there ended.seated_analyzers last.0 (omega (arith, ended.members.analyzers_are.many, slice_get_within analyzers last.0 last.2 last.3)) in
+                ap (λ (a : Account). a.database) (analyzer_told client last.0 last.2 seat.0 last.1 last.3 seat.1))
+          ])
+      ])
+    | inr none ↦ ap (λ (o : Option Account). (account_or_none o).database) (no_account wanted listed client none)
+  ]
 
   no_database : (by : ℕ) → length fronts < by → calls_on_database closed by ≡ []
   no_database zero past = absurd (omega arith)
@@ -149,7 +181,7 @@ module _ {D F : Type 0} {g : _} (seen : F → Seen) (fronts : List FrontDeclared
     pub closed_at : slice_get (map closed_buffer r.buffers) buffer ≡ Some (closed_buffer b)
     pub size : shared.size ≡ b.size
     pub legal : IsLegal (opening b.size) (history_of b.closed)
-    pub holds : HoldsParts (told_of_buffer fronts analyzers calls buffer shared.size) (passes_of (lock_of shared.shared)) (history_of b.closed)
+    pub holds : HoldsParts (told_of_buffer calls buffer shared.size) (passes_of (lock_of shared.shared)) (history_of b.closed)
     pub callers : passes_of (lock_of shared.shared) ≡ length fronts + 2 + length analyzers
 
   at_buffer : (buffer : ℕ) (b : BufferRecord) → slice_get r.buffers buffer ≡ Some b → AtBuffer buffer b
@@ -180,13 +212,13 @@ module _ {D F : Type 0} {g : _} (seen : F → Seen) (fronts : List FrontDeclared
   untold buffer size number None s none told = told
   untold buffer size number (Some a) s none told = absurd (cc (none))
 
-  none_by : (buffer caller : ℕ) → caller < length fronts + 2 + length analyzers → port_of_caller fronts analyzers calls buffer caller ≡ None → calls_on_buffer closed caller buffer ≡ []
+  none_by : (buffer caller : ℕ) → caller < length fronts + 2 + length analyzers → port_of_caller calls buffer caller ≡ None → calls_on_buffer closed caller buffer ≡ []
   none_by buffer caller less none = elim (found r.buffers buffer) as (λ w. calls_on_buffer closed caller buffer ≡ []) [
     | inl b ↦
         let a : AtBuffer buffer b.0 = at_buffer buffer b.0 b.1 in
         ap (entries_by caller) (history_at buffer b.0 a)
-        ∙ part_own (told_of_buffer fronts analyzers calls buffer a.shared.size) _ (history_of b.0.closed) caller [] a.holds (omega (arith, a.callers, less))
-        (λ s told. ap (entries_by caller) (untold buffer a.shared.size caller (port_of_caller fronts analyzers calls buffer caller) s none told))
+        ∙ part_own (told_of_buffer calls buffer a.shared.size) _ (history_of b.0.closed) caller [] a.holds (omega (arith, a.callers, less))
+        (λ s told. ap (entries_by caller) (untold buffer a.shared.size caller (port_of_caller calls buffer caller) s none told))
     | inr absent ↦ ap (entries_by caller) (no_buffer buffer absent)
   ]
 
@@ -201,12 +233,12 @@ module _ {D F : Type 0} {g : _} (seen : F → Seen) (fronts : List FrontDeclared
   told_access size number None a s is told = absurd (cc (is))
   told_access size number (Some b) a s is told = (let same : b ≡ a = cc (is) in subst (λ (x : Access). x ≡ access_to x.buffer (ported_by number (opening size) s)) same told)
 
-  access_at : (buffer client : ℕ) (b : BufferRecord) (here : AtBuffer buffer b) (a : Access) → client < length fronts + 1 + length analyzers → port_of_caller fronts analyzers calls buffer (suc client) ≡ Some a → IsAccessTo (caller_of_client client) (closed_buffer b) a
+  access_at : (buffer client : ℕ) (b : BufferRecord) (here : AtBuffer buffer b) (a : Access) → client < length fronts + 1 + length analyzers → port_of_caller calls buffer (suc client) ≡ Some a → IsAccessTo (caller_of_client client) (closed_buffer b) a
   access_at buffer client b here a less is =
       let part = here.holds.parts (suc client) (omega (arith, here.callers, less)) in
       let size : ℕ = here.shared.size in
       let s : History = part.0 in
-      let port : a ≡ access_to a.buffer (ported_by (suc client) (opening size) s) = told_access size (suc client) (port_of_caller fronts analyzers calls buffer (suc client)) a s is part.2 in
+      let port : a ≡ access_to a.buffer (ported_by (suc client) (opening size) s) = told_access size (suc client) (port_of_caller calls buffer (suc client)) a s is part.2 in
       subst (λ (n : ℕ). IsAccessTo n (closed_buffer b) a) (sym (add-one client))
       (record {
         seen = s;
@@ -222,15 +254,13 @@ module _ {D F : Type 0} {g : _} (seen : F → Seen) (fronts : List FrontDeclared
   seat_at client less = there ended.seats client (omega (arith, ended.members.fronts_are.many, less))
 
   ports_of : (buffer client : ℕ) (d : FrontDeclared) (front : FrontSeen Generator) → slice_get fronts client ≡ Some d → slice_get ended.seats client ≡ Some front
-      → port_of_caller fronts analyzers calls buffer (suc client) ≡ (if d.buffer == buffer then Some front.port else None)
-  ports_of buffer client d front at seat =
-      ap (λ (o : Option FrontDeclared). client_port buffer o (slice_get (map front_calls ended.seats) client) (port_behind analyzers calls buffer (client - length fronts))) at
-      ∙ ap (λ (o : Option FrontCalls). if d.buffer == buffer then front_port o else None) (map_at front_calls ended.seats client front seat)
+      → port_of_caller calls buffer (suc client) ≡ (if d.buffer == buffer then Some front.port else None)
+  ports_of buffer client d front at seat = ap (λ (a : Account). a.port buffer) (front_told client d front at seat)
 
   own_port : (client : ℕ) (d : FrontDeclared) (front : FrontSeen Generator) → slice_get fronts client ≡ Some d → slice_get ended.seats client ≡ Some front → (b : BufferRecord) → AtBuffer d.buffer b → front.port.own ≡ calls_on_buffer closed (caller_of_client client) d.buffer
   own_port client d front at seat b here =
       let same : (d.buffer == d.buffer) ≡ true = elim (eqb_tells d.buffer d.buffer) as (λ w. (d.buffer == d.buffer) ≡ true) [ inl hit ↦ hit.0 | inr never ↦ absurd (never.1 refl) ] in
-      let port : port_of_caller fronts analyzers calls d.buffer (suc client) ≡ Some front.port =
+      let port : port_of_caller calls d.buffer (suc client) ≡ Some front.port =
       ports_of d.buffer client d front at seat ∙ ap (λ (y : Bool). if y then Some front.port else None) same in
       let within : client < length fronts = slice_get_within fronts client d at in
       let access : IsAccessTo (caller_of_client client) (closed_buffer b) front.port = access_at d.buffer client b here front.port (omega arith) port in
@@ -250,7 +280,7 @@ module _ {D F : Type 0} {g : _} (seen : F → Seen) (fronts : List FrontDeclared
       let of : IsFrontOf ended.objects ended.shared client d front = ended.members.fronts_are.each client d front at seat.1 in
       let seated : IsSeated generator_takes generator_makes front = ended.seated client front seat.1 in
       let by : ℕ = caller_of_client client in
-      let engine : front.calls ≡ engine_calls closed by = sym (engine_by client (omega arith) ∙ ap (engine_calls_by (behind client)) (map_at front_calls ended.seats client front seat.1)) in
+      let engine : front.calls ≡ engine_calls closed by = sym (engine_by client (omega arith) ∙ ap (λ (a : Account). a.engine) (front_told client d front at seat.1)) in
       let sent_to = buffer_there client d at in
       let own : front.port.own ≡ calls_on_buffer closed by d.buffer = own_port client d front at seat.1 sent_to.0 sent_to.1 in
       let database : own_watched front.database ≡ calls_on_database closed by = ap (λ (n : ℕ). entries_by n front.database.seen) of.access_caller ∙ sym (database_by client less front seat.1) in
@@ -268,7 +298,7 @@ module _ {D F : Type 0} {g : _} (seen : F → Seen) (fronts : List FrontDeclared
             (subst (λ (l : List EngineEntry). FrontMemberStands client d.name (generator_takes (generator_of d)) (generator_makes (generator_of d)) front.run l front.port.own (own_watched front.database)) engine second));
         elsewhere = λ buffer other.
             let differs : (d.buffer == buffer) ≡ false = elim (eqb_tells d.buffer buffer) as (λ w. (d.buffer == buffer) ≡ false) [ inl hit ↦ absurd (other (sym hit.1)) | inr never ↦ never.0 ] in
-            let none : port_of_caller fronts analyzers calls buffer (suc client) ≡ None = ports_of buffer client d front at seat.1 ∙ ap (λ (y : Bool). if y then Some front.port else None) differs in
+            let none : port_of_caller calls buffer (suc client) ≡ None = ports_of buffer client d front at seat.1 ∙ ap (λ (y : Bool). if y then Some front.port else None) differs in
             subst (λ (n : ℕ). calls_on_buffer closed n buffer ≡ []) (sym (add-one client)) (none_by buffer (suc client) (omega arith) none);
       }
 
@@ -279,20 +309,13 @@ module _ {D F : Type 0} {g : _} (seen : F → Seen) (fronts : List FrontDeclared
 
   -- The logger.
 
-  logger_seat : slice_get (map front_calls ended.seats) (length fronts) ≡ None
-  logger_seat = slice_get_past (map front_calls ended.seats) (length fronts) (omega (arith, many front_calls ended.seats, ended.members.fronts_are.many))
-
   pub logger_engine : engine_calls closed (logger_caller closed) ≡ logger.calls
   logger_engine =
       subst (λ (n : ℕ). engine_calls closed (caller_of_client n) ≡ logger.calls) (sym number)
-      (engine_by (length fronts) (omega arith)
-      ∙ (ap (engine_calls_by (behind (length fronts))) logger_seat
-      ∙ ap (engine_calls_behind calls) (let first : length fronts - length (map front_calls ended.seats) ≡ 0 = omega (arith, many front_calls ended.seats, ended.members.fronts_are.many) in first)))
+      (engine_by (length fronts) (omega arith) ∙ ap (λ (a : Account). a.engine) (logger_told (length fronts) refl))
 
-  logger_port : (buffer : ℕ) (a : Access) → slice_get logger.ports buffer ≡ Some a → port_of_caller fronts analyzers calls buffer (suc (length fronts)) ≡ Some a
-  logger_port buffer a at =
-      ap (λ (o : Option FrontDeclared). client_port buffer o (slice_get (map front_calls ended.seats) (length fronts)) (port_behind analyzers calls buffer (length fronts - length fronts))) (slice_get_past fronts (length fronts) (omega arith))
-      ∙ (ap (port_behind analyzers calls buffer) (let first : length fronts - length fronts ≡ 0 = omega arith in first) ∙ at)
+  logger_port : (buffer : ℕ) (a : Access) → slice_get logger.ports buffer ≡ Some a → port_of_caller calls buffer (suc (length fronts)) ≡ Some a
+  logger_port buffer a at = ap (λ (account : Account). account.port buffer) (logger_told (length fronts) refl) ∙ at
 
   logger_ends : LoggerAtEnd closed
   logger_ends =
@@ -323,22 +346,12 @@ module _ {D F : Type 0} {g : _} (seen : F → Seen) (fronts : List FrontDeclared
   IsAt place client = client ≡ first_analyzer fronts + place
 
   analyzer_ports : (buffer place client : ℕ) (d : AnalyzerDeclared) (seated_analyzer : AnalyzerSeen) → IsAt place client → slice_get analyzers place ≡ Some d → slice_get ended.seated_analyzers place ≡ Some seated_analyzer
-      → port_of_caller fronts analyzers calls buffer (suc client) ≡ (if d.buffer == buffer then Some seated_analyzer.port else None)
-  analyzer_ports buffer place client d seated_analyzer is at seat =
-      let past : client - length fronts ≡ suc place = omega (arith, is) in
-      ap (λ (o : Option FrontDeclared). client_port buffer o (slice_get (map front_calls ended.seats) client) (port_behind analyzers calls buffer (client - length fronts))) (slice_get_past fronts client (omega (arith, is)))
-      ∙ (ap (port_behind analyzers calls buffer) past
-      ∙ (ap (λ (o : Option AnalyzerDeclared). analyzer_port_in buffer o (slice_get (map analyzer_calls ended.seated_analyzers) place)) at
-      ∙ ap (λ (o : Option AnalyzerCalls). if d.buffer == buffer then analyzer_port o else None) (map_at analyzer_calls ended.seated_analyzers place seated_analyzer seat)))
+      → port_of_caller calls buffer (suc client) ≡ (if d.buffer == buffer then Some seated_analyzer.port else None)
+  analyzer_ports buffer place client d seated_analyzer is at seat = ap (λ (a : Account). a.port buffer) (analyzer_told client place d seated_analyzer is at seat)
 
-  analyzer_at_engine : (place client : ℕ) (seated_analyzer : AnalyzerSeen) → IsAt place client → place < length analyzers → slice_get ended.seated_analyzers place ≡ Some seated_analyzer → seated_analyzer.calls ≡ engine_calls closed (caller_of_client client)
-  analyzer_at_engine place client seated_analyzer is less seat =
-      let none : slice_get (map front_calls ended.seats) client ≡ None = slice_get_past (map front_calls ended.seats) client (omega (arith, many front_calls ended.seats, ended.members.fronts_are.many, is)) in
-      let past : client - length (map front_calls ended.seats) ≡ suc place = omega (arith, many front_calls ended.seats, ended.members.fronts_are.many, is) in
-      sym (engine_by client (omega (arith, is, less))
-      ∙ (ap (engine_calls_by (behind client)) none
-      ∙ (ap (engine_calls_behind calls) past
-      ∙ ap analyzer_engine (map_at analyzer_calls ended.seated_analyzers place seated_analyzer seat))))
+  analyzer_at_engine : (place client : ℕ) (d : AnalyzerDeclared) (seated_analyzer : AnalyzerSeen) → IsAt place client → place < length analyzers → slice_get analyzers place ≡ Some d → slice_get ended.seated_analyzers place ≡ Some seated_analyzer → seated_analyzer.calls ≡ engine_calls closed (caller_of_client client)
+  analyzer_at_engine place client d seated_analyzer is less at seat =
+      sym (engine_by client (omega (arith, is, less)) ∙ ap (λ (a : Account). a.engine) (analyzer_told client place d seated_analyzer is at seat))
 
   read_there : (place : ℕ) (d : AnalyzerDeclared) → slice_get analyzers place ≡ Some d → (b : BufferRecord) × AtBuffer d.buffer b
   read_there place d at =
@@ -350,7 +363,7 @@ module _ {D F : Type 0} {g : _} (seen : F → Seen) (fronts : List FrontDeclared
       → IsAccessTo (caller_of_client client) (closed_buffer b) seated_analyzer.port
   analyzer_access place client d seated_analyzer is at seat b here =
       let same : (d.buffer == d.buffer) ≡ true = elim (eqb_tells d.buffer d.buffer) as (λ w. (d.buffer == d.buffer) ≡ true) [ inl hit ↦ hit.0 | inr never ↦ absurd (never.1 refl) ] in
-      let port : port_of_caller fronts analyzers calls d.buffer (suc client) ≡ Some seated_analyzer.port =
+      let port : port_of_caller calls d.buffer (suc client) ≡ Some seated_analyzer.port =
       analyzer_ports d.buffer place client d seated_analyzer is at seat ∙ ap (λ (y : Bool). if y then Some seated_analyzer.port else None) same in
       access_at d.buffer client b here seated_analyzer.port (omega (arith, is, slice_get_within analyzers place d at)) port
 
@@ -363,7 +376,7 @@ module _ {D F : Type 0} {g : _} (seen : F → Seen) (fronts : List FrontDeclared
       let seated : IsAnalyzerSeated seated_analyzer = ended.analyzers_seated place seated_analyzer seat.1 in
       let its : seated_analyzer.client ≡ client = of.is ∙ sym is in
       let by : ℕ = caller_of_client client in
-      let engine : seated_analyzer.calls ≡ engine_calls closed by = analyzer_at_engine place client seated_analyzer is less seat.1 in
+      let engine : seated_analyzer.calls ≡ engine_calls closed by = analyzer_at_engine place client d seated_analyzer is less at seat.1 in
       let read = read_there place d at in
       let access : IsAccessTo by (closed_buffer read.0) seated_analyzer.port = analyzer_access place client d seated_analyzer is at seat.1 read.0 read.1 in
       let own : seated_analyzer.port.own ≡ calls_on_buffer closed by d.buffer = access.own ∙ (sym access.part.own ∙ sym (ap (entries_by by) (history_at d.buffer read.0 read.1))) in
@@ -381,7 +394,7 @@ module _ {D F : Type 0} {g : _} (seen : F → Seen) (fronts : List FrontDeclared
             (subst (λ (n : ℕ). AnalyzerMemberStands n seated_analyzer.analyzer seated_analyzer.calls seated_analyzer.port.own seated_analyzer.port.got) its seated.stands)));
         elsewhere = λ buffer other.
             let differs : (d.buffer == buffer) ≡ false = elim (eqb_tells d.buffer buffer) as (λ w. (d.buffer == buffer) ≡ false) [ inl hit ↦ absurd (other (sym hit.1)) | inr never ↦ never.0 ] in
-            let none : port_of_caller fronts analyzers calls buffer (suc client) ≡ None = analyzer_ports buffer place client d seated_analyzer is at seat.1 ∙ ap (λ (y : Bool). if y then Some seated_analyzer.port else None) differs in
+            let none : port_of_caller calls buffer (suc client) ≡ None = analyzer_ports buffer place client d seated_analyzer is at seat.1 ∙ ap (λ (y : Bool). if y then Some seated_analyzer.port else None) differs in
             subst (λ (n : ℕ). calls_on_buffer closed n buffer ≡ []) (sym (add-one client)) (none_by buffer (suc client) (omega (arith, is, less)) none);
       }
 

@@ -82,7 +82,7 @@ pub record SessionEnded {D F : Type 0} {g : _} (seen : F → Seen) (fronts : Lis
   pub analyzers_seated : (place : ℕ) → (analyzer : AnalyzerSeen) → slice_get seated_analyzers place ≡ Some analyzer →
       IsAnalyzerSeated analyzer
   pub histories : HoldsHistories objects shared r
-  pub calls : HoldsCalls fronts analyzers (session_calls own database seats logger seated_analyzers) objects shared r
+  pub calls : HoldsCalls (session_calls fronts analyzers own database seats logger seated_analyzers) objects shared r
   pub few_analyzers : length analyzers ≤ 8
   pub later : List EngineEntry
   pub begins : own ≡ registrations 0 (member_names fronts analyzers) ++ later

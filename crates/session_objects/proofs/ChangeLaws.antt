@@ -111,6 +111,16 @@ pub first_removed : {X : Type 0} → (all left : List X) (n : ℕ) (x : X) → l
     slice_get all n ≡ Some x
 first_removed all left n x e l is = sym (get_drop all n) ∙ ap (λ xs. slice_get xs 0) (sym e) ∙ slice_get_read left (length left) 0 x refl l is
 
+-- the items of a list with one more behind
+pub get_before : {X : Type 0} → (xs : List X) (x y : X) (n : ℕ) → slice_get xs n ≡ Some y → slice_get (xs ++ x ∷ []) n ≡ Some y
+get_before [] x y n at = absurd (cc (at))
+get_before (z ∷ zs) x y zero at = at
+get_before (z ∷ zs) x y (suc n) at = get_before zs x y n at
+
+pub get_last : {X : Type 0} → (xs : List X) (x : X) → slice_get (xs ++ x ∷ []) (length xs) ≡ Some x
+get_last [] x = refl
+get_last (z ∷ zs) x = get_last zs x
+
 -- the item between two parts of a list
 pub get_seam : {X : Type 0} → (xs ys : List X) (x : X) → slice_get ((xs ++ x ∷ []) ++ ys) (length xs) ≡ Some x
 get_seam [] ys x = refl

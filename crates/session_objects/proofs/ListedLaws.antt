@@ -112,6 +112,12 @@ account_there (w ∷ ws) [] n d m at there = absurd (cc (there))
 account_there {F} (w ∷ ws) (x ∷ xs) zero d m at there = ap (λ (v : MemberDeclared). Some (account_of v x)) (some_same w d at) ∙ ap (λ (y : MemberSeen Generator F). Some (account_of d y)) (some_same x m there)
 account_there (w ∷ ws) (x ∷ xs) (suc n) d m at there = account_there ws xs n d m at there
 
+pub no_account : {F : Type 0} (wanted : List MemberDeclared) (members : List (MemberSeen Generator F)) (n : ℕ) → slice_get wanted n ≡ None → slice_get (accounts_of wanted members) n ≡ None
+no_account [] members n none = refl
+no_account (w ∷ ws) [] n none = refl
+no_account (w ∷ ws) (x ∷ xs) zero none = absurd (cc (none))
+no_account (w ∷ ws) (x ∷ xs) (suc n) none = no_account ws xs n none
+
 pub accounts_count : {F : Type 0} (wanted : List MemberDeclared) (members : List (MemberSeen Generator F)) → length members ≡ length wanted → length (accounts_of wanted members) ≡ length wanted
 accounts_count [] members same = refl
 accounts_count (w ∷ ws) [] same = absurd (omega arith)

@@ -17,7 +17,7 @@ use Rattle.daq_members.specs.FrontSeats.{FrontSeen}
 use Rattle.daq_members.specs.FrontTaken.{FrontMemberStands}
 use Rattle.session_setup.specs.Setup.{is_buffer_size}
 use Rattle.session_objects.specs.Members.{generator_takes, generator_makes, AreSeated}
-use Rattle.session_objects.proofs.ChangeLaws.{each_pushed}
+use Rattle.session_objects.proofs.ChangeLaws.{each_pushed, get_before, get_last}
 
 -- what is seen of a front-end is told by its parts
 pub seen_same : (f g : FrontSeen Generator) → f.engine ≡ g.engine → f.client ≡ g.client → f.name ≡ g.name → f.equipment ≡ g.equipment →
@@ -87,3 +87,11 @@ module _ {X : Type 0} (Holds : ℕ → X → Type 0) where
         many = ap length pushed ∙ length-append before (seat ∷ []) ∙ ap (λ (n : ℕ). n + 1) seated.many;
         each = subst At (sym pushed) (each_pushed Holds before seat seated.each (subst Last (sym seated.many) holds));
       }
+
+  -- one less is taken
+  pub one_unseated : (count : ℕ) (before after : List X) (seat : X) → AreSeated Holds count before → before ≡ after ++ seat ∷ [] →
+      AreSeated Holds (length after) after × Holds (length after) seat
+  one_unseated count before after seat seated popped = (
+    record { many = refl; each = λ place x at. seated.each place x (ap (λ (xs : List X). slice_get xs place) popped ∙ get_before after seat x place at) },
+    seated.each (length after) seat (ap (λ (xs : List X). slice_get xs (length after)) popped ∙ get_last after seat),
+  )

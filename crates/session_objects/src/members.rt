@@ -6,7 +6,7 @@ ghost use Rattle.buffer_lock.specs.SharedPorts.{access_by};
 ghost use Rattle.odb_lock.specs.SharedAccesses.{access_by_pass};
 ghost use Rattle.analyzers.specs.AnalyzerKept.{AnalyzerStands, AnalyzerTells};
 ghost use Rattle.loggers.specs.NewLoggers.{HaveNumbers};
-ghost use Rattle.session_objects.specs.declared.membership.MemberDeclared.TheVariants.{FrontEnd, Logger, Analyzer};
+ghost use Rattle.session_objects.specs.declared.membership.MemberDeclared.TheVariants.{FrontEnd as WantedFront, Logger as WantedLogger, Analyzer as WantedAnalyzer};
 ghost use Rattle.session_objects.specs.Objects.{HaveBuffers, SuitMembers};
 ghost use Rattle.session_objects.specs.Kept.{OutNumbers, declared_members, member_count, out_to, out_to_members, ports_out, engine_out, database_out, buffer_out, HasFreshBut};
 ghost use Rattle.session_objects.specs.Members.{ring_window, new_ports, new_access, generator_of, event_room_of, event_rooms, idle_analyzer, files_left, IsNewPort, IsNewFront, IsNewLogger, IsNewAnalyzer, IsNewMemberAt, IsMadeLogger, AreSeated, HasNewMembers};
@@ -101,13 +101,12 @@ fn copied_channels(alloc: Global, channels: &[ChannelSpec]) -> Result<ChannelSpe
 fn make_logger(
     alloc: Global,
     buffers: &[SessionBuffer],
-    channels: &[ChannelSpec],
+    channels: ChannelSpecs,
 ) -> Result<Logger, NoMemory>
-    requires numbers { HaveNumbers channels.now }
-    requires read { HaveBuffers channels.now (length buffers.now) }
-    ensures { IfOk result (IsMadeLogger buffers.now channels.now) }
+    requires numbers { HaveNumbers channels }
+    requires read { HaveBuffers channels (length buffers.now) }
+    ensures { IfOk result (IsMadeLogger buffers.now channels) }
 {
-    let channels = copied_channels(alloc, channels)?;
     let rooms = event_rooms(alloc, buffers, channels.as_slice())?;
     let logger = Logger::new(alloc, channels, &rooms)?;
     Ok(logger)
@@ -200,7 +199,7 @@ impl<'a, 's, D: Database> Membership<'a, 's, D> {
         passes: &mut SessionPasses<D>,
     ) -> Result<SessionFront<'a, D>, NoMemory>
         requires declared { slice_get (declared_members self.now.lists.now.fronts
-            self.now.lists.now.analyzers) client ≡ Some (FrontEnd declared.now) }
+            self.now.lists.now.analyzers) client ≡ Some (WantedFront declared.now) }
         requires suit { SuitMembers self.now.lists.now.fronts self.now.lists.now.analyzers
             self.now.lists.now.channels self.now.objects.now self.now.database.now }
         requires out { HasFreshBut (out_to self.now.lists.now client) self.now.objects.now
@@ -226,7 +225,7 @@ impl<'a, 's, D: Database> Membership<'a, 's, D> {
         passes: &mut SessionPasses<D>,
     ) -> Result<Ports<SharedPort<'a, RingBuffer>>, NoMemory>
         requires declared { slice_get (declared_members self.now.lists.now.fronts
-            self.now.lists.now.analyzers) client ≡ Some Logger }
+            self.now.lists.now.analyzers) client ≡ Some WantedLogger }
         requires suit { SuitMembers self.now.lists.now.fronts self.now.lists.now.analyzers
             self.now.lists.now.channels self.now.objects.now self.now.database.now }
         requires out { HasFreshBut (out_to self.now.lists.now client) self.now.objects.now
@@ -253,7 +252,7 @@ impl<'a, 's, D: Database> Membership<'a, 's, D> {
         files: &mut Option<F>,
     ) -> Result<SessionLogger<'a, F>, NoMemory>
         requires declared { slice_get (declared_members self.now.lists.now.fronts
-            self.now.lists.now.analyzers) client ≡ Some Logger }
+            self.now.lists.now.analyzers) client ≡ Some WantedLogger }
         requires suit { SuitMembers self.now.lists.now.fronts self.now.lists.now.analyzers
             self.now.lists.now.channels self.now.objects.now self.now.database.now }
         requires files { (given : F) × (files.old ≡ Some given) }
@@ -266,7 +265,7 @@ impl<'a, 's, D: Database> Membership<'a, 's, D> {
         ensures files { OnOk result (files.new ≡ None) }
         ensures kept { OnErr result (files.new ≡ files.old) }
     {
-        let channels = self.lists.channels.as_slice();
+        let channels = copied_channels(alloc, self.lists.channels.as_slice())?;
         let logger = make_logger(alloc, &self.objects.buffers, channels)?;
         let ports = self.take_ports(alloc, client, passes)?;
         let engine = self.take_engine(client, passes);
@@ -285,7 +284,7 @@ impl<'a, 's, D: Database> Membership<'a, 's, D> {
         passes: &mut SessionPasses<D>,
     ) -> Result<SessionAnalyzer<'a>, NoMemory>
         requires declared { slice_get (declared_members self.now.lists.now.fronts
-            self.now.lists.now.analyzers) client ≡ Some (Analyzer declared.now) }
+            self.now.lists.now.analyzers) client ≡ Some (WantedAnalyzer declared.now) }
         requires suit { SuitMembers self.now.lists.now.fronts self.now.lists.now.analyzers
             self.now.lists.now.channels self.now.objects.now self.now.database.now }
         requires out { HasFreshBut (out_to self.now.lists.now client) self.now.objects.now
@@ -325,18 +324,20 @@ impl<'a, 's, D: Database> Membership<'a, 's, D> {
             ≡ files_left (length self.now.lists.now.fronts) (client + 1) given) }
         ensures kept { OnErr result (files.new ≡ files.old) }
     {
-        let kind = match self.declared(client as usize) {
+        match self.declared(client as usize) {
             MemberDeclared::FrontEnd(declared) => {
-                MemberKind::FrontEnd(self.make_front(alloc, client, &declared, passes)?)
+                let front = self.make_front(alloc, client, &declared, passes)?;
+                Ok(Member::new(MemberKind::FrontEnd(front)))
             }
             MemberDeclared::Logger => {
-                MemberKind::Logger(self.make_logger_member(alloc, client, passes, files)?)
+                let logger = self.make_logger_member(alloc, client, passes, files)?;
+                Ok(Member::new(MemberKind::Logger(logger)))
             }
             MemberDeclared::Analyzer(declared) => {
-                MemberKind::Analyzer(self.make_analyzer_member(alloc, client, &declared, passes)?)
+                let analyzer = self.make_analyzer_member(alloc, client, &declared, passes)?;
+                Ok(Member::new(MemberKind::Analyzer(analyzer)))
             }
-        };
-        Ok(Member::new(kind))
+        }
     }
 
     /// The run files, where so many members are made: they are here, or with the logger among these members.
@@ -348,7 +349,7 @@ impl<'a, 's, D: Database> Membership<'a, 's, D> {
         requires files { (given : F) × (files ≡ files_left (length self.now.lists.now.fronts)
             (length members) given) × AreSeated (IsNewMemberAt self.now.lists.now
             self.now.objects.now self.now.database.now given) (length members) members }
-        ensures { (given : F) → files.entry ≡ files_left (length self.now.lists.now.fronts)
+        ensures { (given : F) → files ≡ files_left (length self.now.lists.now.fronts)
             (length members.entry) given → AreSeated (IsNewMemberAt self.now.lists.now
             self.now.objects.now self.now.database.now given) (length members.entry) members.entry
             → result ≡ given }
@@ -387,10 +388,10 @@ impl<'a, 's, D: Database> Membership<'a, 's, D> {
         let Ok(mut members) = BoundedList::new(alloc) else {
             return Err(files);
         };
-        let mut files = Some(files);
+        let mut run_files = Some(files);
         for client in 0..self.count() {
-            let Ok(member) = self.make_member(alloc, client, passes, &mut files) else {
-                return Err(self.files_back(members, files));
+            let Ok(member) = self.make_member(alloc, client, passes, &mut run_files) else {
+                return Err(self.files_back(members, run_files));
             };
             members.push(member);
         }

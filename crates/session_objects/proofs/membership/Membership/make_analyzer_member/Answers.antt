@@ -47,7 +47,7 @@ take_port-port-requires-clause-number g c =
     c.requires.suit.callers.read_from at.0 c.args.declared.now at.2
 
 pub take_port-port-requires-clause-out : goal.take_port-port-requires-clause-out
-take_port-port-requires-clause-out g c = λ κs lives. (out_to c.args.self.now.lists.now c.args.client, c.requires.out)
+take_port-port-requires-clause-out g c = (out_to c.args.self.now.lists.now c.args.client, c.requires.out)
 
 pub take_port-port-requires-clause-there : goal.take_port-port-requires-clause-there
 take_port-port-requires-clause-there g c =
@@ -62,7 +62,7 @@ take_port-port-requires-clause-there g c =
     λ roster there. buffer_has m.objects.now m.database.now lists c.args.client (out_to lists c.args.client) d.buffer c.args.passes.now b.0 roster refl c.requires.out b.1 there (omega (arith, is))
 
 pub take_engine-engine-requires-clause-out : goal.take_engine-engine-requires-clause-out
-take_engine-engine-requires-clause-out g c = λ κs lives. (buffer_out (c.args.client + 1) c.args.declared.now.buffer (out_to c.args.self.now.lists.now c.args.client), c.take_port-port.ensures.out _ c.requires.out)
+take_engine-engine-requires-clause-out g c = (buffer_out (c.args.client + 1) c.args.declared.now.buffer (out_to c.args.self.now.lists.now c.args.client), c.take_port-port.ensures.out _ c.requires.out)
 
 pub take_engine-engine-requires-clause-there : goal.take_engine-engine-requires-clause-there
 take_engine-engine-requires-clause-there g c =

@@ -40,7 +40,7 @@ take_port-port-requires-clause-number g c =
     c.requires.suit.callers.sent_into c.args.client c.args.declared.now (declared_front lists.fronts lists.analyzers c.args.client c.args.declared.now c.requires.declared)
 
 pub take_port-port-requires-clause-out : goal.take_port-port-requires-clause-out
-take_port-port-requires-clause-out g c = λ κs lives. (out_to c.args.self.now.lists.now c.args.client, c.requires.out)
+take_port-port-requires-clause-out g c = (out_to c.args.self.now.lists.now c.args.client, c.requires.out)
 
 pub take_port-port-requires-clause-there : goal.take_port-port-requires-clause-there
 take_port-port-requires-clause-there g c =
@@ -54,7 +54,7 @@ take_port-port-requires-clause-there g c =
     λ roster there. buffer_has m.objects.now m.database.now lists c.args.client (out_to lists c.args.client) d.buffer c.args.passes.now b.0 roster refl c.requires.out b.1 there (omega arith)
 
 pub take_access-access-requires-clause-out : goal.take_access-access-requires-clause-out
-take_access-access-requires-clause-out g c = λ κs lives. (buffer_out (c.args.client + 1) c.args.declared.now.buffer (out_to c.args.self.now.lists.now c.args.client), c.take_port-port.ensures.out _ c.requires.out)
+take_access-access-requires-clause-out g c = (buffer_out (c.args.client + 1) c.args.declared.now.buffer (out_to c.args.self.now.lists.now c.args.client), c.take_port-port.ensures.out _ c.requires.out)
 
 pub take_access-access-requires-clause-there : goal.take_access-access-requires-clause-there
 take_access-access-requires-clause-there g c =
@@ -65,7 +65,7 @@ take_access-access-requires-clause-there g c =
     database_has m.objects.now m.database.now lists c.args.client (buffer_out (c.args.client + 1) c.args.declared.now.buffer (out_to lists c.args.client)) c.take_port-port.new.passes refl (c.take_port-port.ensures.out _ c.requires.out) (omega arith)
 
 pub take_engine-engine-requires-clause-out : goal.take_engine-engine-requires-clause-out
-take_engine-engine-requires-clause-out g c = λ κs lives.
+take_engine-engine-requires-clause-out g c = 
     (database_out (c.args.client + 1) (buffer_out (c.args.client + 1) c.args.declared.now.buffer (out_to c.args.self.now.lists.now c.args.client)),
     c.take_access-access.ensures.out _ (c.take_port-port.ensures.out _ c.requires.out))
 

@@ -32,7 +32,7 @@ take_port-requires-clause-client g c =
     let few : length lists.fronts ≤ 32 = c.requires.suit.few in omega (arith, is)
 
 pub take_port-requires-clause-out : goal.take_port-requires-clause-out
-take_port-requires-clause-out g c = λ κs lives. (ports_out c.args.self.now.lists.now c.args.client c.loop-number.number, c.loop-number.invariant.1)
+take_port-requires-clause-out g c = (ports_out c.args.self.now.lists.now c.args.client c.loop-number.number, c.loop-number.invariant.1)
 
 pub take_port-requires-clause-there : goal.take_port-requires-clause-there
 take_port-requires-clause-there g c =

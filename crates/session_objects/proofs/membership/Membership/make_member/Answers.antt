@@ -1,0 +1,69 @@
+use Rattle.std.proofs.Common.{◌≡◌, ◌∙◌, ◌<◌, ◌+◌, ℕ, length, ap, sym, subst, arith}
+use Rattle.std.specs.Prelude.{slice_get, Some}
+use Rattle.std.proofs.lemmas.Option.{slice_get_within}
+use Rattle.frontend_kit.specs.declared.generator.Generator.{Generator}
+use Rattle.daq_members.specs.Members.{MemberSeen}
+use Rattle.session_objects.specs.declared.membership.MemberDeclared.TheVariants.{FrontEnd as WantedFront, Logger as WantedLogger, Analyzer as WantedAnalyzer}
+use Rattle.session_objects.specs.Kept.{declared_members}
+use Rattle.session_objects.specs.Members.{IsNewMember, NewFront, NewLogger, NewAnalyzer}
+use Rattle.session_objects.proofs.ListedLaws.{declared_front, declared_logger, declared_analyzer}
+use Rattle.session_objects.proofs.MadeLaws.{files_kept, files_here, files_gone}
+use Rattle.session_objects.proofs.membership.Membership.make_member.Goals as goal
+
+pub returns-in_ok-front-in-FrontEnd-clause-member : goal.returns-in_ok-front-in-FrontEnd-clause-member
+returns-in_ok-front-in-FrontEnd-clause-member g c = λ given is.
+    let m = c.args.self.now in
+    let P : MemberSeen Generator _ → Type 0 = λ x. IsNewMember m.objects.now m.database.now m.lists.now.channels given c.args.client (WantedFront c.in-FrontEnd.declared) x in record {
+      wanted = WantedFront c.in-FrontEnd.declared;
+      has_wanted = c.declared.ensures ∙ ap Some c.in-FrontEnd.is;
+      new = subst P (sym c.new.ensures) (NewFront c.in_ok-front-in-FrontEnd.ensures.front);
+    }
+
+pub returns-in_ok-front-in-FrontEnd-clause-files : goal.returns-in_ok-front-in-FrontEnd-clause-files
+returns-in_ok-front-in-FrontEnd-clause-files g c = λ given is.
+    let lists = c.args.self.now.lists.now in
+    let at : slice_get (declared_members lists.fronts lists.analyzers) c.args.client ≡ Some (WantedFront c.in-FrontEnd.declared) = c.declared.ensures ∙ ap Some c.in-FrontEnd.is in
+    let l : c.args.client < length lists.fronts = slice_get_within lists.fronts c.args.client c.in-FrontEnd.declared (declared_front lists.fronts lists.analyzers c.args.client c.in-FrontEnd.declared at) in
+    is ∙ files_kept (length lists.fronts) c.args.client given (λ e. omega (arith, l, e))
+
+pub make_logger_member-requires-clause-files : goal.make_logger_member-requires-clause-files
+make_logger_member-requires-clause-files g c =
+    let lists = c.args.self.now.lists.now in
+    let at : slice_get (declared_members lists.fronts lists.analyzers) c.args.client ≡ Some WantedLogger = c.declared.ensures ∙ ap Some c.in-Logger.is in
+    let given = c.requires.files in
+    (given.0, given.1 ∙ files_here (length lists.fronts) c.args.client given.0 (declared_logger lists.fronts lists.analyzers c.args.client at))
+
+pub returns-in_ok-logger-in-Logger-clause-member : goal.returns-in_ok-logger-in-Logger-clause-member
+returns-in_ok-logger-in-Logger-clause-member g c = λ given is.
+    let m = c.args.self.now in
+    let lists = m.lists.now in
+    let at : slice_get (declared_members lists.fronts lists.analyzers) c.args.client ≡ Some WantedLogger = c.declared.ensures ∙ ap Some c.in-Logger.is in
+    let here = files_here (length lists.fronts) c.args.client given (declared_logger lists.fronts lists.analyzers c.args.client at) in
+    let P : MemberSeen Generator _ → Type 0 = λ x. IsNewMember m.objects.now m.database.now lists.channels given c.args.client WantedLogger x in record {
+      wanted = WantedLogger;
+      has_wanted = at;
+      new = subst P (sym c.new-in-Logger.ensures) (NewLogger (c.in_ok-logger-in-Logger.ensures.logger given (is ∙ here)));
+    }
+
+pub returns-in_ok-logger-in-Logger-clause-files : goal.returns-in_ok-logger-in-Logger-clause-files
+returns-in_ok-logger-in-Logger-clause-files g c = λ given is.
+    let lists = c.args.self.now.lists.now in
+    let at : slice_get (declared_members lists.fronts lists.analyzers) c.args.client ≡ Some WantedLogger = c.declared.ensures ∙ ap Some c.in-Logger.is in
+    c.in_ok-logger-in-Logger.ensures.files ∙ sym (files_gone (length lists.fronts) c.args.client given (declared_logger lists.fronts lists.analyzers c.args.client at))
+
+pub returns-in_ok-analyzer-in-Analyzer-clause-member : goal.returns-in_ok-analyzer-in-Analyzer-clause-member
+returns-in_ok-analyzer-in-Analyzer-clause-member g c = λ given is.
+    let m = c.args.self.now in
+    let P : MemberSeen Generator _ → Type 0 = λ x. IsNewMember m.objects.now m.database.now m.lists.now.channels given c.args.client (WantedAnalyzer c.in-Analyzer.declared) x in record {
+      wanted = WantedAnalyzer c.in-Analyzer.declared;
+      has_wanted = c.declared.ensures ∙ ap Some c.in-Analyzer.is;
+      new = subst P (sym c.new-in-Analyzer.ensures) (NewAnalyzer c.in_ok-analyzer-in-Analyzer.ensures.analyzer);
+    }
+
+pub returns-in_ok-analyzer-in-Analyzer-clause-files : goal.returns-in_ok-analyzer-in-Analyzer-clause-files
+returns-in_ok-analyzer-in-Analyzer-clause-files g c = λ given is.
+    let lists = c.args.self.now.lists.now in
+    let at : slice_get (declared_members lists.fronts lists.analyzers) c.args.client ≡ Some (WantedAnalyzer c.in-Analyzer.declared) = c.declared.ensures ∙ ap Some c.in-Analyzer.is in
+    let there = declared_analyzer lists.fronts lists.analyzers c.args.client c.in-Analyzer.declared at in
+    let past : c.args.client ≡ length lists.fronts + 1 + there.0 = there.1 in
+    is ∙ files_kept (length lists.fronts) c.args.client given (λ e. omega (arith, past, e))
