@@ -390,10 +390,10 @@ impl<'a, 's, D: Database> Membership<'a, 's, D> {
         };
         let mut run_files = Some(files);
         for client in 0..self.count() {
-            let Ok(member) = self.make_member(alloc, client, passes, &mut run_files) else {
-                return Err(self.files_back(members, run_files));
-            };
-            members.push(member);
+            match self.make_member(alloc, client, passes, &mut run_files) {
+                Ok(member) => members.push(member),
+                Err(NoMemory) => return Err(self.files_back(members, run_files)),
+            }
         }
         Ok(members)
     }

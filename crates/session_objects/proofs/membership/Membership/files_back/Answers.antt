@@ -1,6 +1,6 @@
 use Rattle.frontend_kit.specs.declared.generator.Generator.{Generator}
 use Rattle.daq_members.specs.Members.{MemberSeen}
-use Rattle.std.proofs.Common.{rules, ◌≡◌, ◌∙◌, [], ℕ, List, length, ap, sym}
+use Rattle.std.proofs.Common.{rules, ◌≡◌, ◌∙◌, [], List, length, ap, sym}
 use Rattle.std.specs.Prelude.{Some}
 use Rattle.session_objects.specs.Members.{files_left, IsNewMemberAt}
 use Rattle.session_objects.proofs.ChangeLaws.{some_same}

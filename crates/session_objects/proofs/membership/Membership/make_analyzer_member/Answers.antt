@@ -1,5 +1,5 @@
 use Rattle.std.proofs.Common.{rules, ◌≡◌, ◌∙◌, ◌<◌, ◌+◌, ◌-◌, ◌≤◌, ◌∷◌, min, ℕ, List, length, ap, sym, refl, subst, arith, add-one}
-use Rattle.std.specs.Prelude.{slice_get, Option, Some}
+use Rattle.std.specs.Prelude.{slice_get, Option}
 use Rattle.std.proofs.lemmas.Option.{slice_get_within}
 use Rattle.event.specs.Events.{event_limit}
 use Rattle.buffer_core.specs.Window.{Window}

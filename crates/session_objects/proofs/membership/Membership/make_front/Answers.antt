@@ -1,5 +1,4 @@
 use Rattle.std.proofs.Common.{◌≡◌, ◌∙◌, ◌+◌, ◌<◌, ◌≤◌, ◌∷◌, ℕ, length, ap, sym, refl, subst, arith, add-one}
-use Rattle.std.specs.Prelude.{slice_get, Some}
 use Rattle.std.proofs.lemmas.Option.{slice_get_within}
 use Rattle.turn_lock.specs.Passes.{passes_of}
 use Rattle.buffer_core.specs.Window.{Window}
@@ -13,7 +12,7 @@ use Rattle.front_ends.specs.FrontIds.{IsFrontId}
 use Rattle.front_ends.specs.Fronts.{FrontState}
 use Rattle.frontend_kit.specs.declared.generator.Generator.{Generator}
 use Rattle.session_objects.specs.declared.membership.MemberDeclared.TheVariants.{FrontEnd as WantedFront}
-use Rattle.session_objects.specs.Kept.{OutNumbers, out_to, engine_out, database_out, buffer_out}
+use Rattle.session_objects.specs.Kept.{out_to, engine_out, database_out, buffer_out}
 use Rattle.session_objects.specs.Members.{new_front}
 use Rattle.session_objects.proofs.ChangeLaws.{there_below}
 use Rattle.session_objects.proofs.ListedLaws.{declared_front}

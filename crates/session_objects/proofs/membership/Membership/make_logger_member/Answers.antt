@@ -1,5 +1,5 @@
-use Rattle.std.proofs.Common.{rules, ◌≡◌, ◌∙◌, ◌<◌, ◌+◌, ◌≤◌, ◌∷◌, ℕ, List, length, map, ap, sym, refl, subst, arith, add-one}
-use Rattle.std.specs.Prelude.{Option, Some}
+use Rattle.std.proofs.Common.{rules, ◌≡◌, ◌∙◌, ◌+◌, ◌≤◌, ◌∷◌, ℕ, List, length, map, ap, sym, refl, subst, arith, add-one}
+use Rattle.std.specs.Prelude.{Option}
 use Rattle.turn_lock.specs.Passes.{passes_of}
 use Rattle.buffer_lock.specs.SharedPorts.{access_by}
 use Rattle.transition_lock.specs.SharedEngines.{engine_lock_of}

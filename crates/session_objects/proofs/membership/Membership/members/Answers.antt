@@ -24,10 +24,8 @@ files_back-requires g c =
     let S : ℕ → Type 0 = λ n. AreSeated (IsNewMemberAt m.lists.now m.objects.now m.database.now c.args.files) n c.loop-client.members in record {
       files = (
         c.args.files,
-        (
-          c.make_member.ensures.kept ∙ c.loop-client.invariant.files ∙ ap (λ (n : ℕ). files_left (length m.lists.now.fronts) n c.args.files) (sym many),
-          subst S (sym many) seated,
-        ),
+        c.in-Err.ensures.kept ∙ c.loop-client.invariant.files ∙ ap (λ (n : ℕ). files_left (length m.lists.now.fronts) n c.args.files) (sym many),
+        subst S (sym many) seated,
       );
     }
 

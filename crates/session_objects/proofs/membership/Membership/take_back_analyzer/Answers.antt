@@ -1,13 +1,10 @@
-use Rattle.std.proofs.Common.{◌≡◌, ◌∙◌, ◌+◌, ◌<◌, ◌==◌, ℕ, true, if◌then◌else◌, length, ap, sym, refl, subst, arith, eq-eqb}
-use Rattle.std.specs.Prelude.{slice_get, Option, Some, None}
+use Rattle.std.proofs.Common.{◌≡◌, ◌∙◌, ◌+◌, ◌<◌, ℕ, length, ap, sym, refl, subst, arith, eq-eqb}
+use Rattle.std.specs.Prelude.{slice_get}
 use Rattle.std.proofs.lemmas.Option.{slice_get_within}
-use Rattle.turn_lock.specs.Passes.{number_of, seen_by, IsOf}
-use Rattle.turn_lock.specs.Roster.{items_of, room_of}
-use Rattle.turn_lock.specs.declared.roster.Passes.{Passes}
+use Rattle.turn_lock.specs.Passes.{number_of, IsOf}
 use Rattle.buffer_core.specs.Ports.{Access}
 use Rattle.transition_lock.specs.declared.shared.SharedEngine.{SharedEngine}
 use Rattle.transition_lock.specs.SharedEngines.{engine_lock_of}
-use Rattle.odb_watch.specs.DatabasePorts.{DatabaseAccess}
 use Rattle.session_objects.specs.Kept.{declared_members, member_count, out_to}
 use Rattle.session_objects.specs.Members.{analyzer_account}
 use Rattle.session_objects.specs.declared.membership.MemberDeclared.TheVariants.{Analyzer as WantedAnalyzer}

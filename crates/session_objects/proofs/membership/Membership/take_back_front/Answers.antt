@@ -1,5 +1,5 @@
-use Rattle.std.proofs.Common.{◌≡◌, ◌∙◌, ◌+◌, ◌<◌, ◌==◌, ℕ, true, if◌then◌else◌, length, ap, sym, refl, subst, arith, eq-eqb}
-use Rattle.std.specs.Prelude.{slice_get, Option, Some, None}
+use Rattle.std.proofs.Common.{◌≡◌, ◌∙◌, ◌+◌, ◌<◌, ℕ, length, ap, sym, refl, subst, arith, eq-eqb}
+use Rattle.std.specs.Prelude.{slice_get}
 use Rattle.std.proofs.lemmas.Option.{slice_get_within}
 use Rattle.turn_lock.specs.Passes.{number_of, seen_by, IsOf}
 use Rattle.turn_lock.specs.Roster.{items_of, room_of}

@@ -1,4 +1,4 @@
-use Rattle.std.proofs.Common.{rules, ◌≡◌, ◌∙◌, ◌+◌, ◌++◌, ◌∷◌, [], ℕ, List, length, ap, sym, refl, subst, arith, append-nil, append_assoc, length-append}
+use Rattle.std.proofs.Common.{rules, ◌≡◌, ◌∙◌, ◌+◌, ◌++◌, ◌∷◌, [], ℕ, List, length, ap, sym, refl, subst, append-nil, append_assoc, length-append}
 use Rattle.std.specs.Prelude.{slice_get, Some, Option}
 use Rattle.frontend_kit.specs.declared.generator.Generator.{Generator}
 use Rattle.daq_members.specs.Members.{MemberSeen}
