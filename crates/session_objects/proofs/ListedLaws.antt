@@ -1,14 +1,11 @@
 -- The members of a session in one list, by their client numbers.
-use Rattle.std.proofs.Common.{◌≡◌, ◌∙◌, ◌⊎◌, ℕ, zero, suc, ◌+◌, ◌<◌, ◌≤◌, ◌++◌, ◌∷◌, false, List, [], length, map, ap, sym, refl, subst, inl, inr, ⊎_elim, arith, length-append}
-use Rattle.std.specs.Prelude.{slice_get, Option, Some, None}
+use Rattle.std.proofs.Common.{◌≡◌, ◌∙◌, ◌⊎◌, ℕ, zero, suc, ◌+◌, ◌<◌, ◌++◌, ◌∷◌, false, List, [], length, map, ap, sym, refl, subst, inl, inr, ⊎_elim, arith, length-append}
+use Rattle.std.specs.Prelude.{slice_get, Some, None}
 use Rattle.std.specs.Option.{option_map}
 use Rattle.std.proofs.lemmas.List.{length-map}
 use Rattle.std.proofs.lemmas.Option.{slice_get_within, slice_get-map}
-use Rattle.buffer_core.specs.Ports.{Access}
 use Rattle.frontend_kit.specs.declared.generator.Generator.{Generator}
-use Rattle.member_model.specs.RunEngines.{EngineEntry}
 use Rattle.odb_lock.specs.declared.shared.SharedOdb.{SharedOdb}
-use Rattle.odb_watch.specs.declared.entry.WatchEntry.{WatchEntry}
 use Rattle.daq_members.specs.FrontSeats.{FrontSeen}
 use Rattle.daq_members.specs.LoggerSeats.{LoggerSeen}
 use Rattle.daq_members.specs.SeatedAnalyzers.{AnalyzerSeen}

@@ -1,8 +1,6 @@
 -- Passes that are taken out, one after another.
-use Rattle.std.proofs.Common.{◌≡◌, ◌≢◌, ℕ, suc, ◌+◌, ◌<◌, ◌≤◌, ◌==◌, true, false, List, [], ◌∷◌, length, sym, ap, ◌∙◌, refl, subst, arith, add-one, eq-eqb, ne_eqb, if◌then◌else◌}
-use Rattle.std.specs.Prelude.{Contains, slice_get, Option, Some}
-use mathlib.Core.Logic.{dite}
-use native.Mathlib.Decide.{ℕ_discrete}
+use Rattle.std.proofs.Common.{◌≡◌, ℕ, suc, ◌+◌, ◌<◌, true, List, [], ◌∷◌, length, sym, ap, ◌∙◌, subst, arith}
+use Rattle.std.specs.Prelude.{Contains, slice_get, Some}
 use Rattle.std.proofs.lemmas.Option.{slice_get_within}
 use Rattle.turn_lock.specs.Passes.{passes_of}
 use Rattle.turn_lock.specs.Roster.{numbers_of}
@@ -11,13 +9,11 @@ use Rattle.transition_lock.specs.SharedEngines.{engine_lock_of}
 use Rattle.odb_lock.specs.declared.shared.SharedOdb.{SharedOdb}
 use Rattle.odb_lock.specs.SharedOdbs.{odb_lock_of}
 use Rattle.session_setup.specs.declared.declared.DeclaredLists.{DeclaredLists}
-use Rattle.session_objects.specs.declared.membership.MemberDeclared.{MemberDeclared}
-use Rattle.session_objects.specs.declared.membership.MemberDeclared.TheVariants.{Logger as WantedLogger}
 use Rattle.session_objects.specs.declared.objects.SessionBuffer.{SessionBuffer}
 use Rattle.session_objects.specs.declared.objects.SessionObjects.{SessionObjects}
 use Rattle.session_objects.specs.declared.passes.SessionPasses.{SessionPasses}
 use Rattle.session_objects.specs.Rosters.{KeepsFresh, TakesFresh, ChangesAt, nothing_seen}
-use Rattle.session_objects.specs.Kept.{OutNumbers, callers_down, calls_buffer, calls_database, declared_members, own_buffer, out_to, ports_out, engine_out, database_out, buffer_out, HasFreshBut}
+use Rattle.session_objects.specs.Kept.{OutNumbers, calls_buffer, calls_database, declared_members, out_to, engine_out, database_out, buffer_out, HasFreshBut}
 use Rattle.session_objects.proofs.RosterLaws.{is_kept}
 use Rattle.session_objects.proofs.ChangeLaws.{changed_keep}
 use Rattle.session_objects.proofs.OutLaws.{out_here, out_beside, down_only, none_low, main_low}

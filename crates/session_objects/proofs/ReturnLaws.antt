@@ -1,7 +1,6 @@
 -- Passes that come back, one after another.
-use Rattle.std.proofs.Common.{◌≡◌, ◌≢◌, ℕ, zero, suc, add-one, ◌+◌, ◌<◌, ◌≤◌, ◌==◌, true, false, Bool, List, [], ◌∷◌, length, sym, ap, ◌∙◌, refl, subst, arith, eq-eqb, ne_eqb, None as nothing}
+use Rattle.std.proofs.Common.{◌≡◌, ◌≢◌, ℕ, zero, suc, add-one, ◌+◌, ◌<◌, ◌==◌, true, false, Bool, List, [], ◌∷◌, length, sym, ap, ◌∙◌, refl, subst, arith, None as nothing}
 use Rattle.std.specs.Prelude.{slice_get, Option, Some, Contains}
-use Rattle.std.proofs.lemmas.Bool.{lt-ltb, le-ltb}
 use mathlib.Core.Logic.{dite}
 use native.Mathlib.Decide.{dec_le}
 use Rattle.turn_lock.specs.declared.lock.Pass.{Pass}
@@ -9,7 +8,6 @@ use Rattle.std.proofs.lemmas.Option.{slice_get_within, slice_get_past}
 use Rattle.daq_types.specs.Callers.{entries_by}
 use Rattle.frontend_kit.specs.declared.generator.Generator.{Generator}
 use Rattle.member_model.specs.RunEngines.{EngineEntry}
-use Rattle.odb_watch.specs.declared.entry.WatchEntry.{WatchEntry}
 use Rattle.buffer_core.specs.Ports.{Access}
 use Rattle.turn_lock.specs.Passes.{number_of, seen_by, held_by, own_entries, passes_of, IsOf}
 use Rattle.turn_lock.specs.Roster.{items_of, room_of}
@@ -20,12 +18,12 @@ use Rattle.odb_lock.specs.declared.shared.SharedOdb.{SharedOdb}
 use Rattle.odb_lock.specs.SharedOdbs.{odb_lock_of}
 use Rattle.session_setup.specs.declared.declared.DeclaredLists.{DeclaredLists}
 use Rattle.session_objects.specs.declared.membership.MemberDeclared.{MemberDeclared}
-use Rattle.session_objects.specs.declared.membership.MemberDeclared.TheVariants.{FrontEnd as WantedFront, Logger as WantedLogger, Analyzer as WantedAnalyzer}
+use Rattle.session_objects.specs.declared.membership.MemberDeclared.TheVariants.{Logger as WantedLogger}
 use Rattle.session_objects.specs.declared.objects.SessionBuffer.{SessionBuffer}
 use Rattle.session_objects.specs.declared.objects.SessionObjects.{SessionObjects}
 use Rattle.session_objects.specs.declared.passes.SessionPasses.{SessionPasses}
 use Rattle.session_objects.specs.Rosters.{ChangesAt, KeepsPasses, PutsBack}
-use Rattle.session_objects.specs.Kept.{OutNumbers, HasFreshBut, callers_down, calls_buffer, calls_database, declared_members, member_count, own_buffer, out_to, out_to_members, ports_out}
+use Rattle.session_objects.specs.Kept.{OutNumbers, HasFreshBut, calls_buffer, calls_database, declared_members, member_count, own_buffer, out_to, out_to_members, ports_out}
 use Rattle.session_objects.specs.Calls.{Account, SessionCalls, account_at, account_or_none, told_of_engine, told_of_database, told_of_buffer, told_through}
 use Rattle.session_objects.specs.Objects.{HaveCallers}
 use Rattle.session_objects.specs.Members.{HasAccount, CalledAt, AreCalledAt}

@@ -1,5 +1,5 @@
 -- What comes back from the members of a session.
-use Rattle.std.specs.Prelude.{◌≡◌, ℕ, Bool, List, Option, Some, None}
+use Rattle.std.specs.Prelude.{◌≡◌, ℕ, List, Option, Some, None}
 use Rattle.buffer_core.specs.Slots.{some_slot}
 use Rattle.daq_members.specs.Crews.{CrewSeen}
 use Rattle.daq_members.specs.LoggerSeats.{LoggerSeen}

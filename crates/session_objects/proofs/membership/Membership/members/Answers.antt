@@ -1,4 +1,4 @@
-use Rattle.std.proofs.Common.{rules, ◌≡◌, ◌∙◌, ◌<◌, ◌≤◌, ◌+◌, ℕ, length, ap, sym, subst, arith}
+use Rattle.std.proofs.Common.{rules, ◌≡◌, ◌∙◌, ℕ, length, ap, sym, subst}
 use Rattle.session_objects.specs.Kept.{member_count, out_to, HasFreshBut}
 use Rattle.session_objects.specs.Members.{AreSeated, IsNewMemberAt, files_left}
 use Rattle.session_objects.proofs.SeatLaws.{none_seated, one_seated}
