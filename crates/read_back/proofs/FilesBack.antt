@@ -119,4 +119,4 @@ files_back prints = λ files s many time1 dump1 events are small short.
     let brief : All (λ e. e.id < 2 ^ 16) (joined are.closed.pieces) = subst (λ (es : List Event). All (λ e. e.id < 2 ^ 16) es) (sym are.closed.cut.joins) short in
     subst (λ (es : List Event). PrintsReport files (piece_names s 0 many) s.head.run (report_of es)) are.closed.cut.joins
     (subst (λ (n : ℕ). PrintsReport files (piece_names s 0 n) s.head.run (report_of (joined are.closed.pieces))) (sym are.closed.many)
-    (prints_pieces prints files s time1 dump1 small are.begins_small are.ends_small are.closed.pieces are.closed.cut.some fine brief are.closed.stored))
+    (prints_pieces prints files s time1 dump1 small are.closed.small are.ends_small are.closed.pieces are.closed.cut.some fine brief are.closed.stored))

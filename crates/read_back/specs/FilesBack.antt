@@ -31,7 +31,6 @@ piece_names s number (suc many) = piece_name s number ∷ piece_names s (suc num
 pub record AreClosed (files : Seen) (s : Series) (many : ℕ) (time1 : ℕ) (dump1 : List ℕ) (events : List Event) : Type 0 where
   pub taken : Bool
   pub closed : HasRun files s many taken (encoding (end_record s.head.run time1 dump1)) events
-  pub begins_small : length s.dump ≤ record_limit
   pub ends_small : length dump1 ≤ record_limit
   pub fine : All IsFileEvent events
 

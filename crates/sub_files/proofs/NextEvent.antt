@@ -179,12 +179,14 @@ whole_prefix xs = ([], append-nil xs)
 -- the append
 append_part : (a b : Seen) (s : Series) (ready : OpenFile) (events : List Event) (e : Event) → IsReady a s ready events e → ClosesPart a b ready.file (encoding e) → HasPart b s (fallen_at (ready.sub + 1) ready.sub) [] (events ++ e ∷ [])
 append_part a b s ready events e h part = record {
+  small = h.small;
   first = events ++ e ∷ [];
   front = whole_prefix (events ++ e ∷ []);
   ends = inl refl;
   taken = ready.taken;
   whole = h.closed;
   rest = (h.piece ++ e ∷ []) ∷ [];
+  some = omega arith;
   cut = h.cut;
   framed = h.number;
   files = ap (λ (n : ℕ). n + 1) h.number;
@@ -202,12 +204,14 @@ make_part : (a b made : Seen) (s : Series) (old : OpenFile) (events : List Event
 make_part a b made s old events e h same closes =
     let file : IsWritten made old.file (piece_name s old.sub) (begun_piece s h.piece) = same_written h.file same in
     record {
+      small = h.small;
       first = events;
       front = (e ∷ [], refl);
       ends = inl refl;
       taken = old.taken;
       whole = h.closed;
       rest = h.piece ∷ [];
+      some = omega arith;
       cut = h.cut;
       framed = h.number;
       files = ap (λ (n : ℕ). n + 1) h.number;
@@ -226,12 +230,14 @@ end_part a b made ended s old file events e h begins makes part closes =
     let next_number : old.sub + 1 ≡ suc old.sub = omega arith in
     let new_part : IsPartStored b (next_name s old) (begun_piece s (e ∷ []) ++ []) = record { bytes = []; stored = IsWritten-Closes new_ended closes; front = (begun_piece s (e ∷ []) ++ [], refl) } in
     record {
+      small = h.small;
       first = events ++ e ∷ [];
       front = whole_prefix (events ++ e ∷ []);
       ends = inl refl;
       taken = false;
       whole = h.closed;
       rest = h.piece ∷ ((e ∷ []) ∷ []);
+      some = omega arith;
       cut = subst (λ (pieces : List (List Event)). IsCut s.limit (head_bytes s.dump) (events ++ e ∷ []) false pieces) (append_assoc h.closed (h.piece ∷ []) ((e ∷ []) ∷ [])) (next_cut a s old events e h begins);
       framed = h.number;
       files = ap (λ (n : ℕ). n + 2) h.number;
@@ -256,12 +262,14 @@ begin_part a b made ended s old file events e h begins makes ends part =
     let to_b : KeepsClosed ended b = open_kept new_ended part.closes.touches in
     let many : old.sub + 1 ≡ length (h.closed ++ h.piece ∷ []) = ap (λ (n : ℕ). n + 1) h.number ∙ sym (length-push h.closed h.piece) in
     record {
+      small = h.small;
       first = events ++ e ∷ [];
       front = whole_prefix (events ++ e ∷ []);
       ends = inl refl;
       taken = false;
       whole = h.closed ++ h.piece ∷ [];
       rest = (e ∷ []) ∷ [];
+      some = omega arith;
       cut = next_cut a s old events e h begins;
       framed = many;
       files = omega (arith, many);

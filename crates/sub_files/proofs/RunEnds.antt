@@ -46,6 +46,7 @@ files_push seen s last number (p ∷ (q ∷ closed)) piece stored file =
 
 pub closed_run : (a b : Seen) (s : Series) (open_file : OpenFile) (last : List ℕ) (events : List Event) → HoldsRun a s open_file events → Closes a b open_file.file last → HasRun b s (open_file.sub + 1) open_file.taken last events
 closed_run a b s open_file last events h closes = record {
+  small = h.small;
   pieces = h.closed ++ h.piece ∷ [];
   cut = h.cut;
   many = ap (λ (n : ℕ). n + 1) h.number ∙ (omega (arith, length-push h.closed h.piece));
@@ -56,12 +57,14 @@ closed_run a b s open_file last events h closes = record {
 
 pub closed_part : (a b : Seen) (s : Series) (open_file : OpenFile) (last : List ℕ) (events : List Event) → HoldsRun a s open_file events → ClosesPart a b open_file.file last → HasPart b s (fallen_at (open_file.sub + 1) open_file.sub) last events
 closed_part a b s open_file last events h part = record {
+  small = h.small;
   first = events;
   front = ([], append-nil events);
   ends = inr refl;
   taken = open_file.taken;
   whole = h.closed;
   rest = h.piece ∷ [];
+  some = omega arith;
   cut = h.cut;
   framed = h.number;
   files = ap (λ (n : ℕ). n + 1) h.number;

@@ -91,6 +91,7 @@ pub record HoldsRun (seen : Seen) (s : Series) (open_file : OpenFile) (events : 
 
 -- The files of these events are closed, so many, and the last one ends with these bytes.
 pub record HasRun (seen : Seen) (s : Series) (files : ℕ) (taken : Bool) (last : List ℕ) (events : List Event) : Type 0 where
+  pub small : length s.dump ≤ record_limit
   pub pieces : List (List Event)
   pub cut : IsCut s.limit (head_bytes s.dump) events taken pieces
   pub many : files ≡ length pieces
@@ -98,14 +99,16 @@ pub record HasRun (seen : Seen) (s : Series) (files : ℕ) (taken : Bool) (last 
   pub stored : AreFilesStored seen s last 0 pieces
 
 -- A call on the files of these events failed, and they are closed. They hold a first part of the events, cut into pieces: the
--- first files whole, and of the others first parts. Some of the bytes at the end of the last one are there only behind all events.
+-- first files whole, and of the others, one at least, first parts. Some of the bytes at the end of the last one are there only behind all events.
 pub record HasPart (seen : Seen) (s : Series) (fallen : Fallen) (last : List ℕ) (events : List Event) : Type 0 where
+  pub small : length s.dump ≤ record_limit
   pub first : List Event
   pub front : IsPrefix first events
   pub ends : (last ≡ []) ⊎ (first ≡ events)
   pub taken : Bool
   pub whole : List (List Event)
   pub rest : List (List Event)
+  pub some : 1 ≤ length rest
   pub cut : IsCut s.limit (head_bytes s.dump) first taken (whole ++ rest)
   pub framed : fallen.framed ≡ length whole
   pub files : fallen.files ≡ length whole + length rest
