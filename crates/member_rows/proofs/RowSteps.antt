@@ -39,6 +39,7 @@ sized_ready before after logger seen sizes row = record {
     many = row.ready.many;
     served = λ n c stood. omega (arith, sizes.many, row.ready.served n c stood);
     files = row.ready.files;
+    unlimited = row.ready.unlimited;
   };
   idle = row.idle;
   begun = omega (arith, sizes.many, row.begun);
