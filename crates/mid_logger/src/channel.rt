@@ -113,37 +113,17 @@ fn ended_stage(stage: ChannelStage, ended: Option<u64>) -> ChannelStage
     }
 }
 
-/// The run, with this file being written.
-fn opened_at(opened: ChannelRun, at: OpenFile) -> ChannelRun
-    ensures { result ≡ record opened { at = at } }
-{
-    ChannelRun {
-        run: opened.run,
-        start: opened.start,
-        time: opened.time,
-        at,
-        client: opened.client,
-        request: opened.request,
-    }
-}
-
-/// The stage, with this file being written.
-fn stage_at(stage: ChannelStage, at: OpenFile) -> ChannelStage
-    ensures { result ≡ stage_at stage at }
+/// This file is the one that is being written, where one is.
+fn keep_file(stage: &mut ChannelStage, at: OpenFile)
+    ensures { stage.new ≡ stage_at stage.old at }
 {
     match stage {
-        ChannelStage::Writing { opened, begun } => ChannelStage::Writing {
-            opened: opened_at(opened, at),
-            begun,
-        },
-        ChannelStage::Draining { run } => ChannelStage::Draining {
-            run: BegunRun {
-                opened: opened_at(run.opened, at),
-                begun: run.begun,
-                ended: run.ended,
-            },
-        },
-        other => other,
+        ChannelStage::Writing { opened, .. } => opened.at = at,
+        ChannelStage::Draining { run } => run.opened.at = at,
+        ChannelStage::Idle
+        | ChannelStage::Asking { .. }
+        | ChannelStage::Drained { .. }
+        | ChannelStage::Broken { .. } => (),
     }
 }
 
@@ -213,7 +193,7 @@ impl Channel {
         let event = self.event.bytes();
         match at.write(files, &self.spec.pattern, limit, head, dump, event) {
             Ok(()) => {
-                self.stage = stage_at(self.stage, at);
+                keep_file(&mut self.stage, at);
                 Pulled::Wrote { place }
             }
             Err(fallen) => {

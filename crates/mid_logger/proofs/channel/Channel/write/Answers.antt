@@ -17,4 +17,4 @@ returns-in-Err-clause-takes g c = inr (record {
 })
 
 pub returns-in-Ok-clause-few : goal.returns-in-Ok-clause-few
-returns-in-Ok-clause-few g c = λ few. rw c.stage_at-self.ensures (moved_few c.args.self.now.stage _ c.in-Ok.ensures.file.few few)
+returns-in-Ok-clause-few g c = λ few. rw c.keep_file.ensures (moved_few c.args.self.now.stage _ c.in-Ok.ensures.file.few few)
