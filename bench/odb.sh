@@ -4,6 +4,7 @@
 # same script to the same text. Prints seconds (the best of seven), ratios by the clock and of the processor, growth and the
 # peak memory. Then the saving of 5,000, 10,000 and 20,000 keys to a file and the loading of that file, beside the same plain
 # program: processor time (the least of fifteen), without that of the keys' creation, which a script that only makes them takes.
+# Last the 40,000 lines with a link elsewhere in the database, and with each path through a link, beside those without a link.
 # usage: bench/odb.sh PROGRAM
 set -e
 program=$(realpath "$1")
@@ -22,15 +23,15 @@ DIRECTORIES = 50
 FEWEST_SAVED = 5000
 
 
-def path(key):
-    return "/Equipment/Crate%d/Channel%d" % (key % DIRECTORIES, key)
+def path(key, root="/Equipment"):
+    return "%s/Crate%d/Channel%d" % (root, key % DIRECTORIES, key)
 
 
-def script(lines, keys):
-    written = ["create UINT32 " + path(key) for key in range(keys)]
+def script(lines, keys, links=(), root="/Equipment"):
+    written = ["create UINT32 " + path(key) for key in range(keys)] + list(links)
     for line in range(lines - keys):
         key = (line // 2) * 7919 % keys
-        written.append("set %s %d" % (path(key), line) if line % 2 == 0 else "get " + path(key))
+        written.append("set %s %d" % (path(key, root), line) if line % 2 == 0 else "get " + path(key, root))
     return ("\n".join(written) + "\n").encode()
 
 
@@ -108,4 +109,12 @@ for times in (1, 2, 4):
           "growth %5.2f of %d (exponent %4.2f)"
           % (keys, saved, loaded, saved / plain_saved, loaded / plain_loaded,
              (saved + loaded) / (plain_saved + plain_loaded), (saved + loaded) / first, times, exponent))
+
+LINK = ["link /Crates /Equipment"]
+lines, keys = 4 * FEWEST_LINES, 4 * FEWEST_KEYS
+took = busy([program, "run"], script(lines, keys))
+beside = busy([program, "run"], script(lines, keys, LINK))
+through = busy([program, "run"], script(lines, keys, LINK, "/Crates"))
+print("%6d lines  with a link elsewhere %4.2f times, through a link %4.2f times as long of the processor"
+      % (lines, beside / took, through / took))
 PYTHON
