@@ -24,6 +24,8 @@ set /Settings/Name "Muon decay"
 create UINT16 /Settings/Thresholds 3
 set /Settings/Thresholds 1 500
 create DIR /Settings/Empty
+link /Settings/Limits /Settings/Thresholds
+set /Settings/Limits 2 400
 get /Settings/Name
 get /Settings/Thresholds 1
 ls /Settings
