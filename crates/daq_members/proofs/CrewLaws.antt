@@ -17,36 +17,14 @@ some_same x y e = cc (e)
 
 -- Members of which some stand before others.
 module _ (E F : Type 0) where
-  fronts_first : (fronts : List (FrontSeen E)) (members : List (MemberSeen E F)) → fronts_in (map FrontEnd fronts ++ members) ≡ fronts ++ fronts_in members
-  fronts_first [] members = refl
-  fronts_first (f ∷ fs) members = ap (λ (xs : List (FrontSeen E)). f ∷ xs) (fronts_first fs members)
-
-  no_fronts : (analyzers : List AnalyzerSeen) → fronts_in {E = E} {F = F} (map Analyzer analyzers) ≡ []
-  no_fronts [] = refl
-  no_fronts (a ∷ rest) = no_fronts rest
-
   logger_behind : (fronts : List (FrontSeen E)) (members : List (MemberSeen E F)) → logger_in (map FrontEnd fronts ++ members) ≡ logger_in members
   logger_behind [] members = refl
   logger_behind (f ∷ fs) members = logger_behind fs members
 
-  analyzers_behind : (fronts : List (FrontSeen E)) (members : List (MemberSeen E F)) → analyzers_in (map FrontEnd fronts ++ members) ≡ analyzers_in members
-  analyzers_behind [] members = refl
-  analyzers_behind (f ∷ fs) members = analyzers_behind fs members
-
-  all_analyzers : (analyzers : List AnalyzerSeen) → analyzers_in {E = E} {F = F} (map Analyzer analyzers) ≡ analyzers
-  all_analyzers [] = refl
-  all_analyzers (a ∷ rest) = ap (λ (xs : List AnalyzerSeen). a ∷ xs) (all_analyzers rest)
-
--- So the members of a crew are by their kinds what the crew has.
+-- So the logger among the members of a crew is the crew's.
 module _ {E F : Type 0} (fronts : List (FrontSeen E)) (logger : LoggerSeen F) (analyzers : List AnalyzerSeen) where
-  pub fronts_laid : fronts_in (laid fronts logger analyzers) ≡ fronts
-  fronts_laid = fronts_first E F fronts (Logger logger ∷ map Analyzer analyzers) ∙ (ap (λ (xs : List (FrontSeen E)). fronts ++ xs) (no_fronts E F analyzers) ∙ append-nil fronts)
-
   pub logger_laid : logger_in (laid fronts logger analyzers) ≡ Some logger
   logger_laid = logger_behind E F fronts (Logger logger ∷ map Analyzer analyzers)
-
-  pub analyzers_laid : analyzers_in (laid fronts logger analyzers) ≡ analyzers
-  analyzers_laid = analyzers_behind E F fronts (Logger logger ∷ map Analyzer analyzers) ∙ all_analyzers E F analyzers
 
 module _ {E F : Type 0} (told : MemberTold E F) where
   -- Each member of a crew keeps its contract where all members do.

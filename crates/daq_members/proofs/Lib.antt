@@ -15,6 +15,5 @@ pub mod AnalyzerLaws
 pub mod AnalyzerSeatLaws
 pub mod CrewLaws
 pub mod StayLaws
-pub mod MovedLaws
 pub mod KindSends
 pub mod SendLaws

@@ -17,26 +17,12 @@ pub record CrewSeen (E F : Type 0) : Type 0 where
 abbrev pub crew_seen : {E F : Type 0} → List (FrontSeen E) → LoggerSeen F → List AnalyzerSeen → CrewSeen E F
 crew_seen fronts logger analyzers = record { fronts = fronts; logger = logger; analyzers = analyzers }
 
--- the front-ends among these members
-abbrev pub fronts_in : {E F : Type 0} → List (MemberSeen E F) → List (FrontSeen E)
-fronts_in [] = []
-fronts_in (FrontEnd front ∷ members) = front ∷ fronts_in members
-fronts_in (Logger logger ∷ members) = fronts_in members
-fronts_in (Analyzer analyzer ∷ members) = fronts_in members
-
 -- the first logger among these members, if there is one
 abbrev pub logger_in : {E F : Type 0} → List (MemberSeen E F) → Option (LoggerSeen F)
 logger_in [] = None
 logger_in (FrontEnd front ∷ members) = logger_in members
 logger_in (Logger logger ∷ members) = Some logger
 logger_in (Analyzer analyzer ∷ members) = logger_in members
-
--- the analyzers among these members
-abbrev pub analyzers_in : {E F : Type 0} → List (MemberSeen E F) → List AnalyzerSeen
-analyzers_in [] = []
-analyzers_in (FrontEnd front ∷ members) = analyzers_in members
-analyzers_in (Logger logger ∷ members) = analyzers_in members
-analyzers_in (Analyzer analyzer ∷ members) = analyzer ∷ analyzers_in members
 
 -- all of them, by their client numbers
 abbrev pub members_of : {E F : Type 0} → CrewSeen E F → List (MemberSeen E F)

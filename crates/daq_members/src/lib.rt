@@ -14,7 +14,6 @@ pub mod laws;
 mod logger_member;
 mod member;
 pub mod member_laws;
-mod one_list;
 mod play;
 mod sent_key;
 
@@ -23,6 +22,5 @@ pub use engine_client::EngineClient;
 pub use front_member::{FrontMember, FrontParts, turned_by};
 pub use logger_member::{LoggerMember, LoggerParts};
 pub use member::{Member, MemberKind, ask_all};
-pub use one_list::{AnalyzerMembers, Members, in_one_list};
-pub use play::{MemberRoom, play_members};
+pub use play::{MemberRoom, Members, play_members};
 pub use sent_key::SentKey;

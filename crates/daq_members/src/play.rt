@@ -4,16 +4,18 @@ ghost use Rattle.member_crew.specs.Turns.{CameBack};
 ghost use Rattle.daq_members.specs.Members.{KeepsContract, TurnsMember, member_told};
 
 use crate::member::{Member, ask_all};
-use crate::one_list::Members;
 use buffer_core::BufferPort;
 use daq_io::{Files, Gate, Pick};
 use daq_types::NoMemory;
 use front_ends::Equipment;
-use member_crew::{Crew, CrewParts, Playing, TakesTurns, ThreadRoom, play};
+use member_crew::{Crew, CrewParts, MemberList, Playing, TakesTurns, ThreadRoom, play};
 use odb_watch::WatchPort;
 use std::alloc::Global;
 use std::sync::Wait;
 use std::thread::Threads;
+
+/// The members of a session, each by its client number: the front-ends, the logger and the analyzers. There is room for 64.
+pub type Members<'a, E, P, D, F> = MemberList<Member<'a, E, P, D, F>>;
 
 /// Room for the threads of a session's members, where they are to have threads of their own.
 #[derive(Drop)]

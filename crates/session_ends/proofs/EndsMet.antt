@@ -152,13 +152,13 @@ module _ {D F : Type 0} {g : _} (seen : F → Seen) (fronts : List FrontDeclared
   unseen : (client : ℕ) → length fronts ≤ client → (account_at calls client).database ≡ []
   unseen client past = elim (found wanted client) as (λ w. (account_at calls client).database ≡ []) [
     | inl d ↦ (elim (in_kinds WantedFront WantedLogger WantedAnalyzer fronts analyzers client d.0 d.1) as (λ w. (account_at calls client).database ≡ []) [
-        | inl front ↦ absurd (omega (arith, slice_get_within fronts client front.0 front.1, past))
-        | inr others ↦ (elim others as (λ w. (account_at calls client).database ≡ []) [
-            | inl middle ↦ ap (λ (a : Account). a.database) (logger_told client middle.0)
-            | inr last ↦ (let seat = there ended.seated_analyzers last.0 (omega (arith, ended.members.analyzers_are.many, slice_get_within analyzers last.0 last.2 last.3)) in
-                ap (λ (a : Account). a.database) (analyzer_told client last.0 last.2 seat.0 last.1 last.3 seat.1))
-          ])
+      | inl front ↦ absurd (omega (arith, slice_get_within fronts client front.0 front.1, past))
+      | inr others ↦ (elim others as (λ w. (account_at calls client).database ≡ []) [
+        | inl middle ↦ ap (λ (a : Account). a.database) (logger_told client middle.0)
+        | inr last ↦ (let seat = there ended.seated_analyzers last.0 (omega (arith, ended.members.analyzers_are.many, slice_get_within analyzers last.0 last.2 last.3)) in
+            ap (λ (a : Account). a.database) (analyzer_told client last.0 last.2 seat.0 last.1 last.3 seat.1))
       ])
+    ])
     | inr none ↦ ap (λ (o : Option Account). (account_or_none o).database) (no_account wanted listed client none)
   ]
 

@@ -65,15 +65,15 @@ out_among members clients = record {
   database = callers_down (λ n. calls_database (slice_get members n)) (main_caller ∷ []) clients;
 }
 
--- The first so many of the members that were declared have their passes;
+-- the same of the members that were declared
 abbrev pub out_to : DeclaredLists → (clients : ℕ) → OutNumbers
 out_to lists clients = out_among (declared_members lists.fronts lists.analyzers) clients
 
--- and so have all.
+-- all of them have their passes
 abbrev pub out_to_members : DeclaredLists → OutNumbers
 out_to_members lists = out_to lists (member_count lists.fronts lists.analyzers)
 
--- The first so many have theirs, and the next one has its own of each buffer with a number below this.
+-- the first so many have theirs, and the next one has its own of each buffer with a number below this
 abbrev pub ports_out : DeclaredLists → (clients buffers : ℕ) → OutNumbers
 ports_out lists clients buffers = record (out_to lists clients) {
   buffers = λ number. if nat_lt number buffers then (out_to lists (suc clients)).buffers number

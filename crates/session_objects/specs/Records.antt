@@ -49,8 +49,8 @@ pub record HoldsAllOf {M D E : Type 0} {g : _} (passes : List (Pass M D E g)) (c
 
 -- The passes of these objects are here but those with these numbers, and each tells of its caller what stands in these
 -- calls.
-pub record HasCallsBut {D : Type 0} {g : _} (out : OutNumbers) (calls : SessionCalls)
-    (objects : SessionObjects) (shared : SharedOdb D) (passes : SessionPasses D g) : Type 0 where
+pub record HasCallsBut {D : Type 0} {g : _} (out : OutNumbers) (calls : SessionCalls) (objects : SessionObjects)
+    (shared : SharedOdb D) (passes : SessionPasses D g) : Type 0 where
   pub engine : KeepsPasses (told_of_engine calls) out.engine (engine_lock_of objects.engine) passes.engine
   pub many : length passes.buffers.items ≡ length objects.buffers.items
   pub buffers : (number : ℕ) → (buffer : SessionBuffer) → (roster : _) →
@@ -62,8 +62,7 @@ pub record HasCallsBut {D : Type 0} {g : _} (out : OutNumbers) (calls : SessionC
 abbrev pub none_out : OutNumbers
 none_out = record { engine = []; buffers = λ number. []; database = [] }
 
-abbrev pub HasCalls : {D : Type 0} {g : _} → SessionCalls → SessionObjects → SharedOdb D →
-    SessionPasses D g → Type 0
+abbrev pub HasCalls : {D : Type 0} {g : _} → SessionCalls → SessionObjects → SharedOdb D → SessionPasses D g → Type 0
 HasCalls calls objects shared passes = HasCallsBut none_out calls objects shared passes
 
 -- The record of a buffer: its history is legal from the buffer as it opened, and led to what the buffer was left as; each
@@ -97,7 +96,8 @@ pub record HoldsHistories {D : Type 0} {g : _} (objects : SessionObjects) (share
   pub notes : (rows : Rows) → first_database shared ≡ unwatched rows → TellsDueNotes rows (history_of r.database)
 
 -- Each history of the record holds the calls of its callers, and no others.
-pub record HoldsCalls {D : Type 0} {g : _} (calls : SessionCalls) (objects : SessionObjects) (shared : SharedOdb D) (r : SessionRecord D g) : Type 0 where
+pub record HoldsCalls {D : Type 0} {g : _} (calls : SessionCalls) (objects : SessionObjects) (shared : SharedOdb D)
+    (r : SessionRecord D g) : Type 0 where
   pub engine : HoldsParts (told_of_engine calls) (passes_of (engine_lock_of objects.engine)) (history_of r.engine)
   pub buffers : (number : ℕ) → (buffer : SessionBuffer) → (closed : BufferRecord) →
       slice_get objects.buffers.items number ≡ Some buffer → slice_get r.buffers number ≡ Some closed →

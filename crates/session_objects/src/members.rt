@@ -14,9 +14,7 @@ ghost use Rattle.session_objects.specs.Members.{ring_window, new_ports, new_acce
 use crate::membership::{MemberDeclared, Membership};
 use crate::objects::SessionBuffer;
 use crate::passes::{SessionPasses, take_fresh};
-use crate::seats::{
-    SessionAnalyzer, SessionFront, SessionLogger, SessionMember, SessionMembers,
-};
+use crate::seats::{SessionAnalyzer, SessionFront, SessionLogger, SessionMember, SessionMembers};
 use analyzers::Analyzer;
 use buffer_lock::SharedPort;
 use daq_io::Files;
@@ -360,9 +358,7 @@ impl<'a, 's, D: Database> Membership<'a, 's, D> {
                 found = Some(logger.into_parts().files);
             }
         }
-        let Some(files) = found else {
-            unreachable!()
-        };
+        let Some(files) = found else { unreachable!() };
         files
     }
 

@@ -162,7 +162,9 @@ impl<'a, 's, D: Database> Membership<'a, 's, D> {
     {
         match member.into_kind() {
             MemberKind::FrontEnd(front) => self.take_back_front(client, front, passes),
-            MemberKind::Logger(logger) => *left = Some(self.take_back_logger(client, logger, passes)),
+            MemberKind::Logger(logger) => *left = Some(self.take_back_logger(
+                client, logger, passes,
+            )),
             MemberKind::Analyzer(analyzer) => self.take_back_analyzer(client, analyzer, passes),
         }
     }

@@ -1,6 +1,6 @@
 // The members of a session, by what they are made of.
 use buffer_lock::SharedPort;
-use daq_members::{AnalyzerMember, AnalyzerMembers, FrontMember, LoggerMember, Member, Members};
+use daq_members::{AnalyzerMember, FrontMember, LoggerMember, Member, Members};
 use frontend_kit::Generator;
 use odb_lock::SharedAccess;
 use ring_buffer::RingBuffer;
@@ -18,9 +18,6 @@ pub type SessionLogger<'a, F> = LoggerMember<'a, SharedPort<'a, RingBuffer>, F>;
 
 /// An analyzer of a session.
 pub type SessionAnalyzer<'a> = AnalyzerMember<'a, SharedPort<'a, RingBuffer>>;
-
-/// The analyzers of a session, in the order of their declaration.
-pub(crate) type SessionAnalyzers<'a> = AnalyzerMembers<'a, SharedPort<'a, RingBuffer>>;
 
 /// A member of a session.
 pub type SessionMember<'a, D, F> = Member<

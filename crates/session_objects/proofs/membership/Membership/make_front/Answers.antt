@@ -64,9 +64,10 @@ take_access-access-requires-clause-there g c =
     database_has m.objects.now m.database.now lists c.args.client (buffer_out (c.args.client + 1) c.args.declared.now.buffer (out_to lists c.args.client)) c.take_port-port.new.passes refl (c.take_port-port.ensures.out _ c.requires.out) (omega arith)
 
 pub take_engine-engine-requires-clause-out : goal.take_engine-engine-requires-clause-out
-take_engine-engine-requires-clause-out g c = 
-    (database_out (c.args.client + 1) (buffer_out (c.args.client + 1) c.args.declared.now.buffer (out_to c.args.self.now.lists.now c.args.client)),
-    c.take_access-access.ensures.out _ (c.take_port-port.ensures.out _ c.requires.out))
+take_engine-engine-requires-clause-out g c = (
+  database_out (c.args.client + 1) (buffer_out (c.args.client + 1) c.args.declared.now.buffer (out_to c.args.self.now.lists.now c.args.client)),
+  c.take_access-access.ensures.out _ (c.take_port-port.ensures.out _ c.requires.out),
+)
 
 pub take_engine-engine-requires-clause-there : goal.take_engine-engine-requires-clause-there
 take_engine-engine-requires-clause-there g c =
