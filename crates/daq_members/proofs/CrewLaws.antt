@@ -8,7 +8,7 @@ use Rattle.daq_members.specs.LoggerSeats.{LoggerSeen}
 use Rattle.daq_members.specs.SeatedAnalyzers.{AnalyzerSeen, IsSameAnalyzer}
 use Rattle.daq_members.specs.Members.{MemberSeen, MemberTold, FrontEnd, Logger, Analyzer, KeepsContract, TurnsMember}
 use Rattle.daq_members.specs.Stay.{laid, StillLaid, MembersStay}
-use Rattle.daq_members.specs.Crews.{CrewSeen, crew_seen, fronts_in, logger_in, analyzers_in, members_of, KeepContracts, CrewsStay, StaysListed}
+use Rattle.daq_members.specs.Crews.{CrewSeen, crew_seen, logger_in, members_of, KeepContracts, CrewsStay, StaysListed}
 use Rattle.member_crew.specs.Turns.{CameBack}
 use Rattle.member_crew.proofs.ListLaws.{zip_at}
 
