@@ -1,5 +1,6 @@
 //! Items of the online database, their texts, and values.
-ghost use Rattle.std.specs.Prelude.{◌≤◌, IsTrue};
+ghost use Rattle.std.specs.Prelude.{◌≡◌, ◌≤◌, IsTrue, IfOk, IfSome};
+ghost use Rattle.daq_types.specs.declared.types.Tid.{Tid};
 ghost use Rattle.odb_value.specs.Items.{is_kept};
 ghost use Rattle.odb_value.specs.Values.{items_limit};
 
@@ -189,7 +190,9 @@ fn new_values(rt: HostRuntime) {
 }
 
 /// A value of two texts, the second of which has 40 bytes.
-fn long_value(alloc: Global) -> Result<Option<Value>, NoMemory> {
+fn long_value(alloc: Global) -> Result<Option<Value>, NoMemory>
+    ensures { IfOk result (λ found. IfSome found (λ value. value.tid ≡ Tid.Text)) }
+{
     let text = vec![in alloc; b'x'; 40]?;
     if TextBytes::bad_place(text.as_slice()).is_some() {
         return Ok(None);
@@ -200,7 +203,9 @@ fn long_value(alloc: Global) -> Result<Option<Value>, NoMemory> {
 }
 
 /// A copy of the value with three items, where one is left of its own.
-fn copy_of_three(alloc: Global, value: &mut Value) -> Result<Value, NoMemory> {
+fn copy_of_three(alloc: Global, value: &mut Value) -> Result<Value, NoMemory>
+    requires { IsTrue (is_kept value.old.tid) }
+{
     value.resize(alloc, 3)?;
     let copy = value.try_clone(alloc)?;
     value.resize(alloc, 1)?;
