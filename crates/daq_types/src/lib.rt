@@ -21,7 +21,9 @@ pub use events::Event;
 pub use file_names::{BadFileName, FileName};
 pub use memory::NoMemory;
 pub use names::{Name, NameRefusal};
-pub use runs::{ChannelState, FrontEnded, Kind, Order, RunState, StartOutcome, Transition, Why};
+pub use runs::{
+    ChannelEnd, ChannelState, FrontEnded, Kind, Order, RunState, StartOutcome, Transition, Why,
+};
 pub use steps::Steps;
 pub use types::Tid;
 pub use word_list::Words;

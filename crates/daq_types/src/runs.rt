@@ -75,6 +75,17 @@ pub enum ChannelState {
     NoMark,
 }
 
+/// What became of a logger channel's files of a run.
+#[derive(Clone, Copy, Debug, PartialEq, Eq)]
+pub struct ChannelEnd {
+    /// What became of the channel, and so of its last file.
+    pub state: ChannelState,
+    /// How many files of the run it made.
+    pub files: u32,
+    /// How many of these, the first ones, have both records and were closed without a fault.
+    pub framed: u32,
+}
+
 /// How a start ended. Every other transition is completed.
 #[derive(Clone, Copy, Debug, PartialEq, Eq)]
 pub enum StartOutcome {

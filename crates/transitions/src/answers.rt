@@ -1,4 +1,4 @@
-use daq_types::{BoundedList, ChannelState, FrontEnded, Why};
+use daq_types::{BoundedList, ChannelEnd, FrontEnded, Why};
 
 /// How many tallies a transition has at most: a refused start has turns of start and of start-abort.
 pub const TALLIES: usize = 128;
@@ -18,7 +18,7 @@ pub enum Tally<R> {
     /// What a front-end sent, and why it sends no more.
     Front { sent: u64, ended: FrontEnded },
     /// What became of the files of the logger's channels.
-    Channels([ChannelState; 16]),
+    Channels([ChannelEnd; 16]),
     /// What a client made of the run.
     Report(R),
 }
