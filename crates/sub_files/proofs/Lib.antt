@@ -10,3 +10,4 @@ pub mod NextFacts
 pub mod NextEvent
 pub mod RunEnds
 pub mod RemoveSteps
+pub mod FilesOfRun

@@ -1,16 +1,19 @@
 -- Files of a run that are removed one after the other.
-use Rattle.std.specs.Prelude.{◌≡◌, ◌≢◌, ◌<◌, ◌≤◌, ◌+◌, ℕ, IsTrue, List, Option, Some, None, Result, Ok, Err, OnOk, OnErr, refl}
-use Rattle.std.proofs.Common.{arith, ap, sym, subst, ◌∙◌, inl, inr}
+use Rattle.std.specs.Prelude.{◌≡◌, ◌≢◌, ◌<◌, ◌≤◌, ◌+◌, ◌⊎◌, ◌++◌, ◌∷◌, [], ℕ, IsTrue, Contains, List, length, Option, Some, None, Result, Ok, Err, OnOk, OnErr, refl}
+use Rattle.std.proofs.Common.{arith, ap, sym, subst, ◌∙◌, inl, inr, length-append}
 use Rattle.std.proofs.lemmas.Bool.Decides.{eqb_tells}
-use Rattle.daq_io.specs.Counts.{CountsFault, Rose, first_of}
+use Rattle.daq_io.specs.Counts.{CountsFault, Rose, RoseBy, first_of}
 use Rattle.daq_io.specs.Seen.{Seen, Touches, Same, KeepsNumbers, Removes}
 use Rattle.daq_io.proofs.SeenLaws.{KeepsNumber-refl, KeepsNumbers-trans, KeepsFiles-Touches, name_tells}
-use Rattle.sub_files.specs.RecordFiles.{AreGone, RemovesNames, NamesOneOf}
+use Rattle.daq_io.proofs.Counts.{RoseBy-then}
+use Rattle.std.proofs.lemmas.List.Elements.{Contains-append_left, Contains-append_right}
+use Rattle.sub_files.specs.RecordFiles.{AreGone, LeavesForFaults, RemovesNames, NamesOneOf}
 
 -- so many were removed, and this is answered so far
 pub record HasRemoved {T E : Type 0} (names : ℕ → List ℕ) (many : ℕ) (a b : Seen) (fa fb : ℕ) (oa ob : Option (List ℕ)) (answer : Result T E) : Type 0 where
   pub removes : RemovesNames names many a b
   pub gone : OnOk answer (AreGone b names many)
+  pub leaves : LeavesForFaults names many b fa fb
   pub faults : CountsFault fa fb answer
   pub quiet : OnOk answer (ob ≡ oa)
   pub first : OnErr answer (NamesOneOf names many oa ob)
@@ -19,6 +22,7 @@ none_yet : {T E : Type 0} (names : ℕ → List ℕ) (a : Seen) (fa : ℕ) (oa :
 none_yet names a fa oa x = record {
   removes = record { tells = refl; others = λ name none. refl; numbers = λ n. KeepsNumber-refl a n };
   gone = λ n below. absurd (omega (arith, below));
+  leaves = record { left = []; each = λ told n below. absurd (omega (arith, below)); faults = omega arith };
   faults = record { later = omega arith; done = refl; failed = tt };
   quiet = refl;
   first = tt;
@@ -34,18 +38,50 @@ removes_more names many a b c p touches numbers = record {
   numbers = KeepsNumbers-trans p.numbers numbers;
 }
 
+earlier : (names : ℕ → List ℕ) (many n : ℕ) → n < many + 1 → names n ≢ names many → n < many
+earlier names many n below differs = elim (eqb_tells n many) as (λ w. n < many) [
+  | inl same ↦ absurd (differs (ap names same.1))
+  | inr other ↦ (let apart = other.1 in omega (arith, below, apart))
+]
+
 gone_more : (names : ℕ → List ℕ) (many : ℕ) (b c : Seen) → Removes b c (names many) → AreGone b names many → AreGone c names (many + 1)
 gone_more names many b c removes gone = λ n below told. let before : IsTrue b.tells = sym removes.touches.tells ∙ told in
     elim (name_tells (names n) (names many)) as (λ w. c.at (names n) ≡ None) [
       | inl same ↦ subst (λ (name : List ℕ). c.at name ≡ None) (sym same) (removes.gone before)
-      | inr differs ↦ removes.touches.others (names n) differs ∙ gone n (earlier n below differs) before
+      | inr differs ↦ removes.touches.others (names n) differs ∙ gone n (earlier names many n below differs) before
     ]
-  where
-    earlier : (n : ℕ) → n < many + 1 → names n ≢ names many → n < many
-    earlier n below differs = elim (eqb_tells n many) as (λ w. n < many) [
-      | inl same ↦ absurd (differs (ap names same.1))
-      | inr other ↦ (let apart = other.1 in omega (arith, below, apart))
-    ]
+
+-- what is left behind a file that was removed, and behind one that was not
+leaves_ok : (names : ℕ → List ℕ) (many : ℕ) (b c : Seen) (fa fb fc : ℕ) → LeavesForFaults names many b fa fb → Removes b c (names many) → fc ≡ fb → LeavesForFaults names (many + 1) c fa fc
+leaves_ok names many b c fa fb fc l removes faults = record {
+  left = l.left;
+  each = λ told n below. let before : IsTrue b.tells = sym removes.touches.tells ∙ told in
+      elim (name_tells (names n) (names many)) as (λ w. (c.at (names n) ≡ None) ⊎ Contains l.left n) [
+        | inl same ↦ inl (subst (λ (name : List ℕ). c.at name ≡ None) (sym same) (removes.gone before))
+        | inr differs ↦ elim (l.each before n (earlier names many n below differs)) as (λ w. (c.at (names n) ≡ None) ⊎ Contains l.left n) [
+          | inl gone ↦ inl (removes.touches.others (names n) differs ∙ gone)
+          | inr among ↦ inr among
+        ]
+      ];
+  faults = subst (λ (n : ℕ). RoseBy (length l.left) fa n) (sym faults) l.faults;
+}
+
+rose_more : (left : List ℕ) (more fa fb fc : ℕ) → RoseBy (length left) fa fb → Rose fb fc → RoseBy (length (left ++ more ∷ [])) fa fc
+rose_more left more fa fb fc before rose = subst (λ (n : ℕ). RoseBy n fa fc) (sym (length-append left (more ∷ []))) (RoseBy-then (length left) 1 fa fb fc before rose)
+
+leaves_err : (names : ℕ → List ℕ) (many : ℕ) (b c : Seen) (fa fb fc : ℕ) → LeavesForFaults names many b fa fb → Same b c → Rose fb fc → LeavesForFaults names (many + 1) c fa fc
+leaves_err names many b c fa fb fc l same rose = record {
+  left = l.left ++ many ∷ [];
+  each = λ told n below. let before : IsTrue b.tells = sym same.files.tells ∙ told in
+      elim (eqb_tells n many) as (λ w. (c.at (names n) ≡ None) ⊎ Contains (l.left ++ many ∷ []) n) [
+        | inl last ↦ inr (subst (λ (k : ℕ). Contains (l.left ++ many ∷ []) k) (sym last.1) (Contains-append_right l.left (many ∷ []) many (0, omega arith, refl)))
+        | inr other ↦ elim (l.each before n (let apart = other.1 in omega (arith, below, apart))) as (λ w. (c.at (names n) ≡ None) ⊎ Contains (l.left ++ many ∷ []) n) [
+          | inl gone ↦ inl (same.files.at (names n) ∙ gone)
+          | inr among ↦ inr (Contains-append_left l.left (many ∷ []) n among)
+        ]
+      ];
+  faults = rose_more l.left many fa fb fc l.faults rose;
+}
 
 on_ok : {T E P Q : Type 0} (r : Result T E) → (P → Q) → OnOk r P → OnOk r Q
 on_ok (Ok x) f p = f p
@@ -63,6 +99,7 @@ pub removed_ok : {T E : Type 0} (names : ℕ → List ℕ) (many : ℕ) (a b c :
 removed_ok names many a b c fa fb fc oa ob oc r p removes faults first = record {
   removes = removes_more names many a b c p.removes removes.touches removes.numbers;
   gone = on_ok r (gone_more names many b c removes) p.gone;
+  leaves = leaves_ok names many b c fa fb fc p.leaves removes faults;
   faults = subst (λ (n : ℕ). CountsFault fa n r) (sym faults) p.faults;
   quiet = on_ok r (λ same. first ∙ same) p.quiet;
   first = on_err r (λ one. one_more names many oa oc (subst (λ (o : Option (List ℕ)). NamesOneOf names many oa o) (sym first) one)) p.first;
@@ -82,6 +119,7 @@ pub removed_err : {T E : Type 0} (names : ℕ → List ℕ) (many : ℕ) (a b c 
 removed_err names many a b c fa fb fc oa ob oc r e p same rose up first = record {
   removes = removes_more names many a b c p.removes (KeepsFiles-Touches (names many) same.files) same.numbers;
   gone = tt;
+  leaves = leaves_err names many b c fa fb fc p.leaves same rose;
   faults = let before = p.faults.later in record { later = omega (arith, before, up); done = tt; failed = omega (arith, before, rose) };
   quiet = tt;
   first = names_more names many oa ob oc r p.quiet p.first first;

@@ -65,6 +65,7 @@ closed_part a b s open_file last events h part = record {
   whole = h.closed;
   rest = h.piece ∷ [];
   some = omega arith;
+  two = omega arith;
   cut = h.cut;
   framed = h.number;
   files = ap (λ (n : ℕ). n + 1) h.number;

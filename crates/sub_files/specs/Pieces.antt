@@ -1,6 +1,6 @@
 -- The files of a run, one for each piece of its events: what they hold while the last one is written, once all are closed, and
 -- where a call on them failed.
-use Rattle.std.specs.Prelude.{◌≡◌, ◌≢◌, ◌⊎◌, ◌<◌, ◌≤◌, ◌+◌, ◌-◌, ◌^◌, ℕ, suc, min, Bool, IsTrue, List, [], ◌∷◌, ◌++◌, length, ⊤}
+use Rattle.std.specs.Prelude.{◌≡◌, ◌≢◌, ◌⊎◌, ◌<◌, ◌≤◌, ◌+◌, ◌-◌, ◌^◌, ℕ, suc, min, Bool, IsTrue, List, [], ◌∷◌, ◌++◌, length, slice_get, Some, ⊤}
 use mathlib.Core.List.{IsPrefix}
 use Rattle.daq_types.specs.declared.events.Event.{Event}
 use Rattle.event.specs.Events.{encoding, all_encoded, record_limit}
@@ -98,8 +98,20 @@ pub record HasRun (seen : Seen) (s : Series) (files : ℕ) (taken : Bool) (last 
   pub few : files ≤ suc last_number
   pub stored : AreFilesStored seen s last 0 pieces
 
+-- The file of this number, which has this piece, is closed, where there are so many files: the last one ends with these bytes, and
+-- each other one with the record that stands between two files.
+pub record IsFileOf (seen : Seen) (s : Series) (last : List ℕ) (many number : ℕ) (piece : List Event) : Type 0 where
+  pub last_file : suc number ≡ many → IsStored seen (piece_name s number) (begun_piece s piece ++ last)
+  pub other_file : suc number ≢ many → IsStored seen (piece_name s number) (begun_piece s piece ++ between s.head)
+
+-- each file of a run that is closed, by its number
+abbrev pub FilesOfRun : Type 0
+FilesOfRun = (seen : Seen) → (s : Series) → (files : ℕ) → (taken : Bool) → (last : List ℕ) → (events : List Event) →
+    (h : HasRun seen s files taken last events) → (number : ℕ) → (piece : List Event) → slice_get h.pieces number ≡ Some piece →
+    IsFileOf seen s last (length h.pieces) number piece
+
 -- A call on the files of these events failed, and they are closed. They hold a first part of the events, cut into pieces: the
--- first files whole, and of the others, one at least, first parts. Some of the bytes at the end of the last one are there only behind all events.
+-- first files whole, and of the others, one at least and two at the most, first parts. Some of the bytes at the end of the last one are there only behind all events.
 pub record HasPart (seen : Seen) (s : Series) (fallen : Fallen) (last : List ℕ) (events : List Event) : Type 0 where
   pub small : length s.dump ≤ record_limit
   pub first : List Event
@@ -109,6 +121,7 @@ pub record HasPart (seen : Seen) (s : Series) (fallen : Fallen) (last : List ℕ
   pub whole : List (List Event)
   pub rest : List (List Event)
   pub some : 1 ≤ length rest
+  pub two : length rest ≤ 2
   pub cut : IsCut s.limit (head_bytes s.dump) first taken (whole ++ rest)
   pub framed : fallen.framed ≡ length whole
   pub files : fallen.files ≡ length whole + length rest

@@ -1,6 +1,6 @@
 -- What is done to a run's file at its two ends.
-use Rattle.std.specs.Prelude.{◌≡◌, ◌≢◌, ◌<◌, ◌+◌, ◌-◌, ◌^◌, ◌≤◌, ℕ, min, take, IsTrue, List, Option, None, ◌⊎◌}
-use Rattle.daq_io.specs.Counts.{first_of}
+use Rattle.std.specs.Prelude.{◌≡◌, ◌≢◌, ◌<◌, ◌+◌, ◌-◌, ◌^◌, ◌≤◌, ℕ, min, take, IsTrue, Contains, List, length, Option, None, ◌⊎◌}
+use Rattle.daq_io.specs.Counts.{RoseBy, first_of}
 use Rattle.daq_io.specs.Seen.{Seen, Closes, IsFree, KeepsNumbers, KeepsOthers, Touches}
 
 -- The count of faults rose at least twice, as far as it can.
@@ -42,6 +42,13 @@ pub record RemovesNames (names : ℕ → List ℕ) (many : ℕ) (old new : Seen)
   pub tells : new.tells ≡ old.tells
   pub others : (name : List ℕ) → ((n : ℕ) → n < many → name ≢ names n) → new.at name ≡ old.at name
   pub numbers : KeepsNumbers old new
+
+-- Of the files of the first of these names, so many, no more are left than the count of faults rose by, where names are told: each
+-- that is there has one of the numbers of a list, and a fault was counted for each of these.
+pub record LeavesForFaults (names : ℕ → List ℕ) (many : ℕ) (seen : Seen) (old new : ℕ) : Type 0 where
+  pub left : List ℕ
+  pub each : IsTrue seen.tells → (n : ℕ) → n < many → (seen.at (names n) ≡ None) ⊎ Contains left n
+  pub faults : RoseBy (length left) old new
 
 -- the first fault is that of the file of one of these names, where there was none before
 abbrev pub NamesOneOf : (names : ℕ → List ℕ) → (many : ℕ) → (old new : Option (List ℕ)) → Type 0

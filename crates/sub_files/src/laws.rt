@@ -1,9 +1,10 @@
-//! Laws of patterns and of cuts: each function does nothing, and its contract is the law.
+//! Laws of patterns, of cuts and of files: each function does nothing, and its contract is the law.
 
 ghost use Rattle.std.specs.Prelude.{◌≡◌, ◌≢◌, ◌≤◌, ◌∷◌, [], ℕ, Bool, false, List, length};
 ghost use Rattle.daq_types.specs.declared.events.Event.{Event};
 ghost use Rattle.sub_files.specs.Patterns.{NamePattern, IsPattern, pattern_text};
 ghost use Rattle.sub_files.specs.Cuts.{IsCut};
+ghost use Rattle.sub_files.specs.Pieces.{FilesOfRun};
 ghost use Rattle.sub_files.specs.SampleCuts.{CutsSamples};
 
 /// No two patterns have the same text.
@@ -28,4 +29,9 @@ pub fn one_cut()
 /// How three events are cut, and how they are not.
 pub fn sample_cuts()
     ensures { CutsSamples }
+{}
+
+/// What each file of a run that is closed holds, by its number.
+pub fn files_of_run()
+    ensures { FilesOfRun }
 {}

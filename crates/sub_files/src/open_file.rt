@@ -6,7 +6,7 @@ ghost use Rattle.event.specs.Events.{encoding, record_limit};
 ghost use Rattle.event.specs.RunFile.{begun_file, end_record as end_event};
 ghost use Rattle.daq_io.specs.Counts.{CountsFault, CountsNamed, CountsClash, NamesFirst, NamesFirstOf, Rose, first_of};
 ghost use Rattle.daq_io.specs.Seen.{Same, Creates, Extends, Closes};
-ghost use Rattle.sub_files.specs.RecordFiles.{ClosesPart, NamesMore, UndoesFile, RoseTwice, RemovesNames, AreGone, NamesOneOf};
+ghost use Rattle.sub_files.specs.RecordFiles.{ClosesPart, NamesMore, UndoesFile, RoseTwice, RemovesNames, AreGone, LeavesForFaults, NamesOneOf};
 ghost use Rattle.sub_files.specs.Patterns.{piece_name_by};
 ghost use Rattle.sub_files.specs.Pieces.{Series, IsOpenPiece, HoldsRun, HasRun, HasPart, HoldsMore, HasPartOfMore, series_of, begin_bytes};
 ghost use Rattle.sub_files.specs.Rolls.{begins_next, counted_in, first_file, next_file, FindsTaken, RollsAt, RollsOn, MakesReady, WritesNext, FailsRoll, FailsMove, FailsNext, AppendsNone, ClashesBy, RisesWith, NamesOne, fallen_at};
@@ -468,6 +468,8 @@ pub fn remove_files<F: Files>(
         (F.seen files.old) (F.seen files.new) }
     ensures gone { OnOk result
         (AreGone (F.seen files.new) (piece_name_by pattern.now run) many) }
+    ensures leaves { LeavesForFaults (piece_name_by pattern.now run) many (F.seen files.new)
+        (F.faults files.old) (F.faults files.new) }
     ensures faults { CountsFault (F.faults files.old) (F.faults files.new) result }
     ensures clashes { F.clashes files.new ≡ F.clashes files.old }
     ensures quiet { OnOk result (F.first files.new ≡ F.first files.old) }
