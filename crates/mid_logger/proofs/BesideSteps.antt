@@ -1,10 +1,11 @@
 -- What one channel of a buffer does leaves what another keeps.
-use Rattle.std.specs.Prelude.{◌≡◌, ◌≢◌, ℕ, nat_lt, Bool, true, false, IsTrue, List, [], Option, Some, None, Result, refl, ⊤}
-use Rattle.std.proofs.Common.{ap, sym, subst, inl, inr}
+use Rattle.std.specs.Prelude.{◌≡◌, ◌≢◌, ◌⊎◌, ◌<◌, ◌≤◌, ℕ, nat_lt, Bool, true, false, IsTrue, List, [], Option, Some, None, Result, refl, ⊤}
+use Rattle.std.proofs.Common.{ap, sym, subst, ◌∙◌, inl, inr}
+use Rattle.std.proofs.lemmas.Bool.Decides.{leb_tells}
 use Rattle.daq_types.specs.declared.events.Event.{Event}
 use Rattle.daq_types.specs.declared.runs.ChannelState.{ChannelState}
-use Rattle.daq_types.specs.declared.runs.ChannelState.TheVariants.{Broken as IsBroken}
-use Rattle.daq_io.specs.Seen.{Seen, Touches, KeepsNumber, KeepsOthers, Closes}
+use Rattle.daq_io.specs.Seen.{Seen, Touches, KeepsNumber}
+use Rattle.daq_io.proofs.SeenLaws.{KeepsNumber-refl}
 use Rattle.buffer_core.specs.declared.replies.Received.{Received}
 use Rattle.buffer_core.specs.declared.replies.Received.TheVariants.{Got, Empty, NoClient, SmallBuf}
 use Rattle.buffer_core.specs.declared.replies.RequestRefusal.{RequestRefusal}
@@ -12,20 +13,24 @@ use Rattle.buffer_core.specs.declared.entry.BufferEntry.{BufferEntry}
 use Rattle.buffer_core.specs.declared.entry.BufferEntry.TheVariants.{Receive, Cancel}
 use Rattle.buffer_core.specs.Ports.{Access, GotEvent, Receives}
 use Rattle.member_model.specs.OwnCalls.{calls_after, gave_number}
+use Rattle.sub_files.specs.Patterns.{piece_name_by}
 use Rattle.mid_logger.specs.declared.channel_spec.ChannelSpec.{ChannelSpec}
 use Rattle.mid_logger.specs.declared.pulled.Pulled.{Pulled}
 use Rattle.mid_logger.specs.declared.stage.BegunRun.{BegunRun}
 use Rattle.mid_logger.specs.declared.stage.ChannelRun.{ChannelRun}
 use Rattle.mid_logger.specs.declared.stage.ChannelStage.{ChannelStage}
 use Rattle.mid_logger.specs.declared.stage.ChannelStage.TheVariants.{Idle, Asking, Writing, Draining, Drained, Broken}
-use Rattle.mid_logger.specs.Patterns.{file_name_by}
-use Rattle.mid_logger.specs.Channels.{FileHead, IsOwnClient, ChannelStands, CancelsRequest, IsOpenFile, channel_run, written_run, run_begun, reading_run, is_behind_end}
-use Rattle.mid_logger.specs.Pulls.{PullOf, LeavesAll, DrainsClient, TakesBy, drains_at_none, FindsNone, TakesReply, PullsOnce, PullsIn, Pulls}
-use Rattle.mid_logger.specs.ChannelTurns.{asking_run, broken_run, drained_run}
-use Rattle.mid_logger.specs.ChannelEnds.{CancelsStanding, RemovesFile, ClosesRead, ClosesFile}
-use Rattle.mid_logger.specs.Beside.{LeavesClient, LeavesNumber, LeavesRunFile, ChannelsApart}
+use Rattle.mid_logger.specs.Channels.{FileHead, IsOwnClient, ChannelStands, CancelsRequest, IsLastOpen, channel_run, written_run, files_by, run_begun, reading_run, is_behind_end}
+use Rattle.mid_logger.specs.Pulls.{PullOf, LeavesAll, TakesBy, drains_at_none, FindsNone, TakesReply, PullsOnce, PullsIn, Pulls}
+use Rattle.mid_logger.specs.ChannelTurns.{asking_run, drained_run}
+use Rattle.mid_logger.specs.ChannelEnds.{CancelsStanding, RemovesRun, ClosesFile}
+use Rattle.mid_logger.specs.Keeping.{ChangesRun, KeepsRun}
+use Rattle.mid_logger.specs.Beside.{LeavesClient, LeavesNumber, LeavesRunFiles, LeavesChannelFiles, ChannelsApart}
 use Rattle.mid_logger.proofs.OwnSteps.{client_stays_own, given_by_reply, got_after_is, given_named}
-use Rattle.mid_logger.proofs.StageSteps.{leaves_run, calls_beside, call_beside, files_beside}
+use Rattle.mid_logger.proofs.FileMoves.{not_free}
+use Rattle.mid_logger.proofs.StageSteps.{leaves_run, calls_beside, call_beside, files_beside, made_there, last_used}
+use Rattle.mid_logger.proofs.PullChanges.{pull_changes}
+use Rattle.mid_logger.proofs.Keeping.{not_gone, abort_changes, close_changes, same_run, run_tells}
 
 -- the other channel stands at this point
 abbrev pub OtherAt : ChannelSpec → Option ℕ → ChannelStage → FileHead → Access → Seen → Type 0
@@ -37,29 +42,51 @@ number_left : (old new : Seen) (written : Option ChannelRun) → ((s : ChannelRu
 number_left old new None keeps = tt
 number_left old new (Some s) keeps = keeps s refl
 
--- at most the file of this name changed, and the number of the other run is kept
-run_left : (spec : ChannelSpec) (old new : Seen) (name : List ℕ) (run written : Option ChannelRun) → Touches old new name → ((s : ChannelRun) → run ≡ Some s → IsTrue old.tells → name ≢ file_name_by spec.pattern s.run)
-    → ((s : ChannelRun) → written ≡ Some s → KeepsNumber old new s.at.file) → LeavesRunFile spec run written old new
-run_left spec old new name None written touches names keeps = tt
-run_left spec old new name (Some s) written touches names keeps = record {
-  tells = touches.tells;
-  at = λ told. touches.others (file_name_by spec.pattern s.run) (λ same. names s refl told (sym same));
-  number = number_left old new written keeps;
-}
+pub run_leaves : (spec : ChannelSpec) (old new : Seen) (run written : Option ChannelRun) (many : ℕ) → new.tells ≡ old.tells
+    → ((s : ChannelRun) → run ≡ Some s → IsTrue old.tells → (n : ℕ) → n < many → new.at (piece_name_by spec.pattern s.run n) ≡ old.at (piece_name_by spec.pattern s.run n))
+    → ((s : ChannelRun) → written ≡ Some s → KeepsNumber old new s.at.file) → LeavesRunFiles spec run written many old new
+run_leaves spec old new None written many tells at keeps = tt
+run_leaves spec old new (Some s) written many tells at keeps = record { tells = tells; at = λ told n below. at s refl told n below; number = number_left old new written keeps }
 
+-- at most the file of this name changed, and the number of the other run is kept
 pub changed_beside : (other : ChannelSpec) (other_client : Option ℕ) (stage : ChannelStage) (head : FileHead) (own : List BufferEntry) (got : List GotEvent) (old new : Seen) (name : List ℕ) → Touches old new name
-    → ((s : ChannelRun) → channel_run stage ≡ Some s → IsTrue old.tells → name ≢ file_name_by other.pattern s.run) → ((s : ChannelRun) → written_run stage ≡ Some s → KeepsNumber old new s.at.file)
+    → ((s : ChannelRun) → channel_run stage ≡ Some s → IsTrue old.tells → (n : ℕ) → n < files_by stage → name ≢ piece_name_by other.pattern s.run n) → ((s : ChannelRun) → written_run stage ≡ Some s → KeepsNumber old new s.at.file)
     → ChannelStands other other_client stage head own got old → ChannelStands other other_client stage head own got new
 changed_beside other other_client stage head own got old new name touches names keeps stands =
-    files_beside other other_client stage head own got old new stands (run_left other old new name (channel_run stage) (written_run stage) touches names keeps)
+    files_beside other other_client stage head own got old new stands
+    (run_leaves other old new (channel_run stage) (written_run stage) (files_by stage) touches.tells (λ s is told n below. touches.others (piece_name_by other.pattern s.run n) (λ same. names s is told n below (sym same))) keeps)
+
+-- a name of the one channel is none of the other: it was made by the one before, or is new
+names_differ : (spec other : ChannelSpec) (client other_client : Option ℕ) (stage other_stage : ChannelStage) (other_head : FileHead) (own : List BufferEntry) (got : List GotEvent) (old : Seen) (now : ℕ) (r s : ChannelRun)
+    → ChannelsApart old spec client stage other other_client other_stage → ChannelStands other other_client other_stage other_head own got old → channel_run stage ≡ Some r → channel_run other_stage ≡ Some s → IsTrue old.tells
+    → ((n : ℕ) → files_by stage ≤ n → n < now → old.at (piece_name_by spec.pattern r.run n) ≡ None) → (i j : ℕ) → i < now → j < files_by other_stage → piece_name_by spec.pattern r.run i ≢ piece_name_by other.pattern s.run j
+names_differ spec other client other_client stage other_stage other_head own got old now r s apart stands is other_is told fresh i j below other_below = elim (leb_tells (files_by stage) i) as (λ w. piece_name_by spec.pattern r.run i ≢ piece_name_by other.pattern s.run j) [
+  | inl least ↦ λ same. not_gone (old.at (piece_name_by other.pattern s.run j)) (made_there other other_client other_stage other_head own got old stands s other_is told j other_below)
+      (subst (λ (name : List ℕ). old.at name ≡ None) same (fresh i least.1 below))
+  | inr less ↦ apart.names r s is other_is told i j less.1 other_below
+]
+
+-- A change of the one channel's files leaves those of the other.
+changed_leaves : (spec other : ChannelSpec) (client other_client : Option ℕ) (stage other_stage : ChannelStage) (other_head : FileHead) (own : List BufferEntry) (got : List GotEvent) (old new : Seen) (now : ℕ) (run : Option ChannelRun) → channel_run stage ≡ run
+    → ChangesRun spec run (written_run stage) (files_by stage) now old new → ChannelsApart old spec client stage other other_client other_stage → ChannelStands other other_client other_stage other_head own got old → LeavesChannelFiles other other_stage old new
+changed_leaves spec other client other_client stage other_stage other_head own got old new now None is changes apart stands =
+    run_leaves other old new (channel_run other_stage) (written_run other_stage) (files_by other_stage) (ap (λ (x : Seen). x.tells) changes)
+    (λ s other_is told n below. ap (λ (x : Seen). x.at (piece_name_by other.pattern s.run n)) changes)
+    (λ s other_is. rw changes (KeepsNumber-refl old s.at.file))
+changed_leaves spec other client other_client stage other_stage other_head own got old new now (Some r) is changes apart stands =
+    run_leaves other old new (channel_run other_stage) (written_run other_stage) (files_by other_stage) changes.tells
+    (λ s other_is told n below. changes.others (piece_name_by other.pattern s.run n) (λ k lower same.
+    names_differ spec other client other_client stage other_stage other_head own got old now r s apart stands is other_is told (λ m least under. changes.fresh m least under told) k n lower below (sym same)))
+    (λ s other_is. changes.numbers s.at.file (last_used other other_client other_stage other_head own got old stands s other_is).writes (λ w written same. apart.numbers w s written other_is (sym same)))
+
+-- so the other channel stands
+channel_beside : (spec other : ChannelSpec) (client other_client : Option ℕ) (stage other_stage : ChannelStage) (other_head : FileHead) (own : List BufferEntry) (got : List GotEvent) (old new : Seen) (now : ℕ)
+    → ChangesRun spec (channel_run stage) (written_run stage) (files_by stage) now old new → ChannelsApart old spec client stage other other_client other_stage → ChannelStands other other_client other_stage other_head own got old
+    → ChannelStands other other_client other_stage other_head own got new
+channel_beside spec other client other_client stage other_stage other_head own got old new now changes apart stands =
+    files_beside other other_client other_stage other_head own got old new stands (changed_leaves spec other client other_client stage other_stage other_head own got old new now (channel_run stage) refl changes apart stands)
 
 -- Calls.
-
-record BesideRun (seen : Seen) (opened : ChannelRun) (spec other : ChannelSpec) (other_client : Option ℕ) (other_stage : ChannelStage) : Type 0 where
-  client : (d : ℕ) → other_client ≡ Some d → opened.client ≢ d
-  names : (s : ChannelRun) → channel_run other_stage ≡ Some s → IsTrue seen.tells → file_name_by spec.pattern opened.run ≢ file_name_by other.pattern s.run
-  numbers : (s : ChannelRun) → written_run other_stage ≡ Some s → opened.at.file ≢ s.at.file
-  named : seen.name_of opened.at.file ≡ file_name_by spec.pattern opened.run
 
 leaves_cancel : (other_client : Option ℕ) (c number : ℕ) (reply : Result ⊤ RequestRefusal) → ((d : ℕ) → other_client ≡ Some d → c ≢ d) → LeavesClient other_client (Cancel c number reply)
 leaves_cancel None c number reply apart = tt
@@ -83,79 +110,98 @@ receive_beside other other_client stage head a b seen c room reply e apart gave 
     (calls_beside other other_client stage head a.own a.got seen (Receive c room reply) (given_by_reply c reply e) stands tt gave (leaves_received other_client c room reply apart)
     (leaves_run stage (Receive c room reply) tt) (given_named c room reply e))
 
-file_beside : (spec other : ChannelSpec) (other_client : Option ℕ) (stage : ChannelStage) (head : FileHead) (a : Access) (old new : Seen) (opened : ChannelRun) → BesideRun old opened spec other other_client stage
-    → Touches old new (old.name_of opened.at.file) → KeepsOthers old new opened.at.file → OtherAt other other_client stage head a old → OtherAt other other_client stage head a new
-file_beside spec other other_client stage head a old new opened beside touches others stands =
-    changed_beside other other_client stage head a.own a.got old new (file_name_by spec.pattern opened.run) (subst (λ (m : List ℕ). Touches old new m) beside.named touches) beside.names
-    (λ s is. others s.at.file (λ same. beside.numbers s is (sym same))) stands
+-- A pull: what it calls on the port.
 
--- A pull.
+left_beside : (other : ChannelSpec) (other_client : Option ℕ) (stage : ChannelStage) (head : FileHead) (p : PullOf) (seen : Seen) (answer : Pulled) → LeavesAll p answer → OtherAt other other_client stage head p.port seen → OtherAt other other_client stage head p.later_port seen
+left_beside other other_client stage head p seen answer leaves stands = rw leaves.port stands
 
-left_beside : (other : ChannelSpec) (other_client : Option ℕ) (stage : ChannelStage) (head : FileHead) (p : PullOf) (answer : Pulled) → LeavesAll p answer → OtherAt other other_client stage head p.port p.files → OtherAt other other_client stage head p.later_port p.later_files
-left_beside other other_client stage head p answer leaves stands = rw (leaves.port, leaves.files) stands
+-- the client of the run is another one, which an attach gave
+record BesideRun (own : List BufferEntry) (opened : ChannelRun) (other_client : Option ℕ) : Type 0 where
+  client : (d : ℕ) → other_client ≡ Some d → opened.client ≢ d
+  gave : gave_number (calls_after [] own) opened.client ≡ true
 
-drained_beside : (spec other : ChannelSpec) (other_client : Option ℕ) (stage : ChannelStage) (head : FileHead) (p : PullOf) (run : BegunRun) (answer : Pulled) → BesideRun p.files run.opened spec other other_client stage → gave_number (calls_after [] p.port.own) run.opened.client ≡ true
-    → DrainsClient p run answer → OtherAt other other_client stage head p.port p.files → OtherAt other other_client stage head p.later_port p.later_files
-drained_beside spec other other_client stage head p run answer beside gave drains stands =
-    rw drains.files (cancel_beside other other_client stage head p.port p.later_port p.files run.opened beside.client gave drains.port stands)
-
-taken_beside : (spec other : ChannelSpec) (other_client : Option ℕ) (stage : ChannelStage) (head : FileHead) (p : PullOf) (run : BegunRun) (place : ℕ) (e : Event) (behind early : Bool) → BesideRun p.files run.opened spec other other_client stage
-    → gave_number (calls_after [] p.port.own) run.opened.client ≡ true → TakesBy behind early p run place e → OtherAt other other_client stage head p.port p.files → OtherAt other other_client stage head p.later_port p.later_files
-taken_beside spec other other_client stage head p run place e true early beside gave taken stands = drained_beside spec other other_client stage head p run _ beside gave taken stands
-taken_beside spec other other_client stage head p run place e false true beside gave taken stands = left_beside other other_client stage head p _ taken stands
-taken_beside spec other other_client stage head p run place e false false beside gave taken stands = elim taken as (λ w. OtherAt other other_client stage head p.later_port p.later_files) [
-  | inl writes ↦ rw writes.port (file_beside spec other other_client stage head p.port p.files p.later_files run.opened beside writes.files.touches (λ other_number ne. writes.files.numbers other_number) stands)
-  | inr breaks ↦
-      cancel_beside other other_client stage head p.port p.later_port p.later_files run.opened beside.client gave breaks.port
-      (file_beside spec other other_client stage head p.port p.files p.later_files run.opened beside breaks.files.closes.touches breaks.files.closes.others stands)
+taken_beside : (other : ChannelSpec) (other_client : Option ℕ) (stage : ChannelStage) (head : FileHead) (p : PullOf) (seen : Seen) (run : BegunRun) (place : ℕ) (e : Event) (behind early : Bool) → BesideRun p.port.own run.opened other_client → TakesBy behind early p run place e
+    → OtherAt other other_client stage head p.port seen → OtherAt other other_client stage head p.later_port seen
+taken_beside other other_client stage head p seen run place e true early beside taken stands = cancel_beside other other_client stage head p.port p.later_port seen run.opened beside.client beside.gave taken.port stands
+taken_beside other other_client stage head p seen run place e false true beside taken stands = left_beside other other_client stage head p seen _ taken stands
+taken_beside other other_client stage head p seen run place e false false beside taken stands = elim taken as (λ w. OtherAt other other_client stage head p.later_port seen) [
+  | inl writes ↦ rw writes.port stands
+  | inr breaks ↦ cancel_beside other other_client stage head p.port p.later_port seen run.opened beside.client beside.gave breaks.port stands
 ]
 
-none_beside : (spec other : ChannelSpec) (other_client : Option ℕ) (stage : ChannelStage) (head : FileHead) (p : PullOf) (run : BegunRun) (drains : Bool) → BesideRun p.files run.opened spec other other_client stage → gave_number (calls_after [] p.port.own) run.opened.client ≡ true
-    → FindsNone drains p run → OtherAt other other_client stage head p.port p.files → OtherAt other other_client stage head p.later_port p.later_files
-none_beside spec other other_client stage head p run true beside gave found stands = drained_beside spec other other_client stage head p run _ beside gave found stands
-none_beside spec other other_client stage head p run false beside gave found stands = left_beside other other_client stage head p _ found stands
+none_beside : (other : ChannelSpec) (other_client : Option ℕ) (stage : ChannelStage) (head : FileHead) (p : PullOf) (seen : Seen) (run : BegunRun) (drains : Bool) → BesideRun p.port.own run.opened other_client → FindsNone drains p run
+    → OtherAt other other_client stage head p.port seen → OtherAt other other_client stage head p.later_port seen
+none_beside other other_client stage head p seen run true beside found stands = cancel_beside other other_client stage head p.port p.later_port seen run.opened beside.client beside.gave found.port stands
+none_beside other other_client stage head p seen run false beside found stands = left_beside other other_client stage head p seen _ found stands
 
-reply_beside : (spec other : ChannelSpec) (other_client : Option ℕ) (stage : ChannelStage) (head : FileHead) (p : PullOf) (run : BegunRun) (reply : Received) (e : Event) → BesideRun p.files run.opened spec other other_client stage
-    → gave_number (calls_after [] p.port.own) run.opened.client ≡ true → TakesReply p run reply e → OtherAt other other_client stage head p.port p.files → OtherAt other other_client stage head p.later_port p.later_files
-reply_beside spec other other_client stage head p run (Got place start) e beside gave taken stands =
-    taken_beside spec other other_client stage head p run place e (is_behind_end run.ended place) (nat_lt place run.begun) beside gave taken stands
-reply_beside spec other other_client stage head p run (Empty gate last) e beside gave taken stands = none_beside spec other other_client stage head p run (drains_at_none p.stage) beside gave taken stands
-reply_beside spec other other_client stage head p run NoClient e beside gave taken stands = left_beside other other_client stage head p _ taken stands
-reply_beside spec other other_client stage head p run (SmallBuf need) e beside gave taken stands = absurd taken
+reply_beside : (other : ChannelSpec) (other_client : Option ℕ) (stage : ChannelStage) (head : FileHead) (p : PullOf) (seen : Seen) (run : BegunRun) (reply : Received) (e : Event) → BesideRun p.port.own run.opened other_client → TakesReply p run reply e
+    → OtherAt other other_client stage head p.port seen → OtherAt other other_client stage head p.later_port seen
+reply_beside other other_client stage head p seen run (Got place start) e beside taken stands = taken_beside other other_client stage head p seen run place e (is_behind_end run.ended place) (nat_lt place run.begun) beside taken stands
+reply_beside other other_client stage head p seen run (Empty gate last) e beside taken stands = none_beside other other_client stage head p seen run (drains_at_none p.stage) beside taken stands
+reply_beside other other_client stage head p seen run NoClient e beside taken stands = left_beside other other_client stage head p seen _ taken stands
+reply_beside other other_client stage head p seen run (SmallBuf need) e beside taken stands = absurd taken
 
-run_beside : (spec other : ChannelSpec) (client other_client : Option ℕ) (stage : ChannelStage) (head : FileHead) (p : PullOf) (run : BegunRun) (room : ℕ) → client ≡ Some run.opened.client → IsOwnClient client p.port.own → channel_run p.stage ≡ Some run.opened
-    → written_run p.stage ≡ Some run.opened → IsOpenFile p.files spec (written_run p.stage) → ChannelsApart p.files spec client p.stage other other_client stage → PullsOnce p run room → OtherAt other other_client stage head p.port p.files
-    → OtherAt other other_client stage head p.later_port p.later_files
-run_beside spec other client other_client stage head p run room of own_client is_run writes file apart pulls stands =
-    let open_file : IsOpenFile p.files spec (Some run.opened) = subst (λ (o : Option ChannelRun). IsOpenFile p.files spec o) writes file in
-    let beside : BesideRun p.files run.opened spec other other_client stage = record {
-      client = λ d is. apart.clients run.opened.client d of is;
-      names = λ s is told. apart.names run.opened s is_run is told;
-      numbers = λ s is. apart.numbers run.opened s writes is;
-      named = open_file.1;
-    } in
+run_beside : (other : ChannelSpec) (client other_client : Option ℕ) (stage : ChannelStage) (head : FileHead) (p : PullOf) (seen : Seen) (run : BegunRun) (room : ℕ) → client ≡ Some run.opened.client → IsOwnClient client p.port.own → ((c d : ℕ) → client ≡ Some c → other_client ≡ Some d → c ≢ d)
+    → PullsOnce p run room → OtherAt other other_client stage head p.port seen → OtherAt other other_client stage head p.later_port seen
+run_beside other client other_client stage head p seen run room of own_client apart pulls stands =
+    let differ : (d : ℕ) → other_client ≡ Some d → run.opened.client ≢ d = λ d is. apart run.opened.client d of is in
     let gave : gave_number (calls_after [] p.port.own) run.opened.client ≡ true = subst (λ (c : Option ℕ). IsOwnClient c p.port.own) of own_client in
     let receive : BufferEntry = Receive run.opened.client room pulls.reply in
     let gave_then : gave_number (calls_after [] pulls.middle.own) run.opened.client ≡ true = rw pulls.received.own (client_stays_own p.port.own receive run.opened.client gave) in
-    reply_beside spec other other_client stage head (record p { port = pulls.middle }) run pulls.reply pulls.event beside gave_then pulls.taken
-    (receive_beside other other_client stage head p.port pulls.middle p.files run.opened.client room pulls.reply pulls.event beside.client gave pulls.received stands)
+    reply_beside other other_client stage head (record p { port = pulls.middle }) seen run pulls.reply pulls.event (record { client = differ; gave = gave_then }) pulls.taken
+    (receive_beside other other_client stage head p.port pulls.middle seen run.opened.client room pulls.reply pulls.event differ gave pulls.received stands)
 
-stage_beside : (spec other : ChannelSpec) (client other_client : Option ℕ) (other_stage : ChannelStage) (head other_head : FileHead) (p : PullOf) (room : ℕ) (stage : ChannelStage) → p.stage ≡ stage → PullsIn (reading_run stage) p room → IsOpenFile p.files spec (written_run p.stage)
-    → ChannelStands spec client stage head p.port.own p.port.got p.files → ChannelsApart p.files spec client p.stage other other_client other_stage → OtherAt other other_client other_stage other_head p.port p.files
-    → OtherAt other other_client other_stage other_head p.later_port p.later_files
-stage_beside spec other client other_client other_stage head other_head p room Idle is pulls file at apart stands = left_beside other other_client other_stage other_head p _ pulls stands
-stage_beside spec other client other_client other_stage head other_head p room (Asking opened) is pulls file at apart stands = left_beside other other_client other_stage other_head p _ pulls stands
-stage_beside spec other client other_client other_stage head other_head p room (Writing opened begun) is pulls file at apart stands =
-    run_beside spec other client other_client other_stage other_head p (run_begun opened begun) room at.at.of at.own_client (ap (λ (s : ChannelStage). channel_run s) is) (ap (λ (s : ChannelStage). written_run s) is) file apart pulls stands
-stage_beside spec other client other_client other_stage head other_head p room (Draining run) is pulls file at apart stands =
-    run_beside spec other client other_client other_stage other_head p run room at.at.of at.own_client (ap (λ (s : ChannelStage). channel_run s) is) (ap (λ (s : ChannelStage). written_run s) is) file apart pulls stands
-stage_beside spec other client other_client other_stage head other_head p room (Drained run) is pulls file at apart stands = left_beside other other_client other_stage other_head p _ pulls stands
-stage_beside spec other client other_client other_stage head other_head p room (Broken run fallen) is pulls file at apart stands = left_beside other other_client other_stage other_head p _ pulls stands
+stage_beside : (other : ChannelSpec) (client other_client : Option ℕ) (other_stage : ChannelStage) (head other_head : FileHead) (p : PullOf) (seen : Seen) (room : ℕ) (stage : ChannelStage) → PullsIn (reading_run stage) p room
+    → ChannelStands p.spec client stage head p.port.own p.port.got seen → ((c d : ℕ) → client ≡ Some c → other_client ≡ Some d → c ≢ d) → OtherAt other other_client other_stage other_head p.port seen
+    → OtherAt other other_client other_stage other_head p.later_port seen
+stage_beside other client other_client other_stage head other_head p seen room Idle pulls at apart stands = left_beside other other_client other_stage other_head p seen _ pulls stands
+stage_beside other client other_client other_stage head other_head p seen room (Asking opened) pulls at apart stands = left_beside other other_client other_stage other_head p seen _ pulls stands
+stage_beside other client other_client other_stage head other_head p seen room (Writing opened begun) pulls at apart stands = run_beside other client other_client other_stage other_head p seen (run_begun opened begun) room at.at.of at.own_client apart pulls stands
+stage_beside other client other_client other_stage head other_head p seen room (Draining run) pulls at apart stands = run_beside other client other_client other_stage other_head p seen run room at.at.of at.own_client apart pulls stands
+stage_beside other client other_client other_stage head other_head p seen room (Drained run) pulls at apart stands = left_beside other other_client other_stage other_head p seen _ pulls stands
+stage_beside other client other_client other_stage head other_head p seen room (Broken run fallen) pulls at apart stands = left_beside other other_client other_stage other_head p seen _ pulls stands
 
-pub pulls_beside : (p : PullOf) (room : ℕ) (spec : ChannelSpec) (client : Option ℕ) (head : FileHead) (other : ChannelSpec) (other_client : Option ℕ) (other_stage : ChannelStage) (other_head : FileHead) → Pulls p room → IsOpenFile p.files spec (written_run p.stage)
-    → ChannelStands spec client p.stage head p.port.own p.port.got p.files → ChannelsApart p.files spec client p.stage other other_client other_stage → OtherAt other other_client other_stage other_head p.port p.files
-    → OtherAt other other_client other_stage other_head p.later_port p.later_files
-pulls_beside p room spec client head other other_client other_stage other_head pulls file at apart stands = stage_beside spec other client other_client other_stage head other_head p room p.stage refl pulls file at apart stands
+-- Its files, and what is apart behind it.
+
+run_fresh : (spec : ChannelSpec) (run written : Option ChannelRun) (before now : ℕ) (old new : Seen) (v : ChannelRun) → run ≡ Some v → ChangesRun spec run written before now old new → IsTrue old.tells → (n : ℕ) → before ≤ n → n < now → old.at (piece_name_by spec.pattern v.run n) ≡ None
+run_fresh spec None written before now old new v is changes told n least below = absurd (cc (is))
+run_fresh spec (Some r) written before now old new v is changes told n least below =
+    let same : r ≡ v = cc (is) in
+    subst (λ (x : ChannelRun). old.at (piece_name_by spec.pattern x.run n) ≡ None) same (changes.fresh n least below told)
+
+later_names : (p : PullOf) (other : ChannelSpec) (client other_client : Option ℕ) (other_stage : ChannelStage) (other_head : FileHead) (own : List BufferEntry) (got : List GotEvent) → ChangesRun p.spec (channel_run p.stage) (written_run p.stage) (files_by p.stage) (files_by p.later_stage) p.files p.later_files
+    → KeepsRun p.files p.stage p.later_stage → ChannelsApart p.files p.spec client p.stage other other_client other_stage → ChannelStands other other_client other_stage other_head own got p.files
+    → (r s : ChannelRun) → channel_run p.later_stage ≡ Some r → channel_run other_stage ≡ Some s → IsTrue p.later_files.tells → (i j : ℕ) → i < files_by p.later_stage → j < files_by other_stage → piece_name_by p.spec.pattern r.run i ≢ piece_name_by other.pattern s.run j
+later_names p other client other_client other_stage other_head own got changes keeps apart stands r s is other_is told i j below other_below =
+    let before : (v : ChannelRun) × (channel_run p.stage ≡ Some v) × (v.run ≡ r.run) = same_run (channel_run p.stage) (channel_run p.later_stage) (sym keeps.run) r is in
+    let told_before : IsTrue p.files.tells = sym (run_tells p.spec (channel_run p.stage) (written_run p.stage) _ _ p.files p.later_files changes) ∙ told in
+    subst (λ (n : ℕ). piece_name_by p.spec.pattern n i ≢ piece_name_by other.pattern s.run j) before.2
+    (names_differ p.spec other client other_client p.stage other_stage other_head own got p.files (files_by p.later_stage) before.0 s apart stands before.1 other_is told_before
+    (run_fresh p.spec (channel_run p.stage) (written_run p.stage) (files_by p.stage) (files_by p.later_stage) p.files p.later_files before.0 before.1 changes told_before) i j below other_below)
+
+later_numbers : (p : PullOf) (other : ChannelSpec) (client other_client : Option ℕ) (other_stage : ChannelStage) (other_head : FileHead) (own : List BufferEntry) (got : List GotEvent) → KeepsRun p.files p.stage p.later_stage
+    → ChannelsApart p.files p.spec client p.stage other other_client other_stage → ChannelStands other other_client other_stage other_head own got p.files
+    → (r s : ChannelRun) → written_run p.later_stage ≡ Some r → written_run other_stage ≡ Some s → r.at.file ≢ s.at.file
+later_numbers p other client other_client other_stage other_head own got keeps apart stands r s is other_is =
+    let before : (v : ChannelRun) × (written_run p.stage ≡ Some v) × ((r.at.file ≡ v.at.file) ⊎ (p.files.writes r.at.file ≡ false)) = keeps.written r is in
+    elim before.2 as (λ w. r.at.file ≢ s.at.file) [
+      | inl same ↦ λ here. apart.numbers before.0 s before.1 other_is (sym same ∙ here)
+      | inr free ↦ λ here. not_free p.files s.at.file r.at.file (last_used other other_client other_stage other_head own got p.files stands s other_is).writes free (sym here)
+    ]
+
+pub pulls_beside : (p : PullOf) (room : ℕ) (client : Option ℕ) (head : FileHead) (other : ChannelSpec) (other_client : Option ℕ) (other_stage : ChannelStage) (other_head : FileHead) → Pulls p room → IsLastOpen p.files p.spec (written_run p.stage)
+    → ChannelStands p.spec client p.stage head p.port.own p.port.got p.files → ChannelsApart p.files p.spec client p.stage other other_client other_stage → OtherAt other other_client other_stage other_head p.port p.files
+    → OtherAt other other_client other_stage other_head p.later_port p.later_files × ChannelsApart p.later_files p.spec client p.later_stage other other_client other_stage
+pulls_beside p room client head other other_client other_stage other_head pulls file at apart stands =
+    let changes = pull_changes p room pulls file in
+    let called : OtherAt other other_client other_stage other_head p.later_port p.files = stage_beside other client other_client other_stage head other_head p p.files room p.stage pulls at apart.clients stands in (
+      channel_beside p.spec other client other_client p.stage other_stage other_head p.later_port.own p.later_port.got p.files p.later_files (files_by p.later_stage) changes.0 apart called,
+      record {
+        clients = apart.clients;
+        names = later_names p other client other_client other_stage other_head p.port.own p.port.got changes.0 changes.1 apart stands;
+        numbers = later_numbers p other client other_client other_stage other_head p.port.own p.port.got changes.1 apart stands;
+      },
+    )
 
 -- Calling off.
 
@@ -171,58 +217,17 @@ standing_beside spec other client other_client (Draining run) other_stage head o
 standing_beside spec other client other_client (Drained run) other_stage head other_head a b seen cancels at apart stands = rw cancels stands
 standing_beside spec other client other_client (Broken run fallen) other_stage head other_head a b seen cancels at apart stands = rw cancels stands
 
-removed_beside : (spec other : ChannelSpec) (client other_client : Option ℕ) (stage other_stage : ChannelStage) (other_head : FileHead) (a : Access) (old new : Seen) (faults later : ℕ) (written : Option ChannelRun) (broken : Option BegunRun) → RemovesFile written broken spec old new faults later
-    → ((r s : ChannelRun) → written ≡ Some r → channel_run other_stage ≡ Some s → IsTrue old.tells → file_name_by spec.pattern r.run ≢ file_name_by other.pattern s.run)
-    → ((r : BegunRun) (s : ChannelRun) → broken ≡ Some r → channel_run other_stage ≡ Some s → IsTrue old.tells → file_name_by spec.pattern r.opened.run ≢ file_name_by other.pattern s.run)
-    → ((r s : ChannelRun) → written ≡ Some r → written_run other_stage ≡ Some s → r.at.file ≢ s.at.file) → OtherAt other other_client other_stage other_head a old → OtherAt other other_client other_stage other_head a new
-removed_beside spec other client other_client stage other_stage other_head a old new faults later (Some opened) broken removes names broken_names numbers stands =
-    changed_beside other other_client other_stage other_head a.own a.got old new (file_name_by spec.pattern opened.run) removes.0.touches (λ s is told. names opened s refl is told)
-    (λ s is. removes.0.others s.at.file (λ same. numbers opened s refl is (sym same))) stands
-removed_beside spec other client other_client stage other_stage other_head a old new faults later None (Some run) removes names broken_names numbers stands =
-    changed_beside other other_client other_stage other_head a.own a.got old new (file_name_by spec.pattern run.opened.run) removes.0 (λ s is told. broken_names run s refl is told) (λ s is. removes.1 s.at.file) stands
-removed_beside spec other client other_client stage other_stage other_head a old new faults later None None removes names broken_names numbers stands = rw removes.0 stands
-
-run_of_written : (stage : ChannelStage) (r : ChannelRun) → written_run stage ≡ Some r → channel_run stage ≡ Some r
-run_of_written Idle r is = absurd (cc (is))
-run_of_written (Asking opened) r is = is
-run_of_written (Writing opened begun) r is = is
-run_of_written (Draining run) r is = is
-run_of_written (Drained run) r is = is
-run_of_written (Broken run fallen) r is = absurd (cc (is))
-
-run_of_broken : (stage : ChannelStage) (r : BegunRun) → broken_run stage ≡ Some r → channel_run stage ≡ Some r.opened
-run_of_broken (Broken run fallen) r is = let same : run ≡ r = cc (is) in ap (λ (x : BegunRun). Some x.opened) same
-run_of_broken stage r is = absurd (cc (is))
-
 pub aborts_beside : (spec : ChannelSpec) (client : Option ℕ) (stage : ChannelStage) (head : FileHead) (other : ChannelSpec) (other_client : Option ℕ) (other_stage : ChannelStage) (other_head : FileHead) (a b : Access) (old new : Seen) (faults later : ℕ)
-    → CancelsStanding (asking_run stage) a b → RemovesFile (written_run stage) (broken_run stage) spec old new faults later → ChannelStands spec client stage head a.own a.got old → ChannelsApart old spec client stage other other_client other_stage
-    → OtherAt other other_client other_stage other_head a old → OtherAt other other_client other_stage other_head b new
-aborts_beside spec client stage head other other_client other_stage other_head a b old new faults later cancels removes at apart stands =
-    removed_beside spec other client other_client stage other_stage other_head b old new faults later (written_run stage) (broken_run stage) removes
-    (λ r s is other_is told. apart.names r s (run_of_written stage r is) other_is told)
-    (λ r s is other_is told. apart.names r.opened s (run_of_broken stage r is) other_is told)
-    apart.numbers
+    → CancelsStanding (asking_run stage) a b → RemovesRun (channel_run stage) (written_run stage) spec (files_by stage) old new faults later → IsLastOpen old spec (written_run stage) → ChannelStands spec client stage head a.own a.got old
+    → ChannelsApart old spec client stage other other_client other_stage → OtherAt other other_client other_stage other_head a old → OtherAt other other_client other_stage other_head b new
+aborts_beside spec client stage head other other_client other_stage other_head a b old new faults later cancels removes file at apart stands =
+    channel_beside spec other client other_client stage other_stage other_head b.own b.got old new (files_by stage) (abort_changes spec stage old new faults later removes file) apart
     (standing_beside spec other client other_client stage other_stage head other_head a b old cancels at apart.clients stands)
 
--- Ending a file.
-
-closed_beside : (spec other : ChannelSpec) (client other_client : Option ℕ) (run : BegunRun) (other_stage : ChannelStage) (other_head : FileHead) (own : List BufferEntry) (got : List GotEvent) (old new : Seen) (bytes : List ℕ) → Closes old new run.opened.at.file bytes
-    → IsOpenFile old spec (Some run.opened) → ChannelsApart old spec client (Drained run) other other_client other_stage → ChannelStands other other_client other_stage other_head own got old → ChannelStands other other_client other_stage other_head own got new
-closed_beside spec other client other_client run other_stage other_head own got old new bytes closes file apart stands =
-    changed_beside other other_client other_stage other_head own got old new (file_name_by spec.pattern run.opened.run) (subst (λ (m : List ℕ). Touches old new m) file.1 closes.touches)
-    (λ s is told. apart.names run.opened s refl is told) (λ s is. closes.others s.at.file (λ same. apart.numbers run.opened s refl is (sym same))) stands
-
-read_beside : (spec other : ChannelSpec) (client other_client : Option ℕ) (run : BegunRun) (state : ChannelState) (other_stage : ChannelStage) (other_head : FileHead) (time : ℕ) (dump : Option (List ℕ)) (own : List BufferEntry) (got : List GotEvent) (old new : Seen) (faults later : ℕ)
-    → ClosesRead state run time dump old new faults later → IsOpenFile old spec (Some run.opened) → ChannelsApart old spec client (Drained run) other other_client other_stage → ChannelStands other other_client other_stage other_head own got old
-    → ChannelStands other other_client other_stage other_head own got new
-read_beside spec other client other_client run IsBroken other_stage other_head time dump own got old new faults later closes file apart stands =
-    closed_beside spec other client other_client run other_stage other_head own got old new _ closes.0.closes file apart stands
-read_beside spec other client other_client run state other_stage other_head time dump own got old new faults later closes file apart stands =
-    closed_beside spec other client other_client run other_stage other_head own got old new _ closes.1 file apart stands
+-- Ending the files.
 
 pub closes_beside : (spec : ChannelSpec) (client : Option ℕ) (stage : ChannelStage) (state : ChannelState) (other : ChannelSpec) (other_client : Option ℕ) (other_stage : ChannelStage) (other_head : FileHead) (time : ℕ) (dump : Option (List ℕ)) (own : List BufferEntry) (got : List GotEvent)
-    (old new : Seen) (faults later : ℕ) → ClosesFile (drained_run stage) stage state time dump old new faults later → IsOpenFile old spec (written_run stage) → ChannelsApart old spec client stage other other_client other_stage
+    (old new : Seen) (faults later : ℕ) → ClosesFile (drained_run stage) stage state time dump old new faults later → IsLastOpen old spec (written_run stage) → ChannelsApart old spec client stage other other_client other_stage
     → ChannelStands other other_client other_stage other_head own got old → ChannelStands other other_client other_stage other_head own got new
-closes_beside spec client (Drained run) state other other_client other_stage other_head time dump own got old new faults later closes file apart stands =
-    read_beside spec other client other_client run state other_stage other_head time dump own got old new faults later closes file apart stands
-closes_beside spec client stage state other other_client other_stage other_head time dump own got old new faults later closes file apart stands = rw closes.1 stands
+closes_beside spec client stage state other other_client other_stage other_head time dump own got old new faults later closes file apart stands =
+    channel_beside spec other client other_client stage other_stage other_head own got old new (files_by stage) (close_changes spec stage state time dump old new faults later closes file) apart stands

@@ -1,14 +1,10 @@
--- What a channel keeps, and what its file has, where a run is called off or its file is ended.
-use Rattle.std.specs.Prelude.{◌≡◌, ℕ, take, drop, List, [], ◌∷◌, ◌++◌, Option, Some, None}
-use Rattle.std.proofs.Common.{ap, sym, subst, ◌∙◌, inl, inr, append_assoc}
-use Rattle.std.proofs.lemmas.List.{take-append-drop}
-use mathlib.Core.List.{IsPrefix}
+-- What a channel keeps, and what its files have, where a run is called off or its files are ended.
+use Rattle.std.specs.Prelude.{◌≡◌, ◌+◌, ◌-◌, ℕ, List, [], ◌∷◌, ◌++◌, Option, Some, None}
+use Rattle.std.proofs.Common.{arith, sym, subst, inl, inr}
 use Rattle.daq_types.specs.declared.events.Event.{Event}
 use Rattle.daq_types.specs.declared.runs.ChannelState.{ChannelState}
 use Rattle.daq_types.specs.declared.runs.ChannelState.TheVariants.{Broken as IsBroken}
-use Rattle.event.specs.RunFile.{begun_file}
 use Rattle.daq_io.specs.Seen.{Seen, Closes}
-use Rattle.daq_io.proofs.SeenLaws.{IsWritten-Closes}
 use Rattle.buffer_core.specs.declared.entry.BufferEntry.{BufferEntry}
 use Rattle.buffer_core.specs.declared.entry.BufferEntry.TheVariants.{Cancel}
 use Rattle.buffer_core.specs.Ports.{Access, GotEvent}
@@ -20,9 +16,13 @@ use Rattle.mid_logger.specs.declared.stage.ChannelRun.{ChannelRun}
 use Rattle.mid_logger.specs.declared.stage.ChannelStage.{ChannelStage}
 use Rattle.mid_logger.specs.declared.stage.ChannelStage.TheVariants.{Idle, Asking, Writing, Draining, Drained, Broken}
 use Rattle.sub_files.specs.declared.open_file.Fallen.{Fallen}
-use Rattle.mid_logger.specs.Channels.{FileHead, IsOwnClient, AsksNothing, FileHolds, FileLeft, StandsWith, DrainedAt, BrokenAt, ChannelStands, CancelsRequest, ClosesPart}
-use Rattle.mid_logger.specs.ChannelTurns.{asking_run, drained_run, broken_run}
-use Rattle.mid_logger.specs.ChannelEnds.{CancelsStanding, ClosesRead, ClosesFile, HasClosed, HasBroken, HasLeftRead, HasLeft, last_bytes, stage_settled}
+use Rattle.sub_files.specs.Pieces.{HasPart}
+use Rattle.sub_files.specs.RecordFiles.{ClosesPart}
+use Rattle.sub_files.specs.Rolls.{fallen_at}
+use Rattle.sub_files.proofs.RunEnds.{closed_run, closed_part}
+use Rattle.mid_logger.specs.Channels.{FileHead, IsOwnClient, AsksNothing, FilesHold, FilesLeft, DrainedWith, BrokenWith, StandsWith, ChannelStands, series_at, CancelsRequest}
+use Rattle.mid_logger.specs.ChannelTurns.{asking_run, drained_run}
+use Rattle.mid_logger.specs.ChannelEnds.{CancelsStanding, ClosesRead, ClosesFile, HasClosed, HasBroken, HasLeft, left_run, end_of, last_bytes, stage_settled}
 use Rattle.mid_logger.proofs.OwnSteps.{own_push, own_client_push}
 use Rattle.mid_logger.proofs.ReadSteps.{asks_still, asks_no_more}
 
@@ -57,9 +57,9 @@ off_with Holds Other Left More spec client (Broken run fallen) a b cancels stand
 
 pub called_off : (spec : ChannelSpec) (client : Option ℕ) (stage : ChannelStage) (head : FileHead) (a b : Access) (seen later : Seen) → CancelsStanding (asking_run stage) a b → ChannelStands spec client stage head a.own a.got seen
     → ChannelStands spec client Idle head b.own b.got later
-called_off spec client stage head a b seen later cancels stands = off_with (FileHolds spec head seen) (FileHolds spec head later) (FileLeft spec head seen) (FileLeft spec head later) spec client stage a b cancels stands
+called_off spec client stage head a b seen later cancels stands = off_with (FilesHold spec head seen) (FilesHold spec head later) (FilesLeft spec head seen) (FilesLeft spec head later) spec client stage a b cancels stands
 
--- Ending a file.
+-- Ending the files.
 
 same_files : (spec : ChannelSpec) (client : Option ℕ) (stage : ChannelStage) (head : FileHead) (own : List BufferEntry) (got : List GotEvent) (old new : Seen) → new ≡ old → ChannelStands spec client stage head own got old → ChannelStands spec client stage head own got new
 same_files spec client stage head own got old new same stands = rw same stands
@@ -73,43 +73,45 @@ settled spec client (Draining run) state time dump head own got old new faults l
 settled spec client (Drained run) state time dump head own got old new faults later closes stands = record { port = stands.port; own_client = stands.own_client; at = stands.at.nothing }
 settled spec client (Broken run fallen) state time dump head own got old new faults later closes stands = record { port = stands.port; own_client = stands.own_client; at = stands.at.nothing }
 
-whole_left : (spec : ChannelSpec) (client : Option ℕ) (run : BegunRun) (head : FileHead) (time : ℕ) (dump : Option (List ℕ)) (own : List BufferEntry) (got : List GotEvent) (old new : Seen) → DrainedAt spec client run head own got old
-    → Closes old new run.opened.at.file (last_bytes run.opened.run run.ended time dump) → HasClosed spec head run time dump own got new
+whole_left : (spec : ChannelSpec) (client : Option ℕ) (run : BegunRun) (head : FileHead) (time : ℕ) (dump : Option (List ℕ)) (own : List BufferEntry) (got : List GotEvent) (old new : Seen) → DrainedWith (FilesHold spec head old) spec client run own got
+    → Closes old new run.opened.at.file (last_bytes run.opened.run run.ended time dump) → HasClosed spec head run (run.opened.at.sub + 1) time dump own got new
 whole_left spec client run head time dump own got old new at closes = record {
   events = at.events;
   number = at.holds.run;
-  small = at.holds.small;
+  began = at.holds.time;
   fine = at.holds.fine;
   reads = at.reads;
-  file = IsWritten-Closes at.holds.file closes;
+  stored = closed_run old new (series_at spec head) run.opened.at (last_bytes run.opened.run run.ended time dump) at.events at.holds.holds closes;
 }
 
-first_part : (front whole : List ℕ) (count : ℕ) → IsPrefix (front ++ take count whole) (front ++ whole)
-first_part front whole count = (drop count whole, append_assoc front (take count whole) (drop count whole) ∙ ap (λ (l : List ℕ). front ++ l) (take-append-drop count whole))
+part_left : (spec : ChannelSpec) (client : Option ℕ) (run : BegunRun) (head : FileHead) (time : ℕ) (dump : Option (List ℕ)) (own : List BufferEntry) (got : List GotEvent) (old new : Seen) → DrainedWith (FilesHold spec head old) spec client run own got
+    → ClosesPart old new run.opened.at.file (last_bytes run.opened.run run.ended time dump) → HasBroken spec head run (fallen_at (run.opened.at.sub + 1) ((run.opened.at.sub + 1) - 1)) time dump own got new
+part_left spec client run head time dump own got old new at part =
+    let last : List ℕ = last_bytes run.opened.run run.ended time dump in
+    let same : run.opened.at.sub ≡ (run.opened.at.sub + 1) - 1 = omega arith in
+    record {
+      events = at.events;
+      number = at.holds.run;
+      began = at.holds.time;
+      fine = at.holds.fine;
+      reads = inr (
+        at.reads,
+        subst (λ (n : ℕ). HasPart new (series_at spec head) (fallen_at (run.opened.at.sub + 1) n) last at.events) same (closed_part old new (series_at spec head) run.opened.at last at.events at.holds.holds part),
+      );
+    }
 
-part_left : (spec : ChannelSpec) (client : Option ℕ) (run : BegunRun) (head : FileHead) (time : ℕ) (dump : Option (List ℕ)) (own : List BufferEntry) (got : List GotEvent) (old new : Seen) → DrainedAt spec client run head own got old
-    → ClosesPart old new run.opened.at.file (last_bytes run.opened.run run.ended time dump) → HasBroken spec head run time dump own got new
-part_left spec client run head time dump own got old new at part = record {
-  events = at.events;
-  bytes = begun_file head.run head.time head.dump at.events ++ take part.count (last_bytes run.opened.run run.ended time dump);
-  number = at.holds.run;
-  small = at.holds.small;
-  fine = at.holds.fine;
-  stored = IsWritten-Closes at.holds.file part.closes;
-  reads = inr (at.reads, first_part (begun_file head.run head.time head.dump at.events) (last_bytes run.opened.run run.ended time dump) part.count);
-}
-
-read_left : (spec : ChannelSpec) (client : Option ℕ) (run : BegunRun) (state : ChannelState) (head : FileHead) (time : ℕ) (dump : Option (List ℕ)) (own : List BufferEntry) (got : List GotEvent) (old new : Seen) (faults later : ℕ) → DrainedAt spec client run head own got old
-    → ClosesRead state run time dump old new faults later → HasLeftRead state spec head run time dump own got new
+read_left : (spec : ChannelSpec) (client : Option ℕ) (run : BegunRun) (state : ChannelState) (head : FileHead) (time : ℕ) (dump : Option (List ℕ)) (own : List BufferEntry) (got : List GotEvent) (old new : Seen) (faults later : ℕ) → DrainedWith (FilesHold spec head old) spec client run own got
+    → ClosesRead state run time dump old new faults later → HasLeft (Some run) (end_of (Drained run) state) spec head time dump own got new
 read_left spec client run IsBroken head time dump own got old new faults later at closes = part_left spec client run head time dump own got old new at closes.0
 read_left spec client run state head time dump own got old new faults later at closes = whole_left spec client run head time dump own got old new at closes.1
 
-broken_left : (spec : ChannelSpec) (client : Option ℕ) (run : BegunRun) (fallen : Fallen) (head : FileHead) (time : ℕ) (dump : Option (List ℕ)) (own : List BufferEntry) (got : List GotEvent) (seen : Seen) → BrokenAt spec client run fallen head own got seen → HasBroken spec head run time dump own got seen
+broken_left : (spec : ChannelSpec) (client : Option ℕ) (run : BegunRun) (fallen : Fallen) (head : FileHead) (time : ℕ) (dump : Option (List ℕ)) (own : List BufferEntry) (got : List GotEvent) (seen : Seen) → BrokenWith (FilesLeft spec head seen) spec client run fallen own got
+    → HasLeft (Some run) (end_of (Broken run fallen) IsBroken) spec head time dump own got seen
 broken_left spec client run fallen head time dump own got seen at =
-    record { events = at.events; bytes = at.left.bytes; number = at.left.number; small = at.left.small; fine = at.left.fine; stored = at.left.stored; reads = inl (at.reads, at.left.front) }
+    record { events = at.events; number = at.left.run; began = at.left.time; fine = at.left.fine; reads = inl (at.reads, at.left.part) }
 
 pub left_by : (spec : ChannelSpec) (client : Option ℕ) (stage : ChannelStage) (state : ChannelState) (time : ℕ) (dump : Option (List ℕ)) (head : FileHead) (own : List BufferEntry) (got : List GotEvent) (old new : Seen) (faults later : ℕ)
-    → ClosesFile (drained_run stage) stage state time dump old new faults later → ChannelStands spec client stage head own got old → HasLeft (drained_run stage) (broken_run stage) state spec head time dump own got new
+    → ClosesFile (drained_run stage) stage state time dump old new faults later → ChannelStands spec client stage head own got old → HasLeft (left_run stage) (end_of stage state) spec head time dump own got new
 left_by spec client (Drained run) state time dump head own got old new faults later closes stands = read_left spec client run state head time dump own got old new faults later stands.at closes
-left_by spec client (Broken run fallen) state time dump head own got old new faults later closes stands = rw closes.1 (broken_left spec client run fallen head time dump own got old stands.at)
+left_by spec client (Broken run fallen) state time dump head own got old new faults later closes stands = rw (closes.0, closes.1) (broken_left spec client run fallen head time dump own got old stands.at)
 left_by spec client stage state time dump head own got old new faults later closes stands = tt

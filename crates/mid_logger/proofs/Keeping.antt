@@ -1,150 +1,179 @@
--- Which file each step of a channel changes.
-use Rattle.std.specs.Prelude.{◌≡◌, ◌≢◌, ◌≤◌, ℕ, Bool, true, false, nat_lt, length, List, [], Option, Some, None, Result, Ok, Err, OnOk, OnErr, ⊤, refl}
-use Rattle.std.proofs.Common.{sym, subst, ◌∙◌, inl, inr}
-use Rattle.daq_types.specs.declared.events.Event.{Event}
+-- Which files the ends and the begin of a run change, and what stays there.
+use Rattle.std.specs.Prelude.{◌≡◌, ◌≢◌, ◌⊎◌, ◌<◌, ◌≤◌, ◌+◌, ℕ, zero, suc, true, false, length, IsTrue, IsSome, List, [], Option, Some, None, Result, Ok, Err, OnOk, OnErr, ⊤, refl}
+use Rattle.std.specs.Option.{option_map}
+use Rattle.std.proofs.Common.{arith, ap, sym, subst, ◌∙◌, inl, inr}
+use Rattle.std.proofs.lemmas.Bool.Decides.{leb_tells}
 use Rattle.daq_types.specs.declared.runs.ChannelState.{ChannelState}
 use Rattle.daq_types.specs.declared.runs.ChannelState.TheVariants.{Broken as IsBroken}
 use Rattle.daq_types.specs.declared.runs.Order.{Order}
 use Rattle.daq_types.specs.declared.runs.Why.{Why}
 use Rattle.daq_types.specs.declared.runs.Why.TheVariants.{NotReady, Exists, Fault, BufferRefused}
 use Rattle.event.specs.Events.{record_limit}
-use Rattle.daq_io.specs.Seen.{Seen, KeepsNumber, Touches}
-use Rattle.buffer_core.specs.declared.replies.Received.{Received}
-use Rattle.buffer_core.specs.declared.replies.Received.TheVariants.{Got, Empty, NoClient, SmallBuf}
+use Rattle.daq_io.specs.Seen.{Seen, Stored, Closes}
+use Rattle.daq_io.proofs.SeenLaws.{KeepsNumber-trans, Same-refl, name_tells}
+use Rattle.buffer_core.specs.declared.entry.BufferEntry.{BufferEntry}
+use Rattle.buffer_core.specs.Ports.{GotEvent}
+use Rattle.sub_files.specs.Patterns.{piece_name_by}
 use Rattle.mid_logger.specs.declared.channel_spec.ChannelSpec.{ChannelSpec}
-use Rattle.mid_logger.specs.declared.pulled.Pulled.{Pulled}
 use Rattle.mid_logger.specs.declared.stage.BegunRun.{BegunRun}
 use Rattle.mid_logger.specs.declared.stage.ChannelRun.{ChannelRun}
 use Rattle.mid_logger.specs.declared.stage.ChannelStage.{ChannelStage}
 use Rattle.mid_logger.specs.declared.stage.ChannelStage.TheVariants.{Idle, Asking, Writing, Draining, Drained, Broken}
 use Rattle.mid_logger.specs.Patterns.{file_name_by}
-use Rattle.mid_logger.specs.Channels.{FileHead, ChannelStands, IsOpenFile, channel_run, written_run, run_begun, reading_run, is_behind_end}
-use Rattle.mid_logger.specs.Pulls.{PullOf, LeavesAll, DrainsClient, TakesBy, FindsNone, TakesReply, PullsOnce, PullsIn, Pulls, drains_at_none}
-use Rattle.mid_logger.specs.ChannelTurns.{ChannelAt, OpensBy, RefusesRun, broken_run, drained_run}
-use Rattle.mid_logger.specs.ChannelEnds.{RemovesFile, ClosesRead, ClosesFile}
-use Rattle.mid_logger.specs.Keeping.{ChangesOne, ChangesFile, KeepsRun, OpensRunFile, order_head}
-use Rattle.mid_logger.proofs.PullSteps.{pull_used}
+use Rattle.mid_logger.specs.Channels.{FileHead, ChannelStands, HasLastOpen, IsLastOpen, KnowsTaken, channel_run, written_run, files_by, series_at}
+use Rattle.mid_logger.specs.Pulls.{PullOf, Pulls}
+use Rattle.mid_logger.specs.ChannelTurns.{ChannelAt, OpensBy, RefusesRun, drained_run}
+use Rattle.mid_logger.specs.ChannelEnds.{DropsRun, RemovesRun, ClosesRead, ClosesFile, HasLeft, end_of, last_bytes}
+use Rattle.mid_logger.specs.Keeping.{ChangesFiles, ChangesRun, KeepsThere, KeepsRun, OpensRunFile, any_file, order_head}
+use Rattle.mid_logger.proofs.FileMoves.{Moved, same_moved, closed_moved}
+use Rattle.mid_logger.proofs.FilesStay.{run_there, fallen_there}
+use Rattle.mid_logger.proofs.PullSteps.{pull_kept}
+use Rattle.mid_logger.proofs.PullChanges.{none_changed, changes_of, pull_changes, pull_known}
+use Rattle.mid_logger.proofs.StageSteps.{made_there, last_used}
 use Rattle.mid_logger.proofs.OpenSteps.{opened_kept, not_opened_kept}
+use Rattle.mid_logger.proofs.EndSteps.{left_by}
 
-number_same : (seen : Seen) (number : ℕ) → KeepsNumber seen seen number
-number_same seen number = record { writes = refl; reads = refl; name = λ used. refl; left = λ reads. refl }
+pub not_gone : (o : Option Stored) → IsSome o → o ≡ None → ⊥
+not_gone o some none = let never : false ≡ true = subst (λ (x : Option Stored). IsSome x) none some in cc (never)
 
-none_changed : (name : List ℕ) (written : Option ChannelRun) (old new : Seen) → new ≡ old → ChangesOne name written old new
-none_changed name written old new same =
-    let now : ChangesOne name written old old = record {
-      touches = record { tells = refl; others = λ other ne. refl };
-      others = λ number other. number_same old number;
-    } in
-    rw same now
-
--- a file that is written under this number, in place of any number but its own
-own_changed : (spec : ChannelSpec) (opened : ChannelRun) (old new : Seen) → IsOpenFile old spec (Some opened) → Touches old new (old.name_of opened.at.file) → ((number : ℕ) → number ≢ opened.at.file → KeepsNumber old new number)
-    → ChangesOne (file_name_by spec.pattern opened.run) (Some opened) old new
-own_changed spec opened old new file touches others = record {
-  touches = subst (λ (m : List ℕ). Touches old new m) file.1 touches;
-  others = λ number other. others number (other opened refl);
-}
-
--- A pull. What a reading stage has: its run, and what is written.
-
-record ReadsAs (stage : ChannelStage) (run : BegunRun) : Type 0 where
-  has_run : channel_run stage ≡ Some run.opened
-  has_written : written_run stage ≡ Some run.opened
-
-abbrev PulledFile : ChannelSpec → PullOf → BegunRun → Type 0
-PulledFile spec p run = ChangesOne (file_name_by spec.pattern run.opened.run) (Some run.opened) p.files p.later_files × KeepsRun p.stage p.later_stage
-
-leaves_file : (spec : ChannelSpec) (p : PullOf) (run : BegunRun) (answer : Pulled) → LeavesAll p answer → PulledFile spec p run
-leaves_file spec p run answer leaves = (
-  none_changed (file_name_by spec.pattern run.opened.run) (Some run.opened) p.files p.later_files leaves.files,
-  rw leaves.stage (record { run = refl; written = inl refl }),
-)
-
-drains_file : (spec : ChannelSpec) (p : PullOf) (run : BegunRun) (answer : Pulled) → ReadsAs p.stage run → DrainsClient p run answer → PulledFile spec p run
-drains_file spec p run answer reads drains = (
-  none_changed (file_name_by spec.pattern run.opened.run) (Some run.opened) p.files p.later_files drains.files,
-  rw drains.stage (record { run = sym reads.has_run; written = inl (sym reads.has_written) }),
-)
-
-takes_file : (spec : ChannelSpec) (p : PullOf) (run : BegunRun) (place : ℕ) (e : Event) (behind early : Bool) → ReadsAs p.stage run → IsOpenFile p.files spec (Some run.opened) → TakesBy behind early p run place e → PulledFile spec p run
-takes_file spec p run place e true early reads file takes = drains_file spec p run _ reads takes
-takes_file spec p run place e false true reads file takes = leaves_file spec p run _ takes
-takes_file spec p run place e false false reads file takes = elim takes as (λ w. PulledFile spec p run) [
-  | inl writes ↦ (
-    own_changed spec run.opened p.files p.later_files file writes.files.touches (λ number other. writes.files.numbers number),
-    rw writes.stage (record { run = refl; written = inl refl }),
-  )
-  | inr breaks ↦ (
-    own_changed spec run.opened p.files p.later_files file breaks.files.closes.touches breaks.files.closes.others,
-    rw breaks.stage (record { run = sym reads.has_run; written = inr refl }),
-  )
-]
-
-none_file : (spec : ChannelSpec) (p : PullOf) (run : BegunRun) (drains : Bool) → ReadsAs p.stage run → FindsNone drains p run → PulledFile spec p run
-none_file spec p run true reads found = drains_file spec p run _ reads found
-none_file spec p run false reads found = leaves_file spec p run _ found
-
-reply_file : (spec : ChannelSpec) (p : PullOf) (run : BegunRun) (reply : Received) (e : Event) → ReadsAs p.stage run → IsOpenFile p.files spec (Some run.opened) → TakesReply p run reply e → PulledFile spec p run
-reply_file spec p run (Got place start) e reads file taken = takes_file spec p run place e (is_behind_end run.ended place) (nat_lt place run.begun) reads file taken
-reply_file spec p run (Empty gate last) e reads file taken = none_file spec p run (drains_at_none p.stage) reads taken
-reply_file spec p run NoClient e reads file taken = leaves_file spec p run _ taken
-reply_file spec p run (SmallBuf need) e reads file taken = absurd taken
-
-once_file : (spec : ChannelSpec) (p : PullOf) (run : BegunRun) (room : ℕ) → ReadsAs p.stage run → IsOpenFile p.files spec (Some run.opened) → PullsOnce p run room → PulledFile spec p run
-once_file spec p run room reads file pulls = reply_file spec (record p { port = pulls.middle }) run pulls.reply pulls.event reads file pulls.taken
-
-abbrev PullChanges : ChannelSpec → PullOf → ChannelStage → Type 0
-PullChanges spec p stage = ChangesFile spec (channel_run stage) (written_run stage) p.files p.later_files × KeepsRun p.stage p.later_stage
-
-stage_file : (spec : ChannelSpec) (p : PullOf) (room : ℕ) (stage : ChannelStage) → p.stage ≡ stage → PullsIn (reading_run stage) p room → IsOpenFile p.files spec (written_run stage) → PullChanges spec p stage
-stage_file spec p room Idle is pulls file = (pulls.files, rw pulls.stage (record { run = refl; written = inl refl }))
-stage_file spec p room (Asking opened) is pulls file = (
-  none_changed (file_name_by spec.pattern opened.run) (Some opened) p.files p.later_files pulls.files,
-  rw pulls.stage (record { run = refl; written = inl refl }),
-)
-stage_file spec p room (Writing opened begun) is pulls file =
-    once_file spec p (run_begun opened begun) room (rw is (record { has_run = refl; has_written = refl })) file pulls
-stage_file spec p room (Draining run) is pulls file = once_file spec p run room (rw is (record { has_run = refl; has_written = refl })) file pulls
-stage_file spec p room (Drained run) is pulls file = (
-  none_changed (file_name_by spec.pattern run.opened.run) (Some run.opened) p.files p.later_files pulls.files,
-  rw pulls.stage (record { run = refl; written = inl refl }),
-)
-stage_file spec p room (Broken run fallen) is pulls file = (
-  none_changed (file_name_by spec.pattern run.opened.run) None p.files p.later_files pulls.files,
-  rw pulls.stage (record { run = refl; written = inl refl }),
-)
-
-pub pull_changes : (p : PullOf) (room : ℕ) (spec : ChannelSpec) → Pulls p room → IsOpenFile p.files spec (written_run p.stage)
-    → ChangesFile spec (channel_run p.stage) (written_run p.stage) p.files p.later_files × KeepsRun p.stage p.later_stage × IsOpenFile p.later_files spec (written_run p.later_stage)
-pull_changes p room spec pulls file =
-    let changes : PullChanges spec p p.stage = stage_file spec p room p.stage refl pulls file in
-    (changes.0, changes.1, pull_used spec p room pulls file)
+-- A file that is written is closed, with these bytes more.
+closed_changes : (spec : ChannelSpec) (opened : ChannelRun) (old new : Seen) (bytes : List ℕ) → HasLastOpen old spec opened → Closes old new opened.at.file bytes → Moved (piece_name_by spec.pattern opened.run) (opened.at.sub + 1) (opened.at.sub + 1) opened.at.file old new
+closed_changes spec opened old new bytes file closes =
+    let names : ℕ → List ℕ = piece_name_by spec.pattern opened.run in
+    closed_moved names (opened.at.sub + 1) (opened.at.sub + 1) opened.at.file opened.at.sub opened.at.file old old new bytes (same_moved names (opened.at.sub + 1) opened.at.file old old (Same-refl old)) (omega arith) file.named closes (inl refl)
 
 -- Calling off.
 
-pub abort_changes : (spec : ChannelSpec) (stage : ChannelStage) (old new : Seen) (faults later : ℕ) → RemovesFile (written_run stage) (broken_run stage) spec old new faults later → ChangesFile spec (channel_run stage) (written_run stage) old new
-abort_changes spec Idle old new faults later removes = removes.0
-abort_changes spec (Asking opened) old new faults later removes = record { touches = removes.0.touches; others = λ number other. removes.0.others number (other opened refl) }
-abort_changes spec (Writing opened begun) old new faults later removes = record { touches = removes.0.touches; others = λ number other. removes.0.others number (other opened refl) }
-abort_changes spec (Draining run) old new faults later removes = record { touches = removes.0.touches; others = λ number other. removes.0.others number (other run.opened refl) }
-abort_changes spec (Drained run) old new faults later removes = record { touches = removes.0.touches; others = λ number other. removes.0.others number (other run.opened refl) }
-abort_changes spec (Broken run fallen) old new faults later removes = record { touches = removes.0; others = λ number other. removes.1 number }
+drop_changes : (spec : ChannelSpec) (opened : ChannelRun) (old new : Seen) (faults later : ℕ) → HasLastOpen old spec opened → DropsRun spec (Some opened) opened.run (opened.at.sub + 1) old new faults later
+    → ChangesFiles (piece_name_by spec.pattern opened.run) (opened.at.sub + 1) (opened.at.sub + 1) (Some opened) old new
+drop_changes spec opened old new faults later file drops =
+    let moved : Moved (piece_name_by spec.pattern opened.run) (opened.at.sub + 1) (opened.at.sub + 1) opened.at.file old drops.closed = closed_changes spec opened old drops.closed [] file drops.closes in
+    record {
+      tells = drops.removes.tells ∙ moved.tells;
+      others = λ name apart. drops.removes.others name apart ∙ moved.others name apart;
+      fresh = λ n least below. absurd (omega (arith, least, below));
+      numbers = λ number used other. KeepsNumber-trans (moved.numbers number used (other opened refl)) (drops.removes.numbers number);
+    }
 
--- Ending a file.
+left_changes : (spec : ChannelSpec) (run many : ℕ) (old new : Seen) (faults later : ℕ) → DropsRun spec None run many old new faults later → ChangesFiles (piece_name_by spec.pattern run) many many None old new
+left_changes spec run many old new faults later drops =
+    let here : ChangesFiles (piece_name_by spec.pattern run) many many None drops.closed new = record {
+      tells = drops.removes.tells;
+      others = λ name apart. drops.removes.others name apart;
+      fresh = λ n least below. absurd (omega (arith, least, below));
+      numbers = λ number used other. drops.removes.numbers number;
+    } in
+    subst (λ (s : Seen). ChangesFiles (piece_name_by spec.pattern run) many many None s new) drops.closes here
 
-read_changes : (spec : ChannelSpec) (run : BegunRun) (state : ChannelState) (time : ℕ) (dump : Option (List ℕ)) (old new : Seen) (faults later : ℕ) → ClosesRead state run time dump old new faults later → IsOpenFile old spec (Some run.opened)
-    → ChangesOne (file_name_by spec.pattern run.opened.run) (Some run.opened) old new
-read_changes spec run IsBroken time dump old new faults later closes file = own_changed spec run.opened old new file closes.0.closes.touches closes.0.closes.others
-read_changes spec run state time dump old new faults later closes file = own_changed spec run.opened old new file closes.1.touches closes.1.others
+pub abort_changes : (spec : ChannelSpec) (stage : ChannelStage) (old new : Seen) (faults later : ℕ) → RemovesRun (channel_run stage) (written_run stage) spec (files_by stage) old new faults later → IsLastOpen old spec (written_run stage)
+    → ChangesRun spec (channel_run stage) (written_run stage) (files_by stage) (files_by stage) old new
+abort_changes spec Idle old new faults later removes file = removes.0
+abort_changes spec (Asking opened) old new faults later removes file = drop_changes spec opened old new faults later file removes
+abort_changes spec (Writing opened begun) old new faults later removes file = drop_changes spec opened old new faults later file removes
+abort_changes spec (Draining run) old new faults later removes file = drop_changes spec run.opened old new faults later file removes
+abort_changes spec (Drained run) old new faults later removes file = drop_changes spec run.opened old new faults later file removes
+abort_changes spec (Broken run fallen) old new faults later removes file = left_changes spec run.opened.run fallen.files old new faults later removes
+
+-- Ending the files.
+
+read_changes : (spec : ChannelSpec) (run : BegunRun) (state : ChannelState) (time : ℕ) (dump : Option (List ℕ)) (old new : Seen) (faults later : ℕ) → ClosesRead state run time dump old new faults later → HasLastOpen old spec run.opened
+    → Moved (piece_name_by spec.pattern run.opened.run) (run.opened.at.sub + 1) (run.opened.at.sub + 1) run.opened.at.file old new
+read_changes spec run IsBroken time dump old new faults later closes file = closed_changes spec run.opened old new _ file closes.0.closes
+read_changes spec run state time dump old new faults later closes file = closed_changes spec run.opened old new _ file closes.1
 
 pub close_changes : (spec : ChannelSpec) (stage : ChannelStage) (state : ChannelState) (time : ℕ) (dump : Option (List ℕ)) (old new : Seen) (faults later : ℕ) → ClosesFile (drained_run stage) stage state time dump old new faults later
-    → IsOpenFile old spec (written_run stage) → ChangesFile spec (channel_run stage) (written_run stage) old new
+    → IsLastOpen old spec (written_run stage) → ChangesRun spec (channel_run stage) (written_run stage) (files_by stage) (files_by stage) old new
 close_changes spec Idle state time dump old new faults later closes file = closes.1
-close_changes spec (Asking opened) state time dump old new faults later closes file = none_changed _ _ old new closes.1
-close_changes spec (Writing opened begun) state time dump old new faults later closes file = none_changed _ _ old new closes.1
-close_changes spec (Draining run) state time dump old new faults later closes file = none_changed _ _ old new closes.1
-close_changes spec (Drained run) state time dump old new faults later closes file = read_changes spec run state time dump old new faults later closes file
-close_changes spec (Broken run fallen) state time dump old new faults later closes file = none_changed _ _ old new closes.1
+close_changes spec (Asking opened) state time dump old new faults later closes file = none_changed _ _ _ _ old new (omega arith) closes.1
+close_changes spec (Writing opened begun) state time dump old new faults later closes file = none_changed _ _ _ _ old new (omega arith) closes.1
+close_changes spec (Draining run) state time dump old new faults later closes file = none_changed _ _ _ _ old new (omega arith) closes.1
+close_changes spec (Drained run) state time dump old new faults later closes file =
+    let many : ℕ = run.opened.at.sub + 1 in
+    changes_of (piece_name_by spec.pattern run.opened.run) many many many many run.opened old new refl refl (read_changes spec run state time dump old new faults later closes file)
+close_changes spec (Broken run fallen) state time dump old new faults later closes file = none_changed _ _ _ _ old new (omega arith) closes.1
+
+-- What is there stays there.
+
+-- a name is one of the first, or none of them
+among : (names : ℕ → List ℕ) (now : ℕ) (name : List ℕ) → ((n : ℕ) × (n < now) × (name ≡ names n)) ⊎ ((n : ℕ) → n < now → name ≢ names n)
+among names zero name = inr (λ n below is. absurd (omega (arith, below)))
+among names (suc k) name = elim (name_tells name (names k)) as (λ w. ((n : ℕ) × (n < suc k) × (name ≡ names n)) ⊎ ((n : ℕ) → n < suc k → name ≢ names n)) [
+  | inl same ↦ inl (k, omega arith, same)
+  | inr other ↦ elim (among names k name) as (λ w. ((n : ℕ) × (n < suc k) × (name ≡ names n)) ⊎ ((n : ℕ) → n < suc k → name ≢ names n)) [
+    | inl found ↦ inl (found.0, (let below : found.0 < k = found.1 in omega (arith, below)), found.2)
+    | inr apart ↦ inr (λ n below is. elim (leb_tells k n) as (λ w. ⊥) [
+      | inl least ↦ (let most : k ≤ n = least.1 in let here : n ≡ k = omega (arith, most, below) in other (is ∙ ap names here))
+      | inr less ↦ apart n less.1 is
+    ])
+  ]
+]
+
+there_kept : (names : ℕ → List ℕ) (before now : ℕ) (written : Option ChannelRun) (old new : Seen) → ChangesFiles names before now written old new → (IsTrue new.tells → (n : ℕ) → n < now → IsSome (new.at (names n))) → KeepsThere old new
+there_kept names before now written old new changes made = λ told name here. elim (among names now name) as (λ w. IsSome (new.at name)) [
+  | inl found ↦ subst (λ (m : List ℕ). IsSome (new.at m)) (sym found.2) (made (changes.tells ∙ told) found.0 found.1)
+  | inr apart ↦ subst (λ (o : Option Stored). IsSome o) (sym (changes.others name apart)) here
+]
+
+same_there : (old new : Seen) → new ≡ old → KeepsThere old new
+same_there old new same = rw same (λ told name here. here)
+
+-- the run of one stage is that of the other, whichever file is written
+pub same_run : (x y : Option ChannelRun) → option_map any_file x ≡ option_map any_file y → (r : ChannelRun) → y ≡ Some r → (v : ChannelRun) × (x ≡ Some v) × (v.run ≡ r.run)
+same_run None None same r is = absurd (cc (is))
+same_run None (Some s) same r is = absurd (cc (same))
+same_run (Some v) None same r is = absurd (cc (is))
+same_run (Some v) (Some s) same r is =
+    let here : any_file v ≡ any_file s = cc (same) in
+    let there : s ≡ r = cc (is) in
+    (v, refl, ap (λ (x : ChannelRun). x.run) here ∙ ap (λ (x : ChannelRun). x.run) there)
+
+pull_there : (p : PullOf) (client : Option ℕ) (head : FileHead) (run : Option ChannelRun) → channel_run p.stage ≡ run → ChangesRun p.spec run (written_run p.stage) (files_by p.stage) (files_by p.later_stage) p.files p.later_files → KeepsRun p.files p.stage p.later_stage
+    → ChannelStands p.spec client p.later_stage head p.later_port.own p.later_port.got p.later_files → KeepsThere p.files p.later_files
+pull_there p client head None is changes keeps stands = same_there p.files p.later_files changes
+pull_there p client head (Some opened) is changes keeps stands =
+    let later : (v : ChannelRun) × (channel_run p.later_stage ≡ Some v) × (v.run ≡ opened.run) = same_run (channel_run p.later_stage) (channel_run p.stage) keeps.run opened is in
+    there_kept (piece_name_by p.spec.pattern opened.run) (files_by p.stage) (files_by p.later_stage) (written_run p.stage) p.files p.later_files changes (λ told n below.
+    subst (λ (r : ℕ). IsSome (p.later_files.at (piece_name_by p.spec.pattern r n))) later.2 (made_there p.spec client p.later_stage head p.later_port.own p.later_port.got p.later_files stands later.0 later.1 told n below))
+
+last_open : (spec : ChannelSpec) (seen : Seen) (written : Option ChannelRun) → ((r : ChannelRun) → written ≡ Some r → HasLastOpen seen spec r) → IsLastOpen seen spec written
+last_open spec seen None used = tt
+last_open spec seen (Some r) used = used r refl
+
+known_then : (spec : ChannelSpec) (stage : ChannelStage) (old new : Seen) → new.tells ≡ old.tells → KeepsThere old new → KnowsTaken old spec stage → KnowsTaken new spec stage
+known_then spec stage old new tells there known = λ o is taken told. (let before : IsTrue old.tells = sym tells ∙ told in there before _ (known o is taken before))
+
+pub run_tells : (spec : ChannelSpec) (run written : Option ChannelRun) (before now : ℕ) (old new : Seen) → ChangesRun spec run written before now old new → new.tells ≡ old.tells
+run_tells spec None written before now old new changes = ap (λ (s : Seen). s.tells) changes
+run_tells spec (Some opened) written before now old new changes = changes.tells
+
+pub pull_knows : (p : PullOf) (room : ℕ) (client : Option ℕ) (head : FileHead) → Pulls p room → head.dump ≡ p.dump → ChannelStands p.spec client p.stage head p.port.own p.port.got p.files
+    → KeepsThere p.files p.later_files × (KnowsTaken p.files p.spec p.stage → KnowsTaken p.later_files p.spec p.later_stage)
+pull_knows p room client head pulls is stands =
+    let file : IsLastOpen p.files p.spec (written_run p.stage) = last_open p.spec p.files (written_run p.stage) (last_used p.spec client p.stage head p.port.own p.port.got p.files stands) in
+    let changes = pull_changes p room pulls file in
+    let there : KeepsThere p.files p.later_files = pull_there p client head (channel_run p.stage) refl changes.0 changes.1 (pull_kept p room client head pulls is stands) in
+    (there, λ known. known_then p.spec p.later_stage p.files p.later_files (run_tells p.spec (channel_run p.stage) (written_run p.stage) _ _ p.files p.later_files changes.0) there (pull_known p room pulls known))
+
+-- each file of the run that was read is there
+read_there : (spec : ChannelSpec) (head : FileHead) (run : BegunRun) (state : ChannelState) (time : ℕ) (dump : Option (List ℕ)) (own : List BufferEntry) (got : List GotEvent) (seen : Seen) → HasLeft (Some run) (end_of (Drained run) state) spec head time dump own got seen → IsTrue seen.tells
+    → (n : ℕ) → n < run.opened.at.sub + 1 → IsSome (seen.at (piece_name_by spec.pattern run.opened.run n))
+read_there spec head run IsBroken time dump own got seen has told n below =
+    let there : IsSome (seen.at (piece_name_by spec.pattern head.run n)) = elim has.reads as (λ w. IsSome (seen.at (piece_name_by spec.pattern head.run n))) [
+      | inl part ↦ fallen_there seen (series_at spec head) _ [] has.events n part.1 told below
+      | inr whole ↦ fallen_there seen (series_at spec head) _ (last_bytes run.opened.run run.ended time dump) has.events n whole.1 told below
+    ] in
+    subst (λ (r : ℕ). IsSome (seen.at (piece_name_by spec.pattern r n))) has.number there
+read_there spec head run state time dump own got seen has told n below =
+    subst (λ (r : ℕ). IsSome (seen.at (piece_name_by spec.pattern r n))) has.number (run_there seen (series_at spec head) (run.opened.at.sub + 1) run.opened.at.taken (last_bytes run.opened.run run.ended time dump) has.events n has.stored told below)
+
+pub close_there : (spec : ChannelSpec) (client : Option ℕ) (stage : ChannelStage) (state : ChannelState) (time : ℕ) (dump : Option (List ℕ)) (head : FileHead) (own : List BufferEntry) (got : List GotEvent) (old new : Seen) (faults later : ℕ)
+    → ClosesFile (drained_run stage) stage state time dump old new faults later → ChannelStands spec client stage head own got old → KeepsThere old new
+close_there spec client (Drained run) state time dump head own got old new faults later closes stands =
+    let many : ℕ = run.opened.at.sub + 1 in
+    let changes : ChangesFiles (piece_name_by spec.pattern run.opened.run) many many (Some run.opened) old new = close_changes spec (Drained run) state time dump old new faults later closes (last_used spec client (Drained run) head own got old stands run.opened refl) in
+    there_kept (piece_name_by spec.pattern run.opened.run) many many (Some run.opened) old new changes
+    (read_there spec head run state time dump own got new (left_by spec client (Drained run) state time dump head own got old new faults later closes stands))
+close_there spec client stage state time dump head own got old new faults later closes stands = same_there old new closes.1
 
 -- Opening a run.
 
@@ -158,14 +187,28 @@ refused_changes spec name (Exists channel) a b refuses = record {
 refused_changes spec name (Fault channel) a b refuses = record { touches = refuses.2.touches; fresh = inl refuses.2.fresh; numbers = λ number used. refuses.2.numbers number }
 refused_changes spec name BufferRefused a b refuses = record { touches = refuses.1.touches; fresh = inl refuses.1.fresh; numbers = λ number used. refuses.1.numbers number }
 
-pub open_changes : (spec : ChannelSpec) (order : Order) (dump : List ℕ) (r : Result ⊤ Why) (a b : ChannelAt) → OpensBy r spec order dump a b → OpensRunFile (file_name_by spec.pattern order.run) a.files b.files
-open_changes spec order dump (Ok done) a b opens = record {
+open_file_changes : (spec : ChannelSpec) (order : Order) (dump : List ℕ) (r : Result ⊤ Why) (a b : ChannelAt) → OpensBy r spec order dump a b → OpensRunFile (file_name_by spec.pattern order.run) a.files b.files
+open_file_changes spec order dump (Ok done) a b opens = record {
   touches = opens.makes.touches;
   fresh = inl opens.makes.fresh;
   numbers = λ number used. opens.makes.others number (λ same.
       let never : true ≡ false = sym used ∙ (subst (λ (k : ℕ). a.files.writes k ≡ false) (sym same) opens.makes.was_free.writes) in cc (never));
 }
-open_changes spec order dump (Err why) a b opens = refused_changes spec (file_name_by spec.pattern order.run) why a b opens.1
+open_file_changes spec order dump (Err why) a b opens = refused_changes spec (file_name_by spec.pattern order.run) why a b opens.1
+
+opened_there : (name : List ℕ) (old new : Seen) → OpensRunFile name old new → KeepsThere old new
+opened_there name old new opens = λ told other here. elim opens.fresh as (λ w. IsSome (new.at other)) [
+  | inl gone ↦ elim (name_tells other name) as (λ w. IsSome (new.at other)) [
+    | inl same ↦ absurd (not_gone (old.at other) here (subst (λ (m : List ℕ). old.at m ≡ None) (sym same) (gone told)))
+    | inr ne ↦ subst (λ (o : Option Stored). IsSome o) (sym (opens.touches.others other ne)) here
+  ]
+  | inr same ↦ subst (λ (o : Option Stored). IsSome o) (sym (same other)) here
+]
+
+pub open_changes : (spec : ChannelSpec) (order : Order) (dump : List ℕ) (r : Result ⊤ Why) (a b : ChannelAt) → OpensBy r spec order dump a b → OpensRunFile (file_name_by spec.pattern order.run) a.files b.files × KeepsThere a.files b.files
+open_changes spec order dump r a b opens =
+    let changes : OpensRunFile (file_name_by spec.pattern order.run) a.files b.files = open_file_changes spec order dump r a b opens in
+    (changes, opened_there (file_name_by spec.pattern order.run) a.files b.files changes)
 
 pub opening_kept : (spec : ChannelSpec) (order : Order) (dump : List ℕ) (r : Result ⊤ Why) (a b : ChannelAt) (head : FileHead) → OpensBy r spec order dump a b → a.stage ≡ Idle → length dump ≤ record_limit → b.port.taken_back ≡ []
     → ChannelStands spec a.client a.stage head a.port.own a.port.got a.files

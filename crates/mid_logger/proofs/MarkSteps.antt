@@ -14,8 +14,7 @@ use Rattle.mid_logger.specs.declared.stage.ChannelRun.{ChannelRun}
 use Rattle.mid_logger.specs.declared.stage.ChannelStage.{ChannelStage}
 use Rattle.mid_logger.specs.declared.stage.ChannelStage.TheVariants.{Idle, Asking, Writing, Draining, Drained, Broken}
 use Rattle.sub_files.specs.declared.open_file.Fallen.{Fallen}
-use Rattle.mid_logger.specs.Channels.{FileHead, FileHolds, FileLeft, StandsWith, ChannelStands, channel_run, written_run, stage_begun, stage_ended, place_marked, end_marked, EndsOnce}
-use Rattle.mid_logger.specs.PieceFiles.{files_by}
+use Rattle.mid_logger.specs.Channels.{FileHead, FilesHold, FilesLeft, StandsWith, ChannelStands, channel_run, written_run, files_by, stage_begun, stage_ended, place_marked, end_marked, EndsOnce}
 use Rattle.mid_logger.specs.Beside.{LeavesClient, LeavesRunOn}
 use Rattle.mid_logger.proofs.OwnSteps.{own_push, own_client_push}
 use Rattle.mid_logger.proofs.StageSteps.{call_with}
@@ -107,15 +106,15 @@ ended_with Holds Left spec client (Broken run fallen) opened reply own got is on
     let same : run.opened ≡ opened = cc (is) in
     subst (λ (r : ChannelRun). KeptEnded Holds Left spec client (Broken run fallen) own got reply r.start) same (broken_ended Holds Left spec client run.opened run.begun run.ended fallen reply own got stands)
 
--- Where each run has one file.
+-- By what the files hold.
 
 pub begun_kept : (spec : ChannelSpec) (client : Option ℕ) (opened : ChannelRun) (begun : ℕ) (head : FileHead) (own : List BufferEntry) (got : List GotEvent) (seen : Seen) → ChannelStands spec client (Asking opened) head own got seen
     → ChannelStands spec client (Writing opened begun) head (own ++ Begin opened.start (Ok begun) ∷ []) got seen
-begun_kept spec client opened begun head own got seen stands = begun_with (FileHolds spec head seen) (FileLeft spec head seen) spec client opened begun own got stands
+begun_kept spec client opened begun head own got seen stands = begun_with (FilesHold spec head seen) (FilesLeft spec head seen) spec client opened begun own got stands
 
 pub ended_kept : (spec : ChannelSpec) (client : Option ℕ) (stage : ChannelStage) (opened : ChannelRun) (reply : Result ℕ MarkRefusal) (head : FileHead) (own : List BufferEntry) (got : List GotEvent) (seen : Seen) → channel_run stage ≡ Some opened → EndsOnce stage reply
     → ChannelStands spec client stage head own got seen → ChannelStands spec client (stage_ended stage (place_marked reply)) head (own ++ End opened.start reply ∷ []) got seen
-ended_kept spec client stage opened reply head own got seen is once stands = ended_with (FileHolds spec head seen) (FileLeft spec head seen) spec client stage opened reply own got is once stands
+ended_kept spec client stage opened reply head own got seen is once stands = ended_with (FilesHold spec head seen) (FilesLeft spec head seen) spec client stage opened reply own got is once stands
 
 -- The file of the run stays the one that is written.
 

@@ -1,11 +1,11 @@
 -- What one channel of a buffer does where it opens a run leaves what another keeps.
-use Rattle.std.specs.Prelude.{◌≡◌, ◌≢◌, ℕ, true, false, IsTrue, List, [], ◌∷◌, ◌++◌, Option, Some, None, Result, Ok, Err, refl, ⊤}
-use Rattle.std.proofs.Common.{ap, sym, subst, ◌∙◌}
+use Rattle.std.specs.Prelude.{◌≡◌, ◌≢◌, ◌<◌, ℕ, true, false, IsTrue, List, [], ◌∷◌, ◌++◌, Option, Some, None, Result, Ok, Err, refl, ⊤}
+use Rattle.std.proofs.Common.{arith, ap, sym, subst, ◌∙◌}
 use Rattle.daq_types.specs.declared.runs.Kind.TheVariants.{All}
 use Rattle.daq_types.specs.declared.runs.Order.{Order}
 use Rattle.daq_types.specs.declared.runs.Why.{Why}
 use Rattle.daq_types.specs.declared.runs.Why.TheVariants.{NotReady, Exists, Fault, BufferRefused}
-use Rattle.daq_io.specs.Seen.{Seen, Stored, KeepsNumbers, Creates, Same}
+use Rattle.daq_io.specs.Seen.{Seen, Creates, Same}
 use Rattle.buffer_core.specs.declared.replies.NoSlot.{NoSlot}
 use Rattle.buffer_core.specs.declared.replies.RequestRefusal.{RequestRefusal}
 use Rattle.buffer_core.specs.declared.entry.BufferEntry.{BufferEntry}
@@ -16,16 +16,19 @@ use Rattle.member_model.proofs.ReadLaws.{calls_after-push}
 use Rattle.mid_logger.specs.declared.channel_spec.ChannelSpec.{ChannelSpec}
 use Rattle.mid_logger.specs.declared.stage.ChannelRun.{ChannelRun}
 use Rattle.mid_logger.specs.declared.stage.ChannelStage.{ChannelStage}
-use Rattle.mid_logger.specs.declared.stage.ChannelStage.TheVariants.{Idle, Asking, Writing, Draining, Drained, Broken}
-use Rattle.mid_logger.specs.Patterns.{NamePattern, file_name_by}
+use Rattle.mid_logger.specs.declared.stage.ChannelStage.TheVariants.{Idle, Asking}
+use Rattle.mid_logger.specs.Patterns.{file_name_by}
 use Rattle.sub_files.specs.declared.open_file.OpenFile.{OpenFile}
-use Rattle.mid_logger.specs.Channels.{FileHead, IsOwnClient, ChannelStands, channel_run, written_run}
+use Rattle.sub_files.specs.Patterns.{piece_name_by}
+use Rattle.mid_logger.specs.Channels.{FileHead, IsOwnClient, ChannelStands, channel_run, written_run, files_by}
 use Rattle.mid_logger.specs.RecordFiles.{IsGone, UndoesFile}
 use Rattle.mid_logger.specs.ChannelTurns.{logger_name, HasClient, MakesRequest, AsksEvents, ChannelAt, StartsAsking, RefusesRun, OpensBy}
-use Rattle.mid_logger.specs.Beside.{LeavesClient, LeavesNumber, LeavesRunFile, ChannelsApart}
-use Rattle.mid_logger.proofs.StageSteps.{leaves_run, call_beside, files_beside}
+use Rattle.mid_logger.specs.Beside.{LeavesClient, ChannelsApart}
+use Rattle.mid_logger.proofs.StageSteps.{leaves_run, call_beside, files_beside, made_there, last_used}
 use Rattle.mid_logger.proofs.OpenSteps.{NoneTaken, never_given, gave_now, still_none, none_in}
-use Rattle.mid_logger.proofs.BesideSteps.{OtherAt, changed_beside}
+use Rattle.mid_logger.proofs.FileMoves.{not_free}
+use Rattle.mid_logger.proofs.Keeping.{not_gone}
+use Rattle.mid_logger.proofs.BesideSteps.{OtherAt, run_leaves, changed_beside}
 
 -- the clients of two channels differ
 abbrev Differ : (client other : Option ℕ) → Type 0
@@ -96,45 +99,18 @@ asks_beside spec other client later request other_client other_stage other_head 
     let has = attach_beside spec other client later other_client other_stage other_head a asks.middle seen asks.attached (still_none spec later request asks.middle b asks.asked none) is_own differ stands in
     (request_beside spec other later request other_client other_stage other_head asks.middle b seen asks.asked has.is_own has.differ has.stands, has.differ)
 
--- The file of the other channel.
+-- The files of the other channel.
 
-other_name : (pattern : NamePattern) (seen : Seen) (r s : ChannelRun) (x : Stored) → Some r ≡ Some s → seen.at (file_name_by pattern r.run) ≡ Some x → seen.at (file_name_by pattern s.run) ≡ None → ⊥
-other_name pattern seen r s x is there gone =
-    let same : r ≡ s = cc (is) in
-    let here : seen.at (file_name_by pattern s.run) ≡ Some x = subst (λ (k : ChannelRun). seen.at (file_name_by pattern k.run) ≡ Some x) same there in
-    let never : Some x ≡ None = sym here ∙ gone in
-    cc (never)
-
--- where names are told, there is a file of the run
-pub file_there : (other : ChannelSpec) (client : Option ℕ) (stage : ChannelStage) (head : FileHead) (own : List BufferEntry) (got : List GotEvent) (seen : Seen) → ChannelStands other client stage head own got seen
-    → (s : ChannelRun) → channel_run stage ≡ Some s → IsTrue seen.tells → seen.at (file_name_by other.pattern s.run) ≡ None → ⊥
-file_there other client Idle head own got seen stands s is told gone = absurd (cc (is))
-file_there other client (Asking opened) head own got seen stands s is told gone = other_name other.pattern seen opened s _ is (stands.at.holds.file.holds told) gone
-file_there other client (Writing opened begun) head own got seen stands s is told gone = other_name other.pattern seen opened s _ is (stands.at.holds.file.holds told) gone
-file_there other client (Draining run) head own got seen stands s is told gone = other_name other.pattern seen run.opened s _ is (stands.at.holds.file.holds told) gone
-file_there other client (Drained run) head own got seen stands s is told gone = other_name other.pattern seen run.opened s _ is (stands.at.holds.file.holds told) gone
-file_there other client (Broken run fallen) head own got seen stands s is told gone = other_name other.pattern seen run.opened s _ is (stands.at.left.stored.holds told) gone
-
-file_used : (other : ChannelSpec) (client : Option ℕ) (stage : ChannelStage) (head : FileHead) (own : List BufferEntry) (got : List GotEvent) (seen : Seen) → ChannelStands other client stage head own got seen → (s : ChannelRun) → written_run stage ≡ Some s → IsTrue (seen.writes s.at.file)
-file_used other client Idle head own got seen stands s is = absurd (cc (is))
-file_used other client (Asking opened) head own got seen stands s is = let same : opened ≡ s = cc (is) in subst (λ (r : ChannelRun). IsTrue (seen.writes r.at.file)) same stands.at.holds.file.writes
-file_used other client (Writing opened begun) head own got seen stands s is = let same : opened ≡ s = cc (is) in subst (λ (r : ChannelRun). IsTrue (seen.writes r.at.file)) same stands.at.holds.file.writes
-file_used other client (Draining run) head own got seen stands s is = let same : run.opened ≡ s = cc (is) in subst (λ (r : ChannelRun). IsTrue (seen.writes r.at.file)) same stands.at.holds.file.writes
-file_used other client (Drained run) head own got seen stands s is = let same : run.opened ≡ s = cc (is) in subst (λ (r : ChannelRun). IsTrue (seen.writes r.at.file)) same stands.at.holds.file.writes
-file_used other client (Broken run fallen) head own got seen stands s is = absurd (cc (is))
-
--- a name that is free is not that of the other channel's file
+-- a name that is free is none of those of the other channel's files
 names_apart : (other : ChannelSpec) (client : Option ℕ) (stage : ChannelStage) (head : FileHead) (own : List BufferEntry) (got : List GotEvent) (seen : Seen) (name : List ℕ) → IsGone seen name → ChannelStands other client stage head own got seen
-    → (s : ChannelRun) → channel_run stage ≡ Some s → IsTrue seen.tells → name ≢ file_name_by other.pattern s.run
-names_apart other client stage head own got seen name gone stands s is told same =
-    file_there other client stage head own got seen stands s is told (subst (λ (n : List ℕ). seen.at n ≡ None) same (gone told))
+    → (s : ChannelRun) → channel_run stage ≡ Some s → IsTrue seen.tells → (n : ℕ) → n < files_by stage → name ≢ piece_name_by other.pattern s.run n
+names_apart other client stage head own got seen name gone stands s is told n below same =
+    not_gone (seen.at (piece_name_by other.pattern s.run n)) (made_there other client stage head own got seen stands s is told n below) (subst (λ (m : List ℕ). seen.at m ≡ None) same (gone told))
 
 numbers_apart : {seen new : Seen} {name bytes : List ℕ} {n : ℕ} (other : ChannelSpec) (client : Option ℕ) (stage : ChannelStage) (head : FileHead) (own : List BufferEntry) (got : List GotEvent) → Creates seen new name n bytes → ChannelStands other client stage head own got seen
     → (s : ChannelRun) → written_run stage ≡ Some s → n ≢ s.at.file
 numbers_apart {seen} {new} {name} {bytes} {n} other client stage head own got creates stands s is same =
-    let used : seen.writes s.at.file ≡ true = file_used other client stage head own got seen stands s is in
-    let never : true ≡ false = sym used ∙ (ap (λ (k : ℕ). seen.writes k) (sym same) ∙ creates.was_free.writes) in
-    cc (never)
+    not_free seen s.at.file n (last_used other client stage head own got seen stands s is).writes creates.was_free.writes (sym same)
 
 -- A run is opened, or not.
 
@@ -143,18 +119,15 @@ undone_beside : {Rises : ℕ → ℕ → Type 0} (other : ChannelSpec) (client :
 undone_beside other client stage head own got old new name faults later undoes stands =
     changed_beside other client stage head own got old new name undoes.touches (names_apart other client stage head own got old name undoes.fresh stands) (λ s is. undoes.numbers s.at.file) stands
 
-same_number : (old new : Seen) (written : Option ChannelRun) → KeepsNumbers old new → LeavesNumber written old new
-same_number old new None keeps = tt
-same_number old new (Some s) keeps = keeps s.at.file
-
-same_left : (spec : ChannelSpec) (run written : Option ChannelRun) (old new : Seen) → Same old new → LeavesRunFile spec run written old new
-same_left spec None written old new same = tt
-same_left spec (Some s) written old new same = record { tells = same.files.tells; at = λ told. same.files.at (file_name_by spec.pattern s.run); number = same_number old new written same.numbers }
+same_beside : (other : ChannelSpec) (client : Option ℕ) (stage : ChannelStage) (head : FileHead) (own : List BufferEntry) (got : List GotEvent) (old new : Seen) → Same old new → ChannelStands other client stage head own got old → ChannelStands other client stage head own got new
+same_beside other client stage head own got old new same stands =
+    files_beside other client stage head own got old new stands
+    (run_leaves other old new (channel_run stage) (written_run stage) (files_by stage) same.files.tells (λ s is told n below. same.files.at (piece_name_by other.pattern s.run n)) (λ s is. same.numbers s.at.file))
 
 idle_apart : (seen : Seen) (spec : ChannelSpec) (client : Option ℕ) (stage : ChannelStage) (other : ChannelSpec) (other_client : Option ℕ) (other_stage : ChannelStage) → stage ≡ Idle → Differ client other_client → ChannelsApart seen spec client stage other other_client other_stage
 idle_apart seen spec client stage other other_client other_stage idle differ = record {
   clients = differ;
-  names = λ r s is other_is told. absurd (let never : None ≡ Some r = sym (ap (λ (x : ChannelStage). channel_run x) idle) ∙ is in cc (never));
+  names = λ r s is other_is told i j below other_below. absurd (let never : None ≡ Some r = sym (ap (λ (x : ChannelStage). channel_run x) idle) ∙ is in cc (never));
   numbers = λ r s is other_is. absurd (let never : None ≡ Some r = sym (ap (λ (x : ChannelStage). written_run x) idle) ∙ is in cc (never));
 }
 
@@ -162,7 +135,7 @@ refusal_beside : (spec other : ChannelSpec) (name : List ℕ) (why : Why) (a b :
     → OtherAt other other_client other_stage other_head a.port a.files → OtherAt other other_client other_stage other_head b.port b.files × Differ b.client other_client
 refusal_beside spec other name NotReady a b other_client other_stage other_head refuses none is_own differ stands = absurd refuses
 refusal_beside spec other name (Exists channel) a b other_client other_stage other_head refuses none is_own differ stands = (
-  rw refuses.1.port (files_beside other other_client other_stage other_head a.port.own a.port.got a.files b.files stands (same_left other (channel_run other_stage) (written_run other_stage) a.files b.files refuses.2)),
+  rw refuses.1.port (same_beside other other_client other_stage other_head a.port.own a.port.got a.files b.files refuses.2 stands),
   λ c d is other_is. differ c d (sym refuses.1.client ∙ is) other_is,
 )
 refusal_beside spec other name (Fault channel) a b other_client other_stage other_head refuses none is_own differ stands = (
@@ -175,15 +148,17 @@ refusal_beside spec other name BufferRefused a b other_client other_stage other_
 
 -- the run that is opened is apart from the other channel's
 opened_apart : (spec other : ChannelSpec) (order : Order) (a b : ChannelAt) (at : OpenFile) (bytes : List ℕ) (other_client : Option ℕ) (other_stage : ChannelStage) (other_head : FileHead) → Creates a.files b.files (file_name_by spec.pattern order.run) at.file bytes
-    → (starts : StartsAsking spec order at a b) → Differ b.client other_client → OtherAt other other_client other_stage other_head a.port a.files → ChannelsApart b.files spec b.client b.stage other other_client other_stage
-opened_apart spec other order a b at bytes other_client other_stage other_head creates starts differ stands =
+    → at.sub ≡ 0 → (starts : StartsAsking spec order at a b) → Differ b.client other_client → OtherAt other other_client other_stage other_head a.port a.files → ChannelsApart b.files spec b.client b.stage other other_client other_stage
+opened_apart spec other order a b at bytes other_client other_stage other_head creates first starts differ stands =
     let opened : ChannelRun = record { run = order.run; start = order.start; time = order.time; at = at; client = starts.client; request = starts.request } in
     let now : ChannelsApart b.files spec b.client (Asking opened) other other_client other_stage = record {
       clients = differ;
-      names = λ r s is other_is told.
+      names = λ r s is other_is told i j below other_below.
           let same : opened ≡ r = cc (is) in
-          subst (λ (k : ChannelRun). file_name_by spec.pattern k.run ≢ file_name_by other.pattern s.run) same
-          (names_apart other other_client other_stage other_head a.port.own a.port.got a.files (file_name_by spec.pattern order.run) creates.fresh stands s other_is (sym creates.touches.tells ∙ told));
+          let none : 0 ≡ i = omega (arith, below, first) in
+          subst (λ (n : ℕ). piece_name_by spec.pattern r.run n ≢ piece_name_by other.pattern s.run j) none
+          (subst (λ (k : ChannelRun). file_name_by spec.pattern k.run ≢ piece_name_by other.pattern s.run j) same
+          (names_apart other other_client other_stage other_head a.port.own a.port.got a.files (file_name_by spec.pattern order.run) creates.fresh stands s other_is (sym creates.touches.tells ∙ told) j other_below));
       numbers = λ r s is other_is.
           let same : opened ≡ r = cc (is) in
           subst (λ (k : ChannelRun). k.at.file ≢ s.at.file) same (numbers_apart other other_client other_stage other_head a.port.own a.port.got creates stands s other_is);
@@ -198,7 +173,7 @@ opens_beside spec order dump (Ok done) a b head other other_client other_stage o
       changed_beside other other_client other_stage other_head b.port.own b.port.got a.files b.files (file_name_by spec.pattern order.run) opens.makes.touches
           (names_apart other other_client other_stage other_head a.port.own a.port.got a.files (file_name_by spec.pattern order.run) opens.makes.fresh stands)
           (λ s is. opens.makes.others s.at.file (λ same. numbers_apart other other_client other_stage other_head a.port.own a.port.got opens.makes stands s is (sym same))) asks.0,
-      opened_apart spec other order a b opens.at _ other_client other_stage other_head opens.makes opens.asks asks.1 stands,
+      opened_apart spec other order a b opens.at _ other_client other_stage other_head opens.makes (ap (λ (x : OpenFile). x.sub) opens.first) opens.asks asks.1 stands,
     )
 opens_beside spec order dump (Err why) a b head other other_client other_stage other_head opens none idle at apart stands =
     let refused = refusal_beside spec other (file_name_by spec.pattern order.run) why a b other_client other_stage other_head opens.1 (none_in b.port.taken_back none) at.own_client apart.clients stands in

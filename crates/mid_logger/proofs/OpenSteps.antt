@@ -12,7 +12,6 @@ use Rattle.event.specs.RunFile.{IsFileEvent}
 use Rattle.daq_io.specs.declared.folder.NameRefused.{NameRefused}
 use Rattle.daq_io.specs.declared.folder.NameRefused.TheVariants.{Exists as NameTaken, Missing, Failed}
 use Rattle.daq_io.specs.Seen.{Seen}
-use Rattle.daq_io.proofs.SeenLaws.{Creates-IsWritten}
 use Rattle.buffer_core.specs.declared.replies.Received.TheVariants.{Got, Empty, NoClient, SmallBuf}
 use Rattle.buffer_core.specs.declared.entry.BufferEntry.{BufferEntry}
 use Rattle.buffer_core.specs.declared.entry.BufferEntry.TheVariants.{Attach, Detach, Request, Cancel, Send, SendInRun, Receive, Begin, Pause, Resume, End, Level, Accepted}
@@ -25,7 +24,11 @@ use Rattle.mid_logger.specs.declared.stage.ChannelStage.{ChannelStage}
 use Rattle.mid_logger.specs.declared.stage.ChannelStage.TheVariants.{Idle, Asking}
 use Rattle.mid_logger.specs.Patterns.{file_name_by}
 use Rattle.sub_files.specs.declared.open_file.OpenFile.{OpenFile}
-use Rattle.mid_logger.specs.Channels.{FileHead, KeepsOwnCalls, FileHolds, ChannelStands, written_run, IsOpenFile}
+use Rattle.sub_files.specs.Patterns.{piece_name_by}
+use Rattle.sub_files.specs.Pieces.{HoldsRun}
+use Rattle.sub_files.specs.Rolls.{first_file}
+use Rattle.sub_files.proofs.RunEnds.{begun_holds}
+use Rattle.mid_logger.specs.Channels.{FileHead, KeepsOwnCalls, FilesHold, ChannelStands, IsLastOpen, written_run, files_by, series_at}
 use Rattle.mid_logger.specs.ChannelTurns.{logger_name, HasClient, MakesRequest, AsksEvents, ChannelAt, StartsAsking, RefusesRun, OpensBy, IsRefusalOf}
 use Rattle.mid_logger.proofs.OwnSteps.{own_push, own_client_push, gave_stays}
 use Rattle.mid_logger.proofs.StageSteps.{call_beside}
@@ -166,7 +169,7 @@ refused_kept spec client later a b head seen asks none stands =
     no_request_kept spec later asks.middle b head seen asks.asked (attach_kept spec client later a asks.middle head seen asks.attached (still_none spec later None asks.middle b asks.asked none) stands)
 
 asking_kept : (spec : ChannelSpec) (order : Order) (at : OpenFile) (a b : ChannelAt) (before head : FileHead) (seen : Seen) (starts : StartsAsking spec order at a b) → NoneTaken b.port
-    → FileHolds spec head seen (record { run = order.run; start = order.start; time = order.time; at = at; client = starts.client; request = starts.request }) [] → ChannelStands spec a.client Idle before a.port.own a.port.got seen
+    → FilesHold spec head seen (record { run = order.run; start = order.start; time = order.time; at = at; client = starts.client; request = starts.request }) [] → ChannelStands spec a.client Idle before a.port.own a.port.got seen
     → ChannelStands spec b.client b.stage head b.port.own b.port.got seen
 asking_kept spec order at a b before head seen starts none holds stands =
     let opened : ChannelRun = record { run = order.run; start = order.start; time = order.time; at = at; client = starts.client; request = starts.request } in
@@ -202,9 +205,11 @@ pub opened_kept : (spec : ChannelSpec) (order : Order) (dump : List ℕ) (r : Re
     → OnOk r ((before : FileHead) → b.port.taken_back ≡ [] → StandsAt spec a before → StandsAt spec b (head_of order dump))
 opened_kept spec order dump (Err why) a b opens idle small = tt
 opened_kept spec order dump (Ok u) a b opens idle small = λ before none stands.
+    let first : HoldsRun b.files (series_at spec (head_of order dump)) (first_file dump opens.at.file) [] =
+    begun_holds a.files b.files spec.pattern spec.sub_bytes (record { run = order.run; time = order.time }) dump opens.at.file opens.within small opens.makes in
     let at_idle : ChannelStands spec a.client Idle before a.port.own a.port.got a.files = subst (λ (s : ChannelStage). ChannelStands spec a.client s before a.port.own a.port.got a.files) idle stands in
     asking_kept spec order opens.at a b before (head_of order dump) b.files opens.asks (none_in b.port.taken_back none)
-    (record { run = refl; small = small; fine = All-nil IsFileEvent; file = Creates-IsWritten opens.makes })
+    (record { run = refl; time = refl; fine = All-nil IsFileEvent; holds = subst (λ (x : OpenFile). HoldsRun b.files (series_at spec (head_of order dump)) x []) (sym opens.first) first })
     (idle_elsewhere spec a.client before before a.port.own a.port.got a.files b.files at_idle)
 
 refusal_kept : (spec : ChannelSpec) (name : List ℕ) (why : Why) (a b : ChannelAt) (head : FileHead) → RefusesRun why spec name a b → NoneTaken b.port → ChannelStands spec a.client Idle head a.port.own a.port.got a.files
@@ -222,9 +227,22 @@ not_opened_kept spec order dump (Err why) a b opens idle = λ head none stands.
     rw (opens.0, idle) (refusal_kept spec (file_name_by spec.pattern order.run) why a b head opens.1 (none_in b.port.taken_back none) at_idle)
 
 -- the file of the run that was opened is in use for writing, under its name
-pub opened_file : (spec : ChannelSpec) (order : Order) (dump : List ℕ) (r : Result ⊤ Why) (a b : ChannelAt) → OpensBy r spec order dump a b → a.stage ≡ Idle → IsOpenFile b.files spec (written_run b.stage)
-opened_file spec order dump (Ok u) a b opens idle = rw opens.asks.stage (opens.makes.writes, opens.makes.named, ap (λ (x : OpenFile). x.sub) opens.first)
+pub opened_file : (spec : ChannelSpec) (order : Order) (dump : List ℕ) (r : Result ⊤ Why) (a b : ChannelAt) → OpensBy r spec order dump a b → a.stage ≡ Idle → IsLastOpen b.files spec (written_run b.stage)
+opened_file spec order dump (Ok u) a b opens idle =
+    let first : opens.at.sub ≡ 0 = ap (λ (x : OpenFile). x.sub) opens.first in
+    rw opens.asks.stage (record {
+      writes = opens.makes.writes;
+      named = opens.makes.named ∙ ap (λ (n : ℕ). piece_name_by spec.pattern order.run n) (sym first);
+      few = omega (arith, first);
+    })
 opened_file spec order dump (Err why) a b opens idle = rw (opens.0, idle) tt
+
+-- a run that was opened has one file
+pub opened_few : (spec : ChannelSpec) (order : Order) (dump : List ℕ) (r : Result ⊤ Why) (a b : ChannelAt) → OpensBy r spec order dump a b → a.stage ≡ Idle → files_by b.stage ≤ 10000
+opened_few spec order dump (Ok u) a b opens idle =
+    let first : opens.at.sub ≡ 0 = ap (λ (x : OpenFile). x.sub) opens.first in
+    rw opens.asks.stage (omega (arith, first))
+opened_few spec order dump (Err why) a b opens idle = rw (opens.0, idle) (omega arith)
 
 -- Whether the name was taken.
 

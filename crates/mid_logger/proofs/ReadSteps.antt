@@ -1,18 +1,13 @@
 -- What a channel's client reads, with a receive more, and what the file holds then.
-use Rattle.std.specs.Prelude.{◌≡◌, ℕ, nat_lt, take, drop, Bool, true, false, if◌then◌else◌, List, [], ◌∷◌, ◌++◌, Option, Some, None, Result, Ok, refl, ⊤}
-use Rattle.std.proofs.Common.{ap, sym, subst, ◌∙◌, inl, inr, arith, append_assoc}
+use Rattle.std.specs.Prelude.{◌≡◌, ℕ, nat_lt, Bool, true, false, if◌then◌else◌, List, [], ◌∷◌, ◌++◌, Option, Some, None, Result, Ok, refl, ⊤}
+use Rattle.std.proofs.Common.{ap, sym, subst, ◌∙◌, inl, inr, arith}
 use Rattle.std.proofs.lemmas.Bool.Decides.{eqb_tells}
 use Rattle.std.proofs.lemmas.Grind.{common_steps}
-use Rattle.std.proofs.lemmas.List.{append-nil, take-append-drop}
-use Rattle.std.proofs.lemmas.List.Elements.{All-push}
-use mathlib.Core.List.{IsPrefix}
+use Rattle.std.proofs.lemmas.List.{append-nil}
 use Rattle.daq_types.specs.declared.events.Event.{Event}
 use Rattle.daq_types.specs.declared.runs.Kind.TheVariants.{All}
-use Rattle.event.specs.Events.{encoding, all_encoded, is_reserved}
-use Rattle.event.proofs.Events.{all_encoded-append}
-use Rattle.event.specs.RunFile.{begin_record, begun_file, IsFileEvent}
-use Rattle.daq_io.specs.Seen.{Seen, Extends, IsWritten}
-use Rattle.daq_io.proofs.SeenLaws.{IsWritten-Extends}
+use Rattle.event.specs.Events.{is_reserved}
+use Rattle.event.specs.RunFile.{IsFileEvent}
 use Rattle.buffer_core.specs.declared.replies.Received.{Received}
 use Rattle.buffer_core.specs.declared.replies.Received.TheVariants.{Got, Empty, NoClient, SmallBuf}
 use Rattle.buffer_core.specs.declared.replies.RequestRefusal.{RequestRefusal}
@@ -22,10 +17,7 @@ use Rattle.buffer_core.specs.Ports.{GotEvent, IsGiven}
 use Rattle.member_model.specs.OwnCalls.{calls_after, asks, LeavesAsking, KeepsAsking, HasDrained, events_at}
 use Rattle.member_model.specs.ReadRuns.{IsAsking, HasReadRun}
 use Rattle.member_model.proofs.ReadLaws.{reading_push, draining_push, run_read, run_push, calls_after-push}
-use Rattle.mid_logger.specs.declared.channel_spec.ChannelSpec.{ChannelSpec}
-use Rattle.mid_logger.specs.declared.stage.ChannelRun.{ChannelRun}
-use Rattle.mid_logger.specs.Channels.{FileHead, AsksNothing, FileHolds, ReadsUntil, HasReadUntil, HasReadPart, is_in_run, is_behind_end}
-use Rattle.mid_logger.specs.Patterns.{file_name_by}
+use Rattle.mid_logger.specs.Channels.{AsksNothing, ReadsUntil, HasReadUntil, HasReadPart, is_in_run, is_behind_end}
 use Rattle.mid_logger.proofs.OwnSteps.{none_left, calls_after-append, given_by_reply, given_named}
 
 pub leaves_receive : (client room : ℕ) (reply : Received) (receiver : ℕ) → LeavesAsking client (Receive receiver room reply)
@@ -129,26 +121,4 @@ file_event e given = record {
   begins_none = λ is. let never : true ≡ false = subst (λ (id : ℕ). is_reserved id ≡ false) is given.free in cc (never);
   ends_none = λ is. let never : true ≡ false = subst (λ (id : ℕ). is_reserved id ≡ false) is given.free in cc (never);
   small = given.small;
-}
-
-pub begun_file_push : (run time : ℕ) (dump : List ℕ) (events : List Event) (e : Event) → begun_file run time dump events ++ encoding e ≡ begun_file run time dump (events ++ e ∷ [])
-begun_file_push run time dump events e =
-    append_assoc (encoding (begin_record run time dump)) (all_encoded events) (encoding e)
-    ∙ ap (λ (l : List ℕ). encoding (begin_record run time dump) ++ l) (sym (all_encoded-append events (e ∷ []) ∙ ap (λ (l : List ℕ). all_encoded events ++ l) (append-nil (encoding e))))
-
--- what a file has that broke within an event
-pub begun_file_part : (run time : ℕ) (dump : List ℕ) (events : List Event) (e : Event) (count : ℕ) → IsPrefix (begun_file run time dump events ++ take count (encoding e)) (begun_file run time dump (events ++ e ∷ []))
-begun_file_part run time dump events e count = (
-  drop count (encoding e),
-  append_assoc (begun_file run time dump events) (take count (encoding e)) (drop count (encoding e))
-      ∙ (ap (λ (l : List ℕ). begun_file run time dump events ++ l) (take-append-drop count (encoding e)) ∙ begun_file_push run time dump events e),
-)
-
-pub holds_more : (spec : ChannelSpec) (head : FileHead) (seen later : Seen) (opened : ChannelRun) (events : List Event) (e : Event) → IsGiven e → FileHolds spec head seen opened events → Extends seen later opened.at.file (encoding e)
-    → FileHolds spec head later opened (events ++ e ∷ [])
-holds_more spec head seen later opened events e given holds extends = record {
-  run = holds.run;
-  small = holds.small;
-  fine = All-push IsFileEvent events e holds.fine (file_event e given);
-  file = subst (λ (bytes : List ℕ). IsWritten later opened.at.file (file_name_by spec.pattern opened.run) bytes) (begun_file_push head.run head.time head.dump events e) (IsWritten-Extends holds.file extends);
 }

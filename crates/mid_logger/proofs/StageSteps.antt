@@ -1,10 +1,10 @@
 -- What a channel keeps at calls on its port that leave its client, and at changes of other files.
-use Rattle.std.specs.Prelude.{◌≡◌, ◌≢◌, ℕ, nat_le, Bool, IsTrue, List, [], ◌∷◌, ◌++◌, map, Option, Some, None, ◌⊎◌, Ok, refl, ⊤}
+use Rattle.std.specs.Prelude.{◌≡◌, ◌≢◌, ◌<◌, ◌+◌, ℕ, nat_le, Bool, IsTrue, IsSome, List, [], ◌∷◌, ◌++◌, map, Option, Some, None, ◌⊎◌, Ok, refl, ⊤}
 use Rattle.std.proofs.Common.{ap, sym, subst, ◌∙◌, inl, inr, append_assoc}
 use Rattle.std.proofs.lemmas.Bool.Decides.{eqb_tells}
 use Rattle.std.proofs.lemmas.List.{append-nil}
 use Rattle.daq_types.specs.declared.events.Event.{Event}
-use Rattle.daq_io.specs.Seen.{Seen, InUse, IsWritten, IsStored}
+use Rattle.daq_io.specs.Seen.{Seen}
 use Rattle.buffer_core.specs.declared.replies.Received.TheVariants.{Got}
 use Rattle.buffer_core.specs.declared.entry.BufferEntry.{BufferEntry}
 use Rattle.buffer_core.specs.declared.entry.BufferEntry.TheVariants.{Receive, Begin, End}
@@ -18,12 +18,13 @@ use Rattle.mid_logger.specs.declared.stage.BegunRun.{BegunRun}
 use Rattle.mid_logger.specs.declared.stage.ChannelRun.{ChannelRun}
 use Rattle.mid_logger.specs.declared.stage.ChannelStage.{ChannelStage}
 use Rattle.mid_logger.specs.declared.stage.ChannelStage.TheVariants.{Idle, Asking, Writing, Draining, Drained, Broken}
-use Rattle.mid_logger.specs.Patterns.{file_name_by}
 use Rattle.sub_files.specs.declared.open_file.Fallen.{Fallen}
-use Rattle.mid_logger.specs.Channels.{FileHead, AsksNothing, FileHolds, FileLeft, ReadsUntil, ReadingWith, ReadingAt, HasReadUntil, HasReadPart, StageWith, StandsWith, StageAt, ChannelStands, run_begun}
-use Rattle.mid_logger.specs.Beside.{LeavesClient, LeavesRunOn, LeavesFile, LeavesChannelFile}
+use Rattle.sub_files.specs.Patterns.{piece_name_by}
+use Rattle.mid_logger.specs.Channels.{FileHead, AsksNothing, FilesHold, FilesLeft, HasLastOpen, ReadsUntil, ReadingWith, HasReadUntil, HasReadPart, StageWith, StandsWith, ChannelStands, channel_run, written_run, files_by, run_begun, series_at}
+use Rattle.mid_logger.specs.Beside.{LeavesClient, LeavesRunOn, LeavesFiles, LeavesChannelFiles}
 use Rattle.mid_logger.proofs.OwnSteps.{own_push, own_client_push, nothing_push}
 use Rattle.mid_logger.proofs.ReadSteps.{leaves_receive}
+use Rattle.mid_logger.proofs.FilesStay.{Stay, holds_stay, fallen_stay, holds_there, fallen_there}
 
 -- a call that leaves the client, and gives it none of these events
 pub record GoesBeside (client : ℕ) (e : BufferEntry) (gs : List GotEvent) : Type 0 where
@@ -195,49 +196,97 @@ call_with Holds Left spec client stage own got e stands none is_own leaves ends 
 
 pub calls_beside : (spec : ChannelSpec) (client : Option ℕ) (stage : ChannelStage) (head : FileHead) (own : List BufferEntry) (got : List GotEvent) (seen : Seen) (e : BufferEntry) (gs : List GotEvent) → ChannelStands spec client stage head own got seen
     → SendsNone e → IsOwnCall e (calls_after [] own) → LeavesClient client e → LeavesRunOn stage e → name_given e ≡ map name_of gs → ChannelStands spec client stage head (own ++ e ∷ []) (got ++ gs) seen
-calls_beside spec client stage head own got seen e gs stands none is_own leaves ends named = calls_with (FileHolds spec head seen) (FileLeft spec head seen) spec client stage own got e gs stands none is_own leaves ends named
+calls_beside spec client stage head own got seen e gs stands none is_own leaves ends named = calls_with (FilesHold spec head seen) (FilesLeft spec head seen) spec client stage own got e gs stands none is_own leaves ends named
 
 pub call_beside : (spec : ChannelSpec) (client : Option ℕ) (stage : ChannelStage) (head : FileHead) (own : List BufferEntry) (got : List GotEvent) (seen : Seen) (e : BufferEntry) → ChannelStands spec client stage head own got seen
     → SendsNone e → IsOwnCall e (calls_after [] own) → LeavesClient client e → LeavesRunOn stage e → name_given e ≡ [] → ChannelStands spec client stage head (own ++ e ∷ []) got seen
-call_beside spec client stage head own got seen e stands none is_own leaves ends named = call_with (FileHolds spec head seen) (FileLeft spec head seen) spec client stage own got e stands none is_own leaves ends named
+call_beside spec client stage head own got seen e stands none is_own leaves ends named = call_with (FilesHold spec head seen) (FilesLeft spec head seen) spec client stage own got e stands none is_own leaves ends named
 
 -- Files.
 
-in_use : (s : Seen) (n : ℕ) → IsTrue (s.writes n) → InUse s n
-in_use s n h = rw h refl
-
-written_left : {old new : Seen} {name bytes : List ℕ} (opened : ChannelRun) → IsWritten old opened.at.file name bytes → LeavesFile old new name (Some opened) → IsWritten new opened.at.file name bytes
-written_left {old} {new} {name} {bytes} opened p leaves = record {
-  writes = leaves.number.writes ∙ p.writes;
-  named = leaves.number.name (in_use old opened.at.file p.writes) ∙ p.named;
-  holds = λ told. let before : IsTrue old.tells = sym leaves.tells ∙ told in leaves.at before ∙ p.holds before;
+-- the run's files by their head
+pub stay_by : (spec : ChannelSpec) (head : FileHead) (run many : ℕ) (written : Option ChannelRun) (old new : Seen) → head.run ≡ run → LeavesFiles old new (piece_name_by spec.pattern run) many written → Stay old new (series_at spec head) many
+stay_by spec head run many written old new is leaves = record {
+  tells = leaves.tells;
+  at = λ told n below. subst (λ (r : ℕ). new.at (piece_name_by spec.pattern r n) ≡ old.at (piece_name_by spec.pattern r n)) (sym is) (leaves.at told n below);
 }
 
-pub stored_left : {old new : Seen} {name bytes : List ℕ} → IsStored old name bytes → LeavesFile old new name None → IsStored new name bytes
-stored_left {old} p leaves = record { holds = λ told. let before : IsTrue old.tells = sym leaves.tells ∙ told in leaves.at before ∙ p.holds before }
+hold_left : (spec : ChannelSpec) (head : FileHead) (old new : Seen) (opened : ChannelRun) (events : List Event) → FilesHold spec head old opened events → LeavesFiles old new (piece_name_by spec.pattern opened.run) (opened.at.sub + 1) (Some opened) → FilesHold spec head new opened events
+hold_left spec head old new opened events holds leaves = record {
+  run = holds.run;
+  time = holds.time;
+  fine = holds.fine;
+  holds = holds_stay old new (series_at spec head) opened.at events (stay_by spec head opened.run (opened.at.sub + 1) (Some opened) old new holds.run leaves) leaves.number holds.holds;
+}
 
-holds_left : (spec : ChannelSpec) (head : FileHead) (old new : Seen) (opened : ChannelRun) (events : List Event) → FileHolds spec head old opened events → LeavesFile old new (file_name_by spec.pattern opened.run) (Some opened) → FileHolds spec head new opened events
-holds_left spec head old new opened events holds leaves = record { run = holds.run; small = holds.small; fine = holds.fine; file = written_left opened holds.file leaves }
+broken_left : (spec : ChannelSpec) (head : FileHead) (old new : Seen) (opened : ChannelRun) (fallen : Fallen) (events : List Event) → FilesLeft spec head old opened fallen events → LeavesFiles old new (piece_name_by spec.pattern opened.run) fallen.files None
+    → FilesLeft spec head new opened fallen events
+broken_left spec head old new opened fallen events left leaves = record {
+  run = left.run;
+  time = left.time;
+  fine = left.fine;
+  part = fallen_stay old new (series_at spec head) fallen [] events (stay_by spec head opened.run fallen.files None old new left.run leaves) left.part;
+}
 
-broken_left : (spec : ChannelSpec) (head : FileHead) (old new : Seen) (opened : ChannelRun) (fallen : Fallen) (events : List Event) → FileLeft spec head old opened fallen events → LeavesFile old new (file_name_by spec.pattern opened.run) None → FileLeft spec head new opened fallen events
-broken_left spec head old new opened fallen events left leaves =
-    record { bytes = left.bytes; number = left.number; small = left.small; fine = left.fine; stored = stored_left left.stored leaves; front = left.front }
+reading_left : (spec : ChannelSpec) (client : Option ℕ) (run : BegunRun) (head : FileHead) (own : List BufferEntry) (got : List GotEvent) (old new : Seen) → ReadingWith (FilesHold spec head old) spec client run own got
+    → LeavesFiles old new (piece_name_by spec.pattern run.opened.run) (run.opened.at.sub + 1) (Some run.opened) → ReadingWith (FilesHold spec head new) spec client run own got
+reading_left spec client run head own got old new at leaves = record { events = at.events; of = at.of; reads = at.reads; holds = hold_left spec head old new run.opened at.events at.holds leaves }
 
-reading_left : (spec : ChannelSpec) (client : Option ℕ) (run : BegunRun) (head : FileHead) (own : List BufferEntry) (got : List GotEvent) (old new : Seen) → ReadingAt spec client run head own got old
-    → LeavesFile old new (file_name_by spec.pattern run.opened.run) (Some run.opened) → ReadingAt spec client run head own got new
-reading_left spec client run head own got old new at leaves = record { events = at.events; of = at.of; reads = at.reads; holds = holds_left spec head old new run.opened at.events at.holds leaves }
-
-stage_left : (spec : ChannelSpec) (client : Option ℕ) (stage : ChannelStage) (head : FileHead) (own : List BufferEntry) (got : List GotEvent) (old new : Seen) → StageAt spec client stage head own got old → LeavesChannelFile spec stage old new
-    → StageAt spec client stage head own got new
+stage_left : (spec : ChannelSpec) (client : Option ℕ) (stage : ChannelStage) (head : FileHead) (own : List BufferEntry) (got : List GotEvent) (old new : Seen) → StageWith (FilesHold spec head old) (FilesLeft spec head old) spec client stage own got → LeavesChannelFiles spec stage old new
+    → StageWith (FilesHold spec head new) (FilesLeft spec head new) spec client stage own got
 stage_left spec client Idle head own got old new at leaves = at
-stage_left spec client (Asking opened) head own got old new at leaves = record { of = at.of; asking = at.asking; holds = holds_left spec head old new opened [] at.holds leaves }
+stage_left spec client (Asking opened) head own got old new at leaves = record { of = at.of; asking = at.asking; holds = hold_left spec head old new opened [] at.holds leaves }
 stage_left spec client (Writing opened begun) head own got old new at leaves = reading_left spec client (run_begun opened begun) head own got old new at leaves
 stage_left spec client (Draining run) head own got old new at leaves = reading_left spec client run head own got old new at leaves
 stage_left spec client (Drained run) head own got old new at leaves =
-    record { events = at.events; of = at.of; nothing = at.nothing; reads = at.reads; holds = holds_left spec head old new run.opened at.events at.holds leaves }
+    record { events = at.events; of = at.of; nothing = at.nothing; reads = at.reads; holds = hold_left spec head old new run.opened at.events at.holds leaves }
 stage_left spec client (Broken run fallen) head own got old new at leaves =
     record { events = at.events; of = at.of; nothing = at.nothing; reads = at.reads; left = broken_left spec head old new run.opened fallen at.events at.left leaves }
 
 pub files_beside : (spec : ChannelSpec) (client : Option ℕ) (stage : ChannelStage) (head : FileHead) (own : List BufferEntry) (got : List GotEvent) (old new : Seen) → ChannelStands spec client stage head own got old
-    → LeavesChannelFile spec stage old new → ChannelStands spec client stage head own got new
+    → LeavesChannelFiles spec stage old new → ChannelStands spec client stage head own got new
 files_beside spec client stage head own got old new stands leaves = record { port = stands.port; own_client = stands.own_client; at = stage_left spec client stage head own got old new stands.at leaves }
+
+-- Each file that was made is there.
+
+there_by : (spec : ChannelSpec) (head : FileHead) (run n : ℕ) (seen : Seen) → head.run ≡ run → IsSome (seen.at (piece_name_by spec.pattern head.run n)) → IsSome (seen.at (piece_name_by spec.pattern run n))
+there_by spec head run n seen is there = subst (λ (r : ℕ). IsSome (seen.at (piece_name_by spec.pattern r n))) is there
+
+hold_there : (spec : ChannelSpec) (head : FileHead) (seen : Seen) (opened r : ChannelRun) (events : List Event) (n : ℕ) → FilesHold spec head seen opened events → Some opened ≡ Some r → IsTrue seen.tells → n < opened.at.sub + 1 → IsSome (seen.at (piece_name_by spec.pattern r.run n))
+hold_there spec head seen opened r events n holds is told below =
+    let same : opened ≡ r = cc (is) in
+    subst (λ (x : ChannelRun). IsSome (seen.at (piece_name_by spec.pattern x.run n))) same (there_by spec head opened.run n seen holds.run (holds_there seen (series_at spec head) opened.at events n holds.holds told below))
+
+left_there : (spec : ChannelSpec) (head : FileHead) (seen : Seen) (opened r : ChannelRun) (fallen : Fallen) (events : List Event) (n : ℕ) → FilesLeft spec head seen opened fallen events → Some opened ≡ Some r → IsTrue seen.tells → n < fallen.files
+    → IsSome (seen.at (piece_name_by spec.pattern r.run n))
+left_there spec head seen opened r fallen events n left is told below =
+    let same : opened ≡ r = cc (is) in
+    subst (λ (x : ChannelRun). IsSome (seen.at (piece_name_by spec.pattern x.run n))) same (there_by spec head opened.run n seen left.run (fallen_there seen (series_at spec head) fallen [] events n left.part told below))
+
+pub made_there : (spec : ChannelSpec) (client : Option ℕ) (stage : ChannelStage) (head : FileHead) (own : List BufferEntry) (got : List GotEvent) (seen : Seen) → ChannelStands spec client stage head own got seen → (r : ChannelRun) → channel_run stage ≡ Some r
+    → IsTrue seen.tells → (n : ℕ) → n < files_by stage → IsSome (seen.at (piece_name_by spec.pattern r.run n))
+made_there spec client Idle head own got seen stands r is told n below = absurd (cc (is))
+made_there spec client (Asking opened) head own got seen stands r is told n below = hold_there spec head seen opened r _ n stands.at.holds is told below
+made_there spec client (Writing opened begun) head own got seen stands r is told n below = hold_there spec head seen opened r _ n stands.at.holds is told below
+made_there spec client (Draining run) head own got seen stands r is told n below = hold_there spec head seen run.opened r _ n stands.at.holds is told below
+made_there spec client (Drained run) head own got seen stands r is told n below = hold_there spec head seen run.opened r _ n stands.at.holds is told below
+made_there spec client (Broken run fallen) head own got seen stands r is told n below = left_there spec head seen run.opened r fallen _ n stands.at.left is told below
+
+hold_used : (spec : ChannelSpec) (head : FileHead) (seen : Seen) (opened r : ChannelRun) (events : List Event) → FilesHold spec head seen opened events → Some opened ≡ Some r → HasLastOpen seen spec r
+hold_used spec head seen opened r events holds is =
+    let same : opened ≡ r = cc (is) in
+    let here : HasLastOpen seen spec opened = record {
+      writes = holds.holds.file.writes;
+      named = subst (λ (n : ℕ). seen.name_of opened.at.file ≡ piece_name_by spec.pattern n opened.at.sub) holds.run holds.holds.file.named;
+      few = holds.holds.few;
+    } in
+    subst (λ (x : ChannelRun). HasLastOpen seen spec x) same here
+
+-- the last file is in use for writing, under its name
+pub last_used : (spec : ChannelSpec) (client : Option ℕ) (stage : ChannelStage) (head : FileHead) (own : List BufferEntry) (got : List GotEvent) (seen : Seen) → ChannelStands spec client stage head own got seen → (r : ChannelRun) → written_run stage ≡ Some r → HasLastOpen seen spec r
+last_used spec client Idle head own got seen stands r is = absurd (cc (is))
+last_used spec client (Asking opened) head own got seen stands r is = hold_used spec head seen opened r _ stands.at.holds is
+last_used spec client (Writing opened begun) head own got seen stands r is = hold_used spec head seen opened r _ stands.at.holds is
+last_used spec client (Draining run) head own got seen stands r is = hold_used spec head seen run.opened r _ stands.at.holds is
+last_used spec client (Drained run) head own got seen stands r is = hold_used spec head seen run.opened r _ stands.at.holds is
+last_used spec client (Broken run fallen) head own got seen stands r is = absurd (cc (is))

@@ -1,23 +1,26 @@
--- What a channel does where a run is called off, or its file is ended.
-use Rattle.std.specs.Prelude.{◌≡◌, ◌≤◌, ℕ, length, All, List, [], ◌++◌, Option, Some, None, ◌⊎◌, ⊤}
-use mathlib.Core.List.{IsPrefix}
+-- What a channel does where a run is called off, or its files are ended.
+use Rattle.std.specs.Prelude.{◌≡◌, ◌≤◌, ℕ, ◌+◌, ◌-◌, All, List, [], Option, Some, None, Result, Ok, Err, ◌⊎◌, ⊤}
 use Rattle.daq_types.specs.declared.events.Event.{Event}
+use Rattle.daq_types.specs.declared.runs.ChannelEnd.{ChannelEnd}
 use Rattle.daq_types.specs.declared.runs.ChannelState.{ChannelState}
 use Rattle.daq_types.specs.declared.runs.ChannelState.TheVariants.{Ended, NoEnd, NoMark, Broken as IsBroken, Idle as IsIdle, Writing as IsWriting}
-use Rattle.event.specs.Events.{encoding, record_limit}
-use Rattle.event.specs.RunFile.{begun_file, end_record, IsFileEvent}
-use Rattle.daq_io.specs.Counts.{Rose}
-use Rattle.daq_io.specs.Seen.{Seen, Touches, KeepsNumbers, Closes, IsStored}
+use Rattle.event.specs.Events.{encoding}
+use Rattle.event.specs.RunFile.{end_record, IsFileEvent}
+use Rattle.daq_io.specs.Counts.{Rose, first_of}
+use Rattle.daq_io.specs.Seen.{Seen, Closes}
 use Rattle.buffer_core.specs.declared.entry.BufferEntry.{BufferEntry}
 use Rattle.buffer_core.specs.Ports.{Access, GotEvent}
+use Rattle.sub_files.specs.declared.open_file.Fallen.{Fallen}
+use Rattle.sub_files.specs.Patterns.{piece_name_by}
+use Rattle.sub_files.specs.Pieces.{HasRun, HasPart}
+use Rattle.sub_files.specs.RecordFiles.{ClosesPart, RemovesNames, AreGone, LeavesForFaults, NamesMore, NamesOneOf}
+use Rattle.sub_files.specs.Rolls.{fallen_at}
 use Rattle.mid_logger.specs.declared.channel_spec.ChannelSpec.{ChannelSpec}
 use Rattle.mid_logger.specs.declared.stage.ChannelRun.{ChannelRun}
 use Rattle.mid_logger.specs.declared.stage.BegunRun.{BegunRun}
 use Rattle.mid_logger.specs.declared.stage.ChannelStage.{ChannelStage}
 use Rattle.mid_logger.specs.declared.stage.ChannelStage.TheVariants.{Idle, Asking, Writing, Draining, Drained, Broken}
-use Rattle.mid_logger.specs.Patterns.{file_name_by}
-use Rattle.mid_logger.specs.Channels.{FileHead, CancelsRequest, ClosesPart, HasReadUntil, HasReadPart}
-use Rattle.mid_logger.specs.RecordFiles.{DropsFile, IsGone}
+use Rattle.mid_logger.specs.Channels.{FileHead, CancelsRequest, HasReadUntil, HasReadPart, files_by, series_at}
 
 -- Calling off.
 
@@ -26,14 +29,47 @@ abbrev pub CancelsStanding : Option ChannelRun → (a b : Access) → Type 0
 CancelsStanding None a b = b ≡ a
 CancelsStanding (Some opened) a b = CancelsRequest a b opened
 
--- The file of the run that is written is closed and removed, or that of the run that broke off is removed; but where that
--- failed it may stay. Where there is neither, nothing is done.
-abbrev pub RemovesFile : (written : Option ChannelRun) → (broken : Option BegunRun) → ChannelSpec → (a b : Seen) → (faults later : ℕ) → Type 0
-RemovesFile (Some opened) broken spec a b faults later =
-    DropsFile a b opened.at.file (file_name_by spec.pattern opened.run) × (IsGone b (file_name_by spec.pattern opened.run) ⊎ Rose faults later)
-RemovesFile None (Some run) spec a b faults later =
-    Touches a b (file_name_by spec.pattern run.opened.run) × KeepsNumbers a b × (IsGone b (file_name_by spec.pattern run.opened.run) ⊎ Rose faults later)
-RemovesFile None None spec a b faults later = (b ≡ a) × (later ≡ faults)
+-- the last file, if it is being written, is closed
+abbrev pub ClosesOpen : Option ChannelRun → (a b : Seen) → Type 0
+ClosesOpen None a b = b ≡ a
+ClosesOpen (Some opened) a b = Closes a b opened.at.file []
+
+-- the name of the last file, if it is being written
+abbrev pub name_written : Seen → Option ChannelRun → List ℕ
+name_written seen None = []
+name_written seen (Some opened) = seen.name_of opened.at.file
+
+-- one result and then another: the first failure, if there is one
+abbrev pub both_done : {E : Type 0} → (first second : Result ⊤ E) → Result ⊤ E
+both_done (Ok done) second = second
+both_done (Err why) second = Err why
+
+-- The last file, if it is being written, is closed, and the files of the run are removed, so many. No more of them may stay than calls to
+-- remove one failed; and where no call failed, none does.
+pub record DropsRun (spec : ChannelSpec) (written : Option ChannelRun) (run many : ℕ) (a b : Seen) (faults later : ℕ) : Type 0 where
+  pub closed : Seen
+  pub between : ℕ
+  pub closes : ClosesOpen written a closed
+  pub counted : faults ≤ between
+  pub removes : RemovesNames (piece_name_by spec.pattern run) many closed b
+  pub leaves : LeavesForFaults (piece_name_by spec.pattern run) many b between later
+  pub gone : AreGone b (piece_name_by spec.pattern run) many ⊎ Rose faults later
+
+-- All files of the channel's run are removed, so many. Where it has none, nothing is done.
+abbrev pub RemovesRun : (run written : Option ChannelRun) → ChannelSpec → (many : ℕ) → (a b : Seen) → (faults later : ℕ) → Type 0
+RemovesRun None written spec many a b faults later = (b ≡ a) × (later ≡ faults)
+RemovesRun (Some opened) written spec many a b faults later = DropsRun spec written opened.run many a b faults later
+
+-- the first fault is that of the file that is written, where there was none before
+abbrev pub NamesOpen : ChannelSpec → (written : Option ChannelRun) → (old new : Option (List ℕ)) → Type 0
+NamesOpen spec None old new = ⊥
+NamesOpen spec (Some opened) old new = new ≡ first_of old (piece_name_by spec.pattern opened.run opened.at.sub)
+
+-- the first fault is that of one of the run's files, where there was none before and one is counted now
+abbrev pub NamesRun : ChannelSpec → (run written : Option ChannelRun) → (many : ℕ) → (old new : Option (List ℕ)) → Type 0
+NamesRun spec None written many old new = new ≡ old
+NamesRun spec (Some opened) written many old new =
+    (new ≡ old) ⊎ (NamesOpen spec written old new ⊎ NamesOneOf (piece_name_by spec.pattern opened.run) many old new)
 
 -- Ending a file.
 
@@ -75,37 +111,60 @@ abbrev pub ClosesFile : Option BegunRun → ChannelStage → ChannelState → (t
 ClosesFile (Some run) stage state time dump a b faults later = ClosesRead state run time dump a b faults later
 ClosesFile None stage state time dump a b faults later = (state ≡ state_otherwise stage) × (b ≡ a) × (later ≡ faults)
 
--- What a file has that was ended.
+-- the first fault is that of the file that was ended, where there was none before
+abbrev pub EndNames : ChannelSpec → (drained : Option BegunRun) → (old new : Option (List ℕ)) → Type 0
+EndNames spec None old new = new ≡ old
+EndNames spec (Some run) old new = NamesMore (piece_name_by spec.pattern run.opened.run run.opened.at.sub) old new
 
--- The client read the run, and the closed file has the begin record, the events that it got, and the last bytes.
-pub record HasClosed (spec : ChannelSpec) (head : FileHead) (run : BegunRun) (time : ℕ) (dump : Option (List ℕ)) (own : List BufferEntry) (got : List GotEvent) (seen : Seen) : Type 0 where
+-- how many files of its run have both records and were closed without a fault, once the last is ended and this is told of it
+abbrev pub framed_by : ChannelStage → ChannelState → ℕ
+framed_by (Drained run) Ended = run.opened.at.sub + 1
+framed_by (Broken run fallen) state = fallen.framed
+framed_by stage state = files_by stage - 1
+
+-- what is told of a channel once its files are ended
+abbrev pub end_of : ChannelStage → ChannelState → ChannelEnd
+end_of stage state = record { state = state; files = files_by stage; framed = framed_by stage state }
+
+-- What the files have that were ended.
+
+-- The client read the run, and the files are closed, so many: they have the events that it got, cut into pieces, and the last one
+-- ends with the last bytes.
+pub record HasClosed (spec : ChannelSpec) (head : FileHead) (run : BegunRun) (files : ℕ) (time : ℕ) (dump : Option (List ℕ)) (own : List BufferEntry) (got : List GotEvent) (seen : Seen) : Type 0 where
   pub events : List Event
   pub number : head.run ≡ run.opened.run
-  pub small : length head.dump ≤ record_limit
+  pub began : head.time ≡ run.opened.time
   pub fine : All IsFileEvent events
   pub reads : HasReadUntil run.ended own got run.opened.client spec.id spec.mask run.opened.request run.opened.start run.begun events
-  pub file : IsStored seen (file_name_by spec.pattern run.opened.run) (begun_file head.run head.time head.dump events ++ last_bytes run.opened.run run.ended time dump)
+  pub stored : HasRun seen (series_at spec head) files run.opened.at.taken (last_bytes run.opened.run run.ended time dump) events
 
--- The client read a part of the run, and the closed file has a first part of the begin record and the events that it got; or
--- it read the run, and the file has a first part of those and of the last bytes.
-pub record HasBroken (spec : ChannelSpec) (head : FileHead) (run : BegunRun) (time : ℕ) (dump : Option (List ℕ)) (own : List BufferEntry) (got : List GotEvent) (seen : Seen) : Type 0 where
+-- The client read a part of the run, and the files have a first part of the events that it got, cut into pieces; or it read the
+-- run, and the files have that, and a first part of the last bytes.
+pub record HasBroken (spec : ChannelSpec) (head : FileHead) (run : BegunRun) (fallen : Fallen) (time : ℕ) (dump : Option (List ℕ)) (own : List BufferEntry) (got : List GotEvent) (seen : Seen) : Type 0 where
   pub events : List Event
-  pub bytes : List ℕ
   pub number : head.run ≡ run.opened.run
-  pub small : length head.dump ≤ record_limit
+  pub began : head.time ≡ run.opened.time
   pub fine : All IsFileEvent events
-  pub stored : IsStored seen (file_name_by spec.pattern run.opened.run) bytes
-  pub reads : (HasReadPart run.ended own got run.opened.client spec.id spec.mask run.opened.request run.opened.start run.begun events × IsPrefix bytes (begun_file head.run head.time head.dump events))
+  pub reads : (HasReadPart run.ended own got run.opened.client spec.id spec.mask run.opened.request run.opened.start run.begun events × HasPart seen (series_at spec head) fallen [] events)
       ⊎ (HasReadUntil run.ended own got run.opened.client spec.id spec.mask run.opened.request run.opened.start run.begun events
-      × IsPrefix bytes (begun_file head.run head.time head.dump events ++ last_bytes run.opened.run run.ended time dump))
+      × HasPart seen (series_at spec head) fallen (last_bytes run.opened.run run.ended time dump) events)
 
--- what stands of a run that was read, by the state of its file
-abbrev pub HasLeftRead : ChannelState → ChannelSpec → FileHead → BegunRun → (time : ℕ) → (dump : Option (List ℕ)) → List BufferEntry → List GotEvent → Seen → Type 0
-HasLeftRead IsBroken spec head run time dump own got seen = HasBroken spec head run time dump own got seen
-HasLeftRead state spec head run time dump own got seen = HasClosed spec head run time dump own got seen
+-- what stands of a run of which this was told, with this state
+abbrev pub HasLeftSo : ChannelState → ChannelEnd → ChannelSpec → FileHead → BegunRun → (time : ℕ) → (dump : Option (List ℕ)) → List BufferEntry → List GotEvent → Seen → Type 0
+HasLeftSo IsBroken told spec head run time dump own got seen = HasBroken spec head run (fallen_at told.files told.framed) time dump own got seen
+HasLeftSo state told spec head run time dump own got seen = HasClosed spec head run told.files time dump own got seen
 
--- what stands of a channel's run once its state was answered
-abbrev pub HasLeft : (drained broken : Option BegunRun) → ChannelState → ChannelSpec → FileHead → (time : ℕ) → (dump : Option (List ℕ)) → List BufferEntry → List GotEvent → Seen → Type 0
-HasLeft (Some run) broken state spec head time dump own got seen = HasLeftRead state spec head run time dump own got seen
-HasLeft None (Some run) state spec head time dump own got seen = HasBroken spec head run time dump own got seen
-HasLeft None None state spec head time dump own got seen = ⊤
+-- what stands of a run of which this was told
+abbrev pub HasLeftRead : ChannelEnd → ChannelSpec → FileHead → BegunRun → (time : ℕ) → (dump : Option (List ℕ)) → List BufferEntry → List GotEvent → Seen → Type 0
+HasLeftRead told spec head run time dump own got seen = HasLeftSo told.state told spec head run time dump own got seen
+
+-- the run of which files are left: the one that was read, or that broke off
+abbrev pub left_run : ChannelStage → Option BegunRun
+left_run (Drained run) = Some run
+left_run (Broken run fallen) = Some run
+left_run stage = None
+
+-- what stands of the run of which files are left, if there is one
+abbrev pub HasLeft : Option BegunRun → ChannelEnd → ChannelSpec → FileHead → (time : ℕ) → (dump : Option (List ℕ)) → List BufferEntry → List GotEvent → Seen → Type 0
+HasLeft (Some run) told spec head time dump own got seen = HasLeftRead told spec head run time dump own got seen
+HasLeft None told spec head time dump own got seen = ⊤

@@ -1,5 +1,5 @@
 -- What a channel does where a run is started.
-use Rattle.std.specs.Prelude.{◌≡◌, ◌≤◌, ℕ, codes, Bool, true, Result, Ok, Err, List, [], Option, Some, None, ◌⊎◌, ⊤}
+use Rattle.std.specs.Prelude.{◌≡◌, ◌≤◌, ◌<◌, ◌^◌, ℕ, codes, Bool, true, Result, Ok, Err, List, [], Option, Some, None, ◌⊎◌, ⊤}
 use Rattle.daq_types.specs.declared.runs.Kind.TheVariants.{All}
 use Rattle.daq_types.specs.declared.runs.Order.{Order}
 use Rattle.daq_types.specs.declared.runs.Why.{Why}
@@ -85,6 +85,7 @@ pub record StartsAsking (spec : ChannelSpec) (order : Order) (at : OpenFile) (a 
 -- The run is opened: its first file is made and has the begin record, and the channel asks for its events.
 pub record OpensRun (spec : ChannelSpec) (order : Order) (dump : List ℕ) (a b : ChannelAt) : Type 0 where
   pub at : OpenFile
+  pub within : spec.sub_bytes < 2 ^ 32
   pub first : at ≡ first_file dump at.file
   pub makes : Creates a.files b.files (file_name_by spec.pattern order.run) at.file (begun_file order.run order.time dump [])
   pub asks : StartsAsking spec order at a b

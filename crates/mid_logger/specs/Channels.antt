@@ -1,10 +1,8 @@
 -- A channel of the logger: its calls on the buffer that it reads, what it got there, and its files.
-use Rattle.std.specs.Prelude.{◌≡◌, ◌≤◌, ℕ, nat_le, Bool, false, true, IsTrue, length, All, Result, Ok, Err, List, [], Option, Some, None, ⊤}
-use mathlib.Core.List.{IsPrefix}
+use Rattle.std.specs.Prelude.{◌≡◌, ◌≤◌, ◌+◌, ℕ, nat_le, Bool, false, true, IsTrue, IsSome, All, Result, Ok, Err, List, [], Option, Some, None, ⊤}
 use Rattle.daq_types.specs.declared.events.Event.{Event}
-use Rattle.event.specs.Events.{record_limit}
-use Rattle.event.specs.RunFile.{begun_file, IsFileEvent}
-use Rattle.daq_io.specs.Seen.{Seen, IsWritten, IsStored}
+use Rattle.event.specs.RunFile.{IsFileEvent}
+use Rattle.daq_io.specs.Seen.{Seen}
 use Rattle.buffer_core.specs.declared.entry.BufferEntry.{BufferEntry}
 use Rattle.buffer_core.specs.declared.entry.BufferEntry.TheVariants.{Cancel}
 use Rattle.buffer_core.specs.declared.replies.RequestRefusal.{RequestRefusal}
@@ -20,7 +18,10 @@ use Rattle.mid_logger.specs.declared.stage.BegunRun.{BegunRun}
 use Rattle.mid_logger.specs.declared.stage.ChannelStage.{ChannelStage}
 use Rattle.mid_logger.specs.declared.stage.ChannelStage.TheVariants.{Idle, Asking, Writing, Draining, Drained, Broken}
 use Rattle.sub_files.specs.declared.open_file.Fallen.{Fallen}
-use Rattle.mid_logger.specs.Patterns.{file_name_by}
+use Rattle.sub_files.specs.declared.open_file.OpenFile.{OpenFile}
+use Rattle.sub_files.specs.Cuts.{last_number}
+use Rattle.sub_files.specs.Patterns.{piece_name_by}
+use Rattle.sub_files.specs.Pieces.{Series, HoldsRun, HasPart, series_of}
 pub use Rattle.sub_files.specs.RecordFiles.{ClosesPart}
 
 -- the run number, the time and the dump of the record that begins a run's file
@@ -44,22 +45,25 @@ abbrev pub AsksNothing : Option ℕ → List BufferEntry → Type 0
 AsksNothing None own = ⊤
 AsksNothing (Some client) own = (n : ℕ) → asks (calls_after [] own) client n ≡ false
 
--- The file of the open run, its only one, is being written, and has the begin record and these events, which may stand in a run
--- file.
-pub record FileHolds (spec : ChannelSpec) (head : FileHead) (seen : Seen) (opened : ChannelRun) (events : List Event) : Type 0 where
-  pub run : head.run ≡ opened.run
-  pub small : length head.dump ≤ record_limit
-  pub fine : All IsFileEvent events
-  pub file : IsWritten seen opened.at.file (file_name_by spec.pattern opened.run) (begun_file head.run head.time head.dump events)
+-- What all files of the run with this head have in common: their names, the most bytes of a file, where 0 is no limit, and the
+-- record that begins each of them.
+abbrev pub series_at : ChannelSpec → FileHead → Series
+series_at spec head = series_of spec.pattern spec.sub_bytes (record { run = head.run; time = head.time }) head.dump
 
--- The only file of the run that broke off is closed and begins as one does that has the begin record and these events.
-pub record FileLeft (spec : ChannelSpec) (head : FileHead) (seen : Seen) (opened : ChannelRun) (fallen : Fallen) (events : List Event) : Type 0 where
-  pub bytes : List ℕ
-  pub number : head.run ≡ opened.run
-  pub small : length head.dump ≤ record_limit
+-- The files of the open run hold these events, which may stand in run files: they are cut into pieces, one for each file, and the
+-- last piece is being written.
+pub record FilesHold (spec : ChannelSpec) (head : FileHead) (seen : Seen) (opened : ChannelRun) (events : List Event) : Type 0 where
+  pub run : head.run ≡ opened.run
+  pub time : head.time ≡ opened.time
   pub fine : All IsFileEvent events
-  pub stored : IsStored seen (file_name_by spec.pattern opened.run) bytes
-  pub front : IsPrefix bytes (begun_file head.run head.time head.dump events)
+  pub holds : HoldsRun seen (series_at spec head) opened.at events
+
+-- The files of the run that broke off are closed, and have a first part of these events, which is cut into pieces.
+pub record FilesLeft (spec : ChannelSpec) (head : FileHead) (seen : Seen) (opened : ChannelRun) (fallen : Fallen) (events : List Event) : Type 0 where
+  pub run : head.run ≡ opened.run
+  pub time : head.time ≡ opened.time
+  pub fine : All IsFileEvent events
+  pub part : HasPart seen (series_at spec head) fallen [] events
 
 -- How far a channel is, where `Holds` says what its files hold that are being written, and `Left` what those have that broke off.
 
@@ -131,24 +135,20 @@ pub record StandsWith (Holds : ChannelRun → List Event → Type 0) (Left : Cha
   pub own_client : IsOwnClient client own
   pub at : StageWith Holds Left spec client stage own got
 
--- A channel of which each run has one file.
-
-abbrev pub ReadingAt : ChannelSpec → Option ℕ → BegunRun → FileHead → List BufferEntry → List GotEvent → Seen → Type 0
-ReadingAt spec client run head own got seen = ReadingWith (FileHolds spec head seen) spec client run own got
-
-abbrev pub DrainedAt : ChannelSpec → Option ℕ → BegunRun → FileHead → List BufferEntry → List GotEvent → Seen → Type 0
-DrainedAt spec client run head own got seen = DrainedWith (FileHolds spec head seen) spec client run own got
-
-abbrev pub BrokenAt : ChannelSpec → Option ℕ → BegunRun → Fallen → FileHead → List BufferEntry → List GotEvent → Seen → Type 0
-BrokenAt spec client run fallen head own got seen = BrokenWith (FileLeft spec head seen) spec client run fallen own got
-
-abbrev pub StageAt : ChannelSpec → Option ℕ → ChannelStage → FileHead → List BufferEntry → List GotEvent → Seen → Type 0
-StageAt spec client stage head own got seen = StageWith (FileHolds spec head seen) (FileLeft spec head seen) spec client stage own got
-
+-- a channel, with the calls of the logger on its buffer, what the logger got there, and the files of its run
 abbrev pub ChannelStands : ChannelSpec → Option ℕ → ChannelStage → FileHead → List BufferEntry → List GotEvent → Seen → Type 0
-ChannelStands spec client stage head own got seen = StandsWith (FileHolds spec head seen) (FileLeft spec head seen) spec client stage own got
+ChannelStands spec client stage head own got seen = StandsWith (FilesHold spec head seen) (FilesLeft spec head seen) spec client stage own got
 
--- the run whose file is being written
+-- the run that the channel writes, or broke off
+abbrev pub channel_run : ChannelStage → Option ChannelRun
+channel_run Idle = None
+channel_run (Asking opened) = Some opened
+channel_run (Writing opened begun) = Some opened
+channel_run (Draining run) = Some run.opened
+channel_run (Drained run) = Some run.opened
+channel_run (Broken run fallen) = Some run.opened
+
+-- the run whose last file is being written
 abbrev pub written_run : ChannelStage → Option ChannelRun
 written_run Idle = None
 written_run (Asking opened) = Some opened
@@ -157,16 +157,40 @@ written_run (Draining run) = Some run.opened
 written_run (Drained run) = Some run.opened
 written_run (Broken run fallen) = None
 
--- the file of the run, if there is one, is the first one, and in use for writing, under its name
-abbrev pub IsOpenFile : Seen → ChannelSpec → Option ChannelRun → Type 0
-IsOpenFile seen spec None = ⊤
-IsOpenFile seen spec (Some opened) =
-    IsTrue (seen.writes opened.at.file) × (seen.name_of opened.at.file ≡ file_name_by spec.pattern opened.run) × (opened.at.sub ≡ 0)
+-- The last file of the run is in use for writing, under its name, and its number is one that a file may have.
+pub record HasLastOpen (seen : Seen) (spec : ChannelSpec) (opened : ChannelRun) : Type 0 where
+  pub writes : IsTrue (seen.writes opened.at.file)
+  pub named : seen.name_of opened.at.file ≡ piece_name_by spec.pattern opened.run opened.at.sub
+  pub few : opened.at.sub ≤ last_number
 
--- the name of the file of this run, if there is one
-abbrev pub channel_file : ChannelSpec → Option ChannelRun → List ℕ
-channel_file spec None = []
-channel_file spec (Some opened) = file_name_by spec.pattern opened.run
+-- so it is with the run, if there is one
+abbrev pub IsLastOpen : Seen → ChannelSpec → Option ChannelRun → Type 0
+IsLastOpen seen spec None = ⊤
+IsLastOpen seen spec (Some opened) = HasLastOpen seen spec opened
+
+-- how many files of its run the channel has made
+abbrev pub files_by : ChannelStage → ℕ
+files_by Idle = 0
+files_by (Asking opened) = opened.at.sub + 1
+files_by (Writing opened begun) = opened.at.sub + 1
+files_by (Draining run) = run.opened.at.sub + 1
+files_by (Drained run) = run.opened.at.sub + 1
+files_by (Broken run fallen) = fallen.files
+
+-- the open run, with this file being written
+abbrev pub run_at : BegunRun → OpenFile → BegunRun
+run_at run at = record run { opened = record run.opened { at = at } }
+
+-- the stage, with this file being written
+abbrev pub stage_at : ChannelStage → OpenFile → ChannelStage
+stage_at (Writing opened begun) at = Writing (record opened { at = at }) begun
+stage_at (Draining run) at = Draining (run_at run at)
+stage_at stage at = stage
+
+-- Where the channel found the name of the file behind its last one taken, there is a file of that name, where names are told.
+abbrev pub KnowsTaken : Seen → ChannelSpec → ChannelStage → Type 0
+KnowsTaken seen spec stage = (opened : ChannelRun) → channel_run stage ≡ Some opened → IsTrue opened.at.taken → IsTrue seen.tells →
+    IsSome (seen.at (piece_name_by spec.pattern opened.run (opened.at.sub + 1)))
 
 -- the stage once the run was begun at this place
 abbrev pub stage_begun : ChannelStage → (begun : ℕ) → ChannelStage
@@ -188,15 +212,6 @@ stage_ended stage ended = stage
 abbrev pub EndsOnce : ChannelStage → Result ℕ MarkRefusal → Type 0
 EndsOnce (Draining run) (Ok place) = ⊥
 EndsOnce stage reply = ⊤
-
--- the run that the channel writes, or broke off
-abbrev pub channel_run : ChannelStage → Option ChannelRun
-channel_run Idle = None
-channel_run (Asking opened) = Some opened
-channel_run (Writing opened begun) = Some opened
-channel_run (Draining run) = Some run.opened
-channel_run (Drained run) = Some run.opened
-channel_run (Broken run fallen) = Some run.opened
 
 -- the place of a mark, where it was accepted
 abbrev pub place_marked : Result ℕ MarkRefusal → Option ℕ

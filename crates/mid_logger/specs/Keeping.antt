@@ -1,5 +1,6 @@
--- What each step of a channel keeps of it, of which each run has one file, and which file it changes.
-use Rattle.std.specs.Prelude.{◌≡◌, ◌≢◌, ◌≤◌, ℕ, length, IsTrue, OnOk, OnErr, List, [], ◌∷◌, ◌++◌, Option, Some, None, Result, Ok, ◌⊎◌, ⊤}
+-- What each step of a channel keeps of it, and which files it changes.
+use Rattle.std.specs.Prelude.{◌≡◌, ◌≢◌, ◌≤◌, ◌<◌, ◌+◌, ℕ, suc, false, length, IsTrue, IsSome, OnOk, OnErr, List, [], ◌∷◌, ◌++◌, Option, Some, None, Result, Ok, ◌⊎◌, ⊤}
+use Rattle.std.specs.Option.{option_map}
 use Rattle.daq_types.specs.declared.runs.ChannelState.{ChannelState}
 use Rattle.daq_types.specs.declared.runs.Order.{Order}
 use Rattle.daq_types.specs.declared.runs.Why.{Why}
@@ -11,44 +12,72 @@ use Rattle.buffer_core.specs.declared.entry.BufferEntry.TheVariants.{Begin, End}
 use Rattle.buffer_core.specs.Ports.{Access, GotEvent}
 use Rattle.member_model.specs.OwnCalls.{calls_after}
 use Rattle.member_model.specs.FairCalls.{AreLoneRequests}
+use Rattle.sub_files.specs.Cuts.{last_number}
+use Rattle.sub_files.specs.Patterns.{piece_name_by}
+use Rattle.sub_files.specs.RecordFiles.{IsGone}
+use Rattle.sub_files.specs.Rolls.{first_file}
 use Rattle.mid_logger.specs.declared.channel_spec.ChannelSpec.{ChannelSpec}
 use Rattle.mid_logger.specs.declared.stage.ChannelRun.{ChannelRun}
 use Rattle.mid_logger.specs.declared.stage.ChannelStage.{ChannelStage}
 use Rattle.mid_logger.specs.declared.stage.ChannelStage.TheVariants.{Idle, Asking, Writing}
 use Rattle.mid_logger.specs.Patterns.{file_name_by}
-use Rattle.mid_logger.specs.Channels.{FileHead, ChannelStands, IsOpenFile, channel_run, written_run, stage_ended, place_marked, EndsOnce}
+use Rattle.mid_logger.specs.Channels.{FileHead, ChannelStands, IsLastOpen, KnowsTaken, channel_run, written_run, files_by, stage_ended, place_marked, EndsOnce}
 use Rattle.mid_logger.specs.Pulls.{PullOf, Pulls}
-use Rattle.mid_logger.specs.RecordFiles.{IsGone}
-use Rattle.mid_logger.specs.ChannelTurns.{ChannelAt, OpensBy, asking_run, broken_run, drained_run}
-use Rattle.mid_logger.specs.ChannelEnds.{CancelsStanding, RemovesFile, ClosesFile, HasLeft, stage_settled}
+use Rattle.mid_logger.specs.ChannelTurns.{ChannelAt, OpensBy, asking_run, drained_run}
+use Rattle.mid_logger.specs.ChannelEnds.{CancelsStanding, RemovesRun, ClosesFile, HasLeft, left_run, end_of, stage_settled}
 
--- At most the file of this name changed, and every number stays but that of the run that is written, if there is one.
-pub record ChangesOne (name : List ℕ) (written : Option ChannelRun) (old new : Seen) : Type 0 where
-  pub touches : Touches old new name
-  pub others : (number : ℕ) → ((r : ChannelRun) → written ≡ Some r → number ≢ r.at.file) → KeepsNumber old new number
+-- Of these names the files of the first changed at most, so many as are made now, and of other names none. What was not made before
+-- had no file, where names are told. Each number that was in use for writing stays, but that of the file that was written, if there
+-- is one.
+pub record ChangesFiles (names : ℕ → List ℕ) (before now : ℕ) (written : Option ChannelRun) (old new : Seen) : Type 0 where
+  pub tells : new.tells ≡ old.tells
+  pub others : (name : List ℕ) → ((n : ℕ) → n < now → name ≢ names n) → new.at name ≡ old.at name
+  pub fresh : (n : ℕ) → before ≤ n → n < now → IsGone old (names n)
+  pub numbers : (number : ℕ) → IsTrue (old.writes number) → ((r : ChannelRun) → written ≡ Some r → number ≢ r.at.file) →
+      KeepsNumber old new number
 
--- at most the file of the run, if there is one, changed
-abbrev pub ChangesFile : ChannelSpec → (run written : Option ChannelRun) → (old new : Seen) → Type 0
-ChangesFile spec None written old new = new ≡ old
-ChangesFile spec (Some opened) written old new = ChangesOne (file_name_by spec.pattern opened.run) written old new
+-- at most the files of the run, if there is one, changed
+abbrev pub ChangesRun : ChannelSpec → (run written : Option ChannelRun) → (before now : ℕ) → (old new : Seen) → Type 0
+ChangesRun spec None written before now old new = new ≡ old
+ChangesRun spec (Some opened) written before now old new =
+    ChangesFiles (piece_name_by spec.pattern opened.run) before now written old new
+
+-- where names are told, each name that was there is there
+abbrev pub KeepsThere : (old new : Seen) → Type 0
+KeepsThere old new = IsTrue old.tells → (name : List ℕ) → IsSome (old.at name) → IsSome (new.at name)
 
 -- A pull.
 
--- the run stays; its file may be written no more
-pub record KeepsRun (stage later : ChannelStage) : Type 0 where
-  pub run : channel_run later ≡ channel_run stage
-  pub written : (written_run later ≡ written_run stage) ⊎ (written_run later ≡ None)
+-- the run, whichever file is written
+abbrev pub any_file : ChannelRun → ChannelRun
+any_file r = record r { at = first_file [] 0 }
+
+-- The run stays, with one file more at the most, and no more than it may have. Its last file may be written no more; one that is written is the same, or under a
+-- number that was not in use.
+pub record KeepsRun (old : Seen) (stage later : ChannelStage) : Type 0 where
+  pub run : option_map any_file (channel_run later) ≡ option_map any_file (channel_run stage)
+  pub made : files_by stage ≤ files_by later
+  pub one : files_by later ≤ files_by stage + 1
+  pub few : files_by stage ≤ suc last_number → files_by later ≤ suc last_number
+  pub written : (w : ChannelRun) → written_run later ≡ Some w →
+      (v : ChannelRun) × (written_run stage ≡ Some v) × ((w.at.file ≡ v.at.file) ⊎ (old.writes w.at.file ≡ false))
 
 abbrev pub PullsKeep : Type 0
-PullsKeep = (p : PullOf) → (room : ℕ) → (spec : ChannelSpec) → (client : Option ℕ) → (head : FileHead) → Pulls p room →
-    ChannelStands spec client p.stage head p.port.own p.port.got p.files →
-    ChannelStands spec client p.later_stage head p.later_port.own p.later_port.got p.later_files
+PullsKeep = (p : PullOf) → (room : ℕ) → (client : Option ℕ) → (head : FileHead) → Pulls p room → head.dump ≡ p.dump →
+    ChannelStands p.spec client p.stage head p.port.own p.port.got p.files →
+    ChannelStands p.spec client p.later_stage head p.later_port.own p.later_port.got p.later_files
 
 abbrev pub PullsChange : Type 0
-PullsChange = (p : PullOf) → (room : ℕ) → (spec : ChannelSpec) → Pulls p room →
-    IsOpenFile p.files spec (written_run p.stage) →
-    ChangesFile spec (channel_run p.stage) (written_run p.stage) p.files p.later_files
-    × KeepsRun p.stage p.later_stage × IsOpenFile p.later_files spec (written_run p.later_stage)
+PullsChange = (p : PullOf) → (room : ℕ) → Pulls p room → IsLastOpen p.files p.spec (written_run p.stage) →
+    ChangesRun p.spec (channel_run p.stage) (written_run p.stage) (files_by p.stage) (files_by p.later_stage) p.files p.later_files
+    × KeepsRun p.files p.stage p.later_stage × IsLastOpen p.later_files p.spec (written_run p.later_stage)
+
+-- what is there stays there, and the channel knows which name it found taken
+abbrev pub PullsKnow : Type 0
+PullsKnow = (p : PullOf) → (room : ℕ) → (client : Option ℕ) → (head : FileHead) → Pulls p room → head.dump ≡ p.dump →
+    ChannelStands p.spec client p.stage head p.port.own p.port.got p.files →
+    KeepsThere p.files p.later_files
+    × (KnowsTaken p.files p.spec p.stage → KnowsTaken p.later_files p.spec p.later_stage)
 
 -- Calling off.
 
@@ -60,10 +89,11 @@ AbortsKeep = (spec : ChannelSpec) → (client : Option ℕ) → (stage : Channel
 
 abbrev pub AbortsChange : Type 0
 AbortsChange = (spec : ChannelSpec) → (stage : ChannelStage) → (old new : Seen) → (faults later : ℕ) →
-    RemovesFile (written_run stage) (broken_run stage) spec old new faults later →
-    ChangesFile spec (channel_run stage) (written_run stage) old new
+    RemovesRun (channel_run stage) (written_run stage) spec (files_by stage) old new faults later →
+    IsLastOpen old spec (written_run stage) →
+    ChangesRun spec (channel_run stage) (written_run stage) (files_by stage) (files_by stage) old new
 
--- Ending a file.
+-- Ending the files.
 
 abbrev pub ClosesKeep : Type 0
 ClosesKeep = (spec : ChannelSpec) → (client : Option ℕ) → (stage : ChannelStage) → (state : ChannelState) →
@@ -72,13 +102,22 @@ ClosesKeep = (spec : ChannelSpec) → (client : Option ℕ) → (stage : Channel
     ClosesFile (drained_run stage) stage state time dump old new faults later →
     ChannelStands spec client stage head own got old →
     ChannelStands spec client (stage_settled stage) head own got new
-    × HasLeft (drained_run stage) (broken_run stage) state spec head time dump own got new
+    × HasLeft (left_run stage) (end_of stage state) spec head time dump own got new
 
 abbrev pub ClosesChange : Type 0
 ClosesChange = (spec : ChannelSpec) → (stage : ChannelStage) → (state : ChannelState) → (time : ℕ) →
     (dump : Option (List ℕ)) →
     (old new : Seen) → (faults later : ℕ) → ClosesFile (drained_run stage) stage state time dump old new faults later →
-    IsOpenFile old spec (written_run stage) → ChangesFile spec (channel_run stage) (written_run stage) old new
+    IsLastOpen old spec (written_run stage) →
+    ChangesRun spec (channel_run stage) (written_run stage) (files_by stage) (files_by stage) old new
+
+-- what is there stays there
+abbrev pub ClosesKnow : Type 0
+ClosesKnow = (spec : ChannelSpec) → (client : Option ℕ) → (stage : ChannelStage) → (state : ChannelState) →
+    (time : ℕ) → (dump : Option (List ℕ)) →
+    (head : FileHead) → (own : List BufferEntry) → (got : List GotEvent) → (old new : Seen) → (faults later : ℕ) →
+    ClosesFile (drained_run stage) stage state time dump old new faults later →
+    ChannelStands spec client stage head own got old → KeepsThere old new
 
 -- Opening a run.
 
@@ -112,15 +151,15 @@ pub record OpensRunFile (name : List ℕ) (old new : Seen) : Type 0 where
 abbrev pub OpensChange : Type 0
 OpensChange = (spec : ChannelSpec) → (order : Order) → (dump : List ℕ) → (r : Result ⊤ Why) → (a b : ChannelAt) →
     OpensBy r spec order dump a b →
-    OpensRunFile (file_name_by spec.pattern order.run) a.files b.files
+    OpensRunFile (file_name_by spec.pattern order.run) a.files b.files × KeepsThere a.files b.files
 
--- Where names are told, there is a file of the run that a channel writes, or broke off.
+-- Where names are told, each file that a channel made in its run is there.
 abbrev pub FilesThere : Type 0
 FilesThere = (spec : ChannelSpec) → (client : Option ℕ) → (stage : ChannelStage) → (head : FileHead) →
     (own : List BufferEntry) → (got : List GotEvent) →
     (seen : Seen) → ChannelStands spec client stage head own got seen → (opened : ChannelRun) →
     channel_run stage ≡ Some opened →
-    IsTrue seen.tells → seen.at (file_name_by spec.pattern opened.run) ≡ None → ⊥
+    IsTrue seen.tells → (n : ℕ) → n < files_by stage → IsSome (seen.at (piece_name_by spec.pattern opened.run n))
 
 -- Marks.
 

@@ -6,4 +6,3 @@ pub mod ChannelTurns
 pub mod ChannelEnds
 pub mod Beside
 pub mod Keeping
-pub mod PieceFiles

@@ -1,4 +1,4 @@
-ghost use Rattle.std.specs.Prelude.{◌≡◌, ◌≤◌, ◌-◌, ◌++◌, ◌∷◌, [], true, ℕ, List, Result, min, length, Ok, Some, None};
+ghost use Rattle.std.specs.Prelude.{◌≡◌, ◌≤◌, ◌-◌, ◌++◌, ◌∷◌, [], true, false, ℕ, List, Result, min, length, Ok, Some, None};
 ghost use Rattle.event.specs.Events.{event_limit, record_limit};
 ghost use Rattle.daq_io.specs.Seen.{Seen};
 ghost use Rattle.buffer_core.specs.declared.replies.MarkRefusal.{MarkRefusal};
@@ -8,9 +8,8 @@ ghost use Rattle.buffer_core.specs.Ports.{GotEvent};
 ghost use Rattle.sub_files.specs.Rolls.{RisesWith};
 ghost use Rattle.mid_logger.specs.declared.stage.ChannelRun.{ChannelRun};
 ghost use Rattle.mid_logger.specs.declared.stage.ChannelStage.TheVariants.{Asking, Drained, Broken};
-ghost use Rattle.mid_logger.specs.Channels.{FileHead, CancelsRequest, is_behind_end, reading_run, written_run, stage_begun, stage_ended, end_marked, channel_run, place_marked, EndsOnce};
-ghost use Rattle.mid_logger.specs.Pulls.{TakesRun, PullsOnceWith, Pulls, PullFaults, PullFirst, failed_by, drains_at_none};
-ghost use Rattle.mid_logger.specs.PieceFiles.{CutStands, HasLastOpen, IsLastOpen, TakesPiece, PullsPieces, PullNames, open_name, name_behind, files_by, stage_at};
+ghost use Rattle.mid_logger.specs.Channels.{FileHead, ChannelStands, HasLastOpen, IsLastOpen, CancelsRequest, is_behind_end, reading_run, written_run, stage_at, stage_begun, stage_ended, end_marked, channel_run, files_by, place_marked, EndsOnce};
+ghost use Rattle.mid_logger.specs.Pulls.{TakesBy, TakesRun, PullsOnce, Pulls, PullFaults, PullNames, open_name, name_behind, failed_by, drains_at_none};
 
 use crate::channel_spec::ChannelSpec;
 use crate::pulled::Pulled;
@@ -26,8 +25,6 @@ use sub_files::{Fallen, OpenFile, RunHead};
 #[derive(Drop)]
 pub struct Channel {
     pub spec: ChannelSpec,
-    /// The most bytes of a file; 0 for any number.
-    pub sub_bytes: u32,
     pub client: Option<u32>,
     pub stage: ChannelStage,
     pub failed: bool,
@@ -159,11 +156,12 @@ impl Channel {
         requires file { HasLastOpen (F.seen files.old) self.old.spec run.opened }
         requires small { length dump.now ≤ record_limit }
         ensures spec { self.new.spec ≡ self.old.spec }
-        ensures limit { self.new.sub_bytes ≡ self.old.sub_bytes }
         ensures client { self.new.client ≡ self.old.client }
         ensures room { self.new.event.room ≡ self.old.event.room }
         ensures failed { self.new.failed ≡ failed_by result self.old.failed }
-        ensures takes { TakesPiece self.old.sub_bytes self.old.spec dump.now (record {
+        ensures takes { TakesBy false false (record {
+          spec = self.old.spec;
+          dump = dump.now;
           stage = self.old.stage;
           later_stage = self.new.stage;
           port = P.access port.old;
@@ -174,13 +172,11 @@ impl Channel {
         }) run place self.old.event.event }
         ensures few { files_by self.old.stage ≤ 10000 → files_by self.new.stage ≤ 10000 }
         ensures faults { PullFaults result (F.faults files.old) (F.faults files.new) }
-        ensures clashes { RisesWith self.old.sub_bytes (F.clashes files.old)
+        ensures clashes { RisesWith self.old.spec.sub_bytes (F.clashes files.old)
             (F.clashes files.new) }
         ensures first { PullNames result (open_name self.old.spec (Some run.opened))
             (name_behind self.old.spec (Some run.opened)) (F.first files.old)
             (F.first files.new) }
-        ensures own_first { self.old.sub_bytes ≡ 0 → PullFirst result
-            (open_name self.old.spec (Some run.opened)) (F.first files.old) (F.first files.new) }
         ensures file { reading_run self.old.stage ≡ Some run →
             IsLastOpen (F.seen files.new) self.new.spec (written_run self.new.stage) }
     {
@@ -189,7 +185,7 @@ impl Channel {
             time: run.opened.time,
         };
         let mut at = run.opened.at;
-        let limit = self.sub_bytes;
+        let limit = self.spec.sub_bytes;
         let event = self.event.bytes();
         match at.write(files, &self.spec.pattern, limit, head, dump, event) {
             Ok(()) => {
@@ -226,11 +222,12 @@ impl Channel {
         requires file { HasLastOpen (F.seen files.old) self.old.spec run.opened }
         requires small { length dump.now ≤ record_limit }
         ensures spec { self.new.spec ≡ self.old.spec }
-        ensures limit { self.new.sub_bytes ≡ self.old.sub_bytes }
         ensures client { self.new.client ≡ self.old.client }
         ensures room { self.new.event.room ≡ self.old.event.room }
         ensures failed { self.new.failed ≡ failed_by result self.old.failed }
-        ensures takes { TakesRun (TakesPiece self.old.sub_bytes self.old.spec dump.now) (record {
+        ensures takes { TakesRun (record {
+          spec = self.old.spec;
+          dump = dump.now;
           stage = self.old.stage;
           later_stage = self.new.stage;
           port = P.access port.old;
@@ -241,13 +238,11 @@ impl Channel {
         }) run place self.old.event.event }
         ensures few { files_by self.old.stage ≤ 10000 → files_by self.new.stage ≤ 10000 }
         ensures faults { PullFaults result (F.faults files.old) (F.faults files.new) }
-        ensures clashes { RisesWith self.old.sub_bytes (F.clashes files.old)
+        ensures clashes { RisesWith self.old.spec.sub_bytes (F.clashes files.old)
             (F.clashes files.new) }
         ensures first { PullNames result (open_name self.old.spec (Some run.opened))
             (name_behind self.old.spec (Some run.opened)) (F.first files.old)
             (F.first files.new) }
-        ensures own_first { self.old.sub_bytes ≡ 0 → PullFirst result
-            (open_name self.old.spec (Some run.opened)) (F.first files.old) (F.first files.new) }
         ensures file { reading_run self.old.stage ≡ Some run →
             IsLastOpen (F.seen files.new) self.new.spec (written_run self.new.stage) }
     {
@@ -274,11 +269,12 @@ impl Channel {
         requires small { length dump.now ≤ record_limit }
         requires room { min event_limit ((P.access port.old).size - 24) ≤ self.old.event.room }
         ensures spec { self.new.spec ≡ self.old.spec }
-        ensures limit { self.new.sub_bytes ≡ self.old.sub_bytes }
         ensures client { self.new.client ≡ self.old.client }
         ensures room { self.new.event.room ≡ self.old.event.room }
         ensures failed { self.new.failed ≡ failed_by result self.old.failed }
-        ensures pulls { PullsPieces self.old.sub_bytes self.old.spec dump.now (record {
+        ensures pulls { Pulls (record {
+          spec = self.old.spec;
+          dump = dump.now;
           stage = self.old.stage;
           later_stage = self.new.stage;
           port = P.access port.old;
@@ -289,27 +285,16 @@ impl Channel {
         }) self.old.event.room }
         ensures few { files_by self.old.stage ≤ 10000 → files_by self.new.stage ≤ 10000 }
         ensures faults { PullFaults result (F.faults files.old) (F.faults files.new) }
-        ensures clashes { RisesWith self.old.sub_bytes (F.clashes files.old)
+        ensures clashes { RisesWith self.old.spec.sub_bytes (F.clashes files.old)
             (F.clashes files.new) }
         ensures first { PullNames result (open_name self.old.spec (written_run self.old.stage))
             (name_behind self.old.spec (written_run self.old.stage)) (F.first files.old)
             (F.first files.new) }
-        ensures own_first { self.old.sub_bytes ≡ 0 → PullFirst result
-            (open_name self.old.spec (written_run self.old.stage)) (F.first files.old) (F.first files.new) }
-        ensures one { self.old.sub_bytes ≡ 0 → Pulls (record {
-          stage = self.old.stage;
-          later_stage = self.new.stage;
-          port = P.access port.old;
-          later_port = P.access port.new;
-          files = F.seen files.old;
-          later_files = F.seen files.new;
-          answer = result;
-        }) self.old.event.room }
         ensures file { IsLastOpen (F.seen files.new) self.new.spec (written_run self.new.stage) }
         ensures keeps { (head : FileHead) → head.dump ≡ dump.now →
-            CutStands self.old.sub_bytes self.old.spec self.old.client self.old.stage head (P.access port.old).own
+            ChannelStands self.old.spec self.old.client self.old.stage head (P.access port.old).own
             (P.access port.old).got (F.seen files.old) →
-            CutStands self.new.sub_bytes self.new.spec self.new.client self.new.stage head (P.access port.new).own
+            ChannelStands self.new.spec self.new.client self.new.stage head (P.access port.new).own
             (P.access port.new).got (F.seen files.new) }
     {
         self.pull_once(rt, files, port, dump)
@@ -327,11 +312,12 @@ impl Channel {
         requires small { length dump.now ≤ record_limit }
         requires room { min event_limit ((P.access port.old).size - 24) ≤ self.old.event.room }
         ensures spec { self.new.spec ≡ self.old.spec }
-        ensures limit { self.new.sub_bytes ≡ self.old.sub_bytes }
         ensures client { self.new.client ≡ self.old.client }
         ensures room { self.new.event.room ≡ self.old.event.room }
         ensures failed { self.new.failed ≡ failed_by result self.old.failed }
-        ensures pulls { PullsPieces self.old.sub_bytes self.old.spec dump.now (record {
+        ensures pulls { Pulls (record {
+          spec = self.old.spec;
+          dump = dump.now;
           stage = self.old.stage;
           later_stage = self.new.stage;
           port = P.access port.old;
@@ -342,13 +328,11 @@ impl Channel {
         }) self.old.event.room }
         ensures few { files_by self.old.stage ≤ 10000 → files_by self.new.stage ≤ 10000 }
         ensures faults { PullFaults result (F.faults files.old) (F.faults files.new) }
-        ensures clashes { RisesWith self.old.sub_bytes (F.clashes files.old)
+        ensures clashes { RisesWith self.old.spec.sub_bytes (F.clashes files.old)
             (F.clashes files.new) }
         ensures first { PullNames result (open_name self.old.spec (written_run self.old.stage))
             (name_behind self.old.spec (written_run self.old.stage)) (F.first files.old)
             (F.first files.new) }
-        ensures own_first { self.old.sub_bytes ≡ 0 → PullFirst result
-            (open_name self.old.spec (written_run self.old.stage)) (F.first files.old) (F.first files.new) }
         ensures file { IsLastOpen (F.seen files.new) self.new.spec (written_run self.new.stage) }
     {
         let Some(run) = run_read(self.stage) else {
@@ -373,11 +357,12 @@ impl Channel {
         requires room { min event_limit ((P.access port.old).size - 24) ≤ self.old.event.room }
         requires stopped { stopped ≡ drains_at_none self.old.stage }
         ensures spec { self.new.spec ≡ self.old.spec }
-        ensures limit { self.new.sub_bytes ≡ self.old.sub_bytes }
         ensures client { self.new.client ≡ self.old.client }
         ensures room { self.new.event.room ≡ self.old.event.room }
         ensures failed { self.new.failed ≡ failed_by result self.old.failed }
-        ensures pulls { PullsOnceWith (TakesPiece self.old.sub_bytes self.old.spec dump.now) (record {
+        ensures pulls { PullsOnce (record {
+          spec = self.old.spec;
+          dump = dump.now;
           stage = self.old.stage;
           later_stage = self.new.stage;
           port = P.access port.old;
@@ -388,13 +373,11 @@ impl Channel {
         }) run self.old.event.room }
         ensures few { files_by self.old.stage ≤ 10000 → files_by self.new.stage ≤ 10000 }
         ensures faults { PullFaults result (F.faults files.old) (F.faults files.new) }
-        ensures clashes { RisesWith self.old.sub_bytes (F.clashes files.old)
+        ensures clashes { RisesWith self.old.spec.sub_bytes (F.clashes files.old)
             (F.clashes files.new) }
         ensures first { PullNames result (open_name self.old.spec (Some run.opened))
             (name_behind self.old.spec (Some run.opened)) (F.first files.old)
             (F.first files.new) }
-        ensures own_first { self.old.sub_bytes ≡ 0 → PullFirst result
-            (open_name self.old.spec (Some run.opened)) (F.first files.old) (F.first files.new) }
         ensures file { reading_run self.old.stage ≡ Some run →
             IsLastOpen (F.seen files.new) self.new.spec (written_run self.new.stage) }
     {
@@ -412,7 +395,6 @@ impl Channel {
     /// Notes that the run was begun in the buffer, at this place.
     pub fn note_begun(&mut self, begun: u64)
         ensures spec { self.new.spec ≡ self.old.spec }
-        ensures limit { self.new.sub_bytes ≡ self.old.sub_bytes }
         ensures client { self.new.client ≡ self.old.client }
         ensures failed { self.new.failed ≡ self.old.failed }
         ensures event { self.new.event ≡ self.old.event }
@@ -422,8 +404,8 @@ impl Channel {
         ensures keeps { (opened : ChannelRun) → (head : FileHead) → (own : List BufferEntry) →
             (got : List GotEvent) → (seen : Seen) →
             self.old.stage ≡ Asking opened →
-            CutStands self.old.sub_bytes self.old.spec self.old.client self.old.stage head own got seen →
-            CutStands self.new.sub_bytes self.new.spec self.new.client self.new.stage head
+            ChannelStands self.old.spec self.old.client self.old.stage head own got seen →
+            ChannelStands self.new.spec self.new.client self.new.stage head
             (own ++ Begin opened.start (Ok begun) ∷ []) got seen }
     {
         self.stage = begun_stage(self.stage, begun);
@@ -432,7 +414,6 @@ impl Channel {
     /// Notes that the run was ended in the buffer, at this place; none, where the buffer refused that.
     pub fn note_ended(&mut self, ended: Option<u64>)
         ensures spec { self.new.spec ≡ self.old.spec }
-        ensures limit { self.new.sub_bytes ≡ self.old.sub_bytes }
         ensures client { self.new.client ≡ self.old.client }
         ensures failed { self.new.failed ≡ self.old.failed }
         ensures event { self.new.event ≡ self.old.event }
@@ -443,8 +424,8 @@ impl Channel {
             (own : List BufferEntry) → (got : List GotEvent) → (seen : Seen) →
             channel_run self.old.stage ≡ Some opened → ended ≡ place_marked reply →
             EndsOnce self.old.stage reply →
-            CutStands self.old.sub_bytes self.old.spec self.old.client self.old.stage head own got seen →
-            CutStands self.new.sub_bytes self.new.spec self.new.client self.new.stage head
+            ChannelStands self.old.spec self.old.client self.old.stage head own got seen →
+            ChannelStands self.new.spec self.new.client self.new.stage head
             (own ++ End opened.start reply ∷ []) got seen }
     {
         self.stage = ended_stage(self.stage, ended);

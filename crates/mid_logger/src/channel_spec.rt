@@ -13,4 +13,6 @@ pub struct ChannelSpec {
     pub id: u16,
     /// The mask of the triggers that it asks for; 65,535 for any.
     pub mask: u16,
+    /// The most bytes of a file of more than one event, its end record apart; 0 for any number.
+    pub sub_bytes: u32,
 }

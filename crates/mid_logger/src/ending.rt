@@ -7,30 +7,19 @@ ghost use Rattle.daq_io.specs.Seen.{Closes};
 ghost use Rattle.buffer_core.specs.declared.entry.BufferEntry.{BufferEntry};
 ghost use Rattle.buffer_core.specs.Ports.{GotEvent};
 ghost use Rattle.sub_files.specs.Cuts.{last_number};
+ghost use Rattle.sub_files.specs.RecordFiles.{ClosesPart};
 ghost use Rattle.mid_logger.specs.declared.stage.ChannelStage.TheVariants.{Idle};
-ghost use Rattle.mid_logger.specs.Channels.{FileHead, ClosesPart, IsOpenFile, channel_run, written_run, channel_file};
-ghost use Rattle.mid_logger.specs.Pulls.{NamesMore};
-ghost use Rattle.mid_logger.specs.ChannelTurns.{NotesFault, asking_run, broken_run, drained_run};
-ghost use Rattle.mid_logger.specs.ChannelEnds.{CancelsStanding, RemovesFile, ClosesFile, last_bytes, state_ended, state_otherwise, stage_settled};
-ghost use Rattle.mid_logger.specs.PieceFiles.{CutStands, IsLastOpen, HasLeftFiles, DropsRun, RemovesRun, NamesRun, ClosesOpen, files_by, files_within, name_written, EndNames, both_done, end_of};
+ghost use Rattle.mid_logger.specs.Channels.{FileHead, ChannelStands, IsLastOpen, channel_run, written_run, files_by};
+ghost use Rattle.mid_logger.specs.ChannelTurns.{NotesFault, asking_run, drained_run};
+ghost use Rattle.mid_logger.specs.ChannelEnds.{CancelsStanding, ClosesOpen, DropsRun, RemovesRun, NamesRun, ClosesFile, EndNames, HasLeft, left_run, last_bytes, state_ended, state_otherwise, stage_settled, name_written, both_done, framed_by, end_of};
 
 use crate::channel::Channel;
 use crate::stage::{BegunRun, ChannelRun, ChannelStage};
 use buffer_core::BufferPort;
 use daq_io::{Failed, Files};
-use daq_types::{Bytes, ChannelState};
+use daq_types::{Bytes, ChannelEnd, ChannelState};
 use std::sync::Wait;
 use sub_files::{end_file, remove_files};
-
-/// What is told of a channel at the stop of its run.
-#[derive(Clone, Copy, PartialEq, Eq)]
-pub struct ChannelEnd {
-    pub state: ChannelState,
-    /// How many files of the run it made.
-    pub files: u32,
-    /// How many of these, the first ones, have both records and were closed without a fault.
-    pub framed: u32,
-}
 
 /// The run whose request stands.
 fn run_asked(stage: ChannelStage) -> Option<ChannelRun>
@@ -106,7 +95,7 @@ fn run_had(stage: ChannelStage) -> Option<ChannelRun>
 
 /// How many files of its run a channel has made.
 fn files_by(stage: ChannelStage) -> u32
-    requires few { files_by stage < 2 ^ 32 }
+    requires few { IfSome (written_run stage) (λ opened. opened.at.sub ≤ last_number) }
     ensures { result ≡ files_by stage }
 {
     match stage {
@@ -119,43 +108,34 @@ fn files_by(stage: ChannelStage) -> u32
     }
 }
 
-/// How many files of its run a channel has made: one, unless there is a limit.
-fn files_within(limit: u32, stage: ChannelStage) -> u32
-    requires few { files_within limit stage < 2 ^ 32 }
-    ensures { result ≡ files_within limit stage }
+/// How many files of its run have both records and were closed without a fault, once the last is ended and this is told of it.
+fn framed_by(stage: ChannelStage, state: ChannelState) -> u32
+    requires few { IfSome (written_run stage) (λ opened. opened.at.sub ≤ last_number) }
+    ensures { result ≡ framed_by stage state }
 {
-    if 0 < limit { files_by(stage) } else { 1 }
+    match stage {
+        ChannelStage::Idle => 0,
+        ChannelStage::Asking { opened } => opened.at.sub,
+        ChannelStage::Writing { opened, .. } => opened.at.sub,
+        ChannelStage::Draining { run } => run.opened.at.sub,
+        ChannelStage::Drained { run } => match state {
+            ChannelState::Ended => run.opened.at.sub + 1,
+            _ => run.opened.at.sub,
+        },
+        ChannelStage::Broken { fallen, .. } => fallen.framed,
+    }
 }
 
-/// What is told of a channel in this state, whose stage was this before its file was ended.
+/// What is told of a channel in this state, whose stage was this before its files were ended.
 fn told_end(stage: ChannelStage, state: ChannelState) -> ChannelEnd
-    requires few { IfSome (drained_run stage) (λ run. run.opened.at.sub ≤ last_number) }
+    requires few { IfSome (written_run stage) (λ opened. opened.at.sub ≤ last_number) }
     ensures told { result ≡ end_of stage state }
     ensures state { result.state ≡ state }
 {
-    match stage {
-        ChannelStage::Drained { run } => {
-            let sub = run.opened.at.sub;
-            let framed = match state {
-                ChannelState::Ended => sub + 1,
-                _ => sub,
-            };
-            ChannelEnd {
-                state,
-                files: sub + 1,
-                framed,
-            }
-        }
-        ChannelStage::Broken { fallen, .. } => ChannelEnd {
-            state,
-            files: fallen.files,
-            framed: fallen.framed,
-        },
-        _ => ChannelEnd {
-            state,
-            files: 0,
-            framed: 0,
-        },
+    ChannelEnd {
+        state,
+        files: files_by(stage),
+        framed: framed_by(stage, state),
     }
 }
 
@@ -240,21 +220,21 @@ impl Channel {
     fn drop_files<F: Files>(&mut self, files: &mut F, opened: ChannelRun)
         requires run { channel_run self.old.stage ≡ Some opened }
         requires file { IsLastOpen (F.seen files.old) self.old.spec (written_run self.old.stage) }
-        requires few { files_within self.old.sub_bytes self.old.stage ≤ 10000 }
+        requires few { files_by self.old.stage ≤ 10000 }
         ensures channel { self.new ≡ record self.old { failed = self.new.failed } }
         ensures drops { DropsRun self.old.spec (written_run self.old.stage) opened.run
-            (files_within self.old.sub_bytes self.old.stage) (F.seen files.old)
+            (files_by self.old.stage) (F.seen files.old)
             (F.seen files.new) (F.faults files.old) (F.faults files.new) }
         ensures failed { NotesFault self.old.failed self.new.failed (F.faults files.old)
             (F.faults files.new) }
         ensures clashes { F.clashes files.new ≡ F.clashes files.old }
         ensures first { NamesRun self.old.spec (Some opened) (written_run self.old.stage)
-            (files_within self.old.sub_bytes self.old.stage) (F.first files.old)
+            (files_by self.old.stage) (F.first files.old)
             (F.first files.new) }
     {
         let stage = self.stage;
         let closed = close_written(files, stage);
-        let many = files_within(self.sub_bytes, stage);
+        let many = files_by(stage);
         let removed = remove_files(files, &self.spec.pattern, opened.run, many);
         match both(closed, removed) {
             Ok(()) => {}
@@ -265,17 +245,17 @@ impl Channel {
     /// Removes the files of the channel's run, if it has one.
     fn remove_run<F: Files>(&mut self, files: &mut F)
         requires file { IsLastOpen (F.seen files.old) self.old.spec (written_run self.old.stage) }
-        requires few { files_within self.old.sub_bytes self.old.stage ≤ 10000 }
+        requires few { files_by self.old.stage ≤ 10000 }
         ensures channel { self.new ≡ record self.old { failed = self.new.failed } }
         ensures removes { RemovesRun (channel_run self.old.stage) (written_run self.old.stage)
-            self.old.spec (files_within self.old.sub_bytes self.old.stage)
+            self.old.spec (files_by self.old.stage)
             (F.seen files.old) (F.seen files.new) (F.faults files.old) (F.faults files.new) }
         ensures failed { NotesFault self.old.failed self.new.failed (F.faults files.old)
             (F.faults files.new) }
         ensures clashes { F.clashes files.new ≡ F.clashes files.old }
         ensures first { NamesRun self.old.spec (channel_run self.old.stage)
             (written_run self.old.stage)
-            (files_within self.old.sub_bytes self.old.stage) (F.first files.old)
+            (files_by self.old.stage) (F.first files.old)
             (F.first files.new) }
     {
         let Some(opened) = run_had(self.stage) else {
@@ -288,33 +268,24 @@ impl Channel {
     /// run are removed, by rising number.
     pub fn abort<R: Wait, F: Files, P: BufferPort>(&mut self, rt: &R, files: &mut F, port: &mut P)
         requires file { IsLastOpen (F.seen files.old) self.old.spec (written_run self.old.stage) }
-        requires few { files_within self.old.sub_bytes self.old.stage ≤ 10000 }
+        requires few { files_by self.old.stage ≤ 10000 }
         ensures channel { self.new ≡ record self.old { stage = Idle; failed = self.new.failed } }
         ensures cancels { CancelsStanding (asking_run self.old.stage) (P.access port.old)
             (P.access port.new) }
         ensures removes { RemovesRun (channel_run self.old.stage) (written_run self.old.stage)
-            self.old.spec (files_within self.old.sub_bytes self.old.stage)
+            self.old.spec (files_by self.old.stage)
             (F.seen files.old) (F.seen files.new) (F.faults files.old) (F.faults files.new) }
-        ensures one { self.old.sub_bytes ≡ 0 →
-            IsOpenFile (F.seen files.old) self.old.spec (written_run self.old.stage) →
-            RemovesFile (written_run self.old.stage) (broken_run self.old.stage)
-            self.old.spec (F.seen files.old) (F.seen files.new) (F.faults files.old)
-            (F.faults files.new) }
         ensures failed { NotesFault self.old.failed self.new.failed (F.faults files.old)
             (F.faults files.new) }
         ensures clashes { F.clashes files.new ≡ F.clashes files.old }
         ensures first { NamesRun self.old.spec (channel_run self.old.stage)
             (written_run self.old.stage)
-            (files_within self.old.sub_bytes self.old.stage) (F.first files.old)
+            (files_by self.old.stage) (F.first files.old)
             (F.first files.new) }
-        ensures own_first { self.old.sub_bytes ≡ 0 →
-            IsOpenFile (F.seen files.old) self.old.spec (written_run self.old.stage) →
-            NamesMore (channel_file self.old.spec (channel_run self.old.stage))
-            (F.first files.old) (F.first files.new) }
         ensures keeps { (head : FileHead) →
-            CutStands self.old.sub_bytes self.old.spec self.old.client self.old.stage head (P.access port.old).own
+            ChannelStands self.old.spec self.old.client self.old.stage head (P.access port.old).own
             (P.access port.old).got (F.seen files.old) →
-            CutStands self.new.sub_bytes self.new.spec self.new.client self.new.stage head (P.access port.new).own
+            ChannelStands self.new.spec self.new.client self.new.stage head (P.access port.new).own
             (P.access port.new).got (F.seen files.new) }
     {
         self.cancel_standing(rt, port);
@@ -339,14 +310,14 @@ impl Channel {
         ensures first { EndNames self.old.spec (drained_run self.old.stage)
             (F.first files.old) (F.first files.new) }
         ensures left { (head : FileHead) → (own : List BufferEntry) → (got : List GotEvent) →
-            CutStands self.old.sub_bytes self.old.spec self.old.client self.old.stage head own got
+            ChannelStands self.old.spec self.old.client self.old.stage head own got
             (F.seen files.old) →
-            HasLeftFiles self.old.stage result.state self.old.sub_bytes self.old.spec head time dump.now own got
+            HasLeft (left_run self.old.stage) result self.old.spec head time dump.now own got
             (F.seen files.new) }
         ensures keeps { (head : FileHead) → (own : List BufferEntry) → (got : List GotEvent) →
-            CutStands self.old.sub_bytes self.old.spec self.old.client self.old.stage head own got
+            ChannelStands self.old.spec self.old.client self.old.stage head own got
             (F.seen files.old) →
-            CutStands self.new.sub_bytes self.new.spec self.new.client self.new.stage head own got
+            ChannelStands self.new.spec self.new.client self.new.stage head own got
             (F.seen files.new) }
     {
         let stage = self.stage;

@@ -1,6 +1,6 @@
-//! What leaves a channel as it stands, of which each run has one file: each function does nothing, and its contract is the law.
+//! What leaves a channel as it stands: each function does nothing, and its contract is the law.
 
-ghost use Rattle.mid_logger.specs.Keeping.{PullsKeep, PullsChange, AbortsKeep, AbortsChange, ClosesKeep, ClosesChange, OpensKeep, OpensChange, OpensAlone, FilesThere, BegunKeeps, EndedKeeps};
+ghost use Rattle.mid_logger.specs.Keeping.{PullsKeep, PullsChange, PullsKnow, AbortsKeep, AbortsChange, ClosesKeep, ClosesChange, ClosesKnow, OpensKeep, OpensChange, OpensAlone, FilesThere, BegunKeeps, EndedKeeps};
 ghost use Rattle.mid_logger.specs.Beside.{AbortsBeside, CallsBeside, ClosesBeside, FilesBeside, LeftBeside, OpensBeside, PullsBeside};
 
 /// A call on the channel's buffer that names another client, and neither begins the run that the channel's client waits
@@ -9,12 +9,13 @@ pub fn calls_beside()
     ensures { CallsBeside }
 {}
 
-/// A change of other files leaves what the channel keeps.
+/// A change of files that leaves those of the channel's run leaves what the channel keeps.
 pub fn files_beside()
     ensures { FilesBeside }
 {}
 
-/// What one channel pulls leaves what another channel on the buffer keeps, where each has a client and a file of its own.
+/// What one channel pulls leaves what another channel on the buffer keeps, where each has a client and files of its own; and
+/// the two are apart behind it.
 pub fn pulls_beside()
     ensures { PullsBeside }
 {}
@@ -24,7 +25,7 @@ pub fn aborts_beside()
     ensures { AbortsBeside }
 {}
 
-/// So does the ending of its file.
+/// So does the ending of its files.
 pub fn closes_beside()
     ensures { ClosesBeside }
 {}
@@ -34,27 +35,31 @@ pub fn opens_beside()
     ensures { OpensBeside }
 {}
 
-/// What stands of a run whose file was ended stands behind any calls more, and behind changes of other files.
+/// What stands of a run whose files were ended stands behind any calls more, and behind changes of other files.
 pub fn left_beside()
     ensures { LeftBeside }
 {}
 
-/// What a channel keeps before a pull it keeps behind it; and at most the file of its run changed.
+/// What a channel keeps before a pull it keeps behind it; at most the files of its run changed; and what is there stays
+/// there.
 pub fn pulls_kept()
     ensures keep { PullsKeep }
     ensures change { PullsChange }
+    ensures know { PullsKnow }
 {}
 
-/// What a channel keeps before its run is called off it keeps behind that; and at most the file of its run changed.
+/// What a channel keeps before its run is called off it keeps behind that; and at most the files of its run changed.
 pub fn aborts_kept()
     ensures keep { AbortsKeep }
     ensures change { AbortsChange }
 {}
 
-/// What a channel keeps before its file is ended it keeps behind that, and the file is left so; and at most that file changed.
+/// What a channel keeps before its files are ended it keeps behind that, and the files are left so; at most these changed,
+/// and what is there stays there.
 pub fn closes_kept()
     ensures keep { ClosesKeep }
     ensures change { ClosesChange }
+    ensures know { ClosesKnow }
 {}
 
 /// What a channel keeps before a run is opened, or refused, it keeps behind that; and at most a new file came into being. It

@@ -11,7 +11,6 @@ mod stage;
 
 pub use channel::Channel;
 pub use channel_spec::ChannelSpec;
-pub use ending::ChannelEnd;
 pub use pulled::Pulled;
 pub use stage::{BegunRun, ChannelRun, ChannelStage};
 pub use sub_files::{BadPattern, Fallen, OpenFile, Pattern};

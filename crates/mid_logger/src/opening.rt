@@ -7,8 +7,7 @@ ghost use Rattle.event.specs.Events.{record_limit};
 ghost use Rattle.daq_io.specs.Counts.{Rose};
 ghost use Rattle.mid_logger.specs.declared.stage.ChannelStage.TheVariants.{Idle};
 ghost use Rattle.mid_logger.specs.Patterns.{file_name_by};
-ghost use Rattle.mid_logger.specs.Channels.{FileHead, IsOpenFile, written_run};
-ghost use Rattle.mid_logger.specs.PieceFiles.{CutStands, IsLastOpen, files_by};
+ghost use Rattle.mid_logger.specs.Channels.{FileHead, ChannelStands, IsLastOpen, written_run, files_by};
 ghost use Rattle.mid_logger.specs.Pulls.{NamesMore};
 ghost use Rattle.mid_logger.specs.RecordFiles.{DropsFile, IsGone};
 ghost use Rattle.mid_logger.specs.ChannelTurns.{AsksEvents, StartsAsking, HasClient, OpensBy, OpenFaults, OpenClashes, OpenFirst, NotesFault, IsRefusalOf, failed_at};
@@ -130,7 +129,6 @@ impl Channel {
         requires named { (F.seen files.old).name_of at.file
             ≡ file_name_by self.old.spec.pattern order.now.run }
         ensures spec { self.new.spec ≡ self.old.spec }
-        ensures limit { self.new.sub_bytes ≡ self.old.sub_bytes }
         ensures event { self.new.event ≡ self.old.event }
         ensures asks { OnOk result (StartsAsking self.old.spec order.now at (record {
           client = self.old.client;
@@ -199,7 +197,6 @@ impl Channel {
         requires idle { self.old.stage ≡ Idle }
         requires small { length dump.now ≤ record_limit }
         ensures spec { self.new.spec ≡ self.old.spec }
-        ensures limit { self.new.sub_bytes ≡ self.old.sub_bytes }
         ensures event { self.new.event ≡ self.old.event }
         ensures opens { OpensBy result self.old.spec order.now dump.now (record {
           client = self.old.client;
@@ -223,25 +220,22 @@ impl Channel {
         ensures clashes { OpenClashes result (F.clashes files.old) (F.clashes files.new) }
         ensures first { OpenFirst result (file_name_by self.old.spec.pattern order.now.run)
             (F.first files.old) (F.first files.new) }
-        ensures file { IsOpenFile (F.seen files.new) self.new.spec (written_run self.new.stage) }
-        ensures open_file { IsLastOpen (F.seen files.new) self.new.spec
-            (written_run self.new.stage) }
+        ensures file { IsLastOpen (F.seen files.new) self.new.spec (written_run self.new.stage) }
         ensures few { files_by self.new.stage ≤ 10000 }
         ensures asking { OnOk result ((before : FileHead) → (P.access port.new).taken_back ≡ [] →
-            CutStands self.old.sub_bytes self.old.spec self.old.client self.old.stage before
+            ChannelStands self.old.spec self.old.client self.old.stage before
             (P.access port.old).own (P.access port.old).got (F.seen files.old) →
-            CutStands self.new.sub_bytes self.new.spec self.new.client self.new.stage (record {
+            ChannelStands self.new.spec self.new.client self.new.stage (record {
               run = order.now.run;
               time = order.now.time;
               dump = dump.now;
             }) (P.access port.new).own (P.access port.new).got (F.seen files.new)) }
         ensures idle { OnErr result ((head : FileHead) → (P.access port.new).taken_back ≡ [] →
-            CutStands self.old.sub_bytes self.old.spec self.old.client self.old.stage head
+            ChannelStands self.old.spec self.old.client self.old.stage head
             (P.access port.old).own (P.access port.old).got (F.seen files.old) →
-            CutStands self.new.sub_bytes self.new.spec self.new.client self.new.stage head
+            ChannelStands self.new.spec self.new.client self.new.stage head
             (P.access port.new).own (P.access port.new).got (F.seen files.new)) }
     {
-        in_range(self.sub_bytes);
         self.open_run(rt, files, port, order, dump)
     }
 
@@ -257,7 +251,6 @@ impl Channel {
         requires idle { self.old.stage ≡ Idle }
         requires small { length dump.now ≤ record_limit }
         ensures spec { self.new.spec ≡ self.old.spec }
-        ensures limit { self.new.sub_bytes ≡ self.old.sub_bytes }
         ensures event { self.new.event ≡ self.old.event }
         ensures opens { OpensBy result self.old.spec order.now dump.now (record {
           client = self.old.client;
@@ -286,6 +279,7 @@ impl Channel {
             run: order.run,
             time: order.time,
         };
+        in_range(self.spec.sub_bytes);
         match OpenFile::begin(files, &self.spec.pattern, head, dump) {
             Ok(at) => self.start_asking(rt, files, port, order, at),
             Err(why) => Err(self.refusal(why)),

@@ -1,9 +1,7 @@
 use Rattle.mid_logger.proofs.PullSteps.{pull_kept}
-use Rattle.mid_logger.proofs.Keeping.{pull_changes}
+use Rattle.mid_logger.proofs.PullChanges.{pull_changes}
+use Rattle.mid_logger.proofs.Keeping.{pull_knows}
 use Rattle.mid_logger.proofs.laws.pulls_kept.Goals as goal
 
 pub returns : goal.returns
-returns c = record {
-  keep = λ p room spec client head pulls stands. pull_kept spec client head p room pulls stands;
-  change = pull_changes;
-}
+returns c = record { keep = pull_kept; change = pull_changes; know = pull_knows }

@@ -2,8 +2,8 @@ use Rattle.std.specs.Prelude.{ℕ, List}
 use Rattle.std.proofs.Common.{ap, inr, refl, subst}
 use Rattle.sub_files.specs.Rolls.{FailsNext}
 use Rattle.mid_logger.specs.declared.channel.Channel.{Channel}
-use Rattle.mid_logger.specs.PieceFiles.{run_series}
-use Rattle.mid_logger.proofs.PieceSteps.{moved_few}
+use Rattle.mid_logger.specs.Pulls.{run_series}
+use Rattle.mid_logger.proofs.PullChanges.{moved_few}
 use Rattle.mid_logger.proofs.channel.Channel.write.Goals as goal
 
 pub returns-in-Err-clause-takes : goal.returns-in-Err-clause-takes
@@ -12,7 +12,7 @@ returns-in-Err-clause-takes g c = inr (record {
   answer_is = refl;
   stage = ap (λ (x : Channel). x.stage) c.break_off.ensures.stage;
   port = c.break_off.ensures.cancelled;
-  files = subst (λ (bytes : List ℕ). FailsNext (run_series c.args.self.now.sub_bytes c.args.self.now.spec c.args.run.opened c.args.dump.now) c.args.run.opened.at bytes c.in-Err.fallen (g.F.Files.seen c.args.files.now) (g.F.Files.seen c.write.new.files))
+  files = subst (λ (bytes : List ℕ). FailsNext (run_series c.args.self.now.spec c.args.run.opened c.args.dump.now) c.args.run.opened.at bytes c.in-Err.fallen (g.F.Files.seen c.args.files.now) (g.F.Files.seen c.write.new.files))
       c.bytes-event.ensures c.in-Err.ensures.fails;
 })
 
