@@ -5,9 +5,6 @@ use Rattle.std.proofs.Common.{ap, sym, ◌∙◌, subst, arith, append_assoc, in
 use Rattle.daq_types.specs.Callers.{entries_by}
 use Rattle.daq_types.specs.declared.events.Event.{Event}
 use Rattle.daq_types.specs.declared.runs.Kind.TheVariants.{All}
-use Rattle.event.specs.Events.{encoding, all_encoded}
-use Rattle.event.proofs.Events.{all_encoded-append}
-use Rattle.event.specs.RunFile.{begin_record, end_record, begun_file, run_file}
 use Rattle.buffer_core.specs.declared.entry.BufferEntry.{BufferEntry}
 use Rattle.buffer_core.specs.declared.entry.BufferEntry.TheVariants.{Request, Begin, End}
 use Rattle.buffer_core.specs.Window.{Sent}
@@ -20,7 +17,7 @@ use Rattle.member_model.specs.ReadRuns.{AskedOnce, IsReading, IsDraining}
 use Rattle.caller_laws.specs.BufferLaws.{BufferLaws}
 use Rattle.caller_laws.specs.OneCaller.{WasSentAt, events_in}
 use Rattle.member_model.specs.CutRuns.{MarksEnd}
-use Rattle.caller_laws.specs.CallerLaws.{CutEvents, CutFile}
+use Rattle.caller_laws.specs.CallerLaws.{CutEvents}
 use Rattle.caller_laws.proofs.Pasts.{own_after, StandsIn, stands, SplitsAt, splits}
 use Rattle.caller_laws.proofs.Owners.{owned_lives}
 use Rattle.caller_laws.proofs.OwnPlaces.{named_places, named_places-append, own_places, places_are, ends_highest, named_of_places, names_in_order, all_weaker, all_front, all_back}
@@ -28,7 +25,7 @@ use Rattle.caller_laws.proofs.GotEvents.{events_of, events_named, agree, all_nam
 use Rattle.caller_laws.proofs.Marked.{count_of_end, count_front, RunStands, run_stands}
 use Rattle.caller_laws.proofs.Reading.{Facts, facts, facts_front, names_given-append, keeps_join, names_sent, RequestStands, request_stands, places_read}
 use Rattle.caller_laws.proofs.RunsRead.{behind_begin, asks_through, with_marks, PartsSent, parts_sent, running_below, two_parts, wanted_front}
-use Rattle.caller_laws.proofs.FirstParts.{IsFirstPart, as_prefix, of_prefix, part_of_part, wanted_part}
+use Rattle.caller_laws.proofs.FirstParts.{IsFirstPart, as_prefix, wanted_part}
 
 -- How far a client has got: all places that its calls name are below this one, below which it has read.
 pub record HasGot (h : List (ℕ × BufferEntry)) (client : ℕ) (xs : List BufferEntry) (far : ℕ) : Type 0 where
@@ -181,19 +178,3 @@ cut_events laws size h by own got legal clients part client id mask number start
       | inl on ↦ cut_reading laws size h by client id mask number start begun ended c.calls c.later got c.got_by c.got_later events f own_is part.sent_so c.got_is on.0 on.1
       | inr off ↦ cut_draining laws size h by client id mask number start begun ended c.calls c.later got c.got_by c.got_later events f own_is part.sent_so c.got_is off
     ])
-
--- Files.
-
-pub cut_file : CutFile
-cut_file run time0 time1 dump0 dump1 bytes events more events_part file =
-    let part : IsFirstPart events more = of_prefix events more events_part in
-    let first : List ℕ = encoding (begin_record run time0 dump0) in
-    let last : List ℕ = encoding (end_record run time1 dump1) in
-    let more_is : begun_file run time0 dump0 more ≡ begun_file run time0 dump0 events ++ all_encoded part.rest =
-    ap (λ (es : List Event). first ++ all_encoded es) part.is ∙ (ap (λ (bs : List ℕ). first ++ bs) (all_encoded-append events part.rest) ∙ sym (append_assoc first (all_encoded events) (all_encoded part.rest))) in
-    as_prefix bytes (run_file run time0 dump0 more time1 dump1)
-    (part_of_part bytes (begun_file run time0 dump0 events) (run_file run time0 dump0 more time1 dump1) (of_prefix bytes (begun_file run time0 dump0 events) file)
-    (record {
-      rest = all_encoded part.rest ++ last;
-      is = ap (λ (bs : List ℕ). bs ++ last) more_is ∙ append_assoc (begun_file run time0 dump0 events) (all_encoded part.rest) last;
-    }))

@@ -6,7 +6,7 @@ use Rattle.daq_types.specs.Callers.{entries_by}
 use Rattle.daq_types.specs.declared.events.Event.{Event}
 use Rattle.daq_types.specs.declared.runs.Kind.TheVariants.{All as KindAll}
 use Rattle.event.specs.Events.{record_limit}
-use Rattle.event.specs.RunFile.{begun_file, run_file, IsFileEvent, IsRunFile}
+use Rattle.event.specs.RunFile.{run_file, IsFileEvent, IsRunFile}
 use Rattle.buffer_core.specs.declared.entry.BufferEntry.{BufferEntry}
 use Rattle.buffer_core.specs.declared.entry.BufferEntry.TheVariants.{Request, SendInRun}
 use Rattle.buffer_core.specs.Window.{Sent, opening}
@@ -48,13 +48,6 @@ CutEvents = (size : ℕ) → (history : History) → (caller : ℕ) → (own : L
     (client id mask number start begun ended : ℕ) → (events : List Event) →
     HasCutRun own got client id mask number start begun ended events →
     IsPrefix events (events_in (wanted id mask (segment history start)))
-
--- So what begins a file with them begins the file of the whole run.
-abbrev pub CutFile : Type 0
-CutFile = (run time0 time1 : ℕ) → (dump0 dump1 bytes : List ℕ) → (events more : List Event) →
-    IsPrefix events more →
-    IsPrefix bytes (begun_file run time0 dump0 events) →
-    IsPrefix bytes (run_file run time0 dump0 more time1 dump1)
 
 -- Where a client got of a run just the places of the events that it asked for, these and dumps that a record may have are a run
 -- file, of at most 2^62 bytes.

@@ -9,7 +9,7 @@ ghost use Rattle.caller_laws.specs.OneCaller.{HaveRunSends, IsCallersPart, Marks
 ghost use Rattle.caller_laws.specs.CallerSamples.{ReadPremise, LegalHistory, OwnClients, CallersEntries, SentEvents, RunIsRead, MeetsPremise, IsReadRight, FailsWithout, IsUnsent, read_whole, found_nothing, got_by_other, call_left_out, other_event_told, not_drained, sent_in_none, sent_in_other, asked_level, IsNotEnded, ended_by_other, end_refused};
 ghost use Rattle.caller_laws.specs.SeenSamples.{SeenPremise, SeenLegal, SeenClients, SeenSends, SeenEntries, SeenPlaces, SeenGiven, SeenThrough, MeetsSeen, IsSeenRight, FailsToSee, got_of_none, event_not_told};
 ghost use Rattle.caller_laws.specs.RefusedCalls.{AttachesRefused, AttachesAdd, RequestsRefused, BeginsRefused};
-ghost use Rattle.caller_laws.specs.CallerLaws.{ReadPlaces, ReadEvents, CutEvents, CutFile, RunFileFits, SeenEvents, SeenSince, SentByCaller, SendIsAmong, SendStands, SendsStandInOrder, PartGoesOn, ReadGoesOn, CutGoesOn, OwnGoOn, PortTells, SenderHasOwn, SenderSendsInRuns, SilentSendsInRuns, MembersFit, BegunIsEnded, SenderMakesNoMark};
+ghost use Rattle.caller_laws.specs.CallerLaws.{ReadPlaces, ReadEvents, CutEvents, RunFileFits, SeenEvents, SeenSince, SentByCaller, SendIsAmong, SendStands, SendsStandInOrder, PartGoesOn, ReadGoesOn, CutGoesOn, OwnGoOn, PortTells, SenderHasOwn, SenderSendsInRuns, SilentSendsInRuns, MembersFit, BegunIsEnded, SenderMakesNoMark};
 
 use buffer_core::laws;
 
@@ -50,11 +50,6 @@ pub fn cut_short()
 {
     of_buffers();
 }
-
-/// Bytes that begin a file with a first part of a run's events begin the file of the whole run.
-pub fn cut_file()
-    ensures { CutFile }
-{}
 
 /// What a client gets in its life is so little that the run file of a run that it read has at most 2^62 bytes.
 pub fn file_fits()
