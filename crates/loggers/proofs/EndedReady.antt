@@ -10,19 +10,19 @@ use Rattle.buffer_core.proofs.SlotLaws.{slot_within}
 use Rattle.mid_logger.specs.declared.channel.Channel.{Channel}
 use Rattle.mid_logger.specs.declared.channel_spec.ChannelSpec.{ChannelSpec}
 use Rattle.mid_logger.specs.declared.stage.ChannelStage.TheVariants.{Idle}
+use Rattle.mid_logger.specs.Channels.{files_by as files_made}
 use Rattle.loggers.specs.Moments.{InTurn, HaveFilesOpen, IsLoggerReady, AreIdleChannels}
 use Rattle.loggers.specs.SlotPulls.{HasEventRoom}
-use Rattle.loggers.specs.Finishing.{is_settled_stage, is_settled_slot, waiting_stop, EndingMoment, EndsSlot, EndsSlotAt, LoggerFinish, FinishesBy, FinishesLogger}
+use Rattle.loggers.specs.Finishing.{is_settled_stage, is_settled_slot, waiting_stop, EndingMoment, EndsSlot, EndsSlotAt, LoggerFinish, ending_of, FinishesBy, FinishesLogger}
 use Rattle.loggers.proofs.SlotLists.{one_changed}
 use Rattle.loggers.proofs.CloseMoves.{settled_idle}
 use Rattle.loggers.proofs.FinishedLogger.{all_settled}
 
--- Each channel stood there before, with its spec, its limit and its room for an event.
+-- Each channel stood there before, with its spec and its room for an event.
 record ComesFrom (slots : List (Option Channel)) (n : ℕ) (after : Channel) : Type 0 where
   before : Channel
   there : slot_at slots n ≡ Some before
   spec : after.spec ≡ before.spec
-  limit : after.sub_bytes ≡ before.sub_bytes
   room : after.event.room ≡ before.event.room
 
 record KeepsSlots (slots later : List (Option Channel)) : Type 0 where
@@ -47,12 +47,11 @@ settled_slot slots time dump k None a b there same to =
 settled_slot slots time dump k (Some before) a b there ends to =
     let after : Channel = ends.after in
     let spec : after.spec ≡ before.spec = ap (λ (c : Channel). c.spec) ends.ends.channel in
-    let limit : after.sub_bytes ≡ before.sub_bytes = ap (λ (c : Channel). c.sub_bytes) ends.ends.channel in
     let room : after.event.room ≡ before.event.room = ap (λ (c : Channel). c.event.room) ends.ends.channel in
     let was : ComesFrom slots k before = to.keeps.from k before there in
     let stage : after.stage ≡ Idle = ap (λ (c : Channel). c.stage) ends.ends.channel ∙ settled_idle before.stage (to.settled k before there (omega arith)) in
-    let here : ComesFrom slots k after = record { before = was.before; there = was.there; spec = spec ∙ was.spec; limit = limit ∙ was.limit; room = room ∙ was.room } in
-    let now : SettledTo slots (suc k) (record { slots = slice_set a.slots k (Some after); files = b.files; states = b.states }) = record {
+    let here : ComesFrom slots k after = record { before = was.before; there = was.there; spec = spec ∙ was.spec; room = room ∙ was.room } in
+    let now : SettledTo slots (suc k) (ending_of (slice_set a.slots k (Some after)) b.files b.told) = record {
       keeps = record {
         many = length-set a.slots k (Some after) ∙ to.keeps.many;
         from = one_changed (λ n c. ComesFrom slots n c) a.slots k after (λ x stood. here) (λ n c other stood. to.keeps.from n c stood) before there;
@@ -60,7 +59,7 @@ settled_slot slots time dump k (Some before) a b there ends to =
       idle = λ n c stood below. one_changed (λ j x. j < suc k → x.stage ≡ Idle) a.slots k after (λ x at low. stage) (λ j x other at low. to.idle j x at (omega arith)) before there n c stood below;
       settled = λ n c stood above. one_changed (λ j x. suc k ≤ j → is_settled_stage x.stage ≡ true) a.slots k after (λ x at high. absurd (omega arith)) (λ j x other at high. to.settled j x at (omega arith)) before there n c stood above;
     } in
-    subst (λ (l : List (Option Channel)). SettledTo slots (suc k) (record { slots = l; files = b.files; states = b.states })) (sym ends.slots) now
+    subst (λ (l : List (Option Channel)). SettledTo slots (suc k) (ending_of l b.files b.told)) (sym ends.slots) now
 
 settled_below : (slots : List (Option Channel)) (time : ℕ) (dump : Option (List ℕ)) (count : ℕ) (a b : EndingMoment) → InTurn (λ number. EndsSlotAt time dump number) count a b → SettledTo slots 0 a → SettledTo slots count b
 settled_below slots time dump zero a b steps to = subst (λ (m : EndingMoment). SettledTo slots 0 m) (sym steps) to
@@ -68,7 +67,7 @@ settled_below slots time dump (suc n) a b steps to = settled_slot slots time dum
 
 all_ended : (time : ℕ) (dump : Option (List ℕ)) (a b : EndingMoment) → list_all is_settled_slot a.slots ≡ true → InTurn (λ number. EndsSlotAt time dump number) (length a.slots) a b → SettledTo a.slots (length a.slots) b
 all_ended time dump a b settled steps = settled_below a.slots time dump (length a.slots) a b steps (record {
-  keeps = record { many = refl; from = λ n c stood. record { before = c; there = stood; spec = refl; limit = refl; room = refl } };
+  keeps = record { many = refl; from = λ n c stood. record { before = c; there = stood; spec = refl; room = refl } };
   idle = λ n c stood below. absurd (omega arith);
   settled = λ n c stood above. all_settled a.slots n c settled stood;
 })
@@ -86,7 +85,7 @@ ended_ready time dump a b ports settled steps files ready =
     let to : SettledTo a.slots (length a.slots) b = all_ended time dump a b settled steps in
     record {
       many = omega (arith, ready.many, to.keeps.many);
-      unlimited = λ n c stood. let f : ComesFrom a.slots n c = to.keeps.from n c stood in f.limit ∙ ready.unlimited n f.before f.there;
+      few = λ n c stood. (let none : files_made c.stage ≡ 0 = ap files_made (to.idle n c stood (omega (arith, slot_within b.slots n c stood, to.keeps.many))) in omega (arith, none));
       served = λ n c stood.
           let f : ComesFrom a.slots n c = to.keeps.from n c stood in
           subst (λ (s : ChannelSpec). s.buffer < length ports) (sym f.spec) (ready.served n f.before f.there);
@@ -102,7 +101,7 @@ kept_room slots later ports keeps room number c a stood at =
 room_by : (f : LoggerFinish) (ports : List Access) (settled : Bool) (stop : Option ℕ) → list_all is_settled_slot f.slots ≡ settled → FinishesBy settled stop f → ((number : ℕ) → HasEventRoom number f.slots ports) → (number : ℕ) → HasEventRoom number f.later_slots ports
 room_by f ports settled None all leaves room = subst (λ (l : List (Option Channel)). (number : ℕ) → HasEventRoom number l ports) (sym leaves.slots) room
 room_by f ports false (Some time) all leaves room = subst (λ (l : List (Option Channel)). (number : ℕ) → HasEventRoom number l ports) (sym leaves.slots) room
-room_by f ports true (Some time) all ends room = kept_room f.slots f.later_slots ports (all_ended time f.stop_dump _ _ all ends.ends).keeps room
+room_by f ports true (Some time) all ends room = kept_room f.slots f.later_slots ports (all_ended time f.dumps.stop _ _ all ends.ends).keeps room
 
 -- each channel has room for the same events behind a finish
 pub ended_room : (f : LoggerFinish) (ports : List Access) → FinishesLogger f → ((number : ℕ) → HasEventRoom number f.slots ports) → (number : ℕ) → HasEventRoom number f.later_slots ports

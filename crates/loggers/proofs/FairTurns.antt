@@ -126,11 +126,11 @@ module _ (B L : (buffer start : ℕ) → Type 0) (turns : List MemberTurn) where
       let calls : CallsQuietly s.port s.later_port before.client before.client = cancels_quietly before.client (asking_run before.stage) s.port s.later_port s.step.cancels in
       channel_step AbortsChannel B L turns n before a b s there (ap (λ (c : Channel). c.spec) s.step.channel) (subst (λ (o : Option ℕ). CallsQuietly s.port s.later_port before.client o) (sym client) calls) f
 
-  pull_step : (n : ℕ) (answer : Pulled) (slot : Option Channel) (a b : LoggerMoment) → slot_at a.slots n ≡ slot → PullsSlot slot n answer a b → FairAt a → FairAt b
-  pull_step n answer None a b there pulls f = same_moment a b pulls.1 f
-  pull_step n answer (Some before) a b there s f =
+  pull_step : (dump : List ℕ) (n : ℕ) (answer : Pulled) (slot : Option Channel) (a b : LoggerMoment) → slot_at a.slots n ≡ slot → PullsSlot dump slot n answer a b → FairAt a → FairAt b
+  pull_step dump n answer None a b there pulls f = same_moment a b pulls.1 f
+  pull_step dump n answer (Some before) a b there s f =
       let calls : CallsQuietly s.port s.later_port before.client before.client = pulls_quietly before.client _ before.event.room (reading_run before.stage) s.step.pulls in
-      channel_step (PullsChannel answer) B L turns n before a b s there s.step.spec (subst (λ (o : Option ℕ). CallsQuietly s.port s.later_port before.client o) (sym s.step.client) calls) f
+      channel_step (PullsChannel dump answer) B L turns n before a b s there s.step.spec (subst (λ (o : Option ℕ). CallsQuietly s.port s.later_port before.client o) (sym s.step.client) calls) f
 
   opens_fair : (order : Order) (dump : List ℕ) (n : ℕ) (a b : LoggerMoment) → OpensBelow order dump n a b → FairAt a → FairAt b
   opens_fair order dump n a b opens f = turns_keep (λ k. StepsAt (OpensChannel order dump (Ok tt)) k) FairAt n a b (λ k x y step kept. open_step order dump k (slot_at x.slots k) x y refl step kept) opens f
@@ -443,15 +443,15 @@ turn_fair t turns takes asks = fair_by t.transition t turns refl (turn_ports t t
 
 -- A pull.
 
-wide_after : (n : ℕ) (answer : Pulled) (slot : Option Channel) (a b : LoggerMoment) → PullsSlot slot n answer a b → length b.ports ≡ length a.ports
-wide_after n answer None a b pulls = ap (λ (m : LoggerMoment). length m.ports) pulls.1
-wide_after n answer (Some before) a b s = ap (λ (l : List Access). length l) s.ports ∙ many_set a.ports before.spec.buffer s.later_port
+wide_after : (dump : List ℕ) (n : ℕ) (answer : Pulled) (slot : Option Channel) (a b : LoggerMoment) → PullsSlot dump slot n answer a b → length b.ports ≡ length a.ports
+wide_after dump n answer None a b pulls = ap (λ (m : LoggerMoment). length m.ports) pulls.1
+wide_after dump n answer (Some before) a b s = ap (λ (l : List Access). length l) s.ports ∙ many_set a.ports before.spec.buffer s.later_port
 
-pub pull_fair : (run : Option LoggedRun) (n : ℕ) (answer : Pulled) (a b : LoggerMoment) (turns : List MemberTurn) → PullsNumbered n answer a b → AsksFairly run a.slots a.ports turns → AsksFairly run b.slots b.ports turns
-pull_fair run n answer a b turns pulls asks =
-    let wide : length b.ports ≡ length a.ports = wide_after n answer (slot_at a.slots n) a b pulls in
+pub pull_fair : (run : Option LoggedRun) (dump : List ℕ) (n : ℕ) (answer : Pulled) (a b : LoggerMoment) (turns : List MemberTurn) → PullsNumbered dump n answer a b → AsksFairly run a.slots a.ports turns → AsksFairly run b.slots b.ports turns
+pull_fair run dump n answer a b turns pulls asks =
+    let wide : length b.ports ≡ length a.ports = wide_after dump n answer (slot_at a.slots n) a b pulls in
     let before : Fair (HasOne turns) (GoesOn run (length a.ports)) turns a.slots a.ports = record { few = asks.attaches; fair = record { begins = asks.begins; starts = asks.starts; left = asks.left } } in
-    let after : Fair (HasOne turns) (GoesOn run (length a.ports)) turns b.slots b.ports = pull_step (HasOne turns) (GoesOn run (length a.ports)) turns n answer (slot_at a.slots n) a b refl pulls before in
+    let after : Fair (HasOne turns) (GoesOn run (length a.ports)) turns b.slots b.ports = pull_step (HasOne turns) (GoesOn run (length a.ports)) turns dump n answer (slot_at a.slots n) a b refl pulls before in
     asks_as run b.slots b.ports turns
     (fair_as (HasOne turns) (HasOne turns) (GoesOn run (length a.ports)) (GoesOn run (length b.ports)) turns b.slots b.ports (λ k x start at has. has)
     (λ k x start at goes. inl (subst (λ (m : ℕ). GoesOnIn run m start) (sym wide) goes)) after)
@@ -516,7 +516,7 @@ finish_by f ports turns true (Some time) waits ends asks =
     let later : List MemberTurn = latest_answered turns f.answer in
     let before : Fair (HasOne turns) (GoesOn f.run (length ports)) turns f.slots ports = record { few = asks.attaches; fair = record { begins = asks.begins; starts = asks.starts; left = asks.left } } in
     let slots : Fair (HasOne turns) (GoesOn f.run (length ports)) turns f.later_slots ports =
-    fair_slots (HasOne turns) (GoesOn f.run (length ports)) turns f.slots f.later_slots ports (λ buffer. ended_all_same buffer time f.stop_dump (length f.slots) _ _ ends.ends) before in
+    fair_slots (HasOne turns) (GoesOn f.run (length ports)) turns f.slots f.later_slots ports (λ buffer. ended_all_same buffer time f.dumps.stop (length f.slots) _ _ ends.ends) before in
     asks_as f.later_run f.later_slots ports later
     (fair_as (HasOne turns) (HasOne later) (GoesOn f.run (length ports)) (GoesOn f.later_run (length ports)) later f.later_slots ports (λ k x start at has. answered_start turns f.answer start has)
     (λ k x start at goes. absurd (not_waiting f.run time (length ports) start waits goes))

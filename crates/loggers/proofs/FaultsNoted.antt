@@ -153,9 +153,9 @@ pull_fault (Dropped place) failed later f g is faults = inl (is, faults)
 pull_fault (Wrote place) failed later f g is faults = inl (is, faults)
 pull_fault Broke failed later f g is faults = inr (is, faults)
 
-pulled_notes : (n : ℕ) (answer : Pulled) (slot : Option Channel) (a b : LoggerMoment) → slot_at a.slots n ≡ slot → PullsSlot slot n answer a b → Notes a b
-pulled_notes n answer None a b there pulls = noted_same a b pulls.1
-pulled_notes n answer (Some before) a b there s = step_notes (PullsChannel answer) n before a b s there (pull_fault answer before.failed s.after.failed a.files.faults b.files.faults s.step.failed s.step.faults)
+pulled_notes : (dump : List ℕ) (n : ℕ) (answer : Pulled) (slot : Option Channel) (a b : LoggerMoment) → slot_at a.slots n ≡ slot → PullsSlot dump slot n answer a b → Notes a b
+pulled_notes dump n answer None a b there pulls = noted_same a b pulls.1
+pulled_notes dump n answer (Some before) a b there s = step_notes (PullsChannel dump answer) n before a b s there (pull_fault answer before.failed s.after.failed a.files.faults b.files.faults s.step.failed s.step.faults)
 
 call_notes : (entry : BufferEntry) (buffer : ℕ) (a b : LoggerMoment) → CallsBuffer entry buffer a b → Notes a b
 call_notes entry buffer a b calls =
@@ -239,8 +239,8 @@ turn_noted StartAbort t takes = called_off_noted (is_of_start t.run t.order.star
 pub turn_faults : (t : LoggerTurn) → TakesTurn t → NotesFaults t.before.slots t.after.slots t.before.files.faults t.after.files.faults
 turn_faults t takes = turn_noted t.transition t takes
 
-pub pull_faults : (n : ℕ) (answer : Pulled) (a b : LoggerMoment) → PullsNumbered n answer a b → NotesFaults a.slots b.slots a.files.faults b.files.faults
-pull_faults n answer a b pulls = pulled_notes n answer (slot_at a.slots n) a b refl pulls
+pub pull_faults : (dump : List ℕ) (n : ℕ) (answer : Pulled) (a b : LoggerMoment) → PullsNumbered dump n answer a b → NotesFaults a.slots b.slots a.files.faults b.files.faults
+pull_faults dump n answer a b pulls = pulled_notes dump n answer (slot_at a.slots n) a b refl pulls
 
 abbrev NotesEnding : (a b : EndingMoment) → Type 0
 NotesEnding a b = NotesFaults a.slots b.slots a.files.faults b.files.faults
@@ -259,8 +259,8 @@ pub finish_noted : (f : LoggerFinish) (settled : Bool) (stop : Option ℕ) → F
 finish_noted f settled None leaves = leaves_notes f leaves.slots leaves.files
 finish_noted f false (Some time) leaves = leaves_notes f leaves.slots leaves.files
 finish_noted f true (Some time) ends =
-    turns_keep (λ k. EndsSlotAt time f.stop_dump k) (λ (m : EndingMoment). NotesFaults f.slots m.slots f.files.faults m.files.faults) (length f.slots) _ _
-    (λ k x y step kept. notes_then f.slots x.slots y.slots f.files.faults x.files.faults y.files.faults kept (end_notes time f.stop_dump k (slot_at x.slots k) x y refl step)) ends.ends (notes_same f.slots f.files.faults)
+    turns_keep (λ k. EndsSlotAt time f.dumps.stop k) (λ (m : EndingMoment). NotesFaults f.slots m.slots f.files.faults m.files.faults) (length f.slots) _ _
+    (λ k x y step kept. notes_then f.slots x.slots y.slots f.files.faults x.files.faults y.files.faults kept (end_notes time f.dumps.stop k (slot_at x.slots k) x y refl step)) ends.ends (notes_same f.slots f.files.faults)
 
 pub finish_faults : (f : LoggerFinish) → FinishesLogger f → NotesFaults f.slots f.later_slots f.files.faults f.later_files.faults
 finish_faults f finishes = finish_noted f (list_all is_settled_slot f.slots) (waiting_stop f.run) finishes

@@ -117,10 +117,10 @@ pulls_known p room None pulls = same_known p.port p.later_port pulls.port
 pulls_known p room (Some run) pulls =
     λ call has. reply_known (record p { port = pulls.middle }) run pulls.reply pulls.event pulls.taken call (pulls.received.still_known call has)
 
-slot_known : (number : ℕ) (answer : Pulled) (slot : Option Channel) (a b : LoggerMoment) → PullsSlot slot number answer a b → NoneTakenBack b.ports → NoneTakenBack a.ports
-slot_known number answer None a b pulls none = same_none a b pulls.1 none
-slot_known number answer (Some before) a b s none =
-    none_stepped (PullsChannel answer) number before a b s (pulls_known _ before.event.room (reading_run before.stage) s.step.pulls) none
+slot_known : (dump : List ℕ) (number : ℕ) (answer : Pulled) (slot : Option Channel) (a b : LoggerMoment) → PullsSlot dump slot number answer a b → NoneTakenBack b.ports → NoneTakenBack a.ports
+slot_known dump number answer None a b pulls none = same_none a b pulls.1 none
+slot_known dump number answer (Some before) a b s none =
+    none_stepped (PullsChannel dump answer) number before a b s (pulls_known _ before.event.room (reading_run before.stage) s.step.pulls) none
 
-pub pull_known : (number : ℕ) (answer : Pulled) (a b : LoggerMoment) → PullsNumbered number answer a b → NoneTakenBack b.ports → NoneTakenBack a.ports
-pull_known number answer a b pulls none = slot_known number answer (slot_at a.slots number) a b pulls none
+pub pull_known : (dump : List ℕ) (number : ℕ) (answer : Pulled) (a b : LoggerMoment) → PullsNumbered dump number answer a b → NoneTakenBack b.ports → NoneTakenBack a.ports
+pull_known dump number answer a b pulls none = slot_known dump number answer (slot_at a.slots number) a b pulls none

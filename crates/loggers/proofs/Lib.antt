@@ -4,6 +4,7 @@ pub mod ReadySteps
 pub mod StepEntries
 pub mod StoppedRuns
 pub mod NewSlots
+pub mod LeftThere
 pub mod Moved
 pub mod PullMoves
 pub mod PulledLogger

@@ -3,8 +3,7 @@ use Rattle.std.specs.Prelude.{◌≡◌, ◌≤◌, ◌+◌, ◌-◌, ◌^◌, �
 use Rattle.std.specs.Option.{option_map}
 use Rattle.std.proofs.Common.{ap, subst, arith, inl, inr}
 use Rattle.std.proofs.lemmas.List.Sums.{sum_by-cons}
-use Rattle.daq_types.specs.declared.runs.ChannelState.{ChannelState}
-use Rattle.daq_types.specs.declared.runs.ChannelState.TheVariants.{Broken as IsBroken}
+use Rattle.daq_types.specs.declared.runs.ChannelEnd.{ChannelEnd}
 use Rattle.daq_types.specs.declared.runs.Why.{Why}
 use Rattle.daq_types.specs.declared.runs.Why.TheVariants.{NotReady, Exists, Fault, BufferRefused}
 use Rattle.daq_io.specs.Counts.{Rose, RoseBy}
@@ -18,8 +17,8 @@ use Rattle.mid_logger.specs.declared.channel.Channel.{Channel}
 use Rattle.mid_logger.specs.declared.stage.ChannelStage.{ChannelStage}
 use Rattle.mid_logger.specs.ChannelTurns.{broken_run}
 use Rattle.loggers.specs.Moments.{RunFiles, noted_channel}
-use Rattle.loggers.specs.Reasons.{IsReasonSo, AreStatesSo, IsAnswerSo, AreAnswersSo, NoneFell, GivesReasons}
-use Rattle.loggers.specs.ToldCounts.{faults_of_state, faults_of_refusal, faults_of_answer, clashes_of_answer, count_in_answer, faults_told, clashes_told, broken_off}
+use Rattle.loggers.specs.Reasons.{IsReasonSo, AreEndsSo, IsAnswerSo, AreAnswersSo, NoneFell, GivesReasons}
+use Rattle.loggers.specs.ToldCounts.{faults_of_state, faults_of_end, faults_of_refusal, faults_of_answer, clashes_of_answer, count_in_answer, faults_told, clashes_told, broken_off}
 
 -- Counts.
 
@@ -146,13 +145,15 @@ reason_by (Exists channel) old new faults clashes = clashes
 reason_by (Fault channel) old new faults clashes = faults
 reason_by BufferRefused old new faults clashes = tt
 
-states_by : (states : List ChannelState) (old new : RunFiles) → RoseBy (sum_by faults_of_state states) old.faults new.faults → AreStatesSo states old new
-states_by states old new faults = λ n is. by_some (sum_by faults_of_state states) old.faults new.faults (member_counts faults_of_state states n IsBroken is) faults
+ends_by : (ends : List ChannelEnd) (old new : RunFiles) → RoseBy (sum_by faults_of_end ends) old.faults new.faults → AreEndsSo ends old new
+ends_by ends old new faults = λ n told at broke.
+    let one : faults_of_end told ≡ 1 = ap faults_of_state broke in
+    by_some (sum_by faults_of_end ends) old.faults new.faults (omega (arith, one, member_counts faults_of_end ends n told at)) faults
 
 tally_by : (tally : Tally) (old new : RunFiles) → RoseBy (faults_of_answer (Yes tally)) old.faults new.faults → IsAnswerSo (Yes tally) old new
 tally_by Plain old new faults = tt
 tally_by (Front sent ended) old new faults = tt
-tally_by (Channels states) old new faults = states_by states old new faults
+tally_by (Channels ends) old new faults = ends_by ends old new faults
 tally_by (Report report) old new faults = tt
 
 pub answer_by : (answer : Answer) (old new : RunFiles) → RoseBy (faults_of_answer answer) old.faults new.faults → RoseBy (clashes_of_answer answer) old.clashes new.clashes → IsAnswerSo answer old new

@@ -5,7 +5,7 @@ use Rattle.std.proofs.Common.{ap, sym, subst, ◌∙◌, append_assoc, inl, inr,
 use Rattle.std.proofs.lemmas.Bool.{eqb-true}
 use Rattle.std.proofs.lemmas.List.{length-map, append-nil}
 use Rattle.daq_types.specs.declared.events.Event.{Event}
-use Rattle.daq_types.specs.declared.runs.ChannelState.{ChannelState}
+use Rattle.daq_types.specs.declared.runs.ChannelEnd.{ChannelEnd}
 use Rattle.daq_types.specs.declared.runs.Kind.TheVariants.{All}
 use Rattle.daq_io.specs.Seen.{Seen}
 use Rattle.buffer_core.specs.declared.replies.MarkRefusal.{MarkRefusal}
@@ -26,21 +26,21 @@ use Rattle.mid_logger.specs.declared.channel_spec.ChannelSpec.{ChannelSpec}
 use Rattle.mid_logger.specs.declared.stage.ChannelRun.{ChannelRun}
 use Rattle.mid_logger.specs.declared.stage.ChannelStage.{ChannelStage}
 use Rattle.mid_logger.specs.declared.stage.ChannelStage.TheVariants.{Idle, Asking, Writing, Draining, Drained, Broken}
-use Rattle.mid_logger.specs.Channels.{FileHead, KeepsOwnCalls, ReadingAt, HasReadPart, BrokenAt, run_begun, ChannelStands, channel_run, written_run, stage_begun, stage_ended, place_marked, end_marked}
+use Rattle.mid_logger.specs.Channels.{FileHead, KeepsOwnCalls, FilesHold, FilesLeft, ReadingWith, HasReadPart, BrokenWith, run_begun, ChannelStands, channel_run, written_run, files_by as files_made, stage_begun, stage_ended, place_marked, end_marked}
 use Rattle.mid_logger.specs.Beside.{LeavesClient, LeavesRunOn, CallsBeside, LeftBeside}
 use Rattle.mid_logger.specs.Keeping.{BegunKeeps, EndedKeeps}
 use Rattle.loggers.specs.Moments.{LoggerMoment, CallsBuffer, noted_channel}
 use Rattle.loggers.specs.Turning.{BeginsBuffer, EndsBuffer}
-use Rattle.loggers.specs.LoggerStands.{IsEndReplied, IsEndedSo, IsStartedStage, IsStoppingStage, HasEndTurn, IsEndTold, TellsStates, SlotsStand}
-use Rattle.loggers.proofs.ReadySteps.{WasNoted, was_noted}
+use Rattle.loggers.specs.LoggerStands.{IsEndReplied, IsEndedSo, IsStartedStage, IsStoppingStage, HasEndTurn, IsEndTold, TellsEnds, SlotsStand}
+use Rattle.loggers.proofs.ReadySteps.{WasNoted, was_noted, begun_made, ended_made}
 use Rattle.loggers.proofs.PullMoves.{EndsNone, GrowsOn, mark_stays, refusal_stays, ends_begun_stays, ended_stays, port_grown}
 use Rattle.loggers.proofs.PortSteps.{KeepsChannel, IsFrom, StepsPort, port_stepped}
 
 -- Channels that note a mark.
 
-noted_keeps : (note : ChannelStage → ChannelStage) (c : Channel) (hit : Bool) → ((s : ChannelStage) → channel_run (note s) ≡ channel_run s) → ((s : ChannelStage) → written_run (note s) ≡ written_run s) → KeepsChannel c (if hit then record c { stage = note c.stage } else c)
-noted_keeps note c true run written = record { spec = refl; client = refl; run = run c.stage; written = written c.stage }
-noted_keeps note c false run written = record { spec = refl; client = refl; run = refl; written = refl }
+noted_keeps : (note : ChannelStage → ChannelStage) (c : Channel) (hit : Bool) → ((s : ChannelStage) → channel_run (note s) ≡ channel_run s) → ((s : ChannelStage) → written_run (note s) ≡ written_run s) → ((s : ChannelStage) → files_made (note s) ≡ files_made s) → KeepsChannel c (if hit then record c { stage = note c.stage } else c)
+noted_keeps note c true run written made = record { spec = refl; client = refl; run = run c.stage; written = written c.stage; made = made c.stage }
+noted_keeps note c false run written made = record { spec = refl; client = refl; run = refl; written = refl; made = refl }
 
 noted_hit : (note : ChannelStage → ChannelStage) (c : Channel) (hit : Bool) → hit ≡ true → (if hit then record c { stage = note c.stage } else c).stage ≡ note c.stage
 noted_hit note c true is = refl
@@ -51,15 +51,15 @@ noted_miss note c true not = absurd (not refl)
 noted_miss note c false not = refl
 
 -- each channel behind a mark stood there before
-pub noted_from : (note : ChannelStage → ChannelStage) (buffer : ℕ) (slots : List (Option Channel)) → ((s : ChannelStage) → channel_run (note s) ≡ channel_run s) → ((s : ChannelStage) → written_run (note s) ≡ written_run s)
+pub noted_from : (note : ChannelStage → ChannelStage) (buffer : ℕ) (slots : List (Option Channel)) → ((s : ChannelStage) → channel_run (note s) ≡ channel_run s) → ((s : ChannelStage) → written_run (note s) ≡ written_run s) → ((s : ChannelStage) → files_made (note s) ≡ files_made s)
     → (n : ℕ) (c : Channel) → slot_at (map (option_map (noted_channel note buffer)) slots) n ≡ Some c → IsFrom note slots buffer n c
-noted_from note buffer slots run written n c stood =
+noted_from note buffer slots run written made n c stood =
     let was : WasNoted note buffer slots n c = was_noted note buffer slots n c stood in
     let hit : Bool = was.before.spec.buffer == buffer in
     record {
       before = was.before;
       there = was.there;
-      keeps = subst (λ (x : Channel). KeepsChannel was.before x) (sym was.is) (noted_keeps note was.before hit run written);
+      keeps = subst (λ (x : Channel). KeepsChannel was.before x) (sym was.is) (noted_keeps note was.before hit run written made);
       hit = λ same. ap (λ (x : Channel). x.stage) was.is ∙ noted_hit note was.before hit (eq-eqb was.before.spec.buffer buffer same);
       miss = λ other. ap (λ (x : Channel). x.stage) was.is ∙ noted_miss note was.before hit (λ same. other (eqb-true was.before.spec.buffer buffer same));
     }
@@ -69,7 +69,7 @@ same_from : (slots : List (Option Channel)) (buffer n : ℕ) (c : Channel) → s
 same_from slots buffer n c stood = record {
   before = c;
   there = stood;
-  keeps = record { spec = refl; client = refl; run = refl; written = refl };
+  keeps = record { spec = refl; client = refl; run = refl; written = refl; made = refl };
   hit = λ same. refl;
   miss = λ other. refl;
 }
@@ -214,7 +214,7 @@ begun_started (Broken run fallen) start place is = absurd is
 -- each channel behind the begin of a run
 pub begins_from : (start buffer : ℕ) (a b : LoggerMoment) (begins : BeginsBuffer start buffer a b) → (n : ℕ) (c : Channel) → slot_at b.slots n ≡ Some c → IsFrom (λ s. stage_begun s begins.0) a.slots buffer n c
 begins_from start buffer a b begins n c stood =
-    noted_from (λ s. stage_begun s begins.0) buffer a.slots (begun_run begins.0) (begun_written begins.0) n c (subst (λ (l : List (Option Channel)). slot_at l n ≡ Some c) begins.1.noted stood)
+    noted_from (λ s. stage_begun s begins.0) buffer a.slots (begun_run begins.0) (begun_written begins.0) (begun_made begins.0) n c (subst (λ (l : List (Option Channel)). slot_at l n ≡ Some c) begins.1.noted stood)
 
 pub begins_stands : LeftBeside → BegunKeeps → (H : ChannelRun → FileHead → Type 0) (turns : List MemberTurn) (start buffer : ℕ) (a b : LoggerMoment) → BeginsBuffer start buffer a b
     → ((n : ℕ) (c : Channel) → slot_at a.slots n ≡ Some c → c.spec.buffer ≡ buffer → IsAskingStage start c.stage) → SlotsStand H turns a.slots a.ports a.files.seen → SlotsStand H turns b.slots b.ports b.files.seen
@@ -322,12 +322,12 @@ pub begins_started : (spec : ChannelSpec) (client : Option ℕ) (stage : Channel
 begins_started spec client Idle start head own got seen is stands = absurd is
 begins_started spec client (Asking opened) start head own got seen is stands = absurd is
 begins_started spec client (Writing opened begun) start head own got seen is stands =
-    let at : ReadingAt spec client (run_begun opened begun) head own got seen = stands.at in
+    let at : ReadingWith (FilesHold spec head seen) spec client (run_begun opened begun) own got = stands.at in
     subst (λ (n : ℕ). HasBegunRun own n) is (begins_read own got opened.client spec.id spec.mask opened.request opened.start begun at.events at.reads)
 begins_started spec client (Draining run) start head own got seen is stands = absurd is
 begins_started spec client (Drained run) start head own got seen is stands = absurd is
 begins_started spec client (Broken run fallen) start head own got seen is stands =
-    let at : BrokenAt spec client run fallen head own got seen = stands.at in
+    let at : BrokenWith (FilesLeft spec head seen) spec client run fallen own got = stands.at in
     let on : HasReadOn own got run.opened.client spec.id spec.mask run.opened.request run.opened.start run.begun at.events =
     subst (λ (e : Option ℕ). HasReadPart e own got run.opened.client spec.id spec.mask run.opened.request run.opened.start run.begun at.events) is.on at.reads in
     subst (λ (n : ℕ). HasBegunRun own n) is.of (begins_read_on own got run.opened.client spec.id spec.mask run.opened.request run.opened.start run.begun at.events on)
@@ -410,11 +410,11 @@ has_ended Spare turns own stage start reply never begun may = elim may as (λ w.
 -- each channel behind the end of a run
 pub ends_from : (start buffer : ℕ) (a b : LoggerMoment) (ends : EndsBuffer start buffer a b) → (n : ℕ) (c : Channel) → slot_at b.slots n ≡ Some c → IsFrom (λ s. stage_ended s (place_marked ends.0)) a.slots buffer n c
 ends_from start buffer a b ends n c stood =
-    noted_from (λ s. stage_ended s (place_marked ends.0)) buffer a.slots (ended_run (place_marked ends.0)) (ended_written (place_marked ends.0)) n c (subst (λ (l : List (Option Channel)). slot_at l n ≡ Some c) ends.1.noted stood)
+    noted_from (λ s. stage_ended s (place_marked ends.0)) buffer a.slots (ended_run (place_marked ends.0)) (ended_written (place_marked ends.0)) (ended_made (place_marked ends.0)) n c (subst (λ (l : List (Option Channel)). slot_at l n ≡ Some c) ends.1.noted stood)
 
--- no run with this start number was stopped with its states told
+-- no run with this start number was stopped with its channels' ends told
 abbrev pub NoneTold : List MemberTurn → (start : ℕ) → Type 0
-NoneTold turns start = AreEngineTurns turns → (stop : MemberTurn) → (states : List ChannelState) → TellsStates turns stop states → stop.order.start ≢ start
+NoneTold turns start = AreEngineTurns turns → (stop : MemberTurn) → (told : List ChannelEnd) → TellsEnds turns stop told → stop.order.start ≢ start
 
 pub ends_stands : LeftBeside → CallsBeside → EndedKeeps → (Spare : Type 0) (H : ChannelRun → FileHead → Type 0) (turns : List MemberTurn) (start buffer : ℕ) (a b : LoggerMoment) (ends : EndsBuffer start buffer a b) → HasEndTurn turns start → NoneTold turns start
     → (AreEngineTurns turns → NeverEnded ends.1.marks.port.own start) → ((n : ℕ) (c : Channel) → slot_at a.slots n ≡ Some c → c.spec.buffer ≡ buffer → MayEnd Spare start c.stage)

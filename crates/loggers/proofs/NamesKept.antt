@@ -1,69 +1,45 @@
 -- Each call of a logger keeps which names of run files it leaves.
-use Rattle.std.specs.Prelude.{◌≡◌, ℕ, zero, suc, Bool, true, false, IsTrue, List, [], ◌∷◌, ◌++◌, slice_get, Contains, Option, Some, None, ◌⊎◌, refl}
+use Rattle.std.specs.Prelude.{◌≡◌, ◌≤◌, ◌<◌, ℕ, zero, suc, Bool, true, false, IsTrue, List, [], ◌∷◌, length, slice_get, slice_set, Option, Some, None, ◌⊎◌, refl}
 use Rattle.std.specs.List.{list_all}
 use Rattle.std.proofs.Common.{ap, sym, subst, ◌∙◌, arith, inl, inr}
-use Rattle.std.proofs.lemmas.List.Elements.{Contains-append_left, Contains-append_right}
+use Rattle.daq_types.specs.declared.runs.ChannelEnd.{ChannelEnd}
 use Rattle.daq_types.specs.declared.runs.Transition.TheVariants.{Stop}
 use Rattle.daq_types.specs.declared.runs.Order.{Order}
 use Rattle.daq_io.specs.Seen.{Seen, Stored}
 use Rattle.buffer_core.specs.declared.entry.BufferEntry.{BufferEntry}
 use Rattle.buffer_core.specs.Ports.{Access, GotEvent}
 use Rattle.buffer_core.specs.Slots.{slot_at}
+use Rattle.buffer_core.proofs.SlotLaws.{slot_set_other, slot_within}
 use Rattle.transitions.specs.declared.answers.Answer.TheVariants.{Yes}
 use Rattle.transitions.specs.declared.answers.Tally.TheVariants.{Channels}
-use Rattle.member_model.specs.Turns.{MemberTurn, HasTurn, IsAcceptedStart, HasAnswer, latest_answered}
+use Rattle.member_model.specs.Turns.{MemberTurn, HasTurn, IsAcceptedStart, latest_answered}
 use Rattle.mid_logger.specs.declared.channel.Channel.{Channel}
 use Rattle.mid_logger.specs.declared.channel_spec.ChannelSpec.{ChannelSpec}
 use Rattle.mid_logger.specs.declared.pulled.Pulled.{Pulled}
 use Rattle.mid_logger.specs.declared.stage.ChannelRun.{ChannelRun}
 use Rattle.mid_logger.specs.declared.stage.ChannelStage.{ChannelStage}
 use Rattle.mid_logger.specs.declared.stage.ChannelStage.TheVariants.{Idle, Asking, Writing, Draining, Drained, Broken}
-use Rattle.mid_logger.specs.Channels.{FileHead, StageAt, channel_run}
+use Rattle.mid_logger.specs.Channels.{FileHead, FilesHold, FilesLeft, StageWith, channel_run, files_by as files_made}
 use Rattle.mid_logger.specs.Keeping.{PullsChange}
 use Rattle.loggers.specs.declared.logged_run.LoggedRun.{LoggedRun}
+use Rattle.loggers.specs.declared.logged_run.RunDumps.{RunDumps}
 use Rattle.loggers.specs.declared.logged_run.RunPart.{RunPart}
 use Rattle.loggers.specs.declared.logged_run.RunPart.TheVariants.{Refused, Started, Stopping}
-use Rattle.loggers.specs.Moments.{RunFiles, LoggerMoment, HaveFilesOpen}
+use Rattle.loggers.specs.Moments.{RunFiles, LoggerMoment, InTurn, HaveFilesOpen, channel_limit}
 use Rattle.loggers.specs.SlotPulls.{PullsSlot}
-use Rattle.loggers.specs.Finishing.{LoggerFinish, FinishesLogger, FinishesBy, EndsFiles, is_settled_slot, waiting_stop}
+use Rattle.loggers.specs.Finishing.{EndingMoment, EndsSlot, EndsSlotAt, LoggerFinish, FinishesLogger, FinishesBy, EndsFiles, ending_of, ends_idle, is_settled_slot, waiting_stop}
 use Rattle.loggers.specs.LoggerStands.{LoggerHolds, logger_turn, ChannelKept, HasHead, IsHeadTold, IsStopWaiting, IsStartedStage, IsStoppingStage, IsStageOf, IsStagePart, IsRunTold, IsPartTold}
-use Rattle.loggers.specs.OtherFiles.{specs_in, HaveRunsAmong, LeavesOtherFiles}
+use Rattle.loggers.specs.OtherFiles.{specs_in}
 use Rattle.loggers.specs.LeftNames.{IsOpenName, NamesLeft, NoneRose, IsStoppedRunOf, IsStoppedName, IsNameLeft, AreTaken, KeepsNames, StopsOpenRuns, HaveStoppedRuns, StandingHasStarted, StandingHasStopped, PullsKeepStopped, TurnsKeepNames, PullsKeepNames, FinishesKeepNames}
 use Rattle.loggers.proofs.FaultsNoted.{turn_faults, pull_faults, finish_faults}
-use Rattle.loggers.proofs.FilesLeft.{FileChanges, spec_at, no_run, turns_leave_files, pulls_leave_files, finishes_leave_files}
+use Rattle.loggers.proofs.FilesLeft.{FileChanges, spec_at, no_run, same_run, turn_leaves, pull_leaves, finish_leaves}
 use Rattle.loggers.proofs.FinishedLogger.{Waits, run_waits}
 use Rattle.loggers.proofs.NamesTaken.{turn_taken}
-use Rattle.loggers.proofs.SlotLists.{one_changed}
+use Rattle.loggers.proofs.SlotLists.{same_or_other, one_changed, got_there, kept_there, many_set}
 use Rattle.loggers.proofs.ManyRose.{StaysOrRose, by_stays}
 use Rattle.loggers.proofs.NamesUndone.{none_first, none_last, turn_left, pull_left, ends_left}
 use Rattle.loggers.proofs.StoppedRuns.{there_is}
 use Rattle.loggers.proofs.TurnsKnown.{across, stop_answered}
-
--- The runs that the channels have.
-
-run_list : Option ChannelRun → List ℕ
-run_list None = []
-run_list (Some opened) = opened.run ∷ []
-
-slot_runs : List (Option Channel) → List ℕ
-slot_runs [] = []
-slot_runs (None ∷ slots) = slot_runs slots
-slot_runs (Some c ∷ slots) = run_list (channel_run c.stage) ++ slot_runs slots
-
-listed_run : (o : Option ChannelRun) (opened : ChannelRun) → o ≡ Some opened → Contains (run_list o) opened.run
-unfolding run_list
-listed_run None opened is = absurd (cc (is))
-listed_run (Some r) opened is = (let same : r ≡ opened = cc (is) in (0, omega arith, ap (λ (x : ChannelRun). x.run) same))
-
-slots_listed : (slots : List (Option Channel)) → HaveRunsAmong (slot_runs slots) slots
-unfolding slot_runs
-slots_listed [] n c opened at is = absurd (cc (at))
-slots_listed (None ∷ slots) zero c opened at is = absurd (cc (at))
-slots_listed (None ∷ slots) (suc n) c opened at is = slots_listed slots n c opened at is
-slots_listed (Some x ∷ slots) zero c opened at is =
-    let same : x ≡ c = cc (at) in
-    Contains-append_left (run_list (channel_run x.stage)) (slot_runs slots) opened.run (listed_run (channel_run x.stage) opened (ap (λ (y : Channel). channel_run y.stage) same ∙ is))
-slots_listed (Some x ∷ slots) (suc n) c opened at is = Contains-append_right (run_list (channel_run x.stage)) (slot_runs slots) opened.run (slots_listed slots n c opened at is)
 
 -- More is good.
 
@@ -76,9 +52,24 @@ left_more Good More slots now more left = record {
   fresh = λ name open_. more name None (left.fresh name open_);
 }
 
-name_more : (specs : List (Option ChannelSpec)) (turns later : List MemberTurn) (first : Seen) → ((run : ℕ) → IsStoppedRunOf turns run → IsStoppedRunOf later run) → (name : List ℕ) (x : Option Stored) → IsNameLeft specs turns first name x → IsNameLeft specs later first name x
+name_more : (specs : List (Option ChannelSpec)) (turns later : List MemberTurn) (first : Seen) → ((run : ℕ) (ends : List ChannelEnd) → IsStoppedRunOf turns run ends → IsStoppedRunOf later run ends) → (name : List ℕ) (x : Option Stored) → IsNameLeft specs turns first name x → IsNameLeft specs later first name x
 name_more specs turns later first more name x good = elim good as (λ w. IsNameLeft specs later first name x) [
-  | inl is ↦ inl (record { number = is.0.number; spec = is.0.spec; there = is.0.there; run = is.0.run; stopped = more is.0.run is.0.stopped; is = is.0.is }, is.1)
+  | inl is ↦ inl (
+    record {
+      number = is.0.number;
+      spec = is.0.spec;
+      there = is.0.there;
+      run = is.0.run;
+      ends = is.0.ends;
+      stopped = more is.0.run is.0.ends is.0.stopped;
+      told = is.0.told;
+      at = is.0.at;
+      sub = is.0.sub;
+      made = is.0.made;
+      is = is.0.is;
+    },
+    is.1,
+  )
   | inr same ↦ inr same
 ]
 
@@ -89,8 +80,8 @@ free_name specs turns first name good = elim good as (λ w. first.at name ≡ No
   | inr same ↦ sym same
 ]
 
-turn_more : (t : MemberTurn) (turns : List MemberTurn) (run : ℕ) → IsStoppedRunOf turns run → IsStoppedRunOf (t ∷ turns) run
-turn_more t turns run is = record {
+turn_more : (t : MemberTurn) (turns : List MemberTurn) (run : ℕ) (ends : List ChannelEnd) → IsStoppedRunOf turns run ends → IsStoppedRunOf (t ∷ turns) run ends
+turn_more t turns run ends is = record {
   begin = is.begin;
   stop = is.stop;
   is_start = record { is_start = record { stands = inr is.is_start.is_start.stands; is = is.is_start.is_start.is; of = is.is_start.is_start.of }; accepted = is.is_start.accepted };
@@ -104,21 +95,17 @@ turn_more t turns run is = record {
 
 pub turns_keep_names : FileChanges → TurnsKeepNames
 turns_keep_names laws t first turns takes idle gives keeps =
-    let own : List ℕ = slot_runs t.before.slots in
-    let runs : List ℕ = own ++ t.order.run ∷ [] in
-    let leaves : LeavesOtherFiles runs t.before.slots t.after.slots t.before.files.seen t.after.files.seen =
-    turns_leave_files laws runs t takes (λ n c opened at is. Contains-append_left own (t.order.run ∷ []) opened.run (slots_listed t.before.slots n c opened at is))
-    (λ starts. Contains-append_right own (t.order.run ∷ []) t.order.run (0, omega arith, refl)) in
+    let leaves = turn_leaves laws (t.order.run ∷ []) t takes (λ starts. (0, omega arith, refl)) in
     let later : List MemberTurn = logger_turn t.transition t.order t.dump t.answer ∷ turns in
     let stays : StaysOrRose t.before.files.faults t.after.files.faults = (turn_faults t takes).count in
     record {
-      tells = leaves.files.tells ∙ keeps.tells;
+      tells = leaves.tells ∙ keeps.tells;
       names = λ tells none.
           let before_none : NoneRose first t.before.files = none_first first.faults t.before.files.faults t.after.files.faults none stays in
           let now_none : NoneRose t.before.files t.after.files = none_last first.faults t.before.files.faults t.after.files.faults none (by_stays _ first.faults t.before.files.faults gives.faults) in
           let told : IsTrue t.before.files.seen.tells = subst (λ (b : Bool). IsTrue b) (sym keeps.tells) tells in
           let left : NamesLeft (IsNameLeft (specs_in t.before.slots) turns first.seen) t.after.slots t.after.files.seen =
-          turn_left (IsNameLeft (specs_in t.before.slots) turns first.seen) t takes idle told now_none (keeps.names tells before_none) in
+          turn_left laws.aborts (IsNameLeft (specs_in t.before.slots) turns first.seen) t takes idle told now_none (keeps.names tells before_none) in
           subst (λ (specs : List (Option ChannelSpec)). NamesLeft (IsNameLeft specs later first.seen) t.after.slots t.after.files.seen) (sym leaves.specs)
           (left_more (IsNameLeft (specs_in t.before.slots) turns first.seen) (IsNameLeft (specs_in t.before.slots) later first.seen) t.after.slots t.after.files.seen
           (name_more (specs_in t.before.slots) turns later first.seen (turn_more (logger_turn t.transition t.order t.dump t.answer) turns)) left);
@@ -132,28 +119,30 @@ turns_keep_names laws t first turns takes idle gives keeps =
 -- A pull.
 
 pub pulls_keep_names : FileChanges → PullsKeepNames
-pulls_keep_names laws number answer a b first turns pulls ready keeps =
-    let leaves : LeavesOtherFiles (slot_runs a.slots) a.slots b.slots a.files.seen b.files.seen = (pulls_leave_files laws (slot_runs a.slots) number answer a b pulls ready (slots_listed a.slots)).0 in
+pulls_keep_names laws dump number answer a b first turns pulls ready keeps =
+    let leaves = pull_leaves laws.pulls [] dump number answer a b pulls ready.files in
     record {
-      tells = leaves.files.tells ∙ keeps.tells;
+      tells = leaves.tells ∙ keeps.tells;
       names = λ tells none.
-          let before_none : NoneRose first a.files = none_first first.faults a.files.faults b.files.faults none (pull_faults number answer a b pulls).count in
+          let before_none : NoneRose first a.files = none_first first.faults a.files.faults b.files.faults none (pull_faults dump number answer a b pulls).count in
+          let told : IsTrue a.files.seen.tells = subst (λ (t : Bool). IsTrue t) (sym keeps.tells) tells in
           subst (λ (specs : List (Option ChannelSpec)). NamesLeft (IsNameLeft specs turns first.seen) b.slots b.files.seen) (sym leaves.specs)
-          (pull_left laws.pulls (IsNameLeft (specs_in a.slots) turns first.seen) number answer a b pulls ready.files (keeps.names tells before_none));
+          (pull_left laws.pulls (IsNameLeft (specs_in a.slots) turns first.seen) dump number answer a b pulls ready.files told (keeps.names tells before_none));
       taken = λ tells none.
-          let before_none : NoneRose first a.files = none_first first.faults a.files.faults b.files.faults none (pull_faults number answer a b pulls).count in
+          let before_none : NoneRose first a.files = none_first first.faults a.files.faults b.files.faults none (pull_faults dump number answer a b pulls).count in
           subst (λ (specs : List (Option ChannelSpec)). AreTaken specs first.seen turns) (sym leaves.specs) (keeps.taken tells before_none);
     }
 
 -- A call to finish.
 
-head_run : (spec : ChannelSpec) (client : Option ℕ) (stage : ChannelStage) (head : FileHead) (own : List BufferEntry) (got : List GotEvent) (seen : Seen) (opened : ChannelRun) → StageAt spec client stage head own got seen → channel_run stage ≡ Some opened → head.run ≡ opened.run
+head_run : (spec : ChannelSpec) (client : Option ℕ) (stage : ChannelStage) (head : FileHead) (own : List BufferEntry) (got : List GotEvent) (seen : Seen) (opened : ChannelRun) → StageWith (FilesHold spec head seen) (FilesLeft spec head seen) spec client stage own got → channel_run stage ≡ Some opened
+    → head.run ≡ opened.run
 head_run spec client Idle head own got seen opened at is = absurd (cc (is))
 head_run spec client (Asking o) head own got seen opened at is = (let same : o ≡ opened = cc (is) in at.holds.run ∙ ap (λ (x : ChannelRun). x.run) same)
 head_run spec client (Writing o begun) head own got seen opened at is = (let same : o ≡ opened = cc (is) in at.holds.run ∙ ap (λ (x : ChannelRun). x.run) same)
 head_run spec client (Draining run) head own got seen opened at is = (let same : run.opened ≡ opened = cc (is) in at.holds.run ∙ ap (λ (x : ChannelRun). x.run) same)
 head_run spec client (Drained run) head own got seen opened at is = (let same : run.opened ≡ opened = cc (is) in at.holds.run ∙ ap (λ (x : ChannelRun). x.run) same)
-head_run spec client (Broken run fallen) head own got seen opened at is = (let same : run.opened ≡ opened = cc (is) in at.left.number ∙ ap (λ (x : ChannelRun). x.run) same)
+head_run spec client (Broken run fallen) head own got seen opened at is = (let same : run.opened ≡ opened = cc (is) in at.left.run ∙ ap (λ (x : ChannelRun). x.run) same)
 
 stage_start : (stage : ChannelStage) (turns : List MemberTurn) (own : List BufferEntry) (start : ℕ) (opened : ChannelRun) → IsStoppingStage turns own start stage → channel_run stage ≡ Some opened → opened.start ≡ start
 stage_start Idle turns own start opened at is = absurd at
@@ -163,14 +152,14 @@ stage_start (Draining run) turns own start opened at is = (let same : run.opened
 stage_start (Drained run) turns own start opened at is = (let same : run.opened ≡ opened = cc (is) in ap (λ (x : ChannelRun). x.start) (sym same) ∙ at.of)
 stage_start (Broken run fallen) turns own start opened at is = (let same : run.opened ≡ opened = cc (is) in ap (λ (x : ChannelRun). x.start) (sym same) ∙ at.of)
 
-answered_more : (order : Order) (dump : Option (List ℕ)) (states : _) (earlier : List MemberTurn) (run : ℕ) → IsStoppedRunOf (logger_turn Stop order dump None ∷ earlier) run → IsStoppedRunOf (stop_answered order dump states earlier) run
-answered_more order dump states earlier run is = record {
+answered_more : (order : Order) (dump : Option (List ℕ)) (told : List ChannelEnd) (earlier : List MemberTurn) (run : ℕ) (ends : List ChannelEnd) → IsStoppedRunOf (logger_turn Stop order dump None ∷ earlier) run ends → IsStoppedRunOf (stop_answered order dump told earlier) run ends
+answered_more order dump told earlier run ends is = record {
   begin = is.begin;
   stop = is.stop;
-  is_start = across order dump None (Some (Yes (Channels states))) earlier is.stop.order.start is.begin is.is_start;
+  is_start = across order dump None (Some (Yes (Channels told))) earlier is.stop.order.start is.begin is.is_start;
   number = is.number;
-  stands = elim is.stands as (λ w. HasTurn (stop_answered order dump states earlier) is.stop) [
-    | inl same ↦ absurd (subst (λ (u : MemberTurn). HasAnswer u.answer) (sym same) is.answered)
+  stands = elim is.stands as (λ w. HasTurn (stop_answered order dump told earlier) is.stop) [
+    | inl same ↦ absurd (let none : None ≡ is.stop.answer = ap (λ (u : MemberTurn). u.answer) same in let some = is.answered in cc (none, some))
     | inr old ↦ inr old
   ];
   is = is.is;
@@ -185,11 +174,11 @@ record HeadStart (turns : List MemberTurn) (opened : ChannelRun) : Type 0 where
   is_start : IsAcceptedStart turns opened.start begin
   number : begin.order.run ≡ opened.run
 
-head_start : (run : Option LoggedRun) (stop_dump : Option (List ℕ)) (slots : List (Option Channel)) (ports : List Access) (turns : List MemberTurn) (seen : Seen) → LoggerHolds run stop_dump slots ports turns seen → (number : ℕ) (c : Channel) (opened : ChannelRun) (a : Access)
+head_start : (run : Option LoggedRun) (dumps : RunDumps) (slots : List (Option Channel)) (ports : List Access) (turns : List MemberTurn) (seen : Seen) → LoggerHolds run dumps slots ports turns seen → (number : ℕ) (c : Channel) (opened : ChannelRun) (a : Access)
     → slot_at slots number ≡ Some c → slice_get ports c.spec.buffer ≡ Some a → channel_run c.stage ≡ Some opened → HeadStart turns opened
-head_start run stop_dump slots ports turns seen stands number c opened a there at of =
-    let kept : ChannelKept (IsHeadTold turns) seen c a = stands.standing.channels number c a there at in
-    let head : HasHead turns opened.start kept.head = kept.headed opened of in
+head_start run dumps slots ports turns seen stands number c opened a there at of =
+    let kept : ChannelKept (IsHeadTold turns dumps) seen c a = stands.standing.channels number c a there at in
+    let head : HasHead turns opened.start kept.head = (kept.headed opened of).has in
     let run_is : kept.head.run ≡ opened.run = head_run c.spec c.client c.stage kept.head a.own a.got seen opened kept.stands.at of in
     record { begin = head.turn; is_start = head.is_start; number = sym head.run ∙ run_is }
 
@@ -212,9 +201,9 @@ its_run None turns own stage opened at is = absurd (no_run stage opened at is)
 its_run (Some r) turns own stage opened at is = (r, refl, part_start r.part turns own r.start stage opened at is)
 
 pub standing_has_started : StandingHasStarted
-standing_has_started run stop_dump slots ports turns seen stands are number c opened there of =
+standing_has_started run dumps slots ports turns seen stands are number c opened there of =
     let port : (a : Access) × (slice_get ports c.spec.buffer ≡ Some a) = there_is ports c.spec.buffer (stands.holds.served number c there) in
-    let h : HeadStart turns opened = head_start run stop_dump slots ports turns seen stands.holds number c opened port.0 there port.1 of in
+    let h : HeadStart turns opened = head_start run dumps slots ports turns seen stands.holds number c opened port.0 there port.1 of in
     let its : (r : LoggedRun) × (run ≡ Some r) × (opened.start ≡ r.start) = its_run run turns port.0.own c.stage opened (stands.holds.stages number c port.0 there port.1) of in
     record {
       begin = h.begin;
@@ -223,18 +212,18 @@ standing_has_started run stop_dump slots ports turns seen stands are number c op
       on = λ turn has off same. stands.holds.not_off are its.0 turn its.1 has off (same ∙ its.2);
     }
 
-standing_stops : (run : Option LoggedRun) (stop_dump : Option (List ℕ)) (slots : List (Option Channel)) (ports : List Access) (turns : List MemberTurn) (seen : Seen) (time : ℕ) → LoggerHolds run stop_dump slots ports turns seen → Waits run time → StopsOpenRuns stop_dump slots turns
-standing_stops run stop_dump slots ports turns seen time stands w =
-    let told_run : IsRunTold (Some w.r) turns stop_dump = subst (λ (x : Option LoggedRun). IsRunTold x turns stop_dump) w.is stands.told in
-    let told : IsPartTold (Stopping time) turns w.r.start stop_dump = subst (λ (p : RunPart). IsPartTold p turns w.r.start stop_dump) w.part told_run in
-    let stop : IsStopWaiting turns w.r.start time stop_dump = told.0 in
+standing_stops : (run : Option LoggedRun) (dumps : RunDumps) (slots : List (Option Channel)) (ports : List Access) (turns : List MemberTurn) (seen : Seen) (time : ℕ) → LoggerHolds run dumps slots ports turns seen → Waits run time → StopsOpenRuns dumps.stop slots turns
+standing_stops run dumps slots ports turns seen time stands w =
+    let told_run : IsRunTold (Some w.r) turns dumps = subst (λ (x : Option LoggedRun). IsRunTold x turns dumps) w.is stands.told in
+    let told : IsPartTold (Stopping time) turns w.r.start dumps = subst (λ (p : RunPart). IsPartTold p turns w.r.start dumps) w.part told_run in
+    let stop : IsStopWaiting turns w.r.start time dumps.stop = told.0 in
     record {
       order = stop.order;
       earlier = stop.earlier;
       latest = stop.latest;
       runs = λ number c opened there of.
           let port : (a : Access) × (slice_get ports c.spec.buffer ≡ Some a) = there_is ports c.spec.buffer (stands.served number c there) in
-          let h : HeadStart turns opened = head_start run stop_dump slots ports turns seen stands number c opened port.0 there port.1 of in
+          let h : HeadStart turns opened = head_start run dumps slots ports turns seen stands number c opened port.0 there port.1 of in
           let stage_0 : IsStageOf (Some w.r) turns port.0.own c.stage = subst (λ (x : Option LoggedRun). IsStageOf x turns port.0.own c.stage) w.is (stands.stages number c port.0 there port.1) in
           let stage : IsStoppingStage turns port.0.own w.r.start c.stage = subst (λ (p : RunPart). IsStagePart p turns port.0.own w.r.start c.stage) w.part stage_0 in
           let start_is : opened.start ≡ stop.order.start = stage_start c.stage turns port.0.own w.r.start opened stage of ∙ sym stop.of in (
@@ -245,79 +234,131 @@ standing_stops run stop_dump slots ports turns seen time stands w =
     }
 
 pub standing_has_stopped : StandingHasStopped
-standing_has_stopped run stop_dump slots ports turns seen stands time waits = standing_stops run stop_dump slots ports turns seen time stands.holds (run_waits run time waits)
+standing_has_stopped run dumps slots ports turns seen stands time waits = standing_stops run dumps slots ports turns seen time stands.holds (run_waits run time waits)
 
-pull_stops : PullsChange → (number : ℕ) (answer : Pulled) (slot : Option Channel) (a b : LoggerMoment) (dump : Option (List ℕ)) (turns : List MemberTurn) → slot_at a.slots number ≡ slot → HaveFilesOpen a.slots a.files.seen → PullsSlot slot number answer a b → StopsOpenRuns dump a.slots turns
+pull_stops : PullsChange → (begun : List ℕ) (number : ℕ) (answer : Pulled) (slot : Option Channel) (a b : LoggerMoment) (dump : Option (List ℕ)) (turns : List MemberTurn) → slot_at a.slots number ≡ slot → HaveFilesOpen a.slots a.files.seen → PullsSlot begun slot number answer a b → StopsOpenRuns dump a.slots turns
     → StopsOpenRuns dump b.slots turns
-pull_stops change number answer None a b dump turns there open_files pulls stops = subst (λ (m : LoggerMoment). StopsOpenRuns dump m.slots turns) (sym pulls.1) stops
-pull_stops change number answer (Some before) a b dump turns there open_files s stops =
-    let changes = change _ before.event.room before.spec s.step.pulls (open_files.files number before there) in
-    let run : channel_run s.after.stage ≡ channel_run before.stage = changes.1.run in
+pull_stops change begun number answer None a b dump turns there open_files pulls stops = subst (λ (m : LoggerMoment). StopsOpenRuns dump m.slots turns) (sym pulls.1) stops
+pull_stops change begun number answer (Some before) a b dump turns there open_files s stops =
+    let changes = change _ before.event.room s.step.pulls (open_files.files number before there) in
     record {
       order = stops.order;
       earlier = stops.earlier;
       latest = stops.latest;
       runs = λ n c opened at of.
           one_changed (λ k x. channel_run x.stage ≡ Some opened → (begin : MemberTurn) × IsAcceptedStart turns stops.order.start begin × (begin.order.run ≡ opened.run)) a.slots number s.after
-          (λ x here is. stops.runs number before opened there (sym run ∙ is)) (λ k x other here is. stops.runs k x opened here is) before there n c
+          (λ x here is. (let was = same_run (channel_run s.after.stage) (channel_run before.stage) changes.1.run opened is in
+          let found = stops.runs number before was.0 there was.1 in (found.0, found.1, found.2 ∙ ap (λ (r : ChannelRun). r.run) (sym was.2))))
+          (λ k x other here is. stops.runs k x opened here is) before there n c
           (subst (λ (l : List (Option Channel)). slot_at l n ≡ Some c) s.slots at) of;
     }
 
 pub pulls_keep_stopped : FileChanges → PullsKeepStopped
-pulls_keep_stopped laws number answer a b run stop_dump turns pulls ready stopped time waits =
-    pull_stops laws.pulls number answer (slot_at a.slots number) a b stop_dump turns refl ready.files pulls (stopped time waits)
+pulls_keep_stopped laws dump number answer a b run stop_dump turns pulls ready stopped time waits =
+    pull_stops laws.pulls dump number answer (slot_at a.slots number) a b stop_dump turns refl ready.files pulls (stopped time waits)
 
-open_stopped : (f : LoggerFinish) (states : _) (turns : List MemberTurn) (stops : StopsOpenRuns f.stop_dump f.slots turns) (name : List ℕ) → IsOpenName f.slots name → IsStoppedName (specs_in f.slots) (stop_answered stops.order f.stop_dump states stops.earlier) name
-open_stopped f states turns stops name o =
+-- What is told of the channels.
+
+-- Of the channels with numbers below this it is told how many files they had made; the others are as they were.
+record ToldBelow (slots : List (Option Channel)) (k : ℕ) (m : EndingMoment) : Type 0 where
+  wide : length m.told ≡ channel_limit
+  still : (n : ℕ) (c : Channel) → k ≤ n → slot_at slots n ≡ Some c → slot_at m.slots n ≡ Some c
+  told : (n : ℕ) (c : Channel) → n < k → slot_at slots n ≡ Some c → (t : ChannelEnd) × (slice_get m.told n ≡ Some t) × (t.files ≡ files_made c.stage)
+
+told_one : (slots : List (Option Channel)) (time : ℕ) (dump : Option (List ℕ)) (k : ℕ) (slot : Option Channel) (a b : EndingMoment) → length slots ≤ channel_limit → slot_at a.slots k ≡ slot → EndsSlot time dump k slot a b → ToldBelow slots k a → ToldBelow slots (suc k) b
+told_one slots time dump k None a b few there same below = subst (λ (m : EndingMoment). ToldBelow slots (suc k) m) (sym same) (record {
+  wide = below.wide;
+  still = λ n c from at. below.still n c (omega (arith, from)) at;
+  told = λ n c early at. elim (same_or_other n k) as (λ w. (t : ChannelEnd) × (slice_get a.told n ≡ Some t) × (t.files ≡ files_made c.stage)) [
+    | inl is ↦ absurd (let now : slot_at a.slots k ≡ Some c = subst (λ (i : ℕ). slot_at a.slots i ≡ Some c) is (below.still n c (omega (arith, is)) at) in cc (there, now))
+    | inr other ↦ below.told n c (omega (arith, early, other)) at
+  ];
+})
+told_one slots time dump k (Some before) a b few there ends below =
+    let told : ChannelEnd = ends.told in
+    let files : told.files ≡ files_made before.stage = ap (λ (t : ChannelEnd). t.files) ends.ends.told_is in
+    let put : ToldBelow slots (suc k) (ending_of (slice_set a.slots k (Some ends.after)) b.files (slice_set a.told k told)) = record {
+      wide = many_set a.told k told ∙ below.wide;
+      still = λ n c from at. slot_set_other a.slots k n (Some ends.after) (λ same. omega (arith, from, same)) ∙ below.still n c (omega (arith, from)) at;
+      told = λ n c early at. elim (same_or_other n k) as (λ w. (t : ChannelEnd) × (slice_get (slice_set a.told k told) n ≡ Some t) × (t.files ≡ files_made c.stage)) [
+        | inl is ↦
+            let now : slot_at a.slots k ≡ Some c = subst (λ (i : ℕ). slot_at a.slots i ≡ Some c) is (below.still n c (omega (arith, is)) at) in
+            let same : before ≡ c = cc (there, now) in
+            let old = there_is a.told k (omega (arith, below.wide, few, is, slot_within slots n c at)) in
+            (told, subst (λ (i : ℕ). slice_get (slice_set a.told k told) i ≡ Some told) (sym is) (got_there a.told k old.0 told old.1), files ∙ ap (λ (x : Channel). files_made x.stage) same)
+        | inr other ↦ (let old = below.told n c (omega (arith, early, other)) at in (old.0, kept_there a.told k n told old.0 other old.1, old.2))
+      ];
+    } in
+    subst (λ (l : List (Option Channel)). ToldBelow slots (suc k) (ending_of l b.files b.told)) (sym ends.slots)
+    (subst (λ (l : List ChannelEnd). ToldBelow slots (suc k) (ending_of (slice_set a.slots k (Some ends.after)) b.files l)) (sym ends.at) put)
+
+told_below : (slots : List (Option Channel)) (files : RunFiles) (time : ℕ) (dump : Option (List ℕ)) (k : ℕ) (b : EndingMoment) → length slots ≤ channel_limit → InTurn (λ n. EndsSlotAt time dump n) k (ending_of slots files ends_idle) b → ToldBelow slots k b
+told_below slots files time dump zero b few same = subst (λ (m : EndingMoment). ToldBelow slots 0 m) (sym same) (record { wide = refl; still = λ n c from at. at; told = λ n c early at. absurd (omega (arith, early)) })
+told_below slots files time dump (suc k) b few turns = told_one slots time dump k (slot_at turns.0.slots k) turns.0 b few refl turns.2 (told_below slots files time dump k turns.0 few turns.1)
+
+-- The names that are stopped.
+
+open_stopped : (f : LoggerFinish) (time : ℕ) (ends : EndsFiles f time) → length f.slots ≤ channel_limit → (turns : List MemberTurn) (stops : StopsOpenRuns f.dumps.stop f.slots turns) (name : List ℕ) → IsOpenName f.slots name
+    → IsStoppedName (specs_in f.slots) (stop_answered stops.order f.dumps.stop ends.told stops.earlier) name
+open_stopped f time ends few turns stops name o =
     let order : Order = stops.order in
+    let dump : Option (List ℕ) = f.dumps.stop in
     let found = stops.runs o.number o.channel o.opened o.there o.of in
-    let begun : IsAcceptedStart (logger_turn Stop order f.stop_dump None ∷ stops.earlier) order.start found.0 = subst (λ (l : List MemberTurn). IsAcceptedStart l order.start found.0) stops.latest found.1 in
+    let begun : IsAcceptedStart (logger_turn Stop order dump None ∷ stops.earlier) order.start found.0 = subst (λ (l : List MemberTurn). IsAcceptedStart l order.start found.0) stops.latest found.1 in
+    let told : ToldBelow f.slots (length f.slots) (ending_of f.later_slots f.later_files ends.told) = told_below f.slots f.files time dump (length f.slots) _ few ends.ends in
+    let its = told.told o.number o.channel (slot_within f.slots o.number o.channel o.there) o.there in
     record {
       number = o.number;
       spec = o.channel.spec;
       there = spec_at f.slots o.number o.channel o.there;
       run = o.opened.run;
+      ends = ends.told;
       stopped = record {
         begin = found.0;
-        stop = logger_turn Stop order f.stop_dump (Some (Yes (Channels states)));
-        is_start = across order f.stop_dump None (Some (Yes (Channels states))) stops.earlier order.start found.0 begun;
+        stop = logger_turn Stop order dump (Some (Yes (Channels ends.told)));
+        is_start = across order dump None (Some (Yes (Channels ends.told))) stops.earlier order.start found.0 begun;
         number = found.2;
         stands = inl refl;
         is = refl;
-        answered = tt;
+        answered = refl;
       };
+      told = its.0;
+      at = its.1;
+      sub = o.sub;
+      made = subst (λ (k : ℕ). o.sub < k) (sym its.2) o.made;
       is = o.is;
     }
 
-finished_names : FileChanges → (f : LoggerFinish) (first : RunFiles) (turns : List MemberTurn) (time : ℕ) → FinishesLogger f → HaveFilesOpen f.slots f.files.seen → EndsFiles f time → StopsOpenRuns f.stop_dump f.slots turns → KeepsNames f.slots first f.files turns
+finished_names : FileChanges → (f : LoggerFinish) (first : RunFiles) (turns : List MemberTurn) (time : ℕ) → FinishesLogger f → length f.slots ≤ channel_limit → HaveFilesOpen f.slots f.files.seen → EndsFiles f time → StopsOpenRuns f.dumps.stop f.slots turns → KeepsNames f.slots first f.files turns
     → KeepsNames f.later_slots first f.later_files (latest_answered turns f.answer)
-finished_names laws f first turns time finishes open_files ends stops keeps =
-    let before : List MemberTurn = logger_turn Stop stops.order f.stop_dump None ∷ stops.earlier in
-    let later : List MemberTurn = stop_answered stops.order f.stop_dump ends.states stops.earlier in
+finished_names laws f first turns time finishes few open_files ends stops keeps =
+    let dump : Option (List ℕ) = f.dumps.stop in
+    let before : List MemberTurn = logger_turn Stop stops.order dump None ∷ stops.earlier in
+    let later : List MemberTurn = stop_answered stops.order dump ends.told stops.earlier in
     let kept : KeepsNames f.slots first f.files before = subst (λ (l : List MemberTurn). KeepsNames f.slots first f.files l) stops.latest keeps in
-    let leaves : LeavesOtherFiles (slot_runs f.slots) f.slots f.later_slots f.files.seen f.later_files.seen = finishes_leave_files laws (slot_runs f.slots) f finishes open_files (slots_listed f.slots) in
+    let leaves = finish_leaves laws [] f finishes open_files in
     let specs : List (Option ChannelSpec) = specs_in f.slots in
     let stays : StaysOrRose f.files.faults f.later_files.faults = (finish_faults f finishes).count in
     let done : KeepsNames f.later_slots first f.later_files later = record {
-      tells = leaves.files.tells ∙ keeps.tells;
+      tells = leaves.tells ∙ keeps.tells;
       names = λ tells none.
           let before_none : NoneRose first f.files = none_first first.faults f.files.faults f.later_files.faults none stays in
           let left : NamesLeft (IsNameLeft specs later first.seen) f.slots f.files.seen =
-          left_more (IsNameLeft specs before first.seen) (IsNameLeft specs later first.seen) f.slots f.files.seen (name_more specs before later first.seen (answered_more stops.order f.stop_dump ends.states stops.earlier)) (kept.names tells before_none) in
+          left_more (IsNameLeft specs before first.seen) (IsNameLeft specs later first.seen) f.slots f.files.seen (name_more specs before later first.seen (answered_more stops.order dump ends.told stops.earlier)) (kept.names tells before_none) in
           subst (λ (s : List (Option ChannelSpec)). NamesLeft (IsNameLeft s later first.seen) f.later_slots f.later_files.seen) (sym leaves.specs)
-          (ends_left laws.closes (IsNameLeft specs later first.seen) f time ends open_files (λ name open_ x. inl (open_stopped f ends.states turns stops name open_, free_name specs later first.seen name (left.fresh name open_))) left);
+          (ends_left laws.closes (IsNameLeft specs later first.seen) f time ends open_files (λ name open_ x. inl (open_stopped f time ends few turns stops name open_, free_name specs later first.seen name (left.fresh name open_))) left);
       taken = λ tells none.
           let before_none : NoneRose first f.files = none_first first.faults f.files.faults f.later_files.faults none stays in
           subst (λ (s : List (Option ChannelSpec)). AreTaken s first.seen later) (sym leaves.specs) ((λ number e. absurd (cc (e))), (kept.taken tells before_none).1);
     } in
-    let answered : KeepsNames f.later_slots first f.later_files (latest_answered before (Some (Yes (Channels ends.states)))) = done in
-    rw ends.answer_is (subst (λ (l : List MemberTurn). KeepsNames f.later_slots first f.later_files (latest_answered l (Some (Yes (Channels ends.states))))) (sym stops.latest) answered)
+    let answered : KeepsNames f.later_slots first f.later_files (latest_answered before (Some (Yes (Channels ends.told)))) = done in
+    rw ends.answer_is (subst (λ (l : List MemberTurn). KeepsNames f.later_slots first f.later_files (latest_answered l (Some (Yes (Channels ends.told))))) (sym stops.latest) answered)
 
-finish_by : FileChanges → (f : LoggerFinish) (first : RunFiles) (turns : List MemberTurn) (settled : Bool) (stop : Option ℕ) → FinishesLogger f → waiting_stop f.run ≡ stop → HaveFilesOpen f.slots f.files.seen → FinishesBy settled stop f → HaveStoppedRuns f.run f.stop_dump f.slots turns
-    → KeepsNames f.slots first f.files turns → KeepsNames f.later_slots first f.later_files (latest_answered turns f.answer)
-finish_by laws f first turns settled None finishes waits open_files leaves stopped keeps = rw (leaves.answer_is, leaves.slots, leaves.files) keeps
-finish_by laws f first turns false (Some time) finishes waits open_files leaves stopped keeps = rw (leaves.answer_is, leaves.slots, leaves.files) keeps
-finish_by laws f first turns true (Some time) finishes waits open_files ends stopped keeps = finished_names laws f first turns time finishes open_files ends (stopped time waits) keeps
+finish_by : FileChanges → (f : LoggerFinish) (first : RunFiles) (turns : List MemberTurn) (settled : Bool) (stop : Option ℕ) → FinishesLogger f → waiting_stop f.run ≡ stop → length f.slots ≤ channel_limit → HaveFilesOpen f.slots f.files.seen → FinishesBy settled stop f
+    → HaveStoppedRuns f.run f.dumps.stop f.slots turns → KeepsNames f.slots first f.files turns → KeepsNames f.later_slots first f.later_files (latest_answered turns f.answer)
+finish_by laws f first turns settled None finishes waits few open_files leaves stopped keeps = rw (leaves.answer_is, leaves.slots, leaves.files) keeps
+finish_by laws f first turns false (Some time) finishes waits few open_files leaves stopped keeps = rw (leaves.answer_is, leaves.slots, leaves.files) keeps
+finish_by laws f first turns true (Some time) finishes waits few open_files ends stopped keeps = finished_names laws f first turns time finishes few open_files ends (stopped time waits) keeps
 
 pub finishes_keep_names : FileChanges → FinishesKeepNames
-finishes_keep_names laws f first turns finishes open_files stopped keeps = finish_by laws f first turns (list_all is_settled_slot f.slots) (waiting_stop f.run) finishes refl open_files finishes stopped keeps
+finishes_keep_names laws f first turns finishes few open_files stopped keeps = finish_by laws f first turns (list_all is_settled_slot f.slots) (waiting_stop f.run) finishes refl few open_files finishes stopped keeps

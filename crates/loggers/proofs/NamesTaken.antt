@@ -1,5 +1,5 @@
 -- A logger refuses a start for a name only where that is taken.
-use Rattle.std.specs.Prelude.{◌≡◌, ◌≤◌, ◌<◌, ℕ, zero, suc, Bool, true, false, IsTrue, IsSome, List, Option, Some, None, Result, Ok, Err, ⊤, ◌⊎◌, refl}
+use Rattle.std.specs.Prelude.{◌≡◌, ◌≤◌, ◌<◌, ◌+◌, ℕ, zero, suc, Bool, true, false, IsTrue, IsSome, List, Option, Some, None, Result, Ok, Err, ⊤, ◌⊎◌, refl}
 use Rattle.std.proofs.Common.{ap, sym, subst, ◌∙◌, arith, inl, inr}
 use Rattle.daq_types.specs.declared.runs.Order.{Order}
 use Rattle.daq_types.specs.declared.runs.Transition.{Transition}
@@ -16,7 +16,9 @@ use Rattle.mid_logger.specs.declared.channel.Channel.{Channel}
 use Rattle.mid_logger.specs.declared.channel_spec.ChannelSpec.{ChannelSpec}
 use Rattle.mid_logger.specs.declared.stage.ChannelRun.{ChannelRun}
 use Rattle.mid_logger.specs.ChannelTurns.{ChannelAt, RefusesRun}
-use Rattle.mid_logger.specs.Channels.{channel_run}
+use Rattle.sub_files.specs.declared.open_file.OpenFile.{OpenFile}
+use Rattle.sub_files.specs.Patterns.{piece_name_by}
+use Rattle.mid_logger.specs.Channels.{channel_run, files_by as files_made}
 use Rattle.mid_logger.specs.Patterns.{file_name_by}
 use Rattle.loggers.specs.Moments.{LoggerMoment, StepsSlot, AreIdleChannels}
 use Rattle.loggers.specs.ChannelSteps.{OpensChannel}
@@ -25,14 +27,15 @@ use Rattle.loggers.specs.OtherFiles.{specs_in}
 use Rattle.loggers.specs.LeftNames.{NamesLeft, IsNameLeft, IsStoppedName, IsGivenBefore, IsNameTaken}
 use Rattle.loggers.proofs.FilesLeft.{spec_at, specs_set, no_run}
 use Rattle.loggers.proofs.NamesUndone.{OpenFrom, Opening, opening_all, opening_first}
-use Rattle.loggers.proofs.SlotLists.{one_changed}
+use Rattle.loggers.proofs.SlotLists.{below_or_not, one_changed}
 
 -- While a run is opened.
 
--- what the channels are stays, and each that has a run has this one
+-- what the channels are stays, and each that has a run has this one, of which it made one file
 record Opens (specs : List (Option ChannelSpec)) (run : ℕ) (m : LoggerMoment) : Type 0 where
   specs_are : specs_in m.slots ≡ specs
   runs : (n : ℕ) → (c : Channel) → (opened : ChannelRun) → slot_at m.slots n ≡ Some c → channel_run c.stage ≡ Some opened → opened.run ≡ run
+  few : (n : ℕ) → (c : Channel) → slot_at m.slots n ≡ Some c → files_made c.stage ≤ 1
 
 opens_slot : (specs : List (Option ChannelSpec)) (order : Order) (dump : List ℕ) (n : ℕ) (slot : Option Channel) (a b : LoggerMoment) → slot_at a.slots n ≡ slot → StepsSlot (OpensChannel order dump (Ok tt)) n slot a b → Opens specs order.run a → Opens specs order.run b
 opens_slot specs order dump n None a b there same o = subst (λ (m : LoggerMoment). Opens specs order.run m) (sym same) o
@@ -40,6 +43,8 @@ opens_slot specs order dump n (Some before) a b there s o =
     let opens = s.step.opens in
     let opened : ChannelRun = record { run = order.run; start = order.start; time = order.time; at = opens.at; client = opens.asks.client; request = opens.asks.request } in
     let of : channel_run s.after.stage ≡ Some opened = ap channel_run opens.asks.stage in
+    let sub : opens.at.sub ≡ 0 = ap (λ (f : OpenFile). f.sub) opens.first in
+    let made : files_made s.after.stage ≡ opens.at.sub + 1 = ap files_made opens.asks.stage in
     record {
       specs_are = ap specs_in s.slots ∙ (specs_set a.slots n before s.after there s.step.spec ∙ o.specs_are);
       runs = λ k c other at is.
@@ -47,6 +52,8 @@ opens_slot specs order dump n (Some before) a b there s o =
           (λ x here has. (let same : opened ≡ other = cc (of, has) in sym (ap (λ (y : ChannelRun). y.run) same)))
           (λ i x differs here has. o.runs i x other here has) before there k c
           (subst (λ (l : List (Option Channel)). slot_at l k ≡ Some c) s.slots at) is;
+      few = λ k c at.
+          one_changed (λ i x. files_made x.stage ≤ 1) a.slots n s.after (λ x here. omega (arith, made, sub)) (λ i x differs here. o.few i x here) before there k c (subst (λ (l : List (Option Channel)). slot_at l k ≡ Some c) s.slots at);
     }
 
 opens_all : (specs : List (Option ChannelSpec)) (order : Order) (dump : List ℕ) (n : ℕ) (a b : LoggerMoment) → OpensBelow order dump n a b → Opens specs order.run a → Opens specs order.run b
@@ -54,15 +61,11 @@ opens_all specs order dump zero a b same o = subst (λ (m : LoggerMoment). Opens
 opens_all specs order dump (suc n) a b opens o = opens_slot specs order dump n (slot_at opens.0.slots n) opens.0 b refl opens.2 (opens_all specs order dump n a opens.0 opens.1 o)
 
 opens_first : (order : Order) (a : LoggerMoment) → AreIdleChannels a.slots → Opens (specs_in a.slots) order.run a
-opens_first order a idle = record { specs_are = refl; runs = λ n c opened at is. absurd (no_run c.stage opened (idle n c at) is) }
-
-below_or_not : (n m : ℕ) → (n < m) ⊎ (m ≤ n)
-below_or_not n zero = inr (omega arith)
-below_or_not zero (suc m) = inl (omega arith)
-below_or_not (suc n) (suc m) = elim (below_or_not n m) as (λ w. (suc n < suc m) ⊎ (suc m ≤ suc n)) [
-  | inl less ↦ inl (omega (arith, less))
-  | inr more ↦ inr (omega (arith, more))
-]
+opens_first order a idle = record {
+  specs_are = refl;
+  runs = λ n c opened at is. absurd (no_run c.stage opened (idle n c at) is);
+  few = λ n c at. (let made : files_made c.stage ≡ 0 = ap files_made (idle n c at) in omega (arith, made));
+}
 
 -- Where a channel refuses.
 
@@ -106,6 +109,7 @@ module _ (turns : List MemberTurn) (first : Seen) (order : Order) (dump : List �
   given o =
       let c : Channel = o.open_name.channel in
       let run : o.open_name.opened.run ≡ order.run = opens.runs o.open_name.number c o.open_name.opened o.open_name.there o.open_name.of in
+      let first : 0 ≡ o.open_name.sub = (let made = o.open_name.made in omega (arith, made, opens.few o.open_name.number c o.open_name.there)) in
       let below : o.open_name.number < undoes.opens.number = elim (below_or_not o.open_name.number undoes.opens.number) as (λ w. o.open_name.number < undoes.opens.number) [
         | inl less ↦ less
         | inr more ↦ absurd (no_run c.stage o.open_name.opened (opening.idle o.open_name.number c more o.open_name.there) o.open_name.of)
@@ -115,7 +119,7 @@ module _ (turns : List MemberTurn) (first : Seen) (order : Order) (dump : List �
         spec = c.spec;
         below = below;
         there = its_spec o.open_name.number c o.open_name.there;
-        is = ap (λ (n : ℕ). file_name_by c.spec.pattern n) (sym run) ∙ o.open_name.is;
+        is = ap (λ (n : ℕ). file_name_by c.spec.pattern n) (sym run) ∙ (ap (λ (k : ℕ). piece_name_by c.spec.pattern o.open_name.opened.run k) first ∙ o.open_name.is);
       }
 
   pub refused_taken : IsNameTaken specs turns first order.run number

@@ -1,5 +1,5 @@
 -- Which names of run files each call of a logger leaves as they should be, where no fault is counted.
-use Rattle.std.specs.Prelude.{◌≡◌, ◌≢◌, ◌≤◌, ◌==◌, ℕ, zero, suc, Bool, true, false, IsTrue, List, [], ◌∷◌, length, map, slice_set, Option, Some, None, Result, Ok, Err, ⊤, ◌⊎◌, refl}
+use Rattle.std.specs.Prelude.{◌≡◌, ◌≢◌, ◌≤◌, ◌<◌, ◌==◌, ◌+◌, ℕ, zero, suc, Bool, true, false, IsTrue, List, [], ◌∷◌, length, map, slice_set, Option, Some, None, Result, Ok, Err, ⊤, ◌⊎◌, refl}
 use Rattle.std.specs.Option.{option_map}
 use Rattle.std.proofs.Common.{ap, sym, subst, ◌∙◌, arith, inl, inr}
 use Rattle.std.proofs.lemmas.Bool.Decides.{eqb_tells}
@@ -17,26 +17,29 @@ use Rattle.mid_logger.specs.declared.channel_spec.ChannelSpec.{ChannelSpec}
 use Rattle.mid_logger.specs.declared.pulled.Pulled.{Pulled}
 use Rattle.mid_logger.specs.declared.stage.ChannelRun.{ChannelRun}
 use Rattle.mid_logger.specs.declared.stage.ChannelStage.{ChannelStage}
-use Rattle.mid_logger.specs.declared.stage.ChannelStage.TheVariants.{Idle, Asking, Writing, Draining, Drained, Broken}
-use Rattle.mid_logger.specs.Channels.{channel_run, written_run, stage_begun, stage_ended, place_marked}
-use Rattle.mid_logger.specs.ChannelEnds.{RemovesFile, stage_settled}
-use Rattle.mid_logger.specs.Keeping.{ChangesFile, PullsChange, ClosesChange}
-use Rattle.mid_logger.specs.ChannelTurns.{ChannelAt, OpenFaults, RefusesRun, broken_run}
+use Rattle.mid_logger.specs.declared.stage.ChannelStage.TheVariants.{Idle}
+use Rattle.sub_files.specs.declared.open_file.OpenFile.{OpenFile}
+use Rattle.sub_files.specs.Patterns.{piece_name_by}
+use Rattle.sub_files.specs.RecordFiles.{AreGone, UndoesFile}
+use Rattle.mid_logger.specs.Channels.{channel_run, written_run, stage_begun, stage_ended, place_marked, files_by as files_made}
+use Rattle.mid_logger.specs.ChannelEnds.{RemovesRun, stage_settled}
+use Rattle.mid_logger.specs.Keeping.{ChangesRun, KeepsRun, any_file, PullsChange, AbortsChange, ClosesChange}
+use Rattle.mid_logger.specs.ChannelTurns.{ChannelAt, OpenFaults, RefusesRun}
 use Rattle.mid_logger.specs.Patterns.{file_name_by}
-use Rattle.mid_logger.specs.RecordFiles.{IsGone, UndoesFile}
 use Rattle.loggers.specs.Moments.{RunFiles, LoggerMoment, StepsChannel, StepsSlot, StepsAt, CallsBuffer, MarksBuffer, InTurn, noted_channel, AreIdleChannels, HaveFilesOpen}
 use Rattle.loggers.specs.ChannelSteps.{OpensChannel, AbortsChannel, PullsChannel}
 use Rattle.loggers.specs.SlotPulls.{PullsSlot, PullsNumbered}
-use Rattle.loggers.specs.Finishing.{EndingMoment, EndsSlot, EndsSlotAt, EndsFiles, LoggerFinish, states_idle}
+use Rattle.loggers.specs.Finishing.{EndingMoment, EndsSlot, EndsSlotAt, EndsFiles, LoggerFinish, ending_of, ends_idle}
 use Rattle.loggers.specs.Turning.{EndsBuffer, PausesBuffer, ResumesBuffer, LoggerTurn, OpensBelow, BeginsBelow, AbortsAll, UndoesOpens, UndoesBegins, StartsSo, TakesStart, TakesStop, TakesMark, TakesAbort, TakesTurnBy, TakesTurn, IsIdleOutside, is_run_on, is_started, is_of_start, buffers_begun}
 use Rattle.loggers.specs.LeftNames.{IsOpenName, NamesLeft, NoneRose}
+use Rattle.loggers.proofs.CloseMoves.{settled_made}
 use Rattle.loggers.proofs.FaultsNoted.{rose_then, then_rose, counts_then}
-use Rattle.loggers.proofs.FilesLeft.{noted_spec, noted_run, begun_run, ended_run, no_run, settled_run}
+use Rattle.loggers.proofs.FilesLeft.{KeepsFiles, noted_spec, noted_run, noted_made, begun_files, ended_files_kept, no_run, same_run, settled_run}
 use Rattle.loggers.proofs.InTurns.{turns_keep}
 use Rattle.loggers.proofs.ReadySteps.{ended_files}
 use Rattle.loggers.proofs.ManyRose.{StaysOrRose}
 use Rattle.loggers.proofs.ReasonsKept.{step_stays, refused_stays, opens_kept, begins_kept, ends_kept, aborts_kept, abort_kept, refused_kept, call_kept}
-use Rattle.loggers.proofs.SlotLists.{same_or_other, one_changed, put_there, many_set}
+use Rattle.loggers.proofs.SlotLists.{same_or_other, below_or_not, one_changed, put_there, many_set}
 
 -- Names, and counts that stay.
 
@@ -50,6 +53,28 @@ names_tell (x ∷ xs) (y ∷ ys) = by_both (eqb_tells x y) (names_tell xs ys)
     by_both (inl one) (inl rest) = inl (ap (λ (n : ℕ). n ∷ xs) one.1 ∙ ap (λ (l : List ℕ). y ∷ l) rest)
     by_both (inl one) (inr rest) = inr (λ e. rest (cc (e)))
     by_both (inr one) rest = inr (λ e. one.1 (cc (e)))
+
+-- the name is one of the first of these, so many
+record IsOneOf (names : ℕ → List ℕ) (many : ℕ) (name : List ℕ) : Type 0 where
+  place : ℕ
+  below : place < many
+  is : name ≡ names place
+
+abbrev IsNoneOf : (names : ℕ → List ℕ) → (many : ℕ) → (name : List ℕ) → Type 0
+IsNoneOf names many name = (n : ℕ) → n < many → name ≢ names n
+
+one_or_none : (names : ℕ → List ℕ) (many : ℕ) (name : List ℕ) → IsOneOf names many name ⊎ IsNoneOf names many name
+one_or_none names zero name = inr (λ n below same. omega (arith, below))
+one_or_none names (suc many) name = elim (names_tell name (names many)) as (λ w. IsOneOf names (suc many) name ⊎ IsNoneOf names (suc many) name) [
+  | inl last ↦ inl (record { place = many; below = omega arith; is = last })
+  | inr differs ↦ elim (one_or_none names many name) as (λ w. IsOneOf names (suc many) name ⊎ IsNoneOf names (suc many) name) [
+    | inl one ↦ inl (let below = one.below in record { place = one.place; below = omega (arith, below); is = one.is })
+    | inr none ↦ inr (λ n below same. elim (same_or_other n many) as (λ w. ⊥) [
+      | inl last ↦ differs (same ∙ ap names last)
+      | inr other ↦ none n (omega (arith, below, other)) same
+    ])
+  ]
+]
 
 pub none_first : (f g h : ℕ) → (Rose f h → ⊥) → StaysOrRose g h → Rose f g → ⊥
 none_first f g h none stays rose = none (rose_then f g h rose stays)
@@ -67,29 +92,29 @@ pub record OpenFrom (k : ℕ) (slots : List (Option Channel)) (name : List ℕ) 
 record HasOpen (c : Channel) (name : List ℕ) : Type 0 where
   opened : ChannelRun
   of : channel_run c.stage ≡ Some opened
-  is : file_name_by c.spec.pattern opened.run ≡ name
+  sub : ℕ
+  made : sub < files_made c.stage
+  is : piece_name_by c.spec.pattern opened.run sub ≡ name
+
+has_open : (slots : List (Option Channel)) (name : List ℕ) (o : IsOpenName slots name) → HasOpen o.channel name
+has_open slots name o = record { opened = o.opened; of = o.of; sub = o.sub; made = o.made; is = o.is }
+
+abbrev open_at : (slots : List (Option Channel)) (n : ℕ) (c : Channel) (name : List ℕ) → slot_at slots n ≡ Some c → HasOpen c name → IsOpenName slots name
+open_at slots n c name there has = record { number = n; channel = c; opened = has.opened; there = there; of = has.of; sub = has.sub; made = has.made; is = has.is }
 
 set_open : (slots : List (Option Channel)) (n : ℕ) (before after : Channel) (name : List ℕ) → slot_at slots n ≡ Some before → IsOpenName (slice_set slots n (Some after)) name → HasOpen after name ⊎ IsOpenName slots name
 set_open slots n before after name there o =
-    one_changed (λ k x. channel_run x.stage ≡ Some o.opened → file_name_by x.spec.pattern o.opened.run ≡ name → HasOpen after name ⊎ IsOpenName slots name) slots n after
-    (λ b here of is. inl (record { opened = o.opened; of = of; is = is }))
-    (λ k x other here of is. inr (record { number = k; channel = x; opened = o.opened; there = here; of = of; is = is })) before there o.number o.channel o.there o.of o.is
+    one_changed (λ k x. HasOpen x name → HasOpen after name ⊎ IsOpenName slots name) slots n after (λ b here has. inl has) (λ k x other here has. inr (open_at slots k x name here has)) before there o.number o.channel o.there
+    (has_open (slice_set slots n (Some after)) name o)
 
 open_set : (k : ℕ) (slots : List (Option Channel)) (n : ℕ) (before after : Channel) (name : List ℕ) → slot_at slots n ≡ Some before → OpenFrom k slots name → (HasOpen before name → ⊥) → OpenFrom k (slice_set slots n (Some after)) name
 open_set k slots n before after name there o none = elim (same_or_other o.open_name.number n) as (λ w. OpenFrom k (slice_set slots n (Some after)) name) [
   | inl same ↦
       let at_n : slot_at slots n ≡ Some o.open_name.channel = subst (λ (i : ℕ). slot_at slots i ≡ Some o.open_name.channel) same o.open_name.there in
       let is : o.open_name.channel ≡ before = cc (at_n, there) in
-      absurd (none (subst (λ (c : Channel). HasOpen c name) is (record { opened = o.open_name.opened; of = o.open_name.of; is = o.open_name.is })))
+      absurd (none (subst (λ (c : Channel). HasOpen c name) is (has_open slots name o.open_name)))
   | inr other ↦ record {
-    open_name = record {
-      number = o.open_name.number;
-      channel = o.open_name.channel;
-      opened = o.open_name.opened;
-      there = slot_set_other slots n o.open_name.number (Some after) other ∙ o.open_name.there;
-      of = o.open_name.of;
-      is = o.open_name.is;
-    };
+    open_name = open_at (slice_set slots n (Some after)) o.open_name.number o.open_name.channel name (slot_set_other slots n o.open_name.number (Some after) other ∙ o.open_name.there) (has_open slots name o.open_name);
     from = o.from;
   }
 ]
@@ -100,16 +125,9 @@ open_past slots n before after name there o none = elim (same_or_other o.open_na
   | inl same ↦
       let at_n : slot_at slots n ≡ Some o.open_name.channel = subst (λ (i : ℕ). slot_at slots i ≡ Some o.open_name.channel) same o.open_name.there in
       let is : o.open_name.channel ≡ before = cc (at_n, there) in
-      absurd (none (subst (λ (c : Channel). HasOpen c name) is (record { opened = o.open_name.opened; of = o.open_name.of; is = o.open_name.is })))
+      absurd (none (subst (λ (c : Channel). HasOpen c name) is (has_open slots name o.open_name)))
   | inr other ↦ record {
-    open_name = record {
-      number = o.open_name.number;
-      channel = o.open_name.channel;
-      opened = o.open_name.opened;
-      there = slot_set_other slots n o.open_name.number (Some after) other ∙ o.open_name.there;
-      of = o.open_name.of;
-      is = o.open_name.is;
-    };
+    open_name = open_at (slice_set slots n (Some after)) o.open_name.number o.open_name.channel name (slot_set_other slots n o.open_name.number (Some after) other ∙ o.open_name.there) (has_open slots name o.open_name);
     from = (let least : n ≤ o.open_name.number = o.from in omega arith);
   }
 ]
@@ -136,6 +154,8 @@ opening_one Good order dump n before a b there s g =
     let touches : Touches a.files.seen b.files.seen name_n = o.makes.touches in
     let opened : ChannelRun = record { run = order.run; start = order.start; time = order.time; at = o.at; client = o.asks.client; request = o.asks.request } in
     let of : channel_run s.after.stage ≡ Some opened = ap channel_run o.asks.stage in
+    let sub : o.at.sub ≡ 0 = ap (λ (f : OpenFile). f.sub) o.first in
+    let made : files_made s.after.stage ≡ o.at.sub + 1 = ap files_made o.asks.stage in
     let slots : List (Option Channel) = slice_set a.slots n (Some s.after) in
     let none_n : Good name_n None = elim (g.each name_n) as (λ w. Good name_n None) [
       | inl same ↦ subst (λ (x : Option Stored). Good name_n x) (o.makes.fresh g.tells) same
@@ -143,7 +163,7 @@ opening_one Good order dump n before a b there s g =
     ] in
     let idle : before.stage ≡ Idle = g.idle n before (omega arith) there in
     let here : OpenFrom 0 slots name_n = record {
-      open_name = record { number = n; channel = s.after; opened = opened; there = put_there a.slots n before s.after there; of = of; is = ap (λ (x : ChannelSpec). file_name_by x.pattern order.run) s.step.spec };
+      open_name = open_at slots n s.after name_n (put_there a.slots n before s.after there) (record { opened = opened; of = of; sub = 0; made = omega (arith, made, sub); is = ap (λ (x : ChannelSpec). file_name_by x.pattern order.run) s.step.spec });
       from = omega arith;
     } in
     let now : Opening Good (suc n) (record b { slots = slots }) = record {
@@ -158,7 +178,9 @@ opening_one Good order dump n before a b there s g =
       fresh = λ name open_. elim (set_open a.slots n before s.after name there open_) as (λ w. Good name None) [
         | inl mine ↦
             let same_run : opened.run ≡ mine.opened.run = (let is = mine.of in cc (of, is)) in
-            let is : name_n ≡ name = ap (λ (x : ChannelSpec). file_name_by x.pattern order.run) (sym s.step.spec) ∙ (ap (λ (r : ℕ). file_name_by s.after.spec.pattern r) same_run ∙ mine.is) in
+            let first : 0 ≡ mine.sub = (let below = mine.made in omega (arith, below, made, sub)) in
+            let is : name_n ≡ name = ap (λ (x : ChannelSpec). file_name_by x.pattern order.run) (sym s.step.spec)
+            ∙ (ap (λ (r : ℕ). file_name_by s.after.spec.pattern r) same_run ∙ (ap (λ (k : ℕ). piece_name_by s.after.spec.pattern mine.opened.run k) first ∙ mine.is)) in
             subst (λ (l : List ℕ). Good l None) is none_n
         | inr old ↦ g.fresh name old
       ];
@@ -261,7 +283,26 @@ map_length : (f : Option Channel → Option Channel) (slots : List (Option Chann
 map_length f [] = refl
 map_length f (o ∷ os) = ap (λ (n : ℕ). suc n) (map_length f os)
 
-undo_marked : (Good : List ℕ → Option Stored → Type 0) (many : ℕ) (entry : _) (note : ChannelStage → ChannelStage) (buffer : ℕ) (a b : LoggerMoment) → ((stage : ChannelStage) → channel_run (note stage) ≡ channel_run stage) → MarksBuffer entry note buffer a b → Undo Good 0 many a → Undo Good 0 many b
+-- a channel has a name open as before, once it has noted a mark
+noted_open : (note : ChannelStage → ChannelStage) (buffer : ℕ) (c : Channel) (name : List ℕ) → KeepsFiles note → HasOpen c name → HasOpen (noted_channel note buffer c) name
+noted_open note buffer c name keeps has = record {
+  opened = has.opened;
+  of = noted_run note buffer c keeps ∙ has.of;
+  sub = has.sub;
+  made = subst (λ (k : ℕ). has.sub < k) (sym (noted_made note buffer c keeps)) has.made;
+  is = ap (λ (x : ChannelSpec). piece_name_by x.pattern has.opened.run has.sub) (noted_spec note buffer c) ∙ has.is;
+}
+
+open_noted : (note : ChannelStage → ChannelStage) (buffer : ℕ) (c : Channel) (name : List ℕ) → KeepsFiles note → HasOpen (noted_channel note buffer c) name → HasOpen c name
+open_noted note buffer c name keeps has = record {
+  opened = has.opened;
+  of = sym (noted_run note buffer c keeps) ∙ has.of;
+  sub = has.sub;
+  made = subst (λ (k : ℕ). has.sub < k) (noted_made note buffer c keeps) has.made;
+  is = ap (λ (x : ChannelSpec). piece_name_by x.pattern has.opened.run has.sub) (sym (noted_spec note buffer c)) ∙ has.is;
+}
+
+undo_marked : (Good : List ℕ → Option Stored → Type 0) (many : ℕ) (entry : _) (note : ChannelStage → ChannelStage) (buffer : ℕ) (a b : LoggerMoment) → KeepsFiles note → MarksBuffer entry note buffer a b → Undo Good 0 many a → Undo Good 0 many b
 undo_marked Good many entry note buffer a b keeps marks g =
     let slots : List (Option Channel) = map (option_map (noted_channel note buffer)) a.slots in
     let now : Undo Good 0 many (record a { slots = slots }) = record {
@@ -270,27 +311,14 @@ undo_marked Good many entry note buffer a b keeps marks g =
       each = λ name. elim (g.each name) as (λ w. (Good name (a.files.seen.at name)) ⊎ OpenFrom 0 slots name) [
         | inl old ↦ inl old
         | inr o ↦ inr (record {
-          open_name = record {
-            number = o.open_name.number;
-            channel = noted_channel note buffer o.open_name.channel;
-            opened = o.open_name.opened;
-            there = map_at note buffer a.slots o.open_name.number o.open_name.channel o.open_name.there;
-            of = noted_run [] note buffer o.open_name.channel keeps ∙ o.open_name.of;
-            is = ap (λ (x : ChannelSpec). file_name_by x.pattern o.open_name.opened.run) (noted_spec note buffer o.open_name.channel) ∙ o.open_name.is;
-          };
+          open_name = open_at slots o.open_name.number (noted_channel note buffer o.open_name.channel) name (map_at note buffer a.slots o.open_name.number o.open_name.channel o.open_name.there)
+              (noted_open note buffer o.open_name.channel name keeps (has_open a.slots name o.open_name));
           from = omega arith;
         })
       ];
       fresh = λ name o.
           let was = map_from note buffer a.slots o.number o.channel o.there in
-          g.fresh name (record {
-            number = o.number;
-            channel = was.0;
-            opened = o.opened;
-            there = was.1;
-            of = sym (noted_run [] note buffer was.0 keeps) ∙ (ap (λ (c : Channel). channel_run c.stage) was.2 ∙ o.of);
-            is = ap (λ (x : ChannelSpec). file_name_by x.pattern o.opened.run) (sym (noted_spec note buffer was.0) ∙ ap (λ (c : Channel). c.spec) was.2) ∙ o.is;
-          });
+          g.fresh name (open_at a.slots o.number was.0 name was.1 (open_noted note buffer was.0 name keeps (subst (λ (c : Channel). HasOpen c name) (sym was.2) (has_open slots name o))));
     } in
     let files : Undo Good 0 many (record a { slots = slots; files = b.files }) = subst (λ (f : RunFiles). Undo Good 0 many (record a { slots = slots; files = f })) (sym marks.marks.files) now in
     let all : Undo Good 0 many (record b { slots = slots }) = record { tells = files.tells; many_is = files.many_is; each = files.each; fresh = files.fresh } in
@@ -304,36 +332,43 @@ undo_called Good many entry buffer a b calls g =
 
 undo_begins : (Good : List ℕ → Option Stored → Type 0) (many start n : ℕ) (a b : LoggerMoment) → BeginsBelow start n a b → Undo Good 0 many a → Undo Good 0 many b
 undo_begins Good many start zero a b same g = subst (λ (m : LoggerMoment). Undo Good 0 many m) (sym same) g
-undo_begins Good many start (suc n) a b begins g = undo_marked Good many _ (λ stage. stage_begun stage begins.2.0) n begins.0 b (begun_run begins.2.0) begins.2.1 (undo_begins Good many start n a begins.0 begins.1 g)
+undo_begins Good many start (suc n) a b begins g = undo_marked Good many _ (λ stage. stage_begun stage begins.2.0) n begins.0 b (begun_files begins.2.0) begins.2.1 (undo_begins Good many start n a begins.0 begins.1 g)
 
 undo_ends : (Good : List ℕ → Option Stored → Type 0) (many start n : ℕ) (a b : LoggerMoment) → InTurn (λ k. EndsBuffer start k) n a b → Undo Good 0 many a → Undo Good 0 many b
 undo_ends Good many start zero a b same g = subst (λ (m : LoggerMoment). Undo Good 0 many m) (sym same) g
-undo_ends Good many start (suc n) a b ends g = undo_marked Good many _ (λ stage. stage_ended stage (place_marked ends.2.0)) n ends.0 b (ended_run (place_marked ends.2.0)) ends.2.1 (undo_ends Good many start n a ends.0 ends.1 g)
+undo_ends Good many start (suc n) a b ends g = undo_marked Good many _ (λ stage. stage_ended stage (place_marked ends.2.0)) n ends.0 b (ended_files_kept (place_marked ends.2.0)) ends.2.1 (undo_ends Good many start n a ends.0 ends.1 g)
 
 -- one channel calls its run off
 
-abbrev Removes : ChannelSpec → Option ChannelRun → (old new : Seen) → Type 0
-Removes spec None old new = new ≡ old
-Removes spec (Some opened) old new = Touches old new (file_name_by spec.pattern opened.run) × IsGone new (file_name_by spec.pattern opened.run)
+-- all its files are gone, so many, and no other file changed
+record RemovesAll (names : ℕ → List ℕ) (many : ℕ) (old new : Seen) : Type 0 where
+  tells : new.tells ≡ old.tells
+  others : (name : List ℕ) → IsNoneOf names many name → new.at name ≡ old.at name
+  gone : AreGone new names many
 
-surely : (new : Seen) (name : List ℕ) (f g : ℕ) → (Rose f g → ⊥) → IsGone new name ⊎ Rose f g → IsGone new name
-surely new name f g none (inl gone) = gone
-surely new name f g none (inr rose) = absurd (none rose)
+abbrev Removes : ChannelSpec → Option ChannelRun → (many : ℕ) → (old new : Seen) → Type 0
+Removes spec None many old new = new ≡ old
+Removes spec (Some opened) many old new = RemovesAll (piece_name_by spec.pattern opened.run) many old new
 
-removes_by : (spec : ChannelSpec) (stage : ChannelStage) (old new : Seen) (f g : ℕ) → (Rose f g → ⊥) → RemovesFile (written_run stage) (broken_run stage) spec old new f g → Removes spec (channel_run stage) old new
-removes_by spec Idle old new f g none r = r.0
-removes_by spec (Asking opened) old new f g none r = (r.0.touches, surely new _ f g none r.1)
-removes_by spec (Writing opened begun) old new f g none r = (r.0.touches, surely new _ f g none r.1)
-removes_by spec (Draining run) old new f g none r = (r.0.touches, surely new _ f g none r.1)
-removes_by spec (Drained run) old new f g none r = (r.0.touches, surely new _ f g none r.1)
-removes_by spec (Broken run fallen) old new f g none r = (r.0, surely new _ f g none r.2)
+surely_gone : (new : Seen) (names : ℕ → List ℕ) (many f g : ℕ) → (Rose f g → ⊥) → AreGone new names many ⊎ Rose f g → AreGone new names many
+surely_gone new names many f g none (inl gone) = gone
+surely_gone new names many f g none (inr rose) = absurd (none rose)
+
+removes_by : (spec : ChannelSpec) (run written : Option ChannelRun) (many : ℕ) (old new : Seen) (f g : ℕ) → (Rose f g → ⊥) → ChangesRun spec run written many many old new → RemovesRun run written spec many old new f g → Removes spec run many old new
+removes_by spec None written many old new f g none changes removes = removes.0
+removes_by spec (Some opened) written many old new f g none changes removes = record {
+  tells = changes.tells;
+  others = changes.others;
+  gone = surely_gone new (piece_name_by spec.pattern opened.run) many f g none removes.gone;
+}
 
 -- the files behind that
 record Aborted (Good : List ℕ → Option Stored → Type 0) (k : ℕ) (before : Channel) (a : LoggerMoment) (new : Seen) : Type 0 where
   tells : IsTrue new.tells
   each : (name : List ℕ) → (Good name (new.at name)) ⊎ (OpenFrom k a.slots name × (HasOpen before name → ⊥))
 
-aborted_by : (Good : List ℕ → Option Stored → Type 0) (k many : ℕ) (before : Channel) (a : LoggerMoment) (new : Seen) (run : Option ChannelRun) → channel_run before.stage ≡ run → slot_at a.slots k ≡ Some before → Removes before.spec run a.files.seen new → Undo Good k many a → Aborted Good k before a new
+aborted_by : (Good : List ℕ → Option Stored → Type 0) (k many : ℕ) (before : Channel) (a : LoggerMoment) (new : Seen) (run : Option ChannelRun) → channel_run before.stage ≡ run → slot_at a.slots k ≡ Some before → Removes before.spec run (files_made before.stage) a.files.seen new → Undo Good k many a
+    → Aborted Good k before a new
 aborted_by Good k many before a new None is there same g = record {
   tells = subst (λ (s : Seen). IsTrue s.tells) (sym same) g.tells;
   each = λ name. elim (g.each name) as (λ w. (Good name (new.at name)) ⊎ (OpenFrom k a.slots name × (HasOpen before name → ⊥))) [
@@ -342,33 +377,35 @@ aborted_by Good k many before a new None is there same g = record {
   ];
 }
 aborted_by Good k many before a new (Some opened) is there removes g =
-    let name_k : List ℕ = file_name_by before.spec.pattern opened.run in
-    let touches : Touches a.files.seen new name_k = removes.0 in
-    let tells : IsTrue new.tells = subst (λ (t : Bool). IsTrue t) (sym touches.tells) g.tells in
-    let none_k : Good name_k None = g.fresh name_k (record { number = k; channel = before; opened = opened; there = there; of = is; is = refl }) in
+    let names : ℕ → List ℕ = piece_name_by before.spec.pattern opened.run in
+    let tells : IsTrue new.tells = subst (λ (t : Bool). IsTrue t) (sym removes.tells) g.tells in
     record {
       tells = tells;
-      each = λ name. elim (names_tell name name_k) as (λ w. (Good name (new.at name)) ⊎ (OpenFrom k a.slots name × (HasOpen before name → ⊥))) [
-        | inl same ↦ inl (subst (λ (l : List ℕ). Good l (new.at l)) (sym same) (subst (λ (x : Option Stored). Good name_k x) (sym (removes.1 tells)) none_k))
-        | inr differs ↦ elim (g.each name) as (λ w. (Good name (new.at name)) ⊎ (OpenFrom k a.slots name × (HasOpen before name → ⊥))) [
-          | inl old ↦ inl (subst (λ (x : Option Stored). Good name x) (sym (touches.others name differs)) old)
+      each = λ name. elim (one_or_none names (files_made before.stage) name) as (λ w. (Good name (new.at name)) ⊎ (OpenFrom k a.slots name × (HasOpen before name → ⊥))) [
+        | inl one ↦
+            let free : Good (names one.place) None = g.fresh (names one.place) (open_at a.slots k before (names one.place) there (record { opened = opened; of = is; sub = one.place; made = one.below; is = refl })) in
+            inl (subst (λ (l : List ℕ). Good l (new.at l)) (sym one.is) (subst (λ (x : Option Stored). Good (names one.place) x) (sym (removes.gone one.place one.below tells)) free))
+        | inr none ↦ elim (g.each name) as (λ w. (Good name (new.at name)) ⊎ (OpenFrom k a.slots name × (HasOpen before name → ⊥))) [
+          | inl old ↦ inl (subst (λ (x : Option Stored). Good name x) (sym (removes.others name none)) old)
           | inr o ↦ inr (
             o,
-            λ has. differs (
+            λ has. none has.sub has.made (
                 let of = has.of in
-                let same_run : has.opened.run ≡ opened.run = cc (is, of) in
-                sym has.is ∙ ap (λ (r : ℕ). file_name_by before.spec.pattern r) same_run),
+                let its_run : has.opened.run ≡ opened.run = cc (is, of) in
+                sym has.is ∙ ap (λ (r : ℕ). piece_name_by before.spec.pattern r has.sub) its_run),
           )
         ]
       ];
     }
 
-undo_one : (Good : List ℕ → Option Stored → Type 0) (k many : ℕ) (before : Channel) (a b : LoggerMoment) → slot_at a.slots k ≡ Some before → StepsChannel AbortsChannel k before a b → NoneRose a.files b.files → Undo Good k many a → Undo Good (suc k) many b
-undo_one Good k many before a b there s none g =
+undo_one : AbortsChange → (Good : List ℕ → Option Stored → Type 0) (k many : ℕ) (before : Channel) (a b : LoggerMoment) → slot_at a.slots k ≡ Some before → StepsChannel AbortsChannel k before a b → NoneRose a.files b.files → Undo Good k many a → Undo Good (suc k) many b
+undo_one change Good k many before a b there s none g =
     let slots : List (Option Channel) = slice_set a.slots k (Some s.after) in
     let idle : s.after.stage ≡ Idle = ap (λ (c : Channel). c.stage) s.step.channel in
     let files : Aborted Good k before a b.files.seen =
-    aborted_by Good k many before a b.files.seen (channel_run before.stage) refl there (removes_by before.spec before.stage a.files.seen b.files.seen a.files.faults b.files.faults none s.step.removes) g in
+    aborted_by Good k many before a b.files.seen (channel_run before.stage) refl there
+    (removes_by before.spec (channel_run before.stage) (written_run before.stage) (files_made before.stage) a.files.seen b.files.seen a.files.faults b.files.faults none
+    (change before.spec before.stage a.files.seen b.files.seen a.files.faults b.files.faults s.step.removes s.step.last) s.step.removes) g in
     let now : Undo Good (suc k) many (record b { slots = slots }) = record {
       tells = files.tells;
       many_is = many_set a.slots k (Some s.after) ∙ g.many_is;
@@ -397,9 +434,9 @@ undo_none Good k many a b there same g = subst (λ (m : LoggerMoment). Undo Good
   fresh = g.fresh;
 })
 
-undo_slot : (Good : List ℕ → Option Stored → Type 0) (k many : ℕ) (slot : Option Channel) (a b : LoggerMoment) → slot_at a.slots k ≡ slot → StepsSlot AbortsChannel k slot a b → NoneRose a.files b.files → Undo Good k many a → Undo Good (suc k) many b
-undo_slot Good k many None a b there same none g = undo_none Good k many a b there same g
-undo_slot Good k many (Some before) a b there s none g = undo_one Good k many before a b there s none g
+undo_slot : AbortsChange → (Good : List ℕ → Option Stored → Type 0) (k many : ℕ) (slot : Option Channel) (a b : LoggerMoment) → slot_at a.slots k ≡ slot → StepsSlot AbortsChannel k slot a b → NoneRose a.files b.files → Undo Good k many a → Undo Good (suc k) many b
+undo_slot change Good k many None a b there same none g = undo_none Good k many a b there same g
+undo_slot change Good k many (Some before) a b there s none g = undo_one change Good k many before a b there s none g
 
 -- so many channels call their runs off
 
@@ -407,17 +444,17 @@ aborted_count : (n : ℕ) (a b : LoggerMoment) → InTurn (λ k. StepsAt AbortsC
 aborted_count zero a b same = inl (ap (λ (m : LoggerMoment). m.files.faults) same)
 aborted_count (suc n) a b turns = counts_then a.files.faults turns.0.files.faults b.files.faults (aborted_count n a turns.0 turns.1) (step_stays turns.0 b (abort_kept n (slot_at turns.0.slots n) turns.0 b refl turns.2))
 
-undo_below : (Good : List ℕ → Option Stored → Type 0) (many n : ℕ) (a b : LoggerMoment) → InTurn (λ k. StepsAt AbortsChannel k) n a b → NoneRose a.files b.files → Undo Good 0 many a → Undo Good n many b
-undo_below Good many zero a b same none g = subst (λ (m : LoggerMoment). Undo Good 0 many m) (sym same) g
-undo_below Good many (suc n) a b turns none g =
+undo_below : AbortsChange → (Good : List ℕ → Option Stored → Type 0) (many n : ℕ) (a b : LoggerMoment) → InTurn (λ k. StepsAt AbortsChannel k) n a b → NoneRose a.files b.files → Undo Good 0 many a → Undo Good n many b
+undo_below change Good many zero a b same none g = subst (λ (m : LoggerMoment). Undo Good 0 many m) (sym same) g
+undo_below change Good many (suc n) a b turns none g =
     let m : LoggerMoment = turns.0 in
     let last = step_stays m b (abort_kept n (slot_at m.slots n) m b refl turns.2) in
-    undo_slot Good n many (slot_at m.slots n) m b refl turns.2 (none_last a.files.faults m.files.faults b.files.faults none (aborted_count n a m turns.1))
-    (undo_below Good many n a m turns.1 (none_first a.files.faults m.files.faults b.files.faults none last) g)
+    undo_slot change Good n many (slot_at m.slots n) m b refl turns.2 (none_last a.files.faults m.files.faults b.files.faults none (aborted_count n a m turns.1))
+    (undo_below change Good many n a m turns.1 (none_first a.files.faults m.files.faults b.files.faults none last) g)
 
-undone : (Good : List ℕ → Option Stored → Type 0) (a b : LoggerMoment) → AbortsAll a b → NoneRose a.files b.files → Undo Good 0 (length a.slots) a → NamesLeft Good b.slots b.files.seen
-undone Good a b aborts none g =
-    let done : Undo Good (length a.slots) (length a.slots) b = undo_below Good (length a.slots) (length a.slots) a b aborts none g in
+undone : AbortsChange → (Good : List ℕ → Option Stored → Type 0) (a b : LoggerMoment) → AbortsAll a b → NoneRose a.files b.files → Undo Good 0 (length a.slots) a → NamesLeft Good b.slots b.files.seen
+undone change Good a b aborts none g =
+    let done : Undo Good (length a.slots) (length a.slots) b = undo_below change Good (length a.slots) (length a.slots) a b aborts none g in
     record {
       each = λ name. elim (done.each name) as (λ w. Good name (b.files.seen.at name) ⊎ IsOpenName b.slots name) [
         | inl same ↦ inl same
@@ -451,9 +488,9 @@ same_many Good many m g = record { tells = g.tells; many_is = refl; each = g.eac
 
 -- The turns.
 
-opens_undone : (Good : List ℕ → Option Stored → Type 0) (order : Order) (dump : List ℕ) (why : Why) (begun : ℕ) (a b : LoggerMoment) → UndoesOpens order dump why begun a b → AreIdleChannels a.slots → IsTrue a.files.seen.tells → NoneRose a.files b.files → NamesLeft Good a.slots a.files.seen
+opens_undone : AbortsChange → (Good : List ℕ → Option Stored → Type 0) (order : Order) (dump : List ℕ) (why : Why) (begun : ℕ) (a b : LoggerMoment) → UndoesOpens order dump why begun a b → AreIdleChannels a.slots → IsTrue a.files.seen.tells → NoneRose a.files b.files → NamesLeft Good a.slots a.files.seen
     → NamesLeft Good b.slots b.files.seen
-opens_undone Good order dump why begun a b undoes idle tells none left =
+opens_undone change Good order dump why begun a b undoes idle tells none left =
     let r = undoes.opens in
     let m : LoggerMoment = undoes.refused in
     let early = step_stays a r.opened (opens_kept order dump r.number a r.opened r.opens) in
@@ -461,13 +498,13 @@ opens_undone Good order dump why begun a b undoes idle tells none left =
     let middle = refused_stays why r.opened m (refused_kept order dump why r.number r.channel r.opened m r.there r.refuses) in
     let until : StaysOrRose a.files.faults m.files.faults = counts_then a.files.faults r.opened.files.faults m.files.faults early middle in
     let none_until : Rose a.files.faults m.files.faults → ⊥ = none_first a.files.faults m.files.faults b.files.faults none late in
-    undone Good m b undoes.aborts (none_last a.files.faults m.files.faults b.files.faults none until)
+    undone change Good m b undoes.aborts (none_last a.files.faults m.files.faults b.files.faults none until)
     (undo_refused Good order dump why r.number r.channel r.opened m r.there r.refuses (none_last a.files.faults r.opened.files.faults m.files.faults none_until early)
     (opening_all Good order dump r.number a r.opened r.opens (opening_first Good a idle tells left)))
 
-begins_undone : (Good : List ℕ → Option Stored → Type 0) (order : Order) (dump : List ℕ) (why : Why) (begun : ℕ) (a b : LoggerMoment) → UndoesBegins order dump why begun a b → AreIdleChannels a.slots → IsTrue a.files.seen.tells → NoneRose a.files b.files → NamesLeft Good a.slots a.files.seen
+begins_undone : AbortsChange → (Good : List ℕ → Option Stored → Type 0) (order : Order) (dump : List ℕ) (why : Why) (begun : ℕ) (a b : LoggerMoment) → UndoesBegins order dump why begun a b → AreIdleChannels a.slots → IsTrue a.files.seen.tells → NoneRose a.files b.files → NamesLeft Good a.slots a.files.seen
     → NamesLeft Good b.slots b.files.seen
-begins_undone Good order dump why begun a b undoes idle tells none left =
+begins_undone change Good order dump why begun a b undoes idle tells none left =
     let m : LoggerMoment = undoes.refused in
     let c = undoes.begins in
     let opened : LoggerMoment = undoes.opened in
@@ -476,26 +513,26 @@ begins_undone Good order dump why begun a b undoes idle tells none left =
     let until : StaysOrRose a.files.faults m.files.faults =
     counts_then a.files.faults opened.files.faults m.files.faults (step_stays a opened (opens_kept order dump (length a.slots) a opened undoes.opens))
     (counts_then opened.files.faults c.begun.files.faults m.files.faults (step_stays opened c.begun (begins_kept order.start begun opened c.begun c.begins)) (step_stays c.begun m (call_kept _ begun c.begun m c.refuses.1))) in
-    undone Good m b undoes.aborts (none_last a.files.faults m.files.faults b.files.faults none until) (same_many Good (length opened.slots) m refused)
+    undone change Good m b undoes.aborts (none_last a.files.faults m.files.faults b.files.faults none until) (same_many Good (length opened.slots) m refused)
 
-starts_left : (Good : List ℕ → Option Stored → Type 0) (result : Result ⊤ Why) (order : Order) (dump : List ℕ) (begun : ℕ) (a b : LoggerMoment) → StartsSo result order dump begun a b → AreIdleChannels a.slots → IsTrue a.files.seen.tells → NoneRose a.files b.files → NamesLeft Good a.slots a.files.seen
+starts_left : AbortsChange → (Good : List ℕ → Option Stored → Type 0) (result : Result ⊤ Why) (order : Order) (dump : List ℕ) (begun : ℕ) (a b : LoggerMoment) → StartsSo result order dump begun a b → AreIdleChannels a.slots → IsTrue a.files.seen.tells → NoneRose a.files b.files → NamesLeft Good a.slots a.files.seen
     → NamesLeft Good b.slots b.files.seen
-starts_left Good (Ok done) order dump begun a b starts idle tells none left =
+starts_left change Good (Ok done) order dump begun a b starts idle tells none left =
     let opened : LoggerMoment = starts.opened in
     undo_left Good (length opened.slots) b (undo_begins Good (length opened.slots) order.start (length a.ports) opened b starts.begins
     (undo_opened Good (length a.slots) opened (opening_all Good order dump (length a.slots) a opened starts.opens (opening_first Good a idle tells left))))
-starts_left Good (Err why) order dump begun a b starts idle tells none left = elim starts as (λ w. NamesLeft Good b.slots b.files.seen) [
-  | inl opens ↦ opens_undone Good order dump why begun a b opens idle tells none left
-  | inr begins ↦ begins_undone Good order dump why begun a b begins idle tells none left
+starts_left change Good (Err why) order dump begun a b starts idle tells none left = elim starts as (λ w. NamesLeft Good b.slots b.files.seen) [
+  | inl opens ↦ opens_undone change Good order dump why begun a b opens idle tells none left
+  | inr begins ↦ begins_undone change Good order dump why begun a b begins idle tells none left
 ]
 
 same_left : (Good : List ℕ → Option Stored → Type 0) (a b : LoggerMoment) → b ≡ a → NamesLeft Good a.slots a.files.seen → NamesLeft Good b.slots b.files.seen
 same_left Good a b same left = subst (λ (m : LoggerMoment). NamesLeft Good m.slots m.files.seen) (sym same) left
 
-start_left : (Good : List ℕ → Option Stored → Type 0) (on : Bool) (t : LoggerTurn) → (on ≡ false → AreIdleChannels t.before.slots) → TakesStart on t → IsTrue t.before.files.seen.tells → NoneRose t.before.files t.after.files → NamesLeft Good t.before.slots t.before.files.seen
+start_left : AbortsChange → (Good : List ℕ → Option Stored → Type 0) (on : Bool) (t : LoggerTurn) → (on ≡ false → AreIdleChannels t.before.slots) → TakesStart on t → IsTrue t.before.files.seen.tells → NoneRose t.before.files t.after.files → NamesLeft Good t.before.slots t.before.files.seen
     → NamesLeft Good t.after.slots t.after.files.seen
-start_left Good true t idle takes tells none left = same_left Good t.before t.after takes.moment left
-start_left Good false t idle takes tells none left = starts_left Good takes.result t.order _ takes.begun t.before t.after takes.starts (idle refl) tells none left
+start_left change Good true t idle takes tells none left = same_left Good t.before t.after takes.moment left
+start_left change Good false t idle takes tells none left = starts_left change Good takes.result t.order _ takes.begun t.before t.after takes.starts (idle refl) tells none left
 
 stop_left : (Good : List ℕ → Option Stored → Type 0) (of : Bool) (t : LoggerTurn) → TakesStop of t → IsTrue t.before.files.seen.tells → NamesLeft Good t.before.slots t.before.files.seen → NamesLeft Good t.after.slots t.after.files.seen
 stop_left Good true t takes tells left = undo_left Good (length t.before.slots) t.after (undo_ends Good (length t.before.slots) t.order.start (length t.before.ports) t.before t.after takes.ends (left_undo Good t.before tells left))
@@ -512,74 +549,126 @@ resume_left : (Good : List ℕ → Option Stored → Type 0) (of : Bool) (t : Lo
 resume_left Good true t takes left = turns_keep (λ k. ResumesBuffer t.order.start k) (λ m. NamesLeft Good m.slots m.files.seen) (length t.before.ports) t.before t.after (λ k x y step kept. called_left Good _ k x y step.1 kept) takes.marks left
 resume_left Good false t takes left = same_left Good t.before t.after takes.moment left
 
-called_off_left : (Good : List ℕ → Option Stored → Type 0) (of : Bool) (t : LoggerTurn) → TakesAbort of t → IsTrue t.before.files.seen.tells → NoneRose t.before.files t.after.files → NamesLeft Good t.before.slots t.before.files.seen → NamesLeft Good t.after.slots t.after.files.seen
-called_off_left Good true t takes tells none left =
+called_off_left : AbortsChange → (Good : List ℕ → Option Stored → Type 0) (of : Bool) (t : LoggerTurn) → TakesAbort of t → IsTrue t.before.files.seen.tells → NoneRose t.before.files t.after.files → NamesLeft Good t.before.slots t.before.files.seen → NamesLeft Good t.after.slots t.after.files.seen
+called_off_left change Good true t takes tells none left =
     let a : LoggerMoment = t.before in
     let m : LoggerMoment = takes.ended in
     let ended : Undo Good 0 (length a.slots) m = undo_ends Good (length a.slots) t.order.start (buffers_begun t.run) a m takes.ends (left_undo Good a tells left) in
-    undone Good m t.after takes.aborts (none_last a.files.faults m.files.faults t.after.files.faults none (step_stays a m (ends_kept t.order.start (buffers_begun t.run) a m takes.ends))) (same_many Good (length a.slots) m ended)
-called_off_left Good false t takes tells none left = same_left Good t.before t.after takes.moment left
+    undone change Good m t.after takes.aborts (none_last a.files.faults m.files.faults t.after.files.faults none (step_stays a m (ends_kept t.order.start (buffers_begun t.run) a m takes.ends))) (same_many Good (length a.slots) m ended)
+called_off_left change Good false t takes tells none left = same_left Good t.before t.after takes.moment left
 
-turn_by : (Good : List ℕ → Option Stored → Type 0) (transition : Transition) (t : LoggerTurn) → IsIdleOutside t.run t.before.slots → TakesTurnBy transition t → IsTrue t.before.files.seen.tells → NoneRose t.before.files t.after.files → NamesLeft Good t.before.slots t.before.files.seen
+turn_by : AbortsChange → (Good : List ℕ → Option Stored → Type 0) (transition : Transition) (t : LoggerTurn) → IsIdleOutside t.run t.before.slots → TakesTurnBy transition t → IsTrue t.before.files.seen.tells → NoneRose t.before.files t.after.files → NamesLeft Good t.before.slots t.before.files.seen
     → NamesLeft Good t.after.slots t.after.files.seen
-turn_by Good Start t idle takes tells none left = start_left Good (is_run_on t.run) t idle takes tells none left
-turn_by Good Stop t idle takes tells none left = stop_left Good (is_started t.run t.order.start) t takes tells left
-turn_by Good Pause t idle takes tells none left = pause_left Good (is_started t.run t.order.start) t takes left
-turn_by Good Resume t idle takes tells none left = resume_left Good (is_started t.run t.order.start) t takes left
-turn_by Good StartAbort t idle takes tells none left = called_off_left Good (is_of_start t.run t.order.start) t takes tells none left
+turn_by change Good Start t idle takes tells none left = start_left change Good (is_run_on t.run) t idle takes tells none left
+turn_by change Good Stop t idle takes tells none left = stop_left Good (is_started t.run t.order.start) t takes tells left
+turn_by change Good Pause t idle takes tells none left = pause_left Good (is_started t.run t.order.start) t takes left
+turn_by change Good Resume t idle takes tells none left = resume_left Good (is_started t.run t.order.start) t takes left
+turn_by change Good StartAbort t idle takes tells none left = called_off_left change Good (is_of_start t.run t.order.start) t takes tells none left
 
 -- A turn in which no fault is counted leaves the names that are good so.
-pub turn_left : (Good : List ℕ → Option Stored → Type 0) (t : LoggerTurn) → TakesTurn t → IsIdleOutside t.run t.before.slots → IsTrue t.before.files.seen.tells → NoneRose t.before.files t.after.files → NamesLeft Good t.before.slots t.before.files.seen → NamesLeft Good t.after.slots t.after.files.seen
-turn_left Good t takes idle tells none left = turn_by Good t.transition t idle takes tells none left
+pub turn_left : AbortsChange → (Good : List ℕ → Option Stored → Type 0) (t : LoggerTurn) → TakesTurn t → IsIdleOutside t.run t.before.slots → IsTrue t.before.files.seen.tells → NoneRose t.before.files t.after.files → NamesLeft Good t.before.slots t.before.files.seen → NamesLeft Good t.after.slots t.after.files.seen
+turn_left change Good t takes idle tells none left = turn_by change Good t.transition t idle takes tells none left
 
 -- A pull.
 
-pull_step : PullsChange → (Good : List ℕ → Option Stored → Type 0) (number : ℕ) (answer : Pulled) (before : Channel) (a b : LoggerMoment) → slot_at a.slots number ≡ Some before → HaveFilesOpen a.slots a.files.seen → StepsChannel (PullsChannel answer) number before a b
+-- a channel has the names open that it had, behind a pull
+pulled_open : (before after : Channel) (old : Seen) (name : List ℕ) → after.spec ≡ before.spec → KeepsRun old before.stage after.stage → HasOpen before name → HasOpen after name
+pulled_open before after old name spec keeps has =
+    let was = same_run (channel_run before.stage) (channel_run after.stage) (sym keeps.run) has.opened has.of in
+    let more : files_made before.stage ≤ files_made after.stage = keeps.made in
+    let made = has.made in
+    record {
+      opened = was.0;
+      of = was.1;
+      sub = has.sub;
+      made = omega (arith, more, made);
+      is = ap (λ (x : ChannelSpec). piece_name_by x.pattern was.0.run has.sub) spec ∙ (ap (λ (r : ChannelRun). piece_name_by before.spec.pattern r.run has.sub) (sym was.2) ∙ has.is);
+    }
+
+module _ (Good : List ℕ → Option Stored → Type 0) (number : ℕ) (before after : Channel) (a : LoggerMoment) (new : Seen) (spec : after.spec ≡ before.spec) (there : slot_at a.slots number ≡ Some before) (tells : IsTrue a.files.seen.tells) (left : NamesLeft Good a.slots a.files.seen)
+    (keeps : KeepsRun a.files.seen before.stage after.stage) where
+  abbrev slots : List (Option Channel)
+  slots = slice_set a.slots number (Some after)
+
+  abbrev Changes : Option ChannelRun → Type 0
+  Changes run = ChangesRun before.spec run (written_run before.stage) (files_made before.stage) (files_made after.stage) a.files.seen new
+
+  mine_open : (name : List ℕ) → HasOpen after name → IsOpenName slots name
+  mine_open name has = open_at slots number after name (put_there a.slots number before after there) has
+
+  still : (name : List ℕ) → IsOpenName a.slots name → IsOpenName slots name
+  still name o = elim (same_or_other o.number number) as (λ w. IsOpenName slots name) [
+    | inl same ↦
+        let at_n : slot_at a.slots number ≡ Some o.channel = subst (λ (i : ℕ). slot_at a.slots i ≡ Some o.channel) same o.there in
+        let is : o.channel ≡ before = cc (at_n, there) in
+        mine_open name (pulled_open before after a.files.seen name spec keeps (subst (λ (c : Channel). HasOpen c name) is (has_open a.slots name o)))
+    | inr other ↦ open_at slots o.number o.channel name (slot_set_other a.slots number o.number (Some after) other ∙ o.there) (has_open a.slots name o)
+  ]
+
+  -- one of the files that the run has now
+  now_open : (opened : ChannelRun) → channel_run before.stage ≡ Some opened → (name : List ℕ) → IsOneOf (piece_name_by before.spec.pattern opened.run) (files_made after.stage) name → HasOpen after name
+  now_open opened is name one =
+      let later = same_run (channel_run before.stage) (channel_run after.stage) (sym keeps.run) opened is in
+      record {
+        opened = later.0;
+        of = later.1;
+        sub = one.place;
+        made = one.below;
+        is = ap (λ (x : ChannelSpec). piece_name_by x.pattern later.0.run one.place) spec ∙ (ap (λ (r : ChannelRun). piece_name_by before.spec.pattern r.run one.place) (sym later.2) ∙ sym one.is);
+      }
+
+  one_name : (run : Option ChannelRun) → channel_run before.stage ≡ run → Changes run → (name : List ℕ) → Good name (a.files.seen.at name) ⊎ IsOpenName a.slots name → Good name (new.at name) ⊎ IsOpenName slots name
+  one_name run is changes name (inr o) = inr (still name o)
+  one_name None is changes name (inl old) = inl (subst (λ (x : Seen). Good name (x.at name)) (sym changes) old)
+  one_name (Some opened) is changes name (inl old) = elim (one_or_none (piece_name_by before.spec.pattern opened.run) (files_made after.stage) name) as (λ w. Good name (new.at name) ⊎ IsOpenName slots name) [
+    | inl one ↦ inr (mine_open name (now_open opened is name one))
+    | inr none ↦ inl (subst (λ (x : Option Stored). Good name x) (sym (changes.others name none)) old)
+  ]
+
+  -- where there was no file of the name
+  was_free : (name : List ℕ) → a.files.seen.at name ≡ None → Good name None
+  was_free name none = elim (left.each name) as (λ w. Good name None) [
+    | inl good ↦ subst (λ (x : Option Stored). Good name x) none good
+    | inr o ↦ left.fresh name o
+  ]
+
+  -- a name that the channel has open behind the pull had no file, or was open before
+  free_name : (run : Option ChannelRun) → channel_run before.stage ≡ run → Changes run → (name : List ℕ) → HasOpen after name → Good name None
+  free_name None is changes name mine = (let was = same_run (channel_run after.stage) (channel_run before.stage) keeps.run mine.opened mine.of in absurd (let of = was.1 in cc (is, of)))
+  free_name (Some opened) is changes name mine =
+      let was = same_run (channel_run after.stage) (channel_run before.stage) keeps.run mine.opened mine.of in
+      let its_run : was.0 ≡ opened = (let of = was.1 in cc (is, of)) in
+      let files : any_file mine.opened ≡ any_file opened = subst (λ (r : ChannelRun). any_file mine.opened ≡ any_file r) its_run was.2 in
+      let name_is : piece_name_by before.spec.pattern opened.run mine.sub ≡ name =
+      ap (λ (x : ChannelSpec). piece_name_by x.pattern opened.run mine.sub) (sym spec) ∙ (ap (λ (r : ChannelRun). piece_name_by after.spec.pattern r.run mine.sub) (sym files) ∙ mine.is) in
+      elim (below_or_not mine.sub (files_made before.stage)) as (λ w. Good name None) [
+        | inl early ↦ left.fresh name (open_at a.slots number before name there (record { opened = opened; of = is; sub = mine.sub; made = early; is = name_is }))
+        | inr late ↦ was_free name (subst (λ (l : List ℕ). a.files.seen.at l ≡ None) name_is (changes.fresh mine.sub late mine.made tells))
+      ]
+
+  pulled_left : Changes (channel_run before.stage) → NamesLeft Good slots new
+  pulled_left changes = record {
+    each = λ name. one_name (channel_run before.stage) refl changes name (left.each name);
+    fresh = λ name open_. elim (set_open a.slots number before after name there open_) as (λ w. Good name None) [
+      | inl mine ↦ free_name (channel_run before.stage) refl changes name mine
+      | inr old ↦ left.fresh name old
+    ];
+  }
+
+pull_step : PullsChange → (Good : List ℕ → Option Stored → Type 0) (dump : List ℕ) (number : ℕ) (answer : Pulled) (before : Channel) (a b : LoggerMoment) → slot_at a.slots number ≡ Some before → HaveFilesOpen a.slots a.files.seen → IsTrue a.files.seen.tells → StepsChannel (PullsChannel dump answer) number before a b
     → NamesLeft Good a.slots a.files.seen → NamesLeft Good b.slots b.files.seen
-pull_step change Good number answer before a b there open_files s left =
-    let changes = change _ before.event.room before.spec s.step.pulls (open_files.files number before there) in
-    let run : channel_run s.after.stage ≡ channel_run before.stage = changes.1.run in
-    let slots : List (Option Channel) = slice_set a.slots number (Some s.after) in
-    let now : NamesLeft Good slots b.files.seen = record {
-      each = λ name. one_name (channel_run before.stage) refl run changes.0 name (left.each name);
-      fresh = λ name open_. elim (set_open a.slots number before s.after name there open_) as (λ w. Good name None) [
-        | inl mine ↦ left.fresh name (record { number = number; channel = before; opened = mine.opened; there = there; of = sym run ∙ mine.of; is = ap (λ (x : ChannelSpec). file_name_by x.pattern mine.opened.run) (sym s.step.spec) ∙ mine.is })
-        | inr old ↦ left.fresh name old
-      ];
-    } in
-    subst (λ (l : List (Option Channel)). NamesLeft Good l b.files.seen) (sym s.slots) now
-  where
-    still : (name : List ℕ) → channel_run s.after.stage ≡ channel_run before.stage → IsOpenName a.slots name → IsOpenName (slice_set a.slots number (Some s.after)) name
-    still name run o = elim (same_or_other o.number number) as (λ w. IsOpenName (slice_set a.slots number (Some s.after)) name) [
-      | inl same ↦
-          let at_n : slot_at a.slots number ≡ Some o.channel = subst (λ (i : ℕ). slot_at a.slots i ≡ Some o.channel) same o.there in
-          let is : o.channel ≡ before = cc (at_n, there) in
-          record {
-            number = number;
-            channel = s.after;
-            opened = o.opened;
-            there = put_there a.slots number before s.after there;
-            of = run ∙ (ap (λ (c : Channel). channel_run c.stage) (sym is) ∙ o.of);
-            is = ap (λ (x : ChannelSpec). file_name_by x.pattern o.opened.run) (s.step.spec ∙ ap (λ (c : Channel). c.spec) (sym is)) ∙ o.is;
-          }
-      | inr other ↦ record { number = o.number; channel = o.channel; opened = o.opened; there = slot_set_other a.slots number o.number (Some s.after) other ∙ o.there; of = o.of; is = o.is }
-    ]
+pull_step change Good dump number answer before a b there open_files tells s left =
+    let changes = change _ before.event.room s.step.pulls (open_files.files number before there) in
+    subst (λ (l : List (Option Channel)). NamesLeft Good l b.files.seen) (sym s.slots) (pulled_left Good number before s.after a b.files.seen s.step.spec there tells left changes.1 changes.0)
 
-    one_name : (opened : Option ChannelRun) → channel_run before.stage ≡ opened → channel_run s.after.stage ≡ channel_run before.stage → ChangesFile before.spec opened (written_run before.stage) a.files.seen b.files.seen → (name : List ℕ) → Good name (a.files.seen.at name) ⊎ IsOpenName a.slots name
-        → Good name (b.files.seen.at name) ⊎ IsOpenName (slice_set a.slots number (Some s.after)) name
-    one_name opened is run changes name (inr o) = inr (still name run o)
-    one_name None is run changes name (inl old) = inl (subst (λ (x : Seen). Good name (x.at name)) (sym changes) old)
-    one_name (Some opened) is run changes name (inl old) = elim (names_tell name (file_name_by before.spec.pattern opened.run)) as (λ w. Good name (b.files.seen.at name) ⊎ IsOpenName (slice_set a.slots number (Some s.after)) name) [
-      | inl same ↦ inr (still name run (record { number = number; channel = before; opened = opened; there = there; of = is; is = sym same }))
-      | inr differs ↦ inl (subst (λ (x : Option Stored). Good name x) (sym (changes.touches.others name differs)) old)
-    ]
+pull_by : PullsChange → (Good : List ℕ → Option Stored → Type 0) (dump : List ℕ) (number : ℕ) (answer : Pulled) (slot : Option Channel) (a b : LoggerMoment) → slot_at a.slots number ≡ slot → HaveFilesOpen a.slots a.files.seen → IsTrue a.files.seen.tells → PullsSlot dump slot number answer a b
+    → NamesLeft Good a.slots a.files.seen → NamesLeft Good b.slots b.files.seen
+pull_by change Good dump number answer None a b there open_files tells pulls left = same_left Good a b pulls.1 left
+pull_by change Good dump number answer (Some before) a b there open_files tells s left = pull_step change Good dump number answer before a b there open_files tells s left
 
-pull_by : PullsChange → (Good : List ℕ → Option Stored → Type 0) (number : ℕ) (answer : Pulled) (slot : Option Channel) (a b : LoggerMoment) → slot_at a.slots number ≡ slot → HaveFilesOpen a.slots a.files.seen → PullsSlot slot number answer a b → NamesLeft Good a.slots a.files.seen → NamesLeft Good b.slots b.files.seen
-pull_by change Good number answer None a b there open_files pulls left = same_left Good a b pulls.1 left
-pull_by change Good number answer (Some before) a b there open_files s left = pull_step change Good number answer before a b there open_files s left
-
-pub pull_left : PullsChange → (Good : List ℕ → Option Stored → Type 0) (number : ℕ) (answer : Pulled) (a b : LoggerMoment) → PullsNumbered number answer a b → HaveFilesOpen a.slots a.files.seen → NamesLeft Good a.slots a.files.seen → NamesLeft Good b.slots b.files.seen
-pull_left change Good number answer a b pulls open_files left = pull_by change Good number answer (slot_at a.slots number) a b refl open_files pulls left
+pub pull_left : PullsChange → (Good : List ℕ → Option Stored → Type 0) (dump : List ℕ) (number : ℕ) (answer : Pulled) (a b : LoggerMoment) → PullsNumbered dump number answer a b → HaveFilesOpen a.slots a.files.seen → IsTrue a.files.seen.tells → NamesLeft Good a.slots a.files.seen
+    → NamesLeft Good b.slots b.files.seen
+pull_left change Good dump number answer a b pulls open_files tells left = pull_by change Good dump number answer (slot_at a.slots number) a b refl open_files tells pulls left
 
 -- A call to finish.
 
@@ -589,35 +678,49 @@ record Ending (Good : List ℕ → Option Stored → Type 0) (m : EndingMoment) 
   any : (name : List ℕ) → IsOpenName m.slots name → (x : Option Stored) → Good name x
   files : HaveFilesOpen m.slots m.files.seen
 
+settled_open : (before after : Channel) (name : List ℕ) → after.spec ≡ before.spec → after.stage ≡ stage_settled before.stage → HasOpen after name → HasOpen before name
+settled_open before after name spec stage has =
+    let fewer : files_made after.stage ≤ files_made before.stage = subst (λ (x : ChannelStage). files_made x ≤ files_made before.stage) (sym stage) (settled_made before.stage) in
+    let made = has.made in
+    record {
+      opened = has.opened;
+      of = settled_run before.stage has.opened (sym (ap channel_run stage) ∙ has.of);
+      sub = has.sub;
+      made = omega (arith, fewer, made);
+      is = ap (λ (x : ChannelSpec). piece_name_by x.pattern has.opened.run has.sub) (sym spec) ∙ has.is;
+    }
+
 ending_slot : ClosesChange → (Good : List ℕ → Option Stored → Type 0) (time : ℕ) (dump : Option (List ℕ)) (n : ℕ) (slot : Option Channel) (a b : EndingMoment) → slot_at a.slots n ≡ slot → EndsSlot time dump n slot a b → Ending Good a → Ending Good b
 ending_slot change Good time dump n None a b there same g = subst (λ (m : EndingMoment). Ending Good m) (sym same) g
 ending_slot change Good time dump n (Some before) a b there ends g =
     let stage : ends.after.stage ≡ stage_settled before.stage = ap (λ (c : Channel). c.stage) ends.ends.channel in
     let spec : ends.after.spec ≡ before.spec = ap (λ (c : Channel). c.spec) ends.ends.channel in
-    let changes = change before.spec before.stage ends.state time dump a.files.seen b.files.seen a.files.faults b.files.faults ends.ends.ends (g.files.files n before there) in
+    let changes = change before.spec before.stage ends.told.state time dump a.files.seen b.files.seen a.files.faults b.files.faults ends.ends.ends (g.files.files n before there) in
     let slots : List (Option Channel) = slice_set a.slots n (Some ends.after) in
-    let files : HaveFilesOpen slots b.files.seen = ended_files change time dump ends.state a.slots n before ends.after a.files b.files there ends.ends g.files in
+    let files : HaveFilesOpen slots b.files.seen = ended_files change time dump ends.told a.slots n before ends.after a.files b.files there ends.ends g.files in
     let now : Ending Good (record b { slots = slots }) = record {
       each = λ name. one_name (channel_run before.stage) refl changes name;
       any = λ name open_ x. elim (set_open a.slots n before ends.after name there open_) as (λ w. Good name x) [
-        | inl mine ↦ g.any name (record { number = n; channel = before; opened = mine.opened; there = there; of = settled_run before.stage mine.opened (sym (ap channel_run stage) ∙ mine.of); is = ap (λ (y : ChannelSpec). file_name_by y.pattern mine.opened.run) (sym spec) ∙ mine.is }) x
+        | inl mine ↦ g.any name (open_at a.slots n before name there (settled_open before ends.after name spec stage mine)) x
         | inr old ↦ g.any name old x
       ];
       files = files;
     } in
     subst (λ (l : List (Option Channel)). Ending Good (record b { slots = l })) (sym ends.slots) now
   where
-    one_name : (opened : Option ChannelRun) → channel_run before.stage ≡ opened → ChangesFile before.spec opened (written_run before.stage) a.files.seen b.files.seen → (name : List ℕ) → Good name (b.files.seen.at name)
+    one_name : (run : Option ChannelRun) → channel_run before.stage ≡ run → ChangesRun before.spec run (written_run before.stage) (files_made before.stage) (files_made before.stage) a.files.seen b.files.seen → (name : List ℕ) → Good name (b.files.seen.at name)
     one_name None is changes name = subst (λ (x : Seen). Good name (x.at name)) (sym changes) (g.each name)
-    one_name (Some opened) is changes name = elim (names_tell name (file_name_by before.spec.pattern opened.run)) as (λ w. Good name (b.files.seen.at name)) [
-      | inl same ↦ g.any name (record { number = n; channel = before; opened = opened; there = there; of = is; is = sym same }) (b.files.seen.at name)
-      | inr differs ↦ subst (λ (x : Option Stored). Good name x) (sym (changes.touches.others name differs)) (g.each name)
+    one_name (Some opened) is changes name = elim (one_or_none (piece_name_by before.spec.pattern opened.run) (files_made before.stage) name) as (λ w. Good name (b.files.seen.at name)) [
+      | inl one ↦ g.any name (open_at a.slots n before name there (record { opened = opened; of = is; sub = one.place; made = one.below; is = sym one.is })) (b.files.seen.at name)
+      | inr none ↦ subst (λ (x : Option Stored). Good name x) (sym (changes.others name none)) (g.each name)
     ]
 
 pub ends_left : ClosesChange → (Good : List ℕ → Option Stored → Type 0) (f : LoggerFinish) (time : ℕ) → EndsFiles f time → HaveFilesOpen f.slots f.files.seen → ((name : List ℕ) → IsOpenName f.slots name → (x : Option Stored) → Good name x) → NamesLeft Good f.slots f.files.seen
     → NamesLeft Good f.later_slots f.later_files.seen
 ends_left change Good f time ends open_files any left =
-    let first : Ending Good (record { slots = f.slots; files = f.files; states = states_idle }) = record {
+    let first : EndingMoment = ending_of f.slots f.files ends_idle in
+    let last : EndingMoment = ending_of f.later_slots f.later_files ends.told in
+    let before : Ending Good first = record {
       each = λ name. elim (left.each name) as (λ w. Good name (f.files.seen.at name)) [
         | inl good ↦ good
         | inr o ↦ any name o (f.files.seen.at name)
@@ -625,7 +728,5 @@ ends_left change Good f time ends open_files any left =
       any = any;
       files = open_files;
     } in
-    let last : Ending Good (record { slots = f.later_slots; files = f.later_files; states = ends.states }) =
-    turns_keep (λ k. EndsSlotAt time f.stop_dump k) (Ending Good) (length f.slots) (record { slots = f.slots; files = f.files; states = states_idle }) (record { slots = f.later_slots; files = f.later_files; states = ends.states })
-    (λ k x y step g. ending_slot change Good time f.stop_dump k (slot_at x.slots k) x y refl step g) ends.ends first in
-    record { each = λ name. inl (last.each name); fresh = λ name open_. last.any name open_ None }
+    let behind : Ending Good last = turns_keep (λ k. EndsSlotAt time f.dumps.stop k) (Ending Good) (length f.slots) first last (λ k x y step g. ending_slot change Good time f.dumps.stop k (slot_at x.slots k) x y refl step g) ends.ends before in
+    record { each = λ name. inl (behind.each name); fresh = λ name open_. behind.any name open_ None }

@@ -12,12 +12,13 @@ use Rattle.mid_logger.specs.declared.channel.Channel.{Channel}
 use Rattle.mid_logger.specs.declared.channel_spec.ChannelSpec.{ChannelSpec}
 use Rattle.mid_logger.specs.declared.stage.ChannelStage.{ChannelStage}
 use Rattle.mid_logger.specs.declared.stage.ChannelStage.TheVariants.{Idle}
-use Rattle.mid_logger.specs.Channels.{FileHead, KeepsOwnCalls, IsOwnClient, ChannelStands, channel_run, written_run}
+use Rattle.mid_logger.specs.Channels.{FileHead, KeepsOwnCalls, IsOwnClient, ChannelStands, channel_run, written_run, files_by as files_made}
 use Rattle.mid_logger.specs.ChannelTurns.{asking_run}
 use Rattle.loggers.specs.Moments.{IsLoggerReady}
 use Rattle.loggers.specs.SlotPulls.{HasEventRoom}
 use Rattle.loggers.specs.LoggerCalls.{KeepsLoggerCalls}
 use Rattle.loggers.specs.LoggerFaults.{HasFailed}
+use Rattle.loggers.specs.Turning.{no_dumps}
 use Rattle.loggers.specs.NewLoggers.{IsNewChannel, HasNewChannels, AreUnused, HavePorts, HaveRooms}
 use Rattle.loggers.specs.LoggerStands.{IsHeadTold, PortKept, SlotsStand, LoggerHolds}
 
@@ -51,7 +52,7 @@ no_mark start place marks = in_none marks.before marks.is
     in_none [] is = cc (is)
     in_none (x ∷ xs) is = cc (is)
 
-new_slots : (specs : List ChannelSpec) (rooms : List ℕ) (slots : List (Option Channel)) (ports : List Access) (seen : Seen) → HasNewChannels specs rooms slots → AreUnused ports → SlotsStand (IsHeadTold []) [] slots ports seen
+new_slots : (specs : List ChannelSpec) (rooms : List ℕ) (slots : List (Option Channel)) (ports : List Access) (seen : Seen) → HasNewChannels specs rooms slots → AreUnused ports → SlotsStand (IsHeadTold [] no_dumps) [] slots ports seen
 new_slots specs rooms slots ports seen new unused = record {
   many = omega (arith, new.many);
   numbered = λ n c stood. (new.only n c stood).0;
@@ -68,19 +69,20 @@ new_slots specs rooms slots ports seen new unused = record {
       let f : IsFresh specs c = fresh_at specs rooms slots n c new first in
       record {
         clients = λ same i j is other_is. absurd (let never : None ≡ Some i = sym f.client ∙ is in cc (never));
-        names = λ r s is other_is told. absurd (let never : None ≡ Some r = sym (ap (λ (x : ChannelStage). channel_run x) f.stage) ∙ is in cc (never));
+        names = λ r s is other_is told i j below other_below. absurd (let never : None ≡ Some r = sym (ap (λ (x : ChannelStage). channel_run x) f.stage) ∙ is in cc (never));
         numbers = λ r s is other_is. absurd (let never : None ≡ Some r = sym (ap (λ (x : ChannelStage). written_run x) f.stage) ∙ is in cc (never));
       };
   calls = λ buffer a at.
       let none : PortKept [] [] = record { calls = record { sends_none = tt; own_calls = tt }; alone = tt; told = tt; once = λ are start m n first. absurd (no_mark start m first) } in
       subst (λ (l : List BufferEntry). PortKept [] l) (sym (unused buffer a at).0) none;
-  left = λ are stop states tells. absurd tells.stands;
+  left = λ are stop ends tells. absurd tells.stands;
 }
 
 -- what a new logger keeps, with ports on which no call was made
-pub new_stands : (specs : List ChannelSpec) (rooms : List ℕ) (slots : List (Option Channel)) (ports : List Access) (seen : Seen) → HasNewChannels specs rooms slots → HavePorts specs ports → AreUnused ports → LoggerHolds None None slots ports [] seen
+pub new_stands : (specs : List ChannelSpec) (rooms : List ℕ) (slots : List (Option Channel)) (ports : List Access) (seen : Seen) → HasNewChannels specs rooms slots → HavePorts specs ports → AreUnused ports → LoggerHolds None no_dumps slots ports [] seen
 new_stands specs rooms slots ports seen new have unused = record {
   standing = new_slots specs rooms slots ports seen new unused;
+  taken = λ n c stood opened is. absurd (let never : None ≡ Some opened = sym (ap (λ (s : ChannelStage). channel_run s) (fresh_at specs rooms slots n c new stood).stage) ∙ is in cc (never));
   served = λ n c stood. let f : IsFresh specs c = fresh_at specs rooms slots n c new stood in have f.place c.spec f.there;
   stages = λ n c a stood at. (fresh_at specs rooms slots n c new stood).stage;
   starts = λ start answer has is told. absurd has;
@@ -95,7 +97,7 @@ new_stands specs rooms slots ports seen new have unused = record {
 pub new_ready : (specs : List ChannelSpec) (rooms : List ℕ) (slots : List (Option Channel)) (ports : List Access) (seen : Seen) → HasNewChannels specs rooms slots → HavePorts specs ports → IsLoggerReady slots ports seen
 new_ready specs rooms slots ports seen new have = record {
   many = omega (arith, new.many);
-  unlimited = λ n c stood. ap (λ (x : Channel). x.sub_bytes) (new.only n c stood).1.1.is;
+  few = λ n c stood. (let none : files_made c.stage ≡ 0 = ap (λ (s : ChannelStage). files_made s) (fresh_at specs rooms slots n c new stood).stage in omega (arith, none));
   served = λ n c stood. let f : IsFresh specs c = fresh_at specs rooms slots n c new stood in have f.place c.spec f.there;
   files = record {
     files = λ n c stood. rw (fresh_at specs rooms slots n c new stood).stage tt;

@@ -1,26 +1,20 @@
 -- What the opening of a run by one channel is to the others, or its refusal.
-use Rattle.std.specs.Prelude.{◌≡◌, ◌≢◌, ℕ, IsTrue, List, [], ◌∷◌, Option, Some, None, Result, Ok, Err, ⊤}
-use Rattle.std.proofs.Common.{sym, subst, ◌∙◌, inl, inr}
+use Rattle.std.specs.Prelude.{◌≡◌, ◌≢◌, ℕ, IsTrue, IsSome, List, [], ◌∷◌, Option, Some, None, Result, Ok, Err, ⊤}
+use Rattle.std.proofs.Common.{ap, sym, subst, ◌∙◌, inl, inr}
 use Rattle.std.proofs.lemmas.List.{append-nil}
-use Rattle.daq_types.specs.declared.runs.ChannelState.{ChannelState}
-use Rattle.daq_types.specs.declared.runs.ChannelState.TheVariants.{Broken as IsBroken, Ended, NoEnd, NoMark, Idle as IsIdle, Writing as IsWriting}
 use Rattle.daq_types.specs.declared.runs.Kind.TheVariants.{All}
 use Rattle.daq_types.specs.declared.runs.Order.{Order}
 use Rattle.daq_types.specs.declared.runs.Why.{Why}
 use Rattle.daq_types.specs.declared.runs.Why.TheVariants.{NotReady, Exists, Fault, BufferRefused}
-use Rattle.daq_io.specs.Seen.{Seen, IsStored}
+use Rattle.daq_io.specs.Seen.{Seen, Stored}
 use Rattle.buffer_core.specs.declared.entry.BufferEntry.{BufferEntry}
 use Rattle.buffer_core.specs.declared.entry.BufferEntry.TheVariants.{Attach, Request}
-use Rattle.buffer_core.specs.Ports.{Access, GotEvent, Calls}
+use Rattle.buffer_core.specs.Ports.{Access, Calls}
 use Rattle.mid_logger.specs.declared.channel_spec.ChannelSpec.{ChannelSpec}
-use Rattle.mid_logger.specs.declared.stage.BegunRun.{BegunRun}
 use Rattle.mid_logger.specs.declared.stage.ChannelRun.{ChannelRun}
-use Rattle.mid_logger.specs.Patterns.{file_name_by}
 use Rattle.mid_logger.specs.Channels.{FileHead}
 use Rattle.mid_logger.specs.ChannelTurns.{ChannelAt, logger_name, HasClient, MakesRequest, AsksEvents, RefusesRun, OpensBy}
-use Rattle.mid_logger.specs.ChannelEnds.{HasLeftRead}
-use Rattle.mid_logger.specs.RecordFiles.{IsGone}
-use Rattle.mid_logger.specs.Beside.{LeavesRunFile}
+use Rattle.sub_files.specs.RecordFiles.{IsGone}
 use Rattle.mid_logger.specs.Keeping.{OpensRunFile, order_head}
 use Rattle.loggers.proofs.PullMoves.{EndsNone, GrowsOn, grows_same, grows_both}
 
@@ -73,33 +67,14 @@ pub open_grows : (spec : ChannelSpec) (order : Order) (dump : List ℕ) (r : Res
 open_grows spec order dump (Ok done) a b opens = asks_grow spec a.client b.client (Some opens.asks.request) a.port b.port opens.asks.asks
 open_grows spec order dump (Err why) a b opens = refusal_grows spec _ why a b opens.1
 
--- The file of a run that was left is there, so it is not the new one.
+-- A file that is there is not the new one.
 
-left_stored : (state : ChannelState) (spec : ChannelSpec) (head : FileHead) (run : BegunRun) (time : ℕ) (dump : Option (List ℕ)) (own : List BufferEntry) (got : List GotEvent) (seen : Seen) → HasLeftRead state spec head run time dump own got seen
-    → (bytes : List ℕ) × IsStored seen (file_name_by spec.pattern run.opened.run) bytes
-left_stored IsBroken spec head run time dump own got seen left = (left.bytes, left.stored)
-left_stored IsIdle spec head run time dump own got seen left = (_, left.file)
-left_stored IsWriting spec head run time dump own got seen left = (_, left.file)
-left_stored Ended spec head run time dump own got seen left = (_, left.file)
-left_stored NoEnd spec head run time dump own got seen left = (_, left.file)
-left_stored NoMark spec head run time dump own got seen left = (_, left.file)
-
-pub left_not_new : (state : ChannelState) (spec : ChannelSpec) (head : FileHead) (run : BegunRun) (time : ℕ) (dump : Option (List ℕ)) (own : List BufferEntry) (got : List GotEvent) (seen : Seen) (name : List ℕ) → HasLeftRead state spec head run time dump own got seen
-    → IsGone seen name → IsTrue seen.tells → file_name_by spec.pattern run.opened.run ≢ name
-left_not_new state spec head run time dump own got seen name left gone told same =
-    let stored = left_stored state spec head run time dump own got seen left in
-    let none : seen.at (file_name_by spec.pattern run.opened.run) ≡ None = subst (λ (n : List ℕ). seen.at n ≡ None) (sym same) (gone told) in
-    let never = sym (stored.1.holds told) ∙ none in
-    cc (never)
+pub not_new : (old : Seen) (fresh name : List ℕ) → IsGone old fresh → IsTrue old.tells → IsSome (old.at name) → name ≢ fresh
+not_new old fresh name gone told there same = let never : IsSome {T = Stored} None = subst (λ (o : Option Stored). IsSome o) (ap (λ (l : List ℕ). old.at l) same ∙ gone told) there in absurd (cc (never))
 
 -- It stays behind the opening, whether a file was made or none.
-pub left_stays : (state : ChannelState) (spec : ChannelSpec) (head : FileHead) (run : BegunRun) (time : ℕ) (dump : Option (List ℕ)) (own : List BufferEntry) (got : List GotEvent) (old new : Seen) (name : List ℕ) → HasLeftRead state spec head run time dump own got old
-    → OpensRunFile name old new → LeavesRunFile spec (Some run.opened) None old new
-left_stays state spec head run time dump own got old new name left opens = record {
-  tells = opens.touches.tells;
-  at = λ told. elim opens.fresh as (λ w. new.at (file_name_by spec.pattern run.opened.run) ≡ old.at (file_name_by spec.pattern run.opened.run)) [
-    | inl gone ↦ opens.touches.others (file_name_by spec.pattern run.opened.run) (left_not_new state spec head run time dump own got old name left gone told)
-    | inr same ↦ same (file_name_by spec.pattern run.opened.run)
-  ];
-  number = tt;
-}
+pub there_stays : (old new : Seen) (fresh name : List ℕ) → OpensRunFile fresh old new → IsTrue old.tells → IsSome (old.at name) → new.at name ≡ old.at name
+there_stays old new fresh name opens told there = elim opens.fresh as (λ w. new.at name ≡ old.at name) [
+  | inl gone ↦ opens.touches.others name (not_new old fresh name gone told there)
+  | inr same ↦ same name
+]

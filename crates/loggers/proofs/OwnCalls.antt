@@ -19,11 +19,12 @@ use Rattle.member_model.specs.OwnCalls.{calls_after, gives_after, gave_number, I
 use Rattle.mid_logger.specs.declared.channel_spec.ChannelSpec.{ChannelSpec}
 use Rattle.mid_logger.specs.declared.pulled.Pulled.{Pulled}
 use Rattle.sub_files.specs.declared.open_file.Fallen.{Fallen}
+use Rattle.sub_files.specs.declared.open_file.OpenFile.{OpenFile}
 use Rattle.mid_logger.specs.declared.stage.BegunRun.{BegunRun}
 use Rattle.mid_logger.specs.declared.stage.ChannelRun.{ChannelRun}
 use Rattle.mid_logger.specs.declared.stage.ChannelStage.{ChannelStage}
 use Rattle.mid_logger.specs.declared.stage.ChannelStage.TheVariants.{Idle, Asking, Writing, Draining, Drained, Broken}
-use Rattle.mid_logger.specs.Channels.{KeepsOwnCalls, IsOwnClient, CancelsRequest, reading_run, is_behind_end, stage_begun, stage_ended}
+use Rattle.mid_logger.specs.Channels.{KeepsOwnCalls, IsOwnClient, CancelsRequest, reading_run, is_behind_end, stage_at, stage_begun, stage_ended}
 use Rattle.mid_logger.specs.Pulls.{PullOf, LeavesAll, DrainsClient, TakesBy, FindsNone, TakesReply, PullsIn, Pulls, drains_at_none}
 use Rattle.mid_logger.specs.ChannelTurns.{ChannelAt, HasClient, MakesRequest, AsksEvents, RefusesRun, OpensBy, asking_run, logger_name}
 use Rattle.mid_logger.specs.ChannelEnds.{CancelsStanding, stage_settled}
@@ -188,6 +189,15 @@ drained_asks client run opened is = absurd (cc (is))
 broken_asks : (client : Option ℕ) (run : BegunRun) (fallen : Fallen) → AsksFor client (Broken run fallen)
 broken_asks client run fallen opened is = absurd (cc (is))
 
+-- whichever file is written
+written_asks : (client : Option ℕ) (stage : ChannelStage) (at : OpenFile) → AsksFor client stage → AsksFor client (stage_at stage at)
+written_asks client Idle at asks opened is = asks opened is
+written_asks client (Asking run) at asks opened is = asks opened is
+written_asks client (Writing run begun) at asks opened is = (let same : record run { at = at } ≡ opened = cc (is) in asks run refl ∙ ap (λ (r : ChannelRun). Some r.client) same)
+written_asks client (Draining run) at asks opened is = (let same : record run.opened { at = at } ≡ opened = cc (is) in asks run.opened refl ∙ ap (λ (r : ChannelRun). Some r.client) same)
+written_asks client (Drained run) at asks opened is = asks opened is
+written_asks client (Broken run fallen) at asks opened is = asks opened is
+
 leaves_owned : (p : PullOf) (client : Option ℕ) (answer : Pulled) → LeavesAll p answer → KeepsOwnCalls p.port.own → IsOwnClient client p.port.own → AsksFor client p.stage → PullOwned client p
 leaves_owned p client answer leaves kept own asks = (owned_same client p.port p.later_port leaves.port kept own, stage_as_was client p.stage p.later_stage leaves.stage asks)
 
@@ -199,7 +209,7 @@ takes_owned : (p : PullOf) (client : Option ℕ) (run : BegunRun) (place : ℕ) 
 takes_owned p client run place e true early takes is kept own asks = drains_owned p client run _ takes is kept own
 takes_owned p client run place e false true takes is kept own asks = leaves_owned p client _ takes kept own asks
 takes_owned p client run place e false false takes is kept own asks = elim takes as (λ w. PullOwned client p) [
-  | inl writes ↦ (owned_same client p.port p.later_port writes.port kept own, stage_as_was client p.stage p.later_stage writes.stage asks)
+  | inl writes ↦ (owned_same client p.port p.later_port writes.port kept own, stage_as_was client (stage_at p.stage writes.at) p.later_stage writes.stage (written_asks client p.stage writes.at asks))
   | inr breaks ↦ (cancel_owned client run.opened p.port p.later_port breaks.port kept own is, stage_as_was client (Broken run breaks.fallen) p.later_stage breaks.stage (broken_asks client run breaks.fallen))
 ]
 

@@ -1,8 +1,8 @@
 -- What one call on a buffer is to all channels, where those that read the buffer may note it.
-use Rattle.std.specs.Prelude.{◌≡◌, ◌≢◌, ◌++◌, ℕ, List, [], length, slice_get, slice_set, Option, Some, None, ◌⊎◌, refl}
+use Rattle.std.specs.Prelude.{◌≡◌, ◌≢◌, ◌<◌, ◌+◌, ◌++◌, ℕ, List, [], length, slice_get, slice_set, Option, Some, None, ◌⊎◌, IsTrue, refl}
 use Rattle.std.proofs.Common.{ap, sym, subst, ◌∙◌, arith, inl, inr}
 use Rattle.std.proofs.lemmas.List.{append-nil}
-use Rattle.daq_types.specs.declared.runs.ChannelState.{ChannelState}
+use Rattle.daq_types.specs.declared.runs.ChannelEnd.{ChannelEnd}
 use Rattle.daq_io.specs.Seen.{Seen}
 use Rattle.buffer_core.specs.declared.entry.BufferEntry.{BufferEntry}
 use Rattle.buffer_core.specs.Ports.{Access, GotEvent}
@@ -10,12 +10,13 @@ use Rattle.buffer_core.specs.Slots.{slot_at}
 use Rattle.member_model.specs.Turns.{MemberTurn, AreEngineTurns}
 use Rattle.mid_logger.specs.declared.channel.Channel.{Channel}
 use Rattle.mid_logger.specs.declared.channel_spec.ChannelSpec.{ChannelSpec}
+use Rattle.mid_logger.specs.declared.stage.BegunRun.{BegunRun}
 use Rattle.mid_logger.specs.declared.stage.ChannelRun.{ChannelRun}
 use Rattle.mid_logger.specs.declared.stage.ChannelStage.{ChannelStage}
-use Rattle.mid_logger.specs.Patterns.{file_name_by}
-use Rattle.mid_logger.specs.Channels.{FileHead, ChannelStands, channel_run, written_run}
-use Rattle.mid_logger.specs.Beside.{LeavesRunFile, LeftBeside}
-use Rattle.loggers.specs.LoggerStands.{IsEndedSo, ChannelKept, SlotsApart, PortKept, LeftRun, TellsStates, ToldSo, SlotsStand}
+use Rattle.sub_files.specs.Patterns.{piece_name_by}
+use Rattle.mid_logger.specs.Channels.{FileHead, ChannelStands, channel_run, written_run, files_by as files_made}
+use Rattle.mid_logger.specs.Beside.{LeavesRunFiles, LeftBeside}
+use Rattle.loggers.specs.LoggerStands.{IsEndedSo, ChannelKept, SlotsApart, IsNoOpenName, PortKept, TakenStays, LeftRun, TellsEnds, ToldSo, SlotsStand}
 use Rattle.loggers.proofs.SlotLists.{got_there, got_elsewhere, same_or_other}
 
 -- a channel that noted a call, or did not: its run stays
@@ -24,6 +25,7 @@ pub record KeepsChannel (before after : Channel) : Type 0 where
   pub client : after.client ≡ before.client
   pub run : channel_run after.stage ≡ channel_run before.stage
   pub written : written_run after.stage ≡ written_run before.stage
+  pub made : files_made after.stage ≡ files_made before.stage
 
 -- The channel stood there before, and noted a call on this buffer, if it reads that.
 pub record IsFrom (note : ChannelStage → ChannelStage) (slots : List (Option Channel)) (buffer n : ℕ) (after : Channel) : Type 0 where
@@ -44,40 +46,67 @@ pub record StepsPort (note : ChannelStage → ChannelStage) (turns : List Member
   pub got : q.got ≡ p.got ++ given
   pub calls : PortKept turns p.own → PortKept turns q.own
   -- what was told of the ends of the runs that were left stays so
-  pub ended : AreEngineTurns turns → (stop : MemberTurn) → (states : List ChannelState) → TellsStates turns stop states → (ended : Option ℕ) → IsEndedSo p.own stop.order.start ended → IsEndedSo q.own stop.order.start ended
+  pub ended : AreEngineTurns turns → (stop : MemberTurn) → (ends : List ChannelEnd) → TellsEnds turns stop ends → (ended : Option ℕ) → IsEndedSo p.own stop.order.start ended → IsEndedSo q.own stop.order.start ended
 
--- a run's file stays where nothing is done with files
-stays_there : (spec : ChannelSpec) (opened : ChannelRun) (seen : Seen) → LeavesRunFile spec (Some opened) None seen seen
-stays_there spec opened seen = record { tells = refl; at = λ told. refl; number = tt }
+-- a run's files stay where nothing is done with files
+stays_there : (spec : ChannelSpec) (opened : ChannelRun) (many : ℕ) (seen : Seen) → LeavesRunFiles spec (Some opened) None many seen seen
+stays_there spec opened many seen = record { tells = refl; at = λ told n below. refl; number = tt }
 
--- a run that was left, behind the call
+-- a name that is none of a run that a channel has is none behind the call
+no_open_from : (note : ChannelStage → ChannelStage) (slots later : List (Option Channel)) (buffer : ℕ) → ((n : ℕ) (c : Channel) → slot_at later n ≡ Some c → IsFrom note slots buffer n c) → (name : List ℕ) → IsNoOpenName slots name → IsNoOpenName later name
+no_open_from note slots later buffer from name none m d opened stood is j below same =
+    let f : IsFrom note slots buffer m d = from m d stood in
+    none m f.before opened f.there (sym f.keeps.run ∙ is) j (subst (λ (k : ℕ). j < k) f.keeps.made below) (same ∙ ap (λ (s : ChannelSpec). piece_name_by s.pattern opened.run j) f.keeps.spec)
+
+-- a run that was left, behind the call: it is the same run
 left_from : LeftBeside → (note : ChannelStage → ChannelStage) (turns : List MemberTurn) (slots later : List (Option Channel)) (buffer : ℕ) (p q : Access) (seen : Seen) → StepsPort note turns slots later buffer p q seen
-    → (before after : Channel) → KeepsChannel before after → (x y : Access) (more : List BufferEntry) (given : List GotEvent) → y.own ≡ x.own ++ more → y.got ≡ x.got ++ given → (stop : MemberTurn) (state : ChannelState)
-    → ((ended : Option ℕ) → IsEndedSo x.own stop.order.start ended → IsEndedSo y.own stop.order.start ended) → LeftRun turns slots seen before x stop state → LeftRun turns later seen after y stop state
-left_from law note turns slots later buffer p q seen steps before after keeps x y more given own got stop state ended l =
-    let behind = law (Some l.run) None state before.spec l.head stop.order.time stop.dump x.own more x.got given seen seen l.left (stays_there before.spec l.run.opened seen) in
-    record {
+    → (before after : Channel) → KeepsChannel before after → (x y : Access) (more : List BufferEntry) (given : List GotEvent) → y.own ≡ x.own ++ more → y.got ≡ x.got ++ given → (stop : MemberTurn) (told : ChannelEnd)
+    → ((ended : Option ℕ) → IsEndedSo x.own stop.order.start ended → IsEndedSo y.own stop.order.start ended) → (l : LeftRun turns slots seen before x stop told) → (k : LeftRun turns later seen after y stop told) × (k.run ≡ l.run)
+left_from law note turns slots later buffer p q seen steps before after keeps x y more given own got stop told ended l =
+    let behind = law told before.spec l.head l.run stop.order.time stop.dump x.own more x.got given seen seen l.left (stays_there before.spec l.run.opened told.files seen) in
+    let now : LeftRun turns later seen after y stop told = record {
       run = l.run;
       head = l.head;
       of = l.of;
       client = keeps.client ∙ l.client;
       headed = l.headed;
       ended = ended l.run.ended l.ended;
-      told = l.told;
+      state = l.state;
+      framed = l.framed;
+      few = l.few;
       left = rw (keeps.spec, own, got) behind;
-      apart = λ m d opened stood is told same.
-          let f : IsFrom note slots buffer m d = steps.from m d stood in
-          l.apart m f.before opened f.there (sym f.keeps.run ∙ is) told
-          (ap (λ (s : ChannelSpec). file_name_by s.pattern l.run.opened.run) (sym keeps.spec) ∙ (same ∙ ap (λ (s : ChannelSpec). file_name_by s.pattern opened.run) f.keeps.spec));
+      apart = λ tells i below.
+          no_open_from note slots later buffer steps.from (piece_name_by after.spec.pattern l.run.opened.run i)
+          (subst (λ (s : ChannelSpec). IsNoOpenName slots (piece_name_by s.pattern l.run.opened.run i)) (sym keeps.spec) (l.apart tells i below));
+      last = l.last;
+    } in
+    (now, refl)
+
+told_from : LeftBeside → (note : ChannelStage → ChannelStage) (turns : List MemberTurn) (slots later : List (Option Channel)) (buffer : ℕ) (p q : Access) (seen : Seen) → StepsPort note turns slots later buffer p q seen
+    → (before after : Channel) → KeepsChannel before after → (x y : Access) (more : List BufferEntry) (given : List GotEvent) → y.own ≡ x.own ++ more → y.got ≡ x.got ++ given → (n : ℕ) (stop : MemberTurn) (ends : List ChannelEnd)
+    → ((ended : Option ℕ) → IsEndedSo x.own stop.order.start ended → IsEndedSo y.own stop.order.start ended) → ToldSo turns slots seen n before x stop ends → ToldSo turns later seen n after y stop ends
+told_from law note turns slots later buffer p q seen steps before after keeps x y more given own got n stop ends ended so =
+    let both = left_from law note turns slots later buffer p q seen steps before after keeps x y more given own got stop so.told ended so.left in
+    record {
+      told = so.told;
+      at = so.at;
+      left = both.0;
+      taken = λ tells is_taken.
+          let was : TakenStays slots seen (piece_name_by before.spec.pattern so.left.run.opened.run (so.left.run.opened.at.sub + 1)) = so.taken tells (subst (λ (r : BegunRun). IsTrue r.opened.at.taken) both.1 is_taken) in
+          let of_spec : TakenStays slots seen (piece_name_by after.spec.pattern so.left.run.opened.run (so.left.run.opened.at.sub + 1)) =
+          subst (λ (s : ChannelSpec). TakenStays slots seen (piece_name_by s.pattern so.left.run.opened.run (so.left.run.opened.at.sub + 1))) (sym keeps.spec) was in
+          let of_run : TakenStays slots seen (piece_name_by after.spec.pattern both.0.run.opened.run (both.0.run.opened.at.sub + 1)) =
+          subst (λ (r : BegunRun). TakenStays slots seen (piece_name_by after.spec.pattern r.opened.run (r.opened.at.sub + 1))) (sym both.1) of_spec in
+          record { there = of_run.there; apart = no_open_from note slots later buffer steps.from _ of_run.apart };
     }
 
 apart_from : (seen : Seen) (c d x y : Channel) → KeepsChannel c x → KeepsChannel d y → SlotsApart seen c d → SlotsApart seen x y
 apart_from seen c d x y one other apart = record {
   clients = λ same m n is other_is.
       apart.clients (ap (λ (s : ChannelSpec). s.buffer) (sym one.spec) ∙ (same ∙ ap (λ (s : ChannelSpec). s.buffer) other.spec)) m n (sym one.client ∙ is) (sym other.client ∙ other_is);
-  names = λ r s is other_is told e.
-      apart.names r s (sym one.run ∙ is) (sym other.run ∙ other_is) told
-      (ap (λ (k : ChannelSpec). file_name_by k.pattern r.run) (sym one.spec) ∙ (e ∙ ap (λ (k : ChannelSpec). file_name_by k.pattern s.run) other.spec));
+  names = λ r s is other_is told i j low below e.
+      apart.names r s (sym one.run ∙ is) (sym other.run ∙ other_is) told i j (subst (λ (k : ℕ). i < k) one.made low) (subst (λ (k : ℕ). j < k) other.made below)
+      (ap (λ (k : ChannelSpec). piece_name_by k.pattern r.run i) (sym one.spec) ∙ (e ∙ ap (λ (k : ChannelSpec). piece_name_by k.pattern s.run j) other.spec));
   numbers = λ r s is other_is. apart.numbers r s (sym one.written ∙ is) (sym other.written ∙ other_is);
 }
 
@@ -116,20 +145,16 @@ port_stepped law H note turns slots later ports buffer p q seen there steps stan
     | inl hit ↦ subst (λ (x : Access). PortKept turns x.own) hit.1 (steps.calls (stands.calls buffer p there))
     | inr miss ↦ stands.calls k a miss.1
   ];
-  left = λ are stop states tells n c a stood at.
+  left = λ are stop ends tells n c a stood at.
       let f : IsFrom note slots buffer n c = steps.from n c stood in
       let at_before : slice_get (slice_set ports buffer q) f.before.spec.buffer ≡ Some a = subst (λ (s : ChannelSpec). slice_get (slice_set ports buffer q) s.buffer ≡ Some a) f.keeps.spec at in
-      elim (which_port ports buffer p q f.before.spec.buffer a there at_before) as (λ w. ToldSo turns later seen n c a stop states) [
+      elim (which_port ports buffer p q f.before.spec.buffer a there at_before) as (λ w. ToldSo turns later seen n c a stop ends) [
         | inl hit ↦
-            let so : ToldSo turns slots seen n f.before p stop states = stands.left are stop states tells n f.before p f.there (subst (λ (j : ℕ). slice_get ports j ≡ Some p) (sym hit.0) there) in
-            subst (λ (x : Access). ToldSo turns later seen n c x stop states) hit.1
-            (record { state = so.state; told = so.told; left = left_from law note turns slots later buffer p q seen steps f.before c f.keeps p q steps.more steps.given steps.own steps.got stop so.state (steps.ended are stop states tells) so.left })
+            let so : ToldSo turns slots seen n f.before p stop ends = stands.left are stop ends tells n f.before p f.there (subst (λ (j : ℕ). slice_get ports j ≡ Some p) (sym hit.0) there) in
+            subst (λ (x : Access). ToldSo turns later seen n c x stop ends) hit.1
+            (told_from law note turns slots later buffer p q seen steps f.before c f.keeps p q steps.more steps.given steps.own steps.got n stop ends (steps.ended are stop ends tells) so)
         | inr miss ↦
-            let so : ToldSo turns slots seen n f.before a stop states = stands.left are stop states tells n f.before a f.there miss.1 in
-            record {
-              state = so.state;
-              told = so.told;
-              left = left_from law note turns slots later buffer p q seen steps f.before c f.keeps a a [] [] (sym (append-nil a.own)) (sym (append-nil a.got)) stop so.state (λ e is. is) so.left;
-            }
+            let so : ToldSo turns slots seen n f.before a stop ends = stands.left are stop ends tells n f.before a f.there miss.1 in
+            told_from law note turns slots later buffer p q seen steps f.before c f.keeps a a [] [] (sym (append-nil a.own)) (sym (append-nil a.got)) n stop ends (λ e is. is) so
       ];
 }

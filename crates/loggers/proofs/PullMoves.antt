@@ -1,10 +1,10 @@
 -- What a pull of one channel is to the others.
-use Rattle.std.specs.Prelude.{◌≡◌, ◌≢◌, ℕ, Bool, true, false, nat_lt, IsTrue, List, [], ◌∷◌, ◌++◌, Option, Some, None, Ok, Err, ⊤, refl}
+use Rattle.std.specs.Prelude.{◌≡◌, ◌≢◌, ◌<◌, ◌+◌, ℕ, Bool, true, false, nat_lt, IsTrue, IsSome, List, [], length, slice_get, ◌∷◌, ◌++◌, Option, Some, None, Ok, Err, ⊤, refl}
+use Rattle.std.specs.Option.{option_map}
 use Rattle.std.proofs.Common.{ap, sym, subst, ◌∙◌, append_assoc, inl, inr}
 use Rattle.std.proofs.lemmas.List.{append-nil}
 use Rattle.daq_types.specs.declared.events.Event.{Event}
-use Rattle.daq_types.specs.declared.runs.ChannelState.{ChannelState}
-use Rattle.daq_io.specs.Seen.{Seen}
+use Rattle.daq_io.specs.Seen.{Seen, Stored}
 use Rattle.buffer_core.specs.declared.entry.BufferEntry.{BufferEntry}
 use Rattle.buffer_core.specs.declared.entry.BufferEntry.TheVariants.{Receive, Cancel, Begin, End}
 use Rattle.buffer_core.specs.declared.replies.Received.{Received}
@@ -20,16 +20,20 @@ use Rattle.mid_logger.specs.declared.channel_spec.ChannelSpec.{ChannelSpec}
 use Rattle.mid_logger.specs.declared.pulled.Pulled.{Pulled}
 use Rattle.mid_logger.specs.declared.stage.BegunRun.{BegunRun}
 use Rattle.mid_logger.specs.declared.stage.ChannelRun.{ChannelRun}
-use Rattle.mid_logger.specs.Patterns.{file_name_by}
-use Rattle.mid_logger.specs.Channels.{FileHead, KeepsOwnCalls, ChannelStands, IsOpenFile, CancelsRequest, channel_run, written_run, reading_run, is_behind_end}
+use Rattle.mid_logger.specs.declared.stage.ChannelStage.{ChannelStage}
+use Rattle.mid_logger.specs.declared.stage.ChannelStage.TheVariants.{Idle, Asking, Writing, Draining, Drained, Broken}
+use Rattle.sub_files.specs.Patterns.{piece_name_by}
+use Rattle.mid_logger.specs.Channels.{FileHead, KeepsOwnCalls, ChannelStands, IsLastOpen, KnowsTaken, CancelsRequest, channel_run, written_run, files_by as files_made, reading_run, is_behind_end}
 use Rattle.mid_logger.specs.Pulls.{PullOf, TakesBy, FindsNone, TakesReply, PullsIn, Pulls, drains_at_none}
-use Rattle.mid_logger.specs.Beside.{LeavesNumber, LeavesRunFile, ChannelsApart, FilesBeside, PullsBeside, LeftBeside}
-use Rattle.mid_logger.specs.Keeping.{ChangesFile, KeepsRun, PullsKeep, PullsChange}
-use Rattle.loggers.specs.Moments.{LoggerMoment, ChannelStep, StepsChannel, HaveNumbersApart}
+use Rattle.mid_logger.specs.Beside.{LeavesNumber, LeavesRunFiles, ChannelsApart, FilesBeside, PullsBeside, LeftBeside}
+use Rattle.mid_logger.specs.Keeping.{ChangesRun, KeepsRun, FilesThere, PullsKeep, PullsChange, PullsKnow, any_file}
+use Rattle.loggers.specs.Moments.{LoggerMoment, ChannelStep, StepsChannel, HaveNumbersApart, HaveFilesOpen, IsLoggerReady}
 use Rattle.loggers.specs.ChannelSteps.{PullsChannel}
-use Rattle.loggers.specs.LoggerStands.{IsEndReplied, IsEndedSo, IsEndTold, ChannelKept, PortKept, LeftRun, SlotsApart, SlotsStand}
-use Rattle.loggers.proofs.ReadySteps.{numbers_left}
+use Rattle.loggers.specs.LoggerStands.{IsEndReplied, IsEndedSo, IsEndTold, ChannelKept, PortKept, SlotsApart, SlotsStand}
+use Rattle.loggers.proofs.SlotLists.{below_or_not, one_changed}
+use Rattle.loggers.proofs.ReadySteps.{numbers_left, last_used, still_apart}
 use Rattle.loggers.proofs.LoneCalls.{AreLone, pull_lone}
+use Rattle.loggers.proofs.StoppedRuns.{there_is}
 use Rattle.loggers.proofs.Moved.{Grows, Moves, moved}
 
 -- Files of others.
@@ -38,19 +42,43 @@ pub number_left : (old new : Seen) (written : Option ChannelRun) → ((s : Chann
 number_left old new None keeps = tt
 number_left old new (Some s) keeps = keeps s refl
 
--- a run's file stays, where at most the file of another run changed
-pub run_file_left : (spec : ChannelSpec) (run written : Option ChannelRun) (other : ChannelSpec) (other_run other_written : Option ChannelRun) (old new : Seen) → ChangesFile spec run written old new
-    → ((r s : ChannelRun) → run ≡ Some r → other_run ≡ Some s → IsTrue old.tells → file_name_by spec.pattern r.run ≢ file_name_by other.pattern s.run) → HaveNumbersApart written other_written → LeavesRunFile other other_run other_written old new
-run_file_left spec run written other None other_written old new changes names numbers = tt
-run_file_left spec None written other (Some s) other_written old new changes names numbers = record {
-  tells = ap (λ (x : Seen). x.tells) changes;
-  at = λ told. ap (λ (x : Seen). x.at (file_name_by other.pattern s.run)) changes;
-  number = number_left old new other_written (λ k is. numbers_left spec None written other_written old new changes numbers k is);
-}
-run_file_left spec (Some r) written other (Some s) other_written old new changes names numbers = record {
-  tells = changes.touches.tells;
-  at = λ told. changes.touches.others (file_name_by other.pattern s.run) (λ same. names r s refl refl told (sym same));
-  number = number_left old new other_written (λ k is. numbers_left spec (Some r) written other_written old new changes numbers k is);
+-- what is told of names stays told
+pub tells_same : (spec : ChannelSpec) (run written : Option ChannelRun) (made now : ℕ) (old new : Seen) → ChangesRun spec run written made now old new → new.tells ≡ old.tells
+tells_same spec None written made now old new changes = ap (λ (x : Seen). x.tells) changes
+tells_same spec (Some opened) written made now old new changes = changes.tells
+
+-- where names are told, each file that the channel made in its run is there
+abbrev pub IsThere : (seen : Seen) → Channel → Type 0
+IsThere seen d = (s : ChannelRun) → channel_run d.stage ≡ Some s → IsTrue seen.tells → (j : ℕ) → j < files_made d.stage → IsSome (seen.at (piece_name_by d.spec.pattern s.run j))
+
+-- a name that had no file is none that is there
+gone_apart : (seen : Seen) (name other : List ℕ) → seen.at name ≡ None → IsSome (seen.at other) → name ≢ other
+gone_apart seen name other gone there same = let never : IsSome {T = Stored} None = subst (λ (o : Option Stored). IsSome o) (ap (λ (l : List ℕ). seen.at l) (sym same) ∙ gone) there in absurd (cc (never))
+
+-- A file that is there, and is none of those that were made of this run before, is none of those that are made now.
+pub not_changed : (spec : ChannelSpec) (run written : Option ChannelRun) (made now : ℕ) (old new : Seen) → ChangesRun spec run written made now old new → (r : ChannelRun) → run ≡ Some r → (name : List ℕ) → IsTrue old.tells → IsSome (old.at name)
+    → ((i : ℕ) → i < made → name ≢ piece_name_by spec.pattern r.run i) → (i : ℕ) → i < now → name ≢ piece_name_by spec.pattern r.run i
+not_changed spec run written made now old new changes r is name told there apart i low = elim (below_or_not i made) as (λ w. name ≢ piece_name_by spec.pattern r.run i) [
+  | inl below ↦ apart i below
+  | inr above ↦ λ same.
+      let changed : ChangesRun spec (Some r) written made now old new = subst (λ (o : Option ChannelRun). ChangesRun spec o written made now old new) is changes in
+      gone_apart old (piece_name_by spec.pattern r.run i) name (changed.fresh i above low told) there (sym same)
+]
+
+-- a file stays that is none of those that are made of a run, where at most the files of that changed
+pub file_left : (spec : ChannelSpec) (run written : Option ChannelRun) (made now : ℕ) (old new : Seen) → ChangesRun spec run written made now old new → (name : List ℕ) → ((r : ChannelRun) → run ≡ Some r → (i : ℕ) → i < now → name ≢ piece_name_by spec.pattern r.run i) → new.at name ≡ old.at name
+file_left spec None written made now old new changes name apart = ap (λ (x : Seen). x.at name) changes
+file_left spec (Some r) written made now old new changes name apart = changes.others name (apart r refl)
+
+-- a run's files stay, where at most the files of another run changed
+pub run_files_left : (spec : ChannelSpec) (run written : Option ChannelRun) (made now : ℕ) (other : ChannelSpec) (other_run other_written : Option ChannelRun) (many : ℕ) (old new : Seen) → ChangesRun spec run written made now old new
+    → ((r s : ChannelRun) → run ≡ Some r → other_run ≡ Some s → IsTrue old.tells → (i j : ℕ) → i < now → j < many → piece_name_by spec.pattern r.run i ≢ piece_name_by other.pattern s.run j)
+    → ((s : ChannelRun) → other_written ≡ Some s → IsTrue (old.writes s.at.file)) → HaveNumbersApart written other_written → LeavesRunFiles other other_run other_written many old new
+run_files_left spec run written made now other None other_written many old new changes names used numbers = tt
+run_files_left spec run written made now other (Some s) other_written many old new changes names used numbers = record {
+  tells = tells_same spec run written made now old new changes;
+  at = λ told n below. file_left spec run written made now old new changes (piece_name_by other.pattern s.run n) (λ r is i low same. names r s is refl told i n low below (sym same));
+  number = number_left old new other_written (λ k is. numbers_left spec run written other_written made now old new changes numbers k is (used k is));
 }
 
 -- Calls: none of a pull ends a run.
@@ -94,7 +122,6 @@ given_now client (Got place start) e = record { client = client; place = place; 
 given_now client reply e = []
 
 given_is : (got : List GotEvent) (client : ℕ) (reply : Received) (e : Event) → got_after got client reply e ≡ got ++ given_now client reply e
-unfolding given_now
 given_is got client (Got place start) e = refl
 given_is got client (Empty gate last) e = sym (append-nil got)
 given_is got client NoClient e = sym (append-nil got)
@@ -227,76 +254,159 @@ port_grown turns x y grows calls lone kept = record {
 
 -- The step.
 
--- what is left of a channel's run that another channel's step changes at most its own file
-pub left_file : (turns : List MemberTurn) (slots : List (Option Channel)) (n : ℕ) (before after c : Channel) (a : Access) (stop : MemberTurn) (old new : Seen) → slot_at slots n ≡ Some before → after.spec ≡ before.spec → channel_run after.stage ≡ channel_run before.stage
-    → ChangesFile before.spec (channel_run before.stage) (written_run before.stage) old new → (tells : new.tells ≡ old.tells) → (state : ChannelState) (l : LeftRun turns slots old c a stop state)
-    → LeavesRunFile c.spec (Some l.run.opened) None old new × ((opened : ChannelRun) → channel_run after.stage ≡ Some opened → IsTrue new.tells → file_name_by c.spec.pattern l.run.opened.run ≢ file_name_by after.spec.pattern opened.run)
-left_file turns slots n before after c a stop old new there spec run changes tells state l = (
-  run_file_left before.spec (channel_run before.stage) (written_run before.stage) c.spec (Some l.run.opened) None old new changes
-      (λ r s is other_is told same. l.apart n before r there is told (let e : l.run.opened ≡ s = cc (other_is) in ap (λ (k : ChannelRun). file_name_by c.spec.pattern k.run) e ∙ sym same))
-      (λ r s is other_is. absurd (cc (other_is))),
-  λ opened is told same. l.apart n before opened there (sym run ∙ is) (subst (λ (b : Bool). IsTrue b) tells told) (same ∙ ap (λ (s : ChannelSpec). file_name_by s.pattern opened.run) spec),
-)
+-- the run behind a pull is that before it, whichever file is written
+pub record RunBefore (before : ChannelStage) (r : ChannelRun) : Type 0 where
+  pub v : ChannelRun
+  pub is : channel_run before ≡ Some v
+  pub same : any_file r ≡ any_file v
+
+run_before : (before : ChannelStage) (found : Option ChannelRun) (later : ChannelStage) (r : ChannelRun) → channel_run before ≡ found → option_map any_file (channel_run later) ≡ option_map any_file found → channel_run later ≡ Some r → RunBefore before r
+run_before before None later r found_is same is = absurd (let never : Some (any_file r) ≡ None = sym (ap (λ (o : Option ChannelRun). option_map any_file o) is) ∙ same in cc (never))
+run_before before (Some v) later r found_is same is =
+    let both : Some (any_file r) ≡ Some (any_file v) = sym (ap (λ (o : Option ChannelRun). option_map any_file o) is) ∙ same in
+    record { v = v; is = found_is; same = cc (both) }
+
+pub same_run_before : (old : Seen) (before later : ChannelStage) (r : ChannelRun) → KeepsRun old before later → channel_run later ≡ Some r → RunBefore before r
+same_run_before old before later r keeps is = run_before before (channel_run before) later r refl keeps.run is
 
 -- one channel of a buffer beside another, by what the logger keeps
 pub apart_on : (seen : Seen) (c d : Channel) → c.spec.buffer ≡ d.spec.buffer → SlotsApart seen c d → ChannelsApart seen c.spec c.client c.stage d.spec d.client d.stage
 apart_on seen c d same apart = record { clients = apart.clients same; names = apart.names; numbers = apart.numbers }
 
-pulled_apart : (old new : Seen) (before after d : Channel) → new.tells ≡ old.tells → after.spec ≡ before.spec → after.client ≡ before.client → KeepsRun before.stage after.stage → SlotsApart old before d → SlotsApart new after d
-pulled_apart old new before after d tells spec client keeps apart = record {
+-- Behind a pull of another, a channel's files are apart from those that the pull made.
+pulled_apart : (old new : Seen) (before after d : Channel) → new.tells ≡ old.tells → after.spec ≡ before.spec → after.client ≡ before.client → KeepsRun old before.stage after.stage
+    → ChangesRun before.spec (channel_run before.stage) (written_run before.stage) (files_made before.stage) (files_made after.stage) old new → IsThere old d → ((s : ChannelRun) → written_run d.stage ≡ Some s → IsTrue (old.writes s.at.file)) → SlotsApart old before d → SlotsApart new after d
+pulled_apart old new before after d tells spec client keeps changes there used apart = record {
   clients = λ same m n is other_is. apart.clients (ap (λ (s : ChannelSpec). s.buffer) (sym spec) ∙ same) m n (sym client ∙ is) other_is;
-  names = λ r s is other_is told e. apart.names r s (sym keeps.run ∙ is) other_is (subst (λ (b : Bool). IsTrue b) tells told) (ap (λ (x : ChannelSpec). file_name_by x.pattern r.run) (sym spec) ∙ e);
-  numbers = λ r s is other_is. elim keeps.written as (λ w. r.at.file ≢ s.at.file) [
-    | inl same ↦ apart.numbers r s (sym same ∙ is) other_is
-    | inr none ↦ absurd (let never : None ≡ Some r = sym none ∙ is in cc (never))
-  ];
+  names = λ r s is other_is told i j low below e.
+      let told_before : IsTrue old.tells = subst (λ (b : Bool). IsTrue b) tells told in
+      let run : RunBefore before.stage r = same_run_before old before.stage after.stage r keeps is in
+      let number : r.run ≡ run.v.run = ap (λ (x : ChannelRun). x.run) run.same in
+      let name_is : piece_name_by d.spec.pattern s.run j ≡ piece_name_by before.spec.pattern run.v.run i = sym e ∙ (ap (λ (x : ChannelSpec). piece_name_by x.pattern r.run i) spec ∙ ap (λ (k : ℕ). piece_name_by before.spec.pattern k i) number) in
+      not_changed before.spec (channel_run before.stage) (written_run before.stage) (files_made before.stage) (files_made after.stage) old new changes run.v run.is (piece_name_by d.spec.pattern s.run j) told_before (there s other_is told_before j below)
+      (λ k made same. apart.names run.v s run.is other_is told_before k j made below (sym same)) i low name_is;
+  numbers = still_apart old before after (written_run d.stage) keeps.written used apart.numbers;
 }
 
-pub tells_same : (spec : ChannelSpec) (run written : Option ChannelRun) (old new : Seen) → ChangesFile spec run written old new → new.tells ≡ old.tells
-tells_same spec None written old new changes = ap (λ (x : Seen). x.tells) changes
-tells_same spec (Some opened) written old new changes = changes.touches.tells
+-- The head of a channel's files has the dump of its run, or the channel has none, and any head is one for it.
+record KeptWith (H : ChannelRun → FileHead → Type 0) (dump : List ℕ) (seen : Seen) (c : Channel) (port : Access) : Type 0 where
+  head : FileHead
+  same : head.dump ≡ dump
+  stands : ChannelStands c.spec c.client c.stage head port.own port.got seen
+  headed : (opened : ChannelRun) → channel_run c.stage ≡ Some opened → H opened head
+
+-- the heads of runs are those of this dump, whichever file is written
+pub record FitsDump (H : ChannelRun → FileHead → Type 0) (dump : List ℕ) : Type 0 where
+  pub of : (opened : ChannelRun) → (head : FileHead) → H opened head → head.dump ≡ dump
+  pub any : (r s : ChannelRun) → (head : FileHead) → any_file r ≡ any_file s → H s head → H r head
+
+kept_with : (H : ChannelRun → FileHead → Type 0) (dump : List ℕ) (seen : Seen) (c : Channel) (port : Access) (stage : ChannelStage) → c.stage ≡ stage → FitsDump H dump → (kept : ChannelKept H seen c port) → KeptWith H dump seen c port
+kept_with H dump seen c port Idle is fits kept =
+    let head : FileHead = record { run = 0; time = 0; dump = dump } in
+    let idle : ChannelStands c.spec c.client Idle kept.head port.own port.got seen = subst (λ (s : ChannelStage). ChannelStands c.spec c.client s kept.head port.own port.got seen) is kept.stands in
+    let now : ChannelStands c.spec c.client Idle head port.own port.got seen = record { port = idle.port; own_client = idle.own_client; at = idle.at } in
+    record {
+      head = head;
+      same = refl;
+      stands = subst (λ (s : ChannelStage). ChannelStands c.spec c.client s head port.own port.got seen) (sym is) now;
+      headed = λ opened run_is. absurd (let never : None ≡ Some opened = sym (ap (λ (s : ChannelStage). channel_run s) is) ∙ run_is in cc (never));
+    }
+kept_with H dump seen c port (Asking opened) is fits kept = record { head = kept.head; same = fits.of opened kept.head (kept.headed opened (ap (λ (s : ChannelStage). channel_run s) is)); stands = kept.stands; headed = kept.headed }
+kept_with H dump seen c port (Writing opened begun) is fits kept = record { head = kept.head; same = fits.of opened kept.head (kept.headed opened (ap (λ (s : ChannelStage). channel_run s) is)); stands = kept.stands; headed = kept.headed }
+kept_with H dump seen c port (Draining run) is fits kept = record { head = kept.head; same = fits.of run.opened kept.head (kept.headed run.opened (ap (λ (s : ChannelStage). channel_run s) is)); stands = kept.stands; headed = kept.headed }
+kept_with H dump seen c port (Drained run) is fits kept = record { head = kept.head; same = fits.of run.opened kept.head (kept.headed run.opened (ap (λ (s : ChannelStage). channel_run s) is)); stands = kept.stands; headed = kept.headed }
+kept_with H dump seen c port (Broken run fallen) is fits kept = record { head = kept.head; same = fits.of run.opened kept.head (kept.headed run.opened (ap (λ (s : ChannelStage). channel_run s) is)); stands = kept.stands; headed = kept.headed }
+
+-- what is known of pulls
+pub record PullLaws : Type 0 where
+  pub left : LeftBeside
+  pub keep : PullsKeep
+  pub change : PullsChange
+  pub know : PullsKnow
+  pub beside : PullsBeside
+  pub files : FilesBeside
+  pub there : FilesThere
 
 -- a pull, as a step among all channels
-pub pull_moves : PullsKeep → PullsChange → PullsBeside → FilesBeside → (H : ChannelRun → FileHead → Type 0) (turns : List MemberTurn) (answer : Pulled) (slots : List (Option Channel)) (n : ℕ) (s : ChannelStep) → slot_at slots n ≡ Some s.before
-    → IsOpenFile s.files.seen s.before.spec (written_run s.before.stage) → ((m : ℕ) (d : Channel) → m ≢ n → slot_at slots m ≡ Some d → SlotsApart s.files.seen s.before d) → ChannelKept H s.files.seen s.before s.port
-    → PullsChannel answer s → Moves H turns slots n s.before s.after s.port s.later_port s.files.seen s.later_files.seen
-pull_moves keep change beside files H turns answer slots n s there file apart kept pulls =
+pub pull_moves : PullLaws → (H : ChannelRun → FileHead → Type 0) (turns : List MemberTurn) (dump : List ℕ) (answer : Pulled) (slots : List (Option Channel)) (n : ℕ) (s : ChannelStep) → FitsDump H dump → slot_at slots n ≡ Some s.before → HaveFilesOpen slots s.files.seen
+    → ((m : ℕ) (d : Channel) → slot_at slots m ≡ Some d → IsThere s.files.seen d) → ((m : ℕ) (d : Channel) → m ≢ n → slot_at slots m ≡ Some d → SlotsApart s.files.seen s.before d) → ChannelKept H s.files.seen s.before s.port
+    → PullsChannel dump answer s → Moves H turns slots n s.before s.after s.port s.later_port s.files.seen s.later_files.seen
+pull_moves laws H turns dump answer slots n s fits there open_files is_there apart kept pulls =
     let old : Seen = s.files.seen in
     let new : Seen = s.later_files.seen in
-    let room : ℕ = s.before.event.room in
-    let p : PullOf = record { stage = s.before.stage; later_stage = s.after.stage; port = s.port; later_port = s.later_port; files = old; later_files = new; answer = answer } in
-    let changes = change p room s.before.spec pulls.pulls file in
-    let tells : new.tells ≡ old.tells = tells_same s.before.spec (channel_run s.before.stage) (written_run s.before.stage) old new changes.0 in
+    let before : Channel = s.before in
+    let room : ℕ = before.event.room in
+    let p : PullOf = record { spec = before.spec; dump = dump; stage = before.stage; later_stage = s.after.stage; port = s.port; later_port = s.later_port; files = old; later_files = new; answer = answer } in
+    let file : IsLastOpen old before.spec (written_run before.stage) = open_files.files n before there in
+    let changes = laws.change p room pulls.pulls file in
+    let keeps : KeepsRun old before.stage s.after.stage = changes.1 in
+    let tells : new.tells ≡ old.tells = tells_same before.spec (channel_run before.stage) (written_run before.stage) (files_made before.stage) (files_made s.after.stage) old new changes.0 in
     let grows : GrowsOn s.port s.later_port = pull_grows p room pulls.pulls in
-    let own_stands : ChannelStands s.after.spec s.after.client s.after.stage kept.head s.later_port.own s.later_port.got new =
-    rw (pulls.spec, pulls.client) (keep p room s.before.spec s.before.client kept.head pulls.pulls kept.stands) in
+    let used : (m : ℕ) (d : Channel) → slot_at slots m ≡ Some d → (o : ChannelRun) → written_run d.stage ≡ Some o → IsTrue (old.writes o.at.file) = λ m d stood o is. last_used d.spec old (written_run d.stage) (open_files.files m d stood) o is in
+    let with : KeptWith H dump old before s.port = kept_with H dump old before s.port before.stage refl fits kept in
+    let own_stands : ChannelStands s.after.spec s.after.client s.after.stage with.head s.later_port.own s.later_port.got new =
+    rw (pulls.spec, pulls.client) (laws.keep p room before.client with.head pulls.pulls with.same with.stands) in
     record {
       spec = pulls.spec;
       client = λ k is. pulls.client ∙ is;
       tells = tells;
-      self = λ b. record { head = b.head; stands = rw (pulls.spec, pulls.client) (keep p room s.before.spec s.before.client b.head pulls.pulls b.stands); headed = λ opened is. b.headed opened (sym changes.1.run ∙ is) };
+      self = λ b. record { head = with.head; stands = own_stands; headed = λ opened is. let run : RunBefore before.stage opened = same_run_before old before.stage s.after.stage opened keeps is in fits.any opened run.v with.head run.same (with.headed run.v run.is) };
       beside = λ m d other stood same b k. record {
         head = k.head;
-        stands = beside p room s.before.spec s.before.client b.head d.spec d.client d.stage k.head pulls.pulls file b.stands (apart_on old s.before d (sym same) (apart m d other stood)) k.stands;
+        stands = (laws.beside p room before.client b.head d.spec d.client d.stage k.head pulls.pulls file b.stands (apart_on old before d (sym same) (apart m d other stood)) k.stands).0;
         headed = k.headed;
       };
       elsewhere = λ m d a other stood k. record {
         head = k.head;
-        stands = files d.spec d.client d.stage k.head a.own a.got old new k.stands
-            (run_file_left s.before.spec (channel_run s.before.stage) (written_run s.before.stage) d.spec (channel_run d.stage) (written_run d.stage) old new changes.0 (apart m d other stood).names (apart m d other stood).numbers);
+        stands = laws.files d.spec d.client d.stage k.head a.own a.got old new k.stands
+            (run_files_left before.spec (channel_run before.stage) (written_run before.stage) (files_made before.stage) (files_made s.after.stage) d.spec (channel_run d.stage) (written_run d.stage) (files_made d.stage) old new changes.0
+            (λ r q is other_is told i j low below same. not_changed before.spec (channel_run before.stage) (written_run before.stage) (files_made before.stage) (files_made s.after.stage) old new changes.0 r is (piece_name_by d.spec.pattern q.run j) told (is_there m d stood q other_is told j below)
+            (λ k made e. (apart m d other stood).names r q is other_is told k j made below (sym e)) i low (sym same)) (used m d stood) (apart m d other stood).numbers);
         headed = k.headed;
       };
-      apart = λ m d other stood was. pulled_apart old new s.before s.after d tells pulls.spec pulls.client changes.1 was;
+      apart = λ m d other stood was. pulled_apart old new before s.after d tells pulls.spec pulls.client keeps changes.0 (is_there m d stood) (used m d stood) was;
       calls = λ calls. port_grown turns s.port s.later_port grows own_stands.port (pull_lone p room pulls.pulls) calls;
       grows = grown_on s.port s.later_port grows;
-      left = λ c a stop state l. left_file turns slots n s.before s.after c a stop old new there pulls.spec changes.1.run changes.0 tells state l;
+      left = λ name told stays. (
+        file_left before.spec (channel_run before.stage) (written_run before.stage) (files_made before.stage) (files_made s.after.stage) old new changes.0 name
+            (λ r is. not_changed before.spec (channel_run before.stage) (written_run before.stage) (files_made before.stage) (files_made s.after.stage) old new changes.0 r is name told stays.there (λ i low. stays.apart n before r there is i low)),
+        λ opened is j low same.
+            let run : RunBefore before.stage opened = same_run_before old before.stage s.after.stage opened keeps is in
+            let number : opened.run ≡ run.v.run = ap (λ (x : ChannelRun). x.run) run.same in
+            not_changed before.spec (channel_run before.stage) (written_run before.stage) (files_made before.stage) (files_made s.after.stage) old new changes.0 run.v run.is name told stays.there (λ i below. stays.apart n before run.v there run.is i below) j low
+            (same ∙ (ap (λ (x : ChannelSpec). piece_name_by x.pattern opened.run j) pulls.spec ∙ ap (λ (k : ℕ). piece_name_by before.spec.pattern k j) number)),
+      );
     }
 
+-- the files of each channel that stands are there
+pub all_there : FilesThere → (H : ChannelRun → FileHead → Type 0) (turns : List MemberTurn) (slots : List (Option Channel)) (ports : List Access) (seen : Seen) → ((m : ℕ) (d : Channel) → slot_at slots m ≡ Some d → d.spec.buffer < length ports) → SlotsStand H turns slots ports seen
+    → (m : ℕ) (d : Channel) → slot_at slots m ≡ Some d → IsThere seen d
+all_there law H turns slots ports seen served stands m d stood s is told j below =
+    let port : (x : Access) × (slice_get ports d.spec.buffer ≡ Some x) = there_is ports d.spec.buffer (served m d stood) in
+    let k : ChannelKept H seen d port.0 = stands.channels m d port.0 stood port.1 in
+    law d.spec d.client d.stage k.head port.0.own port.0.got seen k.stands s is told j below
+
 -- what all channels keep before a pull of one of them they keep behind it
-pub pull_stands : LeftBeside → PullsKeep → PullsChange → PullsBeside → FilesBeside → (H : ChannelRun → FileHead → Type 0) (turns : List MemberTurn) (answer : Pulled) (n : ℕ) (before : Channel) (a b : LoggerMoment) → slot_at a.slots n ≡ Some before
-    → IsOpenFile a.files.seen before.spec (written_run before.stage) → StepsChannel (PullsChannel answer) n before a b → SlotsStand H turns a.slots a.ports a.files.seen → SlotsStand H turns b.slots b.ports b.files.seen
-pull_stands law keep change beside files H turns answer n before a b there file s stands =
+pub pull_stands : PullLaws → (H : ChannelRun → FileHead → Type 0) (turns : List MemberTurn) (dump : List ℕ) (answer : Pulled) (n : ℕ) (before : Channel) (a b : LoggerMoment) → FitsDump H dump → slot_at a.slots n ≡ Some before → IsLoggerReady a.slots a.ports a.files.seen
+    → StepsChannel (PullsChannel dump answer) n before a b → SlotsStand H turns a.slots a.ports a.files.seen → SlotsStand H turns b.slots b.ports b.files.seen
+pull_stands laws H turns dump answer n before a b fits there ready s stands =
     let step : ChannelStep = record { before = before; after = s.after; port = s.port; later_port = s.later_port; files = a.files; later_files = b.files } in
     let moves : Moves H turns a.slots n before s.after s.port s.later_port a.files.seen b.files.seen =
-    pull_moves keep change beside files H turns answer a.slots n step there file (λ m d other stood. stands.apart n m before d (λ same. other (sym same)) there stood) (stands.channels n before s.port there s.at_port) s.step in
-    rw (s.slots, s.ports) (moved law H turns a.slots a.ports n before s.after s.port s.later_port a.files.seen b.files.seen there s.at_port moves stands)
+    pull_moves laws H turns dump answer a.slots n step fits there ready.files (all_there laws.there H turns a.slots a.ports a.files.seen ready.served stands)
+    (λ m d other stood. stands.apart n m before d (λ same. other (sym same)) there stood) (stands.channels n before s.port there s.at_port) s.step in
+    rw (s.slots, s.ports) (moved laws.left H turns a.slots a.ports n before s.after s.port s.later_port a.files.seen b.files.seen there s.at_port moves stands)
+
+-- Behind a pull each channel knows which name it found taken: of another the file is there as before.
+pub pull_knows : PullLaws → (H : ChannelRun → FileHead → Type 0) (turns : List MemberTurn) (dump : List ℕ) (answer : Pulled) (n : ℕ) (before : Channel) (a b : LoggerMoment) → FitsDump H dump → slot_at a.slots n ≡ Some before → StepsChannel (PullsChannel dump answer) n before a b
+    → IsLoggerReady a.slots a.ports a.files.seen → SlotsStand H turns a.slots a.ports a.files.seen → ((m : ℕ) (c : Channel) → slot_at a.slots m ≡ Some c → KnowsTaken a.files.seen c.spec c.stage) → (m : ℕ) (c : Channel) → slot_at b.slots m ≡ Some c → KnowsTaken b.files.seen c.spec c.stage
+pull_knows laws H turns dump answer n before a b fits there s ready stands knows =
+    let old : Seen = a.files.seen in
+    let new : Seen = b.files.seen in
+    let p : PullOf = record { spec = before.spec; dump = dump; stage = before.stage; later_stage = s.after.stage; port = s.port; later_port = s.later_port; files = old; later_files = new; answer = answer } in
+    let with : KeptWith H dump old before s.port = kept_with H dump old before s.port before.stage refl fits (stands.channels n before s.port there s.at_port) in
+    let known = laws.know p before.event.room before.client with.head s.step.pulls with.same with.stands in
+    let changes = laws.change p before.event.room s.step.pulls (ready.files.files n before there) in
+    let tells : new.tells ≡ old.tells = tells_same before.spec (channel_run before.stage) (written_run before.stage) (files_made before.stage) (files_made s.after.stage) old new changes.0 in
+    rw s.slots (one_changed (λ k c. KnowsTaken new c.spec c.stage) a.slots n s.after
+    (λ x here. subst (λ (sp : ChannelSpec). KnowsTaken new sp s.after.stage) (sym s.step.spec) (known.1 (knows n before there)))
+    (λ k c other here opened is taken told. let told_before : IsTrue old.tells = subst (λ (t : Bool). IsTrue t) tells told in known.0 told_before (piece_name_by c.spec.pattern opened.run (opened.at.sub + 1)) (knows k c here opened is taken told_before)) before there)

@@ -1,5 +1,5 @@
 -- What a logger keeps behind a pull.
-use Rattle.std.specs.Prelude.{◌≡◌, ◌<◌, ℕ, Bool, true, false, nat_lt, List, length, slice_get, slice_set, Option, Some, None, ◌⊎◌, refl}
+use Rattle.std.specs.Prelude.{◌≡◌, ◌<◌, ℕ, Bool, true, false, nat_lt, List, [], unwrap_or, length, slice_get, slice_set, Option, Some, None, ◌⊎◌, refl}
 use Rattle.std.proofs.Common.{ap, sym, subst, ◌∙◌, arith, inl, inr}
 use Rattle.std.proofs.lemmas.List.{length-set}
 use Rattle.daq_types.specs.declared.events.Event.{Event}
@@ -15,21 +15,21 @@ use Rattle.mid_logger.specs.declared.pulled.Pulled.{Pulled}
 use Rattle.mid_logger.specs.declared.stage.BegunRun.{BegunRun}
 use Rattle.mid_logger.specs.declared.stage.ChannelRun.{ChannelRun}
 use Rattle.sub_files.specs.declared.open_file.Fallen.{Fallen}
+use Rattle.sub_files.specs.declared.open_file.OpenFile.{OpenFile}
 use Rattle.mid_logger.specs.declared.stage.ChannelStage.{ChannelStage}
 use Rattle.mid_logger.specs.declared.stage.ChannelStage.TheVariants.{Idle, Asking, Writing, Draining, Drained, Broken}
-use Rattle.mid_logger.specs.Channels.{run_begun, reading_run, is_behind_end}
+use Rattle.mid_logger.specs.Channels.{run_begun, stage_at, reading_run, is_behind_end}
 use Rattle.mid_logger.specs.Pulls.{PullOf, TakesBy, FindsNone, TakesReply, PullsOnce, PullsIn, Pulls, drains_at_none}
-use Rattle.mid_logger.specs.Beside.{FilesBeside, PullsBeside, LeftBeside}
-use Rattle.mid_logger.specs.Keeping.{PullsKeep, PullsChange}
 use Rattle.loggers.specs.declared.logged_run.LoggedRun.{LoggedRun}
+use Rattle.loggers.specs.declared.logged_run.RunDumps.{RunDumps}
 use Rattle.loggers.specs.declared.logged_run.RunPart.{RunPart}
 use Rattle.loggers.specs.declared.logged_run.RunPart.TheVariants.{Refused, Started, Stopping}
-use Rattle.loggers.specs.Moments.{LoggerMoment, StepsChannel, HaveFilesOpen}
+use Rattle.loggers.specs.Moments.{LoggerMoment, StepsChannel, IsLoggerReady}
 use Rattle.loggers.specs.ChannelSteps.{PullsChannel}
 use Rattle.loggers.specs.SlotPulls.{PullsSlot}
-use Rattle.loggers.specs.LoggerStands.{IsEndedSo, IsEndedRun, IsStartedStage, IsStoppingStage, IsStagePart, IsStageOf, IsHeadTold, LoggerHolds}
+use Rattle.loggers.specs.LoggerStands.{IsEndedSo, IsEndedRun, IsStartedStage, IsStoppingStage, IsStagePart, IsStageOf, HasHead, IsHeadTold, LoggerHolds}
 use Rattle.loggers.proofs.SlotLists.{one_changed, got_there, got_elsewhere, same_or_other}
-use Rattle.loggers.proofs.PullMoves.{GrowsOn, pull_grows, ended_stays, pull_stands}
+use Rattle.loggers.proofs.PullMoves.{GrowsOn, FitsDump, PullLaws, pull_grows, ended_stays, pull_stands, pull_knows}
 
 -- Stages.
 
@@ -37,20 +37,24 @@ use Rattle.loggers.proofs.PullMoves.{GrowsOn, pull_grows, ended_stays, pull_stan
 abbrev BrokeOff : (run : BegunRun) → (later : ChannelStage) → Type 0
 BrokeOff run later = (fallen : Fallen) × (later ≡ Broken run fallen)
 
--- the stage behind a pull: the same, or that of the run that was read
-abbrev StageBehind : (run : BegunRun) → (drains : Bool) → (stage later : ChannelStage) → Type 0
-StageBehind run true stage later = (later ≡ stage) ⊎ ((later ≡ Drained run) ⊎ BrokeOff run later)
-StageBehind run false stage later = (later ≡ stage) ⊎ BrokeOff run later
+-- the stage is the same, or but for the file that is being written
+abbrev GoesOn : (stage later : ChannelStage) → Type 0
+GoesOn stage later = (later ≡ stage) ⊎ ((at : OpenFile) × (later ≡ stage_at stage at))
 
-takes_stage : (p : PullOf) (run : BegunRun) (place : ℕ) (e : Event) (early : Bool) → TakesBy false early p run place e → (p.later_stage ≡ p.stage) ⊎ BrokeOff run p.later_stage
-takes_stage p run place e true takes = inl takes.stage
-takes_stage p run place e false takes = elim takes as (λ w. (p.later_stage ≡ p.stage) ⊎ BrokeOff run p.later_stage) [
-  | inl writes ↦ inl writes.stage
+-- the stage behind a pull: it goes on, or is that of the run that was read
+abbrev StageBehind : (run : BegunRun) → (drains : Bool) → (stage later : ChannelStage) → Type 0
+StageBehind run true stage later = GoesOn stage later ⊎ ((later ≡ Drained run) ⊎ BrokeOff run later)
+StageBehind run false stage later = GoesOn stage later ⊎ BrokeOff run later
+
+takes_stage : (p : PullOf) (run : BegunRun) (place : ℕ) (e : Event) (early : Bool) → TakesBy false early p run place e → GoesOn p.stage p.later_stage ⊎ BrokeOff run p.later_stage
+takes_stage p run place e true takes = inl (inl takes.stage)
+takes_stage p run place e false takes = elim takes as (λ w. GoesOn p.stage p.later_stage ⊎ BrokeOff run p.later_stage) [
+  | inl writes ↦ inl (inr (writes.at, writes.stage))
   | inr breaks ↦ inr (breaks.fallen, breaks.stage)
 ]
 
-or_broken : (run : BegunRun) (stage later : ChannelStage) → (later ≡ stage) ⊎ BrokeOff run later → StageBehind run true stage later
-or_broken run stage later either = elim either as (λ w. (later ≡ stage) ⊎ ((later ≡ Drained run) ⊎ BrokeOff run later)) [
+or_broken : (run : BegunRun) (stage later : ChannelStage) → GoesOn stage later ⊎ BrokeOff run later → StageBehind run true stage later
+or_broken run stage later either = elim either as (λ w. GoesOn stage later ⊎ ((later ≡ Drained run) ⊎ BrokeOff run later)) [
   | inl same ↦ inl same
   | inr broken ↦ inr (inr broken)
 ]
@@ -63,8 +67,8 @@ writing_reply : (p : PullOf) (opened : ChannelRun) (begun : ℕ) (reply : Receiv
 writing_reply p opened begun (Got place start) e is taken = takes_stage p (run_begun opened begun) place e (nat_lt place begun) taken
 writing_reply p opened begun (Empty gate last) e is taken =
     let found : FindsNone false p (run_begun opened begun) = subst (λ (s : ChannelStage). FindsNone (drains_at_none s) p (run_begun opened begun)) is taken in
-    inl found.stage
-writing_reply p opened begun NoClient e is taken = inl taken.stage
+    inl (inl found.stage)
+writing_reply p opened begun NoClient e is taken = inl (inl taken.stage)
 writing_reply p opened begun (SmallBuf need) e is taken = absurd taken
 
 draining_reply : (p : PullOf) (run : BegunRun) (reply : Received) (e : Event) → p.stage ≡ Draining run → TakesReply p run reply e → StageBehind run true p.stage p.later_stage
@@ -72,7 +76,7 @@ draining_reply p run (Got place start) e is taken = takes_any p run place e (is_
 draining_reply p run (Empty gate last) e is taken =
     let found : FindsNone true p run = subst (λ (s : ChannelStage). FindsNone (drains_at_none s) p run) is taken in
     inr (inl found.stage)
-draining_reply p run NoClient e is taken = inl taken.stage
+draining_reply p run NoClient e is taken = inl (inl taken.stage)
 draining_reply p run (SmallBuf need) e is taken = absurd taken
 
 -- The stage of a channel, in the run that the logger has.
@@ -108,13 +112,37 @@ unread p room none pulls = let leaves = subst (λ (o : Option BegunRun). PullsIn
 once_reply : (p : PullOf) (room : ℕ) (run : BegunRun) → reading_run p.stage ≡ Some run → Pulls p room → PullsOnce p run room
 once_reply p room run reads pulls = subst (λ (o : Option BegunRun). PullsIn o p room) reads pulls
 
+-- a run that goes on, goes on whichever file is written
+started_at : (start : ℕ) (stage : ChannelStage) (at : OpenFile) → IsStartedStage start stage → IsStartedStage start (stage_at stage at)
+started_at start Idle at is = is
+started_at start (Asking opened) at is = is
+started_at start (Writing opened begun) at is = is
+started_at start (Draining run) at is = absurd is
+started_at start (Drained run) at is = is
+started_at start (Broken run fallen) at is = is
+
+stopping_at : (turns : List MemberTurn) (own : List BufferEntry) (start : ℕ) (stage : ChannelStage) (at : OpenFile) → IsStoppingStage turns own start stage → IsStoppingStage turns own start (stage_at stage at)
+stopping_at turns own start Idle at is = is
+stopping_at turns own start (Asking opened) at is = is
+stopping_at turns own start (Writing opened begun) at is = absurd is
+stopping_at turns own start (Draining run) at is = record { of = is.of; so = is.so }
+stopping_at turns own start (Drained run) at is = is
+stopping_at turns own start (Broken run fallen) at is = is
+
+-- so it is with a stage that goes on
+goes_on : (P : ChannelStage → Type 0) (stage later : ChannelStage) → P stage → ((at : OpenFile) → P (stage_at stage at)) → GoesOn stage later → P later
+goes_on P stage later same moved either = elim either as (λ w. P later) [
+  | inl is ↦ subst P (sym is) same
+  | inr at ↦ subst P (sym at.1) (moved at.0)
+]
+
 started_pulled : (p : PullOf) (room start : ℕ) (stage : ChannelStage) → p.stage ≡ stage → Pulls p room → IsStartedStage start stage → IsStartedStage start p.later_stage
 started_pulled p room start Idle is pulls at = absurd at
 started_pulled p room start (Asking opened) is pulls at = absurd at
 started_pulled p room start (Writing opened begun) is pulls at =
     let once : PullsOnce p (run_begun opened begun) room = once_reply p room (run_begun opened begun) (ap (λ (s : ChannelStage). reading_run s) is) pulls in
     elim (writing_reply (record p { port = once.middle }) opened begun once.reply once.event is once.taken) as (λ w. IsStartedStage start p.later_stage) [
-      | inl same ↦ subst (λ (s : ChannelStage). IsStartedStage start s) (sym (same ∙ is)) at
+      | inl on ↦ let now : IsStartedStage start p.stage = subst (λ (s : ChannelStage). IsStartedStage start s) (sym is) at in goes_on (λ s. IsStartedStage start s) p.stage p.later_stage now (λ file. started_at start p.stage file now) on
       | inr broken ↦ subst (λ (s : ChannelStage). IsStartedStage start s) (sym broken.1) (record { of = at; on = refl })
     ]
 started_pulled p room start (Draining run) is pulls at = absurd at
@@ -128,7 +156,9 @@ stopping_pulled turns own p room start (Writing opened begun) is pulls at = absu
 stopping_pulled turns own p room start (Draining run) is pulls at =
     let once : PullsOnce p run room = once_reply p room run (ap (λ (s : ChannelStage). reading_run s) is) pulls in
     elim (draining_reply (record p { port = once.middle }) run once.reply once.event is once.taken) as (λ w. IsStoppingStage turns own start p.later_stage) [
-      | inl same ↦ subst (λ (s : ChannelStage). IsStoppingStage turns own start s) (sym (same ∙ is)) at
+      | inl on ↦
+          let now : IsStoppingStage turns own start p.stage = subst (λ (s : ChannelStage). IsStoppingStage turns own start s) (sym is) at in
+          goes_on (λ s. IsStoppingStage turns own start s) p.stage p.later_stage now (λ file. stopping_at turns own start p.stage file now) on
       | inr done ↦ elim done as (λ w. IsStoppingStage turns own start p.later_stage) [
         | inl drained ↦ subst (λ (s : ChannelStage). IsStoppingStage turns own start s) (sym drained) at
         | inr broken ↦ subst (λ (s : ChannelStage). IsStoppingStage turns own start s) (sym broken.1) at
@@ -148,16 +178,25 @@ stage_pulled (Some r) turns own p room pulls at = part_pulled turns own p room r
 
 -- The logger.
 
-pulled_here : LeftBeside → PullsKeep → PullsChange → PullsBeside → FilesBeside → (run : Option LoggedRun) (stop_dump : Option (List ℕ)) (turns : List MemberTurn) (answer : Pulled) (n : ℕ) (before : Channel) (a b : LoggerMoment) → slot_at a.slots n ≡ Some before
-    → HaveFilesOpen a.slots a.files.seen → StepsChannel (PullsChannel answer) n before a b → LoggerHolds run stop_dump a.slots a.ports turns a.files.seen → LoggerHolds run stop_dump b.slots b.ports turns b.files.seen
-pulled_here law keep change beside files run stop_dump turns answer n before a b there open_files s stands =
-    let p : PullOf = record { stage = before.stage; later_stage = s.after.stage; port = s.port; later_port = s.later_port; files = a.files.seen; later_files = b.files.seen; answer = answer } in
+-- the heads of the runs' files have the dump that is kept
+head_fits : (turns : List MemberTurn) (dumps : RunDumps) → FitsDump (IsHeadTold turns dumps) (unwrap_or dumps.start [])
+head_fits turns dumps = record {
+  of = λ opened head has. has.kept;
+  any = λ r s head same has. record { has = subst (λ (n : ℕ). HasHead turns n head) (sym (ap (λ (x : ChannelRun). x.start) same)) has.has; kept = has.kept };
+}
+
+pulled_here : PullLaws → (run : Option LoggedRun) (dumps : RunDumps) (turns : List MemberTurn) (answer : Pulled) (n : ℕ) (before : Channel) (a b : LoggerMoment) → slot_at a.slots n ≡ Some before → IsLoggerReady a.slots a.ports a.files.seen
+    → StepsChannel (PullsChannel (unwrap_or dumps.start []) answer) n before a b → LoggerHolds run dumps a.slots a.ports turns a.files.seen → LoggerHolds run dumps b.slots b.ports turns b.files.seen
+pulled_here laws run dumps turns answer n before a b there ready s stands =
+    let dump : List ℕ = unwrap_or dumps.start [] in
+    let p : PullOf = record { spec = before.spec; dump = dump; stage = before.stage; later_stage = s.after.stage; port = s.port; later_port = s.later_port; files = a.files.seen; later_files = b.files.seen; answer = answer } in
     let grows : GrowsOn s.port s.later_port = pull_grows p before.event.room s.step.pulls in
     let ports : List Access = slice_set a.ports before.spec.buffer s.later_port in
     let slots : List (Option Channel) = slice_set a.slots n (Some s.after) in
     let put : slice_get ports before.spec.buffer ≡ Some s.later_port = got_there a.ports before.spec.buffer s.port s.later_port s.at_port in
     record {
-      standing = pull_stands law keep change beside files (IsHeadTold turns) turns answer n before a b there (open_files.files n before there) s stands.standing;
+      standing = pull_stands laws (IsHeadTold turns dumps) turns dump answer n before a b (head_fits turns dumps) there ready s stands.standing;
+      taken = pull_knows laws (IsHeadTold turns dumps) turns dump answer n before a b (head_fits turns dumps) there s ready stands.standing stands.taken;
       served = rw (s.slots, s.ports) (λ m c stood. omega (
         arith,
         length-set a.ports before.spec.buffer s.later_port,
@@ -187,7 +226,8 @@ pulled_here law keep change beside files run stop_dump turns answer n before a b
       unready = stands.unready;
     }
 
-pub pulled_stands : LeftBeside → PullsKeep → PullsChange → PullsBeside → FilesBeside → (run : Option LoggedRun) (stop_dump : Option (List ℕ)) (turns : List MemberTurn) (answer : Pulled) (n : ℕ) (slot : Option Channel) (a b : LoggerMoment) → slot_at a.slots n ≡ slot
-    → HaveFilesOpen a.slots a.files.seen → PullsSlot slot n answer a b → LoggerHolds run stop_dump a.slots a.ports turns a.files.seen → LoggerHolds run stop_dump b.slots b.ports turns b.files.seen
-pulled_stands law keep change beside files run stop_dump turns answer n None a b there open_files pulls stands = subst (λ (m : LoggerMoment). LoggerHolds run stop_dump m.slots m.ports turns m.files.seen) (sym pulls.1) stands
-pulled_stands law keep change beside files run stop_dump turns answer n (Some before) a b there open_files pulls stands = pulled_here law keep change beside files run stop_dump turns answer n before a b there open_files pulls stands
+pub pulled_stands : PullLaws → (run : Option LoggedRun) (dumps : RunDumps) (turns : List MemberTurn) (dump : List ℕ) (answer : Pulled) (n : ℕ) (slot : Option Channel) (a b : LoggerMoment) → dump ≡ unwrap_or dumps.start [] → slot_at a.slots n ≡ slot → IsLoggerReady a.slots a.ports a.files.seen
+    → PullsSlot dump slot n answer a b → LoggerHolds run dumps a.slots a.ports turns a.files.seen → LoggerHolds run dumps b.slots b.ports turns b.files.seen
+pulled_stands laws run dumps turns dump answer n None a b kept there ready pulls stands = subst (λ (m : LoggerMoment). LoggerHolds run dumps m.slots m.ports turns m.files.seen) (sym pulls.1) stands
+pulled_stands laws run dumps turns dump answer n (Some before) a b kept there ready pulls stands =
+    pulled_here laws run dumps turns answer n before a b there ready (subst (λ (d : List ℕ). StepsChannel (PullsChannel d answer) n before a b) kept pulls) stands

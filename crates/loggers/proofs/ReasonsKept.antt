@@ -6,6 +6,7 @@ use Rattle.std.proofs.Common.{ap, sym, subst, ◌∙◌, arith, inl, inr}
 use Rattle.std.proofs.lemmas.List.{length-map}
 use Rattle.std.proofs.lemmas.List.Sums.{sum_by-cons}
 use Rattle.daq_types.specs.declared.events.Event.{Event}
+use Rattle.daq_types.specs.declared.runs.ChannelEnd.{ChannelEnd}
 use Rattle.daq_types.specs.declared.runs.ChannelState.{ChannelState}
 use Rattle.daq_types.specs.declared.runs.ChannelState.TheVariants.{Ended, NoEnd, NoMark, Idle as IsIdle, Writing as IsWriting, Broken as IsBroken}
 use Rattle.daq_types.specs.declared.runs.Order.{Order}
@@ -21,6 +22,7 @@ use Rattle.buffer_core.specs.declared.replies.Received.{Received}
 use Rattle.buffer_core.specs.declared.replies.Received.TheVariants.{Got, Empty, NoClient, SmallBuf}
 use Rattle.buffer_core.specs.Ports.{Access}
 use Rattle.buffer_core.specs.Slots.{slot_at}
+use Rattle.sub_files.specs.declared.open_file.OpenFile.{OpenFile}
 use Rattle.member_model.specs.RunEngines.{Answer}
 use Rattle.transitions.specs.declared.answers.Answer.TheVariants.{Yes, No}
 use Rattle.transitions.specs.declared.answers.Tally.TheVariants.{Plain, Channels}
@@ -32,24 +34,24 @@ use Rattle.mid_logger.specs.declared.pulled.Pulled.TheVariants.{NoChannel, Nothi
 use Rattle.mid_logger.specs.declared.stage.BegunRun.{BegunRun}
 use Rattle.mid_logger.specs.declared.stage.ChannelStage.{ChannelStage}
 use Rattle.mid_logger.specs.declared.stage.ChannelStage.TheVariants.{Idle, Asking, Writing, Draining, Drained, Broken}
-use Rattle.mid_logger.specs.Channels.{stage_begun, stage_ended, place_marked, reading_run, is_behind_end}
+use Rattle.mid_logger.specs.Channels.{stage_at, stage_begun, stage_ended, place_marked, reading_run, is_behind_end}
 use Rattle.mid_logger.specs.ChannelEnds.{ClosesRead, ClosesFile, stage_settled, state_otherwise}
 use Rattle.mid_logger.specs.ChannelTurns.{NotesFault, OpenFaults, OpenClashes, broken_run, drained_run}
-use Rattle.mid_logger.specs.Pulls.{PullOf, PullsIn, TakesReply, TakesBy, FindsNone, PullFaults, drains_at_none}
+use Rattle.mid_logger.specs.Pulls.{PullOf, PullsIn, TakesReply, TakesBy, FindsNone, PullFaults, RisesWith, drains_at_none}
 use Rattle.loggers.specs.Moments.{RunFiles, LoggerMoment, ChannelStep, StepsChannel, StepsSlot, StepsAt, CallsBuffer, MarksBuffer, InTurn, noted_channel, AreIdleChannels, channel_limit}
 use Rattle.loggers.specs.ChannelSteps.{OpensChannel, AbortsChannel, PullsChannel}
 use Rattle.loggers.specs.SlotPulls.{PullsSlot, PullsNumbered}
-use Rattle.loggers.specs.Finishing.{EndingMoment, EndsSlot, EndsSlotAt, EndsFiles, LoggerFinish, FinishesBy, FinishesLogger, is_settled_slot, waiting_stop, states_idle}
+use Rattle.loggers.specs.Finishing.{EndingMoment, EndsSlot, EndsSlotAt, EndsFiles, LoggerFinish, FinishesBy, FinishesLogger, ending_of, ends_idle, is_settled_slot, waiting_stop}
 use Rattle.loggers.specs.Turning.{BeginsBuffer, EndsBuffer, PausesBuffer, ResumesBuffer, LoggerTurn, OpensBelow, BeginsBelow, AbortsAll, UndoesOpens, UndoesBegins, StartsSo, TakesStart, TakesStop, TakesMark, TakesAbort, TakesTurnBy, TakesTurn, is_run_on, is_started, is_of_start, buffers_begun, start_answer}
 use Rattle.loggers.specs.LoggerStands.{logger_turn}
 use Rattle.loggers.specs.NewLoggers.{HasNewChannels}
-use Rattle.loggers.specs.ToldCounts.{faults_of_state, faults_of_refusal, faults_of_answer, clashes_of_answer, undone_by, count_in_answer, faults_told, clashes_told, starts_undone, broken_off}
+use Rattle.loggers.specs.ToldCounts.{faults_of_state, faults_of_end, faults_of_refusal, faults_of_answer, clashes_of_answer, undone_by, count_in_answer, faults_told, clashes_told, starts_undone, broken_off}
 use Rattle.loggers.specs.OtherFiles.{specs_in}
-use Rattle.loggers.specs.Reasons.{IsReasonSo, IsStartSo, NoneFell, NoneClashed, AreTurnsSo, NamesChannels, AnswerFits, IsLatestOpen, HasRefusedAsk, GivesReasons}
+use Rattle.loggers.specs.Reasons.{HaveNoLimit, IsReasonSo, IsStartSo, NoneFell, NoneClashed, AreTurnsSo, NamesChannels, AnswerFits, IsLatestOpen, HasRefusedAsk, GivesReasons}
 use Rattle.loggers.proofs.InTurns.{turns_keep}
 use Rattle.loggers.proofs.RefusedAsks.{TurnAsks, turn_asks, pull_asks}
 use Rattle.loggers.proofs.FaultsNoted.{rose_then, then_rose}
-use Rattle.loggers.proofs.RisesKept.{RisesKept, FinishTold, told_by, all_same, idle_off, turn_rises, turn_fits, pull_rises, ends_rise_all}
+use Rattle.loggers.proofs.RisesKept.{begun_off, ended_off, RisesKept, FinishTold, told_by, all_same, idle_off, turn_rises, turn_fits, pull_rises, pull_clashes, ends_rise_all}
 use Rattle.loggers.proofs.ManyRose.{StaysOrRose, KeepsOff, by_none, by_same, by_stays, fell_same, fell_then, put_counts, off_of, off_at_most, set_off, map_off}
 
 -- What is told and counted, and the channels that broke off.
@@ -205,11 +207,20 @@ pull_rose (Dropped place) f g same = by_same f g same
 pull_rose (Wrote place) f g same = by_same f g same
 pull_rose Broke f g rose = rose
 
+-- a channel that writes to another file has not broken off by that
+written_off : (stage : ChannelStage) (at : OpenFile) → off_of (stage_at stage at) ≡ off_of stage
+written_off Idle at = refl
+written_off (Asking opened) at = refl
+written_off (Writing opened begun) at = refl
+written_off (Draining run) at = refl
+written_off (Drained run) at = refl
+written_off (Broken run fallen) at = refl
+
 takes_break : (behind early : Bool) (p : PullOf) (run : BegunRun) (place : ℕ) (event : Event) → TakesBy behind early p run place event → PullBreaks p
 takes_break true early p run place event drains = breaks_none 0 p.stage p.later_stage (faults_of_pull p.answer) (ap broken_run drains.stage) (omega arith)
 takes_break false true p run place event leaves = breaks_same p.stage p.later_stage (faults_of_pull p.answer) leaves.stage
 takes_break false false p run place event takes = elim takes as (λ w. PullBreaks p) [
-  | inl writes ↦ breaks_same p.stage p.later_stage (faults_of_pull p.answer) writes.stage
+  | inl writes ↦ (let off : off_of p.later_stage ≡ off_of p.stage = ap off_of writes.stage ∙ written_off p.stage writes.at in omega (arith, off))
   | inr breaks ↦
       let one : faults_of_pull p.answer ≡ 1 = ap faults_of_pull breaks.answer_is in
       omega (arith, one, off_at_most p.later_stage)
@@ -229,33 +240,24 @@ pull_break : (reading : Option BegunRun) (p : PullOf) (room : ℕ) → PullsIn r
 pull_break None p room leaves = breaks_same p.stage p.later_stage (faults_of_pull p.answer) leaves.stage
 pull_break (Some run) p room pulls = reply_break (record p { port = pulls.middle }) run pulls.reply pulls.event pulls.taken
 
-pulled_kept : (n : ℕ) (answer : Pulled) (slot : Option Channel) (a b : LoggerMoment) → slot_at a.slots n ≡ slot → PullsSlot slot n answer a b → Kept a b
-pulled_kept n answer None a b there pulls = moment_same a b pulls.1
-pulled_kept n answer (Some before) a b there s = step_kept 0 0 (faults_of_pull answer) (PullsChannel answer) n before a b s there
+-- the count of clashes stays, or rises
+more_or_same : (limit f g : ℕ) → RisesWith limit f g → StaysOrRose f g
+more_or_same limit f g rises = elim rises as (λ w. StaysOrRose f g) [
+  | inl same ↦ inl same
+  | inr rose ↦ inr rose.1
+]
+
+pulled_kept : (dump : List ℕ) (n : ℕ) (answer : Pulled) (slot : Option Channel) (a b : LoggerMoment) → slot_at a.slots n ≡ slot → PullsSlot dump slot n answer a b → Kept a b
+pulled_kept dump n answer None a b there pulls = moment_same a b pulls.1
+pulled_kept dump n answer (Some before) a b there s = step_kept 0 0 (faults_of_pull answer) (PullsChannel dump answer) n before a b s there
     (pull_break (reading_run before.stage) _ before.event.room s.step.pulls) (pull_rose answer a.files.faults b.files.faults s.step.faults)
-    (by_same a.files.clashes b.files.clashes s.step.clashes)
+    (by_none a.files.clashes b.files.clashes (more_or_same before.spec.sub_bytes a.files.clashes b.files.clashes s.step.clashes))
 
 -- marks
 
 pub call_kept : (entry : BufferEntry) (buffer : ℕ) (a b : LoggerMoment) → CallsBuffer entry buffer a b → Kept a b
 call_kept entry buffer a b calls = subst (λ (l : List (Option Channel)). CountsKept 0 0 a.slots l a.files b.files) (sym calls.slots)
     (subst (λ (files : RunFiles). CountsKept 0 0 a.slots a.slots a.files files) (sym calls.files) (kept_same a.slots a.files))
-
-begun_off : (place : ℕ) → KeepsOff (λ stage. stage_begun stage place)
-begun_off place Idle = refl
-begun_off place (Asking opened) = refl
-begun_off place (Writing opened begun) = refl
-begun_off place (Draining was) = refl
-begun_off place (Drained was) = refl
-begun_off place (Broken was fallen) = refl
-
-ended_off : (ended : Option ℕ) → KeepsOff (λ stage. stage_ended stage ended)
-ended_off ended Idle = refl
-ended_off ended (Asking opened) = refl
-ended_off ended (Writing opened begun) = refl
-ended_off ended (Draining was) = refl
-ended_off ended (Drained was) = refl
-ended_off ended (Broken was fallen) = refl
 
 mark_kept : (entry : BufferEntry) (note : ChannelStage → ChannelStage) (buffer : ℕ) (a b : LoggerMoment) → KeepsOff note → MarksBuffer entry note buffer a b → Kept a b
 mark_kept entry note buffer a b keeps marks =
@@ -391,9 +393,9 @@ turned_by StartAbort t takes = record { kept = called_off_kept (is_of_start t.ru
 
 -- Endings.
 
--- the channels, the files and the states that are told, since the first file was ended
+-- the channels, the files and what is told of the channels, since the first file was ended
 abbrev EndedSince : (slots : List (Option Channel)) → (files : RunFiles) → (m : EndingMoment) → Type 0
-EndedSince slots files m = CountsKept (sum_by faults_of_state m.states) 0 slots m.slots files m.files
+EndedSince slots files m = CountsKept (sum_by faults_of_end m.told) 0 slots m.slots files m.files
 
 settled_none : (stage : ChannelStage) → broken_run (stage_settled stage) ≡ None
 settled_none Idle = refl
@@ -439,31 +441,35 @@ ends_slot slots files time dump n None a b there same since = subst (λ (m : End
 ends_slot slots files time dump n (Some before) a b there ends since =
     let c = ends.after in
     let count : StaysOrRose a.files.faults b.files.faults = noted_count before.failed c.failed a.files.faults b.files.faults ends.ends.failed in
-    let told = closed_by (drained_run before.stage) ends.state before.stage time dump a.files.seen b.files.seen a.files.faults b.files.faults ends.ends.ends count in
+    let end : ChannelEnd = ends.told in
+    let told = closed_by (drained_run before.stage) end.state before.stage time dump a.files.seen b.files.seen a.files.faults b.files.faults ends.ends.ends count in
     let none : off_of c.stage ≡ 0 = ap (λ (x : Channel). off_of x.stage) ends.ends.channel ∙ ap (λ (run : Option BegunRun). cond (is_some run) 1 0) (settled_none before.stage) in
-    let breaks : BreaksBy (faults_of_state ends.state) before.stage c.stage told.more = let few = told.few in omega (arith, none, few) in
-    let now : CountsKept (faults_of_state ends.state) 0 a.slots (slice_set a.slots n (Some c)) a.files b.files =
-    set_kept (faults_of_state ends.state) 0 told.more a.slots n before c a.files b.files there breaks told.rose (by_same a.files.clashes b.files.clashes ends.ends.clashes) in
-    let both : CountsKept (sum_by faults_of_state (slice_set a.states n ends.state)) 0 slots (slice_set a.slots n (Some c)) files b.files =
-    kept_then (sum_by faults_of_state (slice_set a.states n ends.state)) 0 (sum_by faults_of_state a.states) 0 (faults_of_state ends.state) 0 slots a.slots (slice_set a.slots n (Some c)) files a.files b.files
-    (put_counts faults_of_state a.states n ends.state) (omega arith) since now in
-    subst (λ (l : List (Option Channel)). CountsKept (sum_by faults_of_state b.states) 0 slots l files b.files) (sym ends.slots)
-    (subst (λ (l : List ChannelState). CountsKept (sum_by faults_of_state l) 0 slots (slice_set a.slots n (Some c)) files b.files) (sym ends.states) both)
+    let breaks : BreaksBy (faults_of_end end) before.stage c.stage told.more = let few = told.few in omega (arith, none, few) in
+    let now : CountsKept (faults_of_end end) 0 a.slots (slice_set a.slots n (Some c)) a.files b.files =
+    set_kept (faults_of_end end) 0 told.more a.slots n before c a.files b.files there breaks told.rose (by_same a.files.clashes b.files.clashes ends.ends.clashes) in
+    let both : CountsKept (sum_by faults_of_end (slice_set a.told n end)) 0 slots (slice_set a.slots n (Some c)) files b.files =
+    kept_then (sum_by faults_of_end (slice_set a.told n end)) 0 (sum_by faults_of_end a.told) 0 (faults_of_end end) 0 slots a.slots (slice_set a.slots n (Some c)) files a.files b.files
+    (put_counts faults_of_end a.told n end) (omega arith) since now in
+    subst (λ (l : List (Option Channel)). CountsKept (sum_by faults_of_end b.told) 0 slots l files b.files) (sym ends.slots)
+    (subst (λ (l : List ChannelEnd). CountsKept (sum_by faults_of_end l) 0 slots (slice_set a.slots n (Some c)) files b.files) (sym ends.at) both)
 
-ends_all : (f : LoggerFinish) (time : ℕ) (ends : EndsFiles f time) → EndedSince f.slots f.files (record { slots = f.later_slots; files = f.later_files; states = ends.states })
-ends_all f time ends = turns_keep (λ k. EndsSlotAt time f.stop_dump k) (EndedSince f.slots f.files) (length f.slots) (record { slots = f.slots; files = f.files; states = states_idle }) (record { slots = f.later_slots; files = f.later_files; states = ends.states })
-    (λ k x y step since. ends_slot f.slots f.files time f.stop_dump k (slot_at x.slots k) x y refl step since) ends.ends (kept_same f.slots f.files)
+ends_all : (f : LoggerFinish) (time : ℕ) (ends : EndsFiles f time) → EndedSince f.slots f.files (ending_of f.later_slots f.later_files ends.told)
+ends_all f time ends = turns_keep (λ k. EndsSlotAt time f.dumps.stop k) (EndedSince f.slots f.files) (length f.slots) (ending_of f.slots f.files ends_idle) (ending_of f.later_slots f.later_files ends.told)
+    (λ k x y step since. ends_slot f.slots f.files time f.dumps.stop k (slot_at x.slots k) x y refl step since) ends.ends (kept_same f.slots f.files)
 
 -- From the first moment on.
 
-clashed_then : (f g h : RunFiles) → NoneClashed f g → NoneClashed g h → NoneClashed f h
-clashed_then f g h first second = record { fell = fell_then f g h first.fell second.fell; clashes = second.clashes ∙ first.clashes }
+clashed_then : (specs : List (Option ChannelSpec)) (f g h : RunFiles) → NoneClashed specs f g → NoneClashed specs g h → NoneClashed specs f h
+clashed_then specs f g h first second = record { fell = fell_then f g h first.fell second.fell; clashes = λ none. second.clashes none ∙ first.clashes none }
 
-turns_later : (turns : List MemberTurn) (first old new : RunFiles) → NoneClashed old new → AreTurnsSo turns first old → AreTurnsSo turns first new
-turns_later [] first old new quiet so = clashed_then first old new so quiet
-turns_later (t ∷ ts) first old new quiet so =
+turns_later : (specs : List (Option ChannelSpec)) (turns : List MemberTurn) (first old new : RunFiles) → NoneClashed specs old new → AreTurnsSo specs turns first old → AreTurnsSo specs turns first new
+turns_later specs [] first old new quiet so = clashed_then specs first old new so quiet
+turns_later specs (t ∷ ts) first old new quiet so =
     let last = so.1.1.1 in
-    (so.0, (so.1.0, (so.1.1.0, record { start = last.start; within = last.within; clashes = last.clashes; since = clashed_then so.1.0 old new last.since quiet })))
+    (so.0, (so.1.0, (so.1.1.0, record { start = last.start; within = last.within; clashes = last.clashes; since = clashed_then specs so.1.0 old new last.since quiet })))
+
+turns_of : (specs later : List (Option ChannelSpec)) (turns : List MemberTurn) (first now : RunFiles) → later ≡ specs → AreTurnsSo specs turns first now → AreTurnsSo later turns first now
+turns_of specs later turns first now same so = subst (λ (s : List (Option ChannelSpec)). AreTurnsSo s turns first now) (sym same) so
 
 fits_later : (slots later : List (Option Channel)) (turns : List MemberTurn) → specs_in later ≡ specs_in slots → ((t : MemberTurn) → HasTurn turns t → AnswerFits (specs_in slots) t.transition t.answer) → (t : MemberTurn) → HasTurn turns t → AnswerFits (specs_in later) t.transition t.answer
 fits_later slots later turns same fits t stands = subst (λ (specs : List (Option ChannelSpec)). AnswerFits specs t.transition t.answer) (sym same) (fits t stands)
@@ -484,16 +490,17 @@ more_clashes : (many clashes told : ℕ) (slots later : List (Option Channel)) (
 more_clashes many clashes told slots later first old new kept rose =
     RoseBy-fewer (clashes + many) (many + clashes) first.clashes new.clashes (omega arith) (RoseBy-then many clashes first.clashes old.clashes new.clashes rose kept.clashed)
 
--- a call by which no turn was answered
-later_reasons : (slots later : List (Option Channel)) (ports more : List Access) (first old new : RunFiles) (turns : List MemberTurn) → CountsKept 0 0 slots later old new → RisesKept 0 0 slots later old new → (HasRefusedAsk ports → HasRefusedAsk more) → GivesReasons slots ports first old turns → GivesReasons later more first new turns
-later_reasons slots later ports more first old new turns kept rises stay gives = record {
+-- a call by which no turn was answered; it may count a clash where there is a limit
+later_reasons : (slots later : List (Option Channel)) (ports more : List Access) (first old new : RunFiles) (turns : List MemberTurn) → CountsKept 0 0 slots later old new → RisesKept 0 1 slots later old new → (HaveNoLimit (specs_in slots) → new.clashes ≡ old.clashes) → (HasRefusedAsk ports → HasRefusedAsk more)
+    → GivesReasons slots ports first old turns → GivesReasons later more first new turns
+later_reasons slots later ports more first old new turns kept rises clashes stay gives = record {
   faults = RoseBy-fewer (faults_told turns + broken_off later) (0 + faults_told turns + broken_off later) first.faults new.faults (omega arith) (more_faults (faults_told turns) 0 0 slots later first old new kept gives.faults);
   clashes = RoseBy-fewer (clashes_told turns) (0 + clashes_told turns) first.clashes new.clashes (omega arith) (more_clashes (clashes_told turns) 0 0 slots later first old new kept gives.clashes);
   no_fault = λ none.
       let now = rises.clean (omega (arith, none)) in
       let off : broken_off slots ≡ 0 = now.0 in
       now.1 ∙ gives.no_fault (omega (arith, none, off));
-  in_turns = turns_later turns first old new (record { fell = kept_fell 0 0 slots later old new kept; clashes = rises.names refl }) gives.in_turns;
+  in_turns = turns_of (specs_in slots) (specs_in later) turns first new rises.specs (turns_later (specs_in slots) turns first old new (record { fell = kept_fell 0 0 slots later old new kept; clashes = clashes }) gives.in_turns);
   fits = fits_later slots later turns rises.specs gives.fits;
   few = few_later slots later rises.specs gives.few;
   buffers = λ t stands is. stay (gives.buffers t stands is);
@@ -517,7 +524,7 @@ turn_more_reasons slots later ports more first old new turns t kept rises fits s
           let now = rises.clean (omega (arith, none, all_told, all_undone)) in
           let off : broken_off slots ≡ 0 = now.0 in
           now.1 ∙ gives.no_fault (omega (arith, none, off, all_told, all_undone));
-      in_turns = (
+      in_turns = turns_of (specs_in slots) (specs_in later) (t ∷ turns) first new rises.specs (
         old,
         (
           new,
@@ -527,7 +534,7 @@ turn_more_reasons slots later ports more first old new turns t kept rises fits s
               start = start;
               within = kept_fell told clashes slots later old new kept;
               clashes = rises.names;
-              since = record { fell = fell_same new; clashes = refl };
+              since = record { fell = fell_same new; clashes = λ none. refl };
             },
           ),
         ),
@@ -551,19 +558,21 @@ turn_reasons t first turns takes gives =
     let asks : TurnAsks t = turn_asks t takes in
     turn_more_reasons t.before.slots t.after.slots t.before.ports t.after.ports first t.before.files t.after.files turns (logger_turn t.transition t.order t.dump t.answer) turned.kept (turn_rises t takes) (turn_fits t takes) turned.start asks.refused asks.stay gives
 
-pub pull_reasons : (n : ℕ) (answer : Pulled) (a b : LoggerMoment) (first : RunFiles) (turns : List MemberTurn) → PullsNumbered n answer a b → GivesReasons a.slots a.ports first a.files turns → GivesReasons b.slots b.ports first b.files turns
-pull_reasons n answer a b first turns pulls gives = later_reasons a.slots b.slots a.ports b.ports first a.files b.files turns (pulled_kept n answer (slot_at a.slots n) a b refl pulls) (pull_rises n answer (slot_at a.slots n) a b refl pulls) (pull_asks n answer a b pulls) gives
+pub pull_reasons : (dump : List ℕ) (n : ℕ) (answer : Pulled) (a b : LoggerMoment) (first : RunFiles) (turns : List MemberTurn) → PullsNumbered dump n answer a b → GivesReasons a.slots a.ports first a.files turns → GivesReasons b.slots b.ports first b.files turns
+pull_reasons dump n answer a b first turns pulls gives =
+    later_reasons a.slots b.slots a.ports b.ports first a.files b.files turns (pulled_kept dump n answer (slot_at a.slots n) a b refl pulls) (pull_rises dump n answer (slot_at a.slots n) a b refl pulls)
+    (pull_clashes dump n answer (slot_at a.slots n) a b refl pulls) (pull_asks dump n answer a b pulls) gives
 
--- The latest turn, which is not answered, is a stop, and is answered with these states.
+-- The latest turn, which is not answered, is a stop, and is answered so.
 open_stop : (specs : List (Option ChannelSpec)) (t : MemberTurn) → t.answer ≡ None → AnswerFits specs t.transition t.answer → t.transition ≡ Stop
 open_stop specs t waits fits = (subst (λ (answer : Option Answer). AnswerFits specs t.transition answer) waits fits).kind
 
-answered_reasons : (slots later : List (Option Channel)) (ports : List Access) (first old new : RunFiles) (states : List ChannelState) (turns : List MemberTurn) → CountsKept (sum_by faults_of_state states) 0 slots later old new → RisesKept (sum_by faults_of_state states) 0 slots later old new
-    → NamesChannels (Some (Yes (Channels states))) (specs_in slots) → IsLatestOpen turns → GivesReasons slots ports first old turns → GivesReasons later ports first new (latest_answered turns (Some (Yes (Channels states))))
-answered_reasons slots later ports first old new states [] kept rises named waits gives = absurd waits
-answered_reasons slots later ports first old new states (t ∷ ts) kept rises named waits gives =
-    let answer : Answer = Yes (Channels states) in
-    let told : ℕ = sum_by faults_of_state states in
+answered_reasons : (slots later : List (Option Channel)) (ports : List Access) (first old new : RunFiles) (ends : List ChannelEnd) (turns : List MemberTurn) → CountsKept (sum_by faults_of_end ends) 0 slots later old new → RisesKept (sum_by faults_of_end ends) 0 slots later old new
+    → NamesChannels (Some (Yes (Channels ends))) (specs_in slots) → IsLatestOpen turns → GivesReasons slots ports first old turns → GivesReasons later ports first new (latest_answered turns (Some (Yes (Channels ends))))
+answered_reasons slots later ports first old new ends [] kept rises named waits gives = absurd waits
+answered_reasons slots later ports first old new ends (t ∷ ts) kept rises named waits gives =
+    let answer : Answer = Yes (Channels ends) in
+    let told : ℕ = sum_by faults_of_end ends in
     let stop : t.transition ≡ Stop = open_stop (specs_in slots) t waits (gives.fits t (inl refl)) in
     let before : faults_told (t ∷ ts) ≡ count_in_answer faults_of_answer t.answer + faults_told ts = sum_by-cons (λ (u : MemberTurn). count_in_answer faults_of_answer u.answer) t ts in
     let none_before : count_in_answer faults_of_answer t.answer ≡ 0 = ap (count_in_answer faults_of_answer) waits in
@@ -582,7 +591,7 @@ answered_reasons slots later ports first old new states (t ∷ ts) kept rises na
           let now = rises.clean (omega (arith, none, behind)) in
           let off : broken_off slots ≡ 0 = now.0 in
           now.1 ∙ gives.no_fault (omega (arith, none, off, before, none_before, behind, undone_before, undone_behind, undone_none));
-      in_turns = (
+      in_turns = turns_of (specs_in slots) (specs_in later) (record t { answer = Some answer } ∷ ts) first new rises.specs (
         so.0,
         (
           so.1.0,
@@ -592,7 +601,7 @@ answered_reasons slots later ports first old new states (t ∷ ts) kept rises na
               start = λ is given told_so. let same : answer ≡ given = cc (told_so) in subst (λ (a : Answer). IsStartSo a so.0 so.1.0) same tt;
               within = last.within;
               clashes = λ none. last.clashes (ap (count_in_answer clashes_of_answer) waits);
-              since = clashed_then so.1.0 old new last.since (record { fell = kept_fell told 0 slots later old new kept; clashes = rises.names refl });
+              since = clashed_then (specs_in slots) so.1.0 old new last.since (record { fell = kept_fell told 0 slots later old new kept; clashes = λ none. rises.names refl });
             },
           ),
         ),
@@ -617,23 +626,23 @@ finish_by : (f : LoggerFinish) (ports : List Access) (first : RunFiles) (turns :
 finish_by f ports first turns settled None leaves waits gives = waiting_reasons f ports first turns leaves.answer_is leaves.slots leaves.files gives
 finish_by f ports first turns false (Some time) leaves waits gives = waiting_reasons f ports first turns leaves.answer_is leaves.slots leaves.files gives
 finish_by f ports first turns true (Some time) ends waits gives =
-    let told : FinishTold f ends.states = ends_rise_all f time ends gives.few in
+    let told : FinishTold f ends.told = ends_rise_all f time ends gives.few in
     subst (λ (answer : Option Answer). GivesReasons f.later_slots ports first f.later_files (latest_answered turns answer)) (sym ends.answer_is)
-    (answered_reasons f.slots f.later_slots ports first f.files f.later_files ends.states turns (ends_all f time ends) told.rises told.named waits gives)
+    (answered_reasons f.slots f.later_slots ports first f.files f.later_files ends.told turns (ends_all f time ends) told.rises told.named waits gives)
 
 pub finish_reasons : (f : LoggerFinish) (ports : List Access) (first : RunFiles) (turns : List MemberTurn) → FinishesLogger f → IsLatestOpen turns → GivesReasons f.slots ports first f.files turns → GivesReasons f.later_slots ports first f.later_files (latest_answered turns f.answer)
 finish_reasons f ports first turns finishes waits gives = finish_by f ports first turns (list_all is_settled_slot f.slots) (waiting_stop f.run) finishes waits gives
 
 -- The clashes of which the turns tell.
-pub clashes_are_told : (slots : List (Option Channel)) (ports : List Access) (first now : RunFiles) (turns : List MemberTurn) → GivesReasons slots ports first now turns → clashes_told turns ≡ 0 → now.clashes ≡ first.clashes
-clashes_are_told slots ports first now turns gives none = clashes_by turns first now gives.in_turns none
+pub clashes_are_told : (slots : List (Option Channel)) (ports : List Access) (first now : RunFiles) (turns : List MemberTurn) → GivesReasons slots ports first now turns → HaveNoLimit (specs_in slots) → clashes_told turns ≡ 0 → now.clashes ≡ first.clashes
+clashes_are_told slots ports first now turns gives unlimited none = clashes_by turns first now gives.in_turns none
   where
-    clashes_by : (ts : List MemberTurn) (f g : RunFiles) → AreTurnsSo ts f g → clashes_told ts ≡ 0 → g.clashes ≡ f.clashes
-    clashes_by [] f g so untold = so.clashes
+    clashes_by : (ts : List MemberTurn) (f g : RunFiles) → AreTurnsSo (specs_in slots) ts f g → clashes_told ts ≡ 0 → g.clashes ≡ f.clashes
+    clashes_by [] f g so untold = so.clashes unlimited
     clashes_by (t ∷ ts) f g so untold =
         let all : clashes_told (t ∷ ts) ≡ count_in_answer clashes_of_answer t.answer + clashes_told ts = sum_by-cons (λ (u : MemberTurn). count_in_answer clashes_of_answer u.answer) t ts in
         let last = so.1.1.1 in
-        last.since.clashes ∙ (last.clashes (omega (arith, all, untold)) ∙ clashes_by ts f so.0 so.1.1.0 (omega (arith, all, untold)))
+        last.since.clashes unlimited ∙ (last.clashes (omega (arith, all, untold)) ∙ clashes_by ts f so.0 so.1.1.0 (omega (arith, all, untold)))
 
 -- A logger whose channels are all idle, and that gave no answer.
 pub idle_reasons : (slots : List (Option Channel)) (ports : List Access) → AreIdleChannels slots → length slots ≤ channel_limit → (files : RunFiles) → GivesReasons slots ports files files []
@@ -641,7 +650,7 @@ idle_reasons slots ports idle few files = record {
   faults = subst (λ (off : ℕ). RoseBy (0 + off) files.faults files.faults) (sym (idle_off slots idle)) (by_same files.faults files.faults refl);
   clashes = by_same files.clashes files.clashes refl;
   no_fault = λ none. refl;
-  in_turns = record { fell = fell_same files; clashes = refl };
+  in_turns = record { fell = fell_same files; clashes = λ none. refl };
   fits = λ t stands. absurd stands;
   few = few;
   buffers = λ t stands is. absurd stands;

@@ -136,9 +136,9 @@ stay_abort : (n : ℕ) (slot : Option Channel) (a b : LoggerMoment) → StepsSlo
 stay_abort n None a b same = stay_same a b same
 stay_abort n (Some before) a b s = stay_step AbortsChannel n before a b s (grown_cancels (asking_run before.stage) s.port s.later_port s.step.cancels)
 
-stay_pull : (n : ℕ) (answer : Pulled) (slot : Option Channel) (a b : LoggerMoment) → PullsSlot slot n answer a b → Stay a b
-stay_pull n answer None a b pulls = stay_same a b pulls.1
-stay_pull n answer (Some before) a b s = stay_step (PullsChannel answer) n before a b s (grown_in _ before.event.room (reading_run before.stage) s.step.pulls)
+stay_pull : (dump : List ℕ) (n : ℕ) (answer : Pulled) (slot : Option Channel) (a b : LoggerMoment) → PullsSlot dump slot n answer a b → Stay a b
+stay_pull dump n answer None a b pulls = stay_same a b pulls.1
+stay_pull dump n answer (Some before) a b s = stay_step (PullsChannel dump answer) n before a b s (grown_in _ before.event.room (reading_run before.stage) s.step.pulls)
 
 stay_call : (entry : BufferEntry) (buffer : ℕ) (a b : LoggerMoment) → CallsBuffer entry buffer a b → Stay a b
 stay_call entry buffer a b calls had =
@@ -256,5 +256,5 @@ asks_by StartAbort t takes = off_asks (is_of_start t.run t.order.start) t takes
 pub turn_asks : (t : LoggerTurn) → TakesTurn t → TurnAsks t
 turn_asks t takes = asks_by t.transition t takes
 
-pub pull_asks : (n : ℕ) (answer : Pulled) (a b : LoggerMoment) → PullsNumbered n answer a b → HasRefusedAsk a.ports → HasRefusedAsk b.ports
-pull_asks n answer a b pulls had = stay_pull n answer (slot_at a.slots n) a b pulls had
+pub pull_asks : (dump : List ℕ) (n : ℕ) (answer : Pulled) (a b : LoggerMoment) → PullsNumbered dump n answer a b → HasRefusedAsk a.ports → HasRefusedAsk b.ports
+pull_asks dump n answer a b pulls had = stay_pull dump n answer (slot_at a.slots n) a b pulls had

@@ -4,6 +4,7 @@ use Rattle.std.specs.Option.{option_map}
 use Rattle.std.proofs.Common.{ap, sym, subst, ◌∙◌, arith, inl, inr}
 use Rattle.std.proofs.lemmas.List.Sums.{sum_by-cons}
 use Rattle.daq_types.specs.declared.events.Event.{Event}
+use Rattle.daq_types.specs.declared.runs.ChannelEnd.{ChannelEnd}
 use Rattle.daq_types.specs.declared.runs.ChannelState.{ChannelState}
 use Rattle.daq_types.specs.declared.runs.ChannelState.TheVariants.{Ended, NoEnd, NoMark, Idle as IsIdle, Writing as IsWriting, Broken as IsBroken}
 use Rattle.daq_types.specs.declared.runs.Order.{Order}
@@ -29,15 +30,15 @@ use Rattle.mid_logger.specs.declared.stage.ChannelStage.TheVariants.{Idle, Askin
 use Rattle.mid_logger.specs.Channels.{stage_begun, stage_ended, place_marked, reading_run, is_behind_end}
 use Rattle.mid_logger.specs.ChannelEnds.{ClosesRead, ClosesFile, stage_settled}
 use Rattle.mid_logger.specs.ChannelTurns.{OpenClashes, broken_run, drained_run}
-use Rattle.mid_logger.specs.Pulls.{PullOf, PullsIn, TakesReply, TakesBy, FindsNone, PullFaults, drains_at_none}
+use Rattle.mid_logger.specs.Pulls.{PullOf, PullsIn, TakesReply, TakesBy, FindsNone, PullFaults, RisesWith, drains_at_none}
 use Rattle.loggers.specs.Moments.{RunFiles, LoggerMoment, ChannelStep, StepsChannel, StepsSlot, StepsAt, CallsBuffer, MarksBuffer, InTurn, noted_channel, AreIdleChannels, channel_limit}
 use Rattle.loggers.specs.ChannelSteps.{OpensChannel, AbortsChannel, PullsChannel}
 use Rattle.loggers.specs.SlotPulls.{PullsSlot}
-use Rattle.loggers.specs.Finishing.{EndingMoment, EndsSlot, EndsSlotAt, EndsFiles, LoggerFinish, states_idle}
+use Rattle.loggers.specs.Finishing.{EndingMoment, EndsSlot, EndsSlotAt, EndsFiles, LoggerFinish, ending_of, idle_end, ends_idle}
 use Rattle.loggers.specs.Turning.{BeginsBuffer, EndsBuffer, PausesBuffer, ResumesBuffer, LoggerTurn, OpensBelow, BeginsBelow, AbortsAll, StartsAll, UndoesOpens, UndoesBegins, StartsSo, TakesStart, TakesStop, TakesMark, TakesAbort, TakesTurnBy, TakesTurn, is_run_on, is_started, is_of_start, buffers_begun, start_answer}
 use Rattle.loggers.specs.OtherFiles.{specs_in}
-use Rattle.loggers.specs.ToldCounts.{faults_of_state, faults_of_answer, clashes_of_answer, undone_by, count_in_answer, broken_off}
-use Rattle.loggers.specs.Reasons.{IsChannelNumber, NamesRefuser, NamesChannels, AnswerFits}
+use Rattle.loggers.specs.ToldCounts.{faults_of_state, faults_of_end, faults_of_answer, clashes_of_answer, undone_by, count_in_answer, broken_off}
+use Rattle.loggers.specs.Reasons.{HaveNoLimit, IsChannelNumber, NamesRefuser, NamesChannels, AnswerFits}
 use Rattle.loggers.proofs.InTurns.{turns_keep}
 use Rattle.loggers.proofs.SlotLists.{same_or_other, got_elsewhere, many_set}
 use Rattle.loggers.proofs.FilesLeft.{spec_at, specs_set, specs_noted}
@@ -153,7 +154,7 @@ call_rises : (told : ℕ) (entry : BufferEntry) (buffer : ℕ) (a b : LoggerMome
 call_rises told entry buffer a b calls = subst (λ (l : List (Option Channel)). RisesKept told 0 a.slots l a.files b.files) (sym calls.slots)
     (subst (λ (files : RunFiles). RisesKept told 0 a.slots a.slots a.files files) (sym calls.files) (rises_same told 0 a.slots a.files))
 
-begun_off : (place : ℕ) → KeepsOff (λ stage. stage_begun stage place)
+pub begun_off : (place : ℕ) → KeepsOff (λ stage. stage_begun stage place)
 begun_off place Idle = refl
 begun_off place (Asking opened) = refl
 begun_off place (Writing opened begun) = refl
@@ -161,7 +162,7 @@ begun_off place (Draining was) = refl
 begun_off place (Drained was) = refl
 begun_off place (Broken was fallen) = refl
 
-ended_off : (ended : Option ℕ) → KeepsOff (λ stage. stage_ended stage ended)
+pub ended_off : (ended : Option ℕ) → KeepsOff (λ stage. stage_ended stage ended)
 ended_off ended Idle = refl
 ended_off ended (Asking opened) = refl
 ended_off ended (Writing opened begun) = refl
@@ -426,15 +427,26 @@ pulled_faults (Dropped place) f g same other = same
 pulled_faults (Wrote place) f g same other = same
 pulled_faults Broke f g rose other = absurd (other refl)
 
-pub pull_rises : (n : ℕ) (answer : Pulled) (slot : Option Channel) (a b : LoggerMoment) → slot_at a.slots n ≡ slot → PullsSlot slot n answer a b → RisesSo 0 0 a b
-pull_rises n answer None a b there pulls = rises_moment 0 0 a b pulls.1
-pull_rises n answer (Some before) a b there s =
+-- It may count one clash of names, of which nothing tells, but only where there is a limit.
+pub pull_rises : (dump : List ℕ) (n : ℕ) (answer : Pulled) (slot : Option Channel) (a b : LoggerMoment) → slot_at a.slots n ≡ slot → PullsSlot dump slot n answer a b → RisesSo 0 1 a b
+pull_rises dump n answer None a b there pulls = rises_moment 0 1 a b pulls.1
+pull_rises dump n answer (Some before) a b there s =
     let clean = pull_clean (reading_run before.stage) _ before.event.room refl s.step.pulls in
-    step_rises 0 0 (PullsChannel answer) n before a b s there s.step.spec
+    step_rises 0 1 (PullsChannel dump answer) n before a b s there s.step.spec
     (λ none. (
       clean.stays (omega (arith, none)),
       pulled_faults answer a.files.faults b.files.faults s.step.faults (λ broke. (let off : off_of s.after.stage ≡ 1 = clean.broke broke in omega (arith, none, off))),
-    )) (λ none. s.step.clashes)
+    )) (λ none. absurd (omega (arith, none)))
+
+unlimited : (limit f g : ℕ) → RisesWith limit f g → limit ≡ 0 → g ≡ f
+unlimited limit f g rises none = elim rises as (λ w. g ≡ f) [
+  | inl same ↦ same
+  | inr rose ↦ absurd (let some : 0 < limit = rose.0 in omega (arith, some, none))
+]
+
+pub pull_clashes : (dump : List ℕ) (n : ℕ) (answer : Pulled) (slot : Option Channel) (a b : LoggerMoment) → slot_at a.slots n ≡ slot → PullsSlot dump slot n answer a b → HaveNoLimit (specs_in a.slots) → b.files.clashes ≡ a.files.clashes
+pull_clashes dump n answer None a b there pulls none = ap (λ (m : LoggerMoment). m.files.clashes) pulls.1
+pull_clashes dump n answer (Some before) a b there s none = unlimited before.spec.sub_bytes a.files.clashes b.files.clashes s.step.clashes (none n before.spec (spec_at a.slots n before there))
 
 -- A call to finish.
 
@@ -451,10 +463,10 @@ module _ {X : Type 0} (f : X → ℕ) where
   put_keeps (y ∷ ys) zero x none = omega (arith, none y refl, sum_by-cons f y ys, sum_by-cons f x ys)
   put_keeps (y ∷ ys) (suc n) x none = omega (arith, put_keeps ys n x none, sum_by-cons f y ys, sum_by-cons f y (slice_set ys n x))
 
-idle_states : (many k : ℕ) (state : ChannelState) → slice_get (replicate many IsIdle) k ≡ Some state → faults_of_state state ≡ 0
-idle_states zero k state at = absurd (cc (at))
-idle_states (suc many) zero state at = (let is : IsIdle ≡ state = cc (at) in ap faults_of_state (sym is))
-idle_states (suc many) (suc k) state at = idle_states many k state at
+idle_ends : (many k : ℕ) (told : ChannelEnd) → slice_get (replicate many idle_end) k ≡ Some told → faults_of_end told ≡ 0
+idle_ends zero k told at = absurd (cc (at))
+idle_ends (suc many) zero told at = (let is : idle_end ≡ told = cc (at) in ap faults_of_end (sym is))
+idle_ends (suc many) (suc k) told at = idle_ends many k told at
 
 settled_off : (stage : ChannelStage) → off_of (stage_settled stage) ≡ 0
 settled_off Idle = refl
@@ -485,60 +497,60 @@ closed_quiet (Broken run fallen) state time dump a b f g closes none =
 
 -- what is told once the files of the channels with lower numbers are ended
 record EndedBelow (slots : List (Option Channel)) (files : RunFiles) (n : ℕ) (m : EndingMoment) : Type 0 where
-  many : length m.states ≡ channel_limit
-  later : (k : ℕ) (state : ChannelState) → n ≤ k → slice_get m.states k ≡ Some state → faults_of_state state ≡ 0
-  named : (k : ℕ) → slice_get m.states k ≡ Some IsBroken → (spec : ChannelSpec) × (slot_at (specs_in slots) k ≡ Some spec)
-  rises : RisesKept (sum_by faults_of_state m.states) 0 slots m.slots files m.files
+  many : length m.told ≡ channel_limit
+  later : (k : ℕ) (told : ChannelEnd) → n ≤ k → slice_get m.told k ≡ Some told → faults_of_end told ≡ 0
+  named : (k : ℕ) (told : ChannelEnd) → slice_get m.told k ≡ Some told → told.state ≡ IsBroken → (spec : ChannelSpec) × (slot_at (specs_in slots) k ≡ Some spec)
+  rises : RisesKept (sum_by faults_of_end m.told) 0 slots m.slots files m.files
 
-ended_none : (slots : List (Option Channel)) (files : RunFiles) → EndedBelow slots files 0 (record { slots = slots; files = files; states = states_idle })
+ended_none : (slots : List (Option Channel)) (files : RunFiles) → EndedBelow slots files 0 (ending_of slots files ends_idle)
 ended_none slots files = record {
   many = refl;
-  later = λ k state from at. idle_states channel_limit k state at;
-  named = λ k at. absurd (let none : 1 ≡ 0 = idle_states channel_limit k IsBroken at in omega (arith, none));
+  later = λ k told from at. idle_ends channel_limit k told at;
+  named = λ k told at broke. absurd (let none : faults_of_end told ≡ 0 = idle_ends channel_limit k told at in let one : faults_of_end told ≡ 1 = ap faults_of_state broke in omega (arith, none, one));
   rises = rises_same _ 0 slots files;
 }
 
 ends_slot_rises : (slots : List (Option Channel)) (files : RunFiles) (time : ℕ) (dump : Option (List ℕ)) (n : ℕ) (slot : Option Channel) (a b : EndingMoment) → n < channel_limit → slot_at a.slots n ≡ slot → EndsSlot time dump n slot a b → EndedBelow slots files n a → EndedBelow slots files (suc n) b
 ends_slot_rises slots files time dump n None a b within there same ended = subst (λ (m : EndingMoment). EndedBelow slots files (suc n) m) (sym same)
-    (record { many = ended.many; later = λ k state from at. ended.later k state (omega (arith, from)) at; named = ended.named; rises = ended.rises })
+    (record { many = ended.many; later = λ k told from at. ended.later k told (omega (arith, from)) at; named = ended.named; rises = ended.rises })
 ends_slot_rises slots files time dump n (Some before) a b within there ends ended =
     let c = ends.after in
-    let state : ChannelState = ends.state in
-    let states : List ChannelState = slice_set a.states n state in
-    let keeps : sum_by faults_of_state a.states ≤ sum_by faults_of_state states = put_keeps faults_of_state a.states n state (λ old at. ended.later n old (omega arith) at) in
-    let has : faults_of_state state ≤ sum_by faults_of_state states = put_has faults_of_state a.states n state (omega (arith, within, ended.many)) in
+    let told : ChannelEnd = ends.told in
+    let all : List ChannelEnd = slice_set a.told n told in
+    let keeps : sum_by faults_of_end a.told ≤ sum_by faults_of_end all = put_keeps faults_of_end a.told n told (λ old at. ended.later n old (omega arith) at) in
+    let has : faults_of_end told ≤ sum_by faults_of_end all = put_has faults_of_end a.told n told (omega (arith, within, ended.many)) in
     let settled : off_of c.stage ≡ 0 = ap (λ (x : Channel). off_of x.stage) ends.ends.channel ∙ settled_off before.stage in
-    let one : RisesKept (faults_of_state state) 0 a.slots (slice_set a.slots n (Some c)) a.files b.files =
-    set_rises (faults_of_state state) 0 a.slots n before c a.files b.files there (ap (λ (x : Channel). x.spec) ends.ends.channel)
-    (λ none. closed_quiet before.stage state time dump a.files.seen b.files.seen a.files.faults b.files.faults ends.ends.ends (omega (arith, none))) (λ none. ends.ends.clashes) in
-    let both : RisesKept (sum_by faults_of_state states) 0 slots (slice_set a.slots n (Some c)) files b.files =
-    rises_then (sum_by faults_of_state states) 0 (sum_by faults_of_state a.states) 0 (faults_of_state state) 0 slots a.slots (slice_set a.slots n (Some c)) files a.files b.files
+    let one : RisesKept (faults_of_end told) 0 a.slots (slice_set a.slots n (Some c)) a.files b.files =
+    set_rises (faults_of_end told) 0 a.slots n before c a.files b.files there (ap (λ (x : Channel). x.spec) ends.ends.channel)
+    (λ none. closed_quiet before.stage told.state time dump a.files.seen b.files.seen a.files.faults b.files.faults ends.ends.ends (omega (arith, none))) (λ none. ends.ends.clashes) in
+    let both : RisesKept (sum_by faults_of_end all) 0 slots (slice_set a.slots n (Some c)) files b.files =
+    rises_then (sum_by faults_of_end all) 0 (sum_by faults_of_end a.told) 0 (faults_of_end told) 0 slots a.slots (slice_set a.slots n (Some c)) files a.files b.files
     (λ none. omega (arith, none, keeps, has)) (λ none. refl) ended.rises one in
     let spec : slot_at (specs_in slots) n ≡ Some before.spec = subst (λ (l : List (Option ChannelSpec)). slot_at l n ≡ Some before.spec) ended.rises.specs (spec_at a.slots n before there) in
-    let put : EndedBelow slots files (suc n) (record { slots = slice_set a.slots n (Some c); files = b.files; states = states }) = record {
-      many = many_set a.states n state ∙ ended.many;
-      later = λ k old from at. ended.later k old (omega (arith, from)) (got_elsewhere a.states n k state old (λ same. omega (arith, from, same)) at);
-      named = λ k at. elim (same_or_other k n) as (λ w. (s : ChannelSpec) × (slot_at (specs_in slots) k ≡ Some s)) [
+    let put : EndedBelow slots files (suc n) (ending_of (slice_set a.slots n (Some c)) b.files all) = record {
+      many = many_set a.told n told ∙ ended.many;
+      later = λ k old from at. ended.later k old (omega (arith, from)) (got_elsewhere a.told n k told old (λ same. omega (arith, from, same)) at);
+      named = λ k old at broke. elim (same_or_other k n) as (λ w. (s : ChannelSpec) × (slot_at (specs_in slots) k ≡ Some s)) [
         | inl same ↦ (before.spec, subst (λ (i : ℕ). slot_at (specs_in slots) i ≡ Some before.spec) (sym same) spec)
-        | inr other ↦ ended.named k (got_elsewhere a.states n k state IsBroken other at)
+        | inr other ↦ ended.named k old (got_elsewhere a.told n k told old other at) broke
       ];
       rises = both;
     } in
-    subst (λ (l : List (Option Channel)). EndedBelow slots files (suc n) (record { slots = l; files = b.files; states = b.states })) (sym ends.slots)
-    (subst (λ (l : List ChannelState). EndedBelow slots files (suc n) (record { slots = slice_set a.slots n (Some c); files = b.files; states = l })) (sym ends.states) put)
+    subst (λ (l : List (Option Channel)). EndedBelow slots files (suc n) (ending_of l b.files b.told)) (sym ends.slots)
+    (subst (λ (l : List ChannelEnd). EndedBelow slots files (suc n) (ending_of (slice_set a.slots n (Some c)) b.files l)) (sym ends.at) put)
 
 ends_below : (slots : List (Option Channel)) (files : RunFiles) (time : ℕ) (dump : Option (List ℕ)) (n : ℕ) (b : EndingMoment) → n ≤ channel_limit
-    → InTurn (λ k. EndsSlotAt time dump k) n (record { slots = slots; files = files; states = states_idle }) b → EndedBelow slots files n b
+    → InTurn (λ k. EndsSlotAt time dump k) n (ending_of slots files ends_idle) b → EndedBelow slots files n b
 ends_below slots files time dump zero b within same = subst (λ (m : EndingMoment). EndedBelow slots files 0 m) (sym same) (ended_none slots files)
 ends_below slots files time dump (suc n) b within turns =
     ends_slot_rises slots files time dump n (slot_at turns.0.slots n) turns.0 b (omega (arith, within)) refl turns.2 (ends_below slots files time dump n turns.0 (omega (arith, within)) turns.1)
 
 -- what a call to finish tells that answers, where the channels are no more than are told of
-pub record FinishTold (f : LoggerFinish) (states : List ChannelState) : Type 0 where
-  pub rises : RisesKept (sum_by faults_of_state states) 0 f.slots f.later_slots f.files f.later_files
-  pub named : NamesChannels (Some (Yes (Channels states))) (specs_in f.slots)
+pub record FinishTold (f : LoggerFinish) (told : List ChannelEnd) : Type 0 where
+  pub rises : RisesKept (sum_by faults_of_end told) 0 f.slots f.later_slots f.files f.later_files
+  pub named : NamesChannels (Some (Yes (Channels told))) (specs_in f.slots)
 
-pub ends_rise_all : (f : LoggerFinish) (time : ℕ) (ends : EndsFiles f time) → length f.slots ≤ channel_limit → FinishTold f ends.states
+pub ends_rise_all : (f : LoggerFinish) (time : ℕ) (ends : EndsFiles f time) → length f.slots ≤ channel_limit → FinishTold f ends.told
 ends_rise_all f time ends few =
-    let told : EndedBelow f.slots f.files (length f.slots) (record { slots = f.later_slots; files = f.later_files; states = ends.states }) = ends_below f.slots f.files time f.stop_dump (length f.slots) _ few ends.ends in
+    let told : EndedBelow f.slots f.files (length f.slots) (ending_of f.later_slots f.later_files ends.told) = ends_below f.slots f.files time f.dumps.stop (length f.slots) _ few ends.ends in
     record { rises = told.rises; named = told.named }

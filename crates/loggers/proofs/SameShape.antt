@@ -201,10 +201,10 @@ abort_shape n None a b there same = shape_equal a b same
 abort_shape n (Some before) a b there s =
     step_shape AbortsChannel n before a b s there (ap (λ (c : Channel). c.spec) s.step.channel) (ap (λ (c : Channel). c.event.room) s.step.channel) (aborts_access (asking_run before.stage) s.port s.later_port s.step.cancels)
 
-pull_shape : (n : ℕ) (answer : Pulled) (slot : Option Channel) (a b : LoggerMoment) → slot_at a.slots n ≡ slot → PullsSlot slot n answer a b → KeepsShape a b
-pull_shape n answer None a b there pulls = shape_equal a b pulls.1
-pull_shape n answer (Some before) a b there s =
-    step_shape (PullsChannel answer) n before a b s there s.step.spec s.step.room (pulls_access _ before.event.room (reading_run before.stage) s.step.pulls)
+pull_shape : (dump : List ℕ) (n : ℕ) (answer : Pulled) (slot : Option Channel) (a b : LoggerMoment) → slot_at a.slots n ≡ slot → PullsSlot dump slot n answer a b → KeepsShape a b
+pull_shape dump n answer None a b there pulls = shape_equal a b pulls.1
+pull_shape dump n answer (Some before) a b there s =
+    step_shape (PullsChannel dump answer) n before a b s there s.step.spec s.step.room (pulls_access _ before.event.room (reading_run before.stage) s.step.pulls)
 
 -- Marks.
 
@@ -319,11 +319,11 @@ turn_ports t takes = (turn_shape t.transition t takes).ports
 pub turn_room : (t : LoggerTurn) → TakesTurn t → ((number : ℕ) → HasEventRoom number t.before.slots t.before.ports) → (number : ℕ) → HasEventRoom number t.after.slots t.after.ports
 turn_room t takes have = room_kept t.before t.after (turn_shape t.transition t takes) have
 
-pub pull_ports : (n : ℕ) (answer : Pulled) (a b : LoggerMoment) → PullsNumbered n answer a b → AreSamePorts a.ports b.ports
-pull_ports n answer a b pulls = (pull_shape n answer (slot_at a.slots n) a b refl pulls).ports
+pub pull_ports : (dump : List ℕ) (n : ℕ) (answer : Pulled) (a b : LoggerMoment) → PullsNumbered dump n answer a b → AreSamePorts a.ports b.ports
+pull_ports dump n answer a b pulls = (pull_shape dump n answer (slot_at a.slots n) a b refl pulls).ports
 
-pub pull_room : (n : ℕ) (answer : Pulled) (a b : LoggerMoment) → PullsNumbered n answer a b → ((number : ℕ) → HasEventRoom number a.slots a.ports) → (number : ℕ) → HasEventRoom number b.slots b.ports
-pull_room n answer a b pulls have = room_kept a b (pull_shape n answer (slot_at a.slots n) a b refl pulls) have
+pub pull_room : (dump : List ℕ) (n : ℕ) (answer : Pulled) (a b : LoggerMoment) → PullsNumbered dump n answer a b → ((number : ℕ) → HasEventRoom number a.slots a.ports) → (number : ℕ) → HasEventRoom number b.slots b.ports
+pull_room dump n answer a b pulls have = room_kept a b (pull_shape dump n answer (slot_at a.slots n) a b refl pulls) have
 
 -- Outside a run.
 
@@ -332,12 +332,12 @@ idle_pull p room idle pulls =
     let at : LeavesAll p Nothing = subst (λ (stage : ChannelStage). PullsIn (reading_run stage) p room) idle pulls in
     at.stage ∙ idle
 
-pulled_idle : (n : ℕ) (answer : Pulled) (slot : Option Channel) (a b : LoggerMoment) → slot_at a.slots n ≡ slot → PullsSlot slot n answer a b → AreIdleChannels a.slots → AreIdleChannels b.slots
-pulled_idle n answer None a b there pulls idle = subst (λ (m : LoggerMoment). AreIdleChannels m.slots) (sym pulls.1) idle
-pulled_idle n answer (Some before) a b there s idle = λ m c at.
+pulled_idle : (dump : List ℕ) (n : ℕ) (answer : Pulled) (slot : Option Channel) (a b : LoggerMoment) → slot_at a.slots n ≡ slot → PullsSlot dump slot n answer a b → AreIdleChannels a.slots → AreIdleChannels b.slots
+pulled_idle dump n answer None a b there pulls idle = subst (λ (m : LoggerMoment). AreIdleChannels m.slots) (sym pulls.1) idle
+pulled_idle dump n answer (Some before) a b there s idle = λ m c at.
     one_changed (λ k x. x.stage ≡ Idle) a.slots n s.after (λ x stood. idle_pull _ before.event.room (idle n before there) s.step.pulls) (λ k x other stood. idle k x stood) before there m c
     (subst (λ (l : List (Option Channel)). slot_at l m ≡ Some c) s.slots at)
 
 -- what pulls outside a run leaves every channel idle
-pub pull_idle : (run : Option LoggedRun) (n : ℕ) (answer : Pulled) (a b : LoggerMoment) → PullsNumbered n answer a b → IsIdleOutside run a.slots → IsIdleOutside run b.slots
-pull_idle run n answer a b pulls idle off = pulled_idle n answer (slot_at a.slots n) a b refl pulls (idle off)
+pub pull_idle : (run : Option LoggedRun) (dump : List ℕ) (n : ℕ) (answer : Pulled) (a b : LoggerMoment) → PullsNumbered dump n answer a b → IsIdleOutside run a.slots → IsIdleOutside run b.slots
+pull_idle run dump n answer a b pulls idle off = pulled_idle dump n answer (slot_at a.slots n) a b refl pulls (idle off)

@@ -1,5 +1,5 @@
 -- Lists of channels and of ports, where one of them changed.
-use Rattle.std.specs.Prelude.{◌≡◌, ◌≢◌, ◌<◌, ◌+◌, ◌==◌, ◌++◌, ℕ, zero, suc, List, [], ◌∷◌, length, map, take, drop, slice_get, slice_set, Option, Some, ◌⊎◌, refl}
+use Rattle.std.specs.Prelude.{◌≡◌, ◌≢◌, ◌≤◌, ◌<◌, ◌+◌, ◌==◌, ◌++◌, ℕ, zero, suc, List, [], ◌∷◌, length, map, take, drop, slice_get, slice_set, Option, Some, ◌⊎◌, refl}
 use Rattle.std.specs.Option.{option_map}
 use Rattle.std.proofs.Common.{ap, sym, subst, ◌∙◌, arith, inl, inr, get_or, get_or-set_same, get_or-set_other}
 use Rattle.std.proofs.lemmas.Bool.{eqb-true, eqb-false}
@@ -12,6 +12,16 @@ use Rattle.buffer_core.proofs.SlotLaws.{split, slot_set_same, slot_set_other, sl
 -- a number is this one or another
 pub same_or_other : (m n : ℕ) → (m ≡ n) ⊎ (m ≢ n)
 same_or_other m n = split (m == n) (λ b. (m == n) ≡ b → (m ≡ n) ⊎ (m ≢ n)) (λ h same. inl (eqb-true m n same)) (λ h other. inr (eqb-false m n other)) refl
+
+-- a number is below another or not
+pub below_or_not : (n m : ℕ) → (n < m) ⊎ (m ≤ n)
+below_or_not zero zero = inr (omega arith)
+below_or_not zero (suc m) = inl (omega arith)
+below_or_not (suc n) zero = inr (omega arith)
+below_or_not (suc n) (suc m) = elim (below_or_not n m) as (λ w. (suc n < suc m) ⊎ (suc m ≤ suc n)) [
+  | inl below ↦ inl (omega (arith, below))
+  | inr above ↦ inr (omega (arith, above))
+]
 
 module _ {X : Type 0} where
   -- Slots.

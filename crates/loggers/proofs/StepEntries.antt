@@ -80,8 +80,8 @@ called_at {P} access entry buffer slots ports p q files there called = record {
 
 -- Slots.
 
-pub slot_pulls : (answer : Pulled) (n : ℕ) (slot : Option Channel) (before : Channel) (a b : LoggerMoment) → slot ≡ Some before → StepsChannel (PullsChannel answer) n before a b → PullsSlot slot n answer a b
-slot_pulls answer n slot before a b is step = subst (λ (o : Option Channel). PullsSlot o n answer a b) (sym is) step
+pub slot_pulls : (dump : List ℕ) (answer : Pulled) (n : ℕ) (slot : Option Channel) (before : Channel) (a b : LoggerMoment) → slot ≡ Some before → StepsChannel (PullsChannel dump answer) n before a b → PullsSlot dump slot n answer a b
+slot_pulls dump answer n slot before a b is step = subst (λ (o : Option Channel). PullsSlot dump o n answer a b) (sym is) step
 
 pub slot_ends : (time : ℕ) (dump : Option (List ℕ)) (n : ℕ) (slot : Option Channel) (before : Channel) (a b : EndingMoment) → slot ≡ Some before → EndsNumbered time dump n before a b → EndsSlot time dump n slot a b
 slot_ends time dump n slot before a b is ends = subst (λ (o : Option Channel). EndsSlot time dump n o a b) (sym is) ends

@@ -1,13 +1,13 @@
 -- What a logger keeps between its calls has the logger's contract.
-use mathlib.Core.List.{IsPrefix}
-use Rattle.std.specs.Prelude.{◌≡◌, ◌<◌, ℕ, zero, suc, List, [], ◌∷◌, ◌++◌, length, slice_get, unwrap_or, Option, Some, None, ◌⊎◌, refl}
+use Rattle.std.specs.Prelude.{◌≡◌, ◌≢◌, ◌<◌, ◌+◌, ℕ, zero, suc, IsTrue, IsSome, List, [], ◌∷◌, length, slice_get, unwrap_or, Option, Some, None, ◌⊎◌, refl}
 use Rattle.std.proofs.Common.{ap, sym, subst, ◌∙◌, arith, inl, inr}
 use Rattle.daq_types.specs.declared.events.Event.{Event}
+use Rattle.daq_types.specs.declared.runs.ChannelEnd.{ChannelEnd}
 use Rattle.daq_types.specs.declared.runs.ChannelState.{ChannelState}
 use Rattle.daq_types.specs.declared.runs.ChannelState.TheVariants.{Broken as IsBroken, Ended}
 use Rattle.event.specs.Events.{encoding}
-use Rattle.event.specs.RunFile.{begun_file, end_record}
-use Rattle.daq_io.specs.Seen.{Seen, IsStored}
+use Rattle.event.specs.RunFile.{end_record}
+use Rattle.daq_io.specs.Seen.{Seen}
 use Rattle.buffer_core.specs.declared.entry.BufferEntry.{BufferEntry}
 use Rattle.buffer_core.specs.Ports.{Access}
 use Rattle.buffer_core.specs.Slots.{slot_at}
@@ -19,14 +19,18 @@ use Rattle.member_model.specs.SentCalls.{EachCall}
 use Rattle.member_model.specs.OwnCalls.{calls_after, AreOwnCalls, SendsNone}
 use Rattle.member_model.specs.ReadRuns.{HasReadRun}
 use Rattle.member_model.specs.CutRuns.{MarksEnd, HasCutRun}
-use Rattle.member_model.specs.LoggerKept.{LoggerChannel, LoggerPort, HasWritten, HasWrittenPart, IsStateSo, KeepsLogger}
+use Rattle.member_model.specs.LoggerKept.{LoggerChannel, LoggerPort, HasWritten, HasWrittenPart, IsStateSo, IsEndSo, KeepsLogger, series_from, stop_bytes}
+use Rattle.sub_files.specs.declared.open_file.Fallen.{Fallen}
+use Rattle.sub_files.specs.Patterns.{NamePattern, piece_name_by}
+use Rattle.sub_files.specs.Pieces.{Series, HasRun, HasPart, series_of}
+use Rattle.sub_files.specs.Rolls.{fallen_at}
 use Rattle.mid_logger.specs.declared.channel.Channel.{Channel}
 use Rattle.mid_logger.specs.declared.stage.BegunRun.{BegunRun}
-use Rattle.mid_logger.specs.Patterns.{file_name_by}
-use Rattle.mid_logger.specs.Channels.{KeepsOwnCalls, HasReadUntil, HasReadPart}
-use Rattle.mid_logger.specs.ChannelEnds.{HasClosed, HasBroken, last_bytes, state_ended}
+use Rattle.mid_logger.specs.Channels.{FileHead, KeepsOwnCalls, HasReadUntil, HasReadPart, series_at}
+use Rattle.mid_logger.specs.ChannelEnds.{HasClosed, HasBroken, HasLeftSo, last_bytes, state_ended}
 use Rattle.loggers.specs.declared.logged_run.LoggedRun.{LoggedRun}
-use Rattle.loggers.specs.LoggerStands.{logger_channel, logger_channels, logger_port, logger_ports, IsEndedSo, LeftRun, TellsStates, ToldSo, LoggerHolds}
+use Rattle.loggers.specs.declared.logged_run.RunDumps.{RunDumps}
+use Rattle.loggers.specs.LoggerStands.{logger_channel, logger_channels, logger_port, logger_ports, IsEndedSo, HasHead, TakenStays, LeftRun, TellsEnds, ToldSo, LoggerHolds}
 
 -- A channel and its port.
 
@@ -84,31 +88,40 @@ ended_place own start (Some p) place so marks once = ap Some (once p place so.1 
 
 -- What was written.
 
-left_written : (absent : ℕ) (turns : List MemberTurn) (slots : List (Option Channel)) (seen : Seen) (c : Channel) (a : Access) (stop : MemberTurn) (l : LeftRun turns slots seen c a stop Ended) → EndedParts l.run.ended stop.dump
-    → HasWritten (logger_port (Some a)) turns seen (logger_channel absent c) stop
-left_written absent turns slots seen c a stop l parts =
+-- what the files of the run have in common, by the start that was accepted
+series_same : (p : NamePattern) (limit run run2 time time2 : ℕ) (dump dump2 : List ℕ) → run ≡ run2 → time ≡ time2 → dump ≡ dump2 → series_of p limit (record { run = run; time = time }) dump ≡ series_of p limit (record { run = run2; time = time2 }) dump2
+series_same p limit run run2 time time2 dump dump2 one two three = rw (one, two, three) refl
+
+series_told : (absent : ℕ) (turns : List MemberTurn) (start : ℕ) (c : Channel) (head : FileHead) (has : HasHead turns start head) → series_at c.spec head ≡ series_from (logger_channel absent c) has.turn
+series_told absent turns start c head has = series_same c.spec.pattern c.spec.sub_bytes head.run has.turn.order.run head.time has.turn.order.time head.dump (unwrap_or has.turn.dump []) has.run has.time has.dump
+
+-- the bytes at the end of the last file, by the turns
+bytes_told : (run run2 time : ℕ) (ended : Option ℕ) (place : ℕ) (dump : Option (List ℕ)) (bytes : List ℕ) → run ≡ run2 → ended ≡ Some place → dump ≡ Some bytes → last_bytes run ended time dump ≡ encoding (end_record run2 time bytes)
+bytes_told run run2 time ended place dump bytes one two three = rw (one, two, three) refl
+
+-- where the name behind the last file was found taken, a file of it is there
+beyond_told : (turns : List MemberTurn) (slots : List (Option Channel)) (seen : Seen) (c : Channel) (a : Access) (stop : MemberTurn) (told : ChannelEnd) (l : LeftRun turns slots seen c a stop told) (run : ℕ) → told.state ≢ IsBroken → l.run.opened.run ≡ run
+    → (IsTrue seen.tells → IsTrue l.run.opened.at.taken → TakenStays slots seen (piece_name_by c.spec.pattern l.run.opened.run (l.run.opened.at.sub + 1))) → IsTrue l.run.opened.at.taken → IsTrue seen.tells → IsSome (seen.at (piece_name_by c.spec.pattern run told.files))
+beyond_told turns slots seen c a stop told l run whole run_is stays taken tells = rw (l.last whole, ← run_is) (stays tells taken).there
+
+left_written : (absent : ℕ) (turns : List MemberTurn) (slots : List (Option Channel)) (seen : Seen) (c : Channel) (a : Access) (stop : MemberTurn) (told : ChannelEnd) (l : LeftRun turns slots seen c a stop told) → told.state ≡ Ended
+    → (IsTrue seen.tells → IsTrue l.run.opened.at.taken → TakenStays slots seen (piece_name_by c.spec.pattern l.run.opened.run (l.run.opened.at.sub + 1))) → EndedParts l.run.ended stop.dump → HasWritten (logger_port (Some a)) turns seen (logger_channel absent c) stop told.files
+left_written absent turns slots seen c a stop told l state stays parts =
     let run : BegunRun = l.run in
-    let closed : HasClosed c.spec l.head run stop.order.time stop.dump a.own a.got seen = l.left in
+    let time : ℕ = stop.order.time in
+    let closed : HasClosed c.spec l.head run told.files time stop.dump a.own a.got seen = subst (λ (x : ChannelState). HasLeftSo x told c.spec l.head run time stop.dump a.own a.got seen) state l.left in
     let events : List Event = closed.events in
     let turn : MemberTurn = l.headed.turn in
-    let time : ℕ = stop.order.time in
-    let named : (n : ℕ) → List ℕ = λ n. file_name_by c.spec.pattern n in
     let reads_0 : HasReadRun a.own a.got run.opened.client c.spec.id c.spec.mask run.opened.request run.opened.start run.begun parts.place events =
     subst (λ (e : Option ℕ). HasReadUntil e a.own a.got run.opened.client c.spec.id c.spec.mask run.opened.request run.opened.start run.begun events) parts.ended_is closed.reads in
     let reads_1 : HasReadRun a.own a.got run.opened.client c.spec.id c.spec.mask run.opened.request stop.order.start run.begun parts.place events =
-    subst (λ (s : ℕ). HasReadRun a.own a.got run.opened.client c.spec.id c.spec.mask run.opened.request s run.begun parts.place events) l.of reads_0 in
+    subst (λ (x : ℕ). HasReadRun a.own a.got run.opened.client c.spec.id c.spec.mask run.opened.request x run.begun parts.place events) l.of reads_0 in
     let client_is : unwrap_or c.client absent ≡ run.opened.client = ap (λ (o : Option ℕ). unwrap_or o absent) l.client in
     let run_is : run.opened.run ≡ turn.order.run = sym closed.number ∙ l.headed.run in
-    let stored_0 : IsStored seen (named run.opened.run) (begun_file l.head.run l.head.time l.head.dump events ++ last_bytes run.opened.run (Some parts.place) time stop.dump) =
-    subst (λ (e : Option ℕ). IsStored seen (named run.opened.run) (begun_file l.head.run l.head.time l.head.dump events ++ last_bytes run.opened.run e time stop.dump)) parts.ended_is closed.file in
-    let stored_1 : IsStored seen (named run.opened.run) (begun_file l.head.run l.head.time l.head.dump events ++ encoding (end_record run.opened.run time parts.bytes)) =
-    subst (λ (d : Option (List ℕ)). IsStored seen (named run.opened.run) (begun_file l.head.run l.head.time l.head.dump events ++ last_bytes run.opened.run (Some parts.place) time d)) parts.dump_is stored_0 in
-    let stored_2 : IsStored seen (named turn.order.run) (begun_file l.head.run l.head.time l.head.dump events ++ encoding (end_record turn.order.run time parts.bytes)) =
-    subst (λ (n : ℕ). IsStored seen (named n) (begun_file l.head.run l.head.time l.head.dump events ++ encoding (end_record n time parts.bytes))) run_is stored_1 in
-    let stored_3 : IsStored seen (named turn.order.run) (begun_file turn.order.run l.head.time l.head.dump events ++ encoding (end_record turn.order.run time parts.bytes)) =
-    subst (λ (n : ℕ). IsStored seen (named turn.order.run) (begun_file n l.head.time l.head.dump events ++ encoding (end_record turn.order.run time parts.bytes))) l.headed.run stored_2 in
-    let stored_4 : IsStored seen (named turn.order.run) (begun_file turn.order.run turn.order.time l.head.dump events ++ encoding (end_record turn.order.run time parts.bytes)) =
-    subst (λ (t : ℕ). IsStored seen (named turn.order.run) (begun_file turn.order.run t l.head.dump events ++ encoding (end_record turn.order.run time parts.bytes))) l.headed.time stored_3 in
+    let whole : told.state ≢ IsBroken = λ broken. (let never : Ended ≡ IsBroken = sym state ∙ broken in cc (never)) in
+    let last_is : last_bytes run.opened.run run.ended time stop.dump ≡ stop_bytes turn stop parts.bytes = bytes_told run.opened.run turn.order.run time run.ended parts.place stop.dump parts.bytes run_is parts.ended_is parts.dump_is in
+    let stored_0 : HasRun seen (series_from (logger_channel absent c) turn) told.files run.opened.at.taken (last_bytes run.opened.run run.ended time stop.dump) events =
+    subst (λ (x : Series). HasRun seen x told.files run.opened.at.taken (last_bytes run.opened.run run.ended time stop.dump) events) (series_told absent turns stop.order.start c l.head l.headed) closed.stored in
     record {
       start = turn;
       is_start = l.headed.is_start;
@@ -120,61 +133,52 @@ left_written absent turns slots seen c a stop l parts =
       events = events;
       reads = subst (λ (k : ℕ). HasReadRun a.own a.got k c.spec.id c.spec.mask run.opened.request stop.order.start run.begun parts.place events) (sym client_is) reads_1;
       fine = closed.fine;
-      stored = subst (λ (d : List ℕ). IsStored seen (named turn.order.run) (begun_file turn.order.run turn.order.time d events ++ encoding (end_record turn.order.run time parts.bytes))) l.headed.dump stored_4;
+      taken = run.opened.at.taken;
+      beyond = beyond_told turns slots seen c a stop told l turn.order.run whole run_is stays;
+      stored = subst (λ (x : List ℕ). HasRun seen (series_from (logger_channel absent c) turn) told.files run.opened.at.taken x events) last_is stored_0;
     }
 
--- the parts of a broken channel's file, by the head's own values
-head_part : (bytes : List ℕ) (events : List Event) (run time run2 time2 : ℕ) (dump dump2 tail : List ℕ) → run ≡ run2 → time ≡ time2 → dump ≡ dump2 → IsPrefix bytes (begun_file run time dump events ++ tail) → IsPrefix bytes (begun_file run2 time2 dump2 events ++ tail)
-head_part bytes events run time run2 time2 dump dump2 tail one two three front = rw (← one, ← two, ← three) front
-
-head_whole : (bytes : List ℕ) (events : List Event) (run time run2 time2 : ℕ) (dump dump2 : List ℕ) → run ≡ run2 → time ≡ time2 → dump ≡ dump2 → IsPrefix bytes (begun_file run time dump events) → IsPrefix bytes (begun_file run2 time2 dump2 events)
-head_whole bytes events run time run2 time2 dump dump2 one two three front = rw (← one, ← two, ← three) front
-
-left_part : (absent : ℕ) (turns : List MemberTurn) (slots : List (Option Channel)) (seen : Seen) (c : Channel) (a : Access) (stop : MemberTurn) (ended : ℕ) (dump : List ℕ) (l : LeftRun turns slots seen c a stop IsBroken) → l.run.ended ≡ Some ended → stop.dump ≡ Some dump
-    → HasWrittenPart (logger_port (Some a)) turns seen (logger_channel absent c) stop ended dump
-left_part absent turns slots seen c a stop ended dump l ended_is dump_is =
+left_part : (absent : ℕ) (turns : List MemberTurn) (slots : List (Option Channel)) (seen : Seen) (c : Channel) (a : Access) (stop : MemberTurn) (told : ChannelEnd) (ended : ℕ) (dump : List ℕ) (l : LeftRun turns slots seen c a stop told) → told.state ≡ IsBroken → l.run.ended ≡ Some ended
+    → stop.dump ≡ Some dump → HasWrittenPart (logger_port (Some a)) turns seen (logger_channel absent c) stop told ended dump
+left_part absent turns slots seen c a stop told ended dump l state ended_is dump_is =
     let run : BegunRun = l.run in
-    let broken : HasBroken c.spec l.head run stop.order.time stop.dump a.own a.got seen = l.left in
+    let time : ℕ = stop.order.time in
+    let fallen : Fallen = fallen_at told.files told.framed in
+    let broken : HasBroken c.spec l.head run fallen time stop.dump a.own a.got seen = subst (λ (x : ChannelState). HasLeftSo x told c.spec l.head run time stop.dump a.own a.got seen) state l.left in
     let events : List Event = broken.events in
     let turn : MemberTurn = l.headed.turn in
-    let time : ℕ = stop.order.time in
     let client_is : unwrap_or c.client absent ≡ run.opened.client = ap (λ (o : Option ℕ). unwrap_or o absent) l.client in
     let run_is : run.opened.run ≡ turn.order.run = sym broken.number ∙ l.headed.run in
+    let series_is : series_at c.spec l.head ≡ series_from (logger_channel absent c) turn = series_told absent turns stop.order.start c l.head l.headed in
     record {
       start = turn;
       is_start = l.headed.is_start;
       number = run.opened.request;
       begun = run.begun;
       events = events;
-      bytes = broken.bytes;
-      stored = subst (λ (n : ℕ). IsStored seen (file_name_by c.spec.pattern n) broken.bytes) run_is broken.stored;
       part = elim broken.reads as (λ w. (HasCutRun a.own a.got (unwrap_or c.client absent) c.spec.id c.spec.mask run.opened.request stop.order.start run.begun ended events
-          × IsPrefix broken.bytes (begun_file turn.order.run turn.order.time (unwrap_or turn.dump []) events))
+          × HasPart seen (series_from (logger_channel absent c) turn) fallen [] events)
           ⊎ (HasReadRun a.own a.got (unwrap_or c.client absent) c.spec.id c.spec.mask run.opened.request stop.order.start run.begun ended events
-          × IsPrefix broken.bytes (begun_file turn.order.run turn.order.time (unwrap_or turn.dump []) events ++ encoding (end_record turn.order.run time dump)))) [
+          × HasPart seen (series_from (logger_channel absent c) turn) fallen (stop_bytes turn stop dump) events)) [
             | inl cut ↦
                 let cut_0 : HasCutRun a.own a.got run.opened.client c.spec.id c.spec.mask run.opened.request run.opened.start run.begun ended events =
                 subst (λ (e : Option ℕ). HasReadPart e a.own a.got run.opened.client c.spec.id c.spec.mask run.opened.request run.opened.start run.begun events) ended_is cut.0 in
                 let cut_1 : HasCutRun a.own a.got run.opened.client c.spec.id c.spec.mask run.opened.request stop.order.start run.begun ended events =
-                subst (λ (s : ℕ). HasCutRun a.own a.got run.opened.client c.spec.id c.spec.mask run.opened.request s run.begun ended events) l.of cut_0 in
+                subst (λ (x : ℕ). HasCutRun a.own a.got run.opened.client c.spec.id c.spec.mask run.opened.request x run.begun ended events) l.of cut_0 in
                 inl (
                   subst (λ (k : ℕ). HasCutRun a.own a.got k c.spec.id c.spec.mask run.opened.request stop.order.start run.begun ended events) (sym client_is) cut_1,
-                  head_whole broken.bytes events l.head.run l.head.time turn.order.run turn.order.time l.head.dump (unwrap_or turn.dump []) l.headed.run l.headed.time l.headed.dump cut.1,
+                  subst (λ (x : Series). HasPart seen x fallen [] events) series_is cut.1,
                 )
             | inr whole ↦
                 let read_0 : HasReadRun a.own a.got run.opened.client c.spec.id c.spec.mask run.opened.request run.opened.start run.begun ended events =
                 subst (λ (e : Option ℕ). HasReadUntil e a.own a.got run.opened.client c.spec.id c.spec.mask run.opened.request run.opened.start run.begun events) ended_is whole.0 in
                 let read_1 : HasReadRun a.own a.got run.opened.client c.spec.id c.spec.mask run.opened.request stop.order.start run.begun ended events =
-                subst (λ (s : ℕ). HasReadRun a.own a.got run.opened.client c.spec.id c.spec.mask run.opened.request s run.begun ended events) l.of read_0 in
-                let front_0 : IsPrefix broken.bytes (begun_file l.head.run l.head.time l.head.dump events ++ last_bytes run.opened.run (Some ended) time stop.dump) =
-                subst (λ (e : Option ℕ). IsPrefix broken.bytes (begun_file l.head.run l.head.time l.head.dump events ++ last_bytes run.opened.run e time stop.dump)) ended_is whole.1 in
-                let front_1 : IsPrefix broken.bytes (begun_file l.head.run l.head.time l.head.dump events ++ encoding (end_record run.opened.run time dump)) =
-                subst (λ (d : Option (List ℕ)). IsPrefix broken.bytes (begun_file l.head.run l.head.time l.head.dump events ++ last_bytes run.opened.run (Some ended) time d)) dump_is front_0 in
-                let front_2 : IsPrefix broken.bytes (begun_file l.head.run l.head.time l.head.dump events ++ encoding (end_record turn.order.run time dump)) =
-                subst (λ (n : ℕ). IsPrefix broken.bytes (begun_file l.head.run l.head.time l.head.dump events ++ encoding (end_record n time dump))) run_is front_1 in
+                subst (λ (x : ℕ). HasReadRun a.own a.got run.opened.client c.spec.id c.spec.mask run.opened.request x run.begun ended events) l.of read_0 in
+                let part_0 : HasPart seen (series_from (logger_channel absent c) turn) fallen (last_bytes run.opened.run run.ended time stop.dump) events =
+                subst (λ (x : Series). HasPart seen x fallen (last_bytes run.opened.run run.ended time stop.dump) events) series_is whole.1 in
                 inr (
                   subst (λ (k : ℕ). HasReadRun a.own a.got k c.spec.id c.spec.mask run.opened.request stop.order.start run.begun ended events) (sym client_is) read_1,
-                  head_part broken.bytes events l.head.run l.head.time turn.order.run turn.order.time l.head.dump (unwrap_or turn.dump []) (encoding (end_record turn.order.run time dump)) l.headed.run l.headed.time l.headed.dump front_2,
+                  subst (λ (x : List ℕ). HasPart seen (series_from (logger_channel absent c) turn) fallen x events) (bytes_told run.opened.run turn.order.run time run.ended ended stop.dump dump run_is ended_is dump_is) part_0,
                 )
           ];
     }
@@ -182,7 +186,7 @@ left_part absent turns slots seen c a stop ended dump l ended_is dump_is =
 -- The contract.
 
 -- what is known of a channel of the contract
-record KnownChannel (absent : ℕ → ℕ) (run : Option LoggedRun) (stop_dump : Option (List ℕ)) (slots : List (Option Channel)) (ports : List Access) (turns : List MemberTurn) (seen : Seen) (channel : LoggerChannel) : Type 0 where
+record KnownChannel (absent : ℕ → ℕ) (run : Option LoggedRun) (dumps : RunDumps) (slots : List (Option Channel)) (ports : List Access) (turns : List MemberTurn) (seen : Seen) (channel : LoggerChannel) : Type 0 where
   number : ℕ
   c : Channel
   a : Access
@@ -191,49 +195,56 @@ record KnownChannel (absent : ℕ → ℕ) (run : Option LoggedRun) (stop_dump :
   is : channel ≡ logger_channel (absent c.spec.number) c
   numbered : channel.number ≡ number
 
-known : (absent : ℕ → ℕ) (run : Option LoggedRun) (stop_dump : Option (List ℕ)) (slots : List (Option Channel)) (ports : List Access) (turns : List MemberTurn) (seen : Seen) (index : ℕ) (channel : LoggerChannel) → LoggerHolds run stop_dump slots ports turns seen
-    → slice_get (logger_channels absent slots) index ≡ Some channel → KnownChannel absent run stop_dump slots ports turns seen channel
-known absent run stop_dump slots ports turns seen index channel stands at =
+known : (absent : ℕ → ℕ) (run : Option LoggedRun) (dumps : RunDumps) (slots : List (Option Channel)) (ports : List Access) (turns : List MemberTurn) (seen : Seen) (index : ℕ) (channel : LoggerChannel) → LoggerHolds run dumps slots ports turns seen
+    → slice_get (logger_channels absent slots) index ≡ Some channel → KnownChannel absent run dumps slots ports turns seen channel
+known absent run dumps slots ports turns seen index channel stands at =
     let f : FoundChannel absent slots channel = found absent slots index channel at in
     let port : (x : Access) × (slice_get ports f.c.spec.buffer ≡ Some x) = there_is ports f.c.spec.buffer (stands.served f.number f.c f.there) in
     record { number = f.number; c = f.c; a = port.0; there = f.there; at_port = port.1; is = f.is; numbered = ap (λ (x : LoggerChannel). x.number) f.is ∙ stands.standing.numbered f.number f.c f.there }
 
 -- what holds of the channel and its port holds of the contract's
-at_contract : (P : LoggerPort → LoggerChannel → Type 0) (absent : ℕ → ℕ) (run : Option LoggedRun) (stop_dump : Option (List ℕ)) (slots : List (Option Channel)) (ports : List Access) (turns : List MemberTurn) (seen : Seen) (channel : LoggerChannel)
-    → (k : KnownChannel absent run stop_dump slots ports turns seen channel) → P (logger_port (Some k.a)) (logger_channel (absent k.c.spec.number) k.c) → P (logger_ports ports channel.buffer) channel
-at_contract P absent run stop_dump slots ports turns seen channel k holds =
+at_contract : (P : LoggerPort → LoggerChannel → Type 0) (absent : ℕ → ℕ) (run : Option LoggedRun) (dumps : RunDumps) (slots : List (Option Channel)) (ports : List Access) (turns : List MemberTurn) (seen : Seen) (channel : LoggerChannel)
+    → (k : KnownChannel absent run dumps slots ports turns seen channel) → P (logger_port (Some k.a)) (logger_channel (absent k.c.spec.number) k.c) → P (logger_ports ports channel.buffer) channel
+at_contract P absent run dumps slots ports turns seen channel k holds =
     subst (λ (x : LoggerChannel). P (logger_ports ports x.buffer) x) (sym k.is)
     (subst (λ (o : Option Access). P (logger_port o) (logger_channel (absent k.c.spec.number) k.c)) (sym k.at_port) holds)
 
 -- a mark among the contract's calls is one among the port's
-marks_at : (absent : ℕ → ℕ) (run : Option LoggedRun) (stop_dump : Option (List ℕ)) (slots : List (Option Channel)) (ports : List Access) (turns : List MemberTurn) (seen : Seen) (channel : LoggerChannel)
-    → (k : KnownChannel absent run stop_dump slots ports turns seen channel) → (start ended : ℕ) → MarksEnd (logger_ports ports channel.buffer).own start ended → MarksEnd k.a.own start ended
-marks_at absent run stop_dump slots ports turns seen channel k start ended marks =
+marks_at : (absent : ℕ → ℕ) (run : Option LoggedRun) (dumps : RunDumps) (slots : List (Option Channel)) (ports : List Access) (turns : List MemberTurn) (seen : Seen) (channel : LoggerChannel)
+    → (k : KnownChannel absent run dumps slots ports turns seen channel) → (start ended : ℕ) → MarksEnd (logger_ports ports channel.buffer).own start ended → MarksEnd k.a.own start ended
+marks_at absent run dumps slots ports turns seen channel k start ended marks =
     let here : MarksEnd (logger_ports ports k.c.spec.buffer).own start ended = subst (λ (x : LoggerChannel). MarksEnd (logger_ports ports x.buffer).own start ended) k.is marks in
     subst (λ (o : Option Access). MarksEnd (logger_port o).own start ended) k.at_port here
 
--- the state that was told of a channel is the one that its run has
-state_told : (states : List ChannelState) (n m : ℕ) (x y : ChannelState) → n ≡ m → slice_get states n ≡ Some x → slice_get states m ≡ Some y → y ≡ x
-state_told states n m x y same first second = cc (same, first, second)
+-- what was told of a channel is that which its run has
+end_told : (ends : List ChannelEnd) (n m : ℕ) (x y : ChannelEnd) → n ≡ m → slice_get ends n ≡ Some x → slice_get ends m ≡ Some y → y ≡ x
+end_told ends n m x y same first second = cc (same, first, second)
 
-left_as : (turns : List MemberTurn) (slots : List (Option Channel)) (seen : Seen) (c : Channel) (a : Access) (stop : MemberTurn) (state : ChannelState) (told : ChannelState) → state ≡ told → LeftRun turns slots seen c a stop state → LeftRun turns slots seen c a stop told
-left_as turns slots seen c a stop state told same l = subst (λ (s : ChannelState). LeftRun turns slots seen c a stop s) same l
+-- what was told at a stop, of a channel whose run was left so
+record ToldAs (turns : List MemberTurn) (slots : List (Option Channel)) (seen : Seen) (c : Channel) (port : Access) (stop : MemberTurn) (told : ChannelEnd) : Type 0 where
+  left : LeftRun turns slots seen c port stop told
+  taken : IsTrue seen.tells → IsTrue left.run.opened.at.taken → TakenStays slots seen (piece_name_by c.spec.pattern left.run.opened.run (left.run.opened.at.sub + 1))
 
-told_so : (turns : List MemberTurn) (slots : List (Option Channel)) (seen : Seen) (c : Channel) (a : Access) (stop : MemberTurn) (state : ChannelState) → LeftRun turns slots seen c a stop state → IsStateSo a.own stop.order.start stop.dump state
-told_so turns slots seen c a stop state l = elim l.told as (λ w. IsStateSo a.own stop.order.start stop.dump state) [
-  | inl broken ↦ subst (λ (s : ChannelState). IsStateSo a.own stop.order.start stop.dump s) (sym broken) l.ended.0
-  | inr is ↦ subst (λ (s : ChannelState). IsStateSo a.own stop.order.start stop.dump s) (sym is) (state_so a.own stop.order.start l.run.ended stop.dump l.ended)
+told_as : (turns : List MemberTurn) (slots : List (Option Channel)) (seen : Seen) (n : ℕ) (c : Channel) (a : Access) (stop : MemberTurn) (ends : List ChannelEnd) (told : ChannelEnd) (so : ToldSo turns slots seen n c a stop ends) → so.told ≡ told → ToldAs turns slots seen c a stop told
+told_as turns slots seen n c a stop ends told so same =
+    let now : ToldAs turns slots seen c a stop so.told = record { left = so.left; taken = so.taken } in
+    subst (λ (x : ChannelEnd). ToldAs turns slots seen c a stop x) same now
+
+told_so : (turns : List MemberTurn) (slots : List (Option Channel)) (seen : Seen) (c : Channel) (a : Access) (stop : MemberTurn) (told : ChannelEnd) → LeftRun turns slots seen c a stop told → IsStateSo a.own stop.order.start stop.dump told.state
+told_so turns slots seen c a stop told l = elim l.state as (λ w. IsStateSo a.own stop.order.start stop.dump told.state) [
+  | inl broken ↦ subst (λ (x : ChannelState). IsStateSo a.own stop.order.start stop.dump x) (sym broken) l.ended.0
+  | inr is ↦ subst (λ (x : ChannelState). IsStateSo a.own stop.order.start stop.dump x) (sym is) (state_so a.own stop.order.start l.run.ended stop.dump l.ended)
 ]
 
-told_ended : (turns : List MemberTurn) (slots : List (Option Channel)) (seen : Seen) (c : Channel) (a : Access) (stop : MemberTurn) (l : LeftRun turns slots seen c a stop Ended) → EndedParts l.run.ended stop.dump
-told_ended turns slots seen c a stop l = elim l.told as (λ w. EndedParts l.run.ended stop.dump) [
-  | inl broken ↦ absurd (cc (broken))
-  | inr is ↦ ended_parts l.run.ended stop.dump is
+told_ended : (turns : List MemberTurn) (slots : List (Option Channel)) (seen : Seen) (c : Channel) (a : Access) (stop : MemberTurn) (told : ChannelEnd) (l : LeftRun turns slots seen c a stop told) → told.state ≡ Ended → EndedParts l.run.ended stop.dump
+told_ended turns slots seen c a stop told l state = elim l.state as (λ w. EndedParts l.run.ended stop.dump) [
+  | inl broken ↦ absurd (let never : Ended ≡ IsBroken = sym state ∙ broken in cc (never))
+  | inr is ↦ ended_parts l.run.ended stop.dump (sym state ∙ is)
 ]
 
-pub keeps_contract : (run : Option LoggedRun) (stop_dump : Option (List ℕ)) (slots : List (Option Channel)) (ports : List Access) (turns : List MemberTurn) (seen : Seen) (absent : ℕ → ℕ) → LoggerHolds run stop_dump slots ports turns seen
+pub keeps_contract : (run : Option LoggedRun) (dumps : RunDumps) (slots : List (Option Channel)) (ports : List Access) (turns : List MemberTurn) (seen : Seen) (absent : ℕ → ℕ) → LoggerHolds run dumps slots ports turns seen
     → KeepsLogger (logger_channels absent slots) (logger_ports ports) turns seen
-keeps_contract run stop_dump slots ports turns seen absent stands =
+keeps_contract run dumps slots ports turns seen absent stands =
     let calls : (buffer : ℕ) → EachCall SendsNone (logger_ports ports buffer).own × AreOwnCalls (calls_after [] (logger_ports ports buffer).own) =
     λ buffer. port_calls (slice_get ports buffer) (λ a there. (stands.standing.calls buffer a there).calls) in
     record {
@@ -242,28 +253,29 @@ keeps_contract run stop_dump slots ports turns seen absent stands =
       starts = stands.starts;
       stops = λ are begin stop accepted has is answered index channel at.
           let answer : (x : Answer) × (stop.answer ≡ Some x) = answer_in stop.answer answered in
-          let told : (states : List ChannelState) × (answer.0 ≡ Yes (Channels states)) = stands.stops are begin stop answer.0 accepted has is answer.1 in
-          let tells : TellsStates turns stop told.0 = record { stands = has; is = is; answered = answer.1 ∙ ap Some told.1 } in
-          let k : KnownChannel absent run stop_dump slots ports turns seen channel = known absent run stop_dump slots ports turns seen index channel stands at in
-          let so : ToldSo turns slots seen k.number k.c k.a stop told.0 = stands.standing.left are stop told.0 tells k.number k.c k.a k.there k.at_port in (
-            so.state,
-            record { stands = has; is = is; states = told.0; answered = tells.answered; told = subst (λ (n : ℕ). slice_get told.0 n ≡ Some so.state) (sym k.numbered) so.told },
-            at_contract (λ port x. IsStateSo port.own stop.order.start stop.dump so.state) absent run stop_dump slots ports turns seen channel k (told_so turns slots seen k.c k.a stop so.state so.left),
+          let told : (ends : List ChannelEnd) × (answer.0 ≡ Yes (Channels ends)) = stands.stops are begin stop answer.0 accepted has is answer.1 in
+          let tells : TellsEnds turns stop told.0 = record { stands = has; is = is; answered = answer.1 ∙ ap Some told.1 } in
+          let k : KnownChannel absent run dumps slots ports turns seen channel = known absent run dumps slots ports turns seen index channel stands at in
+          let so : ToldSo turns slots seen k.number k.c k.a stop told.0 = stands.standing.left are stop told.0 tells k.number k.c k.a k.there k.at_port in
+          let end_so : IsEndSo k.a.own stop.order.start stop.dump so.told = record { state = told_so turns slots seen k.c k.a stop so.told so.left; framed = so.left.framed; few = so.left.few } in (
+            so.told,
+            record { stands = has; is = is; ends = told.0; answered = tells.answered; at = subst (λ (n : ℕ). slice_get told.0 n ≡ Some so.told) (sym k.numbered) so.at },
+            at_contract (λ port x. IsEndSo port.own stop.order.start stop.dump so.told) absent run dumps slots ports turns seen channel k end_so,
           );
-      ended = λ are stop index channel at tells.
-          let k : KnownChannel absent run stop_dump slots ports turns seen channel = known absent run stop_dump slots ports turns seen index channel stands at in
-          let so : ToldSo turns slots seen k.number k.c k.a stop tells.states =
-          stands.standing.left are stop tells.states (record { stands = tells.stands; is = tells.is; answered = tells.answered }) k.number k.c k.a k.there k.at_port in
-          let l : LeftRun turns slots seen k.c k.a stop Ended = left_as turns slots seen k.c k.a stop so.state Ended (state_told tells.states channel.number k.number Ended so.state k.numbered tells.told so.told) so.left in
-          at_contract (λ port x. HasWritten port turns seen x stop) absent run stop_dump slots ports turns seen channel k
-          (left_written (absent k.c.spec.number) turns slots seen k.c k.a stop l (told_ended turns slots seen k.c k.a stop l));
-      broken = λ are stop index channel at tells ended marks dump dump_is.
-          let k : KnownChannel absent run stop_dump slots ports turns seen channel = known absent run stop_dump slots ports turns seen index channel stands at in
-          let so : ToldSo turns slots seen k.number k.c k.a stop tells.states =
-          stands.standing.left are stop tells.states (record { stands = tells.stands; is = tells.is; answered = tells.answered }) k.number k.c k.a k.there k.at_port in
-          let l : LeftRun turns slots seen k.c k.a stop IsBroken = left_as turns slots seen k.c k.a stop so.state IsBroken (state_told tells.states channel.number k.number IsBroken so.state k.numbered tells.told so.told) so.left in
-          let marks_here : MarksEnd k.a.own stop.order.start ended = marks_at absent run stop_dump slots ports turns seen channel k stop.order.start ended marks in
-          let ended_is : l.run.ended ≡ Some ended = ended_place k.a.own stop.order.start l.run.ended ended l.ended marks_here ((stands.standing.calls k.c.spec.buffer k.a k.at_port).once are stop.order.start) in
-          at_contract (λ port x. HasWrittenPart port turns seen x stop ended dump) absent run stop_dump slots ports turns seen channel k
-          (left_part (absent k.c.spec.number) turns slots seen k.c k.a stop ended dump l ended_is dump_is);
+      ended = λ are stop index channel told at tells state.
+          let k : KnownChannel absent run dumps slots ports turns seen channel = known absent run dumps slots ports turns seen index channel stands at in
+          let so : ToldSo turns slots seen k.number k.c k.a stop tells.ends =
+          stands.standing.left are stop tells.ends (record { stands = tells.stands; is = tells.is; answered = tells.answered }) k.number k.c k.a k.there k.at_port in
+          let l : ToldAs turns slots seen k.c k.a stop told = told_as turns slots seen k.number k.c k.a stop tells.ends told so (end_told tells.ends channel.number k.number told so.told k.numbered tells.at so.at) in
+          at_contract (λ port x. HasWritten port turns seen x stop told.files) absent run dumps slots ports turns seen channel k
+          (left_written (absent k.c.spec.number) turns slots seen k.c k.a stop told l.left state l.taken (told_ended turns slots seen k.c k.a stop told l.left state));
+      broken = λ are stop index channel told at tells state ended marks dump dump_is.
+          let k : KnownChannel absent run dumps slots ports turns seen channel = known absent run dumps slots ports turns seen index channel stands at in
+          let so : ToldSo turns slots seen k.number k.c k.a stop tells.ends =
+          stands.standing.left are stop tells.ends (record { stands = tells.stands; is = tells.is; answered = tells.answered }) k.number k.c k.a k.there k.at_port in
+          let l : ToldAs turns slots seen k.c k.a stop told = told_as turns slots seen k.number k.c k.a stop tells.ends told so (end_told tells.ends channel.number k.number told so.told k.numbered tells.at so.at) in
+          let marks_here : MarksEnd k.a.own stop.order.start ended = marks_at absent run dumps slots ports turns seen channel k stop.order.start ended marks in
+          let ended_is : l.left.run.ended ≡ Some ended = ended_place k.a.own stop.order.start l.left.run.ended ended l.left.ended marks_here ((stands.standing.calls k.c.spec.buffer k.a k.at_port).once are stop.order.start) in
+          at_contract (λ port x. HasWrittenPart port turns seen x stop told ended dump) absent run dumps slots ports turns seen channel k
+          (left_part (absent k.c.spec.number) turns slots seen k.c k.a stop told ended dump l.left state ended_is dump_is);
     }

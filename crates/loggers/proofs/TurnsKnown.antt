@@ -1,8 +1,8 @@
 -- What a logger knows of its turns, behind one turn more.
-use Rattle.std.specs.Prelude.{◌≡◌, ◌≢◌, ◌⊎◌, ℕ, true, false, List, [], ◌∷◌, Option, Some, None, refl}
+use Rattle.std.specs.Prelude.{◌≡◌, ◌≢◌, ◌⊎◌, ℕ, true, false, List, [], ◌∷◌, Option, Some, None, Ok, refl}
 use Rattle.std.proofs.Common.{ap, sym, subst, ◌∙◌, inl, inr, eq-eqb}
 use Rattle.std.proofs.lemmas.Bool.{eqb-true, eqb-false}
-use Rattle.daq_types.specs.declared.runs.ChannelState.{ChannelState}
+use Rattle.daq_types.specs.declared.runs.ChannelEnd.{ChannelEnd}
 use Rattle.daq_types.specs.declared.runs.Order.{Order}
 use Rattle.daq_types.specs.declared.runs.Transition.{Transition}
 use Rattle.daq_types.specs.declared.runs.Transition.TheVariants.{Start, Stop, Pause, Resume, StartAbort}
@@ -15,16 +15,17 @@ use Rattle.member_model.specs.Turns.{MemberTurn, HasTurn, IsAcceptedStart, HasAn
 use Rattle.member_model.specs.LoggerKept.{IsStartAnswer}
 use Rattle.member_model.proofs.TurnLaws.{HasTurnOf-more, HasTurnOf-earlier}
 use Rattle.loggers.specs.declared.logged_run.LoggedRun.{LoggedRun}
+use Rattle.loggers.specs.declared.logged_run.RunDumps.{RunDumps}
 use Rattle.loggers.specs.declared.logged_run.RunPart.{RunPart}
 use Rattle.loggers.specs.declared.logged_run.RunPart.TheVariants.{Refused, Started, Stopping}
-use Rattle.loggers.specs.Turning.{is_run_on, is_started, is_of_start}
+use Rattle.loggers.specs.Turning.{no_dumps, start_dumps, is_run_on, is_started, is_of_start}
 use Rattle.loggers.specs.FairAsks.{HasStart}
-use Rattle.loggers.specs.LoggerStands.{logger_turn, HasEndTurn, IsPartTold, IsRunTold, IsInStarted, HasCurrentRun, IsNotCalledOff, IsStillGoing, HasRunOn, AreUnreadyInRuns, StopsTellStates}
+use Rattle.loggers.specs.LoggerStands.{logger_turn, HasEndTurn, IsPartTold, IsRunTold, IsInStarted, HasCurrentRun, IsNotCalledOff, IsStillGoing, HasRunOn, AreUnreadyInRuns, StopsTellEnds}
 
-pub record TurnsKnown (run : Option LoggedRun) (stop_dump : Option (List ℕ)) (turns : List MemberTurn) : Type 0 where
+pub record TurnsKnown (run : Option LoggedRun) (dumps : RunDumps) (turns : List MemberTurn) : Type 0 where
   pub starts : (start : MemberTurn) → (answer : Answer) → HasTurn turns start → start.transition ≡ Start → start.answer ≡ Some answer → IsStartAnswer answer
-  pub stops : AreEngineTurns turns → StopsTellStates turns
-  pub told : IsRunTold run turns stop_dump
+  pub stops : AreEngineTurns turns → StopsTellEnds turns
+  pub told : IsRunTold run turns dumps
   pub current : AreEngineTurns turns → HasCurrentRun run turns
   pub not_off : AreEngineTurns turns → IsNotCalledOff run turns
   pub going : AreEngineTurns turns → IsStillGoing run turns
@@ -100,14 +101,14 @@ started_run (Some r) start on = (r, refl, started_part r.part r start refl on)
 
 -- Behind a turn that is answered, the same run.
 
-part_left : (part : RunPart) (turns : List MemberTurn) (start : ℕ) (stop_dump : Option (List ℕ)) (t : MemberTurn) → HasAnswer t.answer → NoneOpen turns → IsPartTold part turns start stop_dump → IsPartTold part (t ∷ turns) start stop_dump
-part_left Refused turns start stop_dump t answered none told = (answered, (told.1.0, HasTurnOf-more t told.1.1))
-part_left Started turns start stop_dump t answered none told = (answered, (told.1.0, accepted_more t turns start told.1.0 told.1.1))
-part_left (Stopping time) turns start stop_dump t answered none told = absurd (subst (λ (l : List MemberTurn). NoneOpen l) told.0.latest none)
+part_left : (part : RunPart) (turns : List MemberTurn) (start : ℕ) (dumps : RunDumps) (t : MemberTurn) → HasAnswer t.answer → NoneOpen turns → IsPartTold part turns start dumps → IsPartTold part (t ∷ turns) start dumps
+part_left Refused turns start dumps t answered none told = (answered, (told.1.0, HasTurnOf-more t told.1.1))
+part_left Started turns start dumps t answered none told = (answered, (told.1.0, accepted_more t turns start told.1.0 told.1.1))
+part_left (Stopping time) turns start dumps t answered none told = absurd (subst (λ (l : List MemberTurn). NoneOpen l) told.0.latest none)
 
-run_left : (run : Option LoggedRun) (turns : List MemberTurn) (stop_dump : Option (List ℕ)) (t : MemberTurn) → HasAnswer t.answer → NoneOpen turns → IsRunTold run turns stop_dump → IsRunTold run (t ∷ turns) stop_dump
-run_left None turns stop_dump t answered none told = answered
-run_left (Some r) turns stop_dump t answered none told = part_left r.part turns r.start stop_dump t answered none told
+run_left : (run : Option LoggedRun) (turns : List MemberTurn) (dumps : RunDumps) (t : MemberTurn) → HasAnswer t.answer → NoneOpen turns → IsRunTold run turns dumps → IsRunTold run (t ∷ turns) dumps
+run_left None turns dumps t answered none told = answered
+run_left (Some r) turns dumps t answered none told = part_left r.part turns r.start dumps t answered none told
 
 -- Starts and stops.
 
@@ -130,9 +131,9 @@ not_now t turns u begin are has accepted = elim accepted.is_start.stands as (λ 
 ]
 
 stops_more : (t : MemberTurn) (turns : List MemberTurn) → AreEngineTurns (t ∷ turns)
-    → (t.transition ≡ Stop → (begin : MemberTurn) → IsAcceptedStart (t ∷ turns) t.order.start begin → (answer : Answer) → t.answer ≡ Some answer → (states : List ChannelState) × (answer ≡ Yes (Channels states)))
-    → StopsTellStates turns → StopsTellStates (t ∷ turns)
-stops_more t turns are here before begin stop answer accepted has is told = elim has as (λ w. (states : List ChannelState) × (answer ≡ Yes (Channels states))) [
+    → (t.transition ≡ Stop → (begin : MemberTurn) → IsAcceptedStart (t ∷ turns) t.order.start begin → (answer : Answer) → t.answer ≡ Some answer → (ends : List ChannelEnd) × (answer ≡ Yes (Channels ends)))
+    → StopsTellEnds turns → StopsTellEnds (t ∷ turns)
+stops_more t turns are here before begin stop answer accepted has is told = elim has as (λ w. (ends : List ChannelEnd) × (answer ≡ Yes (Channels ends))) [
   | inl same ↦
       let now : IsAcceptedStart (t ∷ turns) t.order.start begin = subst (λ (n : ℕ). IsAcceptedStart (t ∷ turns) n begin) (sym (ap (λ (v : MemberTurn). v.order.start) same)) accepted in
       here (ap (λ (u : MemberTurn). u.transition) same ∙ is) begin now answer (ap (λ (u : MemberTurn). u.answer) same ∙ told)
@@ -239,22 +240,22 @@ started_of_start (Some r) start off on = (let is : IsInStarted (Some r) start = 
 
 -- A start that finds a run on.
 
-part_in_run : (part : RunPart) (r : LoggedRun) (turns : List MemberTurn) (stop_dump : Option (List ℕ)) → r.part ≡ part → is_run_on (Some (record r { part = part })) ≡ true → NoneOpen turns → IsPartTold part turns r.start stop_dump → IsStillGoing (Some r) turns → HasRunOn turns
-part_in_run Refused r turns stop_dump is on none told going = absurd (cc (on))
-part_in_run Started r turns stop_dump is on none told going = record { start = r.start; begin = told.1.0; is_start = told.1.1; going = going r refl is }
-part_in_run (Stopping time) r turns stop_dump is on none told going = absurd (subst (λ (l : List MemberTurn). NoneOpen l) told.0.latest none)
+part_in_run : (part : RunPart) (r : LoggedRun) (turns : List MemberTurn) (dumps : RunDumps) → r.part ≡ part → is_run_on (Some (record r { part = part })) ≡ true → NoneOpen turns → IsPartTold part turns r.start dumps → IsStillGoing (Some r) turns → HasRunOn turns
+part_in_run Refused r turns dumps is on none told going = absurd (cc (on))
+part_in_run Started r turns dumps is on none told going = record { start = r.start; begin = told.1.0; is_start = told.1.1; going = going r refl is }
+part_in_run (Stopping time) r turns dumps is on none told going = absurd (subst (λ (l : List MemberTurn). NoneOpen l) told.0.latest none)
 
-in_run : (run : Option LoggedRun) (turns : List MemberTurn) (stop_dump : Option (List ℕ)) → is_run_on run ≡ true → NoneOpen turns → IsRunTold run turns stop_dump → IsStillGoing run turns → HasRunOn turns
-in_run None turns stop_dump on none told going = absurd (cc (on))
-in_run (Some r) turns stop_dump on none told going = part_in_run r.part r turns stop_dump refl on none told going
+in_run : (run : Option LoggedRun) (turns : List MemberTurn) (dumps : RunDumps) → is_run_on run ≡ true → NoneOpen turns → IsRunTold run turns dumps → IsStillGoing run turns → HasRunOn turns
+in_run None turns dumps on none told going = absurd (cc (on))
+in_run (Some r) turns dumps on none told going = part_in_run r.part r turns dumps refl on none told going
 
 -- Each turn.
 
 -- a start that is refused
-pub refused_known : (run later : Option LoggedRun) (stop_dump later_dump : Option (List ℕ)) (turns : List MemberTurn) (order : Order) (dump : Option (List ℕ)) (why : Why) → TurnsKnown run stop_dump turns
-    → IsRunTold later (logger_turn Start order dump (Some (No why)) ∷ turns) later_dump → (AreEngineTurns (logger_turn Start order dump (Some (No why)) ∷ turns) → IsNotCalledOff later (logger_turn Start order dump (Some (No why)) ∷ turns))
-    → (AreEngineTurns (logger_turn Start order dump (Some (No why)) ∷ turns) → IsStillGoing later (logger_turn Start order dump (Some (No why)) ∷ turns)) → (AreEngineTurns turns → why ≡ NotReady → HasRunOn turns) → TurnsKnown later later_dump (logger_turn Start order dump (Some (No why)) ∷ turns)
-refused_known run later stop_dump later_dump turns order dump why known told not_off going found =
+pub refused_known : (run later : Option LoggedRun) (dumps later_dumps : RunDumps) (turns : List MemberTurn) (order : Order) (dump : Option (List ℕ)) (why : Why) → TurnsKnown run dumps turns
+    → IsRunTold later (logger_turn Start order dump (Some (No why)) ∷ turns) later_dumps → (AreEngineTurns (logger_turn Start order dump (Some (No why)) ∷ turns) → IsNotCalledOff later (logger_turn Start order dump (Some (No why)) ∷ turns))
+    → (AreEngineTurns (logger_turn Start order dump (Some (No why)) ∷ turns) → IsStillGoing later (logger_turn Start order dump (Some (No why)) ∷ turns)) → (AreEngineTurns turns → why ≡ NotReady → HasRunOn turns) → TurnsKnown later later_dumps (logger_turn Start order dump (Some (No why)) ∷ turns)
+refused_known run later dumps later_dumps turns order dump why known told not_off going found =
     let t : MemberTurn = logger_turn Start order dump (Some (No why)) in
     record {
       starts = starts_more t turns (λ is answer e. let same : No why ≡ answer = cc (e) in subst (λ (a : Answer). IsStartAnswer a) same tt) known.starts;
@@ -272,28 +273,28 @@ refused_known run later stop_dump later_dump turns order dump why known told not
     }
 
 -- a start that is refused at once leaves the run
-pub left_refused : (run : Option LoggedRun) (stop_dump : Option (List ℕ)) (turns : List MemberTurn) (order : Order) (dump : Option (List ℕ)) (why : Why) → NoneOpen turns → is_run_on run ≡ true → TurnsKnown run stop_dump turns
-    → TurnsKnown run stop_dump (logger_turn Start order dump (Some (No why)) ∷ turns)
-left_refused run stop_dump turns order dump why none on known =
+pub left_refused : (run : Option LoggedRun) (dumps : RunDumps) (turns : List MemberTurn) (order : Order) (dump : Option (List ℕ)) (why : Why) → NoneOpen turns → is_run_on run ≡ true → TurnsKnown run dumps turns
+    → TurnsKnown run dumps (logger_turn Start order dump (Some (No why)) ∷ turns)
+left_refused run dumps turns order dump why none on known =
     let t : MemberTurn = logger_turn Start order dump (Some (No why)) in
-    refused_known run run stop_dump stop_dump turns order dump why known (run_left run turns stop_dump t tt none known.told) (λ are. off_more run t turns (λ s. cc (s)) (known.not_off are.1))
-    (λ are. going_more run t turns (λ ends. absurd (ends_none t Start refl (λ e. cc (e)) (λ e. cc (e)) ends)) (known.going are.1)) (λ are is. in_run run turns stop_dump on none known.told (known.going are))
+    refused_known run run dumps dumps turns order dump why known (run_left run turns dumps t tt none known.told) (λ are. off_more run t turns (λ s. cc (s)) (known.not_off are.1))
+    (λ are. going_more run t turns (λ ends. absurd (ends_none t Start refl (λ e. cc (e)) (λ e. cc (e)) ends)) (known.going are.1)) (λ are is. in_run run turns dumps on none known.told (known.going are))
 
-pub start_refused : (run : Option LoggedRun) (stop_dump : Option (List ℕ)) (begun : ℕ) (turns : List MemberTurn) (order : Order) (dump : Option (List ℕ)) (why : Why) → why ≢ NotReady → TurnsKnown run stop_dump turns
-    → TurnsKnown (Some (record { start = order.start; begun = begun; part = Refused })) None (logger_turn Start order dump (Some (No why)) ∷ turns)
-start_refused run stop_dump begun turns order dump why ready known =
+pub start_refused : (run : Option LoggedRun) (dumps : RunDumps) (begun : ℕ) (turns : List MemberTurn) (order : Order) (dump : Option (List ℕ)) (why : Why) → why ≢ NotReady → TurnsKnown run dumps turns
+    → TurnsKnown (Some (record { start = order.start; begun = begun; part = Refused })) no_dumps (logger_turn Start order dump (Some (No why)) ∷ turns)
+start_refused run dumps begun turns order dump why ready known =
     let t : MemberTurn = logger_turn Start order dump (Some (No why)) in
     let r : LoggedRun = record { start = order.start; begun = begun; part = Refused } in
-    refused_known run (Some r) stop_dump None turns order dump why known (tt, (t, record { stands = inl refl; is = refl; of = refl })) (λ are. off_new t turns r refl are refl)
+    refused_known run (Some r) dumps no_dumps turns order dump why known (tt, (t, record { stands = inl refl; is = refl; of = refl })) (λ are. off_new t turns r refl are refl)
     (λ are. going_not r (t ∷ turns) (λ e. cc (e))) (λ are is. absurd (ready is))
 
 -- the start turn itself
 pub start_accepted : (turns : List MemberTurn) (order : Order) (dump : Option (List ℕ)) → IsAcceptedStart (logger_turn Start order dump (Some (Yes Plain)) ∷ turns) order.start (logger_turn Start order dump (Some (Yes Plain)))
 start_accepted turns order dump = record { is_start = record { stands = inl refl; is = refl; of = refl }; accepted = refl }
 
-pub start_known : (run : Option LoggedRun) (stop_dump : Option (List ℕ)) (begun : ℕ) (turns : List MemberTurn) (order : Order) (dump : Option (List ℕ)) → TurnsKnown run stop_dump turns
-    → TurnsKnown (Some (record { start = order.start; begun = begun; part = Started })) None (logger_turn Start order dump (Some (Yes Plain)) ∷ turns)
-start_known run stop_dump begun turns order dump known =
+pub start_known : (run : Option LoggedRun) (dumps : RunDumps) (begun : ℕ) (turns : List MemberTurn) (order : Order) (dump : Option (List ℕ)) → TurnsKnown run dumps turns
+    → TurnsKnown (Some (record { start = order.start; begun = begun; part = Started })) (start_dumps dump (Ok tt)) (logger_turn Start order dump (Some (Yes Plain)) ∷ turns)
+start_known run dumps begun turns order dump known =
     let t : MemberTurn = logger_turn Start order dump (Some (Yes Plain)) in
     record {
       starts = starts_more t turns (λ is answer e. let same : Yes Plain ≡ answer = cc (e) in subst (λ (a : Answer). IsStartAnswer a) same refl) known.starts;
@@ -306,11 +307,11 @@ start_known run stop_dump begun turns order dump known =
     }
 
 -- a stop that waits
-pub stop_known : (r : LoggedRun) (stop_dump : Option (List ℕ)) (turns : List MemberTurn) (order : Order) (dump : Option (List ℕ)) → IsInStarted (Some r) order.start → TurnsKnown (Some r) stop_dump turns
-    → TurnsKnown (Some (record { start = order.start; begun = 0; part = Stopping order.time })) dump (logger_turn Stop order dump None ∷ turns)
-stop_known r stop_dump turns order dump on known =
+pub stop_known : (r : LoggedRun) (dumps : RunDumps) (turns : List MemberTurn) (order : Order) (dump : Option (List ℕ)) → IsInStarted (Some r) order.start → TurnsKnown (Some r) dumps turns
+    → TurnsKnown (Some (record { start = order.start; begun = 0; part = Stopping order.time })) (record dumps { stop = dump }) (logger_turn Stop order dump None ∷ turns)
+stop_known r dumps turns order dump on known =
     let t : MemberTurn = logger_turn Stop order dump None in
-    let told : IsPartTold Started turns r.start stop_dump = subst (λ (p : RunPart). IsPartTold p turns r.start stop_dump) on.1 known.told in
+    let told : IsPartTold Started turns r.start dumps = subst (λ (p : RunPart). IsPartTold p turns r.start dumps) on.1 known.told in
     let accepted : IsAcceptedStart turns order.start told.1.0 = subst (λ (n : ℕ). IsAcceptedStart turns n told.1.0) on.0 told.1.1 in
     record {
       starts = starts_more t turns (λ is. absurd (cc (is))) known.starts;
@@ -325,51 +326,51 @@ stop_known r stop_dump turns order dump on known =
     }
 
 -- a turn that is answered plainly and leaves the run
-pub left_stop : (run : Option LoggedRun) (stop_dump : Option (List ℕ)) (turns : List MemberTurn) (order : Order) (dump : Option (List ℕ)) → NoneOpen turns → is_started run order.start ≡ false → TurnsKnown run stop_dump turns
-    → TurnsKnown run stop_dump (logger_turn Stop order dump (Some (Yes Plain)) ∷ turns)
-left_stop run stop_dump turns order dump none off known =
+pub left_stop : (run : Option LoggedRun) (dumps : RunDumps) (turns : List MemberTurn) (order : Order) (dump : Option (List ℕ)) → NoneOpen turns → is_started run order.start ≡ false → TurnsKnown run dumps turns
+    → TurnsKnown run dumps (logger_turn Stop order dump (Some (Yes Plain)) ∷ turns)
+left_stop run dumps turns order dump none off known =
     let t : MemberTurn = logger_turn Stop order dump (Some (Yes Plain)) in
     record {
       starts = starts_more t turns (λ is. absurd (cc (is))) known.starts;
       stops = λ are. stops_more t turns are
           (λ is begin now answer e. absurd (let on : is_started run order.start ≡ true = stop_in_run run t turns begin (λ s. cc (s)) (known.current are.1) are.0 now in cc (on, off))) (known.stops are.1);
-      told = run_left run turns stop_dump t tt none known.told;
+      told = run_left run turns dumps t tt none known.told;
       current = λ are. current_none run (t ∷ turns) refl;
       not_off = λ are. off_more run t turns (λ s. cc (s)) (known.not_off are.1);
       going = λ are. going_more run t turns (λ ends on. cc (on, off)) (known.going are.1);
       unready = λ are. ((λ e. absurd (cc (e))), known.unready are.1);
     }
 
-pub left_pause : (run : Option LoggedRun) (stop_dump : Option (List ℕ)) (turns : List MemberTurn) (order : Order) (dump : Option (List ℕ)) → NoneOpen turns → TurnsKnown run stop_dump turns → TurnsKnown run stop_dump (logger_turn Pause order dump (Some (Yes Plain)) ∷ turns)
-left_pause run stop_dump turns order dump none known =
+pub left_pause : (run : Option LoggedRun) (dumps : RunDumps) (turns : List MemberTurn) (order : Order) (dump : Option (List ℕ)) → NoneOpen turns → TurnsKnown run dumps turns → TurnsKnown run dumps (logger_turn Pause order dump (Some (Yes Plain)) ∷ turns)
+left_pause run dumps turns order dump none known =
     let t : MemberTurn = logger_turn Pause order dump (Some (Yes Plain)) in
     record {
       starts = starts_more t turns (λ is. absurd (cc (is))) known.starts;
       stops = λ are. stops_more t turns are (λ is. absurd (cc (is))) (known.stops are.1);
-      told = run_left run turns stop_dump t tt none known.told;
+      told = run_left run turns dumps t tt none known.told;
       current = λ are. current_more run t turns (λ s. cc (s)) refl (known.current are.1);
       not_off = λ are. off_more run t turns (λ s. cc (s)) (known.not_off are.1);
       going = λ are. going_more run t turns (λ ends. absurd (ends_none t Pause refl (λ e. cc (e)) (λ e. cc (e)) ends)) (known.going are.1);
       unready = λ are. ((λ e. absurd (cc (e))), known.unready are.1);
     }
 
-pub left_resume : (run : Option LoggedRun) (stop_dump : Option (List ℕ)) (turns : List MemberTurn) (order : Order) (dump : Option (List ℕ)) → NoneOpen turns → TurnsKnown run stop_dump turns → TurnsKnown run stop_dump (logger_turn Resume order dump (Some (Yes Plain)) ∷ turns)
-left_resume run stop_dump turns order dump none known =
+pub left_resume : (run : Option LoggedRun) (dumps : RunDumps) (turns : List MemberTurn) (order : Order) (dump : Option (List ℕ)) → NoneOpen turns → TurnsKnown run dumps turns → TurnsKnown run dumps (logger_turn Resume order dump (Some (Yes Plain)) ∷ turns)
+left_resume run dumps turns order dump none known =
     let t : MemberTurn = logger_turn Resume order dump (Some (Yes Plain)) in
     record {
       starts = starts_more t turns (λ is. absurd (cc (is))) known.starts;
       stops = λ are. stops_more t turns are (λ is. absurd (cc (is))) (known.stops are.1);
-      told = run_left run turns stop_dump t tt none known.told;
+      told = run_left run turns dumps t tt none known.told;
       current = λ are. current_more run t turns (λ s. cc (s)) refl (known.current are.1);
       not_off = λ are. off_more run t turns (λ s. cc (s)) (known.not_off are.1);
       going = λ are. going_more run t turns (λ ends. absurd (ends_none t Resume refl (λ e. cc (e)) (λ e. cc (e)) ends)) (known.going are.1);
       unready = λ are. ((λ e. absurd (cc (e))), known.unready are.1);
     }
 
-abort_known : (run later : Option LoggedRun) (stop_dump later_dump : Option (List ℕ)) (turns : List MemberTurn) (order : Order) (dump : Option (List ℕ)) → TurnsKnown run stop_dump turns → IsRunTold later (logger_turn StartAbort order dump (Some (Yes Plain)) ∷ turns) later_dump
+abort_known : (run later : Option LoggedRun) (dumps later_dumps : RunDumps) (turns : List MemberTurn) (order : Order) (dump : Option (List ℕ)) → TurnsKnown run dumps turns → IsRunTold later (logger_turn StartAbort order dump (Some (Yes Plain)) ∷ turns) later_dumps
     → (AreEngineTurns (logger_turn StartAbort order dump (Some (Yes Plain)) ∷ turns) → IsNotCalledOff later (logger_turn StartAbort order dump (Some (Yes Plain)) ∷ turns))
-    → (AreEngineTurns (logger_turn StartAbort order dump (Some (Yes Plain)) ∷ turns) → IsStillGoing later (logger_turn StartAbort order dump (Some (Yes Plain)) ∷ turns)) → TurnsKnown later later_dump (logger_turn StartAbort order dump (Some (Yes Plain)) ∷ turns)
-abort_known run later stop_dump later_dump turns order dump known told not_off going =
+    → (AreEngineTurns (logger_turn StartAbort order dump (Some (Yes Plain)) ∷ turns) → IsStillGoing later (logger_turn StartAbort order dump (Some (Yes Plain)) ∷ turns)) → TurnsKnown later later_dumps (logger_turn StartAbort order dump (Some (Yes Plain)) ∷ turns)
+abort_known run later dumps later_dumps turns order dump known told not_off going =
     let t : MemberTurn = logger_turn StartAbort order dump (Some (Yes Plain)) in
     record {
       starts = starts_more t turns (λ is. absurd (cc (is))) known.starts;
@@ -381,38 +382,38 @@ abort_known run later stop_dump later_dump turns order dump known told not_off g
       unready = λ are. ((λ e. absurd (cc (e))), known.unready are.1);
     }
 
-pub left_abort : (run : Option LoggedRun) (stop_dump : Option (List ℕ)) (turns : List MemberTurn) (order : Order) (dump : Option (List ℕ)) → NoneOpen turns → is_of_start run order.start ≡ false → TurnsKnown run stop_dump turns
-    → TurnsKnown run stop_dump (logger_turn StartAbort order dump (Some (Yes Plain)) ∷ turns)
-left_abort run stop_dump turns order dump none off known =
+pub left_abort : (run : Option LoggedRun) (dumps : RunDumps) (turns : List MemberTurn) (order : Order) (dump : Option (List ℕ)) → NoneOpen turns → is_of_start run order.start ≡ false → TurnsKnown run dumps turns
+    → TurnsKnown run dumps (logger_turn StartAbort order dump (Some (Yes Plain)) ∷ turns)
+left_abort run dumps turns order dump none off known =
     let t : MemberTurn = logger_turn StartAbort order dump (Some (Yes Plain)) in
-    abort_known run run stop_dump stop_dump turns order dump known (run_left run turns stop_dump t tt none known.told) (λ are. off_other run t turns off (known.not_off are.1))
+    abort_known run run dumps dumps turns order dump known (run_left run turns dumps t tt none known.told) (λ are. off_other run t turns off (known.not_off are.1))
     (λ are. going_more run t turns (λ ends on. started_of_start run order.start off on) (known.going are.1))
 
 -- the run is called off
-pub off_known : (run : Option LoggedRun) (stop_dump : Option (List ℕ)) (turns : List MemberTurn) (order : Order) (dump : Option (List ℕ)) → TurnsKnown run stop_dump turns → TurnsKnown None None (logger_turn StartAbort order dump (Some (Yes Plain)) ∷ turns)
-off_known run stop_dump turns order dump known = abort_known run None stop_dump None turns order dump known tt (λ are. off_none (logger_turn StartAbort order dump (Some (Yes Plain)) ∷ turns))
+pub off_known : (run : Option LoggedRun) (dumps : RunDumps) (turns : List MemberTurn) (order : Order) (dump : Option (List ℕ)) → TurnsKnown run dumps turns → TurnsKnown None no_dumps (logger_turn StartAbort order dump (Some (Yes Plain)) ∷ turns)
+off_known run dumps turns order dump known = abort_known run None dumps no_dumps turns order dump known tt (λ are. off_none (logger_turn StartAbort order dump (Some (Yes Plain)) ∷ turns))
     (λ are. going_none (logger_turn StartAbort order dump (Some (Yes Plain)) ∷ turns))
 
 -- The stop that waited is answered.
 
 -- the turns, once the stop that waits has this answer
-abbrev pub stop_answered : Order → (dump : Option (List ℕ)) → List ChannelState → List MemberTurn → List MemberTurn
-stop_answered order dump states earlier = logger_turn Stop order dump (Some (Yes (Channels states))) ∷ earlier
+abbrev pub stop_answered : Order → (dump : Option (List ℕ)) → List ChannelEnd → List MemberTurn → List MemberTurn
+stop_answered order dump ends earlier = logger_turn Stop order dump (Some (Yes (Channels ends))) ∷ earlier
 
 -- a start among the turns, of which only the answer to the latest stop differs
 pub across : (order : Order) (dump : Option (List ℕ)) (first second : Option Answer) (earlier : List MemberTurn) (start : ℕ) (begin : MemberTurn) → IsAcceptedStart (logger_turn Stop order dump first ∷ earlier) start begin → IsAcceptedStart (logger_turn Stop order dump second ∷ earlier) start begin
 across order dump first second earlier start begin accepted =
     accepted_more (logger_turn Stop order dump second) earlier start begin (accepted_earlier (logger_turn Stop order dump first) earlier start begin (λ s. cc (s)) accepted)
 
-pub finish_known : (run : Option LoggedRun) (stop_dump dump : Option (List ℕ)) (states : List ChannelState) (order : Order) (earlier : List MemberTurn) → TurnsKnown run stop_dump (logger_turn Stop order dump None ∷ earlier) → TurnsKnown None None (stop_answered order dump states earlier)
-finish_known run stop_dump dump states order earlier known =
+pub finish_known : (run : Option LoggedRun) (dumps : RunDumps) (dump : Option (List ℕ)) (ends : List ChannelEnd) (order : Order) (earlier : List MemberTurn) → TurnsKnown run dumps (logger_turn Stop order dump None ∷ earlier) → TurnsKnown None no_dumps (stop_answered order dump ends earlier)
+finish_known run dumps dump ends order earlier known =
     let before : MemberTurn = logger_turn Stop order dump None in
-    let t : MemberTurn = logger_turn Stop order dump (Some (Yes (Channels states))) in
+    let t : MemberTurn = logger_turn Stop order dump (Some (Yes (Channels ends))) in
     record {
       starts = starts_more t earlier (λ is. absurd (cc (is))) (λ start answer has is told. known.starts start answer (inr has) is told);
-      stops = λ are begin stop answer accepted has is told. elim has as (λ w. (s : List ChannelState) × (answer ≡ Yes (Channels s))) [
-        | inl same ↦ (states, let e : Some (Yes (Channels states)) ≡ Some answer = ap (λ (u : MemberTurn). u.answer) same ∙ told in cc (e))
-        | inr old ↦ known.stops are begin stop answer (across order dump (Some (Yes (Channels states))) None earlier stop.order.start begin accepted) (inr old) is told
+      stops = λ are begin stop answer accepted has is told. elim has as (λ w. (e : List ChannelEnd) × (answer ≡ Yes (Channels e))) [
+        | inl same ↦ (ends, let e : Some (Yes (Channels ends)) ≡ Some answer = ap (λ (u : MemberTurn). u.answer) same ∙ told in cc (e))
+        | inr old ↦ known.stops are begin stop answer (across order dump (Some (Yes (Channels ends))) None earlier stop.order.start begin accepted) (inr old) is told
       ];
       told = tt;
       current = λ are. current_none None (t ∷ earlier) refl;

@@ -98,11 +98,11 @@ abort_owned n (Some before) a b there s kept =
     step_owned AbortsChannel n before a b s there (ap (λ (c : Channel). c.spec) s.step.channel) (subst (λ (l : Option ℕ). PortOwned l s.port s.later_port) (sym same) port)
     (none_asks s.after.client s.after.stage (ap (λ (c : Channel). asking_run c.stage) s.step.channel)) kept
 
-pull_owned : (n : ℕ) (answer : Pulled) (slot : Option Channel) (a b : LoggerMoment) → slot_at a.slots n ≡ slot → PullsSlot slot n answer a b → Owned a → Owned b
-pull_owned n answer None a b there pulls kept = owned_as a b pulls.1 kept
-pull_owned n answer (Some before) a b there s kept =
+pull_owned : (dump : List ℕ) (n : ℕ) (answer : Pulled) (slot : Option Channel) (a b : LoggerMoment) → slot_at a.slots n ≡ slot → PullsSlot dump slot n answer a b → Owned a → Owned b
+pull_owned dump n answer None a b there pulls kept = owned_as a b pulls.1 kept
+pull_owned dump n answer (Some before) a b there s kept =
     let own = pulls_owned _ before.event.room before.client s.step.pulls (kept.calls before.spec.buffer s.port s.at_port) (kept.clients n before s.port there s.at_port) (λ opened is. kept.asking n before opened there is) in
-    step_owned (PullsChannel answer) n before a b s there s.step.spec (subst (λ (l : Option ℕ). PortOwned l s.port s.later_port) (sym s.step.client) own.0) (subst (λ (l : Option ℕ). AsksFor l s.after.stage) (sym s.step.client) own.1) kept
+    step_owned (PullsChannel dump answer) n before a b s there s.step.spec (subst (λ (l : Option ℕ). PortOwned l s.port s.later_port) (sym s.step.client) own.0) (subst (λ (l : Option ℕ). AsksFor l s.after.stage) (sym s.step.client) own.1) kept
 
 -- Marks.
 
@@ -221,8 +221,8 @@ turn_kept StartAbort t takes kept = called_off_kept (is_of_start t.run t.order.s
 pub turn_own : (t : LoggerTurn) → TakesTurn t → KeepsLoggerCalls t.before.slots t.before.ports → KeepsLoggerCalls t.after.slots t.after.ports
 turn_own t takes kept = turn_kept t.transition t takes kept
 
-pub pull_own : (n : ℕ) (answer : Pulled) (a b : LoggerMoment) → PullsNumbered n answer a b → KeepsLoggerCalls a.slots a.ports → KeepsLoggerCalls b.slots b.ports
-pull_own n answer a b pulls kept = pull_owned n answer (slot_at a.slots n) a b refl pulls kept
+pub pull_own : (dump : List ℕ) (n : ℕ) (answer : Pulled) (a b : LoggerMoment) → PullsNumbered dump n answer a b → KeepsLoggerCalls a.slots a.ports → KeepsLoggerCalls b.slots b.ports
+pull_own dump n answer a b pulls kept = pull_owned dump n answer (slot_at a.slots n) a b refl pulls kept
 
 -- the end of a file
 end_owned : (time : ℕ) (dump : Option (List ℕ)) (ports : List Access) (n : ℕ) (slot : Option Channel) (a b : EndingMoment) → slot_at a.slots n ≡ slot → EndsSlot time dump n slot a b → KeepsLoggerCalls a.slots ports → KeepsLoggerCalls b.slots ports
@@ -248,8 +248,8 @@ finish_by : (f : LoggerFinish) (ports : List Access) (settled : Bool) (stop : Op
 finish_by f ports settled None leaves kept = subst (λ (l : List (Option Channel)). KeepsLoggerCalls l ports) (sym leaves.slots) kept
 finish_by f ports false (Some time) leaves kept = subst (λ (l : List (Option Channel)). KeepsLoggerCalls l ports) (sym leaves.slots) kept
 finish_by f ports true (Some time) ends kept =
-    turns_keep (λ k. EndsSlotAt time f.stop_dump k) (λ (m : EndingMoment). KeepsLoggerCalls m.slots ports) (length f.slots) _ _
-    (λ k x y step own. end_owned time f.stop_dump ports k (slot_at x.slots k) x y refl step own) ends.ends kept
+    turns_keep (λ k. EndsSlotAt time f.dumps.stop k) (λ (m : EndingMoment). KeepsLoggerCalls m.slots ports) (length f.slots) _ _
+    (λ k x y step own. end_owned time f.dumps.stop ports k (slot_at x.slots k) x y refl step own) ends.ends kept
 
 pub finish_own : (f : LoggerFinish) (ports : List Access) → FinishesLogger f → KeepsLoggerCalls f.slots ports → KeepsLoggerCalls f.later_slots ports
 finish_own f ports finishes kept = finish_by f ports (list_all is_settled_slot f.slots) (waiting_stop f.run) finishes kept

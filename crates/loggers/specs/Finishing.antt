@@ -1,7 +1,7 @@
 -- How a logger ends the files of a run that was stopped, and what it answers then.
 use Rattle.std.specs.Prelude.{◌≡◌, ℕ, Bool, true, false, List, length, replicate, slice_set, Option, Some, None}
 use Rattle.std.specs.List.{list_all}
-use Rattle.daq_types.specs.declared.runs.ChannelState.{ChannelState}
+use Rattle.daq_types.specs.declared.runs.ChannelEnd.{ChannelEnd}
 use Rattle.daq_types.specs.declared.runs.ChannelState.TheVariants.{Idle as IsIdle}
 use Rattle.member_model.specs.RunEngines.{Answer}
 use Rattle.transitions.specs.declared.answers.Answer.TheVariants.{Yes}
@@ -12,9 +12,11 @@ use Rattle.mid_logger.specs.declared.stage.ChannelStage.{ChannelStage}
 use Rattle.mid_logger.specs.declared.stage.ChannelStage.TheVariants.{Drained, Broken}
 use Rattle.loggers.specs.declared.logger.Logger.{Logger}
 use Rattle.loggers.specs.declared.logged_run.LoggedRun.{LoggedRun}
+use Rattle.loggers.specs.declared.logged_run.RunDumps.{RunDumps}
 use Rattle.loggers.specs.declared.logged_run.RunPart.{RunPart}
 use Rattle.loggers.specs.declared.logged_run.RunPart.TheVariants.{Stopping}
 use Rattle.loggers.specs.Moments.{RunFiles, InTurn, channel_limit}
+use Rattle.loggers.specs.Turning.{no_dumps}
 use Rattle.loggers.specs.ChannelSteps.{EndsChannel}
 
 -- the channel's client has read the run, or the channel broke off
@@ -36,22 +38,22 @@ waiting_stop (Some r) = stop_time r.part
     stop_time (Stopping time) = Some time
     stop_time part = None
 
--- The channels, the files, and the states that are told, between two steps of an ending.
+-- The channels, the files, and what is told of the channels, between two steps of an ending.
 pub record EndingMoment : Type 0 where
   pub slots : List (Option Channel)
   pub files : RunFiles
-  pub states : List ChannelState
+  pub told : List ChannelEnd
 
-abbrev pub ending_of : List (Option Channel) → RunFiles → (states : List ChannelState) → EndingMoment
-ending_of slots files states = record { slots = slots; files = files; states = states }
+abbrev pub ending_of : List (Option Channel) → RunFiles → (told : List ChannelEnd) → EndingMoment
+ending_of slots files told = record { slots = slots; files = files; told = told }
 
--- The file of this channel, which has this number, is ended, and its state is told at its number.
+-- The files of this channel, which has this number, are ended, and what became of them is told at its number.
 pub record EndsNumbered (time : ℕ) (dump : Option (List ℕ)) (number : ℕ) (before : Channel) (a b : EndingMoment) : Type 0 where
   pub after : Channel
-  pub state : ChannelState
+  pub told : ChannelEnd
   pub slots : b.slots ≡ slice_set a.slots number (Some after)
-  pub states : b.states ≡ slice_set a.states number state
-  pub ends : EndsChannel time dump state before after a.files b.files
+  pub at : b.told ≡ slice_set a.told number told
+  pub ends : EndsChannel time dump told before after a.files b.files
 
 abbrev pub EndsSlot : (time : ℕ) → (dump : Option (List ℕ)) → (number : ℕ) → Option Channel → (a b : EndingMoment) →
     Type 0
@@ -65,8 +67,8 @@ EndsSlotAt time dump number a b = EndsSlot time dump number (slot_at a.slots num
 pub record LoggerFinish : Type 0 where
   pub run : Option LoggedRun
   pub later_run : Option LoggedRun
-  pub stop_dump : Option (List ℕ)
-  pub later_stop_dump : Option (List ℕ)
+  pub dumps : RunDumps
+  pub later_dumps : RunDumps
   pub slots : List (Option Channel)
   pub later_slots : List (Option Channel)
   pub files : RunFiles
@@ -79,8 +81,8 @@ abbrev pub logger_finished : {F : Type 0} → (read : F → RunFiles) → (befor
 logger_finished read before after files later_files answer = record {
   run = before.run;
   later_run = after.run;
-  stop_dump = before.stop_dump;
-  later_stop_dump = after.stop_dump;
+  dumps = before.dumps;
+  later_dumps = after.dumps;
   slots = before.channels;
   later_slots = after.channels;
   files = read files;
@@ -92,27 +94,31 @@ logger_finished read before after files later_files answer = record {
 pub record LeavesWaiting (f : LoggerFinish) : Type 0 where
   pub answer_is : f.answer ≡ None
   pub run : f.later_run ≡ f.run
-  pub stop_dump : f.later_stop_dump ≡ f.stop_dump
+  pub dumps : f.later_dumps ≡ f.dumps
   pub slots : f.later_slots ≡ f.slots
   pub files : f.later_files ≡ f.files
 
--- the states before the first file is ended
-abbrev pub states_idle : List ChannelState
-states_idle = replicate channel_limit IsIdle
+-- a channel that writes no run
+abbrev pub idle_end : ChannelEnd
+idle_end = record { state = IsIdle; files = 0; framed = 0 }
 
--- The file of each channel, in order of number, is ended at this time with this dump, and its state is told.
+-- what is told before the first channel's files are ended
+abbrev pub ends_idle : List ChannelEnd
+ends_idle = replicate channel_limit idle_end
+
+-- The files of each channel, in order of number, are ended at this time with this dump, and what became of them is told.
 abbrev pub EndsSlots : (time : ℕ) → (dump : Option (List ℕ)) → (a b : EndingMoment) → Type 0
 EndsSlots time dump a b = InTurn (λ number. EndsSlotAt time dump number) (length a.slots) a b
 
--- The file of each channel, in order of number, is ended at the time of the stop with its dump; the answer tells the
--- states.
+-- The files of each channel, in order of number, are ended at the time of the stop with its dump; the answer tells what became of
+-- them.
 pub record EndsFiles (f : LoggerFinish) (time : ℕ) : Type 0 where
-  pub states : List ChannelState
-  pub answer_is : f.answer ≡ Some (Yes (Channels states))
-  pub ends : EndsSlots time f.stop_dump (ending_of f.slots f.files states_idle)
-      (ending_of f.later_slots f.later_files states)
+  pub told : List ChannelEnd
+  pub answer_is : f.answer ≡ Some (Yes (Channels told))
+  pub ends : EndsSlots time f.dumps.stop (ending_of f.slots f.files ends_idle)
+      (ending_of f.later_slots f.later_files told)
   pub run : f.later_run ≡ None
-  pub stop_dump : f.later_stop_dump ≡ None
+  pub dumps : f.later_dumps ≡ no_dumps
 
 abbrev pub FinishesBy : (settled : Bool) → (stop : Option ℕ) → LoggerFinish → Type 0
 FinishesBy settled None f = LeavesWaiting f

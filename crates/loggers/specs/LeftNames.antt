@@ -1,6 +1,6 @@
 -- Which names of run files a logger leaves as they were at first, where no call on the files failed: all but those of the
 -- runs that were stopped, and of the run that it has.
-use Rattle.std.specs.Prelude.{◌≡◌, ◌≢◌, ◌<◌, ℕ, IsTrue, IsSome, List, [], ◌∷◌, Option, Some, None, ⊤, ◌⊎◌}
+use Rattle.std.specs.Prelude.{◌≡◌, ◌≢◌, ◌<◌, ◌≤◌, ℕ, IsTrue, IsSome, List, [], ◌∷◌, length, slice_get, Option, Some, None, ⊤, ◌⊎◌}
 use Rattle.daq_types.specs.declared.runs.Order.{Order}
 use Rattle.daq_types.specs.declared.runs.Transition.TheVariants.{Stop, StartAbort}
 use Rattle.daq_types.specs.declared.runs.Why.TheVariants.{Exists}
@@ -8,16 +8,20 @@ use Rattle.daq_io.specs.Counts.{Rose}
 use Rattle.daq_io.specs.Seen.{Seen, Stored}
 use Rattle.buffer_core.specs.Ports.{Access}
 use Rattle.buffer_core.specs.Slots.{slot_at}
-use Rattle.transitions.specs.declared.answers.Answer.TheVariants.{No}
-use Rattle.member_model.specs.Turns.{MemberTurn, HasTurn, IsAcceptedStart, HasAnswer, latest_answered, AreEngineTurns}
+use Rattle.daq_types.specs.declared.runs.ChannelEnd.{ChannelEnd}
+use Rattle.transitions.specs.declared.answers.Answer.TheVariants.{Yes, No}
+use Rattle.transitions.specs.declared.answers.Tally.TheVariants.{Channels}
+use Rattle.member_model.specs.Turns.{MemberTurn, HasTurn, IsAcceptedStart, latest_answered, AreEngineTurns}
 use Rattle.mid_logger.specs.declared.channel.Channel.{Channel}
 use Rattle.mid_logger.specs.declared.channel_spec.ChannelSpec.{ChannelSpec}
 use Rattle.mid_logger.specs.declared.pulled.Pulled.{Pulled}
 use Rattle.mid_logger.specs.declared.stage.ChannelRun.{ChannelRun}
 use Rattle.mid_logger.specs.Patterns.{file_name_by}
-use Rattle.mid_logger.specs.Channels.{channel_run}
+use Rattle.mid_logger.specs.Channels.{channel_run, files_by as files_made}
+use Rattle.sub_files.specs.Patterns.{piece_name_by}
 use Rattle.loggers.specs.declared.logged_run.LoggedRun.{LoggedRun}
-use Rattle.loggers.specs.Moments.{RunFiles, LoggerMoment, HaveFilesOpen, IsLoggerReady}
+use Rattle.loggers.specs.declared.logged_run.RunDumps.{RunDumps}
+use Rattle.loggers.specs.Moments.{RunFiles, LoggerMoment, HaveFilesOpen, IsLoggerReady, channel_limit}
 use Rattle.loggers.specs.SlotPulls.{PullsNumbered}
 use Rattle.loggers.specs.Turning.{LoggerTurn, TakesTurn, IsIdleOutside}
 use Rattle.loggers.specs.Finishing.{LoggerFinish, FinishesLogger, waiting_stop}
@@ -25,14 +29,16 @@ use Rattle.loggers.specs.LoggerStands.{LoggerStands, logger_turn}
 use Rattle.loggers.specs.OtherFiles.{specs_in}
 use Rattle.loggers.specs.Reasons.{GivesReasons}
 
--- the name is that of the file of the run that one of these channels writes, or broke off
+-- the name is that of a file that one of these channels made in the run that it writes, or broke off
 pub record IsOpenName (slots : List (Option Channel)) (name : List ℕ) : Type 0 where
   pub number : ℕ
   pub channel : Channel
   pub opened : ChannelRun
   pub there : slot_at slots number ≡ Some channel
   pub of : channel_run channel.stage ≡ Some opened
-  pub is : file_name_by channel.spec.pattern opened.run ≡ name
+  pub sub : ℕ
+  pub made : sub < files_made channel.stage
+  pub is : piece_name_by channel.spec.pattern opened.run sub ≡ name
 
 -- Under each name there is what is good there, but for the names of the runs that these channels write, or broke off; and
 -- there it is good that there is no file.
@@ -44,24 +50,29 @@ pub record NamesLeft (Good : (name : List ℕ) → Option Stored → Type 0) (sl
 abbrev pub NoneRose : (old new : RunFiles) → Type 0
 NoneRose old new = Rose old.faults new.faults → ⊥
 
--- the run with this number was started, which was accepted, and stopped, which was answered, in these turns
-pub record IsStoppedRunOf (turns : List MemberTurn) (run : ℕ) : Type 0 where
+-- the run with this number was started, which was accepted, and stopped, and this was told of its channels
+pub record IsStoppedRunOf (turns : List MemberTurn) (run : ℕ) (ends : List ChannelEnd) : Type 0 where
   pub begin : MemberTurn
   pub stop : MemberTurn
   pub is_start : IsAcceptedStart turns stop.order.start begin
   pub number : begin.order.run ≡ run
   pub stands : HasTurn turns stop
   pub is : stop.transition ≡ Stop
-  pub answered : HasAnswer stop.answer
+  pub answered : stop.answer ≡ Some (Yes (Channels ends))
 
--- the name is that of the file of one of these channels in such a run
+-- the name is that of a file of one of these channels in such a run: of a number below how many files were told of the channel
 pub record IsStoppedName (specs : List (Option ChannelSpec)) (turns : List MemberTurn) (name : List ℕ) : Type 0 where
   pub number : ℕ
   pub spec : ChannelSpec
   pub there : slot_at specs number ≡ Some spec
   pub run : ℕ
-  pub stopped : IsStoppedRunOf turns run
-  pub is : file_name_by spec.pattern run ≡ name
+  pub ends : List ChannelEnd
+  pub stopped : IsStoppedRunOf turns run ends
+  pub told : ChannelEnd
+  pub at : slice_get ends number ≡ Some told
+  pub sub : ℕ
+  pub made : sub < told.files
+  pub is : piece_name_by spec.pattern run sub ≡ name
 
 -- what stands under the name is as it was at first; or the name is that of a file of a run that was stopped, and there was no
 -- file of this name at first
@@ -70,7 +81,7 @@ abbrev pub IsNameLeft : List (Option ChannelSpec) → List MemberTurn → (first
 IsNameLeft specs turns first name stored =
     (IsStoppedName specs turns name × (first.at name ≡ None)) ⊎ (stored ≡ first.at name)
 
--- a channel of a lower place gives the name in the same run
+-- a channel of a lower place gives the name to its first file in the same run
 pub record IsGivenBefore (specs : List (Option ChannelSpec)) (place run : ℕ) (name : List ℕ) : Type 0 where
   pub lower : ℕ
   pub spec : ChannelSpec
@@ -78,8 +89,8 @@ pub record IsGivenBefore (specs : List (Option ChannelSpec)) (place run : ℕ) (
   pub there : slot_at specs lower ≡ Some spec
   pub is : file_name_by spec.pattern run ≡ name
 
--- The name that a channel with this number gives in this run is taken behind these turns: a file had it at first, or a run that
--- was stopped has it, or another channel of that run.
+-- The name that a channel with this number gives to its first file in this run is taken behind these turns: a file had it at first,
+-- or a run that was stopped has it, or another channel of that run.
 pub record IsNameTaken (specs : List (Option ChannelSpec)) (turns : List MemberTurn) (first : Seen) (run number : ℕ) : Type 0 where
   pub place : ℕ
   pub spec : ChannelSpec
@@ -113,8 +124,8 @@ TurnsKeepNames = (t : LoggerTurn) → (first : RunFiles) → (turns : List Membe
     KeepsNames t.after.slots first t.after.files (logger_turn t.transition t.order t.dump t.answer ∷ turns)
 
 abbrev pub PullsKeepNames : Type 0
-PullsKeepNames = (number : ℕ) → (answer : Pulled) → (a b : LoggerMoment) → (first : RunFiles) → (turns : List MemberTurn) →
-    PullsNumbered number answer a b → IsLoggerReady a.slots a.ports a.files.seen →
+PullsKeepNames = (dump : List ℕ) → (number : ℕ) → (answer : Pulled) → (a b : LoggerMoment) → (first : RunFiles) →
+    (turns : List MemberTurn) → PullsNumbered dump number answer a b → IsLoggerReady a.slots a.ports a.files.seen →
     KeepsNames a.slots first a.files turns → KeepsNames b.slots first b.files turns
 
 -- The latest of these turns is a stop with this dump that is not answered, and the run that each of these channels writes, or
@@ -133,20 +144,21 @@ HaveStoppedRuns run dump slots turns = (time : ℕ) → waiting_stop run ≡ Som
 
 -- So it is between the logger's calls, and a pull keeps it.
 abbrev pub StandingHasStopped : Type 0
-StandingHasStopped = (run : Option LoggedRun) → (stop_dump : Option (List ℕ)) → (slots : List (Option Channel)) →
+StandingHasStopped = (run : Option LoggedRun) → (dumps : RunDumps) → (slots : List (Option Channel)) →
     (ports : List Access) → (turns : List MemberTurn) → (seen : Seen) →
-    LoggerStands run stop_dump slots ports turns seen → HaveStoppedRuns run stop_dump slots turns
+    LoggerStands run dumps slots ports turns seen → HaveStoppedRuns run dumps.stop slots turns
 
 abbrev pub PullsKeepStopped : Type 0
-PullsKeepStopped = (number : ℕ) → (answer : Pulled) → (a b : LoggerMoment) → (run : Option LoggedRun) →
-    (stop_dump : Option (List ℕ)) → (turns : List MemberTurn) → PullsNumbered number answer a b →
+PullsKeepStopped = (dump : List ℕ) → (number : ℕ) → (answer : Pulled) → (a b : LoggerMoment) → (run : Option LoggedRun) →
+    (stop_dump : Option (List ℕ)) → (turns : List MemberTurn) → PullsNumbered dump number answer a b →
     IsLoggerReady a.slots a.ports a.files.seen → HaveStoppedRuns run stop_dump a.slots turns →
     HaveStoppedRuns run stop_dump b.slots turns
 
--- Then a call to finish keeps the names: the files that it ends are those of a run that was stopped.
+-- Then a call to finish keeps the names: the files that it ends are those of a run that was stopped, and it tells how many these
+-- are, where the channels are no more than are told of.
 abbrev pub FinishesKeepNames : Type 0
 FinishesKeepNames = (f : LoggerFinish) → (first : RunFiles) → (turns : List MemberTurn) → FinishesLogger f →
-    HaveFilesOpen f.slots f.files.seen → HaveStoppedRuns f.run f.stop_dump f.slots turns →
+    length f.slots ≤ channel_limit → HaveFilesOpen f.slots f.files.seen → HaveStoppedRuns f.run f.dumps.stop f.slots turns →
     KeepsNames f.slots first f.files turns →
     KeepsNames f.later_slots first f.later_files (latest_answered turns f.answer)
 
@@ -159,8 +171,8 @@ pub record IsStartedRun (turns : List MemberTurn) (opened : ChannelRun) : Type 0
   pub on : (turn : MemberTurn) → HasTurn turns turn → turn.transition ≡ StartAbort → turn.order.start ≢ opened.start
 
 abbrev pub StandingHasStarted : Type 0
-StandingHasStarted = (run : Option LoggedRun) → (stop_dump : Option (List ℕ)) → (slots : List (Option Channel)) →
+StandingHasStarted = (run : Option LoggedRun) → (dumps : RunDumps) → (slots : List (Option Channel)) →
     (ports : List Access) → (turns : List MemberTurn) → (seen : Seen) →
-    LoggerStands run stop_dump slots ports turns seen → AreEngineTurns turns →
+    LoggerStands run dumps slots ports turns seen → AreEngineTurns turns →
     (number : ℕ) → (channel : Channel) → (opened : ChannelRun) → slot_at slots number ≡ Some channel →
     channel_run channel.stage ≡ Some opened → IsStartedRun turns opened

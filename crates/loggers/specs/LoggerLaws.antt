@@ -17,15 +17,15 @@ use Rattle.loggers.specs.LoggerStands.{logger_turn, LoggerStands}
 -- answer, if no client of it is known to be detached by another.
 abbrev pub StandsAfterTurn : LoggerTurn → Type 0
 StandsAfterTurn t = (turns : List MemberTurn) → NoneOpen turns → NoneTakenBack t.after.ports →
-    LoggerStands t.run t.stop_dump t.before.slots t.before.ports turns t.before.files.seen →
-    LoggerStands t.later_run t.later_stop_dump t.after.slots t.after.ports
+    LoggerStands t.run t.dumps t.before.slots t.before.ports turns t.before.files.seen →
+    LoggerStands t.later_run t.later_dumps t.after.slots t.after.ports
     (logger_turn t.transition t.order t.dump t.answer ∷ turns) t.after.files.seen
 
 -- Where it stood before a call to finish, it stands behind it, with the answer to the stop that waits, if there is one.
 abbrev pub StandsAfterFinish : LoggerFinish → Type 0
 StandsAfterFinish f = (ports : List Access) → (turns : List MemberTurn) →
-    LoggerStands f.run f.stop_dump f.slots ports turns f.files.seen →
-    LoggerStands f.later_run f.later_stop_dump f.later_slots ports (latest_answered turns f.answer) f.later_files.seen
+    LoggerStands f.run f.dumps f.slots ports turns f.files.seen →
+    LoggerStands f.later_run f.later_dumps f.later_slots ports (latest_answered turns f.answer) f.later_files.seen
 
 -- Behind a turn that comes once the latest was answered the logger stands with that turn and its answer, where no
 -- client of it is known to be detached by another.
@@ -35,15 +35,15 @@ TurnsKeep = (t : LoggerTurn) → (turns : List MemberTurn) → TakesTurn t → l
     IsLoggerReady t.after.slots t.after.ports t.after.files.seen →
     IsIdleOutside t.run t.before.slots → IsIdleOutside t.later_run t.after.slots →
     NoneOpen turns → NoneTakenBack t.after.ports →
-    LoggerStands t.run t.stop_dump t.before.slots t.before.ports turns t.before.files.seen →
-    LoggerStands t.later_run t.later_stop_dump t.after.slots t.after.ports
+    LoggerStands t.run t.dumps t.before.slots t.before.ports turns t.before.files.seen →
+    LoggerStands t.later_run t.later_dumps t.after.slots t.after.ports
     (logger_turn t.transition t.order t.dump t.answer ∷ turns) t.after.files.seen
 
 -- Behind a call to finish it stands with the answer to the stop that waits, if there is one.
 abbrev pub FinishesKeep : Type 0
 FinishesKeep = (f : LoggerFinish) → (ports : List Access) → (turns : List MemberTurn) → FinishesLogger f →
-    HaveFilesOpen f.slots f.files.seen → LoggerStands f.run f.stop_dump f.slots ports turns f.files.seen →
-    LoggerStands f.later_run f.later_stop_dump f.later_slots ports (latest_answered turns f.answer) f.later_files.seen
+    HaveFilesOpen f.slots f.files.seen → LoggerStands f.run f.dumps f.slots ports turns f.files.seen →
+    LoggerStands f.later_run f.later_dumps f.later_slots ports (latest_answered turns f.answer) f.later_files.seen
 
 -- Where behind a turn no client of the logger is known to be detached by another, none was known before it.
 abbrev pub TurnsLeaveKnown : Type 0
@@ -51,7 +51,7 @@ TurnsLeaveKnown = (t : LoggerTurn) → TakesTurn t → NoneTakenBack t.after.por
 
 -- The same of a pull.
 abbrev pub PullsLeaveKnown : Type 0
-PullsLeaveKnown = (number : ℕ) → (answer : Pulled) → (a b : LoggerMoment) → PullsNumbered number answer a b →
+PullsLeaveKnown = (dump : List ℕ) → (number : ℕ) → (answer : Pulled) → (a b : LoggerMoment) → PullsNumbered dump number answer a b →
     NoneTakenBack b.ports → NoneTakenBack a.ports
 
 -- A turn, a pull and a call to finish each note the faults of the files.
@@ -60,7 +60,7 @@ TurnsNote = (t : LoggerTurn) → TakesTurn t →
     NotesFaults t.before.slots t.after.slots t.before.files.faults t.after.files.faults
 
 abbrev pub PullsNote : Type 0
-PullsNote = (number : ℕ) → (answer : Pulled) → (a b : LoggerMoment) → PullsNumbered number answer a b →
+PullsNote = (dump : List ℕ) → (number : ℕ) → (answer : Pulled) → (a b : LoggerMoment) → PullsNumbered dump number answer a b →
     NotesFaults a.slots b.slots a.files.faults b.files.faults
 
 abbrev pub FinishesNote : Type 0

@@ -1,7 +1,7 @@
 -- What a logger keeps of its calls on buffers, its turns and the run files, between its calls.
-use Rattle.std.specs.Prelude.{◌≡◌, ◌≢◌, ◌≤◌, ◌<◌, ℕ, IsTrue, List, [], ◌∷◌, length, slice_get, unwrap_or, Option, Some, None, ⊤, ◌⊎◌}
+use Rattle.std.specs.Prelude.{◌≡◌, ◌≢◌, ◌≤◌, ◌<◌, ◌+◌, ℕ, suc, IsTrue, IsSome, List, [], ◌∷◌, length, slice_get, unwrap_or, Option, Some, None, ⊤, ◌⊎◌}
 use Rattle.daq_types.specs.declared.runs.Order.{Order}
-use Rattle.daq_types.specs.declared.runs.ChannelState.{ChannelState}
+use Rattle.daq_types.specs.declared.runs.ChannelEnd.{ChannelEnd}
 use Rattle.daq_types.specs.declared.runs.ChannelState.TheVariants.{Broken as IsBroken}
 use Rattle.daq_types.specs.declared.runs.Transition.{Transition}
 use Rattle.daq_types.specs.declared.runs.Transition.TheVariants.{Start, Stop, StartAbort}
@@ -20,16 +20,18 @@ use Rattle.member_model.specs.OwnCalls.{calls_after}
 use Rattle.member_model.specs.FairCalls.{AreLoneRequests}
 use Rattle.member_model.specs.CutRuns.{MarksEnd, RefusesEnd}
 use Rattle.member_model.specs.EndedRuns.{EndsBegun}
-use Rattle.member_model.specs.LoggerKept.{LoggerChannel, LoggerPort, IsStartAnswer, KeepsLogger}
+use Rattle.member_model.specs.LoggerKept.{LoggerChannel, LoggerPort, AreFramedSo, IsStartAnswer, KeepsLogger}
+use Rattle.sub_files.specs.Cuts.{last_number}
+use Rattle.sub_files.specs.Patterns.{piece_name_by}
 use Rattle.mid_logger.specs.declared.channel.Channel.{Channel}
 use Rattle.mid_logger.specs.declared.stage.BegunRun.{BegunRun}
 use Rattle.mid_logger.specs.declared.stage.ChannelRun.{ChannelRun}
 use Rattle.mid_logger.specs.declared.stage.ChannelStage.{ChannelStage}
 use Rattle.mid_logger.specs.declared.stage.ChannelStage.TheVariants.{Idle, Writing, Draining, Drained, Broken}
-use Rattle.mid_logger.specs.Patterns.{file_name_by}
-use Rattle.mid_logger.specs.Channels.{FileHead, KeepsOwnCalls, ChannelStands, channel_run, written_run}
+use Rattle.mid_logger.specs.Channels.{FileHead, KeepsOwnCalls, ChannelStands, KnowsTaken, channel_run, written_run, files_by as files_made}
 use Rattle.mid_logger.specs.ChannelEnds.{HasLeftRead, state_ended}
 use Rattle.loggers.specs.declared.logged_run.LoggedRun.{LoggedRun}
+use Rattle.loggers.specs.declared.logged_run.RunDumps.{RunDumps}
 use Rattle.loggers.specs.declared.logged_run.RunPart.{RunPart}
 use Rattle.loggers.specs.declared.logged_run.RunPart.TheVariants.{Refused, Started, Stopping}
 use Rattle.loggers.specs.Moments.{HaveNumbersApart, channel_limit}
@@ -50,7 +52,8 @@ logger_turn transition order dump answer = record {
 abbrev pub logger_channel : (absent : ℕ) → Channel → LoggerChannel
 logger_channel absent c = record {
   number = c.spec.number;
-  name = λ run. file_name_by c.spec.pattern run;
+  pattern = c.spec.pattern;
+  limit = c.spec.sub_bytes;
   buffer = c.spec.buffer;
   client = unwrap_or c.client absent;
   id = c.spec.id;
@@ -129,13 +132,19 @@ pub record ChannelKept (IsHeadOf : ChannelRun → FileHead → Type 0) (seen : S
   pub stands : ChannelStands c.spec c.client c.stage head port.own port.got seen
   pub headed : (opened : ChannelRun) → channel_run c.stage ≡ Some opened → IsHeadOf opened head
 
--- Two channels have two clients, where they read one buffer, and files of two names, where names are told, and under
--- two numbers.
+-- Two channels have two clients, where they read one buffer, and files of their own: those that they made have different names, where
+-- names are told, and the last ones are under two numbers.
 pub record SlotsApart (seen : Seen) (c d : Channel) : Type 0 where
   pub clients : c.spec.buffer ≡ d.spec.buffer → (m n : ℕ) → c.client ≡ Some m → d.client ≡ Some n → m ≢ n
   pub names : (r s : ChannelRun) → channel_run c.stage ≡ Some r → channel_run d.stage ≡ Some s → IsTrue seen.tells →
-      file_name_by c.spec.pattern r.run ≢ file_name_by d.spec.pattern s.run
+      (i j : ℕ) → i < files_made c.stage → j < files_made d.stage →
+      piece_name_by c.spec.pattern r.run i ≢ piece_name_by d.spec.pattern s.run j
   pub numbers : HaveNumbersApart (written_run c.stage) (written_run d.stage)
+
+-- the name is not that of a file that a channel made in the run that it has now
+abbrev pub IsNoOpenName : List (Option Channel) → (name : List ℕ) → Type 0
+IsNoOpenName slots name = (n : ℕ) → (d : Channel) → (opened : ChannelRun) → slot_at slots n ≡ Some d →
+    channel_run d.stage ≡ Some opened → (j : ℕ) → j < files_made d.stage → name ≢ piece_name_by d.spec.pattern opened.run j
 
 -- a stop or a start-abort with this number is among these turns
 pub record HasEndTurn (turns : List MemberTurn) (start : ℕ) : Type 0 where
@@ -157,32 +166,42 @@ pub record PortKept (turns : List MemberTurn) (own : List BufferEntry) : Type 0 
   pub told : EachCall (IsEndTold turns) own
   pub once : AreEngineTurns turns → (start m n : ℕ) → MarksEnd own start m → MarksEnd own start n → m ≡ n
 
--- A run of a channel that was stopped, whose state was told: its file has what was read, or a first part of it, and is
--- not that of a run that another channel has now, where names are told.
-pub record LeftRun (turns : List MemberTurn) (slots : List (Option Channel)) (seen : Seen) (c : Channel) (port : Access) (stop : MemberTurn) (state : ChannelState) : Type 0 where
+-- Where the channel found the name of the file behind its last one taken, and names are told, there is a file of that name, and it is
+-- not that of a run that a channel has now.
+pub record TakenStays (slots : List (Option Channel)) (seen : Seen) (name : List ℕ) : Type 0 where
+  pub there : IsSome (seen.at name)
+  pub apart : IsNoOpenName slots name
+
+-- A run of a channel that was stopped, of which this was told: its files have what was read, or a first part of it, and are
+-- not those of a run that another channel has now, where names are told.
+pub record LeftRun (turns : List MemberTurn) (slots : List (Option Channel)) (seen : Seen) (c : Channel) (port : Access) (stop : MemberTurn) (told : ChannelEnd) : Type 0 where
   pub run : BegunRun
   pub head : FileHead
   pub of : run.opened.start ≡ stop.order.start
   pub client : c.client ≡ Some run.opened.client
   pub headed : HasHead turns stop.order.start head
   pub ended : IsEndedSo port.own stop.order.start run.ended
-  pub told : (state ≡ IsBroken) ⊎ (state ≡ state_ended run.ended stop.dump)
-  pub left : HasLeftRead state c.spec head run stop.order.time stop.dump port.own port.got seen
-  pub apart : (n : ℕ) → (d : Channel) → (opened : ChannelRun) → slot_at slots n ≡ Some d →
-      channel_run d.stage ≡ Some opened →
-      IsTrue seen.tells → file_name_by c.spec.pattern run.opened.run ≢ file_name_by d.spec.pattern opened.run
+  pub state : (told.state ≡ IsBroken) ⊎ (told.state ≡ state_ended run.ended stop.dump)
+  pub framed : AreFramedSo told.state told.files told.framed
+  pub few : told.files ≤ suc last_number
+  pub left : HasLeftRead told c.spec head run stop.order.time stop.dump port.own port.got seen
+  pub apart : IsTrue seen.tells → (i : ℕ) → i < told.files → IsNoOpenName slots (piece_name_by c.spec.pattern run.opened.run i)
+  pub last : told.state ≢ IsBroken → told.files ≡ run.opened.at.sub + 1
 
--- the stop turn was answered, and these states were told
-pub record TellsStates (turns : List MemberTurn) (stop : MemberTurn) (states : List ChannelState) : Type 0 where
+-- the stop turn was answered, and this was told of the channels
+pub record TellsEnds (turns : List MemberTurn) (stop : MemberTurn) (ends : List ChannelEnd) : Type 0 where
   pub stands : HasTurn turns stop
   pub is : stop.transition ≡ Stop
-  pub answered : stop.answer ≡ Some (Yes (Channels states))
+  pub answered : stop.answer ≡ Some (Yes (Channels ends))
 
--- What stands of a channel at a stop that was answered: its state was told, and its run was left so.
-pub record ToldSo (turns : List MemberTurn) (slots : List (Option Channel)) (seen : Seen) (number : ℕ) (c : Channel) (port : Access) (stop : MemberTurn) (states : List ChannelState) : Type 0 where
-  pub state : ChannelState
-  pub told : slice_get states number ≡ Some state
-  pub left : LeftRun turns slots seen c port stop state
+-- What stands of a channel at a stop that was answered: this was told of it, and its run was left so; and the name that it found
+-- taken, if it did, is still that of a file.
+pub record ToldSo (turns : List MemberTurn) (slots : List (Option Channel)) (seen : Seen) (number : ℕ) (c : Channel) (port : Access) (stop : MemberTurn) (ends : List ChannelEnd) : Type 0 where
+  pub told : ChannelEnd
+  pub at : slice_get ends number ≡ Some told
+  pub left : LeftRun turns slots seen c port stop told
+  pub taken : IsTrue seen.tells → IsTrue left.run.opened.at.taken →
+      TakenStays slots seen (piece_name_by c.spec.pattern left.run.opened.run (left.run.opened.at.sub + 1))
 
 -- What the channels and the ports keep, whatever run the logger has.
 pub record SlotsStand (IsHeadOf : ChannelRun → FileHead → Type 0) (turns : List MemberTurn) (slots : List (Option Channel)) (ports : List Access) (seen : Seen) : Type 0 where
@@ -194,9 +213,9 @@ pub record SlotsStand (IsHeadOf : ChannelRun → FileHead → Type 0) (turns : L
   pub apart : (n m : ℕ) → (c d : Channel) → n ≢ m → slot_at slots n ≡ Some c → slot_at slots m ≡ Some d →
       SlotsApart seen c d
   pub calls : (buffer : ℕ) → (a : Access) → slice_get ports buffer ≡ Some a → PortKept turns a.own
-  pub left : AreEngineTurns turns → (stop : MemberTurn) → (states : List ChannelState) → TellsStates turns stop states →
+  pub left : AreEngineTurns turns → (stop : MemberTurn) → (ends : List ChannelEnd) → TellsEnds turns stop ends →
       (n : ℕ) → (c : Channel) → (a : Access) → slot_at slots n ≡ Some c → slice_get ports c.spec.buffer ≡ Some a →
-      ToldSo turns slots seen n c a stop states
+      ToldSo turns slots seen n c a stop ends
 
 -- the latest turn is a stop of this run, at this time and with this dump, that is not answered
 pub record IsStopWaiting (turns : List MemberTurn) (start time : ℕ) (dump : Option (List ℕ)) : Type 0 where
@@ -210,15 +229,15 @@ abbrev pub HasAcceptedStart : List MemberTurn → (start : ℕ) → Type 0
 HasAcceptedStart turns start = (begin : MemberTurn) × IsAcceptedStart turns start begin
 
 -- the run that the logger has, by its turns
-abbrev pub IsPartTold : RunPart → List MemberTurn → (start : ℕ) → (stop_dump : Option (List ℕ)) → Type 0
-IsPartTold Refused turns start stop_dump = NoneOpen turns × HasStart turns start
-IsPartTold Started turns start stop_dump = NoneOpen turns × HasAcceptedStart turns start
-IsPartTold (Stopping time) turns start stop_dump =
-    IsStopWaiting turns start time stop_dump × HasAcceptedStart turns start
+abbrev pub IsPartTold : RunPart → List MemberTurn → (start : ℕ) → (dumps : RunDumps) → Type 0
+IsPartTold Refused turns start dumps = NoneOpen turns × HasStart turns start
+IsPartTold Started turns start dumps = NoneOpen turns × HasAcceptedStart turns start
+IsPartTold (Stopping time) turns start dumps =
+    IsStopWaiting turns start time dumps.stop × HasAcceptedStart turns start
 
-abbrev pub IsRunTold : Option LoggedRun → List MemberTurn → (stop_dump : Option (List ℕ)) → Type 0
-IsRunTold None turns stop_dump = NoneOpen turns
-IsRunTold (Some r) turns stop_dump = IsPartTold r.part turns r.start stop_dump
+abbrev pub IsRunTold : Option LoggedRun → List MemberTurn → (dumps : RunDumps) → Type 0
+IsRunTold None turns dumps = NoneOpen turns
+IsRunTold (Some r) turns dumps = IsPartTold r.part turns r.start dumps
 
 abbrev pub IsInStarted : Option LoggedRun → (start : ℕ) → Type 0
 IsInStarted None start = ⊥
@@ -250,40 +269,42 @@ abbrev pub AreUnreadyInRuns : List MemberTurn → Type 0
 AreUnreadyInRuns [] = ⊤
 AreUnreadyInRuns (t ∷ ts) = (t.answer ≡ Some (No NotReady) → HasRunOn ts) × AreUnreadyInRuns ts
 
--- each answered stop of a run whose start was accepted told states
-abbrev pub StopsTellStates : List MemberTurn → Type 0
-StopsTellStates turns = (begin stop : MemberTurn) → (answer : Answer) → IsAcceptedStart turns stop.order.start begin →
+-- each answered stop of a run whose start was accepted told of channels
+abbrev pub StopsTellEnds : List MemberTurn → Type 0
+StopsTellEnds turns = (begin stop : MemberTurn) → (answer : Answer) → IsAcceptedStart turns stop.order.start begin →
     HasTurn turns stop →
-    stop.transition ≡ Stop → stop.answer ≡ Some answer → (states : List ChannelState) × (answer ≡ Yes (Channels states))
+    stop.transition ≡ Stop → stop.answer ≡ Some answer → (ends : List ChannelEnd) × (answer ≡ Yes (Channels ends))
 
--- the head of a run's file is that of its accepted start
-abbrev pub IsHeadTold : List MemberTurn → ChannelRun → FileHead → Type 0
-IsHeadTold turns opened head = HasHead turns opened.start head
+-- the head of a run's files is that of its accepted start, and has the dump that the logger keeps of it
+pub record IsHeadTold (turns : List MemberTurn) (dumps : RunDumps) (opened : ChannelRun) (head : FileHead) : Type 0 where
+  pub has : HasHead turns opened.start head
+  pub kept : head.dump ≡ unwrap_or dumps.start []
 
 -- What the logger keeps between its calls, with its ports, its turns and the run files.
-pub record LoggerHolds (run : Option LoggedRun) (stop_dump : Option (List ℕ)) (slots : List (Option Channel)) (ports : List Access) (turns : List MemberTurn) (seen : Seen) : Type 0 where
-  pub standing : SlotsStand (IsHeadTold turns) turns slots ports seen
+pub record LoggerHolds (run : Option LoggedRun) (dumps : RunDumps) (slots : List (Option Channel)) (ports : List Access) (turns : List MemberTurn) (seen : Seen) : Type 0 where
+  pub standing : SlotsStand (IsHeadTold turns dumps) turns slots ports seen
+  pub taken : (n : ℕ) → (c : Channel) → slot_at slots n ≡ Some c → KnowsTaken seen c.spec c.stage
   pub served : (n : ℕ) → (c : Channel) → slot_at slots n ≡ Some c → c.spec.buffer < length ports
   pub stages : (n : ℕ) → (c : Channel) → (a : Access) → slot_at slots n ≡ Some c →
       slice_get ports c.spec.buffer ≡ Some a →
       IsStageOf run turns a.own c.stage
   pub starts : (start : MemberTurn) → (answer : Answer) → HasTurn turns start → start.transition ≡ Start →
       start.answer ≡ Some answer → IsStartAnswer answer
-  pub stops : AreEngineTurns turns → StopsTellStates turns
-  pub told : IsRunTold run turns stop_dump
+  pub stops : AreEngineTurns turns → StopsTellEnds turns
+  pub told : IsRunTold run turns dumps
   pub current : AreEngineTurns turns → HasCurrentRun run turns
   pub not_off : AreEngineTurns turns → IsNotCalledOff run turns
   pub going : AreEngineTurns turns → IsStillGoing run turns
   pub unready : AreEngineTurns turns → AreUnreadyInRuns turns
 
 -- A logger between its calls: it keeps all that, and gives no buffer a cause to refuse a call of it.
-pub record LoggerStands (run : Option LoggedRun) (stop_dump : Option (List ℕ)) (slots : List (Option Channel)) (ports : List Access) (turns : List MemberTurn) (seen : Seen) : Type 0 where
-  pub holds : LoggerHolds run stop_dump slots ports turns seen
+pub record LoggerStands (run : Option LoggedRun) (dumps : RunDumps) (slots : List (Option Channel)) (ports : List Access) (turns : List MemberTurn) (seen : Seen) : Type 0 where
+  pub holds : LoggerHolds run dumps slots ports turns seen
   pub asks : AsksFairly run slots ports turns
 
 -- It keeps the logger's contract, whatever numbers stand for clients that are not attached yet.
 abbrev pub StandingLoggerKeeps : Type 0
-StandingLoggerKeeps = (run : Option LoggedRun) → (stop_dump : Option (List ℕ)) → (slots : List (Option Channel)) →
+StandingLoggerKeeps = (run : Option LoggedRun) → (dumps : RunDumps) → (slots : List (Option Channel)) →
     (ports : List Access) →
-    (turns : List MemberTurn) → (seen : Seen) → (absent : ℕ → ℕ) → LoggerStands run stop_dump slots ports turns seen →
+    (turns : List MemberTurn) → (seen : Seen) → (absent : ℕ → ℕ) → LoggerStands run dumps slots ports turns seen →
     KeepsLogger (logger_channels absent slots) (logger_ports ports) turns seen

@@ -9,7 +9,8 @@ use Rattle.mid_logger.specs.declared.channel.Channel.{Channel}
 use Rattle.mid_logger.specs.declared.stage.ChannelRun.{ChannelRun}
 use Rattle.mid_logger.specs.declared.stage.ChannelStage.{ChannelStage}
 use Rattle.mid_logger.specs.declared.stage.ChannelStage.TheVariants.{Idle}
-use Rattle.mid_logger.specs.Channels.{IsOpenFile, written_run}
+use Rattle.sub_files.specs.Cuts.{last_number}
+use Rattle.mid_logger.specs.Channels.{IsLastOpen, written_run, files_by as files_made}
 
 -- The run files: what is told of them, the counts of faults and of clashes, and the name of the first fault.
 pub record RunFiles : Type 0 where
@@ -115,17 +116,17 @@ AreIdleChannels slots = (n : ℕ) → (c : Channel) → slot_at slots n ≡ Some
 abbrev pub HaveNumbersApart : (written other : Option ChannelRun) → Type 0
 HaveNumbersApart written other = (r s : ChannelRun) → written ≡ Some r → other ≡ Some s → r.at.file ≢ s.at.file
 
--- The file that each channel writes, if it does, is in use for writing, under its name and a number of its own.
+-- The last file that each channel writes, if it does, is in use for writing, under its name and a number of its own.
 pub record HaveFilesOpen (slots : List (Option Channel)) (seen : Seen) : Type 0 where
-  pub files : (n : ℕ) → (c : Channel) → slot_at slots n ≡ Some c → IsOpenFile seen c.spec (written_run c.stage)
+  pub files : (n : ℕ) → (c : Channel) → slot_at slots n ≡ Some c → IsLastOpen seen c.spec (written_run c.stage)
   pub numbers : (n m : ℕ) → (c d : Channel) → n ≢ m → slot_at slots n ≡ Some c → slot_at slots m ≡ Some d →
       HaveNumbersApart (written_run c.stage) (written_run d.stage)
 
--- The channels are not too many, none has a limit for its files, there is a port to the buffer of each, and their files are
--- open.
+-- The channels are not too many, none has made more files of its run than there may be, there is a port to the buffer of each, and
+-- their last files are open.
 pub record IsLoggerReady (slots : List (Option Channel)) (ports : List Access) (seen : Seen) : Type 0 where
   pub many : length slots ≤ channel_limit
-  pub unlimited : (n : ℕ) → (c : Channel) → slot_at slots n ≡ Some c → c.sub_bytes ≡ 0
+  pub few : (n : ℕ) → (c : Channel) → slot_at slots n ≡ Some c → files_made c.stage ≤ suc last_number
   pub served : (n : ℕ) → (c : Channel) → slot_at slots n ≡ Some c → c.spec.buffer < length ports
   pub files : HaveFilesOpen slots seen
 

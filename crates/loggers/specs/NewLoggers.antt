@@ -15,9 +15,9 @@ pub record HaveNumbers (specs : List ChannelSpec) : Type 0 where
   pub differ : (i j : ℕ) → (s t : ChannelSpec) → slice_get specs i ≡ Some s → slice_get specs j ≡ Some t → i ≢ j →
       s.number ≢ t.number
 
--- a channel that has no client and writes no run, with no limit for its files and room for an event of so many bytes
+-- a channel that has no client and writes no run, with room for an event of so many bytes
 abbrev pub new_channel : ChannelSpec → (room : ℕ) → Channel
-new_channel spec room = record { spec = spec; sub_bytes = 0; client = None; stage = Idle; failed = false; event = empty_buf room }
+new_channel spec room = record { spec = spec; client = None; stage = Idle; failed = false; event = empty_buf room }
 
 -- this channel is that of the spec and the room at this place of their lists
 pub record IsNewChannel (specs : List ChannelSpec) (rooms : List ℕ) (place : ℕ) (c : Channel) : Type 0 where

@@ -9,7 +9,8 @@ use Rattle.mid_logger.specs.declared.channel.Channel.{Channel}
 use Rattle.mid_logger.specs.declared.channel_spec.ChannelSpec.{ChannelSpec}
 use Rattle.mid_logger.specs.declared.pulled.Pulled.{Pulled}
 use Rattle.mid_logger.specs.declared.stage.ChannelRun.{ChannelRun}
-use Rattle.mid_logger.specs.Patterns.{file_name_by}
+use Rattle.sub_files.specs.Cuts.{last_number}
+use Rattle.sub_files.specs.Patterns.{piece_name_by}
 use Rattle.mid_logger.specs.Channels.{channel_run}
 use Rattle.loggers.specs.Moments.{LoggerMoment, HaveFilesOpen, IsLoggerReady, channel_limit}
 use Rattle.loggers.specs.SlotPulls.{PullsNumbered}
@@ -27,14 +28,16 @@ pub record AreDeclared (declared : List ChannelSpec) (slots : List (Option Chann
       Contains declared spec × (spec.number ≡ number)
   pub all : (spec : ChannelSpec) → Contains declared spec → slot_at (specs_in slots) spec.number ≡ Some spec
 
--- the name is that of the file of one of these channels in one of these runs
+-- the name is one that one of these channels gives to a file, of whatever number, in one of these runs
 pub record IsRunName (specs : List (Option ChannelSpec)) (runs : List ℕ) (name : List ℕ) : Type 0 where
   pub number : ℕ
   pub spec : ChannelSpec
   pub there : slot_at specs number ≡ Some spec
   pub run : ℕ
   pub among : Contains runs run
-  pub is : file_name_by spec.pattern run ≡ name
+  pub sub : ℕ
+  pub few : sub ≤ last_number
+  pub is : piece_name_by spec.pattern run sub ≡ name
 
 -- the run that a channel writes, or broke off, is one of these
 abbrev pub HaveRunsAmong : (runs : List ℕ) → List (Option Channel) → Type 0
@@ -52,16 +55,17 @@ pub record LeavesOtherFiles (runs : List ℕ) (slots later : List (Option Channe
   pub held : HaveRunsAmong runs later
   pub files : KeepsOtherFiles (specs_in slots) runs old new
 
--- So it is with a turn, where the run is among these that it starts, if it is a start.
+-- So it is with a turn of a logger that is ready, where the run is among these that it starts, if it is a start.
 abbrev pub TurnsLeaveFiles : Type 0
-TurnsLeaveFiles = (runs : List ℕ) → (t : LoggerTurn) → TakesTurn t → HaveRunsAmong runs t.before.slots →
+TurnsLeaveFiles = (runs : List ℕ) → (t : LoggerTurn) → TakesTurn t →
+    IsLoggerReady t.before.slots t.before.ports t.before.files.seen → HaveRunsAmong runs t.before.slots →
     (t.transition ≡ Start → Contains runs t.order.run) →
     LeavesOtherFiles runs t.before.slots t.after.slots t.before.files.seen t.after.files.seen
 
 -- So it is with a pull, behind which the logger is ready as before;
 abbrev pub PullsLeaveFiles : Type 0
-PullsLeaveFiles = (runs : List ℕ) → (number : ℕ) → (answer : Pulled) → (a b : LoggerMoment) →
-    PullsNumbered number answer a b → IsLoggerReady a.slots a.ports a.files.seen → HaveRunsAmong runs a.slots →
+PullsLeaveFiles = (runs : List ℕ) → (dump : List ℕ) → (number : ℕ) → (answer : Pulled) → (a b : LoggerMoment) →
+    PullsNumbered dump number answer a b → IsLoggerReady a.slots a.ports a.files.seen → HaveRunsAmong runs a.slots →
     LeavesOtherFiles runs a.slots b.slots a.files.seen b.files.seen × IsLoggerReady b.slots b.ports b.files.seen
 
 -- and with a call to finish.

@@ -2,7 +2,7 @@
 -- moment before by at least what the logger told, and only where it told of it; and by its calls on the buffers that were
 -- refused.
 use Rattle.std.specs.Prelude.{◌≡◌, ◌≤◌, ◌+◌, ℕ, List, [], ◌∷◌, length, slice_get, Contains, Option, Some, None, ⊤}
-use Rattle.daq_types.specs.declared.runs.ChannelState.{ChannelState}
+use Rattle.daq_types.specs.declared.runs.ChannelEnd.{ChannelEnd}
 use Rattle.daq_types.specs.declared.runs.ChannelState.TheVariants.{Broken as IsBroken}
 use Rattle.daq_types.specs.declared.runs.Transition.{Transition}
 use Rattle.daq_types.specs.declared.runs.Transition.TheVariants.{Start, Stop}
@@ -37,13 +37,14 @@ IsReasonSo (Fault channel) old new = Rose old.faults new.faults
 IsReasonSo BufferRefused old new = ⊤
 
 -- where one of these channels is told to have broken off, a fault was counted
-abbrev pub AreStatesSo : List ChannelState → (old new : RunFiles) → Type 0
-AreStatesSo states old new = (number : ℕ) → slice_get states number ≡ Some IsBroken → Rose old.faults new.faults
+abbrev pub AreEndsSo : List ChannelEnd → (old new : RunFiles) → Type 0
+AreEndsSo ends old new = (number : ℕ) → (told : ChannelEnd) → slice_get ends number ≡ Some told → told.state ≡ IsBroken →
+    Rose old.faults new.faults
 
 -- Between these two moments of the run files a turn may be answered so.
 abbrev pub IsAnswerSo : Answer → (old new : RunFiles) → Type 0
 IsAnswerSo (No why) old new = IsReasonSo why old new
-IsAnswerSo (Yes (Channels states)) old new = AreStatesSo states old new
+IsAnswerSo (Yes (Channels ends)) old new = AreEndsSo ends old new
 IsAnswerSo (Yes tally) old new = ⊤
 
 -- each of these turns that was answered was answered so
@@ -63,25 +64,30 @@ IsStartSo (No why) before behind = IsReasonSo why before behind
 IsStartSo (Yes Plain) before behind = (behind.faults ≡ before.faults) × (behind.clashes ≡ before.clashes)
 IsStartSo (Yes tally) before behind = ⊤
 
--- Between these two moments of the run files neither of their counts fell, and no clash was counted.
-pub record NoneClashed (old new : RunFiles) : Type 0 where
-  pub fell : NoneFell old new
-  pub clashes : new.clashes ≡ old.clashes
+-- none of these channels has a limit for its files
+abbrev pub HaveNoLimit : List (Option ChannelSpec) → Type 0
+HaveNoLimit specs = (place : ℕ) → (spec : ChannelSpec) → slot_at specs place ≡ Some spec → spec.sub_bytes ≡ 0
 
--- The turn may have stood between these two moments of the run files, and this may be a later one: a clash was counted in the
--- turn only where a start was refused for a name, and none behind it.
-pub record IsTurnSo (t : MemberTurn) (before behind now : RunFiles) : Type 0 where
+-- Between these two moments of the run files neither of their counts fell, and no clash was counted, unless a channel has a limit,
+-- which may find the name of its next file taken.
+pub record NoneClashed (specs : List (Option ChannelSpec)) (old new : RunFiles) : Type 0 where
+  pub fell : NoneFell old new
+  pub clashes : HaveNoLimit specs → new.clashes ≡ old.clashes
+
+-- The turn of a logger with these channels may have stood between these two moments of the run files, and this may be a later one: a
+-- clash was counted in the turn only where a start was refused for a name, and none behind it, but for a next file's name.
+pub record IsTurnSo (specs : List (Option ChannelSpec)) (t : MemberTurn) (before behind now : RunFiles) : Type 0 where
   pub start : t.transition ≡ Start → (answer : Answer) → t.answer ≡ Some answer → IsStartSo answer before behind
   pub within : NoneFell before behind
   pub clashes : count_in_answer clashes_of_answer t.answer ≡ 0 → behind.clashes ≡ before.clashes
-  pub since : NoneClashed behind now
+  pub since : NoneClashed specs behind now
 
 -- There are moments of the run files, one after another from the first of these to the other, between which the turns may have
 -- stood in order. The latest turn stands first.
-abbrev pub AreTurnsSo : List MemberTurn → (first now : RunFiles) → Type 0
-AreTurnsSo [] first now = NoneClashed first now
-AreTurnsSo (t ∷ ts) first now =
-    (before : RunFiles) × ((behind : RunFiles) × (AreTurnsSo ts first before × IsTurnSo t before behind now))
+abbrev pub AreTurnsSo : List (Option ChannelSpec) → List MemberTurn → (first now : RunFiles) → Type 0
+AreTurnsSo specs [] first now = NoneClashed specs first now
+AreTurnsSo specs (t ∷ ts) first now =
+    (before : RunFiles) × ((behind : RunFiles) × (AreTurnsSo specs ts first before × IsTurnSo specs t before behind now))
 
 -- a call to attach a client, to make a request or to begin a run was refused on one of these ports
 pub record HasRefusedAsk (ports : List Access) : Type 0 where
@@ -103,7 +109,7 @@ pub record IsChannelNumber (specs : List (Option ChannelSpec)) (number : ℕ) : 
 abbrev pub IsAnswerAt : Transition → Option Answer → Type 0
 IsAnswerAt transition None = transition ≡ Stop
 IsAnswerAt transition (Some (No why)) = transition ≡ Start
-IsAnswerAt transition (Some (Yes (Channels states))) = transition ≡ Stop
+IsAnswerAt transition (Some (Yes (Channels ends))) = transition ≡ Stop
 IsAnswerAt transition (Some (Yes tally)) = ⊤
 
 -- a refusal for a file names one of these channels
@@ -115,8 +121,9 @@ NamesRefuser why specs = ⊤
 -- A channel that an answer names is one of these, whether a start was refused for its file, or it broke off.
 abbrev pub NamesChannels : Option Answer → (specs : List (Option ChannelSpec)) → Type 0
 NamesChannels (Some (No why)) specs = NamesRefuser why specs
-NamesChannels (Some (Yes (Channels states))) specs =
-    (place : ℕ) → slice_get states place ≡ Some IsBroken → (spec : ChannelSpec) × (slot_at specs place ≡ Some spec)
+NamesChannels (Some (Yes (Channels ends))) specs =
+    (place : ℕ) → (told : ChannelEnd) → slice_get ends place ≡ Some told → told.state ≡ IsBroken →
+    (spec : ChannelSpec) × (slot_at specs place ≡ Some spec)
 NamesChannels answer specs = ⊤
 
 -- The answer is one to such a turn, of a logger with these channels.
@@ -127,13 +134,13 @@ pub record AnswerFits (specs : List (Option ChannelSpec)) (transition : Transiti
 -- A logger with these channels, ports and turns, whose run files were so at first, and are so now. There was a fault for each
 -- channel that it told to have broken off, for each that broke off and is not told yet, and for each start that it refused for
 -- one; and a clash for each start that it refused for a name. And no fault was counted where there is none of these, and no turn
--- undid what was opened; nor was a clash but in turns that were refused for a name. Each answer fits its turn; the channels are
--- no more than are told of. And a start was refused for a buffer only where that refused a call.
+-- undid what was opened; nor was a clash but in turns that were refused for a name, or for the name of a next file. Each answer fits
+-- its turn; the channels are no more than are told of. And a start was refused for a buffer only where that refused a call.
 pub record GivesReasons (slots : List (Option Channel)) (ports : List Access) (first now : RunFiles) (turns : List MemberTurn) : Type 0 where
   pub faults : RoseBy (faults_told turns + broken_off slots) first.faults now.faults
   pub clashes : RoseBy (clashes_told turns) first.clashes now.clashes
   pub no_fault : faults_told turns + starts_undone turns + broken_off slots ≡ 0 → now.faults ≡ first.faults
-  pub in_turns : AreTurnsSo turns first now
+  pub in_turns : AreTurnsSo (specs_in slots) turns first now
   pub fits : (t : MemberTurn) → HasTurn turns t → AnswerFits (specs_in slots) t.transition t.answer
   pub few : length slots ≤ channel_limit
   pub buffers : (t : MemberTurn) → HasTurn turns t → t.answer ≡ Some (No BufferRefused) → HasRefusedAsk ports
@@ -143,10 +150,11 @@ abbrev pub ReasonsTell : Type 0
 ReasonsTell = (slots : List (Option Channel)) → (ports : List Access) → (first now : RunFiles) →
     (turns : List MemberTurn) → GivesReasons slots ports first now turns → AreAnswersSo turns first now
 
--- So no clash was counted where the turns tell of none.
+-- So no clash was counted where the turns tell of none, and no channel has a limit.
 abbrev pub ClashesAreTold : Type 0
 ClashesAreTold = (slots : List (Option Channel)) → (ports : List Access) → (first now : RunFiles) →
-    (turns : List MemberTurn) → GivesReasons slots ports first now turns → clashes_told turns ≡ 0 → now.clashes ≡ first.clashes
+    (turns : List MemberTurn) → GivesReasons slots ports first now turns → HaveNoLimit (specs_in slots) →
+    clashes_told turns ≡ 0 → now.clashes ≡ first.clashes
 
 -- the latest of these turns is not answered
 abbrev pub IsLatestOpen : List MemberTurn → Type 0
@@ -160,8 +168,8 @@ TurnsGiveReasons = (t : LoggerTurn) → (first : RunFiles) → (turns : List Mem
     GivesReasons t.after.slots t.after.ports first t.after.files (logger_turn t.transition t.order t.dump t.answer ∷ turns)
 
 abbrev pub PullsGiveReasons : Type 0
-PullsGiveReasons = (number : ℕ) → (answer : Pulled) → (a b : LoggerMoment) → (first : RunFiles) → (turns : List MemberTurn) →
-    PullsNumbered number answer a b →
+PullsGiveReasons = (dump : List ℕ) → (number : ℕ) → (answer : Pulled) → (a b : LoggerMoment) → (first : RunFiles) →
+    (turns : List MemberTurn) → PullsNumbered dump number answer a b →
     GivesReasons a.slots a.ports first a.files turns → GivesReasons b.slots b.ports first b.files turns
 
 abbrev pub FinishesGiveReasons : Type 0

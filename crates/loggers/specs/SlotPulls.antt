@@ -15,10 +15,11 @@ HasEventRoom number slots ports = (c : Channel) → (a : Access) → slot_at slo
     slice_get ports c.spec.buffer ≡ Some a →
     min event_limit (a.size - 24) ≤ c.event.room
 
-abbrev pub PullsSlot : Option Channel → (number : ℕ) → Pulled → (a b : LoggerMoment) → Type 0
-PullsSlot None number answer a b = (answer ≡ NoChannel) × (b ≡ a)
-PullsSlot (Some c) number answer a b = StepsChannel (PullsChannel answer) number c a b
+abbrev pub PullsSlot : (dump : List ℕ) → Option Channel → (number : ℕ) → Pulled → (a b : LoggerMoment) → Type 0
+PullsSlot dump None number answer a b = (answer ≡ NoChannel) × (b ≡ a)
+PullsSlot dump (Some c) number answer a b = StepsChannel (PullsChannel dump answer) number c a b
 
--- The channel of this number pulls once, on the port of its buffer; where there is none, nothing is done.
-abbrev pub PullsNumbered : (number : ℕ) → Pulled → (a b : LoggerMoment) → Type 0
-PullsNumbered number answer a b = PullsSlot (slot_at a.slots number) number answer a b
+-- The channel of this number pulls once, on the port of its buffer, where the files of its run begin with this dump; where there is
+-- none, nothing is done.
+abbrev pub PullsNumbered : (dump : List ℕ) → (number : ℕ) → Pulled → (a b : LoggerMoment) → Type 0
+PullsNumbered dump number answer a b = PullsSlot dump (slot_at a.slots number) number answer a b

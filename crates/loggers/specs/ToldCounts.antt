@@ -1,6 +1,7 @@
 -- How many faults and clashes of the run files a logger told, in how many turns it undid what was opened, and how many of its
 -- channels broke off in a run that is not settled.
 use Rattle.std.specs.Prelude.{ℕ, is_some, sum_by, count_by, List, Option, Some, None}
+use Rattle.daq_types.specs.declared.runs.ChannelEnd.{ChannelEnd}
 use Rattle.daq_types.specs.declared.runs.ChannelState.{ChannelState}
 use Rattle.daq_types.specs.declared.runs.ChannelState.TheVariants.{Broken as IsBroken}
 use Rattle.daq_types.specs.declared.runs.Transition.{Transition}
@@ -20,6 +21,10 @@ abbrev pub faults_of_state : ChannelState → ℕ
 faults_of_state IsBroken = 1
 faults_of_state state = 0
 
+-- the faults that are told of this channel
+abbrev pub faults_of_end : ChannelEnd → ℕ
+faults_of_end told = faults_of_state told.state
+
 abbrev pub faults_of_refusal : Why → ℕ
 faults_of_refusal (Fault channel) = 1
 faults_of_refusal why = 0
@@ -27,7 +32,7 @@ faults_of_refusal why = 0
 -- the faults of which an answer tells
 abbrev pub faults_of_answer : Answer → ℕ
 faults_of_answer (No why) = faults_of_refusal why
-faults_of_answer (Yes (Channels states)) = sum_by faults_of_state states
+faults_of_answer (Yes (Channels ends)) = sum_by faults_of_end ends
 faults_of_answer (Yes tally) = 0
 
 -- the clashes of names of which an answer tells: one, where a start was refused for a name

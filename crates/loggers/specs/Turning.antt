@@ -1,10 +1,11 @@
 -- What a logger does at a turn, what it answers, and the run behind it.
-use Rattle.std.specs.Prelude.{◌≡◌, ◌<◌, ◌==◌, ◌&&◌, ℕ, Bool, true, false, List, [], length, unwrap_or, Option, Some, None, Result, Ok, Err, ◌⊎◌, ⊤}
+use Rattle.std.specs.Prelude.{◌≡◌, ◌≤◌, ◌<◌, ◌==◌, ◌&&◌, ℕ, Bool, true, false, List, [], length, unwrap_or, Option, Some, None, IfSome, Result, Ok, Err, ◌⊎◌, ⊤}
 use Rattle.daq_types.specs.declared.runs.Order.{Order}
 use Rattle.daq_types.specs.declared.runs.Transition.{Transition}
 use Rattle.daq_types.specs.declared.runs.Transition.TheVariants.{Start, Stop, Pause, Resume, StartAbort}
 use Rattle.daq_types.specs.declared.runs.Why.{Why}
 use Rattle.daq_types.specs.declared.runs.Why.TheVariants.{NotReady, BufferRefused}
+use Rattle.event.specs.Events.{record_limit}
 use Rattle.buffer_core.specs.declared.replies.MarkRefusal.{MarkRefusal}
 use Rattle.buffer_core.specs.declared.entry.BufferEntry.TheVariants.{Begin, Pause as PausesRun, Resume as ResumesRun, End}
 use Rattle.buffer_core.specs.Ports.{Access}
@@ -16,6 +17,7 @@ use Rattle.mid_logger.specs.declared.channel.Channel.{Channel}
 use Rattle.mid_logger.specs.Channels.{stage_begun, stage_ended, place_marked}
 use Rattle.loggers.specs.declared.logger.Logger.{Logger}
 use Rattle.loggers.specs.declared.logged_run.LoggedRun.{LoggedRun}
+use Rattle.loggers.specs.declared.logged_run.RunDumps.{RunDumps}
 use Rattle.loggers.specs.declared.logged_run.RunPart.{RunPart}
 use Rattle.loggers.specs.declared.logged_run.RunPart.TheVariants.{Refused, Started, Stopping}
 use Rattle.loggers.specs.Moments.{RunFiles, LoggerMoment, moment_of, InTurn, StepsChannel, StepsAt, CallsBuffer, MarksBuffer, AreIdleChannels}
@@ -48,7 +50,16 @@ ResumesBuffer start buffer a b = (reply : Result ℕ MarkRefusal) × CallsBuffer
 
 -- Turns.
 
--- A turn with its answer; the run that the logger has, and the dump of its stop, before it and behind it; and the
+-- no dump of a run is kept
+abbrev pub no_dumps : RunDumps
+no_dumps = record { start = None; stop = None }
+
+-- each dump that is kept has room in a record
+pub record DumpsFit (dumps : RunDumps) : Type 0 where
+  pub start : IfSome dumps.start (λ bytes. length bytes ≤ record_limit)
+  pub stop : IfSome dumps.stop (λ bytes. length bytes ≤ record_limit)
+
+-- A turn with its answer; the run that the logger has, and the dumps of its start and its stop, before it and behind it; and the
 -- moments.
 pub record LoggerTurn : Type 0 where
   pub transition : Transition
@@ -57,8 +68,8 @@ pub record LoggerTurn : Type 0 where
   pub answer : Option Answer
   pub run : Option LoggedRun
   pub later_run : Option LoggedRun
-  pub stop_dump : Option (List ℕ)
-  pub later_stop_dump : Option (List ℕ)
+  pub dumps : RunDumps
+  pub later_dumps : RunDumps
   pub before : LoggerMoment
   pub after : LoggerMoment
 
@@ -72,8 +83,8 @@ logger_turned read transition order dump answer before after ports later_ports f
   answer = answer;
   run = before.run;
   later_run = after.run;
-  stop_dump = before.stop_dump;
-  later_stop_dump = after.stop_dump;
+  dumps = before.dumps;
+  later_dumps = after.dumps;
   before = moment_of before.channels ports (read files);
   after = moment_of after.channels later_ports (read later_files);
 }
@@ -82,7 +93,7 @@ logger_turned read transition order dump answer before after ports later_ports f
 pub record LeavesLogger (t : LoggerTurn) (answer : Answer) : Type 0 where
   pub answer_is : t.answer ≡ Some answer
   pub run : t.later_run ≡ t.run
-  pub stop_dump : t.later_stop_dump ≡ t.stop_dump
+  pub dumps : t.later_dumps ≡ t.dumps
   pub moment : t.after ≡ t.before
 
 -- a run is on: its start was accepted, and its stop is not answered
@@ -185,6 +196,11 @@ abbrev pub start_part : Result ⊤ Why → RunPart
 start_part (Ok done) = Started
 start_part (Err why) = Refused
 
+-- the dumps that are kept behind a start with this dump and this result
+abbrev pub start_dumps : Option (List ℕ) → Result ⊤ Why → RunDumps
+start_dumps dump (Ok done) = record { start = dump; stop = None }
+start_dumps dump (Err why) = no_dumps
+
 -- A start while no run is on, and so every channel is idle.
 pub record StartsLogger (t : LoggerTurn) : Type 0 where
   pub idle : AreIdleChannels t.before.slots
@@ -193,7 +209,7 @@ pub record StartsLogger (t : LoggerTurn) : Type 0 where
   pub answer_is : t.answer ≡ Some (start_answer result)
   pub starts : StartsSo result t.order (unwrap_or t.dump []) begun t.before t.after
   pub run : t.later_run ≡ Some (record { start = t.order.start; begun = begun; part = start_part result })
-  pub stop_dump : t.later_stop_dump ≡ None
+  pub dumps : t.later_dumps ≡ start_dumps t.dump result
 
 -- A start is refused at once while a run is on.
 abbrev pub TakesStart : (in_run : Bool) → LoggerTurn → Type 0
@@ -207,14 +223,14 @@ pub record StopsLogger (t : LoggerTurn) : Type 0 where
   pub answer_is : t.answer ≡ None
   pub ends : InTurn (λ buffer. EndsBuffer t.order.start buffer) (length t.before.ports) t.before t.after
   pub run : t.later_run ≡ Some (record { start = t.order.start; begun = 0; part = Stopping t.order.time })
-  pub stop_dump : t.later_stop_dump ≡ t.dump
+  pub dumps : t.later_dumps ≡ record t.dumps { stop = t.dump }
 
 -- A mark is set in every buffer, or refused there.
 pub record MarksAll (Mark : (start buffer : ℕ) → (a b : LoggerMoment) → Type 0) (t : LoggerTurn) : Type 0 where
   pub answer_is : t.answer ≡ Some (Yes Plain)
   pub marks : InTurn (λ buffer. Mark t.order.start buffer) (length t.before.ports) t.before t.after
   pub run : t.later_run ≡ t.run
-  pub stop_dump : t.later_stop_dump ≡ t.stop_dump
+  pub dumps : t.later_dumps ≡ t.dumps
 
 -- The run is ended in the buffers that are in it, and then each channel calls it off.
 pub record CallsRunOff (t : LoggerTurn) : Type 0 where
@@ -223,7 +239,7 @@ pub record CallsRunOff (t : LoggerTurn) : Type 0 where
   pub ends : InTurn (λ buffer. EndsBuffer t.order.start buffer) (buffers_begun t.run) t.before ended
   pub aborts : AbortsAll ended t.after
   pub run : t.later_run ≡ None
-  pub stop_dump : t.later_stop_dump ≡ None
+  pub dumps : t.later_dumps ≡ no_dumps
 
 abbrev pub TakesStop : (is_of_run : Bool) → LoggerTurn → Type 0
 TakesStop true t = StopsLogger t

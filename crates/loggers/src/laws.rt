@@ -68,7 +68,8 @@ pub fn faults_noted()
 /// What a logger answers rests on the counts of the run files, and each call keeps that: for each start that is refused for a
 /// name a clash was counted, for each that is refused for a fault one was, and for a buffer one is refused only where that
 /// refused a call; and for each channel that is told to be broken a fault was counted. And a fault was counted only where one of
-/// these is told, a channel broke off that is not told yet, or a start was undone; a clash only where a start was refused for one.
+/// these is told, a channel broke off that is not told yet, or a start was undone; a clash only where a start was refused for one,
+/// or a channel with a limit found the name of its next file taken.
 pub fn reasons_given()
     ensures turns { TurnsGiveReasons }
     ensures pulls { PullsGiveReasons }

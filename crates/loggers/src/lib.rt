@@ -10,6 +10,6 @@ mod slots;
 mod starting;
 mod steps;
 
-pub use logged_run::{LoggedRun, RunPart};
+pub use logged_run::{LoggedRun, RunDumps, RunPart};
 pub use logger::Logger;
 pub use slots::{ChannelSpecs, Ports, Slots};

@@ -1,3 +1,5 @@
+use daq_types::Bytes;
+
 /// How far the run is that a logger was last told to start.
 #[derive(Clone, Copy, PartialEq, Eq)]
 pub enum RunPart {
@@ -17,4 +19,14 @@ pub struct LoggedRun {
     /// How many buffers, from the first on, the logger has begun it in and not ended it.
     pub begun: usize,
     pub part: RunPart,
+}
+
+/// The dumps of the run that a logger was last told to start, until that is over: each file of the run begins with the
+/// first, and the last one ends with the other.
+#[derive(Drop)]
+pub struct RunDumps {
+    /// The dump of its start, if that was accepted.
+    pub start: Option<Bytes>,
+    /// The dump of the stop that is not answered.
+    pub stop: Option<Bytes>,
 }

@@ -8,7 +8,7 @@ ghost use Rattle.daq_types.specs.declared.runs.Transition.TheVariants.{Start, St
 ghost use Rattle.transitions.specs.declared.answers.Answer.TheVariants.{Yes};
 ghost use Rattle.transitions.specs.declared.answers.Tally.TheVariants.{Plain};
 ghost use Rattle.loggers.specs.Moments.{RunFiles, files_by, moment_of, IsLoggerReady, HaveFilesOpen, AreIdleChannels, AreSamePorts};
-ghost use Rattle.loggers.specs.Turning.{logger_turned, TakesTurn, TakesStart, TakesStop, TakesMark, TakesAbort, StartsLogger, PausesBuffer, ResumesBuffer, is_run_on, is_started, is_of_start, buffers_begun, IsIdleOutside, start_answer, start_part};
+ghost use Rattle.loggers.specs.Turning.{logger_turned, TakesTurn, TakesStart, TakesStop, TakesMark, TakesAbort, StartsLogger, PausesBuffer, ResumesBuffer, is_run_on, is_started, is_of_start, buffers_begun, IsIdleOutside, start_answer, start_part, start_dumps, no_dumps, DumpsFit};
 ghost use Rattle.loggers.specs.Finishing.{FinishesLogger, logger_finished};
 ghost use Rattle.loggers.specs.SlotPulls.{HasEventRoom, PullsNumbered};
 ghost use Rattle.loggers.specs.NewLoggers.{HaveNumbers, HasNewChannels, HavePorts, AreUnused, HaveRooms};
@@ -20,7 +20,7 @@ ghost use Rattle.loggers.specs.Reasons.{GivesReasons};
 
 use crate::endings::{end_files, stop_time};
 use crate::laws as logger_laws;
-use crate::logged_run::{LoggedRun, RunPart};
+use crate::logged_run::{LoggedRun, RunDumps, RunPart};
 use crate::marks::{end_first, pause_all, resume_all};
 use crate::slots::{ChannelSpecs, Ports, Slots, any_failed, are_settled, new_channels};
 use crate::starting::{abort_all, start_run};
@@ -41,8 +41,8 @@ pub struct Logger {
     pub channels: Slots,
     /// The run that it was last told to start, until that is over.
     pub run: Option<LoggedRun>,
-    /// The dump of the stop that is not answered.
-    pub stop_dump: Option<Bytes>,
+    /// The dumps of that run.
+    pub dumps: RunDumps,
 }
 
 /// Whether a run is on: its start was accepted, and its stop is not answered.
@@ -113,6 +113,29 @@ fn part_of_start(started: Result<(), Why>) -> RunPart
     }
 }
 
+/// No dump of a run.
+fn without_dumps() -> RunDumps
+    ensures { result ≡ no_dumps }
+{
+    RunDumps {
+        start: None,
+        stop: None,
+    }
+}
+
+/// The dumps that are kept behind this result of a start with this dump.
+fn dumps_of_start(dump: Option<Bytes>, started: Result<(), Why>) -> RunDumps
+    ensures { result ≡ start_dumps dump started }
+{
+    match started {
+        Ok(()) => RunDumps {
+            start: dump,
+            stop: None,
+        },
+        Err(_) => without_dumps(),
+    }
+}
+
 impl Logger {
     /// A logger with a channel for each spec, and for each channel room for an event of so many bytes of data.
     pub fn new(alloc: Global, specs: ChannelSpecs, rooms: &[u32]) -> Result<Logger, NoMemory>
@@ -120,13 +143,14 @@ impl Logger {
         requires numbers { HaveNumbers specs }
         ensures made { IfOk result (λ logger. HasNewChannels specs rooms.now logger.channels) }
         ensures run { IfOk result (λ logger. logger.run ≡ None) }
-        ensures stop_dump { IfOk result (λ logger. logger.stop_dump ≡ None) }
+        ensures dumps { IfOk result (λ logger. logger.dumps ≡ no_dumps) }
+        ensures small { IfOk result (λ logger. DumpsFit logger.dumps) }
         ensures idle { IfOk result (λ logger. AreIdleChannels logger.channels) }
         ensures ready { IfOk result (λ logger. (ports : List Access) → (seen : Seen) →
             HavePorts specs ports → IsLoggerReady logger.channels ports seen) }
         ensures stands { IfOk result (λ logger. (ports : List Access) → (seen : Seen) →
             HavePorts specs ports → AreUnused ports →
-            LoggerStands logger.run logger.stop_dump logger.channels ports [] seen) }
+            LoggerStands logger.run logger.dumps logger.channels ports [] seen) }
         ensures room { IfOk result (λ logger. (ports : List Access) →
             HaveRooms specs rooms.now ports → (number : ℕ) →
             HasEventRoom number logger.channels ports) }
@@ -140,14 +164,14 @@ impl Logger {
         Ok(Logger {
             channels,
             run: None,
-            stop_dump: None,
+            dumps: without_dumps(),
         })
     }
 
     /// Takes a turn. Between two turns the answer to the first was given.
     ///
-    /// At a start each channel, in order of number, makes its file, writes the begin record with the dump, and asks
-    /// for its events; then the run is begun in every buffer. The first refusal of these is the answer, before
+    /// At a start each channel, in order of number, makes its first file, writes the begin record with the dump, and
+    /// asks for its events; then the run is begun in every buffer. The first refusal of these is the answer, before
     /// which the files are closed and removed and the requests cancelled. A pause and a resume are marked in every
     /// buffer. At a stop the run is ended in every buffer; the answer is None, and `finish` gives it later. At a
     /// start-abort the run is ended where it is begun, and each channel calls it off.
@@ -175,8 +199,7 @@ impl Logger {
             (F.seen files.new) }
         ensures idle { IsIdleOutside self.new.run self.new.channels }
         ensures begun { buffers_begun self.new.run ≤ length ports.new }
-        ensures small { IfSome self.old.stop_dump (λ bytes. length bytes ≤ record_limit) →
-            IfSome self.new.stop_dump (λ bytes. length bytes ≤ record_limit) }
+        ensures small { DumpsFit self.old.dumps → DumpsFit self.new.dumps }
         ensures same { AreSamePorts (map P.access ports.old) (map P.access ports.new) }
         ensures own { KeepsLoggerCalls self.old.channels (map P.access ports.old) →
             KeepsLoggerCalls self.new.channels (map P.access ports.new) }
@@ -215,11 +238,10 @@ impl Logger {
             (F.seen files.new) }
         ensures idle { IsIdleOutside self.new.run self.new.channels }
         ensures begun { buffers_begun self.new.run ≤ length ports.new }
-        ensures small { IfSome self.old.stop_dump (λ bytes. length bytes ≤ record_limit) →
-            IfSome self.new.stop_dump (λ bytes. length bytes ≤ record_limit) }
+        ensures small { DumpsFit self.old.dumps → DumpsFit self.new.dumps }
     {
         match transition {
-            Transition::Start => Some(self.on_start(rt, files, ports, order, &dump)),
+            Transition::Start => Some(self.on_start(rt, files, ports, order, dump)),
             Transition::Stop => self.on_stop(rt, files, ports, order, dump),
             Transition::Pause => Some(self.on_pause(rt, files, ports, order)),
             Transition::Resume => Some(self.on_resume(rt, files, ports, order)),
@@ -234,21 +256,22 @@ impl Logger {
         files: &mut F,
         ports: &mut Ports<P>,
         order: &Order,
-        dump: &Option<Bytes>,
+        dump: Option<Bytes>,
     ) -> Answer
         requires ready { IsLoggerReady self.old.channels (map P.access ports.old)
             (F.seen files.old) }
         requires idle { IsIdleOutside self.old.run self.old.channels }
         requires begun { buffers_begun self.old.run ≤ length ports.old }
-        requires small { IfSome dump.now (λ bytes. length bytes ≤ record_limit) }
+        requires small { IfSome dump (λ bytes. length bytes ≤ record_limit) }
         ensures takes { TakesStart (is_run_on self.old.run)
-            (logger_turned (files_by F.seen F.faults F.clashes F.first) Start order.now dump.now
+            (logger_turned (files_by F.seen F.faults F.clashes F.first) Start order.now dump
             (Some result) self.old self.new (map P.access ports.old)
             (map P.access ports.new) files.old files.new) }
         ensures ready { IsLoggerReady self.new.channels (map P.access ports.new)
             (F.seen files.new) }
         ensures idle { IsIdleOutside self.new.run self.new.channels }
         ensures begun { buffers_begun self.new.run ≤ length ports.new }
+        ensures small { DumpsFit self.old.dumps → DumpsFit self.new.dumps }
     {
         if has_run(self.run) {
             return Answer::No(Why::NotReady);
@@ -263,20 +286,21 @@ impl Logger {
         files: &mut F,
         ports: &mut Ports<P>,
         order: &Order,
-        dump: &Option<Bytes>,
+        dump: Option<Bytes>,
     ) -> Answer
         requires ready { IsLoggerReady self.old.channels (map P.access ports.old)
             (F.seen files.old) }
         requires idle { AreIdleChannels self.old.channels }
-        requires small { IfSome dump.now (λ bytes. length bytes ≤ record_limit) }
+        requires small { IfSome dump (λ bytes. length bytes ≤ record_limit) }
         ensures starts { StartsLogger (logger_turned
-            (files_by F.seen F.faults F.clashes F.first) Start order.now dump.now
+            (files_by F.seen F.faults F.clashes F.first) Start order.now dump
             (Some result) self.old self.new (map P.access ports.old)
             (map P.access ports.new) files.old files.new) }
         ensures ready { IsLoggerReady self.new.channels (map P.access ports.new)
             (F.seen files.new) }
         ensures idle { IsIdleOutside self.new.run self.new.channels }
         ensures begun { buffers_begun self.new.run ≤ length ports.new }
+        ensures small { DumpsFit self.new.dumps }
     {
         let (begun, result) = start_run(
             &mut self.channels,
@@ -284,14 +308,14 @@ impl Logger {
             files,
             ports,
             order,
-            bytes_of(dump),
+            bytes_of(&dump),
         );
         self.run = Some(LoggedRun {
             start: order.start,
             begun,
             part: part_of_start(result),
         });
-        self.stop_dump = None;
+        self.dumps = dumps_of_start(dump, result);
         answer_of_start(result)
     }
 
@@ -316,8 +340,8 @@ impl Logger {
             (F.seen files.new) }
         ensures idle { IsIdleOutside self.new.run self.new.channels }
         ensures begun { buffers_begun self.new.run ≤ length ports.new }
-        ensures dump { self.new.stop_dump ≡ (if is_started self.old.run order.now.start then dump
-            else self.old.stop_dump) }
+        ensures dumps { self.new.dumps ≡ (if is_started self.old.run order.now.start
+            then record self.old.dumps { stop = dump } else self.old.dumps) }
         ensures files { files.new ≡ files.old }
     {
         if !goes_on(self.run, order.start) {
@@ -330,7 +354,7 @@ impl Logger {
             begun: 0,
             part: RunPart::Stopping { time: order.time },
         });
-        self.stop_dump = dump;
+        self.dumps.stop = dump;
         None
     }
 
@@ -417,8 +441,7 @@ impl Logger {
             (F.seen files.new) }
         ensures idle { IsIdleOutside self.new.run self.new.channels }
         ensures begun { buffers_begun self.new.run ≤ length ports.new }
-        ensures small { IfSome self.old.stop_dump (λ bytes. length bytes ≤ record_limit) →
-            IfSome self.new.stop_dump (λ bytes. length bytes ≤ record_limit) }
+        ensures small { DumpsFit self.old.dumps → DumpsFit self.new.dumps }
     {
         let Some(begun) = begun_in(self.run, order.start) else {
             return plain();
@@ -426,11 +449,12 @@ impl Logger {
         end_first(&mut self.channels, rt, ports, begun, order.start);
         abort_all(&mut self.channels, rt, files, ports);
         self.run = None;
-        self.stop_dump = None;
+        self.dumps = without_dumps();
         plain()
     }
 
     /// Pulls once on the channel of this number: one receive, of which the event is written where it is one of the run.
+    /// Where the file would grow past the channel's limit, the next one is begun before, with the dump of the start.
     /// NoChannel exactly where there is no such channel.
     pub fn pull<R: Wait, F: Files, P: BufferPort>(
         &mut self,
@@ -443,13 +467,14 @@ impl Logger {
             (F.seen files.old) }
         requires idle { IsIdleOutside self.old.run self.old.channels }
         requires room { HasEventRoom channel self.old.channels (map P.access ports.old) }
-        ensures pulls { PullsNumbered channel result
+        requires small { DumpsFit self.old.dumps }
+        ensures pulls { PullsNumbered (unwrap_or self.old.dumps.start []) channel result
             (moment_of self.old.channels (map P.access ports.old)
             (files_by F.seen F.faults F.clashes F.first files.old))
             (moment_of self.new.channels (map P.access ports.new)
             (files_by F.seen F.faults F.clashes F.first files.new)) }
         ensures run { self.new.run ≡ self.old.run }
-        ensures stop_dump { self.new.stop_dump ≡ self.old.stop_dump }
+        ensures dumps { self.new.dumps ≡ self.old.dumps }
         ensures ready { IsLoggerReady self.new.channels (map P.access ports.new)
             (F.seen files.new) }
         ensures idle { IsIdleOutside self.new.run self.new.channels }
@@ -462,26 +487,28 @@ impl Logger {
             → HasEventRoom number self.old.channels (map P.access ports.old)) →
             (number : ℕ) → HasEventRoom number self.new.channels (map P.access ports.new) }
         ensures keeps { (turns : List MemberTurn) →
-            LoggerStands self.old.run self.old.stop_dump self.old.channels
+            LoggerStands self.old.run self.old.dumps self.old.channels
             (map P.access ports.old) turns (F.seen files.old) →
-            LoggerStands self.new.run self.new.stop_dump self.new.channels
+            LoggerStands self.new.run self.new.dumps self.new.channels
             (map P.access ports.new) turns (F.seen files.new) }
     {
         channel_laws::left_beside();
         channel_laws::pulls_kept();
         channel_laws::pulls_beside();
         channel_laws::files_beside();
-        pull_at(&mut self.channels, rt, files, ports, channel as usize)
+        channel_laws::opens_kept();
+        let dump = bytes_of(&self.dumps.start);
+        pull_at(&mut self.channels, rt, files, ports, channel as usize, dump)
     }
 
-    /// The answer to the stop that waits: it ends the file of each channel, in order of number, and tells what
+    /// The answer to the stop that waits: it ends the files of each channel, in order of number, and tells what
     /// became of them. None exactly where no stop waits, or the client of some channel that did not break off has
     /// yet to read its run.
     pub fn finish<F: Files>(&mut self, files: &mut F) -> Option<Answer>
         requires many { length self.old.channels ≤ 16 }
         requires files { HaveFilesOpen self.old.channels (F.seen files.old) }
         requires idle { IsIdleOutside self.old.run self.old.channels }
-        requires small { IfSome self.old.stop_dump (λ bytes. length bytes ≤ record_limit) }
+        requires small { DumpsFit self.old.dumps }
         ensures finishes { FinishesLogger (logger_finished
             (files_by F.seen F.faults F.clashes F.first) self.old self.new files.old files.new
             result) }
@@ -490,6 +517,7 @@ impl Logger {
             IsLoggerReady self.new.channels ports (F.seen files.new) }
         ensures idle { IsIdleOutside self.new.run self.new.channels }
         ensures begun { buffers_begun self.new.run ≤ buffers_begun self.old.run }
+        ensures small { DumpsFit self.new.dumps }
         ensures room { (ports : List Access) →
             ((number : ℕ) → HasEventRoom number self.old.channels ports) →
             (number : ℕ) → HasEventRoom number self.new.channels ports }
@@ -510,7 +538,7 @@ impl Logger {
         requires many { length self.old.channels ≤ 16 }
         requires files { HaveFilesOpen self.old.channels (F.seen files.old) }
         requires idle { IsIdleOutside self.old.run self.old.channels }
-        requires small { IfSome self.old.stop_dump (λ bytes. length bytes ≤ record_limit) }
+        requires small { DumpsFit self.old.dumps }
         ensures finishes { FinishesLogger (logger_finished
             (files_by F.seen F.faults F.clashes F.first) self.old self.new files.old files.new
             result) }
@@ -519,15 +547,16 @@ impl Logger {
             IsLoggerReady self.new.channels ports (F.seen files.new) }
         ensures idle { IsIdleOutside self.new.run self.new.channels }
         ensures begun { buffers_begun self.new.run ≤ buffers_begun self.old.run }
+        ensures small { DumpsFit self.new.dumps }
     {
         let time = stop_time(self.run)?;
         if !are_settled(&self.channels) {
             return None;
         }
-        let states = end_files(&mut self.channels, files, time, &self.stop_dump);
+        let told = end_files(&mut self.channels, files, time, &self.dumps.stop);
         self.run = None;
-        self.stop_dump = None;
-        Some(Answer::Yes(Tally::Channels(states)))
+        self.dumps = without_dumps();
+        Some(Answer::Yes(Tally::Channels(told)))
     }
 
     /// Whether a call on the files failed in a call of this logger.

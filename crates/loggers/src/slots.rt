@@ -69,14 +69,13 @@ fn no_channels(alloc: Global) -> Result<Slots, NoMemory>
     Ok(slots)
 }
 
-/// A channel that has no client and writes no run, with no limit for its files.
+/// A channel that has no client and writes no run.
 fn channel_for(alloc: Global, spec: ChannelSpec, room: u32) -> Result<Channel, NoMemory>
     ensures { IfOk result (λ channel. channel ≡ new_channel spec room) }
 {
     let event = EventBuf::new(alloc, room)?;
     Ok(Channel {
         spec,
-        sub_bytes: 0,
         client: None,
         stage: ChannelStage::Idle,
         failed: false,

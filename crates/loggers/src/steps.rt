@@ -1,12 +1,13 @@
 //! What one channel does, by its number: it opens a run, calls one off, or pulls.
 
-ghost use Rattle.std.specs.Prelude.{◌≡◌, ◌≤◌, ◌<◌, ◌-◌, ℕ, List, Option, length, map, min, slice_get, slice_set, OnOk, IfErr, Some, Ok, Err};
+ghost use Rattle.std.specs.Prelude.{◌≡◌, ◌≤◌, ◌<◌, ◌-◌, ℕ, suc, List, Option, length, map, min, slice_get, slice_set, OnOk, IfErr, Some, Ok, Err};
 ghost use Rattle.event.specs.Events.{record_limit, event_limit};
 ghost use Rattle.buffer_core.specs.Ports.{Access};
 ghost use Rattle.buffer_core.specs.Slots.{slot_at};
 ghost use Rattle.mid_logger.specs.declared.channel.Channel.{Channel as a_channel};
 ghost use Rattle.mid_logger.specs.declared.stage.ChannelStage.TheVariants.{Idle};
-ghost use Rattle.mid_logger.specs.Channels.{IsOpenFile, written_run};
+ghost use Rattle.sub_files.specs.Cuts.{last_number};
+ghost use Rattle.mid_logger.specs.Channels.{IsLastOpen, written_run, files_by as files_made};
 ghost use Rattle.loggers.specs.Moments.{files_by, moment_of, StepsAt, StepsSlot, StepsChannel, IsLoggerReady, LeavesOthers};
 ghost use Rattle.loggers.specs.ChannelSteps.{OpensChannel, AbortsChannel};
 ghost use Rattle.loggers.specs.SlotPulls.{HasEventRoom, PullsSlot, PullsNumbered};
@@ -99,10 +100,10 @@ fn abort_slot<R: Wait, F: Files, P: BufferPort>(
     files: &mut F,
     ports: &mut Ports<P>,
 )
-    requires unlimited { (c : a_channel) → slot.old ≡ Some c → c.sub_bytes ≡ 0 }
+    requires few { (c : a_channel) → slot.old ≡ Some c → files_made c.stage ≤ suc last_number }
     requires served { (c : a_channel) → slot.old ≡ Some c → c.spec.buffer < length ports.old }
     requires file { (c : a_channel) → slot.old ≡ Some c →
-        IsOpenFile (F.seen files.old) c.spec (written_run c.stage) }
+        IsLastOpen (F.seen files.old) c.spec (written_run c.stage) }
     ensures aborts { (slots : List (Option a_channel)) →
         (number : ℕ) → slot_at slots number ≡ slot.old →
         StepsSlot AbortsChannel number slot.old
@@ -148,23 +149,25 @@ pub fn abort_at<R: Wait, F: Files, P: BufferPort>(
     }
 }
 
-/// Pulls once on this channel, where there is one.
+/// Pulls once on this channel, where there is one. The files of its run begin with this dump.
 fn pull_slot<R: Wait, F: Files, P: BufferPort>(
     slot: &mut Option<Channel>,
     rt: &R,
     files: &mut F,
     ports: &mut Ports<P>,
+    dump: &[u8],
 ) -> Pulled
-    requires unlimited { (c : a_channel) → slot.old ≡ Some c → c.sub_bytes ≡ 0 }
+    requires few { (c : a_channel) → slot.old ≡ Some c → files_made c.stage ≤ suc last_number }
     requires served { (c : a_channel) → slot.old ≡ Some c → c.spec.buffer < length ports.old }
     requires file { (c : a_channel) → slot.old ≡ Some c →
-        IsOpenFile (F.seen files.old) c.spec (written_run c.stage) }
+        IsLastOpen (F.seen files.old) c.spec (written_run c.stage) }
     requires room { (c : a_channel) → (a : Access) → slot.old ≡ Some c →
         slice_get (map P.access ports.old) c.spec.buffer ≡ Some a →
         min event_limit (a.size - 24) ≤ c.event.room }
+    requires small { length dump.now ≤ record_limit }
     ensures pulls { (slots : List (Option a_channel)) →
         (number : ℕ) → slot_at slots number ≡ slot.old →
-        PullsSlot slot.old number result (moment_of slots (map P.access ports.old)
+        PullsSlot dump.now slot.old number result (moment_of slots (map P.access ports.old)
         (files_by F.seen F.faults F.clashes F.first files.old))
         (moment_of (slice_set slots number slot.new) (map P.access ports.new)
         (files_by F.seen F.faults F.clashes F.first files.new)) }
@@ -175,21 +178,22 @@ fn pull_slot<R: Wait, F: Files, P: BufferPort>(
     let Some(port) = ports.get_mut(channel.spec.buffer as usize) else {
         unreachable!()
     };
-    // No channel has a limit, so no second file is begun with the dump of the start.
-    channel.pull(rt, files, port, &[])
+    channel.pull(rt, files, port, dump)
 }
 
-/// Pulls once on the channel of this number, where there is one.
+/// Pulls once on the channel of this number, where there is one. The files of its run begin with this dump.
 pub fn pull_at<R: Wait, F: Files, P: BufferPort>(
     slots: &mut Slots,
     rt: &R,
     files: &mut F,
     ports: &mut Ports<P>,
     number: usize,
+    dump: &[u8],
 ) -> Pulled
     requires ready { IsLoggerReady slots.old (map P.access ports.old) (F.seen files.old) }
     requires room { HasEventRoom number slots.old (map P.access ports.old) }
-    ensures pulls { PullsNumbered number result
+    requires small { length dump.now ≤ record_limit }
+    ensures pulls { PullsNumbered dump.now number result
         (moment_of slots.old (map P.access ports.old)
         (files_by F.seen F.faults F.clashes F.first files.old))
         (moment_of slots.new (map P.access ports.new)
@@ -199,6 +203,6 @@ pub fn pull_at<R: Wait, F: Files, P: BufferPort>(
     channel_laws::pulls_kept();
     match slots.get_mut(number) {
         None => Pulled::NoChannel,
-        Some(slot) => pull_slot(slot, rt, files, ports),
+        Some(slot) => pull_slot(slot, rt, files, ports, dump),
     }
 }

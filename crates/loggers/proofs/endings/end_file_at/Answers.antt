@@ -9,4 +9,4 @@ returns-in-Some-clause-files g c =
     ended_at c.closes_kept.ensures.change c.args.time c.args.dump.now c.args.number c.in-Some.slot.now c.end_slot.new.slot c.args.slots.now
     (record { seen = g.F.Files.seen c.args.files.now; faults = g.F.Files.faults c.args.files.now; clashes = g.F.Files.clashes c.args.files.now; first = g.F.Files.first c.args.files.now })
     (record { seen = g.F.Files.seen c.end_slot.new.files; faults = g.F.Files.faults c.end_slot.new.files; clashes = g.F.Files.clashes c.end_slot.new.files; first = g.F.Files.first c.end_slot.new.files })
-    c.args.states.now c.end_slot.new.states there (c.end_slot.ensures.ends c.args.slots.now there) c.requires.files
+    c.args.ends.now c.end_slot.new.ends there (c.end_slot.ensures.ends c.args.slots.now there) c.requires.files

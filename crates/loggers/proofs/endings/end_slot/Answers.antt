@@ -1,33 +1,32 @@
 use Rattle.std.specs.Prelude.{Some, slice_set}
 use Rattle.std.proofs.Common.{refl}
-use Rattle.mid_logger.proofs.PieceSteps.{last_open}
-use Rattle.mid_logger.proofs.OneFile.{end_name}
 use Rattle.loggers.specs.Moments.{RunFiles}
 use Rattle.loggers.specs.Finishing.{EndingMoment, EndsNumbered, ending_of}
 use Rattle.loggers.proofs.StepEntries.{slot_ends}
 use Rattle.loggers.proofs.endings.end_slot.Goals as goal
 
 pub close-requires-clause-file : goal.close-requires-clause-file
-close-requires-clause-file g c = last_open _ _ _ (c.requires.file c.in-Some.channel c.in-Some.is)
+close-requires-clause-file g c = c.requires.file c.in-Some.channel c.in-Some.is
 
 pub returns-in-Some : goal.returns-in-Some
 returns-in-Some g c = record {
   ends = λ slots at.
       let old : RunFiles = record { seen = g.F.Files.seen c.args.files.now; faults = g.F.Files.faults c.args.files.now; clashes = g.F.Files.clashes c.args.files.now; first = g.F.Files.first c.args.files.now } in
       let new : RunFiles = record { seen = g.F.Files.seen c.close.new.files; faults = g.F.Files.faults c.close.new.files; clashes = g.F.Files.clashes c.close.new.files; first = g.F.Files.first c.close.new.files } in
-      let before : EndingMoment = ending_of slots old c.args.states.now in
-      let behind : EndingMoment = ending_of (slice_set slots c.args.number (Some c.close.new.self)) new (slice_set c.args.states.now c.args.number c.close.result.state) in
+      let before : EndingMoment = ending_of slots old c.args.ends.now in
+      let behind : EndingMoment = ending_of (slice_set slots c.args.number (Some c.close.new.self)) new (slice_set c.args.ends.now c.args.number c.close.result) in
       let ends : EndsNumbered c.args.time c.args.dump.now c.args.number c.in-Some.channel before behind = record {
         after = c.close.new.self;
-        state = c.close.result.state;
+        told = c.close.result;
         slots = refl;
-        states = refl;
+        at = refl;
         ends = record {
           channel = c.close.ensures.channel;
+          told_is = c.close.ensures.told;
           ends = c.close.ensures.closes;
           failed = c.close.ensures.failed;
           clashes = c.close.ensures.clashes;
-          first = end_name c.in-Some.channel.spec c.in-Some.channel.stage (g.F.Files.seen c.args.files.now) _ _ (c.requires.file c.in-Some.channel c.in-Some.is) c.close.ensures.first;
+          first = c.close.ensures.first;
         };
       } in
       slot_ends c.args.time c.args.dump.now c.args.number c.args.slot.now c.in-Some.channel before behind c.in-Some.is ends;

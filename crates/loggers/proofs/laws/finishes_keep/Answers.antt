@@ -8,6 +8,7 @@ returns c =
       left = c.left_beside.ensures;
       keep = c.closes_kept.ensures.keep;
       change = c.closes_kept.ensures.change;
+      know = c.closes_kept.ensures.know;
       beside = c.closes_beside.ensures;
       files = c.files_beside.ensures;
     } in

@@ -9,10 +9,10 @@ abort_slot-requires-clause-served g c =
     let there : slot_at c.args.slots.now c.args.number ≡ c.in-Some.slot.now = sym (c.in-Some.ensures.entry.4 (omega arith) None) in
     λ d is. subst (λ (k : ℕ). d.spec.buffer < k) (length-map c.args.ports.now g.P.BufferPort.access) (c.requires.ready.served c.args.number d (there ∙ is))
 
-pub abort_slot-requires-clause-unlimited : goal.abort_slot-requires-clause-unlimited
-abort_slot-requires-clause-unlimited g c =
+pub abort_slot-requires-clause-few : goal.abort_slot-requires-clause-few
+abort_slot-requires-clause-few g c =
     let there : slot_at c.args.slots.now c.args.number ≡ c.in-Some.slot.now = sym (c.in-Some.ensures.entry.4 (omega arith) None) in
-    λ d is. c.requires.ready.unlimited c.args.number d (there ∙ is)
+    λ d is. c.requires.ready.few c.args.number d (there ∙ is)
 
 pub returns-in-Some-clause-ready : goal.returns-in-Some-clause-ready
 returns-in-Some-clause-ready g c =

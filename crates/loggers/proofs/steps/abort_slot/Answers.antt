@@ -1,14 +1,12 @@
 use Rattle.loggers.specs.ChannelSteps.{AbortsChannel}
 use Rattle.loggers.proofs.StepEntries.{lent_at, stepped, slot_steps}
-use Rattle.mid_logger.proofs.PieceSteps.{last_open}
-use Rattle.mid_logger.proofs.OneFile.{one_few}
 use Rattle.loggers.proofs.steps.abort_slot.Goals as goal
 
 pub abort-requires-clause-file : goal.abort-requires-clause-file
-abort-requires-clause-file g c = last_open _ _ _ (c.requires.file c.in-Some.channel c.in-Some.is)
+abort-requires-clause-file g c = c.requires.file c.in-Some.channel c.in-Some.is
 
 pub abort-requires-clause-few : goal.abort-requires-clause-few
-abort-requires-clause-few g c = one_few c.in-Some.channel.sub_bytes c.in-Some.channel.stage (c.requires.unlimited c.in-Some.channel c.in-Some.is)
+abort-requires-clause-few g c = c.requires.few c.in-Some.channel c.in-Some.is
 
 pub returns-clause-aborts : goal.returns-clause-aborts
 returns-clause-aborts g c = λ slots number at.
@@ -20,8 +18,9 @@ returns-clause-aborts g c = λ slots number at.
     (record {
       channel = c.abort.ensures.channel;
       cancels = c.abort.ensures.cancels;
-      removes = c.abort.ensures.one (c.requires.unlimited c.in-Some.channel c.in-Some.is) (c.requires.file c.in-Some.channel c.in-Some.is);
+      last = c.requires.file c.in-Some.channel c.in-Some.is;
+      removes = c.abort.ensures.removes;
       failed = c.abort.ensures.failed;
       clashes = c.abort.ensures.clashes;
-      first = c.abort.ensures.own_first (c.requires.unlimited c.in-Some.channel c.in-Some.is) (c.requires.file c.in-Some.channel c.in-Some.is);
+      first = c.abort.ensures.first;
     }))

@@ -10,7 +10,6 @@ returns-clause-opens g c =
     (lent_at c.args.ports.now c.in-Some.channel.spec.buffer c.in-Some-get_mut.port.now (c.requires.served c.in-Some.channel c.in-Some.is) c.in-Some-get_mut.ensures.entry.1)
     (record {
       spec = c.open.ensures.spec;
-      limit = c.open.ensures.limit;
       event = c.open.ensures.event;
       opens = c.open.ensures.opens;
       exists = c.open.ensures.exists;
@@ -29,7 +28,6 @@ returns-clause-refuses g c =
     (lent_at c.args.ports.now c.in-Some.channel.spec.buffer c.in-Some-get_mut.port.now (c.requires.served c.in-Some.channel c.in-Some.is) c.in-Some-get_mut.ensures.entry.1)
     (record {
       spec = c.open.ensures.spec;
-      limit = c.open.ensures.limit;
       event = c.open.ensures.event;
       opens = c.open.ensures.opens;
       exists = c.open.ensures.exists;

@@ -1,12 +1,6 @@
 use Rattle.loggers.specs.ChannelSteps.{PullsChannel}
 use Rattle.loggers.proofs.StepEntries.{lent_at, lent_port, stepped, slot_pulls}
-use Rattle.mid_logger.specs.Channels.{written_run}
-use Rattle.mid_logger.proofs.PieceSteps.{last_open}
-use Rattle.mid_logger.proofs.OneFile.{one_clashes, pull_name}
 use Rattle.loggers.proofs.steps.pull_slot.Goals as goal
-
-pub pull-requires-clause-file : goal.pull-requires-clause-file
-pull-requires-clause-file g c = last_open _ _ _ (c.requires.file c.in-Some.channel c.in-Some.is)
 
 pub pull-requires-clause-room : goal.pull-requires-clause-room
 pull-requires-clause-room g c =
@@ -17,20 +11,19 @@ pull-requires-clause-room g c =
 pub returns : goal.returns
 returns g c = record {
   pulls = λ slots number at.
-      slot_pulls c.pull.result number c.args.slot.now c.in-Some.channel _ _ c.in-Some.is
-      (stepped (PullsChannel c.pull.result) g.P.BufferPort.access number c.in-Some.channel c.pull.new.self slots c.args.ports.now c.in-Some-get_mut.port.now c.pull.new.port
+      slot_pulls c.args.dump.now c.pull.result number c.args.slot.now c.in-Some.channel _ _ c.in-Some.is
+      (stepped (PullsChannel c.args.dump.now c.pull.result) g.P.BufferPort.access number c.in-Some.channel c.pull.new.self slots c.args.ports.now c.in-Some-get_mut.port.now c.pull.new.port
       (record { seen = g.F.Files.seen c.args.files.now; faults = g.F.Files.faults c.args.files.now; clashes = g.F.Files.clashes c.args.files.now; first = g.F.Files.first c.args.files.now })
       (record { seen = g.F.Files.seen c.pull.new.files; faults = g.F.Files.faults c.pull.new.files; clashes = g.F.Files.clashes c.pull.new.files; first = g.F.Files.first c.pull.new.files })
       (lent_at c.args.ports.now c.in-Some.channel.spec.buffer c.in-Some-get_mut.port.now (c.requires.served c.in-Some.channel c.in-Some.is) c.in-Some-get_mut.ensures.entry.1)
       (record {
         spec = c.pull.ensures.spec;
-        limit = c.pull.ensures.limit;
         client = c.pull.ensures.client;
         room = c.pull.ensures.room;
         failed = c.pull.ensures.failed;
-        pulls = c.pull.ensures.one (c.requires.unlimited c.in-Some.channel c.in-Some.is);
+        pulls = c.pull.ensures.pulls;
         faults = c.pull.ensures.faults;
-        clashes = one_clashes _ _ _ (c.requires.unlimited c.in-Some.channel c.in-Some.is) c.pull.ensures.clashes;
-        first = pull_name c.in-Some.channel.spec (written_run c.in-Some.channel.stage) (g.F.Files.seen c.args.files.now) c.pull.result _ _ (c.requires.file c.in-Some.channel c.in-Some.is) (c.pull.ensures.own_first (c.requires.unlimited c.in-Some.channel c.in-Some.is));
+        clashes = c.pull.ensures.clashes;
+        first = c.pull.ensures.first;
       }));
 }

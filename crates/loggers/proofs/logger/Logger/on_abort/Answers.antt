@@ -18,5 +18,5 @@ returns-clause-takes g c = λ dump.
           (c.end_first.ensures.ends (record { seen = g.F.Files.seen c.args.files.now; faults = g.F.Files.faults c.args.files.now; clashes = g.F.Files.clashes c.args.files.now; first = g.F.Files.first c.args.files.now }));
       aborts = c.abort_all.ensures.aborts;
       run = refl;
-      stop_dump = refl;
+      dumps = c.without_dumps.ensures;
     })

@@ -12,5 +12,5 @@ returns-clause-takes g c = λ dump.
       marks = turns_as_many _ _ _ _ _ (sym (length-map c.args.ports.now g.P.BufferPort.access))
           (c.resume_all.ensures.resumes c.args.self.now.channels (record { seen = g.F.Files.seen c.args.files.now; faults = g.F.Files.faults c.args.files.now; clashes = g.F.Files.clashes c.args.files.now; first = g.F.Files.first c.args.files.now }));
       run = refl;
-      stop_dump = refl;
+      dumps = refl;
     })

@@ -11,5 +11,5 @@ returns-clause-takes g c =
       ends = turns_as_many _ _ _ _ _ (c.len-count.ensures ∙ sym (length-map c.args.ports.now g.P.BufferPort.access))
           (c.end_first.ensures.ends (record { seen = g.F.Files.seen c.args.files.now; faults = g.F.Files.faults c.args.files.now; clashes = g.F.Files.clashes c.args.files.now; first = g.F.Files.first c.args.files.now }));
       run = refl;
-      stop_dump = refl;
+      dumps = refl;
     })

@@ -22,8 +22,8 @@ returns g c =
       answer = c.take_turn.result;
       run = c.args.self.now.run;
       later_run = c.take_turn.new.self.run;
-      stop_dump = c.args.self.now.stop_dump;
-      later_stop_dump = c.take_turn.new.self.stop_dump;
+      dumps = c.args.self.now.dumps;
+      later_dumps = c.take_turn.new.self.dumps;
       before = moment_of c.args.self.now.channels (map g.P.BufferPort.access c.args.ports.now) (files_by g.F.Files.seen g.F.Files.faults g.F.Files.clashes g.F.Files.first c.args.files.now);
       after = moment_of c.take_turn.new.self.channels (map g.P.BufferPort.access c.take_turn.new.ports) (files_by g.F.Files.seen g.F.Files.faults g.F.Files.clashes g.F.Files.first c.take_turn.new.files);
     } in
