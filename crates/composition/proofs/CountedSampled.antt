@@ -118,8 +118,8 @@ marking_logger history silent own = record {
   own_calls = own;
   starts = start_answer marking_stop marking_start refl refl;
   stops = λ are begin stop accepted stands is answered index channel at. absurd (cc (at));
-  ended = λ are stop index channel at tells. absurd (cc (at));
-  broken = λ are stop index channel at tells. absurd (cc (at));
+  ended = λ are stop index channel told at tells is. absurd (cc (at));
+  broken = λ are stop index channel told at tells is. absurd (cc (at));
 }
 
 counted_logger : KeepsLogger [] (marking_port counted_history) marking_turns sample_files

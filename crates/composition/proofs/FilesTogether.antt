@@ -1,9 +1,10 @@
 -- What the run files have, by the engine's history and the buffers'.
 use mathlib.Core.List.{IsPrefix}
-use Rattle.std.specs.Prelude.{◌≡◌, ℕ, ◌≤◌, List, [], ◌∷◌, ◌++◌, All, length, slice_get, unwrap_or, Option, Some, None, Ok, refl}
+use Rattle.std.specs.Prelude.{◌≡◌, ℕ, ◌≤◌, IsTrue, IsSome, List, [], ◌∷◌, ◌++◌, All, length, slice_get, unwrap_or, Option, Some, None, Ok, refl}
 use Rattle.std.proofs.Common.{ap, sym, ◌∙◌, subst, arith, inl, inr}
 use Rattle.daq_types.specs.Callers.{caller_of_client, entries_by}
 use Rattle.daq_types.specs.declared.events.Event.{Event}
+use Rattle.daq_types.specs.declared.runs.ChannelEnd.{ChannelEnd}
 use Rattle.daq_types.specs.declared.runs.ChannelState.{ChannelState}
 use Rattle.daq_types.specs.declared.runs.ChannelState.TheVariants.{Idle, Writing, Broken, Ended, NoEnd, NoMark}
 use Rattle.daq_types.specs.declared.runs.Order.{Order}
@@ -11,9 +12,13 @@ use Rattle.daq_types.specs.declared.runs.StartOutcome.{StartOutcome}
 use Rattle.daq_types.specs.declared.runs.StartOutcome.TheVariants.{Completed}
 use Rattle.daq_types.specs.declared.runs.Transition.{Transition}
 use Rattle.daq_types.specs.declared.runs.Transition.TheVariants.{Start, Stop}
-use Rattle.event.specs.Events.{record_limit}
-use Rattle.event.specs.RunFile.{begun_file, run_file, IsFileEvent}
-use Rattle.daq_io.specs.Seen.{IsStored}
+use Rattle.event.specs.Events.{encoding, record_limit}
+use Rattle.event.specs.RunFile.{end_record, IsFileEvent}
+use Rattle.daq_io.specs.Seen.{Seen}
+use Rattle.sub_files.specs.declared.open_file.Fallen.{Fallen}
+use Rattle.sub_files.specs.Patterns.{piece_name_by}
+use Rattle.sub_files.specs.Pieces.{Series, HasRun, HasPart, IsFileOf, FilesOfRun, series_of}
+use Rattle.sub_files.specs.Rolls.{fallen_at}
 use Rattle.buffer_core.specs.declared.entry.BufferEntry.{BufferEntry}
 use Rattle.buffer_core.specs.declared.entry.BufferEntry.TheVariants.{Begin as BufferBegin, Pause, Resume, End}
 use Rattle.buffer_core.specs.Histories.{History}
@@ -33,31 +38,32 @@ use Rattle.member_model.specs.ReadRuns.{HasReadRun}
 use Rattle.member_model.specs.SentCalls.{EachCall}
 use Rattle.member_model.specs.CutRuns.{MarksEnd, HasCutRun}
 use Rattle.member_model.specs.EndedRuns.{EndsBegun, MakesNoMark}
-use Rattle.member_model.specs.LoggerKept.{LoggerChannel, HasWritten, HasWrittenPart, TellsState, IsStartAnswer, IsStateSo}
+use Rattle.member_model.specs.LoggerKept.{LoggerChannel, HasWritten, HasWrittenPart, TellsChannel, IsStartAnswer, IsStateSo, IsEndSo, series_from, stop_bytes}
 use Rattle.analyzers.specs.AnalyzerKept.{IsAnalyzerCall}
 use Rattle.caller_laws.specs.OneCaller.{IsCallersPart, HaveOwnClients, MarksAlone}
-use Rattle.caller_laws.specs.CallerLaws.{ReadPlaces, ReadEvents, CutEvents, CutFile, RunFileFits, MembersFit, BegunIsEnded, SenderMakesNoMark}
+use Rattle.caller_laws.proofs.FirstParts.{as_prefix, of_prefix, part_of_part}
+use Rattle.caller_laws.specs.CallerLaws.{ReadPlaces, ReadEvents, CutEvents, RunFileFits, MembersFit, BegunIsEnded, SenderMakesNoMark}
 use Rattle.engine_laws.specs.BegunTurns.{HasTransition, HasTally}
 use Rattle.composition.specs.Sessions.{Session, turns_of, buffer_calls, MembersKeep}
-use Rattle.composition.specs.SessionRuns.{SessionRun, IsStoppedRun, run_order, ToldState, channel_events, begin_dump}
-use Rattle.composition.specs.CompositionLaws.{ChannelsTold, StatesTold, StatesSo, FilesHoldRuns, FilesHoldParts, RunsAreEnded, NoEndRefused}
+use Rattle.composition.specs.SessionRuns.{SessionRun, IsStoppedRun, run_order, ToldChannel, channel_events, begin_dump, series_in, last_record, end_time, end_dump, HoldsFileParts}
+use Rattle.composition.specs.CompositionLaws.{ChannelsTold, EndsTold, EndsSo, FilesHoldRuns, FilesHoldParts, RunsAreEnded, NoEndRefused}
 use Rattle.composition.proofs.SessionTurns.{EngineFacts, are_turns, start_turn, one_start, StopTally, number_of, stop_tally, HasStartTally, start_tally, last_tally}
 use Rattle.composition.proofs.SentTogether.{each_reads_or_sends}
+use Rattle.composition.proofs.PiecesHeld.{FitsAs, end_small, holds_piece}
 
 -- what the laws of one caller's calls say
 pub record CallerFacts : Type 0 where
   pub places : ReadPlaces
   pub events : ReadEvents
   pub cut : CutEvents
-  pub file : CutFile
   pub fits_file : RunFileFits
   pub fits : MembersFit
   pub ends : BegunIsEnded
   pub senders : SenderMakesNoMark
 
-pub yes_channels : (answer : Answer) (states : List ChannelState) → Channels states ≡ tally_of answer → answer ≡ Yes (Channels states)
-yes_channels (Yes tally) states e = ap (λ (t : Tally). Yes t) (sym e)
-yes_channels (No why) states e = absurd (cc (e))
+pub yes_channels : (answer : Answer) (ends : List ChannelEnd) → Channels ends ≡ tally_of answer → answer ≡ Yes (Channels ends)
+yes_channels (Yes tally) ends e = ap (λ (t : Tally). Yes t) (sym e)
+yes_channels (No why) ends e = absurd (cc (e))
 
 -- The logger's calls and what it got are its part of a buffer's history.
 
@@ -69,17 +75,17 @@ own_clients callers s keep buffer = (callers.fits (s.history buffer) (each_reads
 
 -- The logger's turns of the run.
 
-record LoggerRun (s : Session) (r : SessionRun) (channel : LoggerChannel) (state : ChannelState) : Type 0 where
+record LoggerRun (s : Session) (r : SessionRun) (channel : LoggerChannel) (told : ChannelEnd) : Type 0 where
   stop : MemberTurn
   number : stop.order.start ≡ r.start
   time : stop.order.time ≡ r.last.time
   dump : stop.dump ≡ r.last.dump
-  tells : TellsState (turns_of s s.logger) stop channel state
+  tells : TellsChannel (turns_of s s.logger) stop channel told
   first : (u : MemberTurn) → HasTurnOf (turns_of s s.logger) Start stop.order.start u → (u.order ≡ run_order r) × (u.dump ≡ r.first.dump)
 
-logger_run : EngineFacts → (s : Session) → MembersKeep s → (r : SessionRun) → IsStoppedRun s r → (channel : LoggerChannel) (state : ChannelState) → ToldState s r channel state → LoggerRun s r channel state
-logger_run laws s keep r run channel state told =
-    let t : StopTally s r run s.logger (Channels told.states) = stop_tally laws s keep r run s.logger told.index (Channels told.states) told.told in
+logger_run : EngineFacts → (s : Session) → MembersKeep s → (r : SessionRun) → IsStoppedRun s r → (channel : LoggerChannel) (told : ChannelEnd) → ToldChannel s r channel told → LoggerRun s r channel told
+logger_run laws s keep r run channel told is =
+    let t : StopTally s r run s.logger (Channels is.ends) = stop_tally laws s keep r run s.logger is.index (Channels is.ends) is.tells in
     let number : t.turn.order.start ≡ r.start = number_of Stop r.last r.start t.turn t.of_begin in
     let begin : HasStartTally s r run s.logger = start_tally laws s keep r run s.logger keep.logger_registered.0 in
     let t0 = begin.told in
@@ -93,9 +99,9 @@ logger_run laws s keep r run channel state told =
       tells = record {
         stands = t.stands;
         is = t.completed refl;
-        states = told.states;
-        answered = t.answered ∙ ap (λ (a : Answer). Some a) (yes_channels t.answer told.states t.tally_is);
-        told = told.state_is;
+        ends = is.ends;
+        answered = t.answered ∙ ap (λ (a : Answer). Some a) (yes_channels t.answer is.ends t.tally_is);
+        at = is.at;
       };
       first = λ u of.
           let here : HasTurnOf (turns_of s s.logger) Start r.start u = subst (λ (n : ℕ). HasTurnOf (turns_of s s.logger) Start n u) number of in
@@ -122,35 +128,68 @@ short_dump (Some bytes) short = short bytes refl
 
 -- A channel that ended.
 
-pub files_hold_runs : EngineFacts → CallerFacts → (s : Session) → MembersKeep s → FilesHoldRuns s
-files_hold_runs laws callers s keep r run index channel at told =
-    let l : LoggerRun s r channel Ended = logger_run laws s keep r run channel Ended told in
+-- its client got, of the places between the marks, just those of the events that it asks for
+abbrev IsReadInRun : Session → SessionRun → LoggerChannel → Type 0
+IsReadInRun s r channel =
+    among (segment (s.history channel.buffer) r.start) (places_got (s.history channel.buffer) channel.client)
+    ≡ places_of (wanted channel.id channel.mask (segment (s.history channel.buffer) r.start))
+
+-- what its files have in common, and how the last one ends, by the sheets
+series_so : (s : Session) (r : SessionRun) (channel : LoggerChannel) (told : ChannelEnd) (l : LoggerRun s r channel told) (start : MemberTurn) → HasTurnOf (turns_of s s.logger) Start l.stop.order.start start → series_from channel start ≡ series_in r channel
+series_so s r channel told l start of =
+    let first = l.first start of in
+    ap (λ (o : Order). series_of channel.pattern channel.limit (record { run = o.run; time = o.time }) (unwrap_or start.dump [])) first.0
+    ∙ ap (λ (dump : List ℕ). series_of channel.pattern channel.limit (record { run = r.first.run; time = r.first.time }) dump) (dump_as start.dump r.first.dump first.1)
+
+last_so : (s : Session) (r : SessionRun) (channel : LoggerChannel) (told : ChannelEnd) (l : LoggerRun s r channel told) (start : MemberTurn) → HasTurnOf (turns_of s s.logger) Start l.stop.order.start start → (dump : List ℕ)
+    → stop_bytes start l.stop dump ≡ last_record r dump
+last_so s r channel told l start of dump =
+    ap (λ (o : Order). encoding (end_record o.run l.stop.order.time dump)) (l.first start of).0
+    ∙ ap (λ (time : ℕ). encoding (end_record r.first.run time dump)) l.time
+
+-- a run file of all events that the channel asks for, with the dumps of both sheets, would not be too long
+fits_each : CallerFacts → (s : Session) → MembersKeep s → (r : SessionRun) → IsStoppedRun s r → (channel : LoggerChannel) → IsReadInRun s r channel → All IsFileEvent (channel_events s r channel)
+    → (last_dump : List ℕ) → r.last.dump ≡ Some last_dump → (many number : ℕ) → FitsAs r last_dump many number (channel_events s r channel)
+fits_each callers s keep r run channel got fine last_dump has_last many number =
+    callers.fits_file (s.size channel.buffer) (s.history channel.buffer) (keep.buffers_legal channel.buffer) channel.client channel.id channel.mask r.start got r.first.run r.first.time (end_time r many number) (begin_dump r) (end_dump last_dump many number)
+    (short_dump r.first.dump (begun_sheet s keep Start r.first r.start Completed r.first_tallies run.started).short)
+    (end_small last_dump many number ((begun_sheet s keep Stop r.last r.start Completed r.last_tallies run.stopped).short last_dump has_last))
+    fine
+
+pub files_hold_runs : EngineFacts → CallerFacts → FilesOfRun → (s : Session) → MembersKeep s → FilesHoldRuns s
+files_hold_runs laws callers files s keep r run index channel at told is ended =
+    let l : LoggerRun s r channel told = logger_run laws s keep r run channel told is in
     let b : ℕ = channel.buffer in
     let h : History = s.history b in
     let own : List BufferEntry = buffer_calls s b s.logger in
-    let w : HasWritten (record { own = own; got = s.got b }) (turns_of s s.logger) s.files channel l.stop = keep.logger_keeps.ended (are_turns laws s keep s.logger) l.stop index channel at l.tells in
-    let first = l.first w.start w.is_start.is_start in
+    let w : HasWritten (record { own = own; got = s.got b }) (turns_of s s.logger) s.files channel l.stop told.files =
+    keep.logger_keeps.ended (are_turns laws s keep s.logger) l.stop index channel told at l.tells ended in
+    let of = w.is_start.is_start in
     let reads : HasReadRun own (s.got b) channel.client channel.id channel.mask w.number r.start w.begun w.ended w.events =
     subst (λ (n : ℕ). HasReadRun own (s.got b) channel.client channel.id channel.mask w.number n w.begun w.ended w.events) l.number w.reads in
     let events : w.events ≡ channel_events s r channel =
     callers.events (s.size b) h (caller_of_client s.logger) own (s.got b) (keep.buffers_legal b) (own_clients callers s keep b) (logger_part s keep b) channel.client channel.id channel.mask w.number r.start w.begun w.ended w.events reads in
-    let dump : List ℕ = begin_dump r in
-    let first_dump : unwrap_or w.start.dump [] ≡ dump = dump_as w.start.dump r.first.dump first.1 in
-    let has_last : r.last.dump ≡ Some w.dump = sym l.dump ∙ w.has_dump in
-    let got : among (segment h r.start) (places_got h channel.client) ≡ places_of (wanted channel.id channel.mask (segment h r.start)) =
+    let got : IsReadInRun s r channel =
     callers.places (s.size b) h (caller_of_client s.logger) own (s.got b) (keep.buffers_legal b) (own_clients callers s keep b) (logger_part s keep b) channel.client channel.id channel.mask w.number r.start w.begun w.ended w.events reads in
+    let has_last : r.last.dump ≡ Some w.dump = sym l.dump ∙ w.has_dump in
+    let stored : HasRun s.files (series_in r channel) told.files w.taken (last_record r w.dump) (channel_events s r channel) =
+    subst (λ (last : List ℕ). HasRun s.files (series_in r channel) told.files w.taken last (channel_events s r channel)) (last_so s r channel told l w.start of w.dump)
+    (subst (λ (es : List Event). HasRun s.files (series_in r channel) told.files w.taken (stop_bytes w.start l.stop w.dump) es) events
+    (subst (λ (x : Series). HasRun s.files x told.files w.taken (stop_bytes w.start l.stop w.dump) w.events) (series_so s r channel told l w.start of) w.stored)) in
     record {
       last_dump = w.dump;
       has_dump = has_last;
-      bytes = run_file r.first.run r.first.time dump (channel_events s r channel) r.last.time w.dump;
-      is = callers.fits_file (s.size b) h (keep.buffers_legal b) channel.client channel.id channel.mask r.start got r.first.run r.first.time r.last.time dump w.dump
-          (short_dump r.first.dump (begun_sheet s keep Start r.first r.start Completed r.first_tallies run.started).short)
-          ((begun_sheet s keep Stop r.last r.start Completed r.last_tallies run.stopped).short w.dump has_last)
-          (subst (All IsFileEvent) events w.fine);
-      stored = subst (λ (time : ℕ). IsStored s.files (channel.name r.first.run) (run_file r.first.run r.first.time dump (channel_events s r channel) time w.dump)) l.time
-          (subst (λ (es : List Event). IsStored s.files (channel.name r.first.run) (run_file r.first.run r.first.time dump es l.stop.order.time w.dump)) events
-          (subst (λ (d : List ℕ). IsStored s.files (channel.name r.first.run) (run_file r.first.run r.first.time d w.events l.stop.order.time w.dump)) first_dump
-          (subst (λ (o : Order). IsStored s.files (channel.name o.run) (run_file o.run o.time (unwrap_or w.start.dump []) w.events l.stop.order.time w.dump)) first.0 w.stored)));
+      pieces = stored.pieces;
+      each = sym stored.many;
+      few = stored.few;
+      taken = w.taken;
+      beyond = subst (λ (o : Order). IsTrue w.taken → IsTrue s.files.tells → IsSome (s.files.at (piece_name_by channel.pattern o.run told.files))) (l.first w.start of).0 w.beyond;
+      cut = stored.cut;
+      files = λ number piece there.
+          holds_piece s r channel w.dump told.files (channel_events s r channel) stored.pieces stored.cut.joins
+          (fits_each callers s keep r run channel got (subst (All IsFileEvent) events w.fine) w.dump has_last told.files) number piece there
+          (subst (λ (many : ℕ). IsFileOf s.files (series_in r channel) (last_record r w.dump) many number piece) (sym stored.many)
+          (files s.files (series_in r channel) told.files w.taken (last_record r w.dump) (channel_events s r channel) stored number piece there));
       got = got;
     }
 
@@ -159,10 +198,10 @@ files_hold_runs laws callers s keep r run index channel at told =
 pub plain_start : (answer : Answer) (tally : Tally) → answer ≡ Yes tally → IsStartAnswer answer → answer ≡ Yes Plain
 plain_start answer tally is plain = is ∙ ap (λ (t : Tally). Yes t) (subst IsStartAnswer is plain)
 
-told_channels : (tally : Tally) (turn_answer : Option Answer) (answer : Answer) (states : List ChannelState) → tally ≡ tally_of answer → turn_answer ≡ Some answer → turn_answer ≡ Some (Yes (Channels states)) → tally ≡ Channels states
-told_channels tally turn_answer answer states is answered told =
-    let both : Some answer ≡ Some (Yes (Channels states)) = sym answered ∙ told in
-    let same : answer ≡ Yes (Channels states) = cc (both) in
+told_channels : (tally : Tally) (turn_answer : Option Answer) (answer : Answer) (ends : List ChannelEnd) → tally ≡ tally_of answer → turn_answer ≡ Some answer → turn_answer ≡ Some (Yes (Channels ends)) → tally ≡ Channels ends
+told_channels tally turn_answer answer ends is answered told =
+    let both : Some answer ≡ Some (Yes (Channels ends)) = sym answered ∙ told in
+    let same : answer ≡ Yes (Channels ends) = cc (both) in
     is ∙ ap tally_of same
 
 -- the logger accepted the start of the run
@@ -189,58 +228,58 @@ channels_told laws s keep r run index channel at =
     let number : t1.turn.order.start ≡ r.start = number_of Stop r.last r.start t1.turn t1.of_begin in
     let told = keep.logger_keeps.stops (are_turns laws s keep s.logger) begin.0 t1.turn (subst (λ (n : ℕ). IsAcceptedStart turns n begin.0) (sym number) begin.1)
     t1.stands (t1.completed refl) (subst HasAnswer (sym t1.answered) tt) index channel at in
-    let tally : last.1 ≡ Channels told.1.states = told_channels last.1 t1.turn.answer t1.answer told.1.states t1.tally_is t1.answered told.1.answered in (
+    let tally : last.1 ≡ Channels told.1.ends = told_channels last.1 t1.turn.answer t1.answer told.1.ends t1.tally_is t1.answered told.1.answered in (
       told.0,
       record {
         index = last.0;
-        states = told.1.states;
-        told = last.2 ∙ ap (λ (x : Tally). Some (record { client = s.logger; tally = x })) tally;
-        state_is = told.1.told;
+        ends = told.1.ends;
+        tells = last.2 ∙ ap (λ (x : Tally). Some (record { client = s.logger; tally = x })) tally;
+        at = told.1.at;
       },
-      subst (λ (d : Option (List ℕ)). IsStateSo own r.start d told.0) (t1.dump keep.one_dump (t1.completed refl)) (subst (λ (n : ℕ). IsStateSo own n t1.turn.dump told.0) number told.2),
+      subst (λ (d : Option (List ℕ)). IsEndSo own r.start d told.0) (t1.dump keep.one_dump (t1.completed refl)) (subst (λ (n : ℕ). IsEndSo own n t1.turn.dump told.0) number told.2),
     )
 
--- And each list of states that it told there has a state of each channel.
-pub states_told : EngineFacts → (s : Session) → MembersKeep s → StatesTold s
-states_told laws s keep r run place states there index channel at =
+-- And each list that it told there tells of each channel.
+pub ends_told : EngineFacts → (s : Session) → MembersKeep s → EndsTold s
+ends_told laws s keep r run place ends there index channel at =
     let turns : List MemberTurn = turns_of s s.logger in
     let begin : (turn : MemberTurn) × IsAcceptedStart turns r.start turn = accepted_start laws s keep r run in
-    let t1 : StopTally s r run s.logger (Channels states) = stop_tally laws s keep r run s.logger place (Channels states) there in
+    let t1 : StopTally s r run s.logger (Channels ends) = stop_tally laws s keep r run s.logger place (Channels ends) there in
     let number : t1.turn.order.start ≡ r.start = number_of Stop r.last r.start t1.turn t1.of_begin in
     let told = keep.logger_keeps.stops (are_turns laws s keep s.logger) begin.0 t1.turn (subst (λ (n : ℕ). IsAcceptedStart turns n begin.0) (sym number) begin.1)
     t1.stands (t1.completed refl) (subst HasAnswer (sym t1.answered) tt) index channel at in
-    let tally : Channels states ≡ Channels told.1.states = told_channels (Channels states) t1.turn.answer t1.answer told.1.states t1.tally_is t1.answered told.1.answered in
-    let same : states ≡ told.1.states = cc (tally) in
-    (told.0, subst (λ (l : List ChannelState). slice_get l channel.number ≡ Some told.0) (sym same) told.1.told)
+    let tally : Channels ends ≡ Channels told.1.ends = told_channels (Channels ends) t1.turn.answer t1.answer told.1.ends t1.tally_is t1.answered told.1.answered in
+    let same : ends ≡ told.1.ends = cc (tally) in
+    (told.0, subst (λ (l : List ChannelEnd). slice_get l channel.number ≡ Some told.0) (sym same) told.1.at)
 
--- One state was told of a channel.
+-- One thing was told of a channel.
 
-one_answer : (answer : Option Answer) (states others : List ChannelState) → answer ≡ Some (Yes (Channels states)) → answer ≡ Some (Yes (Channels others)) → states ≡ others
-one_answer answer states others one other =
-    let both : Some (Yes (Channels states)) ≡ Some (Yes (Channels others)) = sym one ∙ other in
+one_answer : (answer : Option Answer) (ends others : List ChannelEnd) → answer ≡ Some (Yes (Channels ends)) → answer ≡ Some (Yes (Channels others)) → ends ≡ others
+one_answer answer ends others one other =
+    let both : Some (Yes (Channels ends)) ≡ Some (Yes (Channels others)) = sym one ∙ other in
     cc (both)
 
-one_state : (turns : List MemberTurn) (stop : MemberTurn) (channel : LoggerChannel) (state other : ChannelState) → TellsState turns stop channel state → TellsState turns stop channel other → state ≡ other
-one_state turns stop channel state other t u =
-    let states : t.states ≡ u.states = one_answer stop.answer t.states u.states t.answered u.answered in
-    let both : Some state ≡ Some other = sym t.told ∙ (ap (λ (l : List ChannelState). slice_get l channel.number) states ∙ u.told) in
+one_end : (turns : List MemberTurn) (stop : MemberTurn) (channel : LoggerChannel) (told other : ChannelEnd) → TellsChannel turns stop channel told → TellsChannel turns stop channel other → told ≡ other
+one_end turns stop channel told other t u =
+    let ends : t.ends ≡ u.ends = one_answer stop.answer t.ends u.ends t.answered u.answered in
+    let both : Some told ≡ Some other = sym t.at ∙ (ap (λ (l : List ChannelEnd). slice_get l channel.number) ends ∙ u.at) in
     cc (both)
 
 -- and it is so by the logger's calls
-state_so : EngineFacts → (s : Session) → MembersKeep s → (r : SessionRun) → IsStoppedRun s r → (index : ℕ) (channel : LoggerChannel) → slice_get s.channels index ≡ Some channel → (state : ChannelState)
-    → LoggerRun s r channel state → IsStateSo (buffer_calls s channel.buffer s.logger) r.start r.last.dump state
-state_so laws s keep r run index channel at state l =
+end_so : EngineFacts → (s : Session) → MembersKeep s → (r : SessionRun) → IsStoppedRun s r → (index : ℕ) (channel : LoggerChannel) → slice_get s.channels index ≡ Some channel → (told : ChannelEnd)
+    → LoggerRun s r channel told → IsEndSo (buffer_calls s channel.buffer s.logger) r.start r.last.dump told
+end_so laws s keep r run index channel at end l =
     let turns : List MemberTurn = turns_of s s.logger in
     let own : List BufferEntry = buffer_calls s channel.buffer s.logger in
     let begin : (turn : MemberTurn) × IsAcceptedStart turns r.start turn = accepted_start laws s keep r run in
     let told = keep.logger_keeps.stops (are_turns laws s keep s.logger) begin.0 l.stop (subst (λ (n : ℕ). IsAcceptedStart turns n begin.0) (sym l.number) begin.1)
     l.tells.stands l.tells.is (subst HasAnswer (sym l.tells.answered) tt) index channel at in
-    let same : told.0 ≡ state = one_state turns l.stop channel told.0 state told.1 l.tells in
-    subst (λ (st : ChannelState). IsStateSo own r.start r.last.dump st) same
-    (subst (λ (d : Option (List ℕ)). IsStateSo own r.start d told.0) l.dump (subst (λ (n : ℕ). IsStateSo own n l.stop.dump told.0) l.number told.2))
+    let same : told.0 ≡ end = one_end turns l.stop channel told.0 end told.1 l.tells in
+    subst (λ (x : ChannelEnd). IsEndSo own r.start r.last.dump x) same
+    (subst (λ (d : Option (List ℕ)). IsEndSo own r.start d told.0) l.dump (subst (λ (n : ℕ). IsEndSo own n l.stop.dump told.0) l.number told.2))
 
-pub states_so : EngineFacts → (s : Session) → MembersKeep s → StatesSo s
-states_so laws s keep r run index channel at state told = state_so laws s keep r run index channel at state (logger_run laws s keep r run channel state told)
+pub ends_so : EngineFacts → (s : Session) → MembersKeep s → EndsSo s
+ends_so laws s keep r run index channel at told is = end_so laws s keep r run index channel at told (logger_run laws s keep r run channel told is)
 
 -- The logger alone makes marks.
 
@@ -293,52 +332,73 @@ state_ends own start dump NoMark ends so = ends so.0
 pub runs_are_ended : EngineFacts → CallerFacts → (s : Session) → MembersKeep s → RunsAreEnded s
 runs_are_ended laws callers s keep r run index channel at =
     let told = channels_told laws s keep r run index channel at in
-    state_ends (buffer_calls s channel.buffer s.logger) r.start r.last.dump told.0 (logger_ends callers s keep channel.buffer r.start) told.2
+    state_ends (buffer_calls s channel.buffer s.logger) r.start r.last.dump told.0.state (logger_ends callers s keep channel.buffer r.start) told.2.state
 
 pub no_end_refused : EngineFacts → CallerFacts → (s : Session) → MembersKeep s → NoEndRefused s
-no_end_refused laws callers s keep r run index channel at told =
-    let l : LoggerRun s r channel NoMark = logger_run laws s keep r run channel NoMark told in
-    let so : IsStateSo (buffer_calls s channel.buffer s.logger) r.start r.last.dump NoMark = state_so laws s keep r run index channel at NoMark l in
-    let marks : (ended : ℕ) × MarksEnd (buffer_calls s channel.buffer s.logger) r.start ended = logger_ends callers s keep channel.buffer r.start so.0 in
+no_end_refused laws callers s keep r run index channel at told is no_mark =
+    let l : LoggerRun s r channel told = logger_run laws s keep r run channel told is in
+    let own : List BufferEntry = buffer_calls s channel.buffer s.logger in
+    let so : IsStateSo own r.start r.last.dump NoMark = subst (λ (state : ChannelState). IsStateSo own r.start r.last.dump state) no_mark (end_so laws s keep r run index channel at told l).state in
+    let marks : (ended : ℕ) × MarksEnd own r.start ended = logger_ends callers s keep channel.buffer r.start so.0 in
     so.2 marks.0 marks.1
 
 -- A channel that broke off.
 
+part_of_more : (seen : Seen) (s : Series) (fallen : Fallen) (events more : List Event) → IsPrefix events more → HasPart seen s fallen [] events → HasPart seen s fallen [] more
+part_of_more seen s fallen events more part h = record {
+  small = h.small;
+  first = h.first;
+  front = as_prefix h.first more (part_of_part h.first events more (of_prefix h.first events h.front) (of_prefix events more part));
+  ends = inl refl;
+  taken = h.taken;
+  whole = h.whole;
+  rest = h.rest;
+  some = h.some;
+  two = h.two;
+  cut = h.cut;
+  framed = h.framed;
+  files = h.files;
+  few = h.few;
+  stored = h.stored;
+  parts = h.parts;
+}
+
 pub files_hold_parts : EngineFacts → CallerFacts → (s : Session) → MembersKeep s → FilesHoldParts s
-files_hold_parts laws callers s keep r run index channel at told last_dump has_last =
-    let l : LoggerRun s r channel Broken = logger_run laws s keep r run channel Broken told in
+files_hold_parts laws callers s keep r run index channel at told is broken last_dump has_last =
+    let l : LoggerRun s r channel told = logger_run laws s keep r run channel told is in
     let b : ℕ = channel.buffer in
     let h : History = s.history b in
     let own : List BufferEntry = buffer_calls s b s.logger in
-    let so : EndsBegun own r.start = state_so laws s keep r run index channel at Broken l in
+    let so : EndsBegun own r.start = subst (λ (state : ChannelState). IsStateSo own r.start r.last.dump state) broken (end_so laws s keep r run index channel at told l).state in
     let found : (ended : ℕ) × MarksEnd own r.start ended = logger_ends callers s keep b r.start so in
     let ended : ℕ = found.0 in
     let marks_stop : MarksEnd own l.stop.order.start ended = subst (λ (n : ℕ). MarksEnd own n ended) (sym l.number) found.1 in
-    let w : HasWrittenPart (record { own = own; got = s.got b }) (turns_of s s.logger) s.files channel l.stop ended last_dump =
-    keep.logger_keeps.broken (are_turns laws s keep s.logger) l.stop index channel at l.tells ended marks_stop last_dump (l.dump ∙ has_last) in
-    let first = l.first w.start w.is_start.is_start in
-    let dump : List ℕ = begin_dump r in
-    let first_dump : unwrap_or w.start.dump [] ≡ dump = dump_as w.start.dump r.first.dump first.1 in
-    record {
-      bytes = w.bytes;
-      stored = subst (λ (o : Order). IsStored s.files (channel.name o.run) w.bytes) first.0 w.stored;
-      part = elim w.part as (λ x. IsPrefix w.bytes (run_file r.first.run r.first.time dump (channel_events s r channel) r.last.time last_dump)) [
-        | inl cut ↦
-            let read : HasCutRun own (s.got b) channel.client channel.id channel.mask w.number r.start w.begun ended w.events =
-            subst (λ (n : ℕ). HasCutRun own (s.got b) channel.client channel.id channel.mask w.number n w.begun ended w.events) l.number cut.0 in
-            let events : IsPrefix w.events (channel_events s r channel) =
-            callers.cut (s.size b) h (caller_of_client s.logger) own (s.got b) (keep.buffers_legal b) (own_clients callers s keep b) (logger_part s keep b) channel.client channel.id channel.mask w.number r.start w.begun ended w.events read in
-            callers.file r.first.run r.first.time r.last.time dump last_dump w.bytes w.events (channel_events s r channel) events
-            (subst (λ (d : List ℕ). IsPrefix w.bytes (begun_file r.first.run r.first.time d w.events)) first_dump
-            (subst (λ (o : Order). IsPrefix w.bytes (begun_file o.run o.time (unwrap_or w.start.dump []) w.events)) first.0 cut.1))
-        | inr whole ↦
-            let read : HasReadRun own (s.got b) channel.client channel.id channel.mask w.number r.start w.begun ended w.events =
-            subst (λ (n : ℕ). HasReadRun own (s.got b) channel.client channel.id channel.mask w.number n w.begun ended w.events) l.number whole.0 in
-            let events : w.events ≡ channel_events s r channel =
-            callers.events (s.size b) h (caller_of_client s.logger) own (s.got b) (keep.buffers_legal b) (own_clients callers s keep b) (logger_part s keep b) channel.client channel.id channel.mask w.number r.start w.begun ended w.events read in
-            subst (λ (time : ℕ). IsPrefix w.bytes (run_file r.first.run r.first.time dump (channel_events s r channel) time last_dump)) l.time
-            (subst (λ (es : List Event). IsPrefix w.bytes (run_file r.first.run r.first.time dump es l.stop.order.time last_dump)) events
-            (subst (λ (d : List ℕ). IsPrefix w.bytes (run_file r.first.run r.first.time d w.events l.stop.order.time last_dump)) first_dump
-            (subst (λ (o : Order). IsPrefix w.bytes (run_file o.run o.time (unwrap_or w.start.dump []) w.events l.stop.order.time last_dump)) first.0 whole.1)))
-      ];
-    }
+    let w : HasWrittenPart (record { own = own; got = s.got b }) (turns_of s s.logger) s.files channel l.stop told ended last_dump =
+    keep.logger_keeps.broken (are_turns laws s keep s.logger) l.stop index channel told at l.tells broken ended marks_stop last_dump (l.dump ∙ has_last) in
+    let series : series_from channel w.start ≡ series_in r channel = series_so s r channel told l w.start w.is_start.is_start in
+    let fallen : Fallen = fallen_at told.files told.framed in
+    elim w.part as (λ x. HoldsFileParts s r channel last_dump told) [
+      | inl cut ↦
+          let read : HasCutRun own (s.got b) channel.client channel.id channel.mask w.number r.start w.begun ended w.events =
+          subst (λ (n : ℕ). HasCutRun own (s.got b) channel.client channel.id channel.mask w.number n w.begun ended w.events) l.number cut.0 in
+          let events : IsPrefix w.events (channel_events s r channel) =
+          callers.cut (s.size b) h (caller_of_client s.logger) own (s.got b) (keep.buffers_legal b) (own_clients callers s keep b) (logger_part s keep b) channel.client channel.id channel.mask w.number r.start w.begun ended w.events read in
+          record {
+            last = [];
+            last_is = inl refl;
+            part = part_of_more s.files (series_in r channel) fallen w.events (channel_events s r channel) events
+                (subst (λ (x : Series). HasPart s.files x fallen [] w.events) series cut.1);
+          }
+      | inr whole ↦
+          let read : HasReadRun own (s.got b) channel.client channel.id channel.mask w.number r.start w.begun ended w.events =
+          subst (λ (n : ℕ). HasReadRun own (s.got b) channel.client channel.id channel.mask w.number n w.begun ended w.events) l.number whole.0 in
+          let events : w.events ≡ channel_events s r channel =
+          callers.events (s.size b) h (caller_of_client s.logger) own (s.got b) (keep.buffers_legal b) (own_clients callers s keep b) (logger_part s keep b) channel.client channel.id channel.mask w.number r.start w.begun ended w.events read in
+          record {
+            last = last_record r last_dump;
+            last_is = inr refl;
+            part = subst (λ (bytes : List ℕ). HasPart s.files (series_in r channel) fallen bytes (channel_events s r channel)) (last_so s r channel told l w.start w.is_start.is_start last_dump)
+                (subst (λ (es : List Event). HasPart s.files (series_in r channel) fallen (stop_bytes w.start l.stop last_dump) es) events
+                (subst (λ (x : Series). HasPart s.files x fallen (stop_bytes w.start l.stop last_dump) w.events) series whole.1));
+          }
+    ]

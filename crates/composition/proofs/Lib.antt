@@ -2,6 +2,7 @@ pub mod SessionTurns
 pub mod SentTogether
 pub mod SetsStand
 pub mod SetTogether
+pub mod PiecesHeld
 pub mod FilesTogether
 pub mod SeenBy
 pub mod ReportsTogether

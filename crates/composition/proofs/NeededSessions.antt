@@ -1,11 +1,12 @@
 -- The sessions of `NeededSamples` are as is said of them.
 use Rattle.std.specs.Prelude.{◌≡◌, ◌≢◌, ℕ, zero, suc, ◌==◌, Bool, true, false, List, [], ◌∷◌, ◌++◌, length, take, drop, slice_get, Option, Some, None, Ok, refl, ◌⊎◌}
 use Rattle.std.specs.List.{AllByRecursion}
-use Rattle.std.proofs.Common.{ap, sym, ◌∙◌, subst, arith, inl, inr, ne_eqb}
+use Rattle.std.proofs.Common.{ap, sym, ◌∙◌, subst, arith, inl, inr, ne_eqb, append-nil}
 use Rattle.std.proofs.lemmas.Bool.{eqb-true, eqb-false}
 use Rattle.std.proofs.lemmas.List.Elements.{All-nil, All-cons}
 use Rattle.daq_types.specs.Callers.{caller_of_client, entries_by}
 use Rattle.daq_types.specs.declared.events.Event.{Event}
+use Rattle.daq_types.specs.declared.runs.ChannelEnd.{ChannelEnd}
 use Rattle.daq_types.specs.declared.runs.ChannelState.{ChannelState}
 use Rattle.daq_types.specs.declared.runs.ChannelState.TheVariants.{Ended, Broken, NoEnd}
 use Rattle.daq_types.specs.declared.runs.FrontEnded.TheVariants.{Quota}
@@ -16,7 +17,8 @@ use Rattle.daq_types.specs.declared.runs.Transition.TheVariants.{Start, Stop}
 use Rattle.buffer_core.specs.declared.entry.BufferEntry.TheVariants.{Begin as BufferBegin}
 use Rattle.event.specs.Events.{header_bytes, matches}
 use Rattle.event.specs.RunFile.{run_file, IsFileEvent}
-use Rattle.daq_io.specs.Seen.{Stored, stored_closed}
+use Rattle.daq_io.specs.Seen.{Seen, Stored, IsStored, stored_closed}
+use Rattle.sub_files.specs.Cuts.{joined}
 use Rattle.buffer_core.proofs.SlotLaws.{split}
 use Rattle.buffer_core.specs.Window.{opening}
 use Rattle.buffer_core.specs.Histories.{IsLegal}
@@ -42,7 +44,7 @@ use Rattle.member_model.specs.Turns.{MemberTurn, HasTurn}
 use Rattle.member_model.specs.Moments.{HasMoment}
 use Rattle.member_model.specs.SentCalls.{own_sent, EachCall}
 use Rattle.member_model.specs.OwnCalls.{calls_after, AreOwnCalls, SendsNone, AreGivenBy}
-use Rattle.member_model.specs.LoggerKept.{LoggerChannel, LoggerPort, HasWritten, KeepsLogger, TellsState, IsStateSo, IsStartAnswer}
+use Rattle.member_model.specs.LoggerKept.{LoggerChannel, LoggerPort, HasWritten, KeepsLogger, TellsChannel, IsStateSo, IsEndSo, IsStartAnswer, series_from, stop_bytes}
 use Rattle.front_ends.specs.FrontKept.{KeepsFront, KeepsMoments}
 use Rattle.analyzers.specs.AnalyzerKept.{KeepsAnalyzer}
 use Rattle.caller_laws.specs.OneCaller.{WasSentAt}
@@ -50,11 +52,11 @@ use Rattle.caller_laws.specs.CallerSamples.{reading_history}
 use Rattle.engine_laws.specs.BegunTurns.{IsRegisteredIn, HasTransition}
 use Rattle.composition.specs.SentSets.{AreTurnSets}
 use Rattle.composition.specs.Sessions.{Session, SessionFront, SessionAnalyzer, HasFront, IsMemberCaller, turns_of, buffer_calls, database_calls, IsRegistered}
-use Rattle.composition.specs.SessionRuns.{IsStoppedRun, ToldState, channel_events}
+use Rattle.composition.specs.SessionRuns.{SessionRun, IsStoppedRun, ToldChannel, HoldsPiece, HoldsRunFiles, file_name, channel_events}
 use Rattle.composition.specs.CompositionLaws.{FrontsTell, FrontsSent, FrontsStand, FrontsSet, StopsSet, OnlyFrontsSent, ChannelsTold, FilesHoldRuns, ReportsTold}
-use Rattle.composition.specs.SessionSamples.{first_sheet, last_sheet, first_tallies, last_tallies, sample_engine, sample_history, sample_name, sample_database, sample_front, sample_channel, sample_files, sample_session, sample_run}
-use Rattle.composition.specs.NeededSamples.{SessionPremise, LegalBuffers, LegalEngine, OwnNames, MemberCalls, KeptFronts, FrontMoments, FrontNumbers, KeptLogger, LoggerEvents, KeptAnalyzers, AnalyzerEvents, FrontsThere, AnalyzersThere, LoggerThere, OneDump, MeetsSession, FailsSession, unmarked_session, unknown_sender, other_maker, other_made, early_front, early_session, nothing_set, watching_front, nothing_stored, other_got, other_files, other_told, sample_analyzer, front_for_analyzer, unknown_analyzer, absent_front, unknown_front, no_files, empty_engine, empty_run, unknown_logger, made_up_engine, made_up, ended_run, spoken_for_engine, spoken_for, no_dump_engine, marked_history, no_dump, no_end_run}
-use Rattle.composition.proofs.Sampled.{first_fair, last_fair, front_calls, front_turns, front_keeps, front_moments, front_set, only_channel, no_analyzer, none_of_others, logger_turns, logger_start, logger_stop, run_read_of, stop_is, never_broken, logger_is_kept, sample_keeps, sample_stopped}
+use Rattle.composition.specs.SessionSamples.{whole_file, first_sheet, last_sheet, first_tallies, last_tallies, sample_engine, sample_history, sample_name, sample_database, sample_front, sample_channel, sample_files, sample_session, sample_run}
+use Rattle.composition.specs.NeededSamples.{no_end_file, SessionPremise, LegalBuffers, LegalEngine, OwnNames, MemberCalls, KeptFronts, FrontMoments, FrontNumbers, KeptLogger, LoggerEvents, KeptAnalyzers, AnalyzerEvents, FrontsThere, AnalyzersThere, LoggerThere, OneDump, MeetsSession, FailsSession, unmarked_session, unknown_sender, other_maker, other_made, early_front, early_session, nothing_set, watching_front, nothing_stored, other_got, other_files, other_told, sample_analyzer, front_for_analyzer, unknown_analyzer, absent_front, unknown_front, no_files, empty_engine, empty_run, unknown_logger, made_up_engine, made_up, ended_run, spoken_for_engine, spoken_for, no_dump_engine, marked_history, no_dump, no_end_run}
+use Rattle.composition.proofs.Sampled.{first_fair, last_fair, front_calls, front_turns, front_keeps, front_moments, front_set, only_channel, no_analyzer, none_of_others, logger_turns, logger_start, logger_stop, run_read_of, stop_is, one_file, whole_not_broken, told_of_only, logger_is_kept, sample_keeps, sample_stopped}
 
 -- The sample session meets all.
 
@@ -120,8 +122,8 @@ unmarked_logger = record {
   own_calls = own;
   starts = logger_is_kept.starts;
   stops = λ are begin stop accepted stands is answered index channel at. absurd (cc (at));
-  ended = λ are stop index channel at tells. absurd (cc (at));
-  broken = λ are stop index channel at tells. absurd (cc (at));
+  ended = λ are stop index channel told at tells is. absurd (cc (at));
+  broken = λ are stop index channel told at tells is. absurd (cc (at));
 }
   where
     silent : (buffer : ℕ) → EachCall SendsNone (buffer_calls unmarked_session buffer 0)
@@ -342,13 +344,30 @@ others_of_unstored OneDump ne = sample_keeps.one_dump
 not_stored : {X : Type 0} {x : X} → None ≡ Some x → ⊥
 not_stored {X} {x} e = cc (e)
 
-ended_told_in : (s : Session) → s.logger ≡ 0 → ToldState s sample_run sample_channel Ended
-ended_told_in s is = record { index = 0; states = Ended ∷ []; told = ap (λ (n : ℕ). Some (record { client = n; tally = Channels (Ended ∷ []) })) (sym is); state_is = refl }
+-- one file was told, so there is one piece
+one_piece : (pieces : List (List Event)) → length pieces ≡ 1 → (piece : List Event) × (pieces ≡ piece ∷ [])
+one_piece [] e = absurd (omega (arith, e))
+one_piece (piece ∷ []) e = (piece, refl)
+one_piece (piece ∷ next ∷ pieces) e = absurd (omega (arith, e))
+
+-- and its file is that of the run
+first_held : (s : Session) (r : SessionRun) (channel : LoggerChannel) (held : HoldsRunFiles s r channel 1) → (piece : List Event) × (held.pieces ≡ piece ∷ []) × HoldsPiece s r channel held.last_dump 1 0 piece
+first_held s r channel held =
+    let one : (piece : List Event) × (held.pieces ≡ piece ∷ []) = one_piece held.pieces held.each in
+    (one.0, one.1, held.files 0 one.0 (ap (λ (l : List (List Event)). slice_get l 0) one.1))
+
+none_held : (s : Session) (r : SessionRun) (channel : LoggerChannel) → s.files ≡ no_files → HoldsRunFiles s r channel 1 → ⊥
+none_held s r channel none held =
+    let file = (first_held s r channel held).2 in
+    not_stored ((subst (λ (seen : Seen). IsStored seen (file_name r channel 0) file.bytes) none file.stored).holds refl)
+
+ended_told_in : (s : Session) → s.logger ≡ 0 → ToldChannel s sample_run sample_channel whole_file
+ended_told_in s is = record { index = 0; ends = whole_file ∷ []; tells = ap (λ (n : ℕ). Some (record { client = n; tally = Channels (whole_file ∷ []) })) (sym is); at = refl }
 
 pub logger_needed : FailsSession KeptLogger nothing_stored FilesHoldRuns
 logger_needed = record {
   others = others_of_unstored;
-  wrong = λ law. not_stored ((law sample_run (stopped_in nothing_stored refl) 0 sample_channel refl (ended_told_in nothing_stored refl)).stored.holds refl);
+  wrong = λ law. none_held nothing_stored sample_run sample_channel refl (law sample_run (stopped_in nothing_stored refl) 0 sample_channel refl whole_file (ended_told_in nothing_stored refl) refl);
 }
 
 -- Another event was told than the one that was sent.
@@ -356,7 +375,7 @@ logger_needed = record {
 abbrev other_port : (buffer : ℕ) → LoggerPort
 other_port buffer = record { own = buffer_calls other_told buffer 0; got = other_got buffer }
 
-other_written : HasWritten (other_port 0) logger_turns other_files sample_channel logger_stop
+other_written : HasWritten (other_port 0) logger_turns other_files sample_channel logger_stop 1
 other_written = record {
   start = logger_start;
   is_start = record { is_start = record { stands = inr (inl refl); is = refl; of = refl }; accepted = refl };
@@ -368,7 +387,9 @@ other_written = record {
   events = longer_event ∷ [];
   reads = run_read_of longer_event;
   fine = All-cons IsFileEvent longer_event [] (record { begins_none = λ e. omega (arith, e); ends_none = λ e. omega (arith, e); small = omega arith }) (All-nil IsFileEvent);
-  stored = record { holds = λ tells. refl };
+  taken = false;
+  beyond = λ (never : false ≡ true). absurd (cc (never));
+  stored = one_file other_files (series_from sample_channel logger_start) (stop_bytes logger_start logger_stop (8 ∷ [])) longer_event (omega arith) (record { holds = λ tells. refl });
 }
 
 other_logger : KeepsLogger (sample_channel ∷ []) other_port logger_turns other_files
@@ -377,10 +398,11 @@ other_logger = record {
   own_calls = logger_is_kept.own_calls;
   starts = logger_is_kept.starts;
   stops = logger_is_kept.stops;
-  ended = λ are stop index channel at tells.
-      subst (λ (c : LoggerChannel). HasWritten (other_port c.buffer) logger_turns other_files c stop) (only_channel index channel at)
-      (subst (HasWritten (other_port 0) logger_turns other_files sample_channel) (stop_is stop tells.stands tells.is) other_written);
-  broken = λ are stop index channel at tells. absurd (never_broken stop (subst (λ (c : LoggerChannel). TellsState logger_turns stop c Broken) (sym (only_channel index channel at)) tells));
+  ended = λ are stop index channel told at tells is.
+      subst (λ (c : LoggerChannel). HasWritten (other_port c.buffer) logger_turns other_files c stop told.files) (only_channel index channel at)
+      (subst (λ (x : ChannelEnd). HasWritten (other_port 0) logger_turns other_files sample_channel stop x.files) (told_of_only index channel stop told at tells)
+      (subst (λ (t : MemberTurn). HasWritten (other_port 0) logger_turns other_files sample_channel t 1) (stop_is stop tells.stands tells.is) other_written));
+  broken = λ are stop index channel told at tells is. absurd (whole_not_broken told (told_of_only index channel stop told at tells) is);
 }
 
 others_of_told : (other : SessionPremise) → other ≢ LoggerEvents → MeetsSession other other_told
@@ -422,8 +444,11 @@ pub events_needed : FailsSession LoggerEvents other_told FilesHoldRuns
 events_needed = record {
   others = others_of_told;
   wrong = λ law.
-      let held = law sample_run (stopped_in other_told refl) 0 sample_channel refl (ended_told_in other_told refl) in
-      other_file (channel_events other_told sample_run sample_channel) one_event (of_last (channel_events other_told sample_run sample_channel) held.last_dump held.has_dump (held.stored.holds refl ∙ ap (λ (bytes : List ℕ). Some (stored_closed bytes)) held.is.is_file));
+      let held = law sample_run (stopped_in other_told refl) 0 sample_channel refl whole_file (ended_told_in other_told refl) refl in
+      let first = first_held other_told sample_run sample_channel held in
+      let file = first.2 in
+      let piece : first.0 ≡ sample_event ∷ [] = sym (append-nil first.0) ∙ (sym (ap joined first.1) ∙ (held.cut.joins ∙ one_event)) in
+      other_file first.0 piece (of_last first.0 held.last_dump held.has_dump (file.stored.holds refl ∙ ap (λ (bytes : List ℕ). Some (stored_closed bytes)) file.is.is_file));
 }
   where
     of_last : (events : List Event) (dump : List ℕ) → Some (8 ∷ []) ≡ Some dump
@@ -559,8 +584,8 @@ quiet_logger = record {
   own_calls = λ buffer. tt;
   starts = λ start answer has. absurd has;
   stops = λ are begin stop accepted. absurd accepted.is_start.stands;
-  ended = λ are stop index channel at tells. absurd tells.stands;
-  broken = λ are stop index channel at tells. absurd tells.stands;
+  ended = λ are stop index channel told at tells is. absurd tells.stands;
+  broken = λ are stop index channel told at tells is. absurd tells.stands;
 }
 
 -- the logger is registered before the first begin
@@ -613,7 +638,7 @@ empty_stopped = record {
 }
 
 pub logger_there_needed : FailsSession LoggerThere unknown_logger ChannelsTold
-logger_there_needed = record { others = others_of_logger; wrong = λ law. let it = law empty_run empty_stopped 0 sample_channel refl in no_item it.1.index it.1.told }
+logger_there_needed = record { others = others_of_logger; wrong = λ law. let it = law empty_run empty_stopped 0 sample_channel refl in no_item it.1.index it.1.tells }
 
 others_of_made_up : (other : SessionPremise) → other ≢ LegalEngine → MeetsSession other made_up
 others_of_made_up LegalBuffers ne = λ buffer. tt
@@ -644,7 +669,7 @@ made_up_stopped = record {
 pub engine_needed : FailsSession LegalEngine made_up FilesHoldRuns
 engine_needed = record {
   others = others_of_made_up;
-  wrong = λ law. not_stored ((law ended_run made_up_stopped 0 sample_channel refl (record { index = 0; states = Ended ∷ []; told = refl; state_is = refl })).stored.holds refl);
+  wrong = λ law. none_held made_up ended_run sample_channel refl (law ended_run made_up_stopped 0 sample_channel refl whole_file (record { index = 0; ends = whole_file ∷ []; tells = refl; at = refl }) refl);
 }
 
 spoken_for_legal : IsLegalEngine engine_opening spoken_for_engine
@@ -681,7 +706,7 @@ spoken_for_stopped = record {
 pub names_needed : FailsSession OwnNames spoken_for FilesHoldRuns
 names_needed = record {
   others = others_of_spoken_for;
-  wrong = λ law. not_stored ((law ended_run spoken_for_stopped 0 sample_channel refl (record { index = 0; states = Ended ∷ []; told = refl; state_is = refl })).stored.holds refl);
+  wrong = λ law. none_held spoken_for ended_run sample_channel refl (law ended_run spoken_for_stopped 0 sample_channel refl whole_file (record { index = 0; ends = whole_file ∷ []; tells = refl; at = refl }) refl);
 }
 
 -- The logger does not want the dump.
@@ -707,7 +732,7 @@ abbrev no_dump_start : MemberTurn
 no_dump_start = record { transition = Start; order = order_for first_sheet 1 Stopped; dump = None; answer = Some (Yes Plain) }
 
 abbrev no_dump_stop : MemberTurn
-no_dump_stop = record { transition = Stop; order = order_for last_sheet 1 Running; dump = None; answer = Some (Yes (Channels (NoEnd ∷ []))) }
+no_dump_stop = record { transition = Stop; order = order_for last_sheet 1 Running; dump = None; answer = Some (Yes (Channels (no_end_file ∷ []))) }
 
 abbrev no_dump_turns : List MemberTurn
 no_dump_turns = no_dump_stop ∷ no_dump_start ∷ []
@@ -720,18 +745,25 @@ the_stop t (inl same) is = same
 the_stop t (inr (inl same)) is = absurd (let e : Start ≡ Stop = ap (λ (v : MemberTurn). v.transition) same ∙ is in cc (e))
 the_stop t (inr (inr none)) is = absurd none
 
-tells_no_end : (stop : MemberTurn) (state : ChannelState) → TellsState no_dump_turns stop sample_channel state → NoEnd ≡ state
-tells_no_end stop state tells =
-    let answer : Some (Yes (Channels (NoEnd ∷ []))) ≡ Some (Yes (Channels tells.states)) = ap (λ (v : MemberTurn). v.answer) (the_stop stop tells.stands tells.is) ∙ tells.answered in
-    let states : NoEnd ∷ [] ≡ tells.states = cc (answer) in
-    let both : Some NoEnd ≡ Some state = ap (λ (xs : List ChannelState). slice_get xs 0) states ∙ tells.told in
-    cc (both)
+tells_no_end : (stop : MemberTurn) (told : ChannelEnd) → TellsChannel no_dump_turns stop sample_channel told → NoEnd ≡ told.state
+tells_no_end stop told tells =
+    let answer : Some (Yes (Channels (no_end_file ∷ []))) ≡ Some (Yes (Channels tells.ends)) = ap (λ (v : MemberTurn). v.answer) (the_stop stop tells.stands tells.is) ∙ tells.answered in
+    let ends : no_end_file ∷ [] ≡ tells.ends = cc (answer) in
+    let both : Some no_end_file ≡ Some told = ap (λ (xs : List ChannelEnd). slice_get xs 0) ends ∙ tells.at in
+    let same : no_end_file ≡ told = cc (both) in
+    ap (λ (x : ChannelEnd). x.state) same
 
-no_end_told : (state : ChannelState) × TellsState no_dump_turns no_dump_stop sample_channel state × IsStateSo (no_dump_port 0).own 1 no_dump_stop.dump state
+no_end_of : (index : ℕ) (channel : LoggerChannel) (stop : MemberTurn) (told : ChannelEnd) → slice_get (sample_channel ∷ []) index ≡ Some channel → TellsChannel no_dump_turns stop channel told → NoEnd ≡ told.state
+no_end_of index channel stop told at tells = tells_no_end stop told (subst (λ (c : LoggerChannel). TellsChannel no_dump_turns stop c told) (sym (only_channel index channel at)) tells)
+
+abbrev TellsOf : LoggerChannel → MemberTurn → Type 0
+TellsOf channel stop = (told : ChannelEnd) × TellsChannel no_dump_turns stop channel told × IsEndSo (no_dump_port channel.buffer).own stop.order.start stop.dump told
+
+no_end_told : TellsOf sample_channel no_dump_stop
 no_end_told = (
-  NoEnd,
-  record { stands = inl refl; is = refl; states = NoEnd ∷ []; answered = refl; told = refl },
-  (refl, (0, record { before = BufferBegin 1 (Ok 0) ∷ []; after = []; is = refl })),
+  no_end_file,
+  record { stands = inl refl; is = refl; ends = no_end_file ∷ []; answered = refl; at = refl },
+  record { state = (refl, (0, record { before = BufferBegin 1 (Ok 0) ∷ []; after = []; is = refl })); framed = refl; few = omega arith },
 )
 
 no_dump_kept : KeepsLogger (sample_channel ∷ []) no_dump_port no_dump_turns no_files
@@ -740,12 +772,9 @@ no_dump_kept = record {
   own_calls = own;
   starts = starts;
   stops = λ are begin stop accepted stands is answered index channel at.
-      subst (λ (c : LoggerChannel). (state : ChannelState) × TellsState no_dump_turns stop c state × IsStateSo (no_dump_port c.buffer).own stop.order.start stop.dump state) (only_channel index channel at)
-      (subst (λ (t : MemberTurn). (state : ChannelState) × TellsState no_dump_turns t sample_channel state × IsStateSo (no_dump_port 0).own t.order.start t.dump state) (the_stop stop stands is) no_end_told);
-  ended = λ are stop index channel at tells.
-      absurd (let e : NoEnd ≡ Ended = tells_no_end stop Ended (subst (λ (c : LoggerChannel). TellsState no_dump_turns stop c Ended) (sym (only_channel index channel at)) tells) in cc (e));
-  broken = λ are stop index channel at tells.
-      absurd (let e : NoEnd ≡ Broken = tells_no_end stop Broken (subst (λ (c : LoggerChannel). TellsState no_dump_turns stop c Broken) (sym (only_channel index channel at)) tells) in cc (e));
+      subst (λ (c : LoggerChannel). TellsOf c stop) (only_channel index channel at) (subst (λ (t : MemberTurn). TellsOf sample_channel t) (the_stop stop stands is) no_end_told);
+  ended = λ are stop index channel told at tells is. absurd (let e : NoEnd ≡ Ended = no_end_of index channel stop told at tells ∙ is in cc (e));
+  broken = λ are stop index channel told at tells is. absurd (let e : NoEnd ≡ Broken = no_end_of index channel stop told at tells ∙ is in cc (e));
 }
   where
     silent : (buffer : ℕ) → EachCall SendsNone (no_dump_port buffer).own
@@ -790,13 +819,14 @@ no_dump_stopped = record {
   stopped = record { earlier = take 5 no_dump_engine; between = take 2 (drop 6 no_dump_engine); later = []; opener = 0; closer = 0; whole = refl; on = (refl, (refl, tt)) };
 }
 
-no_end_state : (index : ℕ) (states : List ChannelState) (state : ChannelState) → slice_get no_end_run.last_tallies index ≡ Some (record { client = 0; tally = Channels states }) → slice_get states 0 ≡ Some state → NoEnd ≡ state
-no_end_state zero states state told is =
-    let tally : Channels (NoEnd ∷ []) ≡ Channels states = ap (λ (o : Option ClientTally). tally_in o) told in
-    let same : NoEnd ∷ [] ≡ states = cc (tally) in
-    let both : Some NoEnd ≡ Some state = ap (λ (xs : List ChannelState). slice_get xs 0) same ∙ is in
-    cc (both)
-no_end_state (suc n) states state told is = absurd (cc (told))
+no_end_state : (index : ℕ) (ends : List ChannelEnd) (told : ChannelEnd) → slice_get no_end_run.last_tallies index ≡ Some (record { client = 0; tally = Channels ends }) → slice_get ends 0 ≡ Some told → NoEnd ≡ told.state
+no_end_state zero ends told tells at =
+    let tally : Channels (no_end_file ∷ []) ≡ Channels ends = ap (λ (o : Option ClientTally). tally_in o) tells in
+    let same : no_end_file ∷ [] ≡ ends = cc (tally) in
+    let both : Some no_end_file ≡ Some told = ap (λ (xs : List ChannelEnd). slice_get xs 0) same ∙ at in
+    let is : no_end_file ≡ told = cc (both) in
+    ap (λ (x : ChannelEnd). x.state) is
+no_end_state (suc n) ends told tells at = absurd (cc (tells))
 
 pub dump_needed : FailsSession OneDump no_dump ChannelsTold
 dump_needed = record {
@@ -804,7 +834,7 @@ dump_needed = record {
   wrong = λ law.
       let it = law no_end_run no_dump_stopped 0 sample_channel refl in
       let so : IsStateSo (buffer_calls no_dump 0 0) 1 (Some (8 ∷ [])) NoEnd =
-      subst (λ (state : ChannelState). IsStateSo (buffer_calls no_dump 0 0) 1 (Some (8 ∷ [])) state) (sym (no_end_state it.1.index it.1.states it.0 it.1.told it.1.state_is)) it.2 in
+      subst (λ (state : ChannelState). IsStateSo (buffer_calls no_dump 0 0) 1 (Some (8 ∷ [])) state) (sym (no_end_state it.1.index it.1.ends it.0 it.1.tells it.1.at)) it.2.state in
       let never : Some (8 ∷ []) ≡ None = so.0 in
       cc (never);
 }

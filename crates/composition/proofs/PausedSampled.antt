@@ -6,8 +6,7 @@ use Rattle.std.proofs.lemmas.Bool.{eqb-true, eqb-false}
 use Rattle.std.proofs.lemmas.List.Elements.{All-nil, All-cons}
 use Rattle.daq_types.specs.Callers.{caller_of_client, entries_by}
 use Rattle.daq_types.specs.declared.events.Event.{Event}
-use Rattle.daq_types.specs.declared.runs.ChannelState.{ChannelState}
-use Rattle.daq_types.specs.declared.runs.ChannelState.TheVariants.{Ended, Broken}
+use Rattle.daq_types.specs.declared.runs.ChannelEnd.{ChannelEnd}
 use Rattle.daq_types.specs.declared.runs.FrontEnded.{FrontEnded}
 use Rattle.daq_types.specs.declared.runs.FrontEnded.TheVariants.{Paused as EndedPaused}
 use Rattle.daq_types.specs.declared.runs.Kind.TheVariants.{All}
@@ -42,7 +41,7 @@ use Rattle.member_model.specs.Moments.{HasMoment}
 use Rattle.member_model.specs.SentCalls.{SendsNotIn, EachCall}
 use Rattle.member_model.specs.OwnCalls.{calls_after, AreOwnCalls, SendsNone}
 use Rattle.member_model.specs.ReadRuns.{HasReadRun}
-use Rattle.member_model.specs.LoggerKept.{LoggerChannel, LoggerPort, HasWritten, TellsState, IsStartAnswer, IsStateSo, KeepsLogger}
+use Rattle.member_model.specs.LoggerKept.{LoggerChannel, LoggerPort, HasWritten, TellsChannel, IsStartAnswer, IsEndSo, KeepsLogger, series_from, stop_bytes}
 use Rattle.front_ends.specs.Spans.{HasSpan}
 use Rattle.front_ends.specs.FrontKept.{IsMade, AreNextSends, IsFrontTally, KeepsFront, KeepsMoments}
 use Rattle.caller_laws.specs.OneCaller.{WasSentAt}
@@ -50,10 +49,10 @@ use Rattle.caller_laws.specs.CallerSamples.{got_first}
 use Rattle.engine_laws.specs.BegunTurns.{IsRegisteredIn}
 use Rattle.composition.specs.SentSets.{AreTurnSets}
 use Rattle.composition.specs.Sessions.{Session, SessionFront, SessionAnalyzer, HasFront, HasAnalyzer, IsMemberCaller, turns_of, buffer_calls, database_calls, IsRegistered, MembersKeep}
-use Rattle.composition.specs.SessionRuns.{IsStoppedRun, ToldState}
-use Rattle.composition.specs.SessionSamples.{first_sheet}
+use Rattle.composition.specs.SessionRuns.{IsStoppedRun, ToldChannel}
+use Rattle.composition.specs.SessionSamples.{whole_file, first_sheet}
 use Rattle.composition.specs.PausedSamples.{at_each, pause_sheet, paused_stop_sheet, refused_sheet, paused_engine, buffer_of_sender, paused_history, paused_got, first_front, second_front, paused_channel, paused_files, paused_session, pausing_run}
-use Rattle.composition.proofs.Sampled.{first_fair, sample_fine}
+use Rattle.composition.proofs.Sampled.{first_fair, sample_fine, one_file, whole_not_broken}
 
 -- The histories are legal.
 
@@ -252,7 +251,7 @@ abbrev logger_paused : MemberTurn
 logger_paused = record { transition = Pause; order = order_for pause_sheet 1 Running; dump = None; answer = Some (Yes Plain) }
 
 abbrev logger_stopped : MemberTurn
-logger_stopped = record { transition = Stop; order = order_for paused_stop_sheet 1 Paused; dump = Some (8 ∷ []); answer = Some (Yes (Channels (Ended ∷ Ended ∷ []))) }
+logger_stopped = record { transition = Stop; order = order_for paused_stop_sheet 1 Paused; dump = Some (8 ∷ []); answer = Some (Yes (Channels (whole_file ∷ whole_file ∷ []))) }
 
 abbrev paused_logger_turns : List MemberTurn
 paused_logger_turns = logger_stopped ∷ logger_paused ∷ logger_begun ∷ []
@@ -311,8 +310,9 @@ the_stop t (inr (inr (inr none))) is = absurd none
 logger_begun_is : HasTurnOf paused_logger_turns Start 1 logger_begun
 logger_begun_is = record { stands = inr (inr (inl refl)); is = refl; of = refl }
 
-first_written : HasWritten (paused_port 0) paused_logger_turns paused_files (paused_channel 0) logger_stopped
-first_written = record {
+-- each channel has written its run in one file
+run_written : (number : ℕ) → buffer_calls paused_session number 2 ≡ logger_calls → paused_got number ≡ got_first sample_event ∷ [] → HasWritten (paused_port number) paused_logger_turns paused_files (paused_channel number) logger_stopped 1
+run_written number calls got = record {
   start = logger_begun;
   is_start = record { is_start = logger_begun_is; accepted = refl };
   dump = 8 ∷ [];
@@ -321,50 +321,38 @@ first_written = record {
   begun = 0;
   ended = 1;
   events = sample_event ∷ [];
-  reads = paused_read;
+  reads = rw (calls, got) paused_read;
   fine = All-cons IsFileEvent sample_event [] sample_fine (All-nil IsFileEvent);
-  stored = record { holds = λ tells. refl };
-}
-
-second_written : HasWritten (paused_port 1) paused_logger_turns paused_files (paused_channel 1) logger_stopped
-second_written = record {
-  start = logger_begun;
-  is_start = record { is_start = logger_begun_is; accepted = refl };
-  dump = 8 ∷ [];
-  has_dump = refl;
-  number = 0;
-  begun = 0;
-  ended = 1;
-  events = sample_event ∷ [];
-  reads = paused_read;
-  fine = All-cons IsFileEvent sample_event [] sample_fine (All-nil IsFileEvent);
-  stored = record { holds = λ tells. refl };
+  taken = false;
+  beyond = λ (never : false ≡ true). absurd (cc (never));
+  stored = one_file paused_files (series_from (paused_channel number) logger_begun) (stop_bytes logger_begun logger_stopped (8 ∷ [])) sample_event (omega arith) (record { holds = λ tells. refl });
 }
 
 abbrev TellsOf : LoggerChannel → MemberTurn → Type 0
-TellsOf channel stop = (state : ChannelState) × TellsState paused_logger_turns stop channel state × IsStateSo (paused_port channel.buffer).own stop.order.start stop.dump state
+TellsOf channel stop = (told : ChannelEnd) × TellsChannel paused_logger_turns stop channel told × IsEndSo (paused_port channel.buffer).own stop.order.start stop.dump told
 
-first_told : TellsOf (paused_channel 0) logger_stopped
-first_told = (
-  Ended,
-  record { stands = inl refl; is = refl; states = Ended ∷ Ended ∷ []; answered = refl; told = refl },
-  ((λ (e : Some (8 ∷ []) ≡ None). cc (e)), (1, record { before = take 5 logger_calls; after = Receive 0 0 (Empty Shut 1) ∷ []; is = refl })),
+channel_told : (number : ℕ) → buffer_calls paused_session number 2 ≡ logger_calls → slice_get (whole_file ∷ whole_file ∷ []) number ≡ Some whole_file → TellsOf (paused_channel number) logger_stopped
+channel_told number calls at = (
+  whole_file,
+  record { stands = inl refl; is = refl; ends = whole_file ∷ whole_file ∷ []; answered = refl; at = at },
+  record {
+    state = ((λ (e : Some (8 ∷ []) ≡ None). cc (e)), (1, record { before = take 5 logger_calls; after = Receive 0 0 (Empty Shut 1) ∷ []; is = calls }));
+    framed = refl;
+    few = omega arith;
+  },
 )
 
-second_told : TellsOf (paused_channel 1) logger_stopped
-second_told = (
-  Ended,
-  record { stands = inl refl; is = refl; states = Ended ∷ Ended ∷ []; answered = refl; told = refl },
-  ((λ (e : Some (8 ∷ []) ≡ None). cc (e)), (1, record { before = take 5 logger_calls; after = Receive 0 0 (Empty Shut 1) ∷ []; is = refl })),
-)
+-- of both channels the same was told
+tells_whole : (number : ℕ) → slice_get (whole_file ∷ whole_file ∷ []) number ≡ Some whole_file → (stop : MemberTurn) (told : ChannelEnd) → TellsChannel paused_logger_turns stop (paused_channel number) told → whole_file ≡ told
+tells_whole number at stop told tells =
+    let answer : Some (Yes (Channels (whole_file ∷ whole_file ∷ []))) ≡ Some (Yes (Channels tells.ends)) = ap (λ (v : MemberTurn). v.answer) (the_stop stop tells.stands tells.is) ∙ tells.answered in
+    let ends : whole_file ∷ whole_file ∷ [] ≡ tells.ends = cc (answer) in
+    let both : Some whole_file ≡ Some told = sym at ∙ (ap (λ (xs : List ChannelEnd). slice_get xs number) ends ∙ tells.at) in
+    cc (both)
 
--- neither channel was told to be broken
-none_broken : (number : ℕ) → slice_get (Ended ∷ Ended ∷ []) number ≡ Some Ended → (stop : MemberTurn) → TellsState paused_logger_turns stop (paused_channel number) Broken → ⊥
-none_broken number at stop tells =
-    let answer : Some (Yes (Channels (Ended ∷ Ended ∷ []))) ≡ Some (Yes (Channels tells.states)) = ap (λ (v : MemberTurn). v.answer) (the_stop stop tells.stands tells.is) ∙ tells.answered in
-    let states : Ended ∷ Ended ∷ [] ≡ tells.states = cc (answer) in
-    let state : Some Ended ≡ Some Broken = sym at ∙ (ap (λ (xs : List ChannelState). slice_get xs number) states ∙ tells.told) in
-    cc (state)
+told_of_each : (index : ℕ) (channel : LoggerChannel) (stop : MemberTurn) (told : ChannelEnd) → slice_get (paused_channel 0 ∷ paused_channel 1 ∷ []) index ≡ Some channel → TellsChannel paused_logger_turns stop channel told → whole_file ≡ told
+told_of_each index channel stop told at =
+    each_channel (λ (c : LoggerChannel). TellsChannel paused_logger_turns stop c told → whole_file ≡ told) (tells_whole 0 refl stop told) (tells_whole 1 refl stop told) index channel at
 
 paused_logger : KeepsLogger (paused_channel 0 ∷ paused_channel 1 ∷ []) paused_port paused_logger_turns paused_files
 paused_logger = record {
@@ -372,12 +360,12 @@ paused_logger = record {
   own_calls = own;
   starts = starts;
   stops = λ are begin stop accepted stands is answered index channel at.
-      subst (TellsOf channel) (the_stop stop stands is) (each_channel (λ (c : LoggerChannel). TellsOf c logger_stopped) first_told second_told index channel at);
-  ended = λ are stop index channel at tells.
-      subst (HasWritten (paused_port channel.buffer) paused_logger_turns paused_files channel) (the_stop stop tells.stands tells.is)
-      (each_channel (λ (c : LoggerChannel). HasWritten (paused_port c.buffer) paused_logger_turns paused_files c logger_stopped) first_written second_written index channel at);
-  broken = λ are stop index channel at tells.
-      absurd (each_channel (λ (c : LoggerChannel). TellsState paused_logger_turns stop c Broken → ⊥) (none_broken 0 refl stop) (none_broken 1 refl stop) index channel at tells);
+      subst (TellsOf channel) (the_stop stop stands is) (each_channel (λ (c : LoggerChannel). TellsOf c logger_stopped) (channel_told 0 refl refl) (channel_told 1 refl refl) index channel at);
+  ended = λ are stop index channel told at tells is.
+      subst (λ (x : ChannelEnd). HasWritten (paused_port channel.buffer) paused_logger_turns paused_files channel stop x.files) (told_of_each index channel stop told at tells)
+      (subst (λ (t : MemberTurn). HasWritten (paused_port channel.buffer) paused_logger_turns paused_files channel t 1) (the_stop stop tells.stands tells.is)
+      (each_channel (λ (c : LoggerChannel). HasWritten (paused_port c.buffer) paused_logger_turns paused_files c logger_stopped 1) (run_written 0 refl refl) (run_written 1 refl refl) index channel at));
+  broken = λ are stop index channel told at tells is. absurd (whole_not_broken told (told_of_each index channel stop told at tells) is);
 }
   where
     silent : (buffer : ℕ) → EachCall SendsNone (paused_port buffer).own
@@ -515,5 +503,5 @@ paused_stopped = record {
   };
 }
 
-pub paused_told : (number : ℕ) → slice_get (Ended ∷ Ended ∷ []) number ≡ Some Ended → ToldState paused_session pausing_run (paused_channel number) Ended
-paused_told number at = record { index = 2; states = Ended ∷ Ended ∷ []; told = refl; state_is = at }
+pub paused_told : (number : ℕ) → slice_get (whole_file ∷ whole_file ∷ []) number ≡ Some whole_file → ToldChannel paused_session pausing_run (paused_channel number) whole_file
+paused_told number at = record { index = 2; ends = whole_file ∷ whole_file ∷ []; tells = refl; at = at }

@@ -6,7 +6,7 @@ use Rattle.std.proofs.lemmas.Bool.{eqb-true, eqb-false}
 use Rattle.std.proofs.lemmas.List.Elements.{All-nil, All-cons}
 use Rattle.daq_types.specs.Callers.{entries_by}
 use Rattle.daq_types.specs.declared.events.Event.{Event}
-use Rattle.daq_types.specs.declared.runs.ChannelState.{ChannelState}
+use Rattle.daq_types.specs.declared.runs.ChannelEnd.{ChannelEnd}
 use Rattle.daq_types.specs.declared.runs.ChannelState.TheVariants.{Ended, Broken}
 use Rattle.daq_types.specs.declared.runs.FrontEnded.{FrontEnded}
 use Rattle.daq_types.specs.declared.runs.FrontEnded.TheVariants.{Quota}
@@ -15,6 +15,8 @@ use Rattle.daq_types.specs.declared.runs.Transition.{Transition}
 use Rattle.daq_types.specs.declared.runs.Transition.TheVariants.{Start, Stop, Pause}
 use Rattle.event.specs.Events.{matches, slot_of_length, record_limit}
 use Rattle.event.specs.RunFile.{IsFileEvent}
+use Rattle.daq_io.specs.Seen.{Seen, IsStored}
+use Rattle.sub_files.specs.Pieces.{Series, piece_name, begun_piece, HasRun}
 use Rattle.buffer_core.proofs.SlotLaws.{split}
 use Rattle.buffer_core.specs.declared.gate.RunGate.TheVariants.{Shut}
 use Rattle.buffer_core.specs.declared.replies.Received.TheVariants.{Got, Empty}
@@ -40,7 +42,7 @@ use Rattle.member_model.specs.OwnCalls.{calls_after, AreOwnCalls, SendsNone}
 use Rattle.transitions.specs.Sequences.{sequence_for}
 use Rattle.member_model.specs.RunEngines.{Sheet, Answer as ClientAnswer, EngineEntry, EngineHistory, IsLegalEngine, IsSheet}
 use Rattle.member_model.specs.ReadRuns.{HasReadRun}
-use Rattle.member_model.specs.LoggerKept.{LoggerChannel, LoggerPort, HasWritten, TellsState, IsStartAnswer, IsStateSo, KeepsLogger}
+use Rattle.member_model.specs.LoggerKept.{LoggerChannel, LoggerPort, HasWritten, TellsChannel, IsStartAnswer, IsEndSo, KeepsLogger, series_from, stop_bytes}
 use Rattle.front_ends.specs.Spans.{HasSpan}
 use Rattle.front_ends.specs.FrontKept.{IsMade, IsFrontTally, KeepsFront, KeepsMoments}
 use Rattle.caller_laws.specs.OneCaller.{WasSentAt}
@@ -48,8 +50,8 @@ use Rattle.caller_laws.specs.CallerSamples.{reading_history, reading_calls, with
 use Rattle.engine_laws.specs.BegunTurns.{IsRegisteredIn}
 use Rattle.composition.specs.SentSets.{AreTurnSets}
 use Rattle.composition.specs.Sessions.{SessionFront, SessionAnalyzer, HasFront, HasAnalyzer, IsMemberCaller, turns_of, buffer_calls, database_calls, IsRegistered, MembersKeep}
-use Rattle.composition.specs.SessionRuns.{IsStoppedRun, ToldState}
-use Rattle.composition.specs.SessionSamples.{first_sheet, last_sheet, sample_engine, sample_history, sample_got, sample_name, sample_front, sample_channel, sample_files, sample_session, sample_run}
+use Rattle.composition.specs.SessionRuns.{IsStoppedRun, ToldChannel}
+use Rattle.composition.specs.SessionSamples.{whole_file, first_sheet, last_sheet, sample_engine, sample_history, sample_got, sample_name, sample_front, sample_channel, sample_files, sample_session, sample_run}
 
 -- The histories are legal.
 
@@ -164,7 +166,7 @@ abbrev pub logger_start : MemberTurn
 logger_start = record { transition = Start; order = order_for first_sheet 1 Stopped; dump = Some (7 ∷ []); answer = Some (Yes Plain) }
 
 abbrev pub logger_stop : MemberTurn
-logger_stop = record { transition = Stop; order = order_for last_sheet 1 Running; dump = Some (8 ∷ []); answer = Some (Yes (Channels (Ended ∷ []))) }
+logger_stop = record { transition = Stop; order = order_for last_sheet 1 Running; dump = Some (8 ∷ []); answer = Some (Yes (Channels (whole_file ∷ []))) }
 
 abbrev pub logger_turns : List MemberTurn
 logger_turns = logger_stop ∷ logger_start ∷ []
@@ -207,7 +209,18 @@ run_read_of event = record {
 pub sample_fine : IsFileEvent sample_event
 sample_fine = record { begins_none = λ e. omega (arith, e); ends_none = λ e. omega (arith, e); small = omega arith }
 
-run_written : HasWritten (logger_port 0) logger_turns sample_files sample_channel logger_stop
+-- a run of one event is in one file, whatever the limit is
+pub one_file : (seen : Seen) (s : Series) (last : List ℕ) (event : Event) → length s.dump ≤ record_limit → IsStored seen (piece_name s 0) (begun_piece s (event ∷ []) ++ last) → HasRun seen s 1 false last (event ∷ [])
+one_file seen s last event small stored = record {
+  small = small;
+  pieces = (event ∷ []) ∷ [];
+  cut = record { joins = refl; some = omega arith; unlimited = λ none. refl; limited = λ some. inl (inl (omega arith)) };
+  many = refl;
+  few = omega arith;
+  stored = stored;
+}
+
+run_written : HasWritten (logger_port 0) logger_turns sample_files sample_channel logger_stop 1
 run_written = record {
   start = logger_start;
   is_start = record { is_start = record { stands = inr (inl refl); is = refl; of = refl }; accepted = refl };
@@ -219,7 +232,9 @@ run_written = record {
   events = sample_event ∷ [];
   reads = run_read_of sample_event;
   fine = All-cons IsFileEvent sample_event [] sample_fine (All-nil IsFileEvent);
-  stored = record { holds = λ tells. refl };
+  taken = false;
+  beyond = λ (never : false ≡ true). absurd (cc (never));
+  stored = one_file sample_files (series_from sample_channel logger_start) (stop_bytes logger_start logger_stop (8 ∷ [])) sample_event (omega arith) (record { holds = λ tells. refl });
 }
 
 pub only_channel : (index : ℕ) (channel : LoggerChannel) → slice_get (sample_channel ∷ []) index ≡ Some channel → sample_channel ≡ channel
@@ -231,18 +246,34 @@ stop_is t (inl same) is = same
 stop_is t (inr (inl same)) is = absurd (let e : Start ≡ Stop = ap (λ (v : MemberTurn). v.transition) same ∙ is in cc (e))
 stop_is t (inr (inr none)) is = absurd none
 
-pub never_broken : (stop : MemberTurn) → TellsState logger_turns stop sample_channel Broken → ⊥
-never_broken stop tells =
-    let answer : Some (Yes (Channels (Ended ∷ []))) ≡ Some (Yes (Channels tells.states)) = ap (λ (v : MemberTurn). v.answer) (stop_is stop tells.stands tells.is) ∙ tells.answered in
-    let states : Ended ∷ [] ≡ tells.states = cc (answer) in
-    let state : Some Ended ≡ Some Broken = ap (λ (xs : List ChannelState). slice_get xs 0) states ∙ tells.told in
-    cc (state)
+pub tells_whole : (stop : MemberTurn) (told : ChannelEnd) → TellsChannel logger_turns stop sample_channel told → whole_file ≡ told
+tells_whole stop told tells =
+    let answer : Some (Yes (Channels (whole_file ∷ []))) ≡ Some (Yes (Channels tells.ends)) = ap (λ (v : MemberTurn). v.answer) (stop_is stop tells.stands tells.is) ∙ tells.answered in
+    let ends : whole_file ∷ [] ≡ tells.ends = cc (answer) in
+    let both : Some whole_file ≡ Some told = ap (λ (xs : List ChannelEnd). slice_get xs 0) ends ∙ tells.at in
+    cc (both)
 
-ended_told : (state : ChannelState) × TellsState logger_turns logger_stop sample_channel state × IsStateSo (logger_port 0).own 1 logger_stop.dump state
+pub whole_not_broken : (told : ChannelEnd) → whole_file ≡ told → told.state ≡ Broken → ⊥
+whole_not_broken told is broken =
+    let never : Ended ≡ Broken = ap (λ (x : ChannelEnd). x.state) is ∙ broken in
+    cc (never)
+
+-- what was told of any channel is what was told of this one
+pub told_of_only : (index : ℕ) (channel : LoggerChannel) (stop : MemberTurn) (told : ChannelEnd) → slice_get (sample_channel ∷ []) index ≡ Some channel → TellsChannel logger_turns stop channel told → whole_file ≡ told
+told_of_only index channel stop told at tells = tells_whole stop told (subst (λ (c : LoggerChannel). TellsChannel logger_turns stop c told) (sym (only_channel index channel at)) tells)
+
+abbrev TellsOf : LoggerChannel → MemberTurn → Type 0
+TellsOf channel stop = (told : ChannelEnd) × TellsChannel logger_turns stop channel told × IsEndSo (logger_port channel.buffer).own stop.order.start stop.dump told
+
+ended_told : TellsOf sample_channel logger_stop
 ended_told = (
-  Ended,
-  record { stands = inl refl; is = refl; states = Ended ∷ []; answered = refl; told = refl },
-  ((λ (e : Some (8 ∷ []) ≡ None). cc (e)), (1, record { before = with_own_run (Receive 0 0 (Got 0 1) ∷ []); after = Receive 0 0 (Empty Shut 1) ∷ []; is = refl })),
+  whole_file,
+  record { stands = inl refl; is = refl; ends = whole_file ∷ []; answered = refl; at = refl },
+  record {
+    state = ((λ (e : Some (8 ∷ []) ≡ None). cc (e)), (1, record { before = with_own_run (Receive 0 0 (Got 0 1) ∷ []); after = Receive 0 0 (Empty Shut 1) ∷ []; is = refl }));
+    framed = refl;
+    few = omega arith;
+  },
 )
 
 pub logger_is_kept : KeepsLogger (sample_channel ∷ []) logger_port logger_turns sample_files
@@ -251,12 +282,12 @@ logger_is_kept = record {
   own_calls = own_calls;
   starts = starts;
   stops = λ are begin stop accepted stands is answered index channel at.
-      subst (λ (c : LoggerChannel). (state : ChannelState) × TellsState logger_turns stop c state × IsStateSo (logger_port c.buffer).own stop.order.start stop.dump state) (only_channel index channel at)
-      (subst (λ (t : MemberTurn). (state : ChannelState) × TellsState logger_turns t sample_channel state × IsStateSo (logger_port 0).own t.order.start t.dump state) (stop_is stop stands is) ended_told);
-  ended = λ are stop index channel at tells.
-      subst (λ (c : LoggerChannel). HasWritten (logger_port c.buffer) logger_turns sample_files c stop) (only_channel index channel at)
-      (subst (HasWritten (logger_port 0) logger_turns sample_files sample_channel) (stop_is stop tells.stands tells.is) run_written);
-  broken = λ are stop index channel at tells. absurd (never_broken stop (subst (λ (c : LoggerChannel). TellsState logger_turns stop c Broken) (sym (only_channel index channel at)) tells));
+      subst (λ (c : LoggerChannel). TellsOf c stop) (only_channel index channel at) (subst (λ (t : MemberTurn). TellsOf sample_channel t) (stop_is stop stands is) ended_told);
+  ended = λ are stop index channel told at tells is.
+      subst (λ (c : LoggerChannel). HasWritten (logger_port c.buffer) logger_turns sample_files c stop told.files) (only_channel index channel at)
+      (subst (λ (x : ChannelEnd). HasWritten (logger_port 0) logger_turns sample_files sample_channel stop x.files) (told_of_only index channel stop told at tells)
+      (subst (λ (t : MemberTurn). HasWritten (logger_port 0) logger_turns sample_files sample_channel t 1) (stop_is stop tells.stands tells.is) run_written));
+  broken = λ are stop index channel told at tells is. absurd (whole_not_broken told (told_of_only index channel stop told at tells) is);
 }
   where
     sends_none : (buffer : ℕ) → EachCall SendsNone (logger_port buffer).own
@@ -400,5 +431,5 @@ sample_stopped = record {
   };
 }
 
-pub sample_told : ToldState sample_session sample_run sample_channel Ended
-sample_told = record { index = 0; states = Ended ∷ []; told = refl; state_is = refl }
+pub sample_told : ToldChannel sample_session sample_run sample_channel whole_file
+sample_told = record { index = 0; ends = whole_file ∷ []; tells = refl; at = refl }

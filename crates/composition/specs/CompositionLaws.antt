@@ -1,8 +1,8 @@
 -- What the members' contracts and the histories of all objects tell together: what the laws say of a session whose members
 -- keep their contracts.
-use Rattle.std.specs.Prelude.{◌≡◌, ℕ, true, false, List, length, slice_get, Some}
+use Rattle.std.specs.Prelude.{◌≡◌, ◌≢◌, ℕ, true, false, List, length, slice_get, Some}
 use Rattle.daq_types.specs.Callers.{caller_of_client}
-use Rattle.daq_types.specs.declared.runs.ChannelState.{ChannelState}
+use Rattle.daq_types.specs.declared.runs.ChannelEnd.{ChannelEnd}
 use Rattle.daq_types.specs.declared.runs.ChannelState.TheVariants.{Ended, Broken, NoMark}
 use Rattle.daq_types.specs.declared.runs.FrontEnded.{FrontEnded}
 use Rattle.daq_types.specs.declared.runs.StartOutcome.{StartOutcome}
@@ -22,7 +22,7 @@ use Rattle.buffer_core.specs.Runs.{segment}
 use Rattle.member_model.specs.Turns.{MemberTurn, HasAnswer}
 use Rattle.member_model.specs.CutRuns.{MarksEnd}
 use Rattle.member_model.specs.GotRuns.{events_of_start}
-use Rattle.member_model.specs.LoggerKept.{LoggerChannel, IsStateSo}
+use Rattle.member_model.specs.LoggerKept.{LoggerChannel, IsEndSo}
 use Rattle.front_ends.specs.Spans.{HasSpan}
 use Rattle.front_ends.specs.FrontKept.{made_events}
 use Rattle.caller_laws.specs.OneCaller.{events_in}
@@ -30,7 +30,7 @@ use Rattle.caller_laws.specs.SeenRuns.{SeesRun}
 use Rattle.caller_laws.specs.SentRuns.{places_sent, events_at_places}
 use Rattle.composition.specs.SentSets.{AreTurnSets}
 use Rattle.composition.specs.Sessions.{Session, SessionFront, SessionAnalyzer, HasFront, HasAnalyzer, turns_of, buffer_calls, database_calls}
-use Rattle.composition.specs.SessionRuns.{SessionRun, IsStoppedRun, run_order, TellsFront, FrontSent, SetAtStop, SetAtPause, IsOfFront, IsMadeInRun, ToldState, HoldsRunFile, HoldsFilePart, TellsTotals, ReportsRun, analyzer_events, SawThrough, CountsAll}
+use Rattle.composition.specs.SessionRuns.{SessionRun, IsStoppedRun, run_order, TellsFront, FrontSent, SetAtStop, SetAtPause, IsOfFront, IsMadeInRun, ToldChannel, HoldsRunFiles, HoldsFileParts, TellsTotals, ReportsRun, analyzer_events, SawThrough, CountsAll}
 
 -- Each front-end has told in the Done of the stop what it sent in the run.
 abbrev pub FrontsTell : Session → Type 0
@@ -89,34 +89,35 @@ SegmentsAreMade s = (r : SessionRun) → IsStoppedRun s r →
 abbrev pub ChannelsTold : Session → Type 0
 ChannelsTold s = (r : SessionRun) → IsStoppedRun s r →
     (index : ℕ) → (channel : LoggerChannel) → slice_get s.channels index ≡ Some channel →
-    (state : ChannelState) × ToldState s r channel state ×
-    IsStateSo (buffer_calls s channel.buffer s.logger) r.start r.last.dump state
+    (told : ChannelEnd) × ToldChannel s r channel told ×
+    IsEndSo (buffer_calls s channel.buffer s.logger) r.start r.last.dump told
 
--- Where the logger told states of channels there, a state of each channel is among them.
-abbrev pub StatesTold : Session → Type 0
-StatesTold s = (r : SessionRun) → IsStoppedRun s r → (place : ℕ) → (states : List ChannelState) →
-    slice_get r.last_tallies place ≡ Some (record { client = s.logger; tally = Channels states }) →
+-- Where the logger told of channels there, each channel is among them.
+abbrev pub EndsTold : Session → Type 0
+EndsTold s = (r : SessionRun) → IsStoppedRun s r → (place : ℕ) → (ends : List ChannelEnd) →
+    slice_get r.last_tallies place ≡ Some (record { client = s.logger; tally = Channels ends }) →
     (index : ℕ) → (channel : LoggerChannel) → slice_get s.channels index ≡ Some channel →
-    (state : ChannelState) × (slice_get states channel.number ≡ Some state)
+    (told : ChannelEnd) × (slice_get ends channel.number ≡ Some told)
 
--- Each state that it told of a channel there is so.
-abbrev pub StatesSo : Session → Type 0
-StatesSo s = (r : SessionRun) → IsStoppedRun s r →
+-- What it told of a channel there is so.
+abbrev pub EndsSo : Session → Type 0
+EndsSo s = (r : SessionRun) → IsStoppedRun s r →
     (index : ℕ) → (channel : LoggerChannel) → slice_get s.channels index ≡ Some channel →
-    (state : ChannelState) → ToldState s r channel state →
-    IsStateSo (buffer_calls s channel.buffer s.logger) r.start r.last.dump state
+    (told : ChannelEnd) → ToldChannel s r channel told →
+    IsEndSo (buffer_calls s channel.buffer s.logger) r.start r.last.dump told
 
--- The file of each channel that the logger told to have ended is the run file of the events that the channel asks for.
+-- The files of each channel that the logger told to have ended are the run files of the events that the channel asks for.
 abbrev pub FilesHoldRuns : Session → Type 0
 FilesHoldRuns s = (r : SessionRun) → IsStoppedRun s r →
-    (index : ℕ) → (channel : LoggerChannel) → slice_get s.channels index ≡ Some channel → ToldState s r channel Ended →
-    HoldsRunFile s r channel
+    (index : ℕ) → (channel : LoggerChannel) → slice_get s.channels index ≡ Some channel →
+    (told : ChannelEnd) → ToldChannel s r channel told → told.state ≡ Ended → HoldsRunFiles s r channel told.files
 
--- The file of a channel that was told to be broken begins that run file, where the stop's sheet had a dump.
+-- The files of a channel that was told to be broken hold a part of that, where the stop's sheet had a dump.
 abbrev pub FilesHoldParts : Session → Type 0
 FilesHoldParts s = (r : SessionRun) → IsStoppedRun s r →
-    (index : ℕ) → (channel : LoggerChannel) → slice_get s.channels index ≡ Some channel → ToldState s r channel Broken →
-    (last_dump : List ℕ) → r.last.dump ≡ Some last_dump → HoldsFilePart s r channel last_dump
+    (index : ℕ) → (channel : LoggerChannel) → slice_get s.channels index ≡ Some channel →
+    (told : ChannelEnd) → ToldChannel s r channel told → told.state ≡ Broken →
+    (last_dump : List ℕ) → r.last.dump ≡ Some last_dump → HoldsFileParts s r channel last_dump told
 
 -- The logger ended the run in the buffer of each channel.
 abbrev pub RunsAreEnded : Session → Type 0
@@ -127,7 +128,8 @@ RunsAreEnded s = (r : SessionRun) → IsStoppedRun s r →
 -- So it told of no channel that the end of the run was refused there.
 abbrev pub NoEndRefused : Session → Type 0
 NoEndRefused s = (r : SessionRun) → IsStoppedRun s r →
-    (index : ℕ) → (channel : LoggerChannel) → slice_get s.channels index ≡ Some channel → ToldState s r channel NoMark → ⊥
+    (index : ℕ) → (channel : LoggerChannel) → slice_get s.channels index ≡ Some channel →
+    (told : ChannelEnd) → ToldChannel s r channel told → told.state ≢ NoMark
 
 -- Each analyzer has told in the Done of the stop a report of the run.
 abbrev pub ReportsTold : Session → Type 0
@@ -187,8 +189,8 @@ pub record IsComposed (s : Session) : Type 0 where
   pub stops_set : StopsSet s
   pub pauses_set : PausesSet s
   pub channels_told : ChannelsTold s
-  pub states_told : StatesTold s
-  pub states_so : StatesSo s
+  pub ends_told : EndsTold s
+  pub ends_so : EndsSo s
   pub runs_ended : RunsAreEnded s
   pub no_end_refused : NoEndRefused s
   pub files_hold : FilesHoldRuns s

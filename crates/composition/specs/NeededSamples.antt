@@ -1,6 +1,7 @@
 -- Sessions each of which meets all but one of the things that the laws of sessions ask, and for which one of them is false.
 use Rattle.std.specs.Prelude.{◌≢◌, ℕ, zero, suc, true, false, List, [], ◌∷◌, Some, None, Ok}
-use Rattle.daq_types.specs.declared.runs.ChannelState.TheVariants.{Ended, NoEnd}
+use Rattle.daq_types.specs.declared.runs.ChannelEnd.{ChannelEnd}
+use Rattle.daq_types.specs.declared.runs.ChannelState.TheVariants.{NoEnd}
 use Rattle.daq_types.specs.declared.runs.Kind.TheVariants.{All}
 use Rattle.daq_types.specs.declared.runs.RunState.TheVariants.{Stopped, Running}
 use Rattle.daq_types.specs.declared.runs.StartOutcome.TheVariants.{Completed}
@@ -27,7 +28,7 @@ use Rattle.member_model.specs.RunEngines.{ClientTally, EngineHistory}
 use Rattle.caller_laws.specs.CallerSamples.{got_first}
 use Rattle.composition.specs.Sessions.{Session, SessionFront, SessionAnalyzer, BuffersLegal, EngineLegal, NameOwnClients, MembersCall, FrontsKeep, FrontsHaveMoments, FrontsSetNumbers, LoggerKeeps, LoggerGotSent, AnalyzersKeep, AnalyzersGotSent, FrontsRegistered, AnalyzersRegistered, LoggerRegistered, LoggerWantsDump}
 use Rattle.composition.specs.SessionRuns.{SessionRun}
-use Rattle.composition.specs.SessionSamples.{first_sheet, last_sheet, sample_name, sample_front, sample_channel, sample_files, sample_database, sample_session}
+use Rattle.composition.specs.SessionSamples.{whole_file, first_sheet, last_sheet, sample_name, sample_front, sample_channel, sample_files, sample_database, sample_session}
 
 -- what the laws ask
 pub data SessionPremise : Type 0 where
@@ -200,7 +201,7 @@ made_up_engine =
     (0, Register [] (at_all 1) true false (Ok 0)) ∷ (0, Begin Start first_sheet (Ok 1))
     ∷ (0, Check (Done Completed) plain_tallies)
     ∷ (0, Begin Stop last_sheet (Ok 1))
-    ∷ (0, Check (Done Completed) (record { client = 0; tally = Channels (Ended ∷ []) } ∷ [])) ∷ []
+    ∷ (0, Check (Done Completed) (record { client = 0; tally = Channels (whole_file ∷ []) } ∷ [])) ∷ []
 
 abbrev pub made_up : Session
 made_up = logger_session (λ buffer. []) made_up_engine
@@ -211,7 +212,7 @@ ended_run = record {
   first = first_sheet;
   last = last_sheet;
   first_tallies = plain_tallies;
-  last_tallies = record { client = 0; tally = Channels (Ended ∷ []) } ∷ [];
+  last_tallies = record { client = 0; tally = Channels (whole_file ∷ []) } ∷ [];
 }
 
 -- another caller answers for the logger
@@ -222,11 +223,15 @@ spoken_for_engine =
     ∷ (3, Answer 0 (Yes Plain) (Ok tt))
     ∷ (0, Check (Done Completed) plain_tallies) ∷ (0, Begin Stop last_sheet (Ok 1))
     ∷ (3, Poll 0 (Turn Stop (order_for last_sheet 1 Running) (Some (8 ∷ [])) None))
-    ∷ (3, Answer 0 (Yes (Channels (Ended ∷ []))) (Ok tt))
-    ∷ (0, Check (Done Completed) (record { client = 0; tally = Channels (Ended ∷ []) } ∷ [])) ∷ []
+    ∷ (3, Answer 0 (Yes (Channels (whole_file ∷ []))) (Ok tt))
+    ∷ (0, Check (Done Completed) (record { client = 0; tally = Channels (whole_file ∷ []) } ∷ [])) ∷ []
 
 abbrev pub spoken_for : Session
 spoken_for = logger_session (λ buffer. []) spoken_for_engine
+
+-- a channel with one file, which has no end record, since the stop had no dump
+abbrev pub no_end_file : ChannelEnd
+no_end_file = record { state = NoEnd; files = 1; framed = 0 }
 
 -- the logger did not ask for the dump, and tells that the stop had none
 abbrev pub no_dump_engine : EngineHistory
@@ -235,8 +240,8 @@ no_dump_engine =
     ∷ (1, Poll 0 (Turn Start (order_for first_sheet 1 Stopped) None None)) ∷ (1, Answer 0 (Yes Plain) (Ok tt))
     ∷ (0, Check (Done Completed) plain_tallies) ∷ (0, Begin Stop last_sheet (Ok 1))
     ∷ (1, Poll 0 (Turn Stop (order_for last_sheet 1 Running) None None))
-    ∷ (1, Answer 0 (Yes (Channels (NoEnd ∷ []))) (Ok tt))
-    ∷ (0, Check (Done Completed) (record { client = 0; tally = Channels (NoEnd ∷ []) } ∷ [])) ∷ []
+    ∷ (1, Answer 0 (Yes (Channels (no_end_file ∷ []))) (Ok tt))
+    ∷ (0, Check (Done Completed) (record { client = 0; tally = Channels (no_end_file ∷ []) } ∷ [])) ∷ []
 
 abbrev pub marked_history : (buffer : ℕ) → History
 marked_history zero = (1, BufferBegin 1 (Ok 0)) ∷ (1, BufferEnd 1 (Ok 0)) ∷ []
@@ -251,5 +256,5 @@ no_end_run = record {
   first = first_sheet;
   last = last_sheet;
   first_tallies = plain_tallies;
-  last_tallies = record { client = 0; tally = Channels (NoEnd ∷ []) } ∷ [];
+  last_tallies = record { client = 0; tally = Channels (no_end_file ∷ []) } ∷ [];
 }

@@ -1,7 +1,6 @@
 -- A longer session that meets all that the laws ask: two front-ends that send into a buffer each, a channel at each buffer, a run
 -- that is paused and then stopped, and a second start that the first front-end refuses.
 use Rattle.std.specs.Prelude.{ℕ, zero, suc, codes, nat_le, true, false, List, [], ◌∷◌, Some, None, Ok}
-use Rattle.daq_types.specs.declared.runs.ChannelState.TheVariants.{Ended}
 use Rattle.daq_types.specs.declared.runs.FrontEnded.TheVariants.{Paused as EndedPaused}
 use Rattle.daq_types.specs.declared.runs.Kind.TheVariants.{All}
 use Rattle.daq_types.specs.declared.runs.RunState.TheVariants.{Stopped, Paused, Running}
@@ -14,6 +13,7 @@ use Rattle.transitions.specs.declared.sequences.Sequences.{Sequences}
 use Rattle.buffer_core.specs.declared.gate.RunGate.TheVariants.{Shut}
 use Rattle.buffer_core.specs.declared.replies.Received.TheVariants.{Got, Empty}
 use Rattle.buffer_core.specs.declared.entry.BufferEntry.TheVariants.{Attach, Request, SendInRun, Receive, Begin as BufferBegin, Pause as BufferPause, End as BufferEnd}
+use Rattle.sub_files.specs.Patterns.{numbered_parts}
 use Rattle.buffer_core.specs.Window.{any}
 use Rattle.buffer_core.specs.Histories.{History}
 use Rattle.buffer_core.specs.Ports.{GotEvent}
@@ -34,7 +34,7 @@ use Rattle.member_model.specs.LoggerKept.{LoggerChannel}
 use Rattle.caller_laws.specs.CallerSamples.{got_first}
 use Rattle.composition.specs.Sessions.{Session, SessionFront}
 use Rattle.composition.specs.SessionRuns.{SessionRun}
-use Rattle.composition.specs.SessionSamples.{first_sheet, plain_by_three}
+use Rattle.composition.specs.SessionSamples.{whole_file, first_sheet, plain_by_three}
 
 -- called at this place for each transition but start-abort
 abbrev pub at_each : ℕ → Sequences
@@ -55,7 +55,7 @@ refused_sheet = record { run = 2; time = 3000; quota = 5; dump = Some (9 ∷ [])
 abbrev pub paused_tallies : List ClientTally
 paused_tallies =
     record { client = 0; tally = Front 1 EndedPaused } ∷ record { client = 1; tally = Front 1 EndedPaused }
-    ∷ record { client = 2; tally = Channels (Ended ∷ Ended ∷ []) } ∷ []
+    ∷ record { client = 2; tally = Channels (whole_file ∷ whole_file ∷ []) } ∷ []
 
 abbrev pub paused_engine : EngineHistory
 paused_engine =
@@ -75,7 +75,7 @@ paused_engine =
     ∷ (2, Poll 1 (Turn Stop (order_for paused_stop_sheet 1 Paused) None None))
     ∷ (2, Answer 1 (Yes (Front 1 EndedPaused)) (Ok tt))
     ∷ (3, Poll 2 (Turn Stop (order_for paused_stop_sheet 1 Paused) (Some (8 ∷ [])) None))
-    ∷ (3, Answer 2 (Yes (Channels (Ended ∷ Ended ∷ []))) (Ok tt))
+    ∷ (3, Answer 2 (Yes (Channels (whole_file ∷ whole_file ∷ []))) (Ok tt))
     ∷ (0, Check (Done Completed) paused_tallies) ∷ (0, Begin Start refused_sheet (Ok 2))
     ∷ (1, Poll 0 (Turn Start (order_for refused_sheet 2 Stopped) None None)) ∷ (1, Answer 0 (No NotReady) (Ok tt))
     ∷ (0, Check (Done (Refused 0 NotReady)) []) ∷ []
@@ -127,11 +127,12 @@ paused_database =
     set_by 1 (codes "A") 0 ∷ set_by 2 (codes "B") 0 ∷ set_by 1 (codes "A") 1 ∷ set_by 2 (codes "B") 1
     ∷ set_by 1 (codes "A") 1 ∷ set_by 2 (codes "B") 1 ∷ set_by 1 (codes "A") 0 ∷ []
 
--- the channel of this number, at the buffer of this number
+-- the channel of this number, at the buffer of this number; the second has a limit, so that each event has a file of its own
 abbrev pub paused_channel : (number : ℕ) → LoggerChannel
 paused_channel number = record {
   number = number;
-  name = λ run. number ∷ [];
+  pattern = numbered_parts (number ∷ []) [] [];
+  limit = number;
   buffer = number;
   client = 0;
   id = any;

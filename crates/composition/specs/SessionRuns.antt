@@ -1,10 +1,9 @@
 -- A run of a session, and what is so of it.
-use mathlib.Core.List.{IsPrefix}
-use Rattle.std.specs.Prelude.{◌≡◌, ◌≢◌, ℕ, List, [], ◌∷◌, ◌++◌, slice_get, unwrap_or, Contains, Some, Ok, ⊤}
+use Rattle.std.specs.Prelude.{◌≡◌, ◌≢◌, ◌≤◌, ◌+◌, ◌==◌, ◌⊎◌, ℕ, suc, Bool, IsTrue, IsSome, if◌then◌else◌, length, List, [], ◌∷◌, ◌++◌, slice_get, unwrap_or, Contains, Some, Ok, ⊤}
 use Rattle.std.specs.List.{AllByRecursion}
 use Rattle.daq_types.specs.Callers.{entries_by}
 use Rattle.daq_types.specs.declared.events.Event.{Event}
-use Rattle.daq_types.specs.declared.runs.ChannelState.{ChannelState}
+use Rattle.daq_types.specs.declared.runs.ChannelEnd.{ChannelEnd}
 use Rattle.daq_types.specs.declared.runs.FrontEnded.{FrontEnded}
 use Rattle.daq_types.specs.declared.runs.FrontEnded.TheVariants.{Quota, Paused as EndedPaused, Spent as EndedSpent}
 use Rattle.daq_types.specs.declared.runs.Kind.TheVariants.{All}
@@ -12,8 +11,13 @@ use Rattle.daq_types.specs.declared.runs.Order.{Order}
 use Rattle.daq_types.specs.declared.runs.RunState.TheVariants.{Stopped, Paused}
 use Rattle.daq_types.specs.declared.runs.StartOutcome.TheVariants.{Completed}
 use Rattle.daq_types.specs.declared.runs.Transition.TheVariants.{Start, Stop}
-use Rattle.event.specs.RunFile.{run_file, IsRunFile}
+use Rattle.event.specs.Events.{encoding}
+use Rattle.event.specs.RunFile.{end_record, IsRunFile}
 use Rattle.daq_io.specs.Seen.{IsStored}
+use Rattle.sub_files.specs.Cuts.{IsCut, last_number}
+use Rattle.sub_files.specs.Patterns.{piece_name_by}
+use Rattle.sub_files.specs.Pieces.{Series, HasPart, series_of}
+use Rattle.sub_files.specs.Rolls.{fallen_at}
 use Rattle.buffer_core.specs.declared.gate.RunGate.{RunGate}
 use Rattle.buffer_core.specs.declared.replies.Received.TheVariants.{Empty}
 use Rattle.buffer_core.specs.declared.entry.BufferEntry.{BufferEntry}
@@ -130,11 +134,11 @@ pub record IsMadeInRun (s : Session) (r : SessionRun) (buffer : ℕ) (event : Ev
 -- Channels.
 
 -- in the Done of the stop the logger told this of the channel
-pub record ToldState (s : Session) (r : SessionRun) (channel : LoggerChannel) (state : ChannelState) : Type 0 where
+pub record ToldChannel (s : Session) (r : SessionRun) (channel : LoggerChannel) (told : ChannelEnd) : Type 0 where
   pub index : ℕ
-  pub states : List ChannelState
-  pub told : slice_get r.last_tallies index ≡ Some (record { client = s.logger; tally = Channels states })
-  pub state_is : slice_get states channel.number ≡ Some state
+  pub ends : List ChannelEnd
+  pub tells : slice_get r.last_tallies index ≡ Some (record { client = s.logger; tally = Channels ends })
+  pub at : slice_get ends channel.number ≡ Some told
 
 -- the events of the run that the channel asks for: those between the marks in its buffer, in order
 abbrev pub channel_events : Session → SessionRun → LoggerChannel → List Event
@@ -144,23 +148,62 @@ channel_events s r channel = events_in (wanted channel.id channel.mask (segment 
 abbrev pub begin_dump : SessionRun → List ℕ
 begin_dump r = unwrap_or r.first.dump []
 
--- The channel's file of the run is closed, and is the run file of these events with the dumps of both sheets: its dumps and events
--- are not too large, and it has at most 2^62 bytes. And the channel's client got, of the places between the marks, just those of
--- these events.
-pub record HoldsRunFile (s : Session) (r : SessionRun) (channel : LoggerChannel) : Type 0 where
+-- the name of the channel's file of this number in the run
+abbrev pub file_name : SessionRun → LoggerChannel → (number : ℕ) → List ℕ
+file_name r channel number = piece_name_by channel.pattern r.first.run number
+
+-- what the channel's files have in common in the run
+abbrev pub series_in : SessionRun → LoggerChannel → Series
+series_in r channel = series_of channel.pattern channel.limit (record { run = r.first.run; time = r.first.time }) (begin_dump r)
+
+-- of so many files the one of this number is the last
+abbrev pub is_last : (many number : ℕ) → Bool
+is_last many number = suc number == many
+
+-- The time and the dump of the record that ends the channel's file of this number, of so many: the last one has those of the stop,
+-- with this dump, and each other one has the time of the start and an empty dump.
+abbrev pub end_time : SessionRun → (many number : ℕ) → ℕ
+end_time r many number = if is_last many number then r.last.time else r.first.time
+
+abbrev pub end_dump : (last_dump : List ℕ) → (many number : ℕ) → List ℕ
+end_dump last_dump many number = if is_last many number then last_dump else []
+
+-- The channel's file of this number, of so many, is closed, and is the run file of the events of this piece: its dumps and events
+-- are not too large, and it has at most 2^62 bytes.
+pub record HoldsPiece (s : Session) (r : SessionRun) (channel : LoggerChannel) (last_dump : List ℕ) (many number : ℕ) (piece : List Event) : Type 0 where
+  pub bytes : List ℕ
+  pub is : IsRunFile bytes r.first.run r.first.time (begin_dump r) piece (end_time r many number) (end_dump last_dump many number)
+  pub stored : IsStored s.files (file_name r channel number) bytes
+
+-- The channel's files of the run, so many, hold the events that it asks for: these are cut into as many pieces by the channel's limit,
+-- and each file is the run file of its piece, with the dumps of both sheets. A last piece that is too long says that there is a file
+-- of the name behind it, where names are told, or that it has the greatest number. And the channel's client got, of the places
+-- between the marks, just those of these events.
+pub record HoldsRunFiles (s : Session) (r : SessionRun) (channel : LoggerChannel) (many : ℕ) : Type 0 where
   pub last_dump : List ℕ
   pub has_dump : r.last.dump ≡ Some last_dump
-  pub bytes : List ℕ
-  pub is : IsRunFile bytes r.first.run r.first.time (begin_dump r) (channel_events s r channel) r.last.time last_dump
-  pub stored : IsStored s.files (channel.name r.first.run) bytes
+  pub pieces : List (List Event)
+  pub each : length pieces ≡ many
+  pub few : many ≤ suc last_number
+  pub taken : Bool
+  pub beyond : IsTrue taken → IsTrue s.files.tells → IsSome (s.files.at (file_name r channel many))
+  pub cut : IsCut channel.limit (16 + length (begin_dump r)) (channel_events s r channel) taken pieces
+  pub files : (number : ℕ) → (piece : List Event) → slice_get pieces number ≡ Some piece →
+      HoldsPiece s r channel last_dump many number piece
   pub got : among (segment (s.history channel.buffer) r.start) (places_got (s.history channel.buffer) channel.client)
       ≡ places_of (wanted channel.id channel.mask (segment (s.history channel.buffer) r.start))
 
--- The channel's file of the run is closed, and what it has begins that run file.
-pub record HoldsFilePart (s : Session) (r : SessionRun) (channel : LoggerChannel) (last_dump : List ℕ) : Type 0 where
-  pub bytes : List ℕ
-  pub stored : IsStored s.files (channel.name r.first.run) bytes
-  pub part : IsPrefix bytes (run_file r.first.run r.first.time (begin_dump r) (channel_events s r channel) r.last.time last_dump)
+-- the record of the stop, with which the last file ends
+abbrev pub last_record : SessionRun → (last_dump : List ℕ) → List ℕ
+last_record r last_dump = encoding (end_record r.first.run r.last.time last_dump)
+
+-- The files of a channel that broke off in the run are closed, and hold a first part of those events, cut into pieces: those that are
+-- told to be framed are whole, and the others have first parts of such files. Something of the record of the stop is there only
+-- behind all events.
+pub record HoldsFileParts (s : Session) (r : SessionRun) (channel : LoggerChannel) (last_dump : List ℕ) (told : ChannelEnd) : Type 0 where
+  pub last : List ℕ
+  pub last_is : (last ≡ []) ⊎ (last ≡ last_record r last_dump)
+  pub part : HasPart s.files (series_in r channel) (fallen_at told.files told.framed) last (channel_events s r channel)
 
 -- Analyzers.
 

@@ -1,5 +1,6 @@
 -- A session that meets all that the laws ask: a front-end that sends one event, a logger of one channel, and a run.
 use Rattle.std.specs.Prelude.{ℕ, zero, suc, codes, true, false, List, [], ◌∷◌, Some, None, Ok}
+use Rattle.daq_types.specs.declared.runs.ChannelEnd.{ChannelEnd}
 use Rattle.daq_types.specs.declared.runs.ChannelState.TheVariants.{Ended}
 use Rattle.daq_types.specs.declared.runs.FrontEnded.TheVariants.{Quota}
 use Rattle.daq_types.specs.declared.runs.RunState.TheVariants.{Stopped, Running}
@@ -7,6 +8,7 @@ use Rattle.daq_types.specs.declared.runs.StartOutcome.TheVariants.{Completed}
 use Rattle.daq_types.specs.declared.runs.Transition.TheVariants.{Start, Stop}
 use Rattle.event.specs.RunFile.{run_file}
 use Rattle.daq_io.specs.Seen.{Seen, stored_closed}
+use Rattle.sub_files.specs.Patterns.{plain_parts}
 use Rattle.buffer_core.specs.Window.{any}
 use Rattle.buffer_core.specs.Histories.{History}
 use Rattle.buffer_core.specs.Ports.{GotEvent}
@@ -29,6 +31,10 @@ use Rattle.caller_laws.specs.CallerSamples.{reading_history, got_first}
 use Rattle.composition.specs.Sessions.{Session, SessionFront}
 use Rattle.composition.specs.SessionRuns.{SessionRun}
 
+-- a channel that ended with one file, which is whole
+abbrev pub whole_file : ChannelEnd
+whole_file = record { state = Ended; files = 1; framed = 1 }
+
 -- what the start and the stop are begun with
 abbrev pub first_sheet : Sheet
 first_sheet = record { run = 1; time = 1000; quota = 1; dump = Some (7 ∷ []); blanks = [] }
@@ -45,7 +51,7 @@ abbrev pub plain_by_three : List ClientTally
 plain_by_three = record { client = 0; tally = Plain } ∷ record { client = 1; tally = Plain } ∷ record { client = 2; tally = Plain } ∷ []
 
 abbrev pub last_tallies : List ClientTally
-last_tallies = record { client = 0; tally = Channels (Ended ∷ []) } ∷ record { client = 1; tally = Front 1 Quota } ∷ []
+last_tallies = record { client = 0; tally = Channels (whole_file ∷ []) } ∷ record { client = 1; tally = Front 1 Quota } ∷ []
 
 -- the engine's calls: registrations, the start, and the stop
 abbrev pub sample_engine : EngineHistory
@@ -57,7 +63,7 @@ sample_engine =
     ∷ (2, Poll 1 (Turn Start (order_for first_sheet 1 Stopped) None None)) ∷ (2, Answer 1 (Yes Plain) (Ok tt))
     ∷ (0, Check (Done Completed) first_tallies) ∷ (0, Begin Stop last_sheet (Ok 1))
     ∷ (1, Poll 0 (Turn Stop (order_for last_sheet 1 Running) (Some (8 ∷ [])) None))
-    ∷ (1, Answer 0 (Yes (Channels (Ended ∷ []))) (Ok tt))
+    ∷ (1, Answer 0 (Yes (Channels (whole_file ∷ []))) (Ok tt))
     ∷ (2, Poll 1 (Turn Stop (order_for last_sheet 1 Running) None None)) ∷ (2, Answer 1 (Yes (Front 1 Quota)) (Ok tt))
     ∷ (0, Check (Done Completed) last_tallies) ∷ []
 
@@ -91,7 +97,7 @@ sample_front = record {
 }
 
 abbrev pub sample_channel : LoggerChannel
-sample_channel = record { number = 0; name = λ run. []; buffer = 0; client = 0; id = any; mask = any }
+sample_channel = record { number = 0; pattern = plain_parts [] []; limit = 0; buffer = 0; client = 0; id = any; mask = any }
 
 -- the file of every name is that of the run
 abbrev pub sample_files : Seen

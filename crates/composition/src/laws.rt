@@ -1,10 +1,9 @@
 //! Laws of a session's members together: each function does nothing but call other laws, and its contract is the law.
 
-ghost use Rattle.composition.specs.CompositionLaws.{FrontsTell, FrontsSent, FrontsStand, FrontsSet, StopsSet, PausesSet, OnlyFrontsSent, SegmentsAreMade, ChannelsTold, StatesTold, RunsAreEnded, NoEndRefused, FilesHoldRuns, FilesHoldParts, ReportsTold, ReportsSo, ReportsWhole, GotWhole, StopsComplete, StatesSo, FrontsRefuse, FrontsTakePart, IsComposed};
-ghost use Rattle.daq_types.specs.declared.runs.ChannelState.TheVariants.{Ended};
+ghost use Rattle.composition.specs.CompositionLaws.{FrontsTell, FrontsSent, FrontsStand, FrontsSet, StopsSet, PausesSet, OnlyFrontsSent, SegmentsAreMade, ChannelsTold, EndsTold, RunsAreEnded, NoEndRefused, FilesHoldRuns, FilesHoldParts, ReportsTold, ReportsSo, ReportsWhole, GotWhole, StopsComplete, EndsSo, FrontsRefuse, FrontsTakePart, IsComposed};
 ghost use Rattle.composition.specs.Sessions.{Session, MembersKeep};
-ghost use Rattle.composition.specs.SessionRuns.{IsStoppedRun, ToldState, ReportsRun, SawThrough};
-ghost use Rattle.composition.specs.SessionSamples.{sample_session, sample_run, sample_channel};
+ghost use Rattle.composition.specs.SessionRuns.{IsStoppedRun, ToldChannel, ReportsRun, SawThrough};
+ghost use Rattle.composition.specs.SessionSamples.{sample_session, sample_run, sample_channel, whole_file};
 ghost use Rattle.composition.specs.PausedSamples.{paused_session, pausing_run, paused_channel, early_pause};
 ghost use Rattle.composition.specs.CountedSamples.{counted_history, counted_session, counted_run, counted_analyzer, counted_report, asked_twice};
 ghost use Rattle.buffer_core.specs.Samples.{sample_event, longer_event};
@@ -14,6 +13,7 @@ use caller_laws::laws as callers;
 use engine_laws::laws as turns;
 use event_report::Report;
 use front_ends::laws as fronts_keep;
+use sub_files::laws::files_of_run;
 use transitions::laws as engine;
 
 /// In a run that was not refused and was stopped each front-end told in the Done of the stop what it sent, and that is what
@@ -54,13 +54,14 @@ pub fn sets()
 
 /// In a run that was not refused and was stopped the logger told in the Done of the stop what became of each channel: that it
 /// ended or broke off, or that the stop had no dump. It ended the run in the buffer of each channel: never was that refused.
-/// The file of each channel that the logger told to have ended is the run file of all events between the marks of the run
-/// that the channel asks for, with the dumps of the two sheets, and has at most 2^62 bytes; the file of one that was told to be
-/// broken begins so, where the stop's sheet has a dump.
+/// The files of each channel that the logger told to have ended, as many as it told, are the run files of the pieces into which
+/// the channel's limit cuts all events between the marks of the run that it asks for, with the dumps of the two sheets, and
+/// each has at most 2^62 bytes; the files of one that was told to be broken hold a first part of these events so, where the stop's
+/// sheet has a dump.
 pub fn files()
     ensures told { (s : Session) → MembersKeep s → ChannelsTold s }
-    ensures states { (s : Session) → MembersKeep s → StatesTold s }
-    ensures so { (s : Session) → MembersKeep s → StatesSo s }
+    ensures ends { (s : Session) → MembersKeep s → EndsTold s }
+    ensures so { (s : Session) → MembersKeep s → EndsSo s }
     ensures ended { (s : Session) → MembersKeep s → RunsAreEnded s }
     ensures unrefused { (s : Session) → MembersKeep s → NoEndRefused s }
     ensures hold { (s : Session) → MembersKeep s → FilesHoldRuns s }
@@ -69,10 +70,10 @@ pub fn files()
     callers::reads_places();
     callers::reads_events();
     callers::cut_short();
-    callers::cut_file();
     callers::file_fits();
     callers::fits_members();
     callers::ends_runs();
+    files_of_run();
     turns::gives_turns();
     turns::turns_begun();
     turns::tallies_answered();
@@ -133,7 +134,7 @@ pub fn composed()
 pub fn is_met()
     ensures session { MembersKeep sample_session }
     ensures run { IsStoppedRun sample_session sample_run }
-    ensures channel { ToldState sample_session sample_run sample_channel Ended }
+    ensures channel { ToldChannel sample_session sample_run sample_channel whole_file }
 {}
 
 /// The sample session meets all that these laws ask; and there are sessions each of which meets all but one of these things, and
@@ -166,8 +167,8 @@ pub fn needs_each_premise()
 pub fn is_met_paused()
     ensures session { MembersKeep paused_session }
     ensures run { IsStoppedRun paused_session pausing_run }
-    ensures first { ToldState paused_session pausing_run (paused_channel 0) Ended }
-    ensures second { ToldState paused_session pausing_run (paused_channel 1) Ended }
+    ensures first { ToldChannel paused_session pausing_run (paused_channel 0) whole_file }
+    ensures second { ToldChannel paused_session pausing_run (paused_channel 1) whole_file }
 {}
 
 /// So does a session with an analyzer, which sees its run through.

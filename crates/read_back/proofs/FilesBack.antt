@@ -1,16 +1,14 @@
 -- The files of a run that are closed are run files, whose names are those that `analyze` is given.
-use Rattle.std.proofs.Common.{◌≡◌, ◌∙◌, ℕ, suc, ◌<◌, ◌≤◌, ◌^◌, List, [], ◌∷◌, ◌++◌, length, All, refl, sym, subst, arith}
+use Rattle.std.proofs.Common.{◌≡◌, ◌∙◌, ℕ, suc, ◌+◌, ◌<◌, ◌≤◌, ◌^◌, List, [], ◌∷◌, ◌++◌, length, slice_get, Some, All, refl, ap, subst, arith}
 use Rattle.std.specs.Prelude.{IsTrue}
 use Rattle.std.specs.Io.KnownBytes.{Appends}
-use Rattle.std.proofs.lemmas.List.Elements.{All-cons, All-head, All-tail}
+use Rattle.std.proofs.lemmas.List.Elements.{All-head, All-tail}
 use Rattle.daq_types.specs.declared.events.Event.{Event}
-use Rattle.daq_io.specs.Seen.{IsStored, Seen, stored_closed}
-use Rattle.event.specs.Events.{encoding, record_limit}
-use Rattle.event.specs.RunFile.{end_record, IsFileEvent}
+use Rattle.daq_io.specs.Seen.{Seen, stored_closed}
+use Rattle.event.specs.RunFile.{run_file}
 use Rattle.event_report.specs.Reports.{report_of}
 use Rattle.event_report.specs.Texts.{report_text}
 use Rattle.midas_tools.specs.Analyses.{analysis_text}
-use Rattle.midas_tools.specs.Findings.{IsThere}
 use Rattle.midas_tools.specs.Pieces.{AreRunFilesWith, bytes_of}
 use Rattle.midas_tools.specs.Texts.{run_number_line}
 use Rattle.midas_tools.specs.Together.{HaveBytes, TellsRun, WritesTogether}
@@ -18,8 +16,8 @@ use Rattle.midas_tools.specs.declared.ends.ToolEnd.{ToolEnd}
 use Rattle.midas_tools.specs.declared.ends.ToolEnd.TheVariants.{Done}
 use Rattle.midas_tools.proofs.Pieces.{have_one}
 use Rattle.sub_files.specs.Cuts.{joined}
-use Rattle.sub_files.specs.Pieces.{AreFilesStored, Series, begun_piece, between, piece_name}
-use Rattle.read_back.specs.FilesBack.{FilesReadBack, PrintsReport, piece_names}
+use Rattle.sub_files.specs.Patterns.{NamePattern, piece_name_by}
+use Rattle.read_back.specs.FilesBack.{FilesReadBack, piece_names, IsClosedFile}
 
 -- the law of what `analyze` prints
 abbrev pub AnalysisPrinted : Type 0
@@ -27,96 +25,66 @@ AnalysisPrinted = (seen : Seen) → (names files : List (List ℕ)) → (run : �
     → HaveBytes seen names files → 0 < length files → AreRunFilesWith run files events → run < 2 ^ 32 → All (λ e. e.id < 2 ^ 16) events
     → TellsRun analysis_text seen names text → text ≡ analysis_text run events (bytes_of files)
 
-fine_front : (es fs : List Event) → All IsFileEvent (es ++ fs) → All IsFileEvent es
-fine_front [] fs all = λ k d inside. absurd (omega (arith, inside))
-fine_front (e ∷ es) fs all = All-cons IsFileEvent e es (All-head IsFileEvent e (es ++ fs) all) (fine_front es fs (All-tail IsFileEvent e (es ++ fs) all))
+-- the files of these names are there, one for each piece, and are run files of the run
+record AreThere (seen : Seen) (run : ℕ) (names : List (List ℕ)) (pieces : List (List Event)) : Type 0 where
+  files : List (List ℕ)
+  many : length files ≡ length pieces
+  have : HaveBytes seen names files
+  are : bytes_of files ≤ 2 ^ 62 → AreRunFilesWith run files (joined pieces)
 
-fine_back : (es fs : List Event) → All IsFileEvent (es ++ fs) → All IsFileEvent fs
-fine_back [] fs all = all
-fine_back (e ∷ es) fs all = fine_back es fs (All-tail IsFileEvent e (es ++ fs) all)
+module _ (files seen : Seen) (pattern : NamePattern) (run : ℕ) (tell : IsTrue files.tells) where
+  -- the files from this number on
+  abbrev ClosedFrom : (first : ℕ) → (pieces : List (List Event)) → Type 0
+  ClosedFrom first pieces = (number : ℕ) → (piece : List Event) → slice_get pieces number ≡ Some piece → IsClosedFile files (piece_name_by pattern run (first + number)) run piece
 
-module _ (s : Series) (time1 : ℕ) (dump1 : List ℕ) where
-  abbrev last : List ℕ
-  last = encoding (end_record s.head.run time1 dump1)
+  abbrev AreAlike : (names : List (List ℕ)) → Type 0
+  AreAlike names = All (λ name. seen.at name ≡ files.at name) names
 
-  -- the bytes of the files of these pieces
-  abbrev whole_files : List (List Event) → List (List ℕ)
-  whole_files [] = []
-  whole_files (piece ∷ []) = (begun_piece s piece ++ last) ∷ []
-  whole_files (piece ∷ (next ∷ pieces)) = (begun_piece s piece ++ between s.head) ∷ whole_files (next ∷ pieces)
+  closed_next : (first : ℕ) (piece : List Event) (pieces : List (List Event)) → ClosedFrom first (piece ∷ pieces) → ClosedFrom (suc first) pieces
+  closed_next first piece pieces closed number next at =
+      let name : first + suc number ≡ suc first + number = omega arith in
+      subst (λ (n : ℕ). IsClosedFile files (piece_name_by pattern run n) run next) name (closed (suc number) next at)
 
-  one_there : (seen files : Seen) (name bytes : List ℕ) → IsTrue files.tells → seen.at name ≡ files.at name → IsStored files name bytes → IsThere seen name (λ found. found ≡ bytes)
-  one_there seen files name bytes tell at stored = record { file = stored_closed bytes; at_is = at ∙ stored.holds tell; fact = refl }
+  closed_first : (first : ℕ) (piece : List Event) (pieces : List (List Event)) → ClosedFrom first (piece ∷ pieces) → IsClosedFile files (piece_name_by pattern run first) run piece
+  closed_first first piece pieces closed =
+      let name : first + 0 ≡ first = omega arith in
+      subst (λ (n : ℕ). IsClosedFile files (piece_name_by pattern run n) run piece) name (closed 0 piece refl)
 
-  all_there : (seen files : Seen) (number : ℕ) (pieces : List (List Event)) → IsTrue files.tells → All (λ name. seen.at name ≡ files.at name) (piece_names s number (length pieces)) → AreFilesStored files s last number pieces
-      → HaveBytes seen (piece_names s number (length pieces)) (whole_files pieces)
-  all_there seen files number [] tell at stored = absurd stored
-  all_there seen files number (piece ∷ []) tell at stored = (one_there seen files (piece_name s number) _ tell (All-head (λ name. seen.at name ≡ files.at name) (piece_name s number) [] at) stored, tt)
-  all_there seen files number (piece ∷ (next ∷ pieces)) tell at stored =
-      let names = piece_names s (suc number) (length (next ∷ pieces)) in (
-        one_there seen files (piece_name s number) _ tell (All-head (λ name. seen.at name ≡ files.at name) (piece_name s number) (piece_names s (suc number) (length (next ∷ pieces))) at) stored.0,
-        all_there seen files (suc number) (next ∷ pieces) tell (All-tail (λ name. seen.at name ≡ files.at name) (piece_name s number) (piece_names s (suc number) (length (next ∷ pieces))) at) stored.1,
-      )
-
-  module _ (begins_small : length s.dump ≤ record_limit) (ends_small : length dump1 ≤ record_limit) where
-    all_whole : (pieces : List (List Event)) → 1 ≤ length pieces → All IsFileEvent (joined pieces) → bytes_of (whole_files pieces) ≤ 2 ^ 62 → AreRunFilesWith s.head.run (whole_files pieces) (joined pieces)
-    all_whole [] some fine counted = absurd (omega (arith, some))
-    all_whole (piece ∷ []) some fine counted = (
-      piece,
-      [],
+  are_there : (first : ℕ) (pieces : List (List Event)) → AreAlike (piece_names pattern run first (length pieces)) → ClosedFrom first pieces → AreThere seen run (piece_names pattern run first (length pieces)) pieces
+  are_there first [] alike closed = record { files = []; many = refl; have = tt; are = λ counted. refl }
+  are_there first (piece ∷ pieces) alike closed =
+      let names : List (List ℕ) = piece_names pattern run (suc first) (length pieces) in
+      let name : List ℕ = piece_name_by pattern run first in
+      let file : IsClosedFile files name run piece = closed_first first piece pieces closed in
+      let bytes : List ℕ = run_file run file.time0 file.dump0 piece file.time1 file.dump1 in
+      let rest : AreThere seen run names pieces = are_there (suc first) pieces (All-tail (λ name. seen.at name ≡ files.at name) name names alike) (closed_next first piece pieces closed) in
       record {
-        time0 = s.head.time;
-        dump0 = s.dump;
-        time1 = time1;
-        dump1 = dump1;
-        file = record { is_file = refl; begins_small = begins_small; ends_small = ends_small; fine = fine_front piece [] fine; counted = omega (arith, counted) };
-      },
-      refl,
-      refl,
-    )
-    all_whole (piece ∷ (next ∷ pieces)) some fine counted = (
-      piece,
-      joined (next ∷ pieces),
-      record {
-        time0 = s.head.time;
-        dump0 = s.dump;
-        time1 = s.head.time;
-        dump1 = [];
-        file = record { is_file = refl; begins_small = begins_small; ends_small = omega arith; fine = fine_front piece (joined (next ∷ pieces)) fine; counted = omega (arith, counted) };
-      },
-      all_whole (next ∷ pieces) (omega arith) (fine_back piece (joined (next ∷ pieces)) fine) (omega (arith, counted)),
-      refl,
-    )
-
-some_whole : (s : Series) (time1 : ℕ) (dump1 : List ℕ) (pieces : List (List Event)) → 1 ≤ length pieces → 0 < length (whole_files s time1 dump1 pieces)
-some_whole s time1 dump1 [] some = absurd (omega (arith, some))
-some_whole s time1 dump1 (piece ∷ []) some = omega arith
-some_whole s time1 dump1 (piece ∷ (next ∷ pieces)) some = omega arith
-
-module _ (prints : AnalysisPrinted) (files : Seen) (s : Series) (time1 : ℕ) (dump1 : List ℕ) (small : s.head.run < 2 ^ 32) (begins_small : length s.dump ≤ record_limit) (ends_small : length dump1 ≤ record_limit)
-    (pieces : List (List Event)) (some : 1 ≤ length pieces) (fine : All IsFileEvent (joined pieces)) (short : All (λ e. e.id < 2 ^ 16) (joined pieces)) (stored : AreFilesStored files s (last s time1 dump1) 0 pieces) where
-  abbrev names : List (List ℕ)
-  names = piece_names s 0 (length pieces)
-
-  abbrev bytes : List (List ℕ)
-  bytes = whole_files s time1 dump1 pieces
-
-  text_is : (seen : Seen) (text : List ℕ) → IsTrue files.tells → All (λ name. seen.at name ≡ files.at name) names → TellsRun analysis_text seen names text → text ≡ run_number_line s.head.run ++ report_text [] (report_of (joined pieces))
-  text_is seen text files_tell at tells =
-      let have : HaveBytes seen names bytes = all_there s time1 dump1 seen files 0 pieces files_tell at stored in
-      let counted : bytes_of bytes ≤ 2 ^ 62 = subst (λ (fs : List (List ℕ)). bytes_of fs ≤ 2 ^ 62) (have_one seen names tells.holds.files bytes tells.holds.have have) tells.holds.are.counted in
-      prints seen names bytes s.head.run (joined pieces) text have (some_whole s time1 dump1 pieces some) (all_whole s time1 dump1 begins_small ends_small pieces some fine counted) small short tells
-
-  prints_pieces : PrintsReport files names s.head.run (report_of (joined pieces))
-  prints_pieces seen told_old told_new end files_tell tell at wrote done =
-      let all : WritesTogether analysis_text seen names told_old told_new Done = subst (λ (e : ToolEnd). WritesTogether analysis_text seen names told_old told_new e) done wrote in
-      subst (λ (t : List ℕ). Appends told_old told_new t) (text_is seen all.text files_tell at (all.finds.1 tell)) all.written
+        files = bytes ∷ rest.files;
+        many = ap (λ (n : ℕ). suc n) rest.many;
+        have = (record { file = stored_closed bytes; at_is = All-head (λ name. seen.at name ≡ files.at name) name names alike ∙ file.stored.holds tell; fact = refl }, rest.have);
+        are = λ counted. (
+          piece,
+          joined pieces,
+          record {
+            time0 = file.time0;
+            dump0 = file.dump0;
+            time1 = file.time1;
+            dump1 = file.dump1;
+            file = record { is_file = refl; begins_small = file.begins_small; ends_small = file.ends_small; fine = file.fine; counted = omega (arith, counted) };
+          },
+          rest.are (omega (arith, counted)),
+          refl,
+        );
+      }
 
 pub files_back : AnalysisPrinted → FilesReadBack
-files_back prints = λ files s many time1 dump1 events are small short.
-    let joins = are.closed.cut.joins in
-    let fine : All IsFileEvent (joined are.closed.pieces) = subst (λ (es : List Event). All IsFileEvent es) (sym are.closed.cut.joins) are.fine in
-    let brief : All (λ e. e.id < 2 ^ 16) (joined are.closed.pieces) = subst (λ (es : List Event). All (λ e. e.id < 2 ^ 16) es) (sym are.closed.cut.joins) short in
-    subst (λ (es : List Event). PrintsReport files (piece_names s 0 many) s.head.run (report_of es)) are.closed.cut.joins
-    (subst (λ (n : ℕ). PrintsReport files (piece_names s 0 n) s.head.run (report_of (joined are.closed.pieces))) (sym are.closed.many)
-    (prints_pieces prints files s time1 dump1 small are.closed.small are.ends_small are.closed.pieces are.closed.cut.some fine brief are.closed.stored))
+files_back prints files pattern run pieces some closed small short seen told_old told_new end files_tell tell alike wrote done =
+    let names : List (List ℕ) = piece_names pattern run 0 (length pieces) in
+    let all : WritesTogether analysis_text seen names told_old told_new Done = subst (λ (e : ToolEnd). WritesTogether analysis_text seen names told_old told_new e) done wrote in
+    let tells : TellsRun analysis_text seen names all.text = all.finds.1 tell in
+    let there : AreThere seen run names pieces =
+    are_there files seen pattern run files_tell 0 pieces alike (λ number piece at. let name : number ≡ 0 + number = omega arith in subst (λ (n : ℕ). IsClosedFile files (piece_name_by pattern run n) run piece) name (closed number piece at)) in
+    let counted : bytes_of there.files ≤ 2 ^ 62 = subst (λ (fs : List (List ℕ)). bytes_of fs ≤ 2 ^ 62) (have_one seen names tells.holds.files there.files tells.holds.have there.have) tells.holds.are.counted in
+    let text : all.text ≡ run_number_line run ++ report_text [] (report_of (joined pieces)) =
+    prints seen names there.files run (joined pieces) all.text there.have (omega (arith, some, there.many)) (there.are counted) small short tells in
+    subst (λ (t : List ℕ). Appends told_old told_new t) text all.written

@@ -1,13 +1,11 @@
--- What `analyze` prints of a run file of a session is the report of an analyzer that asked for the same events.
-use Rattle.std.proofs.Common.{◌≡◌, ◌∙◌, ℕ, ◌<◌, ◌^◌, List, [], ◌∷◌, ◌++◌, All, Option, Some, refl, ap, sym, subst, arith, get_or}
-use Rattle.std.specs.Prelude.{IsTrue, slice_get}
-use Rattle.std.specs.Io.KnownBytes.{Appends}
-use Rattle.std.proofs.lemmas.List.{append-nil}
+-- What `analyze` prints of the run files of a channel is the report of an analyzer that asked for the same events.
+use Rattle.std.proofs.Common.{◌≡◌, ◌∙◌, ℕ, ◌<◌, ◌^◌, List, [], All, Some, ap, sym, subst, get_or}
+use Rattle.std.specs.Prelude.{IsTrue, slice_get, suc, length, ◌==◌, if◌then◌else◌}
 use Rattle.std.proofs.lemmas.List.Elements.{All-map, All-filter, All-contains}
 use Rattle.std.proofs.lemmas.Option.{slice_get-get_or, slice_get_within, get_or_from_slice_get}
 use Rattle.daq_types.specs.declared.events.Event.{Event}
 use Rattle.daq_types.specs.declared.runs.RunState.TheVariants.{Stopped}
-use Rattle.daq_io.specs.Seen.{Seen, stored_closed}
+use Rattle.daq_io.specs.Seen.{IsStored}
 use Rattle.event.specs.Events.{matches}
 use Rattle.turn_lock.specs.Closing.{history_of}
 use Rattle.buffer_core.specs.Readers.{wanted}
@@ -15,13 +13,14 @@ use Rattle.buffer_core.specs.Runs.{segment}
 use Rattle.buffer_core.specs.Window.{Sent}
 use Rattle.caller_laws.specs.OneCaller.{events_in}
 use Rattle.event_report.specs.Reports.{Totals, report_of}
-use Rattle.event_report.specs.Texts.{report_text}
 use Rattle.transitions.specs.EngineCalls.{order_for}
 use Rattle.frontend_kit.specs.declared.generator.Generator.{Generator}
 use Rattle.loggers.specs.Moments.{RunFiles}
 use Rattle.mid_logger.specs.declared.channel_spec.ChannelSpec.{ChannelSpec}
 use Rattle.odb_runinfo.specs.RunSets.{have_of}
-use Rattle.session_runs.specs.declared.records.FileRecord.{FileRecord}
+use Rattle.session_runs.specs.declared.records.ChannelFiles.{ChannelFiles}
+use Rattle.sub_files.specs.Cuts.{joined}
+use Rattle.sub_files.specs.Patterns.{piece_name_by}
 use Rattle.session_runs.specs.declared.records.RunRecord.{RunRecord}
 use Rattle.daq_members.specs.Members.{MemberTold}
 use Rattle.session_runs.specs.RunEntries.{start_sheet}
@@ -32,16 +31,9 @@ use Rattle.session_objects.specs.Members.{generator_of}
 use Rattle.session_objects.specs.declared.record.BufferRecord.{BufferRecord}
 use Rattle.session_objects.specs.declared.record.SessionRecord.{SessionRecord}
 use Rattle.session_laws.specs.ClosedSessions.{ClosedSession}
-use Rattle.daq_session.specs.ToldRecords.{IsFileOfRun, IsFrontEvent, RunTells, events_of_run}
-use Rattle.midas_tools.specs.Analyses.{analysis_text}
-use Rattle.midas_tools.specs.Pieces.{AreRunFilesWith}
-use Rattle.midas_tools.specs.Together.{HaveBytes, TellsRun, WritesTogether}
-use Rattle.midas_tools.specs.Texts.{run_number_line}
-use Rattle.midas_tools.specs.declared.ends.ToolEnd.{ToolEnd}
-use Rattle.midas_tools.specs.declared.ends.ToolEnd.TheVariants.{Done}
-use Rattle.read_back.specs.FilesBack.{PrintsReport}
-use Rattle.read_back.specs.ReportsBack.{HasFileAndReport, ReportsReadBack, SessionReadsBack}
-use Rattle.read_back.proofs.FilesBack.{AnalysisPrinted}
+use Rattle.daq_session.specs.ToldRecords.{AreFilesOfRun, IsFrontEvent, RunTells, events_of_run}
+use Rattle.read_back.specs.FilesBack.{FilesReadBack, PrintsReport, AreClosedFiles, piece_names}
+use Rattle.read_back.specs.ReportsBack.{HasFilesAndReport, ReportsReadBack, SessionReadsBack, names_in_run}
 use Rattle.read_back.proofs.Alike.{one_channel, made_id, id_small, run_small}
 
 abbrev HasShortId : Event → Type 0
@@ -71,62 +63,62 @@ module _ (c : ClosedSession) (moments : (client : ℕ) → List ℕ) (own : Main
       (All-filter (λ (at : ℕ × Sent). matches channel.id channel.mask at.1.event) (λ (at : ℕ × Sent). HasShortId at.1.event) whole
       (λ k d inside. event_small channel.buffer b k (get_or whole k d) there (slice_get-get_or whole k d inside)))
 
-  module _ (prints : AnalysisPrinted) (file : FileRecord) (report : Totals) (has : HasFileAndReport declared buffers c.engine run file report) where
-    last : (dump : List ℕ) × IsFileOfRun declared buffers c.files run tells.so.fits.start.dump dump file
-    last = let its = tells.files has.index file has.file_at has.ended in (its.0, its.2)
+  module _ (back : FilesReadBack) (written : ChannelFiles) (report : Totals) (has : HasFilesAndReport declared buffers c.engine run written report) where
+    last : (dump : List ℕ) × AreFilesOfRun declared buffers c.files run tells.so.fits.start.dump dump written
+    last = let its = tells.files has.index written has.files_at has.ended in (its.0, its.2)
 
-    abbrev its_file : IsFileOfRun declared buffers c.files run tells.so.fits.start.dump last.0 file
-    its_file = last.1
-
-    its_channel : its_file.of.channel ≡ has.channel
-    its_channel = one_channel declared.channels its_file.of.channel has.channel sound.numbers_differ its_file.of.is_declared has.is_declared (sym its_file.of.number ∙ has.number)
-
-    -- the report counted the events of the file
-    same_events : has.counted.counts.told.events ≡ events_of_run its_file.of.channel its_file.of.buffer run.start
-    same_events =
-        let asked = has.analyzer in
-        let at_buffer : its_file.of.channel.buffer ≡ asked.buffer = ap (λ (s : ChannelSpec). s.buffer) its_channel ∙ has.alike.buffer in
-        let id : its_file.of.channel.id ≡ asked.id = ap (λ (s : ChannelSpec). s.id) its_channel ∙ has.alike.id in
-        let mask : its_file.of.channel.mask ≡ asked.mask = ap (λ (s : ChannelSpec). s.mask) its_channel ∙ has.alike.mask in
-        let one : has.counted.buffer ≡ its_file.of.buffer =
-        one_buffer has.counted.buffer its_file.of.buffer (sym has.counted.there ∙ ap (slice_get buffers) (sym at_buffer) ∙ its_file.of.there) in
-        (has.counted.counts.whole has.through).counted
-        ∙ ap (λ (b : BufferRecord). events_in (wanted asked.id asked.mask (segment (history_of b.closed) run.start))) one
-        ∙ ap (λ (i : ℕ). events_in (wanted i asked.mask (segment (history_of its_file.of.buffer.closed) run.start))) (sym id)
-        ∙ ap (λ (m : ℕ). events_in (wanted its_file.of.channel.id m (segment (history_of its_file.of.buffer.closed) run.start))) (sym mask)
-
-    same_report : report_of (events_of_run its_file.of.channel its_file.of.buffer run.start) ≡ report
-    same_report = ap report_of (sym same_events) ∙ sym has.counted.counts.told.report_is ∙ has.report_is
-
-    -- the file is there, alone
-    has_bytes : (seen : Seen) → IsTrue c.files.tells → seen.at file.name ≡ c.files.at file.name → HaveBytes seen (file.name ∷ []) (its_file.bytes ∷ [])
-    has_bytes seen files_tell at = (record { file = stored_closed its_file.bytes; at_is = at ∙ its_file.stored.holds files_tell; fact = refl }, tt)
+    abbrev its_files : AreFilesOfRun declared buffers c.files run tells.so.fits.start.dump last.0 written
+    its_files = last.1
 
     abbrev its_events : List Event
-    its_events = events_of_run its_file.of.channel its_file.of.buffer run.start
+    its_events = events_of_run its_files.of.channel its_files.of.buffer run.start
 
-    -- and is a run file of all events
-    has_events : AreRunFilesWith run.run (its_file.bytes ∷ []) its_events
-    has_events = (its_events, [], record { time0 = run.time0; dump0 = tells.so.fits.start.dump; time1 = run.time1; dump1 = last.0; file = its_file.are }, refl, sym (append-nil its_events))
+    its_channel : its_files.of.channel ≡ has.channel
+    its_channel = one_channel declared.channels its_files.of.channel has.channel sound.numbers_differ its_files.of.is_declared has.is_declared (sym its_files.of.number ∙ has.number)
 
-    text_is : (seen : Seen) (text : List ℕ) → IsTrue c.files.tells → seen.at file.name ≡ c.files.at file.name → TellsRun analysis_text seen (file.name ∷ []) text → text ≡ run_number_line run.run ++ report_text [] report
-    text_is seen text files_tell at tells_run =
-        prints seen (file.name ∷ []) (its_file.bytes ∷ []) run.run its_events text (has_bytes seen files_tell at) (omega arith) has_events
-        (run_small (have_of tells.so.fits.start.are.got) run.run tells.so.fits.start.are.number) (all_small its_file.of.channel its_file.of.buffer its_file.of.there) tells_run
-        ∙ ap (λ (t : Totals). run_number_line run.run ++ report_text [] t) same_report
+    -- the report counted the events of the files
+    same_events : has.counted.counts.told.events ≡ its_events
+    same_events =
+        let asked = has.analyzer in
+        let at_buffer : its_files.of.channel.buffer ≡ asked.buffer = ap (λ (s : ChannelSpec). s.buffer) its_channel ∙ has.alike.buffer in
+        let id : its_files.of.channel.id ≡ asked.id = ap (λ (s : ChannelSpec). s.id) its_channel ∙ has.alike.id in
+        let mask : its_files.of.channel.mask ≡ asked.mask = ap (λ (s : ChannelSpec). s.mask) its_channel ∙ has.alike.mask in
+        let one : has.counted.buffer ≡ its_files.of.buffer =
+        one_buffer has.counted.buffer its_files.of.buffer (sym has.counted.there ∙ ap (slice_get buffers) (sym at_buffer) ∙ its_files.of.there) in
+        (has.counted.counts.whole has.through).counted
+        ∙ ap (λ (b : BufferRecord). events_in (wanted asked.id asked.mask (segment (history_of b.closed) run.start))) one
+        ∙ ap (λ (i : ℕ). events_in (wanted i asked.mask (segment (history_of its_files.of.buffer.closed) run.start))) (sym id)
+        ∙ ap (λ (m : ℕ). events_in (wanted its_files.of.channel.id m (segment (history_of its_files.of.buffer.closed) run.start))) (sym mask)
 
-    written : (seen : Seen) (told_old told_new : Option (List ℕ)) → IsTrue c.files.tells → IsTrue seen.tells → All (λ name. seen.at name ≡ c.files.at name) (file.name ∷ [])
-        → WritesTogether analysis_text seen (file.name ∷ []) told_old told_new Done → Appends told_old told_new (run_number_line run.run ++ report_text [] report)
-    written seen told_old told_new files_tell tell at wrote =
-        subst (λ (t : List ℕ). Appends told_old told_new t) (text_is seen wrote.text files_tell (at 0 file.name (omega arith)) (wrote.finds.1 tell)) wrote.written
+    same_report : report_of its_events ≡ report
+    same_report = ap report_of (sym same_events) ∙ sym has.counted.counts.told.report_is ∙ has.report_is
 
-    prints_report : PrintsReport c.files (file.name ∷ []) run.run report
-    prints_report seen told_old told_new end files_tell tell at wrote done =
-        written seen told_old told_new files_tell tell at (subst (λ (e : ToolEnd). WritesTogether analysis_text seen (file.name ∷ []) told_old told_new e) done wrote)
+    -- each file is closed and holds its piece
+    are_closed : AreClosedFiles c.files written.pattern run.run its_files.pieces
+    are_closed number piece at =
+        let file = its_files.each number piece at in
+        record {
+          time0 = run.time0;
+          dump0 = tells.so.fits.start.dump;
+          time1 = if suc number == written.told.files then run.time1 else run.time0;
+          dump1 = if suc number == written.told.files then last.0 else [];
+          begins_small = file.are.begins_small;
+          ends_small = file.are.ends_small;
+          fine = file.are.fine;
+          stored = subst (λ (bytes : List ℕ). IsStored c.files (piece_name_by written.pattern run.run number) bytes) file.are.is_file file.stored;
+        }
 
-pub reports_back : AnalysisPrinted → ReportsReadBack
-reports_back prints = λ c moments own declared buffers first now run sound tells file report has. prints_report c moments own declared buffers first now run sound tells prints file report has
+    prints_report : PrintsReport c.files (names_in_run run written) run.run report
+    prints_report =
+        let small : run.run < 2 ^ 32 = run_small (have_of tells.so.fits.start.are.got) run.run tells.so.fits.start.are.number in
+        let short : All HasShortId (joined its_files.pieces) = subst (λ (es : List Event). All HasShortId es) (sym its_files.cut.joins) (all_small its_files.of.channel its_files.of.buffer its_files.of.there) in
+        let of_pieces = back c.files written.pattern run.run its_files.pieces its_files.cut.some are_closed small short in
+        subst (λ (n : ℕ). PrintsReport c.files (piece_names written.pattern run.run 0 n) run.run report) its_files.many
+        (subst (λ (t : Totals). PrintsReport c.files (piece_names written.pattern run.run 0 (length its_files.pieces)) run.run t) (ap report_of its_files.cut.joins ∙ same_report) of_pieces)
+
+pub reports_back : FilesReadBack → ReportsReadBack
+reports_back back = λ c moments own declared buffers first now run sound tells written report has. prints_report c moments own declared buffers first now run sound tells back written report has
 
 pub session_back : {D F : Type 0} {g : _} (told : MemberTold Generator F) (r : SessionRecord D g) → ReportsReadBack → SessionReadsBack told r
-session_back told r back = λ first_files final run_files kept number run at came file report has.
-    back _ kept.tells.holds.moments _ final.declared r.buffers (told.read first_files) (told.read run_files) run kept.sound (kept.tells.runs number run at came) file report has
+session_back told r back = λ first_files final run_files kept number run at came written report has.
+    back _ kept.tells.holds.moments _ final.declared r.buffers (told.read first_files) (told.read run_files) run kept.sound (kept.tells.runs number run at came) written report has

@@ -1,10 +1,10 @@
 -- What `analyze` prints of the files of a run, read back as they were closed.
-use Rattle.std.specs.Prelude.{◌≡◌, ◌<◌, ◌≤◌, ◌^◌, ℕ, zero, suc, Bool, IsTrue, List, [], ◌∷◌, ◌++◌, length, All, Option}
+use Rattle.std.specs.Prelude.{◌≡◌, ◌<◌, ◌≤◌, ◌^◌, ℕ, zero, suc, IsTrue, List, [], ◌∷◌, ◌++◌, length, slice_get, Some, All, Option}
 use Rattle.std.specs.Io.KnownBytes.{Appends}
 use Rattle.daq_types.specs.declared.events.Event.{Event}
-use Rattle.daq_io.specs.Seen.{Seen}
-use Rattle.event.specs.Events.{encoding, record_limit}
-use Rattle.event.specs.RunFile.{end_record, IsFileEvent}
+use Rattle.daq_io.specs.Seen.{Seen, IsStored}
+use Rattle.event.specs.Events.{record_limit}
+use Rattle.event.specs.RunFile.{run_file, IsFileEvent}
 use Rattle.event_report.specs.Reports.{Totals, report_of}
 use Rattle.event_report.specs.Texts.{report_text}
 use Rattle.midas_tools.specs.Analyses.{analysis_text}
@@ -12,7 +12,8 @@ use Rattle.midas_tools.specs.Texts.{run_number_line}
 use Rattle.midas_tools.specs.Together.{WritesTogether}
 use Rattle.midas_tools.specs.declared.ends.ToolEnd.{ToolEnd}
 use Rattle.midas_tools.specs.declared.ends.ToolEnd.TheVariants.{Done}
-use Rattle.sub_files.specs.Pieces.{HasRun, Series, piece_name}
+use Rattle.sub_files.specs.Cuts.{joined}
+use Rattle.sub_files.specs.Patterns.{NamePattern, piece_name_by}
 
 -- A call of `analyze` with these names that ends well writes the number of the run and this report, and nothing else: on any
 -- files that tell the names' files, which are those of these run files, told too.
@@ -23,19 +24,29 @@ PrintsReport files names run report = (seen : Seen) → (told_old told_new : Opt
     Appends told_old told_new (run_number_line run ++ report_text [] report)
 
 -- the names of so many files of a run, of which the first has this number
-abbrev pub piece_names : Series → (number many : ℕ) → List (List ℕ)
-piece_names s number zero = []
-piece_names s number (suc many) = piece_name s number ∷ piece_names s (suc number) many
+abbrev pub piece_names : NamePattern → (run number many : ℕ) → List (List ℕ)
+piece_names pattern run number zero = []
+piece_names pattern run number (suc many) = piece_name_by pattern run number ∷ piece_names pattern run (suc number) many
 
--- The files of these events, so many, are closed, and each is a run file: the last one ends with this record.
-pub record AreClosed (files : Seen) (s : Series) (many : ℕ) (time1 : ℕ) (dump1 : List ℕ) (events : List Event) : Type 0 where
-  pub taken : Bool
-  pub closed : HasRun files s many taken (encoding (end_record s.head.run time1 dump1)) events
+-- The file of this name is closed, and holds these events between two records of the run, which may have any times and dumps.
+pub record IsClosedFile (files : Seen) (name : List ℕ) (run : ℕ) (events : List Event) : Type 0 where
+  pub time0 : ℕ
+  pub dump0 : List ℕ
+  pub time1 : ℕ
+  pub dump1 : List ℕ
+  pub begins_small : length dump0 ≤ record_limit
   pub ends_small : length dump1 ≤ record_limit
   pub fine : All IsFileEvent events
+  pub stored : IsStored files name (run_file run time0 dump0 events time1 dump1)
 
--- Where the files of a run are closed, `analyze` of all of them, in order, writes the run and the report over all its events.
+-- The file of each of these pieces of a run is closed, under the name of its number.
+abbrev pub AreClosedFiles : (files : Seen) → NamePattern → (run : ℕ) → (pieces : List (List Event)) → Type 0
+AreClosedFiles files pattern run pieces = (number : ℕ) → (piece : List Event) → slice_get pieces number ≡ Some piece →
+    IsClosedFile files (piece_name_by pattern run number) run piece
+
+-- Where the files of a run are closed, one for each piece of its events, `analyze` of all of them, in order, writes the run and the
+-- report over all its events.
 abbrev pub FilesReadBack : Type 0
-FilesReadBack = (files : Seen) → (s : Series) → (many : ℕ) → (time1 : ℕ) → (dump1 : List ℕ) → (events : List Event) →
-    AreClosed files s many time1 dump1 events → s.head.run < 2 ^ 32 → All (λ e. e.id < 2 ^ 16) events →
-    PrintsReport files (piece_names s 0 many) s.head.run (report_of events)
+FilesReadBack = (files : Seen) → (pattern : NamePattern) → (run : ℕ) → (pieces : List (List Event)) → 1 ≤ length pieces →
+    AreClosedFiles files pattern run pieces → run < 2 ^ 32 → All (λ e. e.id < 2 ^ 16) (joined pieces) →
+    PrintsReport files (piece_names pattern run 0 (length pieces)) run (report_of (joined pieces))

@@ -1,5 +1,5 @@
--- A run file and a report of one run that came about in a session: what `analyze` prints of the one is the other.
-use Rattle.std.specs.Prelude.{◌≡◌, ℕ, suc, ◌+◌, ◌∷◌, List, [], length, slice_get, Contains, Some}
+-- The run files of a channel and a report of one run that came about in a session: what `analyze` prints of the ones is the other.
+use Rattle.std.specs.Prelude.{◌≡◌, ℕ, suc, ◌+◌, List, length, slice_get, Contains, Some}
 use Rattle.daq_types.specs.Callers.{caller_of_client}
 use Rattle.daq_types.specs.declared.runs.ChannelState.TheVariants.{Ended}
 use Rattle.daq_types.specs.declared.runs.StartOutcome.TheVariants.{Completed}
@@ -10,7 +10,7 @@ use Rattle.frontend_kit.specs.declared.generator.Generator.{Generator}
 use Rattle.mid_logger.specs.declared.channel_spec.ChannelSpec.{ChannelSpec}
 use Rattle.loggers.specs.Moments.{RunFiles}
 use Rattle.composition.specs.SessionRuns.{SawThrough}
-use Rattle.session_runs.specs.declared.records.FileRecord.{FileRecord}
+use Rattle.session_runs.specs.declared.records.ChannelFiles.{ChannelFiles}
 use Rattle.session_runs.specs.declared.records.ReportTally.{ReportTally}
 use Rattle.session_runs.specs.declared.records.RunRecord.{RunRecord}
 use Rattle.daq_members.specs.Members.{MemberTold}
@@ -23,7 +23,7 @@ use Rattle.session_laws.specs.ClosedSessions.{ClosedSession}
 use Rattle.session_lines.specs.Stages.{SessionStage}
 use Rattle.daq_session.specs.Sessions.{KeepsSession}
 use Rattle.daq_session.specs.ToldRecords.{IsCountedInRun, RunTells}
-use Rattle.read_back.specs.FilesBack.{PrintsReport}
+use Rattle.read_back.specs.FilesBack.{PrintsReport, piece_names}
 
 -- The channel and the analyzer read the same buffer, and ask there for the same events.
 pub record AsksAlike (channel : ChannelSpec) (d : AnalyzerDeclared) : Type 0 where
@@ -35,16 +35,20 @@ pub record AsksAlike (channel : ChannelSpec) (d : AnalyzerDeclared) : Type 0 whe
 abbrev pub seat_client : Declared → (place : ℕ) → ℕ
 seat_client declared place = suc (length declared.fronts) + place
 
--- The record of the run has this file, which ended, of a channel that was declared; and of the analyzer at a place it has this
+-- the names of all files of the channel in the run, in order
+abbrev pub names_in_run : RunRecord → ChannelFiles → List (List ℕ)
+names_in_run run written = piece_names written.pattern run.run 0 written.told.files
+
+-- The record of the run has these files of a channel that was declared, which ended; and of the analyzer at a place it has this
 -- report. The two ask for the same events, and the analyzer saw the run through.
-pub record HasFileAndReport (declared : Declared) (buffers : List BufferRecord) (engine : EngineHistory) (run : RunRecord)
-    (file : FileRecord) (report : Totals) : Type 0 where
+pub record HasFilesAndReport (declared : Declared) (buffers : List BufferRecord) (engine : EngineHistory) (run : RunRecord)
+    (written : ChannelFiles) (report : Totals) : Type 0 where
   pub index : ℕ
-  pub file_at : slice_get run.files index ≡ Some file
-  pub ended : file.state ≡ Ended
+  pub files_at : slice_get run.files index ≡ Some written
+  pub ended : written.told.state ≡ Ended
   pub channel : ChannelSpec
   pub is_declared : Contains declared.channels channel
-  pub number : file.channel ≡ channel.number
+  pub number : written.channel ≡ channel.number
   pub place : ℕ
   pub analyzer : AnalyzerDeclared
   pub there : slice_get declared.analyzers place ≡ Some analyzer
@@ -55,17 +59,17 @@ pub record HasFileAndReport (declared : Declared) (buffers : List BufferRecord) 
   pub counted : IsCountedInRun (seat_client declared place) analyzer buffers engine run.start tally
   pub through : SawThrough (history_of counted.buffer.closed) (caller_of_client (seat_client declared place)) counted.counts.told
 
--- Where the declarations are sound and all is so that is told of a run: the file and the report of one request agree.
+-- Where the declarations are sound and all is so that is told of a run: the files and the report of one request agree.
 abbrev pub ReportsReadBack : Type 0
 ReportsReadBack = (c : ClosedSession) → (moments : (client : ℕ) → List ℕ) → (own : MainOwn) → (declared : Declared) →
     (buffers : List BufferRecord) → (first now : RunFiles) → (run : RunRecord) → AreSound declared →
-    RunTells c moments own declared buffers first now run → (file : FileRecord) → (report : Totals) →
-    HasFileAndReport declared buffers c.engine run file report → PrintsReport c.files (file.name ∷ []) run.run report
+    RunTells c moments own declared buffers first now run → (written : ChannelFiles) → (report : Totals) →
+    HasFilesAndReport declared buffers c.engine run written report → PrintsReport c.files (names_in_run run written) run.run report
 
 -- So it is with each run that came about of a session of which this record is kept.
 abbrev pub SessionReadsBack : {D F : Type 0} {g : _} → MemberTold Generator F → SessionRecord D g → Type 0
 SessionReadsBack {D} {F} told r = (first_files : F) → (final : SessionStage) → (run_files : F) →
     KeepsSession told first_files final run_files r → (number : ℕ) → (run : RunRecord) →
-    slice_get r.runs number ≡ Some run → run.outcome ≡ Completed → (file : FileRecord) → (report : Totals) →
-    HasFileAndReport final.declared r.buffers (history_of r.engine) run file report →
-    PrintsReport (told.seen run_files) (file.name ∷ []) run.run report
+    slice_get r.runs number ≡ Some run → run.outcome ≡ Completed → (written : ChannelFiles) → (report : Totals) →
+    HasFilesAndReport final.declared r.buffers (history_of r.engine) run written report →
+    PrintsReport (told.seen run_files) (names_in_run run written) run.run report

@@ -20,12 +20,12 @@ pub fn files_read_back()
     analysis_printed();
 }
 
-/// What the record of a run has of an analyzer that saw the run through is what `analyze` prints of the file of a channel that asks
-/// for the same events, behind the number of the run.
+/// What the record of a run has of an analyzer that saw the run through is what `analyze` prints of all files of a channel that
+/// ended and asks for the same events, in order, behind the number of the run.
 pub fn reports_read_back()
     ensures { ReportsReadBack }
 {
-    analysis_printed();
+    files_read_back();
 }
 
 /// So it is with each run that came about of a session of which a record is kept, and with its run files as the session left them.

@@ -1,4 +1,4 @@
-//! What is read back of a session: `analyze` prints of a run file what an analyzer told of the run. Definitions in `specs/`, and
+//! What is read back of a session: `analyze` prints of the files of a run what an analyzer told of it. Definitions in `specs/`, and
 //! the laws on them.
 #![tactic(auto)]
 

@@ -1,5 +1,5 @@
 use Rattle.composition.proofs.SessionTurns.{EngineFacts}
-use Rattle.composition.proofs.FilesTogether.{CallerFacts, channels_told, states_told, states_so, files_hold_runs, files_hold_parts, runs_are_ended, no_end_refused}
+use Rattle.composition.proofs.FilesTogether.{CallerFacts, channels_told, ends_told, ends_so, files_hold_runs, files_hold_parts, runs_are_ended, no_end_refused}
 use Rattle.composition.proofs.laws.files.Goals as goal
 
 pub returns : goal.returns
@@ -16,7 +16,6 @@ returns c =
       places = c.reads_places.ensures;
       events = c.reads_events.ensures;
       cut = c.cut_short.ensures;
-      file = c.cut_file.ensures;
       fits_file = c.file_fits.ensures;
       fits = c.fits_members.ensures.all;
       ends = c.ends_runs.ensures.ended;
@@ -24,10 +23,10 @@ returns c =
     } in
     record {
       told = channels_told laws;
-      states = states_told laws;
-      so = states_so laws;
+      ends = ends_told laws;
+      so = ends_so laws;
       ended = runs_are_ended laws callers;
       unrefused = no_end_refused laws callers;
-      hold = files_hold_runs laws callers;
+      hold = files_hold_runs laws callers c.files_of_run.ensures;
       parts = files_hold_parts laws callers;
     }
