@@ -15,7 +15,7 @@ struct Parts<'a> {
     /// The word for its type or its kind, if it has one.
     said: &'static str,
     texts: [&'a [u8]; 2],
-    numbers: [u32; 3],
+    numbers: [u32; 4],
 }
 
 /// A command with its form alone.
@@ -24,14 +24,14 @@ fn of_form(form: &'static str) -> Parts<'static> {
         form,
         said: "",
         texts: [b"".as_slice(); 2],
-        numbers: [0; 3],
+        numbers: [0; 4],
     }
 }
 
 /// A command with one number.
 fn of_number(form: &'static str, number: u32) -> Parts<'static> {
     Parts {
-        numbers: [number, 0, 0],
+        numbers: [number, 0, 0, 0],
         ..of_form(form)
     }
 }
@@ -42,7 +42,7 @@ fn of_text<'a>(form: &'static str, text: LineText<'a>, number: u32) -> Parts<'a>
         form,
         said: "",
         texts: [text.as_slice(), b"".as_slice()],
-        numbers: [number, 0, 0],
+        numbers: [number, 0, 0, 0],
     }
 }
 
@@ -68,7 +68,7 @@ fn parts_of_declared(declaration: Declaration<'_>) -> Parts<'_> {
             form: "equip",
             said: "",
             texts: [name.as_slice(), buffer.as_slice()],
-            numbers: [id, mask as u32, limit],
+            numbers: [id, mask as u32, limit, 0],
         },
         Declaration::Channel {
             number,
@@ -76,11 +76,12 @@ fn parts_of_declared(declaration: Declaration<'_>) -> Parts<'_> {
             buffer,
             id,
             mask,
+            sub_bytes,
         } => Parts {
             form: "channel",
             said: "",
             texts: [pattern.as_slice(), buffer.as_slice()],
-            numbers: [number, id as u32, mask as u32],
+            numbers: [number, id as u32, mask as u32, sub_bytes],
         },
         Declaration::Analyzer {
             name,
@@ -92,7 +93,7 @@ fn parts_of_declared(declaration: Declaration<'_>) -> Parts<'_> {
             form: "analyzer",
             said: kind_word(kind),
             texts: [name.as_slice(), buffer.as_slice()],
-            numbers: [id as u32, mask as u32, 0],
+            numbers: [id as u32, mask as u32, 0, 0],
         },
     }
 }
@@ -109,13 +110,13 @@ fn parts_of_rows(command: RowCommand<'_>) -> Parts<'_> {
             form: "link",
             said: "",
             texts: [path.as_slice(), target.as_slice()],
-            numbers: [0; 3],
+            numbers: [0; 4],
         },
         RowCommand::Set { path, index, value } => Parts {
             form: "set",
             said: "",
             texts: [path.as_slice(), value.as_slice()],
-            numbers: [index, 0, 0],
+            numbers: [index, 0, 0, 0],
         },
         RowCommand::Get { path, index } => match index {
             None => of_text("get", path, 0),
@@ -171,7 +172,7 @@ struct Row {
     form: &'static str,
     said: &'static str,
     texts: [&'static str; 2],
-    numbers: [u32; 3],
+    numbers: [u32; 4],
 }
 
 /// A row with no words and no numbers.
@@ -180,7 +181,7 @@ const PLAIN: Row = Row {
     form: "",
     said: "",
     texts: ["", ""],
-    numbers: [0, 0, 0],
+    numbers: [0, 0, 0, 0],
 };
 
 const COMMANDS: &[Row] = &[
@@ -202,37 +203,37 @@ const COMMANDS: &[Row] = &[
     Row {
         line: "events 3",
         form: "events",
-        numbers: [3, 0, 0],
+        numbers: [3, 0, 0, 0],
         ..PLAIN
     },
     Row {
         line: "\tevents \t 007 ",
         form: "events",
-        numbers: [7, 0, 0],
+        numbers: [7, 0, 0, 0],
         ..PLAIN
     },
     Row {
         line: "events 4294967295",
         form: "events",
-        numbers: [4294967295, 0, 0],
+        numbers: [4294967295, 0, 0, 0],
         ..PLAIN
     },
     Row {
         line: "events 0x000aBcDeF",
         form: "events",
-        numbers: [11259375, 0, 0],
+        numbers: [11259375, 0, 0, 0],
         ..PLAIN
     },
     Row {
         line: "events 0xFFFFFFFF",
         form: "events",
-        numbers: [4294967295, 0, 0],
+        numbers: [4294967295, 0, 0, 0],
         ..PLAIN
     },
     Row {
         line: "events \"5\"",
         form: "events",
-        numbers: [5, 0, 0],
+        numbers: [5, 0, 0, 0],
         ..PLAIN
     },
     Row {
@@ -295,7 +296,7 @@ const COMMANDS: &[Row] = &[
     Row {
         line: "unwatch 63",
         form: "unwatch",
-        numbers: [63, 0, 0],
+        numbers: [63, 0, 0, 0],
         ..PLAIN
     },
     Row {
@@ -303,7 +304,7 @@ const COMMANDS: &[Row] = &[
         form: "create",
         said: "UINT8",
         texts: ["/A/b", ""],
-        numbers: [2, 0, 0],
+        numbers: [2, 0, 0, 0],
         ..PLAIN
     },
     Row {
@@ -311,7 +312,7 @@ const COMMANDS: &[Row] = &[
         form: "create",
         said: "UINT16",
         texts: ["A", ""],
-        numbers: [1, 0, 0],
+        numbers: [1, 0, 0, 0],
         ..PLAIN
     },
     Row {
@@ -326,7 +327,7 @@ const COMMANDS: &[Row] = &[
         form: "create",
         said: "LINK",
         texts: ["/A", ""],
-        numbers: [1, 0, 0],
+        numbers: [1, 0, 0, 0],
         ..PLAIN
     },
     Row {
@@ -356,7 +357,7 @@ const COMMANDS: &[Row] = &[
         line: "set /A/b 1 0xff",
         form: "set",
         texts: ["/A/b", "0xff"],
-        numbers: [1, 0, 0],
+        numbers: [1, 0, 0, 0],
         ..PLAIN
     },
     Row {
@@ -375,7 +376,7 @@ const COMMANDS: &[Row] = &[
         line: "set /A \"2\" \" x \"",
         form: "set",
         texts: ["/A", " x "],
-        numbers: [2, 0, 0],
+        numbers: [2, 0, 0, 0],
         ..PLAIN
     },
     Row {
@@ -395,7 +396,7 @@ const COMMANDS: &[Row] = &[
         form: "get",
         said: "one",
         texts: ["/A b", ""],
-        numbers: [4294967295, 0, 0],
+        numbers: [4294967295, 0, 0, 0],
         ..PLAIN
     },
     Row {
@@ -414,41 +415,69 @@ const COMMANDS: &[Row] = &[
         line: "buffer B 1024",
         form: "buffer",
         texts: ["B", ""],
-        numbers: [1024, 0, 0],
+        numbers: [1024, 0, 0, 0],
         ..PLAIN
     },
     Row {
         line: "buffer \"\" 0xffffffff",
         form: "buffer",
-        numbers: [4294967295, 0, 0],
+        numbers: [4294967295, 0, 0, 0],
         ..PLAIN
     },
     Row {
         line: "equip FE 1 0 SYSTEM",
         form: "equip",
         texts: ["FE", "SYSTEM"],
-        numbers: [1, 0, 4294967295],
+        numbers: [1, 0, 4294967295, 0],
         ..PLAIN
     },
     Row {
         line: "equip F 4294967295 0xffff \"a b\" 7",
         form: "equip",
         texts: ["F", "a b"],
-        numbers: [4294967295, 65535, 7],
+        numbers: [4294967295, 65535, 7, 0],
         ..PLAIN
     },
     Row {
         line: "channel 0 run%05d.mid SYSTEM 65535 65535",
         form: "channel",
         texts: ["run%05d.mid", "SYSTEM"],
-        numbers: [0, 65535, 65535],
+        numbers: [0, 65535, 65535, 0],
         ..PLAIN
     },
     Row {
         line: "channel 16 \"\" b 0 1",
         form: "channel",
         texts: ["", "b"],
-        numbers: [16, 0, 1],
+        numbers: [16, 0, 1, 0],
+        ..PLAIN
+    },
+    Row {
+        line: "channel 0 a%05db%04d.mid SYSTEM 1 2 0",
+        form: "channel",
+        texts: ["a%05db%04d.mid", "SYSTEM"],
+        numbers: [0, 1, 2, 0],
+        ..PLAIN
+    },
+    Row {
+        line: "channel 15 a%05db%04d.mid SYSTEM 1 2 1",
+        form: "channel",
+        texts: ["a%05db%04d.mid", "SYSTEM"],
+        numbers: [15, 1, 2, 1],
+        ..PLAIN
+    },
+    Row {
+        line: "channel 15 p SYSTEM 1 2 4294967295",
+        form: "channel",
+        texts: ["p", "SYSTEM"],
+        numbers: [15, 1, 2, 4294967295],
+        ..PLAIN
+    },
+    Row {
+        line: "channel 15 p SYSTEM 1 2 \"0x12C\" ",
+        form: "channel",
+        texts: ["p", "SYSTEM"],
+        numbers: [15, 1, 2, 300],
         ..PLAIN
     },
     Row {
@@ -456,7 +485,7 @@ const COMMANDS: &[Row] = &[
         form: "analyzer",
         said: "all",
         texts: ["ANA", "SYSTEM"],
-        numbers: [65535, 0, 0],
+        numbers: [65535, 0, 0, 0],
         ..PLAIN
     },
     Row {
@@ -464,7 +493,7 @@ const COMMANDS: &[Row] = &[
         form: "analyzer",
         said: "some",
         texts: ["A", "b c"],
-        numbers: [1, 65535, 0],
+        numbers: [1, 65535, 0, 0],
         ..PLAIN
     },
 ];
@@ -584,6 +613,9 @@ const NO_FORM_OF_A_SESSION: &[(&str, u32)] = &[
     ("channel 0 p B 1 65536", 16),
     ("channel 0 p B 1", 15),
     ("channel 0 p B 1 1 x", 18),
+    ("channel 0 p B 1 1 4294967296", 18),
+    ("channel 0 p B 1 1 \"\"", 18),
+    ("channel 0 p B 1 1 300 x", 22),
     ("analyzer A", 10),
     ("analyzer A B 65536 1 all", 13),
     ("analyzer A B 1 1", 16),

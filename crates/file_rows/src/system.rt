@@ -300,11 +300,11 @@ fn many_at_once(
 }
 
 #[test]
-fn sixteen_files_at_once(rt: HostRuntime) -> Result<(), Fail> {
-    let folder = "sixteen_files_at_once";
+fn seventeen_files_at_once(rt: HostRuntime) -> Result<(), Fail> {
+    let folder = "seventeen_files_at_once";
     fs::create_dir(&rt, folder)?;
-    let answers = many_at_once(rt.alloc(), files_in(rt, rt, folder, 16)?, 16)?;
-    assert!(rt; answers == (16, Err(NameRefused::Failed)));
+    let answers = many_at_once(rt.alloc(), files_in(rt, rt, folder, 17)?, 17)?;
+    assert!(rt; answers == (17, Err(NameRefused::Failed)));
     fs::remove_dir_all(&rt, folder)?;
     Ok(())
 }

@@ -113,10 +113,12 @@ channel ws =
     (λ pattern behind. next_text behind >>= (λ into. channel_end number pattern into (words_behind behind)))
     (λ pattern. text_goes_on (codes "channel" ∷ t ∷ pattern ∷ []) (channel_end number pattern)
     (λ into. number_goes_on (codes "channel" ∷ t ∷ pattern ∷ into ∷ []) most_small
-    (λ id behind. next_number most_small behind >>= (λ mask. only (Declare (Channel number pattern into id mask)) (words_behind behind)))
-    (λ i id is_id. number_goes_on (codes "channel" ∷ t ∷ pattern ∷ into ∷ i ∷ []) most_small (λ mask. only (Declare (Channel number pattern into id mask)))
-    (λ m mask is_mask rest. ends (codes "channel" ∷ t ∷ pattern ∷ into ∷ i ∷ m ∷ []) (Declare (Channel number pattern into id mask)) rest
-    (t, i, m, refl, is_number, is_id, is_mask))))))
+    (λ id behind. next_number most_small behind >>= (λ mask. last_number (words_behind behind) >>= (λ limit. Ok (Declare (Channel number pattern into id mask (unwrap_or limit 0))))))
+    (λ i id is_id. number_goes_on (codes "channel" ∷ t ∷ pattern ∷ into ∷ i ∷ []) most_small
+    (λ mask behind. last_number behind >>= (λ limit. Ok (Declare (Channel number pattern into id mask (unwrap_or limit 0)))))
+    (λ m mask is_mask. maybe_number_ends (codes "channel" ∷ t ∷ pattern ∷ into ∷ i ∷ m ∷ []) (λ limit. Declare (Channel number pattern into id mask (unwrap_or limit 0)))
+    (t, i, m, is_number, is_id, is_mask, inl (refl, refl))
+    (λ text n is_limit. (t, i, m, is_number, is_id, is_mask, inr (text, refl, is_limit))))))))
     ws
 
 kind_ends : (front : List (List ℕ)) (make : Kind → Command) → ((text : List ℕ) (k : Kind) → kind_named text ≡ Some k → Spells (front ++ text ∷ []) (make k))
@@ -268,6 +270,10 @@ on_six : (P : LineWords → Type 0) (ws : LineWords) (a b c d e g : List ℕ) �
     → ((i j k l m n o : ℕ) → P (word i a (word j b (word k c (word l d (word m e (word n g (ended o)))))))) → P ws
 on_six P ws a b c d e g h f = on_word P ws a (b ∷ c ∷ d ∷ e ∷ g ∷ []) h (λ i rest r. on_five (λ w. P (word i a w)) rest b c d e g r (f i))
 
+on_seven : (P : LineWords → Type 0) (ws : LineWords) (a b c d e g h : List ℕ) → texts_of ws ≡ Some (a ∷ b ∷ c ∷ d ∷ e ∷ g ∷ h ∷ [])
+    → ((i j k l m n o p : ℕ) → P (word i a (word j b (word k c (word l d (word m e (word n g (word o h (ended p))))))))) → P ws
+on_seven P ws a b c d e g h are f = on_word P ws a (b ∷ c ∷ d ∷ e ∷ g ∷ h ∷ []) are (λ i rest r. on_six (λ w. P (word i a w)) rest b c d e g h r (f i))
+
 -- the words are read as a command
 abbrev AreOf : Command → LineWords → Type 0
 AreOf command ws = words_form ws ≡ Ok command
@@ -288,8 +294,12 @@ spelled ws texts (Declare (Equip name id mask buffer limit)) h is = elim is.4 [
   | inr whole ↦ on_six (AreOf (Declare (Equip name id mask buffer limit))) ws (codes "equip") name is.0 is.1 buffer whole.0 (h ∙ ap Some whole.1)
       (λ i j k l m n o. rw (is.2, is.3, whole.2) refl)
 ]
-spelled ws texts (Declare (Channel number pattern buffer id mask)) h is =
-    on_six (AreOf (Declare (Channel number pattern buffer id mask))) ws (codes "channel") is.0 pattern buffer is.1 is.2 (h ∙ ap Some is.3) (λ i j k l m n o. rw (is.4, is.5, is.6) refl)
+spelled ws texts (Declare (Channel number pattern buffer id mask sub_bytes)) h is = elim is.6 [
+  | inl whole ↦ on_six (AreOf (Declare (Channel number pattern buffer id mask sub_bytes))) ws (codes "channel") is.0 pattern buffer is.1 is.2 (h ∙ ap Some whole.0)
+      (λ i j k l m n o. rw (is.3, is.4, is.5) (ap (λ limit. Ok (Declare (Channel number pattern buffer id mask limit))) (sym whole.1)))
+  | inr whole ↦ on_seven (AreOf (Declare (Channel number pattern buffer id mask sub_bytes))) ws (codes "channel") is.0 pattern buffer is.1 is.2 whole.0 (h ∙ ap Some whole.1)
+      (λ i j k l m n o p. rw (is.3, is.4, is.5, whole.2) refl)
+]
 spelled ws texts (Declare (Analyzer name buffer id mask kind)) h is =
     on_six (AreOf (Declare (Analyzer name buffer id mask kind))) ws (codes "analyzer") name buffer is.0 is.1 is.2 (h ∙ ap Some is.3) (λ i j k l m n o. rw (is.4, is.5, is.6) refl)
 spelled ws texts (Run (Events count)) h is = on_two (AreOf (Run (Events count))) ws (codes "events") is.0 (h ∙ ap Some is.1) (λ i j k. rw is.2 refl)

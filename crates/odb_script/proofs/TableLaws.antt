@@ -122,19 +122,25 @@ equip ws =
     (λ mask. text_number_ends (λ into limit. Declare (Equip name id mask into (unwrap_or limit most_number))))))
     ws
 
-channel_back : (number : ℕ) (pattern into : List ℕ) (ws : LineWords) → place_of (channel_end number pattern into ws) ≡ first_misfit ((a_small_number ∷ a_small_number ∷ []) ∷ []) ws
+channel_back : (number : ℕ) (pattern into : List ℕ) (ws : LineWords) → place_of (channel_end number pattern into ws)
+    ≡ first_misfit ((a_small_number ∷ a_small_number ∷ []) ∷ (a_small_number ∷ a_small_number ∷ a_number ∷ []) ∷ []) ws
 channel_back number pattern into ws =
-    number_goes_on most_small (a_small_number ∷ []) [] (λ id behind. next_number most_small behind >>= (λ mask. only (Declare (Channel number pattern into id mask)) (words_behind behind)))
-    (λ id. number_goes_on most_small [] [] (λ mask. only (Declare (Channel number pattern into id mask))) (λ mask. ends (Declare (Channel number pattern into id mask))))
+    number_goes_on most_small (a_small_number ∷ []) ((a_small_number ∷ a_number ∷ []) ∷ [])
+    (λ id behind. next_number most_small behind >>= (λ mask. last_number (words_behind behind) >>= (λ limit. Ok (Declare (Channel number pattern into id mask (unwrap_or limit 0))))))
+    (λ id. number_goes_on most_small [] ((a_number ∷ []) ∷ [])
+    (λ mask behind. last_number behind >>= (λ limit. Ok (Declare (Channel number pattern into id mask (unwrap_or limit 0)))))
+    (λ mask. maybe_number_ends (λ limit. Declare (Channel number pattern into id mask (unwrap_or limit 0)))))
     ws
 
-channel : (ws : LineWords) → place_of (channel_form ws) ≡ first_misfit ((a_number ∷ any_text ∷ any_text ∷ a_small_number ∷ a_small_number ∷ []) ∷ []) ws
+channel : (ws : LineWords) → place_of (channel_form ws)
+    ≡ first_misfit ((a_number ∷ any_text ∷ any_text ∷ a_small_number ∷ a_small_number ∷ []) ∷ (a_number ∷ any_text ∷ any_text ∷ a_small_number ∷ a_small_number ∷ a_number ∷ []) ∷ []) ws
 channel ws =
-    number_goes_on most_number (any_text ∷ any_text ∷ a_small_number ∷ a_small_number ∷ []) []
+    number_goes_on most_number (any_text ∷ any_text ∷ a_small_number ∷ a_small_number ∷ []) ((any_text ∷ any_text ∷ a_small_number ∷ a_small_number ∷ a_number ∷ []) ∷ [])
     (λ number behind. next_text behind >>= (λ pattern. next_text (words_behind behind) >>= (λ into. channel_end number pattern into (words_behind (words_behind behind)))))
-    (λ number. text_goes_on (any_text ∷ a_small_number ∷ a_small_number ∷ []) []
+    (λ number. text_goes_on (any_text ∷ a_small_number ∷ a_small_number ∷ []) ((any_text ∷ a_small_number ∷ a_small_number ∷ a_number ∷ []) ∷ [])
     (λ pattern behind. next_text behind >>= (λ into. channel_end number pattern into (words_behind behind)))
-    (λ pattern. text_goes_on (a_small_number ∷ a_small_number ∷ []) [] (channel_end number pattern) (channel_back number pattern)))
+    (λ pattern. text_goes_on (a_small_number ∷ a_small_number ∷ []) ((a_small_number ∷ a_small_number ∷ a_number ∷ []) ∷ [])
+    (channel_end number pattern) (channel_back number pattern)))
     ws
 
 -- `all` or `some` at the line's end

@@ -39,6 +39,7 @@ forms =
     ∷ (exactly (codes "equip") ∷ any_text ∷ a_number ∷ a_small_number ∷ any_text ∷ [])
     ∷ (exactly (codes "equip") ∷ any_text ∷ a_number ∷ a_small_number ∷ any_text ∷ a_number ∷ [])
     ∷ (exactly (codes "channel") ∷ a_number ∷ any_text ∷ any_text ∷ a_small_number ∷ a_small_number ∷ [])
+    ∷ (exactly (codes "channel") ∷ a_number ∷ any_text ∷ any_text ∷ a_small_number ∷ a_small_number ∷ a_number ∷ [])
     ∷ (exactly (codes "analyzer") ∷ any_text ∷ any_text ∷ a_small_number ∷ a_small_number ∷ exactly (codes "all") ∷ [])
     ∷ (exactly (codes "analyzer") ∷ any_text ∷ any_text ∷ a_small_number ∷ a_small_number ∷ exactly (codes "some") ∷ [])
     ∷ (exactly (codes "events") ∷ a_number ∷ [])

@@ -138,14 +138,15 @@ equip_form ws = do
   mask ← next_number most_small (words_behind (words_behind ws))
   equip_end name id mask (words_behind (words_behind (words_behind ws)))
 
--- what stands behind `channel N PATTERN BUFFER`
+-- what stands behind `channel N PATTERN BUFFER`, with maybe SUBBYTES, which is else 0
 abbrev pub channel_end : (number : ℕ) (pattern buffer : List ℕ) → LineWords → Read Command
 channel_end number pattern buffer ws = do
   id ← next_number most_small ws
   mask ← next_number most_small (words_behind ws)
-  only (Declare (Channel number pattern buffer id mask)) (words_behind (words_behind ws))
+  sub_bytes ← last_number (words_behind (words_behind ws))
+  Ok (Declare (Channel number pattern buffer id mask (unwrap_or sub_bytes 0)))
 
--- `channel N PATTERN BUFFER ID MASK`
+-- `channel N PATTERN BUFFER ID MASK [SUBBYTES]`
 abbrev pub channel_form : LineWords → Read Command
 channel_form ws = do
   number ← next_number most_number ws

@@ -18,8 +18,8 @@ texts_of (word at text rest) = option_map (λ texts. text ∷ texts) (texts_of r
 texts_of (ended at) = Some []
 texts_of (faulty at) = None
 
--- The texts are those of a command. Where no number says so, an item's index is 0, a new key has one item, and the
--- limit of a front-end is the greatest number.
+-- The texts are those of a command. Where no number says so, an item's index is 0, a new key has one item, the limit of a
+-- front-end is the greatest number, and that of a channel's files is 0.
 abbrev pub Spells : List (List ℕ) → Command → Type 0
 Spells texts Nothing = texts ≡ []
 Spells texts (Declare (Buffer name size)) = (number : List ℕ) × (texts ≡ codes "buffer" ∷ name ∷ number ∷ []) × (whole_number most_number number ≡ Some size)
@@ -27,9 +27,11 @@ Spells texts (Declare (Equip name id mask buffer limit)) =
     (i : List ℕ) × (m : List ℕ) × (whole_number most_number i ≡ Some id) × (whole_number most_small m ≡ Some mask)
     × ((texts ≡ codes "equip" ∷ name ∷ i ∷ m ∷ buffer ∷ []) × (limit ≡ most_number)
     ⊎ ((number : List ℕ) × (texts ≡ codes "equip" ∷ name ∷ i ∷ m ∷ buffer ∷ number ∷ []) × (whole_number most_number number ≡ Some limit)))
-Spells texts (Declare (Channel number pattern buffer id mask)) =
-    (n : List ℕ) × (i : List ℕ) × (m : List ℕ) × (texts ≡ codes "channel" ∷ n ∷ pattern ∷ buffer ∷ i ∷ m ∷ [])
+Spells texts (Declare (Channel number pattern buffer id mask sub_bytes)) =
+    (n : List ℕ) × (i : List ℕ) × (m : List ℕ)
     × (whole_number most_number n ≡ Some number) × (whole_number most_small i ≡ Some id) × (whole_number most_small m ≡ Some mask)
+    × ((texts ≡ codes "channel" ∷ n ∷ pattern ∷ buffer ∷ i ∷ m ∷ []) × (sub_bytes ≡ 0)
+    ⊎ ((limit : List ℕ) × (texts ≡ codes "channel" ∷ n ∷ pattern ∷ buffer ∷ i ∷ m ∷ limit ∷ []) × (whole_number most_number limit ≡ Some sub_bytes)))
 Spells texts (Declare (Analyzer name buffer id mask kind)) =
     (i : List ℕ) × (m : List ℕ) × (k : List ℕ) × (texts ≡ codes "analyzer" ∷ name ∷ buffer ∷ i ∷ m ∷ k ∷ [])
     × (whole_number most_small i ≡ Some id) × (whole_number most_small m ≡ Some mask) × (kind_named k ≡ Some kind)

@@ -39,13 +39,15 @@ pub enum Declaration<'a> {
         buffer: LineText<'a>,
         limit: u32,
     },
-    /// `channel N PATTERN BUFFER ID MASK`: adds a channel of the logger.
+    /// `channel N PATTERN BUFFER ID MASK [SUBBYTES]`: adds a channel of the logger, whose files are cut at so many bytes; at
+    /// none if 0 or not given.
     Channel {
         number: u32,
         pattern: LineText<'a>,
         buffer: LineText<'a>,
         id: u16,
         mask: u16,
+        sub_bytes: u32,
     },
     /// `analyzer NAME BUFFER ID MASK all`: adds an analyzer, for which senders wait; or `some` in the place of `all`, for
     /// which they do not.

@@ -42,7 +42,7 @@ fn read_equip<'a>(words: &mut WordReader<'a>) -> Result<Command<'a>, LineRefusal
     Ok(Command::Declare { declaration })
 }
 
-/// `channel N PATTERN BUFFER ID MASK`
+/// `channel N PATTERN BUFFER ID MASK [SUBBYTES]`
 fn read_channel<'a>(words: &mut WordReader<'a>) -> Result<Command<'a>, LineRefusal>
     ensures { result ≡ channel_form words.old }
 {
@@ -51,13 +51,14 @@ fn read_channel<'a>(words: &mut WordReader<'a>) -> Result<Command<'a>, LineRefus
     let buffer = text(words)?;
     let id = next_small(words)?;
     let mask = next_small(words)?;
-    end(words)?;
+    let sub_bytes = last_number(words)?.unwrap_or(0);
     let declaration = Declaration::Channel {
         number,
         pattern,
         buffer,
         id,
         mask,
+        sub_bytes,
     };
     Ok(Command::Declare { declaration })
 }

@@ -1,5 +1,5 @@
 -- A text is read in one way.
-use Rattle.std.specs.Prelude.{◌≡◌, ℕ, ◌<◌, ◌≤◌, false, true, List, [], length, Option, Some, None, Ok, Err, refl}
+use Rattle.std.specs.Prelude.{◌≡◌, ℕ, ◌<◌, ◌≤◌, Bool, false, true, List, [], length, Option, Some, None, Ok, Err, refl}
 use Rattle.std.proofs.Common.{arith, ap, sym, ◌∙◌, inl, inr}
 use Rattle.std.proofs.lemmas.Bool.Decides.{eqb_tells, leb_tells}
 use Rattle.daq_types.specs.Names.{IsName}
@@ -44,8 +44,8 @@ name_once text (Err r) (Ok y) a b = absurd (no_fault text r b.0 a)
 name_once text (Err q) (Err r) a b = ap Err (one_fault text q r a b)
 
 pub pattern_once : ((p q : NamePattern) → IsPattern p → IsPattern q → pattern_text p ≡ pattern_text q → p ≡ q)
-    → (text : List ℕ) (a b : Option NamePattern) → IsPatternRead text a → IsPatternRead text b → a ≡ b
-pattern_once one text (Some p) (Some q) a b = ap Some (one p q a.is b.is (sym a.whole ∙ b.whole))
-pattern_once one text (Some p) None a b = absurd (b (p, a))
-pattern_once one text None (Some q) a b = absurd (a (q, b))
-pattern_once one text None None a b = refl
+    → (text : List ℕ) (limited : Bool) (a b : Option NamePattern) → IsPatternRead text limited a → IsPatternRead text limited b → a ≡ b
+pattern_once one text limited (Some p) (Some q) a b = ap Some (one p q a.is b.is (sym a.whole ∙ b.whole))
+pattern_once one text limited (Some p) None a b = absurd (b (p, a))
+pattern_once one text limited None (Some q) a b = absurd (a (q, b))
+pattern_once one text limited None None a b = refl

@@ -113,10 +113,11 @@ channel_added d channel sound small new_number known = record {
   analyzer_buffers = sound.analyzer_buffers;
 }
 
-pub channel_sound : (d : Declared) (number : ℕ) (pattern : NamePattern) (text buffer : List ℕ) (id mask : ℕ) → AreSound d → channel_refusal d number (Some pattern) text buffer ≡ None → AreSound (with_channel d number pattern buffer id mask)
-channel_sound d number pattern text buffer id mask sound taken =
+pub channel_sound : (d : Declared) (number : ℕ) (pattern : NamePattern) (text buffer : List ℕ) (id mask sub_bytes : ℕ) → AreSound d → channel_refusal d number (Some pattern) text buffer ≡ None
+    → AreSound (with_channel d number pattern buffer id mask sub_bytes)
+channel_sound d number pattern text buffer id mask sub_bytes sound taken =
     let t = channel_taken d number (Some pattern) text buffer taken in
-    channel_added d (record { number = number; pattern = pattern; buffer = number_of_buffer d buffer; id = id; mask = mask }) sound (omega (arith, t.small)) t.new_number (number_within d buffer sound)
+    channel_added d (record { number = number; pattern = pattern; buffer = number_of_buffer d buffer; id = id; mask = mask; sub_bytes = sub_bytes }) sound (omega (arith, t.small)) t.new_number (number_within d buffer sound)
 
 pub default_channel_sound : (d : Declared) → AreSound d → d.channels ≡ [] → AreSound (record d { channels = d.channels ++ default_channel ∷ [] })
 default_channel_sound d sound empty = channel_added d default_channel sound (omega arith) (rw empty refl) (some_buffer d.buffers sound.system)

@@ -1,5 +1,5 @@
 -- What the lines `buffer`, `equip`, `channel` and `analyzer` refuse, and what they leave where they are taken.
-use Rattle.std.specs.Prelude.{◌≡◌, ℕ, ◌&&◌, Bool, false, true, not, if◌then◌else◌, nat_le, nat_lt, List, [], ◌∷◌, ◌++◌, length, Option, Some, None, is_none, unwrap_or, codes}
+use Rattle.std.specs.Prelude.{◌≡◌, ℕ, ◌&&◌, Bool, true, not, if◌then◌else◌, nat_le, nat_lt, List, [], ◌∷◌, ◌++◌, length, Option, Some, None, is_none, unwrap_or, codes}
 use Rattle.odb_value.specs.Paths.{same_name}
 use Rattle.daq_types.specs.Names.{is_compressed}
 use Rattle.event.specs.Events.{any}
@@ -76,12 +76,16 @@ with_front d name id mask buffer limit = record d {
   fronts = d.fronts ++ front_declared name id mask (number_of_buffer d buffer) limit ∷ [];
 }
 
--- what a text is as a pattern, or that it is none
-abbrev pub IsPatternRead : List ℕ → Option NamePattern → Type 0
-IsPatternRead text (Some pattern) = IsTextOf text false pattern
-IsPatternRead text None = ¬ IsPatternText text false
+-- a channel has a limit for the bytes of a file
+abbrev pub is_limited : (sub_bytes : ℕ) → Bool
+is_limited sub_bytes = nat_lt 0 sub_bytes
 
--- the tests of `channel N PATTERN BUFFER ID MASK`
+-- what a text is as a pattern of a channel, which has a place for the file's number exactly where that has a limit; or that it is none
+abbrev pub IsPatternRead : List ℕ → (limited : Bool) → Option NamePattern → Type 0
+IsPatternRead text limited (Some pattern) = IsTextOf text limited pattern
+IsPatternRead text limited None = ¬ IsPatternText text limited
+
+-- the tests of `channel N PATTERN BUFFER ID MASK SUBBYTES`
 abbrev pub channel_tests : Declared → (number : ℕ) → Option NamePattern → (text buffer : List ℕ) → LineTests
 channel_tests d number read text buffer =
     refused_if d.opened Opened
@@ -95,14 +99,14 @@ channel_tests d number read text buffer =
 abbrev pub channel_refusal : Declared → ℕ → Option NamePattern → (text buffer : List ℕ) → Option SetupRefusal
 channel_refusal d number read text buffer = first_setup_refusal (channel_tests d number read text buffer)
 
-abbrev pub channel_declared : (number : ℕ) → NamePattern → (buffer id mask : ℕ) → ChannelSpec
-channel_declared number pattern buffer id mask =
-    record { number = number; pattern = pattern; buffer = buffer; id = id; mask = mask }
+abbrev pub channel_declared : (number : ℕ) → NamePattern → (buffer id mask sub_bytes : ℕ) → ChannelSpec
+channel_declared number pattern buffer id mask sub_bytes =
+    record { number = number; pattern = pattern; buffer = buffer; id = id; mask = mask; sub_bytes = sub_bytes }
 
 -- the declarations behind it: one channel more, behind the others
-abbrev pub with_channel : Declared → (number : ℕ) → NamePattern → (buffer : List ℕ) → (id mask : ℕ) → Declared
-with_channel d number pattern buffer id mask = record d {
-  channels = d.channels ++ channel_declared number pattern (number_of_buffer d buffer) id mask ∷ [];
+abbrev pub with_channel : Declared → (number : ℕ) → NamePattern → (buffer : List ℕ) → (id mask sub_bytes : ℕ) → Declared
+with_channel d number pattern buffer id mask sub_bytes = record d {
+  channels = d.channels ++ channel_declared number pattern (number_of_buffer d buffer) id mask sub_bytes ∷ [];
 }
 
 -- the tests of `analyzer NAME BUFFER ID MASK KIND`
@@ -140,6 +144,7 @@ default_channel = record {
   buffer = 0;
   id = any;
   mask = any;
+  sub_bytes = 0;
 }
 
 -- a list, or this one item where it is empty

@@ -1,7 +1,7 @@
 ghost use Rattle.std.specs.Prelude.{◌≡◌, ◌++◌, ◌∷◌, [], length, codes, IfOk, OnOk, OnErr};
 ghost use Rattle.session_setup.specs.Setup.{AreSound, nothing_declared, system_name, total_size, has_buffer, is_declared_name, is_member_name};
 ghost use Rattle.session_setup.specs.Refusals.{IsNameRead, name_refusal, ok_unless};
-ghost use Rattle.session_setup.specs.SetupLines.{buffers_with, is_taken_name, buffer_refusal, with_buffer, equip_refusal, with_front, IsPatternRead, channel_refusal, with_channel, analyzer_refusal, with_analyzer, number_of_buffer, or_default, default_front, default_channel, opened_with_defaults};
+ghost use Rattle.session_setup.specs.SetupLines.{buffers_with, is_taken_name, buffer_refusal, with_buffer, equip_refusal, with_front, is_limited, IsPatternRead, channel_refusal, with_channel, analyzer_refusal, with_analyzer, number_of_buffer, or_default, default_front, default_channel, opened_with_defaults};
 
 use crate::checks;
 use crate::declared::{AnalyzerDeclared, BufferDeclared, DeclaredLists, FrontDeclared};
@@ -215,7 +215,7 @@ impl Declarations {
         Ok(())
     }
 
-    /// `channel N PATTERN BUFFER ID MASK`: one more channel of the logger. A refusal leaves all as it was.
+    /// `channel N PATTERN BUFFER ID MASK SUBBYTES`: one more channel of the logger. A refusal leaves all as it was.
     pub fn channel(
         &mut self,
         number: u32,
@@ -223,14 +223,16 @@ impl Declarations {
         buffer: &[u8],
         id: u16,
         mask: u16,
+        sub_bytes: u32,
     ) -> Result<(), SetupRefusal>
-        ensures answer { (read : _) × IsPatternRead pattern.now read
+        ensures answer { (read : _) × IsPatternRead pattern.now (is_limited sub_bytes) read
             × (result ≡ ok_unless (channel_refusal self.old number read pattern.now buffer.now)) }
-        ensures added { OnOk result ((read : _) × IsPatternRead pattern.now (Some read)
-            × (self.new ≡ with_channel self.old number read buffer.now id mask)) }
+        ensures added { OnOk result ((read : _)
+            × IsPatternRead pattern.now (is_limited sub_bytes) (Some read)
+            × (self.new ≡ with_channel self.old number read buffer.now id mask sub_bytes)) }
         ensures same { OnErr result (self.new ≡ self.old) }
     {
-        let read = Pattern::from_bytes(pattern, false).ok();
+        let read = Pattern::from_bytes(pattern, 0 < sub_bytes).ok();
         if let Some(refusal) = self.channel_refusal(number, &read, pattern, buffer) {
             return Err(refusal);
         }
@@ -242,6 +244,7 @@ impl Declarations {
             buffer,
             id,
             mask,
+            sub_bytes,
         });
         Ok(())
     }
@@ -505,6 +508,7 @@ impl Declarations {
                 buffer: 0,
                 id: ANY,
                 mask: ANY,
+                sub_bytes: 0,
             });
         }
     }

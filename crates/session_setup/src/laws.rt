@@ -1,6 +1,6 @@
 //! What the contracts of declarations leave no choice of. The function does nothing, and its contract is the law.
 
-ghost use Rattle.std.specs.Prelude.{◌≡◌, ℕ, List, Option};
+ghost use Rattle.std.specs.Prelude.{◌≡◌, ℕ, Bool, List, Option};
 ghost use Rattle.mid_logger.specs.Patterns.{NamePattern};
 ghost use Rattle.session_setup.specs.Refusals.{NameRead, IsNameRead};
 ghost use Rattle.session_setup.specs.SetupLines.{IsPatternRead};
@@ -11,8 +11,8 @@ use sub_files::laws::one_pattern;
 pub fn read_once()
     ensures name { (text : List ℕ) (a b : NameRead) → IsNameRead text a → IsNameRead text b
         → a ≡ b }
-    ensures pattern { (text : List ℕ) (a b : Option NamePattern) → IsPatternRead text a
-        → IsPatternRead text b → a ≡ b }
+    ensures pattern { (text : List ℕ) (limited : Bool) (a b : Option NamePattern)
+        → IsPatternRead text limited a → IsPatternRead text limited b → a ≡ b }
 {
     one_pattern();
 }

@@ -8,4 +8,4 @@ add_channel-requires c =
     let taken : channel_refusal c.args.self.now c.args.number (Some c.in-Some-read.pattern) c.args.pattern.now c.args.buffer.now ≡ None =
     rw c.in-Some-read.is at (sym c.channel_refusal.ensures.answer ∙ c.in_default.is) in
     rw c.number_of_buffer-buffer.ensures
-    (channel_sound c.args.self.now c.args.number c.in-Some-read.pattern c.args.pattern.now c.args.buffer.now c.args.id c.args.mask c.channel_refusal.ensures.sound taken)
+    (channel_sound c.args.self.now c.args.number c.in-Some-read.pattern c.args.pattern.now c.args.buffer.now c.args.id c.args.mask c.args.sub_bytes c.channel_refusal.ensures.sound taken)
