@@ -2,13 +2,14 @@
 use console::{Refusals, Reply};
 use daq_text::TextBuffer;
 use daq_types::{
-    BoundedList, Bytes, ChannelState, FileName, Name, NameRefusal, NoMemory, RunState, Why,
+    BoundedList, Bytes, ChannelEnd, ChannelState, Name, NameRefusal, NoMemory, RunState, Why,
 };
 use event_report::Report;
 use odb_commands::{WatchCommandRefusal, WatchReply};
-use session_runs::{FileRecord, FileRecords, ReportLine, ReportLines, SentLine, SentLines};
+use session_runs::{ChannelFiles, FileRecords, ReportLine, ReportLines, SentLine, SentLines};
 use session_setup::SetupRefusal;
 use std::alloc::Global;
+use sub_files::Pattern;
 
 /// A reply, as the rows tell it.
 #[derive(Clone, Copy)]
@@ -28,11 +29,61 @@ enum Told {
     Saved(u64),
     /// A command for watches was refused.
     WatchRefused(WatchCommandRefusal),
-    /// Run 1 ended: what the front-ends of these names sent, and the state of a channel's file.
-    Stopped(&'static [(&'static str, u64)], ChannelState),
+    /// Run 1 ended: what the front-ends of these names sent, and the files of these channels.
+    Stopped(&'static [(&'static str, u64)], &'static [Channel]),
     /// Run 2 ended, in which the analyzer ANA got no event.
     Analyzed,
 }
+
+/// A channel's number, the pattern of its files, whether it has a limit, and what became of it.
+type Channel = (u32, &'static str, bool, ChannelEnd);
+
+/// A channel with no limit whose file ended.
+const ENDED: Channel = (
+    15,
+    "run%05d.mid",
+    false,
+    ChannelEnd {
+        state: ChannelState::Ended,
+        files: 1,
+        framed: 1,
+    },
+);
+
+/// One whose file broke off, and one whose file has no end record.
+const BROKEN: Channel = (
+    0,
+    "run%05d.mid",
+    false,
+    ChannelEnd {
+        state: ChannelState::Broken,
+        files: 1,
+        framed: 0,
+    },
+);
+
+const NO_END: Channel = (
+    0,
+    "run%05d.mid",
+    false,
+    ChannelEnd {
+        state: ChannelState::NoEnd,
+        files: 1,
+        framed: 0,
+    },
+);
+
+/// A channel that broke off in its third file.
+const BROKEN_OFF: Channel = (
+    1,
+    "run%05dsub%04d.mid",
+    true,
+    ChannelEnd {
+        state: ChannelState::Broken,
+        files: 3,
+        framed: 2,
+    },
+);
 
 /// Replies, the numbers of their lines, and what is printed.
 const ROWS: &[(Told, u64, &str)] = &[
@@ -102,19 +153,25 @@ const ROWS: &[(Told, u64, &str)] = &[
         "refused 12: Compressed\n",
     ),
     (
-        Told::Stopped(&[("FE", 0)], ChannelState::Ended),
+        Told::Stopped(&[("FE", 0)], &[ENDED]),
         3,
         "run 1 stopped\nFE sent 0\nrun00001.mid Ended\n",
     ),
     (
-        Told::Stopped(&[("A", 1), ("B", 1)], ChannelState::NoEnd),
+        Told::Stopped(&[("A", 1), ("B", 1)], &[NO_END]),
         3,
         "run 1 stopped\nA sent 1\nB sent 1\nrun00001.mid NoEnd\n",
     ),
     (
-        Told::Stopped(&[("FE", 3)], ChannelState::Broken),
+        Told::Stopped(&[("FE", 3)], &[BROKEN]),
         3,
         "run 1 stopped\nFE sent 3\nrun00001.mid Broken\n",
+    ),
+    (
+        Told::Stopped(&[("FE", 3)], &[BROKEN_OFF, ENDED]),
+        3,
+        "run 1 stopped\nFE sent 3\nrun00001sub0000.mid Ended\nrun00001sub0001.mid Ended\n\
+         run00001sub0002.mid Broken\nrun00001.mid Ended\n",
     ),
     (
         Told::Analyzed,
@@ -134,15 +191,17 @@ fn sent_lines(alloc: Global, fronts: &[(&str, u64)]) -> Result<SentLines, NoMemo
     Ok(lines)
 }
 
-/// The file of channel 0.
-fn file_records(alloc: Global, state: ChannelState) -> Result<FileRecords, NoMemory> {
+/// The files of these channels. One whose pattern is none has no line.
+fn file_records(alloc: Global, channels: &[Channel]) -> Result<FileRecords, NoMemory> {
     let mut files = BoundedList::new(alloc)?;
-    if let Ok(name) = FileName::new("run00001.mid") {
-        files.try_push(FileRecord {
-            channel: 0,
-            name,
-            state,
-        })?;
+    for (channel, text, limited, told) in channels {
+        if let Ok(pattern) = Pattern::new(text, *limited) {
+            files.try_push(ChannelFiles {
+                channel: *channel,
+                pattern,
+                told: *told,
+            })?;
+        }
     }
     Ok(files)
 }
@@ -160,11 +219,11 @@ fn report_lines(alloc: Global) -> Result<ReportLines, NoMemory> {
 }
 
 /// The end of run 1.
-fn stopped(alloc: Global, fronts: &[(&str, u64)], state: ChannelState) -> Result<Reply, NoMemory> {
+fn stopped(alloc: Global, fronts: &[(&str, u64)], channels: &[Channel]) -> Result<Reply, NoMemory> {
     Ok(Reply::Stopped {
         run: 1,
         fronts: sent_lines(alloc, fronts)?,
-        files: file_records(alloc, state)?,
+        files: file_records(alloc, channels)?,
         reports: BoundedList::new(alloc)?,
     })
 }
@@ -206,7 +265,7 @@ fn reply_of(alloc: Global, told: Told) -> Result<Reply, NoMemory> {
         Told::WatchRefused(why) => Reply::Watch {
             reply: WatchReply::Refused { why },
         },
-        Told::Stopped(fronts, state) => return stopped(alloc, fronts, state),
+        Told::Stopped(fronts, channels) => return stopped(alloc, fronts, channels),
         Told::Analyzed => return analyzed(alloc),
     };
     Ok(reply)

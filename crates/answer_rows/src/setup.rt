@@ -11,8 +11,8 @@ enum Line<'a> {
     Buffer(&'a str, u32),
     /// `equip NAME ID 0 BUFFER 10`.
     Equip(&'a str, u32, &'a str),
-    /// `channel N PATTERN BUFFER 65535 65535`.
-    Channel(u32, &'a str, &'a str),
+    /// `channel N PATTERN BUFFER 65535 65535 SUBBYTES`.
+    Channel(u32, &'a str, &'a str, u32),
     /// `analyzer NAME BUFFER 65535 65535 all`.
     Analyzer(&'a str, &'a str),
 }
@@ -84,27 +84,62 @@ const FRONTS: &[Row] = &[
 /// Channels of one session, in order.
 const CHANNELS: &[Row] = &[
     (
-        Line::Channel(16, "run.mid", "NONE"),
+        Line::Channel(16, "run.mid", "NONE", 300),
         Some(SetupRefusal::BadChannel),
     ),
     (
-        Line::Channel(15, "run.mid", "NONE"),
+        Line::Channel(15, "run.mid", "NONE", 0),
         Some(SetupRefusal::BadPattern),
     ),
     (
-        Line::Channel(15, "run%05d.gz", "NONE"),
+        Line::Channel(15, "run%05d.gz", "NONE", 0),
         Some(SetupRefusal::Compressed),
     ),
     (
-        Line::Channel(15, "run%05d.mid", "NONE"),
+        Line::Channel(15, "run%05d.mid", "NONE", 0),
         Some(SetupRefusal::NoBuffer),
     ),
-    (Line::Channel(15, "run%05d.mid", "system"), None),
+    (Line::Channel(15, "run%05d.mid", "system", 0), None),
     (
-        Line::Channel(15, "run.mid", "NONE"),
+        Line::Channel(15, "run.mid", "NONE", 0),
         Some(SetupRefusal::SameChannel),
     ),
-    (Line::Channel(0, "sub%05d.mid", "SYSTEM"), None),
+    (Line::Channel(0, "sub%05d.mid", "SYSTEM", 0), None),
+];
+
+/// Channels of one session whose files have a limit, or whose pattern has a place for the file's number, in order.
+const LIMITED: &[Row] = &[
+    (
+        Line::Channel(1, "run%05dsub%04d.mid", "NONE", 0),
+        Some(SetupRefusal::BadPattern),
+    ),
+    (
+        Line::Channel(1, "run%05d.mid", "NONE", 1),
+        Some(SetupRefusal::BadPattern),
+    ),
+    (
+        Line::Channel(1, "sub%04drun%05d.mid", "NONE", 300),
+        Some(SetupRefusal::BadPattern),
+    ),
+    (
+        Line::Channel(1, "run%05dsub%04d%04d.mid", "NONE", 300),
+        Some(SetupRefusal::BadPattern),
+    ),
+    (
+        Line::Channel(1, "run%05dsub%04d.gz", "NONE", 300),
+        Some(SetupRefusal::Compressed),
+    ),
+    (
+        Line::Channel(1, "run%05dsub%04d.mid", "NONE", 300),
+        Some(SetupRefusal::NoBuffer),
+    ),
+    (Line::Channel(1, "run%05dsub%04d.mid", "SYSTEM", 1), None),
+    (
+        Line::Channel(1, "run%05d.mid", "NONE", 300),
+        Some(SetupRefusal::SameChannel),
+    ),
+    (Line::Channel(2, "%05d%04d", "SYSTEM", 4294967295), None),
+    (Line::Channel(3, "run%05d.mid", "SYSTEM", 0), None),
 ];
 
 /// Analyzers of one session with a front-end, in order.
@@ -135,7 +170,7 @@ const OPENED: &[Row] = &[
     (Line::Buffer("", 0), Some(SetupRefusal::Opened)),
     (Line::Equip("", 0, "NONE"), Some(SetupRefusal::Opened)),
     (
-        Line::Channel(16, "run.mid", "NONE"),
+        Line::Channel(16, "run.mid", "NONE", 0),
         Some(SetupRefusal::Opened),
     ),
     (Line::Analyzer("", "NONE"), Some(SetupRefusal::Opened)),
@@ -148,8 +183,9 @@ fn refusal(session: &mut Declarations, line: Line<'_>) -> Option<SetupRefusal> {
         Line::Equip(name, id, buffer) => {
             session.equip(name.as_bytes(), id, 0, buffer.as_bytes(), 10)
         }
-        Line::Channel(number, pattern, buffer) => {
-            session.channel(number, pattern.as_bytes(), buffer.as_bytes(), 65535, 65535)
+        Line::Channel(number, pattern, buffer, sub_bytes) => {
+            let pattern = pattern.as_bytes();
+            session.channel(number, pattern, buffer.as_bytes(), 65535, 65535, sub_bytes)
         }
         Line::Analyzer(name, buffer) => {
             session.analyzer(name.as_bytes(), buffer.as_bytes(), 65535, 65535, Kind::All)
@@ -183,6 +219,7 @@ const SESSIONS: &[(&[Row], [usize; 4])] = &[
     (BUFFERS, [8, 0, 0, 0]),
     (FRONTS, [1, 2, 0, 0]),
     (CHANNELS, [1, 0, 2, 0]),
+    (LIMITED, [1, 0, 3, 0]),
     (ANALYZERS, [1, 1, 0, 8]),
 ];
 
@@ -264,6 +301,7 @@ fn has_default_channel(session: &Declarations) -> bool {
         && channel.buffer == 0
         && channel.id == 65535
         && channel.mask == 65535
+        && channel.sub_bytes == 0
 }
 
 /// Whether the session has one of each, and no analyzer.

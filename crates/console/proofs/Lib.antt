@@ -1,5 +1,6 @@
 pub mod ConsoleLaws
 pub mod Refused
+pub mod FileLines
 mod PlayingLaws
 mod PlayingEnds
 mod ClosingLaws

@@ -11,7 +11,8 @@ use Rattle.daq_types.specs.declared.runs.ChannelState.TheVariants.{Idle, Writing
 use Rattle.daq_types.specs.declared.runs.Why.{Why}
 use Rattle.daq_types.specs.declared.runs.Why.TheVariants.{NotReady, Exists, Fault, BufferRefused}
 use Rattle.session_runs.specs.declared.records.SentLine.{SentLine}
-use Rattle.session_runs.specs.declared.records.FileRecord.{FileRecord}
+use Rattle.session_runs.specs.declared.records.ChannelFiles.{ChannelFiles}
+use Rattle.session_runs.specs.FileRows.{FileRow, file_rows}
 use Rattle.session_runs.specs.declared.records.ReportLine.{ReportLine}
 use Rattle.event_report.specs.Texts.{report_text}
 use Rattle.session_setup.specs.declared.refusals.SetupRefusal.{SetupRefusal}
@@ -82,21 +83,21 @@ sent_line front = front.name ++ (codes " sent " ++ (decimal front.sent ++ 10 ∷
 abbrev pub sent_lines : List SentLine → List ℕ
 sent_lines fronts = flat_map sent_line fronts
 
--- what a channel wrote
-abbrev pub file_line : FileRecord → List ℕ
+-- a run file
+abbrev pub file_line : FileRow → List ℕ
 file_line file = file.name ++ (32 ∷ (state_name file.state ++ 10 ∷ []))
 
-abbrev pub file_lines : List FileRecord → List ℕ
+abbrev pub file_lines : List FileRow → List ℕ
 file_lines files = flat_map file_line files
 
 -- what the analyzers counted: of each its report, with its name and a blank before each line
 abbrev pub report_lines : List ReportLine → List ℕ
 report_lines reports = flat_map (λ line. report_text line.start line.report) reports
 
--- the end of a run: a line for it, one for each front-end and one for each channel, and the reports of the analyzers
-abbrev pub stop_text : (run : ℕ) → List SentLine → List FileRecord → List ReportLine → List ℕ
+-- the end of a run: a line for it, one for each front-end and one for each file of each channel, and the reports of the analyzers
+abbrev pub stop_text : (run : ℕ) → List SentLine → List ChannelFiles → List ReportLine → List ℕ
 stop_text run fronts files reports =
-    run_line run (codes "stopped") ++ (sent_lines fronts ++ (file_lines files ++ report_lines reports))
+    run_line run (codes "stopped") ++ (sent_lines fronts ++ (file_lines (file_rows run files) ++ report_lines reports))
 
 -- what a script line of this number prints
 abbrev pub text_of : (line : ℕ) → Reply → List ℕ

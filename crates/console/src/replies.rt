@@ -43,7 +43,7 @@ pub enum Reply {
     Resumed {
         run: u32,
     },
-    /// The run of this number ended: what the front-ends sent, what the channels wrote, and what the analyzers counted.
+    /// The run of this number ended: what the front-ends sent, which files the channels wrote, and what the analyzers counted.
     Stopped {
         run: u32,
         fronts: SentLines,

@@ -1,8 +1,9 @@
-ghost use Rattle.std.specs.Prelude.{◌≡◌, ◌++◌, ◌∷◌, OnOk, codes};
+ghost use Rattle.std.specs.Prelude.{◌≡◌, ◌<◌, ◌++◌, ◌∷◌, OnOk, codes};
 ghost use Rattle.std.specs.Fmt.{decimal};
 ghost use Rattle.odb_commands.specs.Texts.{refused_line};
 ghost use Rattle.odb_value.specs.declared.items.Item.TheVariants.{Int32};
 ghost use Rattle.odb_value.specs.ItemTexts.{item_text};
+ghost use Rattle.session_runs.specs.FileRows.{channel_rows, file_row, file_rows, rows_of};
 ghost use Rattle.console.specs.Console.{file_line, file_lines, name_text, report_lines, run_line, sent_line, sent_lines, setup_text, state_name, state_number, stop_text, text_of, why_text};
 
 use crate::replies::Reply;
@@ -10,7 +11,7 @@ use daq_text::TextBuffer;
 use daq_types::{ChannelState, Name, NameRefusal, NoMemory, RunState, Why};
 use odb_commands::begin_refusal;
 use odb_value::{Item, print_item};
-use session_runs::{FileRecord, ReportLine, SentLine};
+use session_runs::{ChannelFiles, ReportLine, SentLine};
 use session_setup::SetupRefusal;
 
 /// The number of a run state.
@@ -198,22 +199,38 @@ fn add_fronts(text: &mut TextBuffer, fronts: &[SentLine]) -> Result<(), NoMemory
     Ok(())
 }
 
-/// Adds the line of what a channel wrote.
-fn add_file(text: &mut TextBuffer, file: &FileRecord) -> Result<(), NoMemory>
-    ensures { OnOk result (text.new ≡ text.old ++ file_line file.now) }
+/// Adds the line of a channel's file of this number in the run of this number.
+fn add_file(
+    text: &mut TextBuffer,
+    run: u32,
+    files: &ChannelFiles,
+    number: u32,
+) -> Result<(), NoMemory>
+    requires { number < rows_of files.now }
+    ensures { OnOk result (text.new ≡ text.old ++ file_line (file_row run files.now number)) }
 {
-    text.text(file.name.as_slice())?;
+    text.text(files.name_of(run, number).as_slice())?;
     text.text(b" ")?;
-    text.text(name_of_state(file.state))?;
+    text.text(name_of_state(files.state_of(number)))?;
     text.end_line()
 }
 
-/// Adds the lines of what the channels wrote.
-fn add_files(text: &mut TextBuffer, files: &[FileRecord]) -> Result<(), NoMemory>
-    ensures { OnOk result (text.new ≡ text.old ++ file_lines files.now) }
+/// Adds the lines of a channel's files in the run of this number.
+fn add_channel(text: &mut TextBuffer, run: u32, files: &ChannelFiles) -> Result<(), NoMemory>
+    ensures { OnOk result (text.new ≡ text.old ++ file_lines (channel_rows run files.now)) }
 {
-    for file in files {
-        add_file(text, file)?;
+    for number in 0..files.count() {
+        add_file(text, run, files, number)?;
+    }
+    Ok(())
+}
+
+/// Adds the lines of all files of the run of this number.
+fn add_files(text: &mut TextBuffer, run: u32, files: &[ChannelFiles]) -> Result<(), NoMemory>
+    ensures { OnOk result (text.new ≡ text.old ++ file_lines (file_rows run files.now)) }
+{
+    for channel in files {
+        add_channel(text, run, channel)?;
     }
     Ok(())
 }
@@ -233,7 +250,7 @@ fn add_stop(
     text: &mut TextBuffer,
     run: u32,
     fronts: &[SentLine],
-    files: &[FileRecord],
+    files: &[ChannelFiles],
     reports: &[ReportLine],
 ) -> Result<(), NoMemory>
     ensures { OnOk result (text.new ≡ text.old
@@ -241,7 +258,7 @@ fn add_stop(
 {
     add_run(text, run, b"stopped")?;
     add_fronts(text, fronts)?;
-    add_files(text, files)?;
+    add_files(text, run, files)?;
     add_reports(text, reports)
 }
 

@@ -14,7 +14,7 @@ use Rattle.transition_lock.specs.SharedEngines.{first_engine}
 use Rattle.transitions.specs.Engines.{engine_opening}
 use Rattle.session_runs.specs.declared.records.RunRecord.{RunRecord}
 use Rattle.session_runs.specs.declared.records.FrontTally.{FrontTally}
-use Rattle.session_runs.specs.declared.records.FileRecord.{FileRecord}
+use Rattle.session_runs.specs.declared.records.ChannelFiles.{ChannelFiles}
 use Rattle.session_runs.specs.declared.records.SentLine.{SentLine}
 use Rattle.session_runs.specs.declared.records.ReportTally.{ReportTally}
 use Rattle.session_runs.specs.declared.records.ReportLine.{ReportLine}
@@ -51,7 +51,7 @@ abbrev pub record_fronts : Option RunRecord → List FrontTally
 record_fronts None = []
 record_fronts (Some r) = r.fronts
 
-abbrev pub record_files : Option RunRecord → List FileRecord
+abbrev pub record_files : Option RunRecord → List ChannelFiles
 record_files None = []
 record_files (Some r) = r.files
 

@@ -8,7 +8,7 @@ use Rattle.session_setup.specs.declared.refusals.SetupRefusal.{SetupRefusal}
 use Rattle.session_setup.specs.declared.refusals.SetupRefusal.TheVariants.{Opened}
 use Rattle.session_setup.specs.Setup.{Declared}
 use Rattle.session_setup.specs.Refusals.{NameRead, IsNameRead}
-use Rattle.session_setup.specs.SetupLines.{buffer_refusal, with_buffer, equip_refusal, with_front, IsPatternRead, channel_refusal, with_channel, analyzer_refusal, with_analyzer}
+use Rattle.session_setup.specs.SetupLines.{buffer_refusal, with_buffer, equip_refusal, with_front, is_limited, IsPatternRead, channel_refusal, with_channel, analyzer_refusal, with_analyzer}
 use Rattle.console.specs.declared.replies.Reply.{Reply}
 use Rattle.console.specs.declared.replies.Reply.TheVariants.{Silent, Setup}
 
@@ -31,15 +31,16 @@ abbrev pub DeclaresFront : (name : List ℕ) → (id mask : ℕ) → (buffer : L
 DeclaresFront name id mask buffer limit old reply new =
     (read : NameRead) × IsNameRead name read × TakesSetup (equip_refusal old read name id buffer) (with_front old name id mask buffer limit) old reply new
 
--- `channel N PATTERN BUFFER ID MASK`
-abbrev pub TakesChannel : Option SetupRefusal → (number : ℕ) → (text buffer : List ℕ) → (id mask : ℕ) → (old : Declared) → Reply → (new : Declared) → Type 0
-TakesChannel None number text buffer id mask old reply new =
-    (pattern : NamePattern) × IsPatternRead text (Some pattern) × (reply ≡ Silent) × (new ≡ with_channel old number pattern buffer id mask)
-TakesChannel (Some refusal) number text buffer id mask old reply new = (reply ≡ Setup refusal) × (new ≡ old)
+-- `channel N PATTERN BUFFER ID MASK SUBBYTES`
+abbrev pub TakesChannel : Option SetupRefusal → (number : ℕ) → (text buffer : List ℕ) → (id mask sub_bytes : ℕ) → (old : Declared) → Reply → (new : Declared) → Type 0
+TakesChannel None number text buffer id mask sub_bytes old reply new =
+    (pattern : NamePattern) × IsPatternRead text (is_limited sub_bytes) (Some pattern) × (reply ≡ Silent) × (new ≡ with_channel old number pattern buffer id mask sub_bytes)
+TakesChannel (Some refusal) number text buffer id mask sub_bytes old reply new = (reply ≡ Setup refusal) × (new ≡ old)
 
-abbrev pub DeclaresChannel : (number : ℕ) → (text buffer : List ℕ) → (id mask : ℕ) → (old : Declared) → Reply → (new : Declared) → Type 0
-DeclaresChannel number text buffer id mask old reply new =
-    (read : Option NamePattern) × IsPatternRead text read × TakesChannel (channel_refusal old number read text buffer) number text buffer id mask old reply new
+abbrev pub DeclaresChannel : (number : ℕ) → (text buffer : List ℕ) → (id mask sub_bytes : ℕ) → (old : Declared) → Reply → (new : Declared) → Type 0
+DeclaresChannel number text buffer id mask sub_bytes old reply new =
+    (read : Option NamePattern) × IsPatternRead text (is_limited sub_bytes) read
+    × TakesChannel (channel_refusal old number read text buffer) number text buffer id mask sub_bytes old reply new
 
 -- `analyzer NAME BUFFER ID MASK KIND`
 abbrev pub DeclaresAnalyzer : (name buffer : List ℕ) → (id mask : ℕ) → Kind → (old : Declared) → Reply → (new : Declared) → Type 0
@@ -50,7 +51,7 @@ DeclaresAnalyzer name buffer id mask kind old reply new =
 abbrev pub TakesDeclaration : Declaration → (old : Declared) → Reply → (new : Declared) → Type 0
 TakesDeclaration (Buffer name size) old reply new = DeclaresBuffer name size old reply new
 TakesDeclaration (Equip name id mask buffer limit) old reply new = DeclaresFront name id mask buffer limit old reply new
-TakesDeclaration (Channel number pattern buffer id mask) old reply new = DeclaresChannel number pattern buffer id mask old reply new
+TakesDeclaration (Channel number pattern buffer id mask sub_bytes) old reply new = DeclaresChannel number pattern buffer id mask sub_bytes old reply new
 TakesDeclaration (Analyzer name buffer id mask kind) old reply new = DeclaresAnalyzer name buffer id mask kind old reply new
 
 -- from the opening on every declaration is refused for that

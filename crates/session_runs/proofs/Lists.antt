@@ -7,18 +7,18 @@ use Rattle.std.proofs.Math.Seq.{drop-cons}
 use Rattle.std.proofs.lemmas.Bool.{ne_eqb}
 use Rattle.std.proofs.lemmas.List.{take_more, set-get_or}
 use Rattle.std.proofs.lemmas.Option.{get_or_from_slice_get, slice_get_within}
-use Rattle.daq_types.specs.declared.runs.ChannelState.{ChannelState}
+use Rattle.daq_types.specs.declared.runs.ChannelEnd.{ChannelEnd}
 use Rattle.event_report.specs.Reports.{Totals, report_of}
 use Rattle.event_report.specs.Reports.{IsBlank}
 use Rattle.member_model.specs.RunEngines.{ClientTally, Tally}
 use Rattle.transitions.specs.declared.answers.Tally.TheVariants.{Plain, Front, Channels, Report}
 use Rattle.mid_logger.specs.declared.channel_spec.ChannelSpec.{ChannelSpec}
-use Rattle.session_runs.specs.declared.records.FileRecord.{FileRecord}
+use Rattle.session_runs.specs.declared.records.ChannelFiles.{ChannelFiles}
 use Rattle.session_runs.specs.declared.records.ReportTally.{ReportTally}
 use Rattle.session_runs.specs.declared.channels.RunChannel.{RunChannel}
 use Rattle.session_runs.specs.KeptRuns.{channel_by, channel_numbered}
 use Rattle.session_runs.specs.RunEntries.{blank_reports}
-use Rattle.session_runs.specs.ToldTallies.{front_by, front_told, states_by, states_told, file_told, files_told, report_from, report_by, report_told, reports_told}
+use Rattle.session_runs.specs.ToldTallies.{front_by, front_told, ends_by, ends_told, channel_told, files_told, report_from, report_by, report_told, reports_told}
 
 -- the rest of a list from a place
 rest_at : {X : Type 0} (xs : List X) (i : ℕ) (x : X) → i < length xs → x ≡ get_or xs i x → drop i xs ≡ x ∷ drop (i + 1) xs
@@ -34,22 +34,22 @@ pub front_next : (client : ℕ) (tallies : List ClientTally) (i : ℕ) (told : C
     → front_told client (drop i tallies) ≡ option_or (front_by client told) (front_told client (drop (i + 1) tallies))
 front_next client tallies i told within is = ap (front_told client) (rest_at tallies i told within is)
 
-pub states_next : (logger : ℕ) (tallies : List ClientTally) (i : ℕ) (told : ClientTally) → i < length tallies → told ≡ get_or tallies i told
-    → states_told logger (drop i tallies) ≡ option_or (states_by logger told) (states_told logger (drop (i + 1) tallies))
-states_next logger tallies i told within is = ap (states_told logger) (rest_at tallies i told within is)
+pub ends_next : (logger : ℕ) (tallies : List ClientTally) (i : ℕ) (told : ClientTally) → i < length tallies → told ≡ get_or tallies i told
+    → ends_told logger (drop i tallies) ≡ option_or (ends_by logger told) (ends_told logger (drop (i + 1) tallies))
+ends_next logger tallies i told within is = ap (ends_told logger) (rest_at tallies i told within is)
 
-files_joined : (states : List ChannelState) (run : ℕ) (channels : List RunChannel) (channel : RunChannel)
-    → files_told states run (channels ++ channel ∷ []) ≡ files_told states run channels ++ option_to_list (file_told states run channel)
-files_joined states run [] channel = append-nil (option_to_list (file_told states run channel))
-files_joined states run (c ∷ channels) channel =
-    ap (λ (l : List FileRecord). option_to_list (file_told states run c) ++ l) (files_joined states run channels channel)
-    ∙ sym (append_assoc (option_to_list (file_told states run c)) (files_told states run channels) (option_to_list (file_told states run channel)))
+files_joined : (ends : List ChannelEnd) (channels : List RunChannel) (channel : RunChannel)
+    → files_told ends (channels ++ channel ∷ []) ≡ files_told ends channels ++ option_to_list (channel_told ends channel)
+files_joined ends [] channel = append-nil (option_to_list (channel_told ends channel))
+files_joined ends (c ∷ channels) channel =
+    ap (λ (l : List ChannelFiles). option_to_list (channel_told ends c) ++ l) (files_joined ends channels channel)
+    ∙ sym (append_assoc (option_to_list (channel_told ends c)) (files_told ends channels) (option_to_list (channel_told ends channel)))
 
-pub files_next : (states : List ChannelState) (run : ℕ) (channels : List RunChannel) (i : ℕ) (channel : RunChannel) → i < length channels → channel ≡ get_or channels i channel
-    → files_told states run (take (i + 1) channels) ≡ files_told states run (take i channels) ++ option_to_list (file_told states run channel)
-files_next states run channels i channel within is =
-    ap (files_told states run) (take_more channels i channel within ∙ ap (λ (c : RunChannel). take i channels ++ c ∷ []) (sym is))
-    ∙ files_joined states run (take i channels) channel
+pub files_next : (ends : List ChannelEnd) (channels : List RunChannel) (i : ℕ) (channel : RunChannel) → i < length channels → channel ≡ get_or channels i channel
+    → files_told ends (take (i + 1) channels) ≡ files_told ends (take i channels) ++ option_to_list (channel_told ends channel)
+files_next ends channels i channel within is =
+    ap (files_told ends) (take_more channels i channel within ∙ ap (λ (c : RunChannel). take i channels ++ c ∷ []) (sym is))
+    ∙ files_joined ends (take i channels) channel
 
 -- Reports of no events.
 
@@ -78,7 +78,7 @@ others_same client other told later is same differs =
 no_report_in : (client : ℕ) (tally : Tally) → ((report : Totals) → tally ≡ Report report → ⊥) → report_from client tally ≡ None
 no_report_in client Plain none = refl
 no_report_in client (Front sent ended) none = refl
-no_report_in client (Channels states) none = refl
+no_report_in client (Channels ends) none = refl
 no_report_in client (Report report) none = absurd (none report refl)
 
 chosen_none : (b : Bool) (o : Option ReportTally) → o ≡ None → (if b then o else None) ≡ None

@@ -11,7 +11,7 @@ use Rattle.session_runs.specs.MainKnowledge.{MainKnows}
 use Rattle.session_runs.specs.MainSeats.{MainSeen}
 use Rattle.session_runs.specs.declared.channels.RunChannel.{RunChannel}
 use Rattle.session_runs.specs.declared.on.CurrentRun.{CurrentRun}
-use Rattle.session_runs.specs.ToldTallies.{fronts_told, states_told, files_of, reports_told}
+use Rattle.session_runs.specs.ToldTallies.{fronts_told, ends_told, files_of, reports_told}
 
 -- What the main thread keeps: how many events each front-end has to send in the runs that are started from here on; the
 -- records of the runs so far, but for that of the run that is on; the names of the front-ends, which are the first
@@ -78,7 +78,7 @@ record_of fronts channels analyzers r time tallies = record {
   time1 = time;
   outcome = Completed;
   fronts = fronts_told fronts tallies;
-  files = files_of (states_told fronts tallies) r.run channels;
+  files = files_of (ends_told fronts tallies) channels;
   reports = reports_told (fronts + 1) analyzers tallies;
 }
 

@@ -7,3 +7,4 @@ pub mod ToldTallies
 pub mod RunEntries
 pub mod RunAnswers
 pub mod RunsFit
+pub mod FileRows

@@ -16,7 +16,7 @@ use Rattle.session_runs.specs.MadeTransitions.{TransitionIn}
 use Rattle.session_runs.specs.declared.channels.RunChannel.{RunChannel}
 use Rattle.session_runs.specs.declared.on.CurrentRun.{CurrentRun}
 use Rattle.session_runs.specs.KeptRuns.{RunsSeen}
-use Rattle.session_runs.specs.ToldTallies.{fronts_told, states_told, files_of, reports_told}
+use Rattle.session_runs.specs.ToldTallies.{fronts_told, ends_told, files_of, reports_told}
 use Rattle.session_runs.specs.RunEntries.{StartCalls, StopCalls, start_sheet, later_sheet, dump_saved}
 
 -- Who is told of in the records: so many front-ends, which are the first clients; the channels of the logger, which is the
@@ -65,7 +65,7 @@ pub record FitsStart (analyzers : ℕ) (own : MainOwn) (r : CurrentRun) (outcome
 -- what the record's front-ends, files and reports are, where the clients told this in the end of the stop
 pub record TellsRun (clients : RunClients) (r : RunRecord) (tallies : List ClientTally) : Type 0 where
   pub sent : r.fronts ≡ fronts_told clients.fronts tallies
-  pub files : r.files ≡ files_of (states_told clients.fronts tallies) r.run clients.channels
+  pub files : r.files ≡ files_of (ends_told clients.fronts tallies) clients.channels
   pub reports : r.reports ≡ reports_told (clients.fronts + 1) clients.analyzers tallies
 
 -- The stop of this run stands in these calls: it is begun with the number and the quota of its start, the record's time of

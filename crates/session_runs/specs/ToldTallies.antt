@@ -1,12 +1,11 @@
 -- What clients told in the end of a transition, as the record of a run keeps it.
 use Rattle.std.specs.Prelude.{ℕ, zero, suc, ◌+◌, ◌==◌, if◌then◌else◌, List, [], ◌∷◌, ◌++◌, slice_get, Option, Some, None}
 use Rattle.std.specs.Option.{option_map, option_or, option_to_list}
-use Rattle.daq_types.specs.declared.runs.ChannelState.{ChannelState}
+use Rattle.daq_types.specs.declared.runs.ChannelEnd.{ChannelEnd}
 use Rattle.transitions.specs.declared.answers.Tally.TheVariants.{Front, Channels, Report}
 use Rattle.member_model.specs.RunEngines.{Tally, ClientTally}
-use Rattle.mid_logger.specs.Patterns.{file_name_by}
 use Rattle.session_runs.specs.declared.records.FrontTally.{FrontTally}
-use Rattle.session_runs.specs.declared.records.FileRecord.{FileRecord}
+use Rattle.session_runs.specs.declared.records.ChannelFiles.{ChannelFiles}
 use Rattle.session_runs.specs.declared.records.ReportTally.{ReportTally}
 use Rattle.session_runs.specs.declared.channels.RunChannel.{RunChannel}
 
@@ -49,32 +48,32 @@ reports_told first zero tallies = []
 reports_told first (suc n) tallies = reports_told first n tallies ++ option_to_list (report_told (first + n) tallies)
 
 -- what a logger's tally tells of its channels, by their numbers
-abbrev pub states_in : Tally → Option (List ChannelState)
-states_in (Channels states) = Some states
-states_in tally = None
+abbrev pub ends_in : Tally → Option (List ChannelEnd)
+ends_in (Channels ends) = Some ends
+ends_in tally = None
 
-abbrev pub states_by : (client : ℕ) → ClientTally → Option (List ChannelState)
-states_by client told = if told.client == client then states_in told.tally else None
+abbrev pub ends_by : (client : ℕ) → ClientTally → Option (List ChannelEnd)
+ends_by client told = if told.client == client then ends_in told.tally else None
 
 -- what the logger told of its channels: its first such tally
-abbrev pub states_told : (logger : ℕ) → List ClientTally → Option (List ChannelState)
-states_told logger [] = None
-states_told logger (told ∷ tallies) = option_or (states_by logger told) (states_told logger tallies)
+abbrev pub ends_told : (logger : ℕ) → List ClientTally → Option (List ChannelEnd)
+ends_told logger [] = None
+ends_told logger (told ∷ tallies) = option_or (ends_by logger told) (ends_told logger tallies)
 
--- a channel's file in the run of this number, which ended in this state
-abbrev pub ended_file : (run : ℕ) → RunChannel → ChannelState → FileRecord
-ended_file run channel state = record { channel = channel.number; name = file_name_by channel.pattern run; state = state }
+-- a channel's files, of which this was told
+abbrev pub ended_files : RunChannel → ChannelEnd → ChannelFiles
+ended_files channel told = record { channel = channel.number; pattern = channel.pattern; told = told }
 
--- the channel's file, where the logger told of it
-abbrev pub file_told : List ChannelState → (run : ℕ) → RunChannel → Option FileRecord
-file_told states run channel = option_map (ended_file run channel) (slice_get states channel.number)
+-- the channel's files, where the logger told of it
+abbrev pub channel_told : List ChannelEnd → RunChannel → Option ChannelFiles
+channel_told ends channel = option_map (ended_files channel) (slice_get ends channel.number)
 
 -- the files of these channels
-abbrev pub files_told : List ChannelState → (run : ℕ) → List RunChannel → List FileRecord
-files_told states run [] = []
-files_told states run (channel ∷ channels) = option_to_list (file_told states run channel) ++ files_told states run channels
+abbrev pub files_told : List ChannelEnd → List RunChannel → List ChannelFiles
+files_told ends [] = []
+files_told ends (channel ∷ channels) = option_to_list (channel_told ends channel) ++ files_told ends channels
 
 -- none, where the logger told nothing
-abbrev pub files_of : Option (List ChannelState) → (run : ℕ) → List RunChannel → List FileRecord
-files_of None run channels = []
-files_of (Some states) run channels = files_told states run channels
+abbrev pub files_of : Option (List ChannelEnd) → List RunChannel → List ChannelFiles
+files_of None channels = []
+files_of (Some ends) channels = files_told ends channels

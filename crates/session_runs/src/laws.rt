@@ -5,6 +5,7 @@ ghost use Rattle.odb_watch.specs.declared.entry.WatchEntry.{WatchEntry};
 ghost use Rattle.session_runs.specs.declared.opening.MemberName.{MemberName};
 ghost use Rattle.session_runs.specs.Members.{registrations};
 ghost use Rattle.session_runs.specs.declared.replies.RunReply.{RunReply};
+ghost use Rattle.session_runs.specs.FileRows.{ChannelsEnd};
 ghost use Rattle.session_runs.specs.KeptRuns.{RunsSeen};
 ghost use Rattle.session_runs.specs.RunAnswers.{AnswersPause, AnswersResume, AnswersStart, AnswersStop, ClockTold, CommandPoint, CutsStart, StopsUnsaved};
 ghost use Rattle.session_runs.specs.RunsFit.{run_clients, RecordsFit, RunsFit, starts_begun};
@@ -52,4 +53,9 @@ pub fn runs_fit()
     ensures records { (s : RunsSeen) (own : List WatchEntry) → RunsFit s own → s.on ≡ None
         → RecordsFit (run_clients s)
         (record { engine = s.main.own; database = own }) s.runs }
+{}
+
+/// A channel ended in a run exactly where each of its files in the record did.
+pub fn channels_end()
+    ensures { ChannelsEnd }
 {}

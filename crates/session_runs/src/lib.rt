@@ -24,7 +24,7 @@ pub use engine_making::Made;
 pub use on::CurrentRun;
 pub use opening::MemberName;
 pub use records::{
-    FileRecord, FileRecords, FrontTallies, FrontTally, ReportLine, ReportLines, ReportTallies,
+    ChannelFiles, FileRecords, FrontTallies, FrontTally, ReportLine, ReportLines, ReportTallies,
     ReportTally, RunRecord, SentLine, SentLines,
 };
 pub use replies::RunReply;

@@ -1,11 +1,19 @@
-use daq_types::{BoundedList, Bytes, ChannelState, FileName, FrontEnded, Name, StartOutcome};
+// What is kept of a session's runs.
+ghost use Rattle.std.specs.Prelude.{◌≡◌, ◌<◌, ◌≤◌};
+ghost use Rattle.sub_files.specs.Patterns.{piece_name_by};
+ghost use Rattle.session_runs.specs.FileRows.{rows_of, state_of_file};
+
+use daq_types::{
+    BoundedList, Bytes, ChannelEnd, ChannelState, FileName, FrontEnded, Name, StartOutcome,
+};
 use event_report::Report;
+use mid_logger::Pattern;
 
 /// What the front-ends of a session sent in a run, in the order of their client numbers.
 pub type FrontTallies = BoundedList<FrontTally, 32>;
 
 /// What the channels of a session's logger wrote in a run, in the order of their numbers.
-pub type FileRecords = BoundedList<FileRecord, 16>;
+pub type FileRecords = BoundedList<ChannelFiles, 16>;
 
 /// What the analyzers of a session counted in a run, in the order of their client numbers.
 pub type ReportTallies = BoundedList<ReportTally, 8>;
@@ -15,6 +23,9 @@ pub type SentLines = BoundedList<SentLine, 32>;
 
 /// What the console tells of the analyzers as a run ends, in the order of their declaration.
 pub type ReportLines = BoundedList<ReportLine, 8>;
+
+/// The files of a run and channel have the numbers below this one.
+const FILE_NUMBERS: u32 = 10_000;
 
 /// What is kept of a start and of the run that it began.
 #[derive(Drop)]
@@ -48,15 +59,54 @@ pub struct FrontTally {
     pub ended: FrontEnded,
 }
 
-/// What a channel of the logger wrote in a run.
-#[derive(Clone, Copy, Debug, PartialEq, Eq)]
-pub struct FileRecord {
+/// The files that a channel of the logger wrote in a run, which have the numbers from 0 on.
+#[derive(Drop)]
+pub struct ChannelFiles {
     /// The channel number.
     pub channel: u32,
-    /// The name of the run file.
-    pub name: FileName,
-    /// What became of the file.
-    pub state: ChannelState,
+    /// The names of its files.
+    pub pattern: Pattern,
+    /// What became of the channel, how many files it made, and how many of these, the first ones, are whole.
+    pub told: ChannelEnd,
+}
+
+impl ChannelFiles {
+    /// The same again. Takes no memory.
+    pub fn copy(&self) -> ChannelFiles
+        ensures { result ≡ self.now }
+    {
+        ChannelFiles {
+            channel: self.channel,
+            pattern: self.pattern.copy(),
+            told: self.told,
+        }
+    }
+
+    /// How many files it tells of.
+    pub fn count(&self) -> u32
+        ensures { result ≡ rows_of self.now }
+    {
+        self.told.files.min(FILE_NUMBERS)
+    }
+
+    /// The name of the file of this number in the run of this number.
+    pub fn name_of(&self, run: u32, number: u32) -> FileName
+        requires { number < rows_of self.now }
+        ensures { result ≡ piece_name_by self.now.pattern run number }
+    {
+        self.pattern.name(run, number)
+    }
+
+    /// What became of the file of this number.
+    pub fn state_of(&self, number: u32) -> ChannelState
+        ensures { result ≡ state_of_file self.now.told number }
+    {
+        if number < self.told.framed {
+            ChannelState::Ended
+        } else {
+            self.told.state
+        }
+    }
 }
 
 /// What an analyzer counted in a run.

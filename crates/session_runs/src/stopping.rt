@@ -107,10 +107,9 @@ fn record_of(
     requires analyzers { analyzers ≤ 8 }
     ensures { result ≡ record_of count channels.now analyzers ended.run time tallies.old }
 {
-    let run = ended.run.run;
     let mut record = untold_record(ended, time);
     take_fronts(&mut record.fronts, count, tallies.as_slice());
-    take_files(&mut record.files, run, channels, count, tallies.as_slice());
+    take_files(&mut record.files, channels, count, tallies.as_slice());
     take_reports(&mut record.reports, count + 1, analyzers, tallies);
     record
 }

@@ -2,11 +2,11 @@
 ghost use Rattle.std.specs.Prelude.{◌≡◌, ◌≢◌, ◌≤◌, ◌<◌, ◌+◌, ◌++◌, [], ℕ, length, slice_get, Some, IfNone};
 ghost use Rattle.std.specs.Option.{option_map, option_to_list};
 ghost use Rattle.member_model.specs.RunEngines.{ClientTally};
-ghost use Rattle.session_runs.specs.ToldTallies.{front_told, fronts_told, states_told, files_of, files_told, file_told, front_by, states_by, report_by, report_told, reports_told};
+ghost use Rattle.session_runs.specs.ToldTallies.{front_told, fronts_told, ends_told, files_of, files_told, channel_told, front_by, ends_by, report_by, report_told, reports_told};
 
 use crate::channels::RunChannel;
-use crate::{FileRecord, FileRecords, FrontTallies, FrontTally, ReportTallies, ReportTally};
-use daq_types::ChannelState;
+use crate::{ChannelFiles, FileRecords, FrontTallies, FrontTally, ReportTallies, ReportTally};
+use daq_types::ChannelEnd;
 use member_model::{ClientTally, Tallies, Tally};
 use std::mem::replace;
 
@@ -50,75 +50,74 @@ pub(crate) fn take_fronts(fronts: &mut FrontTallies, count: u32, tallies: &[Clie
 }
 
 /// What one told of the logger's channels, where it is this client.
-fn states_by(client: u32, told: &ClientTally) -> Option<&[ChannelState; 16]>
-    ensures { option_map (λ states. states.now) result ≡ states_by client told.now }
+fn ends_by(client: u32, told: &ClientTally) -> Option<&[ChannelEnd; 16]>
+    ensures { option_map (λ ends. ends.now) result ≡ ends_by client told.now }
 {
     match &told.tally {
-        Tally::Channels(states) if told.client == client => Some(states),
+        Tally::Channels(ends) if told.client == client => Some(ends),
         _ => None,
     }
 }
 
 /// What this client told of the logger's channels.
-fn states_told(logger: u32, tallies: &[ClientTally]) -> Option<&[ChannelState; 16]>
-    ensures { option_map (λ states. states.now) result ≡ states_told logger tallies.now }
+fn ends_told(logger: u32, tallies: &[ClientTally]) -> Option<&[ChannelEnd; 16]>
+    ensures { option_map (λ ends. ends.now) result ≡ ends_told logger tallies.now }
 {
     for told in tallies {
-        if let Some(states) = states_by(logger, told) {
-            return Some(states);
+        if let Some(ends) = ends_by(logger, told) {
+            return Some(ends);
         }
     }
     None
 }
 
-/// The file of a channel in the run of this number, where its state is told.
-fn file_told(states: &[ChannelState], run: u32, channel: &RunChannel) -> Option<FileRecord>
-    ensures { result ≡ file_told states.now run channel.now }
+/// The files of a channel, where what became of them is told.
+fn channel_told(ends: &[ChannelEnd], channel: &RunChannel) -> Option<ChannelFiles>
+    ensures { result ≡ channel_told ends.now channel.now }
 {
-    let state = states.get(channel.number as usize)?;
-    Some(FileRecord {
+    let told = ends.get(channel.number as usize)?;
+    Some(ChannelFiles {
         channel: channel.number,
-        name: channel.pattern.name(run, 0),
-        state: *state,
+        pattern: channel.pattern.copy(),
+        told: *told,
     })
 }
 
-/// Takes in a file, if there is one.
-fn take_file(files: &mut FileRecords, file: Option<FileRecord>)
+/// Takes in the files of a channel, if there are any.
+fn take_channel(files: &mut FileRecords, channel: Option<ChannelFiles>)
     requires { length files.old < 16 }
-    ensures taken { files.new ≡ files.old ++ option_to_list file }
+    ensures taken { files.new ≡ files.old ++ option_to_list channel }
     ensures one { length files.new ≤ length files.old + 1 }
 {
-    if let Some(file) = file {
-        files.push(file);
+    if let Some(channel) = channel {
+        files.push(channel);
     }
 }
 
 /// Takes in the files of these channels.
-fn take_told(files: &mut FileRecords, run: u32, channels: &[RunChannel], states: &[ChannelState])
+fn take_told(files: &mut FileRecords, channels: &[RunChannel], ends: &[ChannelEnd])
     requires empty { files.old ≡ [] }
     requires few { length channels.now ≤ 16 }
-    ensures { files.new ≡ files_told states.now run channels.now }
+    ensures { files.new ≡ files_told ends.now channels.now }
 {
     for channel in channels {
-        take_file(files, file_told(states, run, channel));
+        take_channel(files, channel_told(ends, channel));
     }
 }
 
-/// Takes in the files of the logger's channels in the run of this number, by what the logger told of them.
+/// Takes in the files of the logger's channels, by what the logger told of them.
 pub(crate) fn take_files(
     files: &mut FileRecords,
-    run: u32,
     channels: &[RunChannel],
     logger: u32,
     tallies: &[ClientTally],
 )
     requires empty { files.old ≡ [] }
     requires few { length channels.now ≤ 16 }
-    ensures { files.new ≡ files_of (states_told logger tallies.now) run channels.now }
+    ensures { files.new ≡ files_of (ends_told logger tallies.now) channels.now }
 {
-    if let Some(states) = states_told(logger, tallies) {
-        take_told(files, run, channels, states);
+    if let Some(ends) = ends_told(logger, tallies) {
+        take_told(files, channels, ends);
     }
 }
 

@@ -5,6 +5,6 @@ use Rattle.session_runs.proofs.tallied.take_told.Given as goal
 
 abbrev pub invariant-loop-channel : goal.invariant-loop-channel
 invariant-loop-channel l = record {
-  so_far : l.files ≡ files_told l.fn.states l.run (take l.channel-index l.fn.channels);
+  so_far : l.files ≡ files_told l.fn.ends (take l.channel-index l.fn.channels);
   few : length l.files ≤ l.channel-index;
 }
