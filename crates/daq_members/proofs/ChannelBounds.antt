@@ -71,32 +71,32 @@ none_kept bound slots later same none n from =
 
 -- Pulls keep it.
 
-slot_pulled : (slot : Option Channel) (number : ℕ) (answer : Pulled) (a b : LoggerMoment) (n : ℕ) → slot_at a.slots number ≡ slot → PullsSlot slot number answer a b → slot_at a.slots n ≡ None → slot_at b.slots n ≡ None
-slot_pulled None number answer a b n at pulls none = subst (λ (m : LoggerMoment). slot_at m.slots n ≡ None) (sym pulls.1) none
-slot_pulled (Some c) number answer a b n at pulls none =
+slot_pulled : (dump : List ℕ) (slot : Option Channel) (number : ℕ) (answer : Pulled) (a b : LoggerMoment) (n : ℕ) → slot_at a.slots number ≡ slot → PullsSlot dump slot number answer a b → slot_at a.slots n ≡ None → slot_at b.slots n ≡ None
+slot_pulled dump None number answer a b n at pulls none = subst (λ (m : LoggerMoment). slot_at m.slots n ≡ None) (sym pulls.1) none
+slot_pulled dump (Some c) number answer a b n at pulls none =
     let other : n ≢ number = λ same.
     let both : Some c ≡ None = sym at ∙ ap (λ (k : ℕ). slot_at a.slots k) (sym same) ∙ none in absurd (cc (both)) in
     ap (λ (slots : List (Option Channel)). slot_at slots n) pulls.slots ∙ get_or-set_other a.slots number n (Some pulls.after) None other ∙ none
 
-pub none_pulled : (bound number : ℕ) (answer : Pulled) (a b : LoggerMoment) → PullsNumbered number answer a b → NoneFrom bound a.slots → NoneFrom bound b.slots
-none_pulled bound number answer a b pulls none n from = slot_pulled (slot_at a.slots number) number answer a b n refl pulls (none n from)
+pub none_pulled : (dump : List ℕ) (bound number : ℕ) (answer : Pulled) (a b : LoggerMoment) → PullsNumbered dump number answer a b → NoneFrom bound a.slots → NoneFrom bound b.slots
+none_pulled dump bound number answer a b pulls none n from = slot_pulled dump (slot_at a.slots number) number answer a b n refl pulls (none n from)
 
-none_behind : (bound count : ℕ) (got : Bool) (a b : LoggerMoment) → PullsBelow count got a b → NoneFrom bound a.slots → NoneFrom bound b.slots
-none_behind bound zero got a b pulls none = subst (λ (m : LoggerMoment). NoneFrom bound m.slots) (sym pulls.1) none
-none_behind bound (suc count) got a b pulls none = none_pulled bound count pulls.2 pulls.0 b pulls.4 (none_behind bound count pulls.1 a pulls.0 pulls.3 none)
+none_behind : (dump : List ℕ) (bound count : ℕ) (got : Bool) (a b : LoggerMoment) → PullsBelow dump count got a b → NoneFrom bound a.slots → NoneFrom bound b.slots
+none_behind dump bound zero got a b pulls none = subst (λ (m : LoggerMoment). NoneFrom bound m.slots) (sym pulls.1) none
+none_behind dump bound (suc count) got a b pulls none = none_pulled dump bound count pulls.2 pulls.0 b pulls.4 (none_behind dump bound count pulls.1 a pulls.0 pulls.3 none)
 
 -- Pulls of numbers without a channel do nothing.
 
-pulls_on : (more n : ℕ) (got : Bool) (a b : LoggerMoment) → PullsBelow n got a b → NoneFrom n b.slots → PullsBelow (more + n) got a b
-pulls_on zero n got a b pulls none = (let same : n ≡ 0 + n = omega arith in subst (λ (count : ℕ). PullsBelow count got a b) same pulls)
-pulls_on (suc more) n got a b pulls none =
+pulls_on : (dump : List ℕ) (more n : ℕ) (got : Bool) (a b : LoggerMoment) → PullsBelow dump n got a b → NoneFrom n b.slots → PullsBelow dump (more + n) got a b
+pulls_on dump zero n got a b pulls none = (let same : n ≡ 0 + n = omega arith in subst (λ (count : ℕ). PullsBelow dump count got a b) same pulls)
+pulls_on dump (suc more) n got a b pulls none =
     let next : (more + n) + 1 ≡ suc more + n = omega arith in
-    subst (λ (count : ℕ). PullsBelow count got a b) next
-    (pulls_more (more + n) got got NoChannel a b b (pulls_on more n got a b pulls none) (pulls_nothing (more + n) b (ap is_some (none (more + n) (omega arith)))) refl)
+    subst (λ (count : ℕ). PullsBelow dump count got a b) next
+    (pulls_more dump (more + n) got got NoChannel a b b (pulls_on dump more n got a b pulls none) (pulls_nothing dump (more + n) b (ap is_some (none (more + n) (omega arith)))) refl)
 
-pub pulls_all : (bound number : ℕ) (got : Bool) (a b : LoggerMoment) → bound ≤ number → number ≤ bound → bound ≤ pulled_channels → PullsBelow number got a b → NoneFrom bound a.slots → PullsBelow pulled_channels got a b
-pulls_all bound number got a b first last few pulls none =
+pub pulls_all : (dump : List ℕ) (bound number : ℕ) (got : Bool) (a b : LoggerMoment) → bound ≤ number → number ≤ bound → bound ≤ pulled_channels → PullsBelow dump number got a b → NoneFrom bound a.slots → PullsBelow dump pulled_channels got a b
+pulls_all dump bound number got a b first last few pulls none =
     let here : number ≡ bound = omega (arith, first, last) in
     let all : (pulled_channels - bound) + bound ≡ pulled_channels = omega (arith, few) in
-    subst (λ (count : ℕ). PullsBelow count got a b) all
-    (pulls_on (pulled_channels - bound) bound got a b (subst (λ (count : ℕ). PullsBelow count got a b) here pulls) (none_behind bound number got a b pulls none))
+    subst (λ (count : ℕ). PullsBelow dump count got a b) all
+    (pulls_on dump (pulled_channels - bound) bound got a b (subst (λ (count : ℕ). PullsBelow dump count got a b) here pulls) (none_behind dump bound number got a b pulls none))

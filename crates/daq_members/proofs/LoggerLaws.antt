@@ -1,8 +1,6 @@
 -- Channels that pull one after another, and ports that stay the same.
-use Rattle.std.specs.Prelude.{◌≡◌, ℕ, ◌+◌, ◌≤◌, Bool, true, false, ◌||◌, IfSome, is_some, List, length, slice_get, Option, Some, None, refl}
+use Rattle.std.specs.Prelude.{◌≡◌, ℕ, ◌+◌, Bool, true, false, ◌||◌, is_some, List, slice_get, Option, Some, None, refl}
 use Rattle.std.proofs.Common.{ap, sym, subst, ◌∙◌, add-one}
-use Rattle.std.specs.List.{list_all}
-use Rattle.event.specs.Events.{record_limit}
 use Rattle.mid_logger.specs.declared.channel.Channel.{Channel}
 use Rattle.mid_logger.specs.declared.pulled.Pulled.{Pulled}
 use Rattle.mid_logger.specs.declared.pulled.Pulled.TheVariants.{NoChannel}
@@ -10,7 +8,6 @@ use Rattle.buffer_core.specs.Ports.{Access}
 use Rattle.buffer_core.specs.Slots.{slot_at}
 use Rattle.loggers.specs.Moments.{LoggerMoment, AreSamePorts}
 use Rattle.loggers.specs.SlotPulls.{PullsSlot, PullsNumbered}
-use Rattle.loggers.specs.Finishing.{LoggerFinish, FinishesBy, FinishesLogger, is_settled_slot, waiting_stop}
 use Rattle.daq_io.specs.Seen.{Seen}
 use Rattle.daq_members.specs.LoggerTaken.{PullsBelow, has_pulled}
 use Rattle.daq_members.specs.ConnectedLoggers.{ConnectedSeen, StaysAtPulls}
@@ -37,35 +34,26 @@ same_then ports between later one two = record {
 }
 
 -- one pull more
-pub pulls_more : (n : ℕ) (got later : Bool) (answer : Pulled) (a m b : LoggerMoment) → PullsBelow n got a m → PullsNumbered n answer m b → later ≡ (has_pulled answer || got) → PullsBelow (n + 1) later a b
-pulls_more n got later answer a m b below pulls is = subst (λ (k : ℕ). PullsBelow k later a b) (sym (add-one n)) (m, got, answer, below, pulls, is)
+pub pulls_more : (dump : List ℕ) (n : ℕ) (got later : Bool) (answer : Pulled) (a m b : LoggerMoment) → PullsBelow dump n got a m → PullsNumbered dump n answer m b → later ≡ (has_pulled answer || got) → PullsBelow dump (n + 1) later a b
+pulls_more dump n got later answer a m b below pulls is = subst (λ (k : ℕ). PullsBelow dump k later a b) (sym (add-one n)) (m, got, answer, below, pulls, is)
 
 -- what no pull leaves as it is, and what pulls behind pulls do
 module _ {F : Type 0} (seen : F → Seen) where
   pub stays_at_none : (logger : ConnectedSeen F) → StaysAtPulls seen logger logger
-  stays_at_none logger = record { run = refl; stop_dump = refl; same = same_ports logger.ports; keeps = λ turns stands. stands }
+  stays_at_none logger = record { run = refl; dumps = refl; same = same_ports logger.ports; keeps = λ turns stands. stands }
 
   pub stays_then : (a b c : ConnectedSeen F) → StaysAtPulls seen a b → StaysAtPulls seen b c → StaysAtPulls seen a c
   stays_then a b c first then_ = record {
     run = then_.run ∙ first.run;
-    stop_dump = then_.stop_dump ∙ first.stop_dump;
+    dumps = then_.dumps ∙ first.dumps;
     same = same_then a.ports b.ports c.ports first.same then_.same;
     keeps = λ turns stands. then_.keeps turns (first.keeps turns stands);
   }
 
--- the dump of the stop that waits is kept where it waits on, and there is none where it is answered
-finished_so : (settled : Bool) (stop : Option ℕ) (f : LoggerFinish) → FinishesBy settled stop f → IfSome f.stop_dump (λ bytes. length bytes ≤ record_limit) → IfSome f.later_stop_dump (λ bytes. length bytes ≤ record_limit)
-finished_so settled None f waits small = subst (λ (d : Option (List ℕ)). IfSome d (λ bytes. length bytes ≤ record_limit)) (sym waits.stop_dump) small
-finished_so false (Some time) f waits small = subst (λ (d : Option (List ℕ)). IfSome d (λ bytes. length bytes ≤ record_limit)) (sym waits.stop_dump) small
-finished_so true (Some time) f ends small = subst (λ (d : Option (List ℕ)). IfSome d (λ bytes. length bytes ≤ record_limit)) (sym ends.stop_dump) tt
-
-pub finished_small : (f : LoggerFinish) → FinishesLogger f → IfSome f.stop_dump (λ bytes. length bytes ≤ record_limit) → IfSome f.later_stop_dump (λ bytes. length bytes ≤ record_limit)
-finished_small f finishes small = finished_so (list_all is_settled_slot f.slots) (waiting_stop f.run) f finishes small
-
 -- where there is no channel, nothing is done
-pulls_none : (slot : Option Channel) (number : ℕ) (a : LoggerMoment) → is_some slot ≡ false → PullsSlot slot number NoChannel a a
-pulls_none None number a none = (refl, refl)
-pulls_none (Some c) number a none = absurd (cc (none))
+pulls_none : (dump : List ℕ) (slot : Option Channel) (number : ℕ) (a : LoggerMoment) → is_some slot ≡ false → PullsSlot dump slot number NoChannel a a
+pulls_none dump None number a none = (refl, refl)
+pulls_none dump (Some c) number a none = absurd (cc (none))
 
-pub pulls_nothing : (number : ℕ) (a : LoggerMoment) → is_some (slot_at a.slots number) ≡ false → PullsNumbered number NoChannel a a
-pulls_nothing number a none = pulls_none (slot_at a.slots number) number a none
+pub pulls_nothing : (dump : List ℕ) (number : ℕ) (a : LoggerMoment) → is_some (slot_at a.slots number) ≡ false → PullsNumbered dump number NoChannel a a
+pulls_nothing dump number a none = pulls_none dump (slot_at a.slots number) number a none

@@ -54,40 +54,40 @@ Keeps first m turns = KeepsNames m.slots first m.files turns
 same_keeps : (first : RunFiles) (a b : LoggerMoment) (turns later : List MemberTurn) → b ≡ a → later ≡ turns → Keeps first a turns → Keeps first b later
 same_keeps first a b turns later moment same keeps = subst (λ (m : LoggerMoment). Keeps first m later) (sym moment) (subst (λ (ts : List MemberTurn). Keeps first a ts) (sym same) keeps)
 
-pulled_names : NameLaws → (first : RunFiles) (turns : List MemberTurn) (runs : List ℕ) (n : ℕ) (got : Bool) (a b : LoggerMoment) → PullsBelow n got a b → IsLoggerReady a.slots a.ports a.files.seen → HaveRunsAmong runs a.slots → Keeps first a turns → Keeps first b turns
-pulled_names laws first turns runs zero got a b pulls ready held keeps = subst (λ (m : LoggerMoment). Keeps first m turns) (sym pulls.1) keeps
-pulled_names laws first turns runs (suc n) got a b pulls ready held keeps =
-    laws.pulls n pulls.2 pulls.0 b first turns pulls.4 (pulled laws.leave runs n pulls.1 a pulls.0 pulls.3 ready held).ready (pulled_names laws first turns runs n pulls.1 a pulls.0 pulls.3 ready held keeps)
+pulled_names : NameLaws → (first : RunFiles) (turns : List MemberTurn) (runs dump : List ℕ) (n : ℕ) (got : Bool) (a b : LoggerMoment) → PullsBelow dump n got a b → IsLoggerReady a.slots a.ports a.files.seen → HaveRunsAmong runs a.slots → Keeps first a turns → Keeps first b turns
+pulled_names laws first turns runs dump zero got a b pulls ready held keeps = subst (λ (m : LoggerMoment). Keeps first m turns) (sym pulls.1) keeps
+pulled_names laws first turns runs dump (suc n) got a b pulls ready held keeps =
+    laws.pulls dump n pulls.2 pulls.0 b first turns pulls.4 (pulled laws.leave runs dump n pulls.1 a pulls.0 pulls.3 ready held).ready (pulled_names laws first turns runs dump n pulls.1 a pulls.0 pulls.3 ready held keeps)
 
-pulled_stopped : NameLaws → (run : _) (dump : _) (turns : List MemberTurn) (runs : List ℕ) (n : ℕ) (got : Bool) (a b : LoggerMoment) → PullsBelow n got a b → IsLoggerReady a.slots a.ports a.files.seen → HaveRunsAmong runs a.slots → HaveStoppedRuns run dump a.slots turns
-    → HaveStoppedRuns run dump b.slots turns
-pulled_stopped laws run dump turns runs zero got a b pulls ready held stopped = subst (λ (m : LoggerMoment). HaveStoppedRuns run dump m.slots turns) (sym pulls.1) stopped
-pulled_stopped laws run dump turns runs (suc n) got a b pulls ready held stopped =
-    laws.still_stopped n pulls.2 pulls.0 b run dump turns pulls.4 (pulled laws.leave runs n pulls.1 a pulls.0 pulls.3 ready held).ready (pulled_stopped laws run dump turns runs n pulls.1 a pulls.0 pulls.3 ready held stopped)
+pulled_stopped : NameLaws → (run : _) (stop : _) (turns : List MemberTurn) (runs dump : List ℕ) (n : ℕ) (got : Bool) (a b : LoggerMoment) → PullsBelow dump n got a b → IsLoggerReady a.slots a.ports a.files.seen → HaveRunsAmong runs a.slots → HaveStoppedRuns run stop a.slots turns
+    → HaveStoppedRuns run stop b.slots turns
+pulled_stopped laws run stop turns runs dump zero got a b pulls ready held stopped = subst (λ (m : LoggerMoment). HaveStoppedRuns run stop m.slots turns) (sym pulls.1) stopped
+pulled_stopped laws run stop turns runs dump (suc n) got a b pulls ready held stopped =
+    laws.still_stopped dump n pulls.2 pulls.0 b run stop turns pulls.4 (pulled laws.leave runs dump n pulls.1 a pulls.0 pulls.3 ready held).ready (pulled_stopped laws run stop turns runs dump n pulls.1 a pulls.0 pulls.3 ready held stopped)
 
-names_by : NameLaws → (t : LoggerTaken) (first : RunFiles) (reply : Polled) (owed : Option ℕ) → start_owed t.client t.calls ≡ owed → TakesLoggerBy reply owed t → Names t.run t.stop_dump first t.before (member_turns t.client t.calls) → Keeps first t.after (member_turns t.client t.later_calls)
+names_by : NameLaws → (t : LoggerTaken) (first : RunFiles) (reply : Polled) (owed : Option ℕ) → start_owed t.client t.calls ≡ owed → TakesLoggerBy reply owed t → Names t.run t.dumps first t.before (member_turns t.client t.calls) → Keeps first t.after (member_turns t.client t.later_calls)
 names_by laws t first Closed owed is leaves had = same_keeps first t.before t.after _ _ leaves.moment (ap (member_turns t.client) leaves.asks ∙ closed_turns t.client t.calls) had.names
 names_by laws t first NoClient owed is leaves had = same_keeps first t.before t.after _ _ leaves.moment (ap (member_turns t.client) leaves.asks ∙ unknown_turns t.client t.calls) had.names
 names_by laws t first (NoTurn state) owed is works had =
     let turns : List MemberTurn = member_turns t.client t.calls in
-    let held : HaveRunsAmong (started_runs turns) t.before.slots = runs_held t.run t.stop_dump t.before.slots t.before.ports turns t.before.files.seen had.stands in
+    let held : HaveRunsAmong (started_runs turns) t.before.slots = runs_held t.run t.dumps t.before.slots t.before.ports turns t.before.files.seen had.stands in
     subst (λ (ts : List MemberTurn). Keeps first t.after ts) (sym (ap (member_turns t.client) works.asks ∙ idle_turns t.client t.calls state))
-    (pulled_names laws first turns (started_runs turns) pulled_channels works.got t.before t.after works.pulls had.ready held had.names)
+    (pulled_names laws first turns (started_runs turns) _ pulled_channels works.got t.before t.after works.pulls had.ready held had.names)
 names_by laws t first (Turn transition order dump blank) None is taken had =
     subst (λ (ts : List MemberTurn). Keeps first t.after ts) (sym (taken_turns t.client t.calls _ t.later_calls transition order dump blank taken.answer is refl taken.gives))
     (laws.turns _ first (member_turns t.client t.calls) taken.takes had.idle had.reasons had.names)
 names_by laws t first (Turn transition order dump blank) (Some start) is ends had =
     let turns : List MemberTurn = member_turns t.client t.calls in
     let runs : List ℕ = started_runs turns in
-    let held : HaveRunsAmong runs t.before.slots = runs_held t.run t.stop_dump t.before.slots t.before.ports turns t.before.files.seen had.stands in
-    let stopped : HaveStoppedRuns t.run t.stop_dump t.before.slots turns = laws.stopped t.run t.stop_dump t.before.slots t.before.ports turns t.before.files.seen had.stands in
-    let left : Pulled runs t.before ends.pulled = pulled laws.leave runs pulled_channels ends.got t.before ends.pulled ends.pulls had.ready held in
+    let held : HaveRunsAmong runs t.before.slots = runs_held t.run t.dumps t.before.slots t.before.ports turns t.before.files.seen had.stands in
+    let stopped : HaveStoppedRuns t.run t.dumps.stop t.before.slots turns = laws.stopped t.run t.dumps t.before.slots t.before.ports turns t.before.files.seen had.stands in
+    let left : Pulled runs t.before ends.pulled = pulled laws.leave runs _ pulled_channels ends.got t.before ends.pulled ends.pulls had.ready held in
     subst (λ (ts : List MemberTurn). Keeps first t.after ts) (sym (finished_turns t.client t.calls _ t.later_calls transition order dump blank start ends.answer is refl ends.gives))
-    (laws.finishes _ first turns ends.finishes left.ready.files (pulled_stopped laws t.run t.stop_dump turns runs pulled_channels ends.got t.before ends.pulled ends.pulls had.ready held stopped)
-    (pulled_names laws first turns runs pulled_channels ends.got t.before ends.pulled ends.pulls had.ready held had.names))
+    (laws.finishes _ first turns ends.finishes left.ready.many left.ready.files (pulled_stopped laws t.run t.dumps.stop turns runs _ pulled_channels ends.got t.before ends.pulled ends.pulls had.ready held stopped)
+    (pulled_names laws first turns runs _ pulled_channels ends.got t.before ends.pulled ends.pulls had.ready held had.names))
 
 pub names_stay : NameLaws → (t : LoggerTaken) (first : RunFiles) → TakesLogger t → IsLoggerReady t.before.slots t.before.ports t.before.files.seen → IsIdleOutside t.run t.before.slots
-    → LoggerStands t.run t.stop_dump t.before.slots t.before.ports (member_turns t.client t.calls) t.before.files.seen → GivesReasons t.before.slots t.before.ports first t.before.files (member_turns t.client t.calls) → Keeps first t.before (member_turns t.client t.calls)
+    → LoggerStands t.run t.dumps t.before.slots t.before.ports (member_turns t.client t.calls) t.before.files.seen → GivesReasons t.before.slots t.before.ports first t.before.files (member_turns t.client t.calls) → Keeps first t.before (member_turns t.client t.calls)
     → Keeps first t.after (member_turns t.client t.later_calls)
 names_stay laws t first takes ready idle stands reasons names =
     names_by laws t first takes.reply (start_owed t.client t.calls) refl takes.takes (record { ready = ready; idle = idle; stands = stands; reasons = reasons; names = names })

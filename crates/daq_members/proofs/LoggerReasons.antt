@@ -24,9 +24,9 @@ Gives first m turns = GivesReasons m.slots m.ports first m.files turns
 same_gives : (first : RunFiles) (a b : LoggerMoment) (turns later : List MemberTurn) → b ≡ a → later ≡ turns → Gives first a turns → Gives first b later
 same_gives first a b turns later moment same gives = subst (λ (m : LoggerMoment). Gives first m later) (sym moment) (subst (λ (ts : List MemberTurn). Gives first a ts) (sym same) gives)
 
-pulled : PullsGiveReasons → (first : RunFiles) (turns : List MemberTurn) (n : ℕ) (got : Bool) (a b : LoggerMoment) → PullsBelow n got a b → Gives first a turns → Gives first b turns
-pulled law first turns zero got a b pulls gives = subst (λ (m : LoggerMoment). Gives first m turns) (sym pulls.1) gives
-pulled law first turns (suc n) got a b pulls gives = law n pulls.2 pulls.0 b first turns pulls.4 (pulled law first turns n pulls.1 a pulls.0 pulls.3 gives)
+pulled : PullsGiveReasons → (first : RunFiles) (turns : List MemberTurn) (dump : List ℕ) (n : ℕ) (got : Bool) (a b : LoggerMoment) → PullsBelow dump n got a b → Gives first a turns → Gives first b turns
+pulled law first turns dump zero got a b pulls gives = subst (λ (m : LoggerMoment). Gives first m turns) (sym pulls.1) gives
+pulled law first turns dump (suc n) got a b pulls gives = law dump n pulls.2 pulls.0 b first turns pulls.4 (pulled law first turns dump n pulls.1 a pulls.0 pulls.3 gives)
 
 -- where a turn is owed, the latest is not answered
 unanswered : (a : Option Answer) (start owed : ℕ) → start_unanswered a start ≡ Some owed → a ≡ None
@@ -42,14 +42,14 @@ reasons_by laws t first Closed owed is leaves gives = same_gives first t.before 
 reasons_by laws t first NoClient owed is leaves gives = same_gives first t.before t.after _ _ leaves.moment (ap (member_turns t.client) leaves.asks ∙ unknown_turns t.client t.calls) gives
 reasons_by laws t first (NoTurn state) owed is works gives =
     subst (λ (ts : List MemberTurn). Gives first t.after ts) (sym (ap (member_turns t.client) works.asks ∙ idle_turns t.client t.calls state))
-    (pulled laws.pulls first (member_turns t.client t.calls) pulled_channels works.got t.before t.after works.pulls gives)
+    (pulled laws.pulls first (member_turns t.client t.calls) _ pulled_channels works.got t.before t.after works.pulls gives)
 reasons_by laws t first (Turn transition order dump blank) None is taken gives =
     subst (λ (ts : List MemberTurn). Gives first t.after ts) (sym (taken_turns t.client t.calls _ t.later_calls transition order dump blank taken.answer is refl taken.gives))
     (laws.turns _ first (member_turns t.client t.calls) taken.takes gives)
 reasons_by laws t first (Turn transition order dump blank) (Some start) is ends gives =
     subst (λ (ts : List MemberTurn). Gives first t.after ts) (sym (finished_turns t.client t.calls _ t.later_calls transition order dump blank start ends.answer is refl ends.gives))
     (subst (λ (ports : List Access). GivesReasons t.after.slots ports first t.after.files (latest_answered (member_turns t.client t.calls) ends.answer)) (sym ends.ports)
-    (laws.finishes _ ends.pulled.ports first (member_turns t.client t.calls) ends.finishes (latest_open (member_turns t.client t.calls) start is) (pulled laws.pulls first (member_turns t.client t.calls) pulled_channels ends.got t.before ends.pulled ends.pulls gives)))
+    (laws.finishes _ ends.pulled.ports first (member_turns t.client t.calls) ends.finishes (latest_open (member_turns t.client t.calls) start is) (pulled laws.pulls first (member_turns t.client t.calls) _ pulled_channels ends.got t.before ends.pulled ends.pulls gives)))
 
 pub reasons_kept : ReasonLaws → (t : LoggerTaken) (first : RunFiles) → TakesLogger t → Gives first t.before (member_turns t.client t.calls) → Gives first t.after (member_turns t.client t.later_calls)
 reasons_kept laws t first takes gives = reasons_by laws t first takes.reply (start_owed t.client t.calls) refl takes.takes gives

@@ -15,9 +15,9 @@ use Rattle.daq_members.specs.LoggerTaken.{LoggerTaken, HaveCaller, PullsBelow, T
 
 -- What was known of other callers before a turn is known behind it.
 
-pulled_known : PullsLeaveKnown → (n : ℕ) (got : Bool) (a b : LoggerMoment) → PullsBelow n got a b → NoneTakenBack b.ports → NoneTakenBack a.ports
-pulled_known pulls zero got a b steps none = subst (λ (m : LoggerMoment). NoneTakenBack m.ports) steps.1 none
-pulled_known pulls (suc n) got a b steps none = pulled_known pulls n steps.1 a steps.0 steps.3 (pulls n steps.2 steps.0 b steps.4 none)
+pulled_known : PullsLeaveKnown → (dump : List ℕ) (n : ℕ) (got : Bool) (a b : LoggerMoment) → PullsBelow dump n got a b → NoneTakenBack b.ports → NoneTakenBack a.ports
+pulled_known pulls dump zero got a b steps none = subst (λ (m : LoggerMoment). NoneTakenBack m.ports) steps.1 none
+pulled_known pulls dump (suc n) got a b steps none = pulled_known pulls dump n steps.1 a steps.0 steps.3 (pulls dump n steps.2 steps.0 b steps.4 none)
 
 same_known : (a b : LoggerMoment) → b ≡ a → NoneTakenBack b.ports → NoneTakenBack a.ports
 same_known a b same none = subst (λ (m : LoggerMoment). NoneTakenBack m.ports) same none
@@ -25,7 +25,7 @@ same_known a b same none = subst (λ (m : LoggerMoment). NoneTakenBack m.ports) 
 known_by : TurnsLeaveKnown → PullsLeaveKnown → (t : LoggerTaken) (reply : Polled) (owed : Option ℕ) → TakesLoggerBy reply owed t → NoneTakenBack t.after.ports → NoneTakenBack t.before.ports
 known_by turns pulls t Closed owed leaves none = same_known t.before t.after leaves.moment none
 known_by turns pulls t NoClient owed leaves none = same_known t.before t.after leaves.moment none
-known_by turns pulls t (NoTurn state) owed works none = pulled_known pulls pulled_channels works.got t.before t.after works.pulls none
+known_by turns pulls t (NoTurn state) owed works none = pulled_known pulls _ pulled_channels works.got t.before t.after works.pulls none
 known_by turns pulls t (Turn transition order dump blank) None taken none = turns (record {
   transition = transition;
   order = order;
@@ -33,13 +33,13 @@ known_by turns pulls t (Turn transition order dump blank) None taken none = turn
   answer = taken.answer;
   run = t.run;
   later_run = t.later_run;
-  stop_dump = t.stop_dump;
-  later_stop_dump = t.later_stop_dump;
+  dumps = t.dumps;
+  later_dumps = t.later_dumps;
   before = t.before;
   after = t.after;
 }) taken.takes none
 known_by turns pulls t (Turn transition order dump blank) (Some start) ends none =
-    pulled_known pulls pulled_channels ends.got t.before ends.pulled ends.pulls (subst (λ (ports : List Access). NoneTakenBack ports) ends.ports none)
+    pulled_known pulls _ pulled_channels ends.got t.before ends.pulled ends.pulls (subst (λ (ports : List Access). NoneTakenBack ports) ends.ports none)
 
 pub known_before : TurnsLeaveKnown → PullsLeaveKnown → (t : LoggerTaken) → TakesLogger t → NoneTakenBack t.after.ports → NoneTakenBack t.before.ports
 known_before turns pulls t takes none = known_by turns pulls t takes.reply (start_owed t.client t.calls) takes.takes none
@@ -65,14 +65,14 @@ same_noted a b same = subst (λ (m : LoggerMoment). NotesBetween a m) (sym same)
 noted_then : NotedLaws → (a b c : LoggerMoment) → NotesBetween a b → NotesBetween b c → NotesBetween a c
 noted_then laws a b c first then_ = laws.follow a.slots b.slots c.slots a.files.faults b.files.faults c.files.faults first then_
 
-pulled_noted : NotedLaws → (n : ℕ) (got : Bool) (a b : LoggerMoment) → PullsBelow n got a b → NotesBetween a b
-pulled_noted laws zero got a b steps = same_noted a b steps.1
-pulled_noted laws (suc n) got a b steps = noted_then laws a steps.0 b (pulled_noted laws n steps.1 a steps.0 steps.3) (laws.pulls n steps.2 steps.0 b steps.4)
+pulled_noted : NotedLaws → (dump : List ℕ) (n : ℕ) (got : Bool) (a b : LoggerMoment) → PullsBelow dump n got a b → NotesBetween a b
+pulled_noted laws dump zero got a b steps = same_noted a b steps.1
+pulled_noted laws dump (suc n) got a b steps = noted_then laws a steps.0 b (pulled_noted laws dump n steps.1 a steps.0 steps.3) (laws.pulls dump n steps.2 steps.0 b steps.4)
 
 noted_by : NotedLaws → (t : LoggerTaken) (reply : Polled) (owed : Option ℕ) → TakesLoggerBy reply owed t → NotesBetween t.before t.after
 noted_by laws t Closed owed leaves = same_noted t.before t.after leaves.moment
 noted_by laws t NoClient owed leaves = same_noted t.before t.after leaves.moment
-noted_by laws t (NoTurn state) owed works = pulled_noted laws pulled_channels works.got t.before t.after works.pulls
+noted_by laws t (NoTurn state) owed works = pulled_noted laws _ pulled_channels works.got t.before t.after works.pulls
 noted_by laws t (Turn transition order dump blank) None taken = laws.turns (record {
   transition = transition;
   order = order;
@@ -80,17 +80,17 @@ noted_by laws t (Turn transition order dump blank) None taken = laws.turns (reco
   answer = taken.answer;
   run = t.run;
   later_run = t.later_run;
-  stop_dump = t.stop_dump;
-  later_stop_dump = t.later_stop_dump;
+  dumps = t.dumps;
+  later_dumps = t.later_dumps;
   before = t.before;
   after = t.after;
 }) taken.takes
 noted_by laws t (Turn transition order dump blank) (Some start) ends =
-    noted_then laws t.before ends.pulled t.after (pulled_noted laws pulled_channels ends.got t.before ends.pulled ends.pulls) (laws.finishes (record {
+    noted_then laws t.before ends.pulled t.after (pulled_noted laws _ pulled_channels ends.got t.before ends.pulled ends.pulls) (laws.finishes (record {
       run = t.run;
       later_run = t.later_run;
-      stop_dump = t.stop_dump;
-      later_stop_dump = t.later_stop_dump;
+      dumps = t.dumps;
+      later_dumps = t.later_dumps;
       slots = ends.pulled.slots;
       later_slots = t.after.slots;
       files = ends.pulled.files;

@@ -16,8 +16,9 @@ use Rattle.mid_logger.specs.declared.channel_spec.ChannelSpec.{ChannelSpec}
 use Rattle.mid_logger.specs.declared.stage.ChannelRun.{ChannelRun}
 use Rattle.mid_logger.specs.declared.stage.ChannelStage.{ChannelStage}
 use Rattle.mid_logger.specs.declared.stage.ChannelStage.TheVariants.{Idle, Asking, Writing, Draining, Drained, Broken}
-use Rattle.mid_logger.specs.Channels.{FileHead, StageAt, channel_run}
+use Rattle.mid_logger.specs.Channels.{FileHead, FilesHold, FilesLeft, StageWith, channel_run}
 use Rattle.loggers.specs.declared.logged_run.LoggedRun.{LoggedRun}
+use Rattle.loggers.specs.declared.logged_run.RunDumps.{RunDumps}
 use Rattle.loggers.specs.Moments.{LoggerMoment, IsLoggerReady, HaveFilesOpen}
 use Rattle.loggers.specs.Turning.{LoggerTurn, TakesTurn}
 use Rattle.loggers.specs.Finishing.{LoggerFinish, FinishesLogger}
@@ -56,24 +57,24 @@ answered_runs (t ∷ ts) (Some answer) = refl
 
 -- The runs of the channels of a logger that stands are those of its turns.
 
-head_run : (spec : ChannelSpec) (client : Option ℕ) (stage : ChannelStage) (head : FileHead) (own : List BufferEntry) (got : List GotEvent) (seen : Seen) (opened : ChannelRun) → StageAt spec client stage head own got seen → channel_run stage ≡ Some opened → head.run ≡ opened.run
+head_run : (spec : ChannelSpec) (client : Option ℕ) (stage : ChannelStage) (head : FileHead) (own : List BufferEntry) (got : List GotEvent) (seen : Seen) (opened : ChannelRun) → StageWith (FilesHold spec head seen) (FilesLeft spec head seen) spec client stage own got → channel_run stage ≡ Some opened → head.run ≡ opened.run
 head_run spec client Idle head own got seen opened at is = absurd (cc (is))
 head_run spec client (Asking o) head own got seen opened at is = (let same : o ≡ opened = cc (is) in at.holds.run ∙ ap (λ (x : ChannelRun). x.run) same)
 head_run spec client (Writing o begun) head own got seen opened at is = (let same : o ≡ opened = cc (is) in at.holds.run ∙ ap (λ (x : ChannelRun). x.run) same)
 head_run spec client (Draining run) head own got seen opened at is = (let same : run.opened ≡ opened = cc (is) in at.holds.run ∙ ap (λ (x : ChannelRun). x.run) same)
 head_run spec client (Drained run) head own got seen opened at is = (let same : run.opened ≡ opened = cc (is) in at.holds.run ∙ ap (λ (x : ChannelRun). x.run) same)
-head_run spec client (Broken run fallen) head own got seen opened at is = (let same : run.opened ≡ opened = cc (is) in at.left.number ∙ ap (λ (x : ChannelRun). x.run) same)
+head_run spec client (Broken run fallen) head own got seen opened at is = (let same : run.opened ≡ opened = cc (is) in at.left.run ∙ ap (λ (x : ChannelRun). x.run) same)
 
 port_there : (ports : List Access) (n : ℕ) → n < length ports → (a : Access) × (slice_get ports n ≡ Some a)
 port_there [] n within = absurd (omega arith)
 port_there (a ∷ as_) zero within = (a, refl)
 port_there (a ∷ as_) (suc n) within = port_there as_ n (omega arith)
 
-pub runs_held : (run : Option LoggedRun) (stop_dump : Option (List ℕ)) (slots : List (Option Channel)) (ports : List Access) (turns : List MemberTurn) (seen : Seen) → LoggerStands run stop_dump slots ports turns seen → HaveRunsAmong (started_runs turns) slots
-runs_held run stop_dump slots ports turns seen stands n c opened at is =
+pub runs_held : (run : Option LoggedRun) (dumps : RunDumps) (slots : List (Option Channel)) (ports : List Access) (turns : List MemberTurn) (seen : Seen) → LoggerStands run dumps slots ports turns seen → HaveRunsAmong (started_runs turns) slots
+runs_held run dumps slots ports turns seen stands n c opened at is =
     let port : (a : Access) × (slice_get ports c.spec.buffer ≡ Some a) = port_there ports c.spec.buffer (stands.holds.served n c at) in
-    let kept : ChannelKept (IsHeadTold turns) seen c port.0 = stands.holds.standing.channels n c port.0 at port.1 in
-    let head : HasHead turns opened.start kept.head = kept.headed opened is in
+    let kept : ChannelKept (IsHeadTold turns dumps) seen c port.0 = stands.holds.standing.channels n c port.0 at port.1 in
+    let head : HasHead turns opened.start kept.head = (kept.headed opened is).has in
     let number : kept.head.run ≡ opened.run = head_run c.spec c.client c.stage kept.head port.0.own port.0.got seen opened kept.stands.at is in
     subst (λ (k : ℕ). Contains (started_runs turns) k) (sym head.run ∙ number) (has_started turns head.turn head.is_start.is_start.stands head.is_start.is_start.is)
 
@@ -112,25 +113,25 @@ pub record Pulled (runs : List ℕ) (a b : LoggerMoment) : Type 0 where
   pub left : Leaves runs a b
   pub ready : IsLoggerReady b.slots b.ports b.files.seen
 
-pub pulled : PullsLeaveFiles → (runs : List ℕ) (n : ℕ) (got : Bool) (a b : LoggerMoment) → PullsBelow n got a b → IsLoggerReady a.slots a.ports a.files.seen → HaveRunsAmong runs a.slots → Pulled runs a b
-pulled law runs zero got a b pulls ready held = record { left = same_leaves runs a b pulls.1 held; ready = subst (λ (m : LoggerMoment). IsLoggerReady m.slots m.ports m.files.seen) (sym pulls.1) ready }
-pulled law runs (suc n) got a b pulls ready held =
+pub pulled : PullsLeaveFiles → (runs dump : List ℕ) (n : ℕ) (got : Bool) (a b : LoggerMoment) → PullsBelow dump n got a b → IsLoggerReady a.slots a.ports a.files.seen → HaveRunsAmong runs a.slots → Pulled runs a b
+pulled law runs dump zero got a b pulls ready held = record { left = same_leaves runs a b pulls.1 held; ready = subst (λ (m : LoggerMoment). IsLoggerReady m.slots m.ports m.files.seen) (sym pulls.1) ready }
+pulled law runs dump (suc n) got a b pulls ready held =
     let m : LoggerMoment = pulls.0 in
-    let first : Pulled runs a m = pulled law runs n pulls.1 a m pulls.3 ready held in
-    let one = law runs n pulls.2 m b pulls.4 first.ready first.left.held in
+    let first : Pulled runs a m = pulled law runs dump n pulls.1 a m pulls.3 ready held in
+    let one = law runs dump n pulls.2 m b pulls.4 first.ready first.left.held in
     record { left = leaves_then runs a.slots m.slots b.slots a.files.seen m.files.seen b.files.seen first.left one.0; ready = one.1 }
 
 takes_by : LoggerLeaves → (runs : List ℕ) (t : LoggerTaken) (reply : Polled) (owed : Option ℕ) → start_owed t.client t.calls ≡ owed → TakesLoggerBy reply owed t → IsLoggerReady t.before.slots t.before.ports t.before.files.seen → HaveRunsAmong runs t.before.slots → Covers runs t
     → Leaves runs t.before t.after
 takes_by laws runs t Closed owed is leaves ready held covers = same_leaves runs t.before t.after leaves.moment held
 takes_by laws runs t NoClient owed is leaves ready held covers = same_leaves runs t.before t.after leaves.moment held
-takes_by laws runs t (NoTurn state) owed is works ready held covers = (pulled laws.pulls runs pulled_channels works.got t.before t.after works.pulls ready held).left
+takes_by laws runs t (NoTurn state) owed is works ready held covers = (pulled laws.pulls runs _ pulled_channels works.got t.before t.after works.pulls ready held).left
 takes_by laws runs t (Turn transition order dump blank) None is taken ready held covers =
     let turns = taken_turns t.client t.calls _ t.later_calls transition order dump blank taken.answer is refl taken.gives in
-    laws.turns runs _ taken.takes held
+    laws.turns runs _ taken.takes ready held
     (λ starts. covers order.run (subst (λ (ts : List MemberTurn). Contains (started_runs ts) order.run) (sym turns) (this_run transition order.run (started_runs (member_turns t.client t.calls)) starts)))
 takes_by laws runs t (Turn transition order dump blank) (Some start) is ends ready held covers =
-    let first : Pulled runs t.before ends.pulled = pulled laws.pulls runs pulled_channels ends.got t.before ends.pulled ends.pulls ready held in
+    let first : Pulled runs t.before ends.pulled = pulled laws.pulls runs _ pulled_channels ends.got t.before ends.pulled ends.pulls ready held in
     leaves_then runs t.before.slots ends.pulled.slots t.after.slots t.before.files.seen ends.pulled.files.seen t.after.files.seen first.left
     (laws.finishes runs _ ends.finishes first.ready.files first.left.held)
 
@@ -171,11 +172,11 @@ specs_stay laws t takes ready =
 
 -- So they do in a turn that the engine gives, and in a call to finish.
 
-pub turn_specs : TurnsLeaveFiles → (t : LoggerTurn) → TakesTurn t → specs_in t.after.slots ≡ specs_in t.before.slots
-turn_specs law t takes =
+pub turn_specs : TurnsLeaveFiles → (t : LoggerTurn) → TakesTurn t → IsLoggerReady t.before.slots t.before.ports t.before.files.seen → specs_in t.after.slots ≡ specs_in t.before.slots
+turn_specs law t takes ready =
     let own : List ℕ = slot_runs t.before.slots in
     let told : List ℕ = t.order.run ∷ [] in
-    (law (own ++ told) t takes (λ n c opened at is. Contains-append_left own told opened.run (slots_listed t.before.slots n c opened at is)) (λ starts. Contains-append_right own told t.order.run (0, omega arith, refl))).specs
+    (law (own ++ told) t takes ready (λ n c opened at is. Contains-append_left own told opened.run (slots_listed t.before.slots n c opened at is)) (λ starts. Contains-append_right own told t.order.run (0, omega arith, refl))).specs
 
 pub finish_specs : FinishesLeaveFiles → (f : LoggerFinish) → FinishesLogger f → HaveFilesOpen f.slots f.files.seen → specs_in f.later_slots ≡ specs_in f.slots
 finish_specs law f finishes open_ = (law (slot_runs f.slots) f finishes open_ (slots_listed f.slots)).specs
@@ -194,15 +195,15 @@ turns_by t (Turn transition order dump blank) (Some start) is ends n has =
     (subst (λ (runs : List ℕ). Contains runs n) (sym (answered_runs (member_turns t.client t.calls) ends.answer)) has)
 
 more_runs : (specs : List (Option ChannelSpec)) (runs more : List ℕ) (name : List ℕ) → ((n : ℕ) → Contains runs n → Contains more n) → IsRunName specs runs name → IsRunName specs more name
-more_runs specs runs more name covers is = record { number = is.number; spec = is.spec; there = is.there; run = is.run; among = covers is.run is.among; is = is.is }
+more_runs specs runs more name covers is = record { number = is.number; spec = is.spec; there = is.there; run = is.run; among = covers is.run is.among; sub = is.sub; few = is.few; is = is.is }
 
-pub others_kept : LoggerLeaves → (t : LoggerTaken) (first : Seen) → TakesLogger t → IsLoggerReady t.before.slots t.before.ports t.before.files.seen → LoggerStands t.run t.stop_dump t.before.slots t.before.ports (member_turns t.client t.calls) t.before.files.seen
+pub others_kept : LoggerLeaves → (t : LoggerTaken) (first : Seen) → TakesLogger t → IsLoggerReady t.before.slots t.before.ports t.before.files.seen → LoggerStands t.run t.dumps t.before.slots t.before.ports (member_turns t.client t.calls) t.before.files.seen
     → KeepsOtherFiles (specs_in t.before.slots) (started_runs (member_turns t.client t.calls)) first t.before.files.seen → KeepsOtherFiles (specs_in t.after.slots) (started_runs (member_turns t.client t.later_calls)) first t.after.files.seen
 others_kept laws t first takes ready stands kept =
     let early : List ℕ = started_runs (member_turns t.client t.calls) in
     let runs : List ℕ = started_runs (member_turns t.client t.later_calls) in
     let covers : (n : ℕ) → Contains early n → Contains runs n = turns_by t takes.reply (start_owed t.client t.calls) refl takes.takes in
-    let held : HaveRunsAmong early t.before.slots = runs_held t.run t.stop_dump t.before.slots t.before.ports (member_turns t.client t.calls) t.before.files.seen stands in
+    let held : HaveRunsAmong early t.before.slots = runs_held t.run t.dumps t.before.slots t.before.ports (member_turns t.client t.calls) t.before.files.seen stands in
     let left : Leaves runs t.before t.after = takes_leave laws runs t takes ready (λ n c opened at is. covers opened.run (held n c opened at is)) (λ n has. has) in
     record {
       tells = left.files.tells ∙ kept.tells;

@@ -1,29 +1,29 @@
 -- The logger connected to its buffers and to the run files, and what its calls leave.
-use Rattle.std.specs.Prelude.{◌≡◌, ◌≤◌, ℕ, IfSome, List, length, Option}
+use Rattle.std.specs.Prelude.{◌≡◌, ◌≤◌, ℕ, List, length, Option}
 use Rattle.daq_types.specs.declared.runs.Order.{Order}
 use Rattle.daq_types.specs.declared.runs.Transition.{Transition}
-use Rattle.event.specs.Events.{record_limit}
 use Rattle.daq_io.specs.Seen.{Seen}
 use Rattle.buffer_core.specs.Ports.{Access}
 use Rattle.member_model.specs.RunEngines.{Answer}
 use Rattle.member_model.specs.Turns.{MemberTurn}
 use Rattle.mid_logger.specs.declared.channel.Channel.{Channel}
 use Rattle.loggers.specs.declared.logged_run.LoggedRun.{LoggedRun}
+use Rattle.loggers.specs.declared.logged_run.RunDumps.{RunDumps}
 use Rattle.loggers.specs.declared.logger.Logger.{Logger}
 use Rattle.loggers.specs.Moments.{RunFiles, LoggerMoment, IsLoggerReady, AreSamePorts, moment_of}
 use Rattle.loggers.specs.SlotPulls.{HasEventRoom}
-use Rattle.loggers.specs.Turning.{LoggerTurn, IsIdleOutside, buffers_begun}
+use Rattle.loggers.specs.Turning.{LoggerTurn, IsIdleOutside, DumpsFit, buffers_begun}
 use Rattle.loggers.specs.Finishing.{LoggerFinish}
 use Rattle.loggers.specs.LoggerStands.{LoggerStands}
 use Rattle.member_crew.specs.declared.turned.Turned.{Turned}
 use Rattle.daq_members.specs.EngineClients.{MemberClientSeen}
 use Rattle.daq_members.specs.LoggerTaken.{LoggerTaken}
 
--- A logger connected to its buffers and the run files: its run, the dump of the stop that it has not answered, its channels, its
--- access to each buffer, and the files.
+-- A logger connected to its buffers and the run files: its run, with the dumps of its start and of its stop, its channels, its access
+-- to each buffer, and the files.
 pub record ConnectedSeen (F : Type 0) : Type 0 where
   pub run : Option LoggedRun
-  pub stop_dump : Option (List ℕ)
+  pub dumps : RunDumps
   pub slots : List (Option Channel)
   pub ports : List Access
   pub files : F
@@ -32,7 +32,7 @@ pub record ConnectedSeen (F : Type 0) : Type 0 where
 abbrev pub connected : {F : Type 0} → Logger → List Access → (files : F) → ConnectedSeen F
 connected logger ports files = record {
   run = logger.run;
-  stop_dump = logger.stop_dump;
+  dumps = logger.dumps;
   slots = logger.channels;
   ports = ports;
   files = files;
@@ -43,24 +43,24 @@ abbrev pub moment_at : {F : Type 0} → (read : F → RunFiles) → ConnectedSee
 moment_at read logger = moment_of logger.slots logger.ports (read logger.files)
 
 -- It is ready for each turn: each channel's port and file are there, with room for an event; where no run is on, the channels are
--- idle; the run is begun in no buffer but those that it has a port to; and the dump of a stop that waits fits into a record.
+-- idle; the run is begun in no buffer but those that it has a port to; and each dump of the run fits into a record.
 pub record IsConnected {F : Type 0} (seen : F → Seen) (logger : ConnectedSeen F) : Type 0 where
   pub ready : IsLoggerReady logger.slots logger.ports (seen logger.files)
   pub room : (number : ℕ) → HasEventRoom number logger.slots logger.ports
   pub idle : IsIdleOutside logger.run logger.slots
   pub begun : buffers_begun logger.run ≤ length logger.ports
-  pub small : IfSome logger.stop_dump (λ bytes. length bytes ≤ record_limit)
+  pub small : DumpsFit logger.dumps
 
 -- it keeps its contract over these turns
 abbrev pub StandsOver : {F : Type 0} → (seen : F → Seen) → List MemberTurn → ConnectedSeen F → Type 0
 StandsOver seen turns logger =
-    LoggerStands logger.run logger.stop_dump logger.slots logger.ports turns (seen logger.files)
+    LoggerStands logger.run logger.dumps logger.slots logger.ports turns (seen logger.files)
 
--- What pulls leave as it is: the run, the dump of its stop and the buffers that the ports lead to; and the contract, over whatever
--- turns it was kept.
+-- What pulls leave as it is: the run, its dumps and the buffers that the ports lead to; and the contract, over whatever turns it was
+-- kept.
 pub record StaysAtPulls {F : Type 0} (seen : F → Seen) (before after : ConnectedSeen F) : Type 0 where
   pub run : after.run ≡ before.run
-  pub stop_dump : after.stop_dump ≡ before.stop_dump
+  pub dumps : after.dumps ≡ before.dumps
   pub same : AreSamePorts before.ports after.ports
   pub keeps : (turns : List MemberTurn) → StandsOver seen turns before → StandsOver seen turns after
 
@@ -74,8 +74,8 @@ connected_turned read transition order dump answer before after = record {
   answer = answer;
   run = before.run;
   later_run = after.run;
-  stop_dump = before.stop_dump;
-  later_stop_dump = after.stop_dump;
+  dumps = before.dumps;
+  later_dumps = after.dumps;
   before = moment_at read before;
   after = moment_at read after;
 }
@@ -85,8 +85,8 @@ abbrev pub connected_finish : {F : Type 0} → (read : F → RunFiles) → Optio
 connected_finish read answer before after = record {
   run = before.run;
   later_run = after.run;
-  stop_dump = before.stop_dump;
-  later_stop_dump = after.stop_dump;
+  dumps = before.dumps;
+  later_dumps = after.dumps;
   slots = before.slots;
   later_slots = after.slots;
   files = read before.files;
@@ -103,8 +103,8 @@ connected_taken read engine later_engine before after turned = record {
   later_calls = later_engine.calls;
   run = before.run;
   later_run = after.run;
-  stop_dump = before.stop_dump;
-  later_stop_dump = after.stop_dump;
+  dumps = before.dumps;
+  later_dumps = after.dumps;
   before = moment_at read before;
   after = moment_at read after;
   stood = moment_at read later_engine.stood;

@@ -1,7 +1,6 @@
 -- The logger in a session, with its own ports to the buffers and the run files.
-use Rattle.std.specs.Prelude.{◌≡◌, ◌≤◌, ℕ, true, IfSome, List, [], length, Option}
+use Rattle.std.specs.Prelude.{◌≡◌, ◌≤◌, ℕ, true, List, [], length, Option}
 use Rattle.daq_types.specs.Callers.{caller_of_client}
-use Rattle.event.specs.Events.{record_limit}
 use Rattle.daq_io.specs.Seen.{Seen}
 use Rattle.buffer_core.specs.Ports.{Access}
 use Rattle.member_model.specs.RunEngines.{EngineEntry}
@@ -9,11 +8,12 @@ use Rattle.transition_lock.specs.declared.shared.SharedEngine.{SharedEngine}
 use Rattle.member_model.specs.TurnCalls.{member_turns}
 use Rattle.mid_logger.specs.declared.channel.Channel.{Channel}
 use Rattle.loggers.specs.declared.logged_run.LoggedRun.{LoggedRun}
+use Rattle.loggers.specs.declared.logged_run.RunDumps.{RunDumps}
 use Rattle.loggers.specs.declared.logger.Logger.{Logger}
 use Rattle.loggers.specs.Moments.{RunFiles, IsLoggerReady, AreSamePorts, AreIdleChannels}
 use Rattle.loggers.specs.NewLoggers.{NoneTakenBack}
 use Rattle.loggers.specs.SlotPulls.{HasEventRoom}
-use Rattle.loggers.specs.Turning.{IsIdleOutside, buffers_begun}
+use Rattle.loggers.specs.Turning.{IsIdleOutside, DumpsFit, buffers_begun}
 use Rattle.loggers.specs.LoggerStands.{LoggerStands}
 use Rattle.loggers.specs.Reasons.{GivesReasons}
 use Rattle.loggers.specs.LeftNames.{KeepsNames}
@@ -25,14 +25,14 @@ use Rattle.daq_members.specs.StartedRuns.{started_runs}
 use Rattle.daq_members.specs.LoggerTaken.{LoggerTaken, HaveCaller}
 use Rattle.daq_members.specs.ConnectedLoggers.{ConnectedSeen, connected, moment_at}
 
--- A logger in a session: the engine that it asks, its client number, its run, and the dump of the stop that it has not
--- answered; its calls on the engine; its channels, its access to each buffer, and the run files, as they are; the files as they
--- were when it took its seat; and the logger with all these as it stood when it answered last.
+-- A logger in a session: the engine that it asks, its client number, and its run, with the dumps of its start and of its stop; its
+-- calls on the engine; its channels, its access to each buffer, and the run files, as they are; the files as they were when it took
+-- its seat; and the logger with all these as it stood when it answered last.
 pub record LoggerSeen (F : Type 0) : Type 0 where
   pub engine : SharedEngine
   pub client : ℕ
   pub run : Option LoggedRun
-  pub stop_dump : Option (List ℕ)
+  pub dumps : RunDumps
   pub calls : List EngineEntry
   pub slots : List (Option Channel)
   pub ports : List Access
@@ -46,7 +46,7 @@ logger_by engine logger first = record {
   engine = engine.engine;
   client = engine.client;
   run = logger.run;
-  stop_dump = logger.stop_dump;
+  dumps = logger.dumps;
   calls = engine.calls;
   slots = logger.slots;
   ports = logger.ports;
@@ -72,9 +72,9 @@ pub record IsLoggerSeated {F : Type 0} (seen : F → Seen) (logger : LoggerSeen 
   pub room : (number : ℕ) → HasEventRoom number logger.slots logger.ports
   pub idle : IsIdleOutside logger.run logger.slots
   pub begun : buffers_begun logger.run ≤ length logger.ports
-  pub small : IfSome logger.stop_dump (λ bytes. length bytes ≤ record_limit)
+  pub small : DumpsFit logger.dumps
   pub stands : NoneTakenBack logger.ports →
-      LoggerStands logger.run logger.stop_dump logger.slots logger.ports (member_turns logger.client logger.calls)
+      LoggerStands logger.run logger.dumps logger.slots logger.ports (member_turns logger.client logger.calls)
       (seen logger.files)
   pub others : NoneTakenBack logger.ports →
       KeepsOtherFiles (specs_in logger.slots) (started_runs (member_turns logger.client logger.calls))
@@ -105,7 +105,7 @@ pub record IsLoggerAtSeat {F : Type 0} (seen : F → Seen) (read : F → RunFile
 -- it is ready for each turn and keeps its contract over its calls, and its answers rest on the counts of any run files.
 pub record IsFirstLogger {F : Type 0} (seen : F → Seen) (logger : LoggerSeen F) : Type 0 where
   pub stands : NoneTakenBack logger.ports →
-      LoggerStands logger.run logger.stop_dump logger.slots logger.ports (member_turns logger.client logger.calls)
+      LoggerStands logger.run logger.dumps logger.slots logger.ports (member_turns logger.client logger.calls)
       (seen logger.files)
   pub caller : HaveCaller (caller_of_client logger.client) logger.ports
   pub ready : IsLoggerReady logger.slots logger.ports (seen logger.files)
@@ -113,7 +113,7 @@ pub record IsFirstLogger {F : Type 0} (seen : F → Seen) (logger : LoggerSeen F
   pub fresh : logger.calls ≡ []
   pub idle : AreIdleChannels logger.slots
   pub begun : buffers_begun logger.run ≤ length logger.ports
-  pub small : IfSome logger.stop_dump (λ bytes. length bytes ≤ record_limit)
+  pub small : DumpsFit logger.dumps
   pub reasons : (told : RunFiles) →
       GivesReasons logger.slots logger.ports told told (member_turns logger.client logger.calls)
 
@@ -125,8 +125,8 @@ logger_taken read before after turned = record {
   later_calls = after.calls;
   run = before.run;
   later_run = after.run;
-  stop_dump = before.stop_dump;
-  later_stop_dump = after.stop_dump;
+  dumps = before.dumps;
+  later_dumps = after.dumps;
   before = record { slots = before.slots; ports = before.ports; files = read before.files };
   after = record { slots = after.slots; ports = after.ports; files = read after.files };
   stood = moment_at read after.stood;

@@ -1,6 +1,6 @@
 -- What the logger does in one turn of its own: its calls on the engine, its channels, its ports and the files, and
 -- what it came to.
-use Rattle.std.specs.Prelude.{◌≡◌, ℕ, zero, suc, Bool, true, false, ◌||◌, is_some, List, slice_get, Option, Some, None}
+use Rattle.std.specs.Prelude.{◌≡◌, ℕ, zero, suc, Bool, true, false, ◌||◌, is_some, List, [], slice_get, unwrap_or, Option, Some, None}
 use Rattle.daq_types.specs.declared.runs.Order.{Order}
 use Rattle.daq_types.specs.declared.runs.Transition.{Transition}
 use Rattle.buffer_core.specs.Ports.{Access}
@@ -10,6 +10,7 @@ use Rattle.member_model.specs.TurnCalls.{member_turns}
 use Rattle.mid_logger.specs.declared.pulled.Pulled.{Pulled}
 use Rattle.mid_logger.specs.declared.pulled.Pulled.TheVariants.{Wrote, Dropped, Nothing, Broke, NoChannel}
 use Rattle.loggers.specs.declared.logged_run.LoggedRun.{LoggedRun}
+use Rattle.loggers.specs.declared.logged_run.RunDumps.{RunDumps}
 use Rattle.loggers.specs.Moments.{LoggerMoment}
 use Rattle.loggers.specs.NewLoggers.{NoneTakenBack}
 use Rattle.loggers.specs.LoggerStands.{LoggerStands}
@@ -37,23 +38,27 @@ has_pulled Broke = true
 has_pulled Nothing = false
 has_pulled NoChannel = false
 
--- Each channel with a number below this pulls once, in order of number; and whether one of the pulls got an event.
-abbrev pub PullsBelow : (count : ℕ) → (got : Bool) → (a b : LoggerMoment) → Type 0
-PullsBelow zero got a b = (got ≡ false) × (b ≡ a)
-PullsBelow (suc n) got a b = (m : LoggerMoment) × (earlier : Bool) × (answer : Pulled) ×
-    PullsBelow n earlier a m × PullsNumbered n answer m b × (got ≡ (has_pulled answer || earlier))
+-- Each channel with a number below this pulls once, in order of number, where the files of its run begin with this dump; and whether
+-- one of the pulls got an event.
+abbrev pub PullsBelow : (dump : List ℕ) → (count : ℕ) → (got : Bool) → (a b : LoggerMoment) → Type 0
+PullsBelow dump zero got a b = (got ≡ false) × (b ≡ a)
+PullsBelow dump (suc n) got a b = (m : LoggerMoment) × (earlier : Bool) × (answer : Pulled) ×
+    PullsBelow dump n earlier a m × PullsNumbered dump n answer m b × (got ≡ (has_pulled answer || earlier))
 
--- A turn of the logger: its client number; its calls on the engine, its run, the dump of the stop that it has not
--- answered, and its channels with the ports and the files, before and behind; these as they stood when it answered last; and what
--- it came to.
+-- each channel pulls once, where these are the dumps of the run
+abbrev pub PullsAll : (dumps : RunDumps) → (got : Bool) → (a b : LoggerMoment) → Type 0
+PullsAll dumps got a b = PullsBelow (unwrap_or dumps.start []) pulled_channels got a b
+
+-- A turn of the logger: its client number; its calls on the engine, its run, with the dumps of its start and of its stop, and its
+-- channels with the ports and the files, before and behind; these as they stood when it answered last; and what it came to.
 pub record LoggerTaken : Type 0 where
   pub client : ℕ
   pub calls : List EngineEntry
   pub later_calls : List EngineEntry
   pub run : Option LoggedRun
   pub later_run : Option LoggedRun
-  pub stop_dump : Option (List ℕ)
-  pub later_stop_dump : Option (List ℕ)
+  pub dumps : RunDumps
+  pub later_dumps : RunDumps
   pub before : LoggerMoment
   pub after : LoggerMoment
   pub stood : LoggerMoment
@@ -63,15 +68,15 @@ pub record LoggerTaken : Type 0 where
 -- tell behind the turn, if no client of it is known to be detached by another.
 abbrev pub KeepsLoggerMember : LoggerTaken → Type 0
 KeepsLoggerMember t = NoneTakenBack t.after.ports →
-    LoggerStands t.run t.stop_dump t.before.slots t.before.ports (member_turns t.client t.calls) t.before.files.seen →
-    LoggerStands t.later_run t.later_stop_dump t.after.slots t.after.ports (member_turns t.client t.later_calls)
+    LoggerStands t.run t.dumps t.before.slots t.before.ports (member_turns t.client t.calls) t.before.files.seen →
+    LoggerStands t.later_run t.later_dumps t.after.slots t.after.ports (member_turns t.client t.later_calls)
     t.after.files.seen
 
 -- Nothing is done but to ask.
 pub record LeavesTurn (t : LoggerTaken) (reply : Polled) (turned : Turned) : Type 0 where
   pub asks : t.later_calls ≡ asked_so t.client t.calls reply
   pub run : t.later_run ≡ t.run
-  pub stop_dump : t.later_stop_dump ≡ t.stop_dump
+  pub dumps : t.later_dumps ≡ t.dumps
   pub moment : t.after ≡ t.before
   pub turned_is : t.turned ≡ turned
 
@@ -79,9 +84,9 @@ pub record LeavesTurn (t : LoggerTaken) (reply : Polled) (turned : Turned) : Typ
 pub record WorksLogger (t : LoggerTaken) (reply : Polled) : Type 0 where
   pub asks : t.later_calls ≡ asked_so t.client t.calls reply
   pub run : t.later_run ≡ t.run
-  pub stop_dump : t.later_stop_dump ≡ t.stop_dump
+  pub dumps : t.later_dumps ≡ t.dumps
   pub got : Bool
-  pub pulls : PullsBelow pulled_channels got t.before t.after
+  pub pulls : PullsAll t.dumps got t.before t.after
   pub turned_is : t.turned ≡ turned_by got
 
 -- A new turn is taken, and then answered, if it is yet.
@@ -96,8 +101,8 @@ pub record TakesLoggerTurn (t : LoggerTaken) (transition : Transition) (order : 
     answer = answer;
     run = t.run;
     later_run = t.later_run;
-    stop_dump = t.stop_dump;
-    later_stop_dump = t.later_stop_dump;
+    dumps = t.dumps;
+    later_dumps = t.later_dumps;
     before = t.before;
     after = t.after;
   })
@@ -108,15 +113,15 @@ pub record TakesLoggerTurn (t : LoggerTaken) (transition : Transition) (order : 
 pub record FinishesTurn (t : LoggerTaken) (reply : Polled) : Type 0 where
   pub got : Bool
   pub pulled : LoggerMoment
-  pub pulls : PullsBelow pulled_channels got t.before pulled
+  pub pulls : PullsAll t.dumps got t.before pulled
   pub answer : Option Answer
   pub gives : GivesAnswer t.client answer (asked_so t.client t.calls reply) t.later_calls
   pub ports : t.after.ports ≡ pulled.ports
   pub finishes : FinishesLogger (record {
     run = t.run;
     later_run = t.later_run;
-    stop_dump = t.stop_dump;
-    later_stop_dump = t.later_stop_dump;
+    dumps = t.dumps;
+    later_dumps = t.later_dumps;
     slots = pulled.slots;
     later_slots = t.after.slots;
     files = pulled.files;

@@ -1,5 +1,5 @@
 // The logger with all that it works on.
-ghost use Rattle.std.specs.Prelude.{◌≡◌, ◌≤◌, ◌<◌, ◌+◌, ◌||◌, ℕ, if◌then◌else◌, length, map, IfSome, is_some, unwrap_or, None};
+ghost use Rattle.std.specs.Prelude.{◌≡◌, ◌≤◌, ◌<◌, ◌+◌, ◌||◌, ℕ, if◌then◌else◌, [], length, map, IfSome, is_some, unwrap_or, None};
 ghost use Rattle.std.specs.Option.{option_copied};
 ghost use Rattle.event.specs.Events.{record_limit};
 ghost use Rattle.buffer_core.specs.Slots.{slot_at, some_slot};
@@ -8,7 +8,7 @@ ghost use Rattle.loggers.specs.SlotPulls.{PullsNumbered};
 ghost use Rattle.loggers.specs.Turning.{TakesTurn};
 ghost use Rattle.loggers.specs.Finishing.{FinishesLogger};
 ghost use Rattle.loggers.specs.LoggerLaws.{StandsAfterTurn, StandsAfterFinish};
-ghost use Rattle.daq_members.specs.LoggerTaken.{PullsBelow, pulled_channels, has_pulled};
+ghost use Rattle.daq_members.specs.LoggerTaken.{PullsAll, pulled_channels, has_pulled};
 ghost use Rattle.daq_members.specs.ConnectedLoggers.{connected, moment_at, IsConnected, StaysAtPulls, connected_turned, connected_finish};
 
 use buffer_core::BufferPort;
@@ -137,7 +137,7 @@ impl<P: BufferPort, F: Files> ConnectedLogger<P, F> {
 
     /// Pulls the channel of this number once, if there is one, between the two points of the gate.
     fn pull_one<R: Wait, G: Gate>(&mut self, rt: &R, gate: &G, client: u32, channel: u32) -> Pulled
-        ensures pulls { PullsNumbered channel result
+        ensures pulls { PullsNumbered (unwrap_or self.old.dumps.start []) channel result
             (moment_at (files_by F.seen F.faults F.clashes F.first) self.old)
             (moment_at (files_by F.seen F.faults F.clashes F.first) self.new) }
         ensures stays { StaysAtPulls F.seen self.old self.new }
@@ -155,7 +155,7 @@ impl<P: BufferPort, F: Files> ConnectedLogger<P, F> {
 
     /// Pulls each channel of the logger with this client number once, in order of number. Whether one of the pulls got an event.
     pub(crate) fn pull_all<R: Wait, G: Gate>(&mut self, rt: &R, gate: &G, client: u32) -> bool
-        ensures pulls { PullsBelow pulled_channels result
+        ensures pulls { PullsAll self.old.dumps result
             (moment_at (files_by F.seen F.faults F.clashes F.first) self.old)
             (moment_at (files_by F.seen F.faults F.clashes F.first) self.new) }
         ensures stays { StaysAtPulls F.seen self.old self.new }

@@ -22,8 +22,9 @@ use std::process::ExitCode;
 use std::sync::Wait;
 use std::thread::Threads;
 
-/// How many run files are in use at a time, at most: each channel writes one.
-const RUN_FILES: u32 = 16;
+/// How many run files are in use at a time, at most: each channel writes one, and one of them at a time makes its next file
+/// before it closes the last one.
+const RUN_FILES: u32 = 17;
 
 /// How many files of the database are in use at a time, at most.
 const DATABASE_FILES: u32 = 1;
@@ -40,7 +41,7 @@ type RealOutside = Outside<
 
 /// The real objects.
 fn real_outside(rt: HostRuntime, taken: &StandardTaken) -> Result<RealOutside, NoMemory>
-    ensures run_files { IfOk result (λ made. free_numbers made.run_files.uses ≡ 16) }
+    ensures run_files { IfOk result (λ made. free_numbers made.run_files.uses ≡ 17) }
     ensures database_files { IfOk result (λ made. free_numbers made.odb_files.uses ≡ 1) }
     ensures run_folder { IfOk result (λ made. made.run_files.inside.folder ≡ 46 ∷ []) }
     ensures database_folder { IfOk result (λ made. made.odb_files.inside.folder ≡ 46 ∷ []) }

@@ -1,19 +1,19 @@
 -- The logger as it takes its seat.
 use Rattle.std.proofs.Common.{◌≡◌, ◌∙◌, ℕ, ◌≤◌, List, [], length, ap, sym, refl, subst}
-use Rattle.std.specs.Prelude.{slice_get, Option, None, IfSome}
+use Rattle.std.specs.Prelude.{slice_get, Option, None}
 use Rattle.daq_types.specs.Callers.{caller_of_client}
 use Rattle.daq_io.specs.Seen.{Seen}
-use Rattle.event.specs.Events.{record_limit}
 use Rattle.buffer_core.specs.Ports.{Access}
 use Rattle.member_model.specs.RunEngines.{EngineEntry}
 use Rattle.member_model.specs.Turns.{MemberTurn}
 use Rattle.member_model.specs.TurnCalls.{member_turns}
 use Rattle.mid_logger.specs.declared.channel_spec.ChannelSpec.{ChannelSpec}
 use Rattle.loggers.specs.declared.logged_run.LoggedRun.{LoggedRun}
+use Rattle.loggers.specs.declared.logged_run.RunDumps.{RunDumps}
 use Rattle.loggers.specs.declared.logger.Logger.{Logger}
 use Rattle.loggers.specs.Moments.{RunFiles, IsLoggerReady}
 use Rattle.loggers.specs.SlotPulls.{HasEventRoom}
-use Rattle.loggers.specs.Turning.{buffers_begun}
+use Rattle.loggers.specs.Turning.{DumpsFit, buffers_begun}
 use Rattle.loggers.specs.LoggerStands.{LoggerStands}
 use Rattle.loggers.specs.Reasons.{GivesReasons}
 use Rattle.daq_members.specs.EngineClients.{EngineClientSeen}
@@ -31,14 +31,14 @@ module _ (channels : List ChannelSpec) (objects : SessionObjects) (client : ℕ)
   no_turns = ap (λ (es : List EngineEntry). member_turns asking.client es) none
 
   -- The logger is ready for its seat, whatever its run files are.
-  stands_bare : (seen : Seen) → LoggerStands kept.run kept.stop_dump kept.channels accesses
+  stands_bare : (seen : Seen) → LoggerStands kept.run kept.dumps kept.channels accesses
       (member_turns asking.client asking.calls) seen
   stands_bare seen =
-      let A : List Access → Type 0 = λ ps. LoggerStands kept.run kept.stop_dump kept.channels ps (member_turns asking.client asking.calls) seen in
-      let B : List MemberTurn → Type 0 = λ ts. LoggerStands kept.run kept.stop_dump kept.channels (new_ports objects.buffers.items (caller_of_client client)) ts seen in
-      let C : Option LoggedRun → Type 0 = λ run. LoggerStands run kept.stop_dump kept.channels (new_ports objects.buffers.items (caller_of_client client)) [] seen in
-      let D' : Option (List ℕ) → Type 0 = λ dump. LoggerStands None dump kept.channels (new_ports objects.buffers.items (caller_of_client client)) [] seen in
-      subst A (sym ports) (subst B (sym no_turns) (subst C (sym made.run) (subst D' (sym made.stop_dump) (made.stands (caller_of_client client) seen))))
+      let A : List Access → Type 0 = λ ps. LoggerStands kept.run kept.dumps kept.channels ps (member_turns asking.client asking.calls) seen in
+      let B : List MemberTurn → Type 0 = λ ts. LoggerStands kept.run kept.dumps kept.channels (new_ports objects.buffers.items (caller_of_client client)) ts seen in
+      let C : Option LoggedRun → Type 0 = λ run. LoggerStands run kept.dumps kept.channels (new_ports objects.buffers.items (caller_of_client client)) [] seen in
+      let D' : RunDumps → Type 0 = λ dumps. LoggerStands None dumps kept.channels (new_ports objects.buffers.items (caller_of_client client)) [] seen in
+      subst A (sym ports) (subst B (sym no_turns) (subst C (sym made.run) (subst D' (sym made.dumps) (made.stands (caller_of_client client) seen))))
 
   caller_bare : HaveCaller (caller_of_client asking.client) accesses
   caller_bare buffer a at =
@@ -53,8 +53,8 @@ module _ (channels : List ChannelSpec) (objects : SessionObjects) (client : ℕ)
   room_bare number = let P : List Access → Type 0 = λ ps. HasEventRoom number kept.channels ps in
       subst P (sym ports) (made.room (caller_of_client client) number)
 
-  small_bare : IfSome kept.stop_dump (λ bytes. length bytes ≤ record_limit)
-  small_bare = let P : Option (List ℕ) → Type 0 = λ dump. IfSome dump (λ bytes. length bytes ≤ record_limit) in subst P (sym made.stop_dump) tt
+  small_bare : DumpsFit kept.dumps
+  small_bare = let P : RunDumps → Type 0 = λ dumps. DumpsFit dumps in subst P (sym made.dumps) (record { start = tt; stop = tt })
 
   reasons_bare : (told : RunFiles) → GivesReasons kept.channels accesses told told (member_turns asking.client asking.calls)
   reasons_bare told = let P : List MemberTurn → Type 0 = λ ts. GivesReasons kept.channels accesses told told ts in subst P (sym no_turns) (made.reasons accesses told)
@@ -80,7 +80,7 @@ module _ (channels : List ChannelSpec) (objects : SessionObjects) (client : ℕ)
         engine = engine;
         is = is;
         run = made.run;
-        stop_dump = made.stop_dump;
+        dumps = made.dumps;
         calls = none;
         slots = made.slots;
         failed = made.failed;

@@ -10,6 +10,7 @@ use Rattle.loggers.specs.NewLoggers.{HasNewChannels}
 use Rattle.loggers.specs.Moments.{RunFiles, AreIdleChannels, IsLoggerReady}
 use Rattle.loggers.specs.LoggerFaults.{HasFailed}
 use Rattle.loggers.specs.OtherFiles.{AreDeclared}
+use Rattle.loggers.specs.Turning.{no_dumps}
 use Rattle.loggers.specs.Reasons.{GivesReasons}
 use Rattle.loggers.specs.declared.logger.Logger.{Logger as LoggerState}
 use Rattle.loggers.specs.SlotPulls.{HasEventRoom}
@@ -316,7 +317,7 @@ pub record IsNewLogger {F : Type 0} (objects : SessionObjects) (client : ℕ) (c
   pub engine : logger.engine ≡ objects.engine
   pub is : logger.client ≡ client
   pub run : logger.run ≡ None
-  pub stop_dump : logger.stop_dump ≡ None
+  pub dumps : logger.dumps ≡ no_dumps
   pub calls : logger.calls ≡ []
   pub slots : HasNewChannels channels (event_rooms objects.buffers.items channels) logger.slots
   pub failed : HasFailed logger.slots → ⊥
@@ -328,14 +329,14 @@ pub record IsNewLogger {F : Type 0} (objects : SessionObjects) (client : ℕ) (c
 -- are: it has a channel for each that was declared, with room for each event of its buffer, and no run is on.
 pub record IsMadeLogger (buffers : List SessionBuffer) (declared : List ChannelSpec) (logger : LoggerState) : Type 0 where
   pub run : logger.run ≡ None
-  pub stop_dump : logger.stop_dump ≡ None
+  pub dumps : logger.dumps ≡ no_dumps
   pub slots : HasNewChannels declared (event_rooms buffers declared) logger.channels
   pub idle : AreIdleChannels logger.channels
   pub failed : HasFailed logger.channels → ⊥
   pub reasons : (ports : List Access) → (files : RunFiles) → GivesReasons logger.channels ports files files []
   pub ready : (caller : ℕ) → (seen : Seen) → IsLoggerReady logger.channels (new_ports buffers caller) seen
   pub stands : (caller : ℕ) → (seen : Seen) →
-      LoggerStands None None logger.channels (new_ports buffers caller) [] seen
+      LoggerStands None no_dumps logger.channels (new_ports buffers caller) [] seen
   pub room : (caller number : ℕ) → HasEventRoom number logger.channels (new_ports buffers caller)
 
 -- The members are those of a session of these declarations, and none made a call.

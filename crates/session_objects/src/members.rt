@@ -81,6 +81,7 @@ fn copied_channel(channel: &ChannelSpec) -> ChannelSpec
         buffer: channel.buffer,
         id: channel.id,
         mask: channel.mask,
+        sub_bytes: channel.sub_bytes,
     }
 }
 

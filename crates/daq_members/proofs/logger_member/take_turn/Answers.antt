@@ -15,13 +15,13 @@ use Rattle.daq_members.proofs.logger_member.take_turn.Goals as goal
 pub returns-in-Closed-clause-takes : goal.returns-in-Closed-clause-takes
 returns-in-Closed-clause-takes g c = record {
   reply = Closed;
-  takes = record { asks = rw c.in-Closed.is at c.poll.ensures.asked; run = refl; stop_dump = refl; moment = refl; turned_is = refl };
+  takes = record { asks = rw c.in-Closed.is at c.poll.ensures.asked; run = refl; dumps = refl; moment = refl; turned_is = refl };
 }
 
 pub returns-in-NoClient-clause-takes : goal.returns-in-NoClient-clause-takes
 returns-in-NoClient-clause-takes g c = record {
   reply = NoClient;
-  takes = record { asks = rw c.in-NoClient.is at c.poll.ensures.asked; run = refl; stop_dump = refl; moment = refl; turned_is = refl };
+  takes = record { asks = rw c.in-NoClient.is at c.poll.ensures.asked; run = refl; dumps = refl; moment = refl; turned_is = refl };
 }
 
 pub returns-in-Idle-clause-takes : goal.returns-in-Idle-clause-takes
@@ -30,7 +30,7 @@ returns-in-Idle-clause-takes g c = record {
   takes = record {
     asks = rw c.in-Idle.is at c.poll.ensures.asked;
     run = c.pull_all.ensures.stays.run;
-    stop_dump = c.pull_all.ensures.stays.stop_dump;
+    dumps = c.pull_all.ensures.stays.dumps;
     got = c.pull_all.result;
     pulls = c.pull_all.ensures.pulls;
     turned_is = c.turned_by.ensures;
@@ -56,7 +56,7 @@ returns-clause-takes g c =
       answer = c.finish-answer.result;
       gives = rw (c.poll.ensures.client, rw c.in-Turn.is at c.poll.ensures.asked) at c.give-in-Some.ensures.gives;
       ports = c.finish-answer.ensures.ports;
-      finishes = rw (c.pull_all-got.ensures.stays.run, c.pull_all-got.ensures.stays.stop_dump) at c.finish-answer.ensures.finishes;
+      finishes = rw (c.pull_all-got.ensures.stays.run, c.pull_all-got.ensures.stays.dumps) at c.finish-answer.ensures.finishes;
       last = last_seen (moment_at (files_by g.F.Files.seen g.F.Files.faults g.F.Files.clashes g.F.Files.first)) _ _ _ c.give-in-Some.ensures.last;
       turned_is = c.turned_by_pulls.ensures ∙ ap (λ (b : Bool). turned_by (c.pull_all-got.result || b)) c.is_some-answered.ensures;
     })

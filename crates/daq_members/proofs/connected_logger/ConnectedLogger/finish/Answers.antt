@@ -2,7 +2,6 @@ use Rattle.std.specs.Prelude.{map}
 use Rattle.std.proofs.Common.{ap, arith}
 use Rattle.loggers.specs.Moments.{files_by}
 use Rattle.daq_members.specs.ConnectedLoggers.{ConnectedSeen, connected, connected_finish}
-use Rattle.daq_members.proofs.LoggerLaws.{finished_small}
 use Rattle.daq_members.proofs.OtherFilesKept.{finish_specs}
 use Rattle.daq_members.proofs.ChannelBounds.{none_kept}
 use Rattle.daq_members.proofs.connected_logger.ConnectedLogger.finish.Goals as goal
@@ -19,7 +18,7 @@ invariant_of-self g c =
         room = did.room accesses was.0.room;
         idle = did.idle;
         begun = omega (arith, did.begun, was.0.begun);
-        small = finished_small call did.finishes was.0.small;
+        small = did.small;
       },
       was.1,
       none_kept c.self.inside.bound call.slots call.later_slots (finish_specs c.other_files.ensures.finishes call did.finishes was.0.ready.files) was.2,

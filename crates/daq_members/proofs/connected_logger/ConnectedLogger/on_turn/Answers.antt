@@ -27,7 +27,7 @@ invariant_of-self g c =
         small = did.small was.0.small;
       },
       was.1,
-      none_kept now.bound before.slots after.slots (turn_specs c.other_files.ensures.turns call did.takes) was.2,
+      none_kept now.bound before.slots after.slots (turn_specs c.other_files.ensures.turns call did.takes was.0.ready) was.2,
     )
 
 pub returns-clause-takes : goal.returns-clause-takes

@@ -1,3 +1,4 @@
+use Rattle.std.specs.Prelude.{[], unwrap_or}
 use Rattle.std.proofs.Common.{refl, arith}
 use Rattle.loggers.specs.Moments.{files_by}
 use Rattle.daq_members.specs.ConnectedLoggers.{moment_at}
@@ -11,17 +12,20 @@ loop-channel-init g c = record { pulls = (refl, refl); within = omega arith; sta
 pub loop-channel-preserved : goal.loop-channel-preserved
 loop-channel-preserved g c =
     let read = files_by g.F.Files.seen g.F.Files.faults g.F.Files.clashes g.F.Files.first in
-    let at = c.loop-channel in
+    let dump = unwrap_or c.args.self.now.dumps.start [] in
+    let so = c.loop-channel in
     let did = c.pull_one-pulled in
+    let pulled = rw so.invariant.stays.dumps at did.ensures.pulls in
     record {
-      pulls = pulls_more at.channel at.got c.or_pulled-got.result did.result (moment_at read c.args.self.now) (moment_at read at.self) (moment_at read did.new.self) at.invariant.pulls did.ensures.pulls c.or_pulled-got.ensures;
+      pulls = pulls_more dump so.channel so.got c.or_pulled-got.result did.result (moment_at read c.args.self.now) (moment_at read so.self) (moment_at read did.new.self) so.invariant.pulls pulled c.or_pulled-got.ensures;
       within = omega arith;
-      stays = stays_then g.F.Files.seen c.args.self.now at.self did.new.self at.invariant.stays did.ensures.stays;
+      stays = stays_then g.F.Files.seen c.args.self.now so.self did.new.self so.invariant.stays did.ensures.stays;
     }
 
 pub returns-clause-pulls : goal.returns-clause-pulls
 returns-clause-pulls g c =
     let read = files_by g.F.Files.seen g.F.Files.faults g.F.Files.clashes g.F.Files.first in
-    let at = c.loop-channel in
+    let dump = unwrap_or c.args.self.now.dumps.start [] in
+    let so = c.loop-channel in
     let bound = c.bound-bound in
-    pulls_all bound.result at.channel at.got (moment_at read c.args.self.now) (moment_at read at.self) (omega (arith, c.loop-channel-test.false)) at.invariant.within bound.ensures.few at.invariant.pulls bound.ensures.none
+    pulls_all dump bound.result so.channel so.got (moment_at read c.args.self.now) (moment_at read so.self) (omega (arith, c.loop-channel-test.false)) so.invariant.within bound.ensures.few so.invariant.pulls bound.ensures.none

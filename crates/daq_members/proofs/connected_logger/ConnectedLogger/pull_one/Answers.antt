@@ -7,7 +7,7 @@ use Rattle.daq_members.proofs.ChannelBounds.{none_pulled}
 use Rattle.daq_members.proofs.connected_logger.ConnectedLogger.pull_one.Goals as goal
 
 pub returns-then-not-has_channel-clause-pulls : goal.returns-then-not-has_channel-clause-pulls
-returns-then-not-has_channel-clause-pulls g c = rw (← c.self.view_is) (pulls_nothing c.args.channel _ (sym c.has_channel.ensures ∙ c.if-not-has_channel.true))
+returns-then-not-has_channel-clause-pulls g c = rw (← c.self.view_is) (pulls_nothing _ c.args.channel _ (sym c.has_channel.ensures ∙ c.if-not-has_channel.true))
 
 pub returns-then-not-has_channel-clause-stays : goal.returns-then-not-has_channel-clause-stays
 returns-then-not-has_channel-clause-stays g c = stays_at_none g.F.Files.seen _
@@ -26,10 +26,10 @@ invariant_of-self g c =
         room = did.room was.0.room;
         idle = did.idle;
         begun = rw (did.run, did.same.many) was.0.begun;
-        small = rw did.stop_dump was.0.small;
+        small = rw did.dumps was.0.small;
       },
       was.1,
-      none_pulled now.bound c.args.channel c.pull-pulled.result before after did.pulls was.2,
+      none_pulled _ now.bound c.args.channel c.pull-pulled.result before after did.pulls was.2,
     )
 
 pub returns-clause-pulls : goal.returns-clause-pulls
@@ -38,4 +38,4 @@ returns-clause-pulls g c = rw (← c.self.view_is) c.pull-pulled.ensures.pulls
 pub returns-clause-stays : goal.returns-clause-stays
 returns-clause-stays g c =
     let did = c.pull-pulled.ensures in
-    rw (← c.self.view_is) (record { run = did.run; stop_dump = did.stop_dump; same = did.same; keeps = did.keeps })
+    rw (← c.self.view_is) (record { run = did.run; dumps = did.dumps; same = did.same; keeps = did.keeps })
