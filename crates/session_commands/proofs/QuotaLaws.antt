@@ -208,9 +208,9 @@ taken_none : (refusal : Option SetupRefusal) (taken old : Declared) (said : Repl
 taken_none None taken old said new does q = as_said said reply.Silent does.0 (λ n. refl) q
 taken_none (Some refusal) taken old said new does q = as_said said (reply.Setup refusal) does.0 (λ n. refl) q
 
-channel_none : (refusal : Option SetupRefusal) (number : ℕ) (text buffer : List ℕ) (id mask : ℕ) (old : Declared) (said : Reply) (new : Declared) → TakesChannel refusal number text buffer id mask old said new → (q : ℕ) → quota_told said q ≡ []
-channel_none None number text buffer id mask old said new does q = as_said said reply.Silent does.2 (λ n. refl) q
-channel_none (Some refusal) number text buffer id mask old said new does q = as_said said (reply.Setup refusal) does.0 (λ n. refl) q
+channel_none : (refusal : Option SetupRefusal) (number : ℕ) (text buffer : List ℕ) (id mask sub_bytes : ℕ) (old : Declared) (said : Reply) (new : Declared) → TakesChannel refusal number text buffer id mask sub_bytes old said new → (q : ℕ) → quota_told said q ≡ []
+channel_none None number text buffer id mask sub_bytes old said new does q = as_said said reply.Silent does.2 (λ n. refl) q
+channel_none (Some refusal) number text buffer id mask sub_bytes old said new does q = as_said said (reply.Setup refusal) does.0 (λ n. refl) q
 
 setup_none : (opened : Bool) (Then : Type 0) (old : Declared) (said : Reply) (new : Declared) → SetupUnless opened Then old said new → (Then → (q : ℕ) → quota_told said q ≡ []) → (q : ℕ) → quota_told said q ≡ []
 setup_none true Then old said new does none q = as_said said (reply.Setup _) does.0 (λ n. refl) q
@@ -309,7 +309,7 @@ calls_line number command old said new does = other_line (Ok (Database command))
 declared_none : (declaration : Declaration) (old : Declared) (said : Reply) (new : Declared) → TakesDeclaration declaration old said new → (q : ℕ) → quota_told said q ≡ []
 declared_none (Buffer name size) old said new does q = taken_none _ _ old said new does.2 q
 declared_none (Equip name id mask buffer limit) old said new does q = taken_none _ _ old said new does.2 q
-declared_none (Channel n pattern buffer id mask) old said new does q = channel_none _ n pattern buffer id mask old said new does.2 q
+declared_none (Channel n pattern buffer id mask sub_bytes) old said new does q = channel_none _ n pattern buffer id mask sub_bytes old said new does.2 q
 declared_none (Analyzer name buffer id mask kind) old said new does q = taken_none _ _ old said new does.2 q
 
 command_asks : (number : ℕ) (command : Command) (old : SessionStage) (said : Reply) (new : SessionStage) → DoesCommand number command old said new → LineAsks (Ok command) old said new

@@ -43,7 +43,7 @@ fn declare_front(
     setup_reply(declarations.equip(name.as_slice(), id, mask, buffer.as_slice(), limit))
 }
 
-/// Answers `channel N PATTERN BUFFER ID MASK`.
+/// Answers `channel N PATTERN BUFFER ID MASK SUBBYTES`.
 fn declare_channel(
     declarations: &mut Declarations,
     number: u32,
@@ -51,13 +51,21 @@ fn declare_channel(
     buffer: LineText<'_>,
     id: u16,
     mask: u16,
+    sub_bytes: u32,
 ) -> Reply
     requires { declarations.old.opened ≡ false }
-    ensures did { DeclaresChannel number pattern.entry buffer.entry id mask declarations.old result
-        declarations.new }
+    ensures did { DeclaresChannel number pattern.entry buffer.entry id mask sub_bytes
+        declarations.old result declarations.new }
     ensures closed { declarations.new.opened ≡ false }
 {
-    setup_reply(declarations.channel(number, pattern.as_slice(), buffer.as_slice(), id, mask))
+    setup_reply(declarations.channel(
+        number,
+        pattern.as_slice(),
+        buffer.as_slice(),
+        id,
+        mask,
+        sub_bytes,
+    ))
 }
 
 /// Answers `analyzer NAME BUFFER ID MASK all` or `some`.
@@ -98,7 +106,8 @@ pub fn declare(declarations: &mut Declarations, declaration: Declaration<'_>) ->
             buffer,
             id,
             mask,
-        } => declare_channel(declarations, number, pattern, buffer, id, mask),
+            sub_bytes,
+        } => declare_channel(declarations, number, pattern, buffer, id, mask, sub_bytes),
         Declaration::Analyzer {
             name,
             buffer,

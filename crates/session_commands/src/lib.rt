@@ -14,8 +14,9 @@ mod script;
 mod side;
 mod unopened;
 
-pub use first::{FirstEnd, play_first};
+pub use first::play_first;
 pub use keys::make_keys;
 pub use main_play::{MainEnd, MainPlay};
 pub use script::Script;
 pub use side::MainSide;
+pub use unopened::Unopened;

@@ -7,8 +7,8 @@ ghost use Rattle.session_lines.specs.RunLines.{record_fronts, record_files, reco
 use console::Reply;
 use daq_types::{BoundedList, Bytes, Name, NoMemory};
 use session_runs::{
-    FileRecord, FileRecords, FrontTally, ReportLine, ReportLines, ReportTally, RunRecord, RunReply,
-    Runs, SentLine, SentLines,
+    ChannelFiles, FileRecords, FrontTally, ReportLine, ReportLines, ReportTally, RunRecord,
+    RunReply, Runs, SentLine, SentLines,
 };
 use std::alloc::Global;
 
@@ -66,12 +66,12 @@ fn sent_lines(
 }
 
 /// The files of a record once more.
-fn copied_files(alloc: Global, files: &[FileRecord]) -> Result<FileRecords, NoMemory>
+fn copied_files(alloc: Global, files: &[ChannelFiles]) -> Result<FileRecords, NoMemory>
     ensures { IfOk result (λ copied. copied ≡ files.now) }
 {
     let mut copied = BoundedList::new(alloc)?;
-    for file in files {
-        copied.try_push(*file)?;
+    for channel in files {
+        copied.try_push(channel.copy())?;
     }
     Ok(copied)
 }

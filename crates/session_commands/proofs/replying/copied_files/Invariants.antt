@@ -2,5 +2,5 @@
 use Rattle.std.proofs.Common.{◌≡◌, take}
 use Rattle.session_commands.proofs.replying.copied_files.Given as goal
 
-abbrev pub invariant-loop-file : goal.invariant-loop-file
-invariant-loop-file l = l.copied ≡ take l.file-index l.files
+abbrev pub invariant-loop-channel : goal.invariant-loop-channel
+invariant-loop-channel l = l.copied ≡ take l.channel-index l.files
