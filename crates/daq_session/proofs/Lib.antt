@@ -11,3 +11,4 @@ pub mod NothingLaws
 pub mod MembersLaws
 pub mod PlayedLaws
 pub mod FailedLaws
+pub mod FramedFiles

@@ -28,7 +28,7 @@ use Rattle.session_runs.specs.declared.opening.MemberName.{MemberName}
 use Rattle.session_runs.specs.Members.{registrations}
 use Rattle.loggers.specs.LeftNames.{NoneRose}
 use Rattle.loggers.specs.Moments.{RunFiles}
-use Rattle.loggers.specs.OtherFiles.{AreDeclared}
+use Rattle.loggers.specs.OtherFiles.{AreDeclared, specs_in}
 use Rattle.session_runs.specs.declared.records.RunRecord.{RunRecord}
 use Rattle.session_runs.specs.declared.channels.RunChannel.{RunChannel}
 use Rattle.session_runs.specs.declared.on.CurrentRun.{CurrentRun}
@@ -68,7 +68,7 @@ record LawsHold (c : ClosedSession) (first now : RunFiles) (own : MainOwn) (runs
   over : AreStartsOver (engine_calls c main_caller)
   counts : CountsHold c first now
   one : OneAnswer runs first now
-  rises : RisesTold runs first now
+  rises : RisesTold (specs_in c.slots) runs first now
   left : IsTrue first.seen.tells → NoneRose first now → (name : List ℕ) → IsInNoRecord runs name → now.seen.at name ≡ first.seen.at name
   so : (number : ℕ) → (run : RunRecord) → slice_get runs number ≡ Some run → run.outcome ≡ Completed → RecordSo c holds.moments own run
   refused : (number : ℕ) → (run : RunRecord) → slice_get runs number ≡ Some run → (client : ℕ) → (why : Why) → run.outcome ≡ Refused client why → RefusalSo c first now own run client why

@@ -1,6 +1,5 @@
 -- What the record of a run tells of its files, its front-ends and its analyzers.
-use mathlib.Core.List.{IsPrefix}
-use Rattle.std.specs.Prelude.{◌≡◌, ℕ, zero, suc, ◌+◌, ◌-◌, ◌<◌, ℤ, pos, negsuc, Bool, true, false, if◌then◌else◌, nat_lt, List, [], ◌∷◌, ◌++◌, length, map, slice_get, unwrap_or, Contains, Option, Some, None, Result, Ok, Err, refl}
+use Rattle.std.specs.Prelude.{◌≡◌, ℕ, zero, suc, ◌+◌, ◌-◌, ◌<◌, ◌==◌, ◌⊎◌, ℤ, pos, negsuc, Bool, true, false, if◌then◌else◌, nat_lt, List, [], ◌∷◌, ◌++◌, length, map, slice_get, unwrap_or, IsTrue, IsSome, Contains, Option, Some, None, Result, Ok, Err, refl}
 use Rattle.std.specs.List.{AllByRecursion}
 use Rattle.std.specs.Option.{option_map}
 use Rattle.std.proofs.Common.{ap, sym, subst, ◌∙◌, arith}
@@ -13,7 +12,13 @@ use Rattle.daq_types.specs.declared.runs.ChannelState.{ChannelState}
 use Rattle.daq_types.specs.declared.runs.ChannelState.TheVariants.{Broken, Ended}
 use Rattle.daq_types.specs.declared.runs.RunState.TheVariants.{Stopped}
 use Rattle.daq_io.specs.Seen.{IsStored}
-use Rattle.event.specs.RunFile.{IsRunFile, run_file}
+use Rattle.event.specs.Events.{encoding}
+use Rattle.event.specs.RunFile.{IsRunFile, end_record}
+use Rattle.sub_files.specs.declared.open_file.Fallen.{Fallen}
+use Rattle.sub_files.specs.Cuts.{IsCut}
+use Rattle.sub_files.specs.Patterns.{NamePattern, piece_name_by}
+use Rattle.sub_files.specs.Pieces.{HasPart, series_of}
+use Rattle.sub_files.specs.Rolls.{fallen_at}
 use Rattle.turn_lock.specs.Closing.{history_of}
 use Rattle.buffer_core.specs.declared.entry.BufferEntry.{BufferEntry}
 use Rattle.buffer_core.specs.Window.{Sent, opening}
@@ -38,7 +43,7 @@ use Rattle.odb_runinfo.specs.RunSets.{have_of, next_run, number_asked, number_in
 use Rattle.member_model.specs.SentCalls.{own_sent}
 use Rattle.member_model.specs.Turns.{MemberTurn}
 use Rattle.member_model.specs.TurnCalls.{member_turns}
-use Rattle.member_model.specs.LoggerKept.{LoggerChannel}
+use Rattle.member_model.specs.LoggerKept.{LoggerChannel, AreFramedSo}
 use Rattle.front_ends.specs.FrontKept.{made_events}
 use Rattle.mid_logger.specs.declared.channel.Channel.{Channel}
 use Rattle.mid_logger.specs.declared.channel_spec.ChannelSpec.{ChannelSpec}
@@ -46,13 +51,13 @@ use Rattle.loggers.specs.LeftNames.{NoneRose}
 use Rattle.loggers.specs.Moments.{RunFiles}
 use Rattle.loggers.specs.LoggerStands.{logger_channel, logger_channels}
 use Rattle.loggers.specs.OtherFiles.{AreDeclared, specs_in}
-use Rattle.session_runs.specs.declared.records.FileRecord.{FileRecord}
+use Rattle.session_runs.specs.declared.records.ChannelFiles.{ChannelFiles}
 use Rattle.session_runs.specs.declared.records.FrontTally.{FrontTally}
 use Rattle.session_runs.specs.declared.records.ReportTally.{ReportTally}
 use Rattle.session_runs.specs.declared.records.RunRecord.{RunRecord}
 use Rattle.composition.specs.Sessions.{HasFront, Session, SessionFront}
 use Rattle.composition.specs.CompositionLaws.{IsComposed}
-use Rattle.composition.specs.SessionRuns.{HoldsFilePart, HoldsRunFile, IsOfFront, SessionRun}
+use Rattle.composition.specs.SessionRuns.{HoldsFileParts, HoldsPiece, HoldsRunFiles, IsOfFront, SessionRun, file_name}
 use Rattle.session_runs.specs.RunEntries.{dump_saved, later_sheet, start_sheet}
 use Rattle.session_runs.specs.RunsFit.{MainOwn, run_of}
 use Rattle.session_setup.specs.Setup.{AreSound, Declared}
@@ -63,12 +68,12 @@ use Rattle.session_objects.specs.Members.{generator_makes, generator_of, request
 use Rattle.session_laws.specs.ClosedSessions.{ClosedAnalyzer, ClosedFront, ClosedSession, analyzer_client, engine_calls, history_in, history_of_buffer, session_analyzer, session_front, session_of, size_in, size_of_buffer}
 use Rattle.session_laws.specs.CountedFaults.{CountsHold, state_by_dump}
 use Rattle.session_laws.specs.EndLaws.{MembersListed}
-use Rattle.session_laws.specs.MadeRuns.{IsFileSo, ReportHolds}
-use Rattle.session_laws.specs.RecordedRuns.{FileRecordHolds, FrontRecordHolds, ReportRecordHolds}
+use Rattle.session_laws.specs.MadeRuns.{AreFilesSo, ReportHolds}
+use Rattle.session_laws.specs.RecordedRuns.{ChannelFilesHold, FrontRecordHolds, ReportRecordHolds}
 use Rattle.session_ends.specs.EndedRecords.{RecordSo}
 use Rattle.session_ends.specs.EndedSessions.{closed_analyzer, closed_buffer, closed_front}
 use Rattle.daq_session.specs.RunNumbers.{GivesNumber, IsNumberBefore}
-use Rattle.daq_session.specs.ToldRecords.{IsCountedInRun, IsOfChannel, IsPartOfRun, IsFileOfRun, IsFrontEvent, IsSentInRun, RunTells, events_of_front}
+use Rattle.daq_session.specs.ToldRecords.{IsCountedInRun, AreOfChannel, ArePartsOfRun, AreFilesOfRun, IsFileOfPiece, IsFrontEvent, IsSentInRun, RunTells, events_of_front, events_of_run}
 
 pub there : {X : Type 0} (xs : List X) (n : ℕ) → n < length xs → (x : X) × (slice_get xs n ≡ Some x)
 there [] n within = absurd (omega arith)
@@ -155,16 +160,16 @@ module _ (c : ClosedSession) (declared : Declared) (buffers : List BufferRecord)
   its_size : (n : ℕ) (b : BufferRecord) → slice_get buffers n ≡ Some b → size_of_buffer c n ≡ b.size
   its_size n b at = subst (λ (l : List _). size_in (slice_get l n) ≡ b.size) (sym same_buffers) (size_there buffers n b at)
 
-  -- the channel of a file
-  record AtChannel (file : FileRecord) (f : FileRecordHolds session so.holds.run file) : Type 0 where
+  -- the channel of the record's files
+  record AtChannel (written : ChannelFiles) (f : ChannelFilesHold session so.holds.run written) : Type 0 where
     slot : Channel
     is : logger_channel 0 slot ≡ f.channel
     is_declared : Contains declared.channels slot.spec
     buffer : BufferRecord
     there : slice_get buffers slot.spec.buffer ≡ Some buffer
 
-  at_channel : (file : FileRecord) (f : FileRecordHolds session so.holds.run file) → AtChannel file f
-  at_channel file f =
+  at_channel : (written : ChannelFiles) (f : ChannelFilesHold session so.holds.run written) → AtChannel written f
+  at_channel written f =
       let slot : FromSlot (λ number. 0) c.slots f.channel = from_slot (λ number. 0) c.slots f.index f.channel f.at in
       let spec : ChannelSpec = slot.slot.spec in
       let has = channels.each slot.number spec (spec_at c.slots slot.number slot.slot slot.at) in
@@ -172,15 +177,21 @@ module _ (c : ClosedSession) (declared : Declared) (buffers : List BufferRecord)
       let b = buffer_at spec.buffer within in
       record { slot = slot.slot; is = slot.is; is_declared = has.0; buffer = b.0; there = b.1 }
 
-  its_name : (file : FileRecord) (f : FileRecordHolds session so.holds.run file) (a : AtChannel file f) → file.name ≡ (logger_channel 0 a.slot).name so.holds.run.first.run
-  its_name file f a = f.name ∙ ap (λ (k : LoggerChannel). k.name so.holds.run.first.run) (sym a.is)
+  its_pattern : (written : ChannelFiles) (f : ChannelFilesHold session so.holds.run written) (a : AtChannel written f) → written.pattern ≡ a.slot.spec.pattern
+  its_pattern written f a = f.pattern ∙ ap (λ (k : LoggerChannel). k.pattern) (sym a.is)
 
-  abbrev of_channel : (file : FileRecord) (f : FileRecordHolds session so.holds.run file) → AtChannel file f → IsOfChannel declared buffers run file
-  of_channel file f a = record {
+  -- the name of the file of this number, by the record and by the session
+  its_name : (written : ChannelFiles) (f : ChannelFilesHold session so.holds.run written) (a : AtChannel written f) (number : ℕ) → file_name so.holds.run (logger_channel 0 a.slot) number ≡ piece_name_by written.pattern run.run number
+  its_name written f a number =
+      ap (λ (s : Sheet). piece_name_by a.slot.spec.pattern s.run number) so.holds.first_is
+      ∙ ap (λ (p : NamePattern). piece_name_by p run.run number) (sym (its_pattern written f a))
+
+  abbrev of_channel : (written : ChannelFiles) (f : ChannelFilesHold session so.holds.run written) → AtChannel written f → AreOfChannel declared buffers written
+  of_channel written f a = record {
     channel = a.slot.spec;
     is_declared = a.is_declared;
     number = f.number ∙ ap (λ (k : LoggerChannel). k.number) (sym a.is);
-    name = its_name file f a ∙ ap (λ (s : Sheet). (logger_channel 0 a.slot).name s.run) so.holds.first_is;
+    pattern = its_pattern written f a;
     buffer = a.buffer;
     there = a.there;
   }
@@ -194,46 +205,67 @@ module _ (c : ClosedSession) (declared : Declared) (buffers : List BufferRecord)
       (subst (λ (s : Sheet). P first_sheet s so.holds.run.start (history_of_buffer c n)) so.holds.last_is
       (subst (λ (s : Sheet). P s so.holds.run.last so.holds.run.start (history_of_buffer c n)) so.holds.first_is holds)))
 
-  file_tells : (file : FileRecord) (f : FileRecordHolds session so.holds.run file) → HoldsRunFile session so.holds.run f.channel
-      → (last_dump : List ℕ) × (dump_saved so.fits.stop.saved ≡ Some last_dump) × IsFileOfRun declared buffers c.files run so.fits.start.dump last_dump file
-  file_tells file f h =
-      let a : AtChannel file f = at_channel file f in
+  -- the file of a piece
+  piece_tells : (written : ChannelFiles) (f : ChannelFilesHold session so.holds.run written) (a : AtChannel written f) (last_dump : List ℕ) (number : ℕ) (piece : List Event) → HoldsPiece session so.holds.run (logger_channel 0 a.slot) last_dump written.told.files number piece
+      → IsFileOfPiece c.files run so.fits.start.dump last_dump written number piece
+  piece_tells written f a last_dump number piece p =
+      let is_the_last : Bool = suc number == written.told.files in
+      record {
+        bytes = p.bytes;
+        are = read_so
+            (λ first last start h. IsRunFile p.bytes first.run first.time (unwrap_or first.dump []) piece (if is_the_last then last.time else first.time) (if is_the_last then last_dump else []))
+            a.slot.spec.buffer a.buffer a.there p.is;
+        stored = subst (λ (n : List ℕ). IsStored c.files n p.bytes) (its_name written f a number) p.stored;
+      }
+
+  whole_tells : (written : ChannelFiles) (f : ChannelFilesHold session so.holds.run written) → written.told.state ≡ Ended → HoldsRunFiles session so.holds.run f.channel written.told.files
+      → (last_dump : List ℕ) × (dump_saved so.fits.stop.saved ≡ Some last_dump) × AreFilesOfRun declared buffers c.files run so.fits.start.dump last_dump written
+  whole_tells written f ended h =
+      let a : AtChannel written f = at_channel written f in
       let spec : ChannelSpec = a.slot.spec in
-      let own_channel : HoldsRunFile session so.holds.run (logger_channel 0 a.slot) = subst (λ (k : LoggerChannel). HoldsRunFile session so.holds.run k) (sym a.is) h in (
-        own_channel.last_dump,
-        sym (ap (λ (s : Sheet). s.dump) so.holds.last_is) ∙ own_channel.has_dump,
+      let many : ℕ = written.told.files in
+      let holds : HoldsRunFiles session so.holds.run (logger_channel 0 a.slot) many = subst (λ (k : LoggerChannel). HoldsRunFiles session so.holds.run k many) (sym a.is) h in (
+        holds.last_dump,
+        sym (ap (λ (s : Sheet). s.dump) so.holds.last_is) ∙ holds.has_dump,
         record {
-          of = of_channel file f a;
-          bytes = own_channel.bytes;
-          are = read_so
-              (λ first last start h. IsRunFile own_channel.bytes first.run first.time (unwrap_or first.dump []) (events_in (wanted spec.id spec.mask (segment h start))) last.time own_channel.last_dump)
-              spec.buffer a.buffer a.there own_channel.is;
-          stored = subst (λ (n : List ℕ). IsStored c.files n own_channel.bytes) (sym (its_name file f a)) own_channel.stored;
+          of = of_channel written f a;
+          pieces = holds.pieces;
+          many = holds.each;
+          few = holds.few;
+          framed = subst (λ (state : ChannelState). AreFramedSo state many written.told.framed) ended f.so.framed;
+          taken = holds.taken;
+          beyond = subst (λ (n : List ℕ). IsTrue holds.taken → IsTrue c.files.tells → IsSome (c.files.at n)) (its_name written f a many) holds.beyond;
+          cut = read_so
+              (λ first last start h. IsCut spec.sub_bytes (16 + length (unwrap_or first.dump [])) (events_in (wanted spec.id spec.mask (segment h start))) holds.taken holds.pieces)
+              spec.buffer a.buffer a.there holds.cut;
+          each = λ number piece at. piece_tells written f a holds.last_dump number piece (holds.files number piece at);
         },
       )
 
-  files_tell : (place : ℕ) (file : FileRecord) → slice_get run.files place ≡ Some file → file.state ≡ Ended
-      → (last_dump : List ℕ) × (dump_saved so.fits.stop.saved ≡ Some last_dump) × IsFileOfRun declared buffers c.files run so.fits.start.dump last_dump file
-  files_tell place file at ended =
-      let f : FileRecordHolds session so.holds.run file = so.holds.files place file at in
-      file_tells file f (subst (λ (state : ChannelState). IsFileSo state session so.holds.run f.channel) ended f.has)
+  files_tell : (place : ℕ) (written : ChannelFiles) → slice_get run.files place ≡ Some written → written.told.state ≡ Ended
+      → (last_dump : List ℕ) × (dump_saved so.fits.stop.saved ≡ Some last_dump) × AreFilesOfRun declared buffers c.files run so.fits.start.dump last_dump written
+  files_tell place written at ended =
+      let f : ChannelFilesHold session so.holds.run written = so.holds.files place written at in
+      whole_tells written f ended (subst (λ (state : ChannelState). AreFilesSo state session so.holds.run f.channel written.told) ended f.have)
 
-  parts_tell : (place : ℕ) (file : FileRecord) → slice_get run.files place ≡ Some file → file.state ≡ Broken → (last_dump : List ℕ) → dump_saved so.fits.stop.saved ≡ Some last_dump
-      → IsPartOfRun declared buffers c.files run so.fits.start.dump last_dump file
-  parts_tell place file at broken last_dump saved =
-      let f : FileRecordHolds session so.holds.run file = so.holds.files place file at in
-      let a : AtChannel file f = at_channel file f in
+  parts_tell : (place : ℕ) (written : ChannelFiles) → slice_get run.files place ≡ Some written → written.told.state ≡ Broken → (last_dump : List ℕ) → dump_saved so.fits.stop.saved ≡ Some last_dump
+      → ArePartsOfRun declared buffers c.files run so.fits.start.dump last_dump written
+  parts_tell place written at broken last_dump saved =
+      let f : ChannelFilesHold session so.holds.run written = so.holds.files place written at in
+      let a : AtChannel written f = at_channel written f in
       let spec : ChannelSpec = a.slot.spec in
-      let has : IsFileSo Broken session so.holds.run f.channel = subst (λ (state : ChannelState). IsFileSo state session so.holds.run f.channel) broken f.has in
-      let part : HoldsFilePart session so.holds.run f.channel last_dump = has last_dump (ap (λ (s : Sheet). s.dump) so.holds.last_is ∙ saved) in
-      let own_channel : HoldsFilePart session so.holds.run (logger_channel 0 a.slot) last_dump = subst (λ (k : LoggerChannel). HoldsFilePart session so.holds.run k last_dump) (sym a.is) part in
+      let fallen : Fallen = fallen_at written.told.files written.told.framed in
+      let has : AreFilesSo Broken session so.holds.run f.channel written.told = subst (λ (state : ChannelState). AreFilesSo state session so.holds.run f.channel written.told) broken f.have in
+      let parts : HoldsFileParts session so.holds.run f.channel last_dump written.told = has last_dump (ap (λ (s : Sheet). s.dump) so.holds.last_is ∙ saved) in
+      let holds : HoldsFileParts session so.holds.run (logger_channel 0 a.slot) last_dump written.told = subst (λ (k : LoggerChannel). HoldsFileParts session so.holds.run k last_dump written.told) (sym a.is) parts in
       record {
-        of = of_channel file f a;
-        bytes = own_channel.bytes;
-        part = read_so
-            (λ first last start h. IsPrefix own_channel.bytes (run_file first.run first.time (unwrap_or first.dump []) (events_in (wanted spec.id spec.mask (segment h start))) last.time last_dump))
-            spec.buffer a.buffer a.there own_channel.part;
-        stored = subst (λ (n : List ℕ). IsStored c.files n own_channel.bytes) (sym (its_name file f a)) own_channel.stored;
+        of = of_channel written f a;
+        last = holds.last;
+        last_is = read_so (λ first last start h. (holds.last ≡ []) ⊎ (holds.last ≡ encoding (end_record first.run last.time last_dump))) spec.buffer a.buffer a.there holds.last_is;
+        part = subst (λ (p : NamePattern). HasPart c.files (series_of p spec.sub_bytes (record { run = run.run; time = run.time0 }) so.fits.start.dump) fallen holds.last (events_of_run spec a.buffer run.start)) (sym (its_pattern written f a))
+            (read_so
+            (λ first last start h. HasPart c.files (series_of spec.pattern spec.sub_bytes (record { run = first.run; time = first.time }) (unwrap_or first.dump [])) fallen holds.last (events_in (wanted spec.id spec.mask (segment h start))))
+            spec.buffer a.buffer a.there holds.part);
       }
 
   -- a front-end that was declared, with its record
@@ -337,10 +369,10 @@ module _ (c : ClosedSession) (declared : Declared) (buffers : List BufferRecord)
         items = held.2.items ∙ ap (λ (n : ℤ). Int32 n ∷ held.2.more) (before_next held.2.first run.run next);
       }
 
-  ended_tells : NoneRose first now → (place : ℕ) (file : FileRecord) → slice_get run.files place ≡ Some file → file.state ≡ state_by_dump (dump_saved so.fits.stop.saved)
-  ended_tells none place file at =
-      let f : FileRecordHolds session so.holds.run file = so.holds.files place file at in
-      counts.ended none moments so.holds.run so.holds.made f.index f.channel f.at file.state f.told ∙ ap (λ (s : Sheet). state_by_dump s.dump) so.holds.last_is
+  ended_tells : NoneRose first now → (place : ℕ) (written : ChannelFiles) → slice_get run.files place ≡ Some written → written.told.state ≡ state_by_dump (dump_saved so.fits.stop.saved)
+  ended_tells none place written at =
+      let f : ChannelFilesHold session so.holds.run written = so.holds.files place written at in
+      counts.ended none moments so.holds.run so.holds.made f.index f.channel f.at written.told f.told ∙ ap (λ (s : Sheet). state_by_dump s.dump) so.holds.last_is
 
   -- an analyzer that was declared, with its record
   record AtAnalyzer (place : ℕ) (d : AnalyzerDeclared) : Type 0 where

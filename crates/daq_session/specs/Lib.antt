@@ -7,3 +7,4 @@ pub mod Environments
 pub mod ToldRecords
 pub mod Sessions
 pub mod Played
+pub mod FramedFiles

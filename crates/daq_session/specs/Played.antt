@@ -177,7 +177,8 @@ pub record PlaysSession {D S O F E C K : Type 0} {g : _} {d : _} {e : _} (told :
   pub finishes : FinishesOpening (lines_at told before) (lines_at told lines.script) (stage_unopened (side_of told) quota declared side)
       final lines.ending lines.closing
 
--- A script was played from its beginning to its end, over a database that its main thread had not called before.
+-- A script was played from its beginning to its end, in a session in which nothing was declared, over a database that its main thread
+-- had not called before: these were the files of dumps and the clock.
 pub record PlaysAll {D S O F E C K : Type 0} {g : _} (told : OutsideTold S O F E C) (shared : SharedOdb D) (odb_files : E) (clock : C)
     (first_files : F) (before : Script S O) (lines : LinesEnd S O E C F K) (left : LeftBehind D g) : Type 0 where
   pub final : SessionStage

@@ -12,7 +12,7 @@ use Rattle.odb_watch.specs.DatabasePorts.{DatabaseAccess, own_watched}
 use Rattle.daq_session.specs.SessionRows.{session_rows}
 use Rattle.odb_watch.specs.Steps.{unwatched}
 use Rattle.loggers.specs.LeftNames.{NoneRose}
-use Rattle.session_runs.specs.declared.records.FileRecord.{FileRecord}
+use Rattle.session_runs.specs.declared.records.ChannelFiles.{ChannelFiles}
 use Rattle.session_runs.specs.declared.records.RunRecord.{RunRecord}
 use Rattle.daq_members.specs.Members.{MemberTold}
 use Rattle.session_setup.specs.Setup.{AreSound}
@@ -64,14 +64,14 @@ SessionKept told first_files final end run_files None = LacksSession first_files
 SessionKept told first_files final end run_files (Some r) = KeepsSession told first_files final run_files r
 
 -- Of the runs of a session that came about, each had its dump saved as it was stopped; and where no fault of the run files was
--- counted, each file of theirs ended.
+-- counted, each channel ended in them.
 pub record RunsEnded {D F : Type 0} {g : _} (told : MemberTold Generator F) (first_files : F) (final : SessionStage) (run_files : F)
     (r : SessionRecord D g) (keeps : KeepsSession told first_files final run_files r) : Type 0 where
   pub saved : (number : ℕ) → (run : RunRecord) → (at : slice_get r.runs number ≡ Some run) → (whole : run.outcome ≡ Completed) →
       IsOk (keeps.tells.runs number run at whole).so.fits.stop.saved
   pub ended : NoneRose (told.read first_files) (told.read run_files) → (number : ℕ) → (run : RunRecord) →
-      slice_get r.runs number ≡ Some run → run.outcome ≡ Completed → (place : ℕ) → (file : FileRecord) →
-      slice_get run.files place ≡ Some file → file.state ≡ Ended
+      slice_get r.runs number ≡ Some run → run.outcome ≡ Completed → (place : ℕ) → (files : ChannelFiles) →
+      slice_get run.files place ≡ Some files → files.told.state ≡ Ended
 
 -- So it is with the session of which this is kept, if one was opened.
 abbrev pub KeptRunsEnded : {D F : Type 0} {g : _} → (told : MemberTold Generator F) → (first_files : F) → (final : SessionStage) →

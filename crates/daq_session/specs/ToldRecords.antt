@@ -1,6 +1,5 @@
 -- What the record of a session tells: the histories of its objects, its runs, and the run files.
-use mathlib.Core.List.{IsPrefix}
-use Rattle.std.specs.Prelude.{◌≡◌, ℕ, suc, ◌+◌, IsTrue, ◌++◌, ◌∷◌, [], List, length, slice_get, Contains, Option, Some, Ok}
+use Rattle.std.specs.Prelude.{◌≡◌, ◌⊎◌, ◌≤◌, ◌==◌, ℕ, suc, ◌+◌, if◌then◌else◌, Bool, IsSome, IsTrue, ◌++◌, ◌∷◌, [], List, length, slice_get, Contains, Option, Some, Ok}
 use Rattle.std.specs.List.{AllByRecursion}
 use Rattle.daq_types.specs.Callers.{caller_of_client, entries_by, main_caller}
 use Rattle.daq_types.specs.declared.events.Event.{Event}
@@ -9,7 +8,8 @@ use Rattle.daq_types.specs.declared.runs.RunState.TheVariants.{Stopped}
 use Rattle.daq_types.specs.declared.runs.StartOutcome.TheVariants.{Completed, Refused}
 use Rattle.daq_types.specs.declared.runs.Why.{Why}
 use Rattle.daq_io.specs.Seen.{Seen, IsStored}
-use Rattle.event.specs.RunFile.{IsRunFile, run_file}
+use Rattle.event.specs.Events.{encoding}
+use Rattle.event.specs.RunFile.{IsRunFile, end_record}
 use Rattle.turn_lock.specs.Closing.{history_of}
 use Rattle.buffer_core.specs.Window.{Sent, opening}
 use Rattle.buffer_core.specs.Histories.{IsLegal}
@@ -30,13 +30,16 @@ use Rattle.member_model.specs.SentCalls.{own_sent}
 use Rattle.member_model.specs.TurnCalls.{member_turns}
 use Rattle.front_ends.specs.FrontKept.{made_events}
 use Rattle.frontend_kit.specs.declared.generator.Generator.{Generator}
-use Rattle.mid_logger.specs.Patterns.{file_name_by}
+use Rattle.sub_files.specs.Cuts.{IsCut, last_number}
+use Rattle.sub_files.specs.Patterns.{piece_name_by}
+use Rattle.sub_files.specs.Pieces.{HasPart, series_of}
+use Rattle.sub_files.specs.Rolls.{fallen_at}
 use Rattle.mid_logger.specs.declared.channel.Channel.{Channel}
 use Rattle.mid_logger.specs.declared.channel_spec.ChannelSpec.{ChannelSpec}
 use Rattle.loggers.specs.LeftNames.{NoneRose}
 use Rattle.loggers.specs.Moments.{RunFiles}
-use Rattle.loggers.specs.OtherFiles.{AreDeclared}
-use Rattle.session_runs.specs.declared.records.FileRecord.{FileRecord}
+use Rattle.loggers.specs.OtherFiles.{AreDeclared, specs_in}
+use Rattle.session_runs.specs.declared.records.ChannelFiles.{ChannelFiles}
 use Rattle.session_runs.specs.declared.records.FrontTally.{FrontTally}
 use Rattle.session_runs.specs.declared.records.ReportTally.{ReportTally}
 use Rattle.session_runs.specs.declared.records.RunRecord.{RunRecord}
@@ -97,32 +100,52 @@ pub record AreMainCalls {D : Type 0} {g : _} (own : MainOwn) (r : SessionRecord 
 abbrev pub events_of_run : ChannelSpec → BufferRecord → (start : ℕ) → List Event
 events_of_run channel b start = events_in (wanted channel.id channel.mask (segment (history_of b.closed) start))
 
--- The file of the run's record is that of a channel that was declared, and has the name that the channel's pattern gives; the
+-- The files of the run's record are those of a channel that was declared, with the names that the channel's pattern gives; the
 -- channel reads this buffer.
-pub record IsOfChannel (declared : Declared) (buffers : List BufferRecord) (run : RunRecord) (file : FileRecord) : Type 0 where
+pub record AreOfChannel (declared : Declared) (buffers : List BufferRecord) (files : ChannelFiles) : Type 0 where
   pub channel : ChannelSpec
   pub is_declared : Contains declared.channels channel
-  pub number : file.channel ≡ channel.number
-  pub name : file.name ≡ file_name_by channel.pattern run.run
+  pub number : files.channel ≡ channel.number
+  pub pattern : files.pattern ≡ channel.pattern
   pub buffer : BufferRecord
   pub there : slice_get buffers channel.buffer ≡ Some buffer
 
--- The file is closed, and its bytes are the begin record of the run with the dump of its start, all events of the run for which
--- its channel asks, and the end record with the dump of its stop, and nothing more.
-pub record IsFileOfRun (declared : Declared) (buffers : List BufferRecord) (files : Seen) (run : RunRecord)
-    (first_dump last_dump : List ℕ) (file : FileRecord) : Type 0 where
-  pub of : IsOfChannel declared buffers run file
+-- The file of this number, of so many, is closed, and its bytes are the begin record of the run with the dump of its start, the events
+-- of this piece, and an end record: the last file's is that of the stop, with this dump, and each other's has the time of the start and
+-- an empty dump.
+pub record IsFileOfPiece (files : Seen) (run : RunRecord) (first_dump last_dump : List ℕ) (written : ChannelFiles)
+    (number : ℕ) (piece : List Event) : Type 0 where
   pub bytes : List ℕ
-  pub are : IsRunFile bytes run.run run.time0 first_dump (events_of_run of.channel of.buffer run.start) run.time1 last_dump
-  pub stored : IsStored files file.name bytes
+  pub are : IsRunFile bytes run.run run.time0 first_dump piece
+      (if suc number == written.told.files then run.time1 else run.time0)
+      (if suc number == written.told.files then last_dump else [])
+  pub stored : IsStored files (piece_name_by written.pattern run.run number) bytes
 
--- The file is closed, and what it has begins that run file.
-pub record IsPartOfRun (declared : Declared) (buffers : List BufferRecord) (files : Seen) (run : RunRecord)
-    (first_dump last_dump : List ℕ) (file : FileRecord) : Type 0 where
-  pub of : IsOfChannel declared buffers run file
-  pub bytes : List ℕ
-  pub part : IsPrefix bytes (run_file run.run run.time0 first_dump (events_of_run of.channel of.buffer run.start) run.time1 last_dump)
-  pub stored : IsStored files file.name bytes
+-- The files of a channel that ended are framed pieces that join to all events of the run for which the channel asks: they are cut into
+-- as many pieces by the channel's limit. A last piece that is too long says that there is a file of the name behind it, where names are
+-- told, or that it has the greatest number.
+pub record AreFilesOfRun (declared : Declared) (buffers : List BufferRecord) (files : Seen) (run : RunRecord)
+    (first_dump last_dump : List ℕ) (written : ChannelFiles) : Type 0 where
+  pub of : AreOfChannel declared buffers written
+  pub pieces : List (List Event)
+  pub many : length pieces ≡ written.told.files
+  pub few : written.told.files ≤ suc last_number
+  pub framed : written.told.framed ≡ written.told.files
+  pub taken : Bool
+  pub beyond : IsTrue taken → IsTrue files.tells → IsSome (files.at (piece_name_by written.pattern run.run written.told.files))
+  pub cut : IsCut of.channel.sub_bytes (16 + length first_dump) (events_of_run of.channel of.buffer run.start) taken pieces
+  pub each : (number : ℕ) → (piece : List Event) → slice_get pieces number ≡ Some piece →
+      IsFileOfPiece files run first_dump last_dump written number piece
+
+-- The files of a channel that broke off are closed, and hold a first part of those events, cut into pieces: those that are told to be
+-- framed are whole, and the others have first parts of such files. Something of the record of the stop is there only behind all events.
+pub record ArePartsOfRun (declared : Declared) (buffers : List BufferRecord) (files : Seen) (run : RunRecord)
+    (first_dump last_dump : List ℕ) (written : ChannelFiles) : Type 0 where
+  pub of : AreOfChannel declared buffers written
+  pub last : List ℕ
+  pub last_is : (last ≡ []) ⊎ (last ≡ encoding (end_record run.run run.time1 last_dump))
+  pub part : HasPart files (series_of written.pattern of.channel.sub_bytes (record { run = run.run; time = run.time0 }) first_dump)
+      (fallen_at written.told.files written.told.framed) last (events_of_run of.channel of.buffer run.start)
 
 -- the first so many events of the front-end's generator in the run; what a start is begun with for analyzers is not in its order
 abbrev pub events_of_front : FrontDeclared → RunRecord → (quota : ℕ) → (first_dump : List ℕ) → (sent : ℕ) → List Event
@@ -164,23 +187,23 @@ pub record IsCountedInRun (client : ℕ) (d : AnalyzerDeclared) (buffers : List 
       (member_turns client (entries_by (caller_of_client client) engine)) start tally.report
 
 -- What is told of a run that came about. It fits the main thread's calls, which tell its dumps, and holds in the session; its
--- number is the next of that which its start got; each file of it that ended is the run's file of its channel, and each that broke
--- off a part of that; where no fault of the run files was counted, each ended, but where the stop had no dump; each front-end sent
--- what the record has of it; each event between the run's marks in a buffer is one of those that its front-ends sent;
+-- number is the next of that which its start got; the files of each channel that ended are the run's files of the channel, and those
+-- of one that broke off a part of that; where no fault of the run files was counted, each ended, but where the stop had no dump; each
+-- front-end sent what the record has of it; each event between the run's marks in a buffer is one of those that its front-ends sent;
 -- and each analyzer counted what the record has of it: the events of the run that its client got, and where it saw the run
 -- through, all events of the run for which it asks.
 pub record RunTells (c : ClosedSession) (moments : (client : ℕ) → List ℕ) (own : MainOwn) (declared : Declared)
     (buffers : List BufferRecord) (first now : RunFiles) (run : RunRecord) : Type 0 where
   pub so : RecordSo c moments own run
   pub number : IsNumberBefore run.run so.fits.start.are.got
-  pub files : (place : ℕ) → (file : FileRecord) → slice_get run.files place ≡ Some file → file.state ≡ Ended →
+  pub files : (place : ℕ) → (written : ChannelFiles) → slice_get run.files place ≡ Some written → written.told.state ≡ Ended →
       (last_dump : List ℕ) × (dump_saved so.fits.stop.saved ≡ Some last_dump)
-      × IsFileOfRun declared buffers c.files run so.fits.start.dump last_dump file
-  pub parts : (place : ℕ) → (file : FileRecord) → slice_get run.files place ≡ Some file → file.state ≡ Broken →
+      × AreFilesOfRun declared buffers c.files run so.fits.start.dump last_dump written
+  pub parts : (place : ℕ) → (written : ChannelFiles) → slice_get run.files place ≡ Some written → written.told.state ≡ Broken →
       (last_dump : List ℕ) → dump_saved so.fits.stop.saved ≡ Some last_dump →
-      IsPartOfRun declared buffers c.files run so.fits.start.dump last_dump file
-  pub ended : NoneRose first now → (place : ℕ) → (file : FileRecord) → slice_get run.files place ≡ Some file →
-      file.state ≡ state_by_dump (dump_saved so.fits.stop.saved)
+      ArePartsOfRun declared buffers c.files run so.fits.start.dump last_dump written
+  pub ended : NoneRose first now → (place : ℕ) → (written : ChannelFiles) → slice_get run.files place ≡ Some written →
+      written.told.state ≡ state_by_dump (dump_saved so.fits.stop.saved)
   pub fronts : (client : ℕ) → (d : FrontDeclared) → slice_get declared.fronts client ≡ Some d →
       (tally : FrontTally) × (slice_get run.fronts client ≡ Some tally)
       × IsSentInRun client d buffers run so.quota so.fits.start.dump tally
@@ -202,9 +225,9 @@ session_told told declared slots first_files files r =
 -- that the run number got; the channels of its logger, which are those that were declared; who called, and that each member kept
 -- its contract over its own calls; all that the laws say of the session, of its runs, its files, its front-ends and its callers;
 -- that each start is over; what the counts of its run files tell; that one fault of these gives one answer, and that no clash is
--- counted without one, and no fault but where a start was refused; that each run file that is in no record is as it was, where no
--- fault was counted; each of its runs that came about; and that each other start was refused by a front-end whose equipment takes no
--- part in the run, or by the logger for a fault or a clash of names that was counted.
+-- counted without one where no channel has a limit, and no fault but where a start was refused; that each run file that is in no
+-- record is as it was, where no fault was counted; each of its runs that came about; and that each other start was refused by a
+-- front-end whose equipment takes no part in the run, or by the logger for a fault or a clash of names that was counted.
 pub record RecordTells {D F : Type 0} {g : _} (told : MemberTold Generator F) (declared : Declared) (own : MainOwn)
     (first_files files : F) (r : SessionRecord D g) : Type 0 where
   pub histories : AreHistoriesOf declared r
@@ -220,7 +243,7 @@ pub record RecordTells {D F : Type 0} {g : _} (told : MemberTold Generator F) (d
   pub over : AreStartsOver (engine_calls (session_told told declared slots first_files files r) main_caller)
   pub counts : CountsHold (session_told told declared slots first_files files r) (told.read first_files) (told.read files)
   pub one_answer : OneAnswer r.runs (told.read first_files) (told.read files)
-  pub rises : RisesTold r.runs (told.read first_files) (told.read files)
+  pub rises : RisesTold (specs_in slots) r.runs (told.read first_files) (told.read files)
   pub left : IsTrue (told.read first_files).seen.tells → NoneRose (told.read first_files) (told.read files) →
       (name : List ℕ) → IsInNoRecord r.runs name →
       (told.read files).seen.at name ≡ (told.read first_files).seen.at name

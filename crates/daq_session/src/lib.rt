@@ -16,4 +16,4 @@ pub use odb_commands::{FileReplies, FileReply};
 pub use opening::SessionTree;
 pub use run::run_script;
 pub use session_objects::{BufferRecord, SessionRecord};
-pub use session_runs::{FileRecord, FrontTally, ReportTally, RunRecord};
+pub use session_runs::{ChannelFiles, FrontTally, ReportTally, RunRecord};

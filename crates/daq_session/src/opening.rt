@@ -193,7 +193,6 @@ pub fn open_members<'a, R: Wait, D: Database, F: Files + Drop, K: Pick, G: Gate>
     places: &Places<'a, D, G>,
     main: EnginePass,
     passes: &mut SessionPasses<D>,
-    quota: u32,
     side: MemberSide<'a, F, K, G>,
 ) -> Result<(Runs<'a>, SessionMembers<'a, D, F>, K), MemberSide<'a, F, K, G>>
     requires main { number_of main ≡ main_caller }
@@ -204,7 +203,7 @@ pub fn open_members<'a, R: Wait, D: Database, F: Files + Drop, K: Pick, G: Gate>
         places.now.lists.now.channels places.now.objects.now places.now.shared.now }
     requires out { HasFreshBut (out_to places.now.lists.now 0)
         places.now.objects.now places.now.shared.now passes.old }
-    ensures runs { IfOk result (λ opened. opened.0 ≡ opened_runs quota
+    ensures runs { IfOk result (λ opened. opened.0 ≡ opened_runs places.now.quota
         (declared_by places.now.lists.now) places.now.objects.now.engine) }
     ensures members { IfOk result (λ opened. HasNewMembers places.now.lists.now
         places.now.lists.now.channels places.now.objects.now places.now.shared.now
@@ -216,7 +215,7 @@ pub fn open_members<'a, R: Wait, D: Database, F: Files + Drop, K: Pick, G: Gate>
     ensures pick { IfErr result (λ back. back.pick ≡ side.entry.pick) }
 {
     let (objects, lists) = (places.objects, places.lists);
-    let Ok(runs) = open_runs(rt, alloc, objects, main, lists, quota) else {
+    let Ok(runs) = open_runs(rt, alloc, objects, main, lists, places.quota) else {
         return Err(side);
     };
     let membership = Membership {

@@ -1,16 +1,32 @@
 use daq_io::Gate;
-use odb_lock::SharedOdb;
+use odb_lock::{LockedDatabase, SharedOdb, WatchedSeen};
 use odb_tree::Database;
-use session_objects::SessionObjects;
+use odb_watch::WatchEntry;
+use session_objects::{SessionObjects, SessionPasses};
 use session_setup::DeclaredLists;
+use transition_lock::EnginePass;
+use turn_lock::Machine;
 
-/// The objects that the members of a session call, what was declared, and the gate that they pass.
+/// The objects that the members of a session call, what was declared, the gate that they pass, and how many events each front-end has
+/// to send in the first run.
 #[derive(Drop)]
 pub struct Places<'a, D: Database, G: Gate> {
     pub shared: &'a SharedOdb<D>,
     pub objects: &'a SessionObjects,
     pub lists: &'a DeclaredLists,
     pub gate: &'a G,
+    pub quota: u32,
+}
+
+/// The passes of a session's objects, of which none is given out.
+#[derive(Drop)]
+pub struct OpenedPasses<D: Database>
+where
+    LockedDatabase<D>: Machine<State = WatchedSeen, Entry = WatchEntry>,
+{
+    /// The main thread's pass of the engine.
+    pub main: EnginePass,
+    pub others: SessionPasses<D>,
 }
 
 /// What the members of a session meet outside, and where they have their turns.

@@ -21,7 +21,7 @@ ghost use Rattle.daq_session.specs.LinesEnded.{outside_left};
 ghost use Rattle.daq_session.specs.Played.{PlaysObjects, PlaysOpened, unopened_lines};
 
 use crate::opening::{SessionRoom, let_go, open_keys, open_members};
-use crate::places::{MemberSide, Places};
+use crate::places::{MemberSide, OpenedPasses, Places};
 use buffer_core::BufferPort;
 use console::{DatabaseConsole, Ending, Halt};
 use daq_io::{Clock, Files, Gate, Outside, Pick, Sink, Source};
@@ -39,7 +39,6 @@ use session_objects::{LoggerEnd, Membership, Returned, RunRecords, SessionMember
 use std::alloc::Global;
 use std::sync::Wait;
 use std::thread::Threads;
-use transition_lock::EnginePass;
 use turn_lock::Machine;
 
 /// What the lines of a script came to, the script as it is then, and the rest of the outside.
@@ -282,9 +281,7 @@ pub fn play_objects<
     rt: &R,
     alloc: Global,
     places: &Places<'a, D, G>,
-    main: EnginePass,
-    mut passes: SessionPasses<D>,
-    quota: u32,
+    passes: OpenedPasses<D>,
     mut side: MainSide<SharedAccess<'a, D>, E, C>,
     members: MemberSide<'a, F, K, G>,
     script: Script<S, O>,
@@ -293,22 +290,26 @@ pub fn play_objects<
     requires caller { (access_by_pass side.database.access).caller ≡ main_caller }
     requires database { (access_by_pass side.database.access).database
         ≡ odb_identity places.now.shared.now }
-    requires main { number_of main ≡ main_caller }
-    requires own { IsOf (engine_lock_of places.now.objects.now.engine) main }
-    requires fresh { IsFresh main }
+    requires main { number_of passes.main ≡ main_caller }
+    requires own { IsOf (engine_lock_of places.now.objects.now.engine) passes.main }
+    requires fresh { IsFresh passes.main }
     requires opening { first_engine places.now.objects.now.engine ≡ engine_opening }
     requires suit { SuitMembers places.now.lists.now.fronts places.now.lists.now.analyzers
         places.now.lists.now.channels places.now.objects.now places.now.shared.now }
     requires out { HasFreshBut (out_to places.now.lists.now 0)
-        places.now.objects.now places.now.shared.now passes }
+        places.now.objects.now places.now.shared.now passes.others }
     ensures played { (declared : Declared)
         → opened_with_defaults declared ≡ declared_by places.now.lists.now
         → PlaysObjects (outside_told S.left S.faults O.written O.faults F.seen F.faults F.clashes
         F.first E.seen E.faults E.clashes E.first C.tells C.ahead)
         places.now.lists.now places.now.objects.now places.now.shared.now members.entry.run_files
-        quota declared side.entry script result }
+        places.now.quota declared side.entry script result }
 {
     first_start_opens::<D, E, C>(places.shared);
+    let OpenedPasses {
+        main,
+        others: mut passes,
+    } = passes;
     let fronts = places.lists.fronts.as_slice();
     let database = &mut side.database;
     let access = &mut database.access;
@@ -318,7 +319,7 @@ pub fn play_objects<
             session: None,
         };
     };
-    match open_members(rt, alloc, places, main, &mut passes, quota, members) {
+    match open_members(rt, alloc, places, main, &mut passes, members) {
         Ok((runs, members, pick)) => {
             let main = MainPlay {
                 alloc,

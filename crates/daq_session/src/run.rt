@@ -1,35 +1,39 @@
 // A whole script.
 ghost use Rattle.std.specs.Prelude.{◌≡◌, ◌∷◌, ◌≤◌, ◌+◌, []};
 ghost use Rattle.daq_types.specs.Callers.{main_caller};
-ghost use Rattle.turn_lock.specs.Passes.{passes_of};
+ghost use Rattle.turn_lock.specs.Passes.{passes_of, number_of, IsOf};
+ghost use Rattle.turn_lock.specs.Roster.{IsFresh};
 ghost use Rattle.odb_lock.specs.SharedAccesses.{access_by_pass, odb_identity};
 ghost use Rattle.odb_lock.specs.SharedOdbs.{odb_lock_of};
 ghost use Rattle.session_setup.specs.Setup.{nothing_declared};
 ghost use Rattle.session_objects.specs.Rosters.{KeepsFresh};
 ghost use Rattle.session_commands.specs.FirstLines.{IsUnreadScript};
 ghost use Rattle.daq_session.specs.Environments.{outside_told};
-ghost use Rattle.daq_session.specs.NewDatabases.{IsNewDatabase, database_passes};
+ghost use Rattle.daq_session.specs.NewDatabases.{IsNewDatabase, IsNewSession, IsUnopenedSession, database_passes};
 ghost use Rattle.daq_session.specs.Played.{PlaysAll, PlaysSession};
+ghost use Rattle.daq_session.specs.FramedFiles.{ClosesFramedFiles};
 ghost use Rattle.daq_session.specs.Sessions.{RunsScript};
 
 use crate::ends::{ScriptEnd, end_of};
 use crate::left::{EndedObjects, LeftBehind, close_left, leave_unopened};
 use crate::opening::{OpenDatabase, SessionTree, open_database};
-use crate::places::{MemberSide, Places};
+use crate::places::{MemberSide, OpenedPasses, Places};
 use crate::played::{LinesEnd, NO_MEMORY, OpenedEnd, end_unopened, play_objects};
-use console::{LineLoop, PlayEnd};
+use console::{DatabaseConsole, LineLoop, PlayEnd};
 use daq_io::{Clock, Files, Gate, Outside, Pick, Sink, Source};
 use odb_commands::FileReplies;
-use odb_lock::{OdbPass, OdbPasses, SharedAccess, SharedOdb};
+use odb_lock::{LockedDatabase, OdbPass, OdbPasses, SharedAccess, SharedOdb, WatchedSeen};
 use odb_tree::Database;
+use odb_watch::WatchEntry;
 use session_commands::laws::{first_start_opens, scripts_keep};
-use session_commands::{FirstEnd, MainSide, Script, play_first};
+use session_commands::{MainSide, Script, Unopened, play_first};
 use session_objects::laws::members_suit;
 use session_objects::{OpenedObjects, SessionObjects, SessionRecord};
 use session_setup::Declarations;
 use std::alloc::Global;
 use std::sync::Wait;
 use std::thread::Threads;
+use turn_lock::Machine;
 
 /// Opens a session with the first start of its script, and plays it to the script's end.
 fn open_and_play<
@@ -48,22 +52,27 @@ fn open_and_play<
     alloc: Global,
     shared: &'a SharedOdb<D>,
     passes: OdbPasses<D>,
-    quota: u32,
-    mut declarations: Declarations,
-    side: MainSide<SharedAccess<'a, D>, E, C>,
+    unopened: Unopened<SharedAccess<'a, D>, E, C>,
     members: MemberSide<'a, F, K, G>,
     script: Script<S, O>,
 ) -> (LinesEnd<S, O, E, C, F, K>, LeftBehind<D>)
     requires fits { script.line_loop.number + 1 ≤ script.line_loop.reader.taken }
-    requires caller { (access_by_pass side.database.access).caller ≡ main_caller }
-    requires database { (access_by_pass side.database.access).database ≡ odb_identity shared.now }
+    requires caller { (access_by_pass unopened.side.database.access).caller ≡ main_caller }
+    requires database { (access_by_pass unopened.side.database.access).database
+        ≡ odb_identity shared.now }
     requires callers { passes_of (odb_lock_of shared.now) ≡ database_passes }
     requires others { KeepsFresh (main_caller ∷ []) (odb_lock_of shared.now) passes }
     ensures played { PlaysSession (outside_told S.left S.faults O.written O.faults F.seen F.faults
         F.clashes F.first E.seen E.faults E.clashes E.first C.tells C.ahead)
-        shared.now members.entry.run_files quota declarations side.entry script result.0 result.1 }
+        shared.now members.entry.run_files unopened.entry.quota unopened.entry.declarations
+        unopened.entry.side script result.0 result.1 }
 {
     first_start_opens::<D, E, C>(shared);
+    let Unopened {
+        quota,
+        mut declarations,
+        side,
+    } = unopened;
     declarations.open();
     let lists = declarations.into_lists();
     let Ok(opened) = SessionObjects::open(alloc, &lists, passes) else {
@@ -83,9 +92,14 @@ fn open_and_play<
         objects: &objects,
         lists: &lists,
         gate: members.gate,
+        quota,
+    };
+    let passes = OpenedPasses {
+        main,
+        others: passes,
     };
     let OpenedEnd { lines, session } = play_objects(
-        rt, alloc, &places, main, passes, quota, side, members, script,
+        rt, alloc, &places, passes, side, members, script,
     );
     match session {
         None => (lines, LeftBehind::Nothing),
@@ -116,53 +130,63 @@ fn play_all<
     rt: &R,
     alloc: Global,
     shared: &'a SharedOdb<D>,
-    main: OdbPass<D>,
     passes: OdbPasses<D>,
-    declarations: Declarations,
-    odb_files: E,
-    clock: C,
+    mut unopened: Unopened<SharedAccess<'a, D>, E, C>,
     members: MemberSide<'a, F, K, G>,
     mut script: Script<S, O>,
 ) -> (LinesEnd<S, O, E, C, F, K>, LeftBehind<D>)
-    requires database { IsNewDatabase shared.now main passes }
-    requires nothing { declarations ≡ nothing_declared }
+    requires session { IsNewSession shared.now passes unopened }
     requires unread { IsUnreadScript script.line_loop }
     ensures played { PlaysAll (outside_told S.left S.faults O.written O.faults F.seen F.faults
         F.clashes F.first E.seen E.faults E.clashes E.first C.tells C.ahead)
-        shared.now odb_files clock members.entry.run_files script result.0 result.1 }
+        shared.now unopened.entry.side.database.files unopened.entry.side.clock
+        members.entry.run_files script result.0 result.1 }
 {
     first_start_opens::<D, E, C>(shared);
-    let FirstEnd {
-        end,
-        quota,
-        declarations,
-        side,
-    } = play_first(
-        rt,
-        alloc,
-        shared,
-        main,
-        declarations,
-        odb_files,
-        clock,
-        &mut script,
-    );
-    match end {
+    match play_first(rt, alloc, &mut unopened, &mut script) {
         PlayEnd::Ended { ending } => {
-            leave_unopened(shared, side, passes, ending, members, script)
+            leave_unopened(shared, unopened.side, passes, ending, members, script)
         }
-        PlayEnd::Opens => open_and_play(
-            rt,
-            alloc,
-            shared,
-            passes,
-            quota,
-            declarations,
-            side,
-            members,
-            script,
-        ),
+        PlayEnd::Opens => open_and_play(rt, alloc, shared, passes, unopened, members, script),
     }
+}
+
+/// A session in which nothing was declared, over its database.
+fn new_session<'a, D: Database, E: Files, C: Clock>(
+    alloc: Global,
+    shared: &'a SharedOdb<D>,
+    main: OdbPass<D>,
+    declarations: Declarations,
+    odb_files: E,
+    clock: C,
+) -> Unopened<SharedAccess<'a, D>, E, C>
+    requires main { number_of main ≡ main_caller }
+    requires own { IsOf (odb_lock_of shared.now) main }
+    requires fresh { IsFresh main }
+    requires nothing { declarations ≡ nothing_declared }
+    ensures unopened { IsUnopenedSession shared.now odb_files clock result }
+{
+    let database = DatabaseConsole {
+        access: SharedAccess::new(shared, main),
+        files: odb_files,
+        replies: FileReplies::empty(alloc),
+    };
+    Unopened {
+        quota: 0,
+        declarations,
+        side: MainSide { database, clock },
+    }
+}
+
+/// What a session has before its script is read: its database, room for the lines, and room for what they declare.
+#[derive(Drop)]
+struct NewSession<D: Database>
+where
+    LockedDatabase<D>: Machine<State = WatchedSeen, Entry = WatchEntry>,
+{
+    database: OpenDatabase<D>,
+    line_loop: LineLoop,
+    declarations: Declarations,
 }
 
 /// Plays a whole script over the database of its session, and closes this.
@@ -179,9 +203,7 @@ fn run_session<
 >(
     rt: &R,
     alloc: Global,
-    database: OpenDatabase<D>,
-    line_loop: LineLoop,
-    declarations: Declarations,
+    session: NewSession<D>,
     outside: Outside<S, O, F, E, C, K>,
     gate: &G,
     cooperative: bool,
@@ -191,13 +213,19 @@ fn run_session<
     FileReplies,
     Outside<S, O, F, E, C, K>,
 )
-    requires database { IsNewDatabase database.shared database.main database.passes }
-    requires nothing { declarations ≡ nothing_declared }
-    requires unread { IsUnreadScript line_loop }
+    requires database { IsNewDatabase session.database.shared session.database.main
+        session.database.passes }
+    requires nothing { session.declarations ≡ nothing_declared }
+    requires unread { IsUnreadScript session.line_loop }
     ensures ran { RunsScript (outside_told S.left S.faults O.written O.faults F.seen F.faults
         F.clashes F.first E.seen E.faults E.clashes E.first C.tells C.ahead)
         outside result.3 result.0 result.2.replies result.1 }
 {
+    let NewSession {
+        database,
+        line_loop,
+        declarations,
+    } = session;
     let OpenDatabase {
         shared,
         main,
@@ -222,18 +250,8 @@ fn run_session<
         src,
         out,
     };
-    let (lines, left) = play_all(
-        rt,
-        alloc,
-        &shared,
-        main,
-        passes,
-        declarations,
-        odb_files,
-        clock,
-        members,
-        script,
-    );
+    let unopened = new_session(alloc, &shared, main, declarations, odb_files, clock);
+    let (lines, left) = play_all(rt, alloc, &shared, passes, unopened, members, script);
     scripts_keep();
     let end = end_of(&lines);
     let record = close_left::<D, F>(shared, left);
@@ -269,6 +287,7 @@ pub fn run_script<
     ensures ran { RunsScript (outside_told S.left S.faults O.written O.faults F.seen F.faults
         F.clashes F.first E.seen E.faults E.clashes E.first C.tells C.ahead)
         outside result.3 result.0 result.2.replies result.1 }
+    ensures files { ClosesFramedFiles (F.seen result.3.run_files) result.1 }
 {
     let (Ok(line_loop), Ok(declarations), Ok(database)) = (
         LineLoop::new(alloc),
@@ -282,14 +301,10 @@ pub fn run_script<
             outside,
         );
     };
-    run_session(
-        rt,
-        alloc,
+    let session = NewSession {
         database,
         line_loop,
         declarations,
-        outside,
-        gate,
-        cooperative,
-    )
+    };
+    run_session(rt, alloc, session, outside, gate, cooperative)
 }

@@ -6,6 +6,7 @@ ghost use Rattle.daq_io.specs.Streams.{AppendsPart};
 ghost use Rattle.command_words.specs.CommandLine.{HasForm, IsGenerate, IsOnFiles, IsRunWords};
 ghost use Rattle.command_words.specs.declared.forms.Tool.{Tool};
 ghost use Rattle.daq_session.specs.Environments.{outside_told};
+ghost use Rattle.daq_session.specs.FramedFiles.{ClosesFramedFiles};
 ghost use Rattle.daq_session.specs.Sessions.{RunsScript};
 ghost use Rattle.daq_session.specs.declared.ends.ScriptEnd.{ScriptEnd};
 ghost use Rattle.midas_cli.specs.Generating.{Generates};
@@ -78,6 +79,9 @@ pub fn midas<
     ensures picks { ¬ IsRunWords words.now → result.1.pick ≡ outside.pick }
     ensures session { ¬ IsRunWords words.now → result.0.session ≡ None }
     ensures file_replies { ¬ IsRunWords words.now → result.0.file_replies.replies ≡ [] }
+    // The run files: those of each channel that ended in a run are framed pieces that join to all events of front-ends in the run for
+    // which the channel asks, in each front-end's order.
+    ensures run_files { ClosesFramedFiles (F.seen result.1.run_files) result.0.session }
     // The words of a session: how the script ended, what it did, and what the record of its session tells of the histories, of
     // the runs and of their files; or nothing was done where the words found no memory.
     ensures ran { IsRunWords words.now → ((end : ScriptEnd) × (result.0.cause ≡ script_cause end)

@@ -327,7 +327,7 @@ module _ {D F : Type 0} {g : _} (seen : F → Seen) (fronts : List FrontDeclared
       record {
         speaks = subst (λ (l : List EngineEntry). are_calls_for (logger_client closed) l ≡ true) engine (subst (λ (n : ℕ). are_calls_for n logger.calls ≡ true) client seated.speaks);
         run = logger.run;
-        stop_dump = logger.stop_dump;
+        dumps = logger.dumps;
         ports = logger.ports;
         many = ended.members.logger.ports.many ∙ (sym ended.histories.many ∙ sym (many closed_buffer r.buffers));
         access = λ buffer a b at is.

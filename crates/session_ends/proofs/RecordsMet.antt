@@ -12,6 +12,7 @@ use Rattle.buffer_core.specs.Ports.{Access}
 use Rattle.buffer_core.specs.Slots.{slot_at}
 use Rattle.member_model.specs.RunEngines.{Sheet, EngineEntry}
 use Rattle.odb_lock.specs.SharedOdbs.{first_database}
+use Rattle.sub_files.specs.Patterns.{NamePattern, piece_name_by}
 use Rattle.mid_logger.specs.declared.channel.Channel.{Channel}
 use Rattle.mid_logger.specs.declared.channel_spec.ChannelSpec.{ChannelSpec}
 use Rattle.member_model.specs.Turns.{MemberTurn}
@@ -21,25 +22,27 @@ use Rattle.loggers.specs.LoggerStands.{logger_channel, logger_channels}
 use Rattle.loggers.specs.NewLoggers.{NoneTakenBack}
 use Rattle.loggers.specs.Reasons.{GivesReasons}
 use Rattle.loggers.specs.LeftNames.{NoneRose, KeepsNames}
-use Rattle.loggers.specs.OtherFiles.{AreDeclared}
+use Rattle.loggers.specs.OtherFiles.{AreDeclared, specs_in}
 use Rattle.session_runs.specs.MadeTransitions.{TransitionIn}
 use Rattle.session_setup.specs.declared.declared.AnalyzerDeclared.{AnalyzerDeclared}
 use Rattle.session_setup.specs.declared.declared.FrontDeclared.{FrontDeclared}
+use Rattle.session_runs.specs.declared.records.ChannelFiles.{ChannelFiles}
 use Rattle.session_runs.specs.declared.records.RunRecord.{RunRecord}
 use Rattle.session_runs.specs.declared.channels.RunChannel.{RunChannel}
 use Rattle.session_runs.specs.declared.on.CurrentRun.{CurrentRun}
+use Rattle.session_runs.specs.FileRows.{HasFileNamed}
 use Rattle.session_runs.specs.KeptRuns.{channels_of}
 use Rattle.session_runs.specs.RunEntries.{start_sheet}
 use Rattle.session_runs.specs.RunsFit.{MainOwn, RunClients, FitsRun, FitsOutcome, FitsRefused, FitsWhole, RecordsFit, run_of, start_of, starts_begun}
 use Rattle.daq_members.specs.LoggerSeats.{LoggerSeen, HasLoggerReasons, KeepsLoggerNames}
 use Rattle.session_objects.specs.declared.record.SessionRecord.{SessionRecord}
-use Rattle.session_laws.specs.ClosedSessions.{ClosedSession, logger_client, logger_caller, engine_calls}
+use Rattle.session_laws.specs.ClosedSessions.{ClosedSession, logger_client, logger_caller, engine_calls, session_of}
 use Rattle.session_laws.specs.EndLaws.{SessionHolds}
 use Rattle.session_laws.specs.CountedFaults.{LoggerReasons, LoggerNames, CountsHold, CountsTell}
-use Rattle.session_laws.specs.RecordedRuns.{ListsFile, run_channels, clients_in, ChannelsAgree, RecordsHold}
+use Rattle.session_laws.specs.RecordedRuns.{ChannelFilesHold, ListsChannel, run_channels, clients_in, ChannelsAgree, RecordsHold}
 use Rattle.session_laws.specs.OneAnswer.{OneAnswer, OneAnswerEach, RisesTold, RisesToldEach}
 use Rattle.session_laws.specs.RefusedRecords.{RecordsRefused}
-use Rattle.session_laws.specs.OtherNames.{RefusesStart, GivesNoName, IsUnmadeName, AreStartsOver}
+use Rattle.session_laws.specs.OtherNames.{RefusesStart, GivesNoName, GivesOthers, IsUnmadeName, AreStartsOver}
 use Rattle.session_laws.specs.MadeRuns.{RunIn}
 use Rattle.composition.specs.SessionRuns.{SessionRun}
 use Rattle.session_laws.proofs.LoggerEnd.{GotAll}
@@ -158,7 +161,7 @@ module _ {D F : Type 0} {g : _} (seen : F → Seen) (fronts : List FrontDeclared
       (subst (λ (clients : RunClients). RecordsFit clients own r.runs) (same_clients agree channels declared) fits)
 
   pub rises_met : GotAll → RisesToldEach → ChannelsAgree → (read : F → RunFiles) → HasLoggerReasons read logger → (channels : List ChannelSpec) → AreDeclared channels logger.slots → (own : MainOwn) → (more : List EngineEntry) → ended.own ≡ own.engine ++ more → starts_begun more ≡ []
-      → RecordsFit (clients_declared fronts channels analyzers) own r.runs → RisesTold r.runs (read logger.first) (read logger.files)
+      → RecordsFit (clients_declared fronts channels analyzers) own r.runs → RisesTold (specs_in logger.slots) r.runs (read logger.first) (read logger.files)
   rises_met all each agree read reasons channels declared own more calls none fits =
       each closed (ends_met seen fronts analyzers logger r ended all) (read logger.first) (read logger.files) (reasons_met all read reasons) own more
       (engine_by_main seen fronts analyzers logger r ended ∙ calls) none r.runs
@@ -222,6 +225,29 @@ module _ {D F : Type 0} {g : _} (seen : F → Seen) (fronts : List FrontDeclared
         | inr so_far ↦ inr (so_far.holds.run, so_far.holds.made, so_far.holds.start)
       ])
 
+  -- no file of the channel has the name, where no file of the run's record has it
+  gives_others : (holds : SessionHolds closed) (own : MainOwn) (kept : RunRecord) (so : RecordSo closed holds.moments own kept) (name : List ℕ) → (HasFileNamed kept.run kept.files name → ⊥) → (number : ℕ) (channel : Channel) → slot_at logger.slots number ≡ Some channel → GivesOthers closed so.holds.run channel name
+  gives_others holds own kept so name none number channel there =
+      let listed = channel_listed logger.slots number channel there in
+      let here : ListsChannel kept (logger_channel 0 channel) = so.holds.each_channel listed.0 (logger_channel 0 channel) listed.1 in
+      let files : ChannelFiles = here.files in
+      let has : ChannelFilesHold (session_of closed holds.moments) so.holds.run files = so.holds.files here.place files here.at in
+      let told = has.told in
+      let same : has.channel.number ≡ channel.spec.number = sym has.number ∙ here.number in
+      let run : so.holds.run.first.run ≡ kept.run = ap (λ (s : Sheet). s.run) so.holds.first_is in
+      record {
+        told = files.told;
+        tells = record { index = told.index; ends = told.ends; tells = told.tells; at = subst (λ (n : ℕ). slice_get told.ends n ≡ Some files.told) same told.at };
+        others = λ sub less is. none (record {
+          place = here.place;
+          of = files;
+          at = here.at;
+          number = sub;
+          made = less;
+          is = ap (λ (p : NamePattern). piece_name_by p kept.run sub) here.pattern ∙ (ap (λ (n : ℕ). piece_name_by channel.spec.pattern n sub) (sym run) ∙ is);
+        });
+      }
+
   unmade : (holds : SessionHolds closed) (channels : List ChannelSpec) (own : MainOwn) (more : List EngineEntry) → ended.own ≡ own.engine ++ more → starts_begun more ≡ [] → RecordsFit (clients_declared fronts channels analyzers) own r.runs
       → ((place : ℕ) (kept : RunRecord) → slice_get r.runs place ≡ Some kept → kept.outcome ≡ Completed → RecordSo closed holds.moments own kept) → (name : List ℕ) → IsInNoRecord r.runs name → IsUnmadeName closed name
   unmade holds channels own more calls none fits so name unlisted start among =
@@ -233,9 +259,7 @@ module _ {D F : Type 0} {g : _} (seen : F → Seen) (fronts : List FrontDeclared
           run = so_far.holds.run;
           made = so_far.holds.made;
           of = so_far.holds.start;
-          other = λ number channel there same.
-              let listed = channel_listed logger.slots number channel there in
-              unlisted o.place o.kept o.at (subst (λ (l : List ℕ). ListsFile o.kept l) same (so_far.holds.each_file listed.0 (logger_channel 0 channel) listed.1));
+          each = gives_others holds own o.kept so_far name (unlisted o.place o.kept o.at);
         })
       ])
 

@@ -9,11 +9,12 @@ use Rattle.member_model.specs.RunEngines.{EngineEntry}
 use Rattle.odb_lock.specs.SharedOdbs.{first_database}
 use Rattle.mid_logger.specs.declared.channel_spec.ChannelSpec.{ChannelSpec}
 use Rattle.loggers.specs.Moments.{RunFiles}
-use Rattle.loggers.specs.OtherFiles.{AreDeclared}
+use Rattle.loggers.specs.OtherFiles.{AreDeclared, specs_in}
 use Rattle.loggers.specs.LeftNames.{NoneRose}
 use Rattle.session_setup.specs.declared.declared.AnalyzerDeclared.{AnalyzerDeclared}
 use Rattle.session_setup.specs.declared.declared.FrontDeclared.{FrontDeclared}
 use Rattle.session_runs.specs.declared.records.RunRecord.{RunRecord}
+use Rattle.session_runs.specs.FileRows.{HasFileNamed}
 use Rattle.session_runs.specs.KeptRuns.{channels_of}
 use Rattle.session_runs.specs.RunEntries.{start_sheet, later_sheet, dump_saved}
 use Rattle.session_runs.specs.RunsFit.{MainOwn, RunClients, FitsRefused, FitsRun, FitsWhole, RecordsFit, run_of, starts_begun}
@@ -24,7 +25,7 @@ use Rattle.session_laws.specs.EndLaws.{SessionHolds}
 use Rattle.session_laws.specs.CountedFaults.{CountsHold}
 use Rattle.session_laws.specs.OneAnswer.{OneAnswer, RisesTold}
 use Rattle.session_laws.specs.OtherNames.{AreStartsOver}
-use Rattle.session_laws.specs.RecordedRuns.{ListsFile, RecordHolds, clients_in}
+use Rattle.session_laws.specs.RecordedRuns.{RecordHolds, clients_in}
 use Rattle.session_laws.specs.RefusedRecords.{IsRefusedRecord}
 use Rattle.session_ends.specs.EndedSessions.{closed_session, SessionEnded}
 
@@ -72,7 +73,8 @@ StartsOverSo {D} {F} seen r = (fronts : List FrontDeclared) → (analyzers : Lis
 
 -- none of these records has a file of this name
 abbrev pub IsInNoRecord : List RunRecord → (name : List ℕ) → Type 0
-IsInNoRecord records name = (place : ℕ) → (r : RunRecord) → slice_get records place ≡ Some r → ListsFile r name → ⊥
+IsInNoRecord records name = (place : ℕ) → (r : RunRecord) → slice_get records place ≡ Some r →
+    HasFileNamed r.run r.files name → ⊥
 
 -- Where there is one record for each start that the main thread began, names are told, and no fault was counted: each name that
 -- is in no record is there where it was as the logger took its seat, with the same bytes.
@@ -97,14 +99,14 @@ OneAnswerSo {D} {F} seen read r = (fronts : List FrontDeclared) → (analyzers :
     OneAnswer r.runs (read logger.first) (read logger.files)
 
 -- And none is counted without an answer: where there is one record for each start that the main thread began, each rise of a
--- count is told.
+-- count is told, but for clashes of next files' names, where a channel has a limit.
 abbrev pub RisesToldSo : {D F : Type 0} {g : _} → (seen : F → Seen) → (read : F → RunFiles) → SessionRecord D g → Type 0
 RisesToldSo {D} {F} seen read r = (fronts : List FrontDeclared) → (analyzers : List AnalyzerDeclared) → (logger : LoggerSeen F) →
     (ended : SessionEnded seen fronts analyzers logger r) → HasLoggerReasons read logger →
     (channels : List ChannelSpec) → AreDeclared channels logger.slots →
     (own : MainOwn) → (more : List EngineEntry) → ended.own ≡ own.engine ++ more → starts_begun more ≡ [] →
     RecordsFit (clients_declared fronts channels analyzers) own r.runs →
-    RisesTold r.runs (read logger.first) (read logger.files)
+    RisesTold (specs_in logger.slots) r.runs (read logger.first) (read logger.files)
 
 -- The record of a start that was refused fits the main thread's own calls, with the quota of its start, and was refused so.
 pub record RefusalSo (c : ClosedSession) (first now : RunFiles) (own : MainOwn) (r : RunRecord) (client : ℕ) (why : Why) : Type 0 where

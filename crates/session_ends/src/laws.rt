@@ -87,7 +87,7 @@ where
 }
 
 /// One fault of the run files gives one answer, and so does one clash of their names: each start that was refused for one, and each
-/// file that broke off, had its own, which was counted.
+/// channel that broke off, had its own, which was counted.
 pub fn one_answer_end<D: Database, F: Files>(_kept: &SessionRecord<D>)
 where
     LockedDatabase<D>: Machine<State = WatchedSeen, Entry = WatchEntry>,
@@ -98,7 +98,8 @@ where
     closed::channels_agree();
 }
 
-/// And none is counted without an answer: where there is a record for each start, each rise of a count of the run files is told.
+/// And none is counted without an answer: where there is a record for each start, each rise of a count of the run files is told, but
+/// for clashes of next files' names, where a channel has a limit.
 pub fn rises_end<D: Database, F: Files>(_kept: &SessionRecord<D>)
 where
     LockedDatabase<D>: Machine<State = WatchedSeen, Entry = WatchEntry>,

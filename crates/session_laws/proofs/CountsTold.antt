@@ -2,6 +2,7 @@
 use Rattle.std.specs.Prelude.{◌≡◌, ℕ, true, IsTrue, List, [], slice_get, Option, Some, None, refl}
 use Rattle.std.proofs.Common.{ap, sym, subst, ◌∙◌, arith, inl, inr}
 use Rattle.daq_types.specs.Callers.{caller_of_client, main_caller}
+use Rattle.daq_types.specs.declared.runs.ChannelEnd.{ChannelEnd}
 use Rattle.daq_types.specs.declared.runs.ChannelState.{ChannelState}
 use Rattle.daq_types.specs.declared.runs.ChannelState.TheVariants.{Idle, Writing, Broken, Ended, NoEnd, NoMark}
 use Rattle.daq_types.specs.declared.runs.Order.{Order}
@@ -22,14 +23,14 @@ use Rattle.member_model.specs.LoggerKept.{LoggerChannel, IsStateSo}
 use Rattle.loggers.specs.Moments.{RunFiles}
 use Rattle.loggers.specs.LoggerStands.{logger_channels}
 use Rattle.loggers.specs.OtherFiles.{specs_in}
-use Rattle.loggers.specs.Reasons.{AreStatesSo, AreAnswersSo, NamesRefuser, AnswerFits, ReasonsTell}
+use Rattle.loggers.specs.Reasons.{AreEndsSo, AreAnswersSo, NamesRefuser, AnswerFits, ReasonsTell}
 use Rattle.loggers.specs.LeftNames.{NoneRose}
 use Rattle.analyzers.specs.AnalyzerKept.{IsAnalyzerReason}
 use Rattle.session_laws.specs.BlankLaws.{BlanksSuffice}
 use Rattle.engine_laws.specs.BegunTurns.{HasTransition, IsRefusedTurn, IsTallyOfTurn}
 use Rattle.engine_laws.specs.EngineLaws.{MainHasTransition, RefusalsAreAnswers, TalliesAreAnswers, RunsAreOver}
 use Rattle.composition.specs.Sessions.{Session, buffer_calls}
-use Rattle.composition.specs.SessionRuns.{SessionRun, IsStoppedRun, ToldState}
+use Rattle.composition.specs.SessionRuns.{SessionRun, IsStoppedRun, ToldChannel}
 use Rattle.composition.specs.CompositionLaws.{IsComposed}
 use Rattle.composition.proofs.FilesTogether.{yes_channels}
 use Rattle.composition.proofs.SessionTurns.{speaks}
@@ -48,7 +49,8 @@ use Rattle.session_laws.proofs.BlanksGiven.{few_blanks}
 use Rattle.session_laws.proofs.RunsMade.{has_made}
 use Rattle.session_laws.specs.OtherNames.{AreStartsOver, IsTakenName}
 use Rattle.session_laws.proofs.TakenNames.{taken_name}
-use Rattle.session_laws.proofs.UndoneNames.{UndoneLaws, firsts_stay, undone_stay}
+use Rattle.session_laws.proofs.RunTurns.{TurnLaws}
+use Rattle.session_laws.proofs.UndoneNames.{firsts_stay, undone_stay}
 
 -- the laws of engines, of loggers, and of closed sessions
 pub record CountLaws : Type 0 where
@@ -58,7 +60,7 @@ pub record CountLaws : Type 0 where
   pub tell : ReasonsTell
   pub composed : EndsComposed
   pub stopped : MadeAreStopped
-  pub undone : UndoneLaws
+  pub turns : TurnLaws
   pub over : RunsAreOver
   pub asking : AskLaws
   pub blanks : BlanksSuffice
@@ -99,12 +101,12 @@ refuser_so c ends first now reasons why turn stands answered =
 -- why the logger answered so
 logger_reason : CountLaws → (c : ClosedSession) (ends : MembersAtEnd c) (first now : RunFiles) → LoggerReasons c ends first now → (why : Why) (turn : MemberTurn) → HasTurn (member_turns (logger_client c) (engine_calls c (logger_caller c))) turn → turn.transition ≡ Start → turn.answer ≡ Some (No why)
     → IsLoggerReason c why first now
-logger_reason laws c ends first now reasons NotReady turn stands starts answered = absurd (never_unready laws.undone laws.over c ends turn stands starts answered)
+logger_reason laws c ends first now reasons NotReady turn stands starts answered = absurd (never_unready laws.turns laws.over c ends turn stands starts answered)
 logger_reason laws c ends first now reasons (Exists channel) turn stands starts answered =
     (refuser_so c ends first now reasons (Exists channel) turn stands answered, answers_so laws c ends first now reasons turn (No (Exists channel)) stands answered)
 logger_reason laws c ends first now reasons (Fault channel) turn stands starts answered =
     (refuser_so c ends first now reasons (Fault channel) turn stands answered, answers_so laws c ends first now reasons turn (No (Fault channel)) stands answered)
-logger_reason laws c ends first now reasons BufferRefused turn stands starts answered = absurd (logger_granted laws.undone laws.asking c ends laws.over (reasons.buffers turn stands answered))
+logger_reason laws c ends first now reasons BufferRefused turn stands starts answered = absurd (logger_granted laws.turns laws.asking c ends laws.over (reasons.buffers turn stands answered))
 
 logger_refuses : CountLaws → (c : ClosedSession) (ends : MembersAtEnd c) (first now : RunFiles) → LoggerReasons c ends first now → (sheet : Sheet) (start : ℕ) (why : Why) (tallies : List ClientTally) → RefusesBy c first now sheet start why tallies (logger_caller c)
 logger_refuses laws c ends first now reasons sheet start why tallies client is turn stands starts answered has =
@@ -119,7 +121,7 @@ analyzer_reason laws c ends place a at sheet start tallies NotReady has so =
     record { place = place; analyzer = a; stands = at; is = refl; why_is = refl; few_blanks = few_blanks laws.blanks c ends place a at sheet start tallies has }
 analyzer_reason laws c ends place a at sheet start tallies (Exists channel) has so = absurd so
 analyzer_reason laws c ends place a at sheet start tallies (Fault channel) has so = absurd so
-analyzer_reason laws c ends place a at sheet start tallies BufferRefused has so = absurd (analyzer_granted laws.undone laws.asking c ends place a at so)
+analyzer_reason laws c ends place a at sheet start tallies BufferRefused has so = absurd (analyzer_granted laws.turns laws.asking c ends place a at so)
 
 analyzer_refuses : CountLaws → (c : ClosedSession) → MembersAtEnd c → (first now : RunFiles) (sheet : Sheet) (start : ℕ) (why : Why) (tallies : List ClientTally) (place : ℕ) (a : ClosedAnalyzer) → slice_get c.analyzers place ≡ Some a → RefusesBy c first now sheet start why tallies (caller_of_client (analyzer_client c place))
 analyzer_refuses laws c ends first now sheet start why tallies place a at client is turn stands starts answered has =
@@ -154,38 +156,38 @@ started_so laws c ends sheet start tallies made client f at =
 
 -- Channels.
 
-broken_so : CountLaws → (c : ClosedSession) (ends : MembersAtEnd c) (first now : RunFiles) → LoggerReasons c ends first now → (moments : (client : ℕ) → List ℕ) (r : SessionRun) → RunIn (engine_calls c main_caller) r → (channel : LoggerChannel) → ToldState (session_of c moments) r channel Broken
-    → Rose first.faults now.faults
-broken_so laws c ends first now reasons moments r made channel told =
+broken_so : CountLaws → (c : ClosedSession) (ends : MembersAtEnd c) (first now : RunFiles) → LoggerReasons c ends first now → (moments : (client : ℕ) → List ℕ) (r : SessionRun) → RunIn (engine_calls c main_caller) r → (channel : LoggerChannel) (told : ChannelEnd) → ToldChannel (session_of c moments) r channel told
+    → told.state ≡ Broken → Rose first.faults now.faults
+broken_so laws c ends first now reasons moments r made channel told tells broken =
     let n : ℕ = logger_client c in
     let run : IsStoppedRun (session_of c moments) r = laws.stopped (session_of c moments) ends.engine r made in
-    let t : IsTallyOfTurn c.engine n (member_turns n (engine_calls c (logger_caller c))) (state_at (engine_past run.stopped.earlier)) Stop r.last r.start Completed (Channels told.states) =
-    laws.tallies (logger_caller c) n c.engine ends.engine (speaks n c.engine (names_own c ends)) Stop r.last r.start Completed r.last_tallies run.stopped told.index (Channels told.states) told.told in
-    let answered : t.turn.answer ≡ Some (Yes (Channels told.states)) = t.answered ∙ ap (λ (a : Answer). Some a) (yes_channels t.answer told.states t.tally_is) in
-    let so : AreStatesSo told.states first now = answers_so laws c ends first now reasons t.turn (Yes (Channels told.states)) t.stands answered in
-    so channel.number told.state_is
+    let t : IsTallyOfTurn c.engine n (member_turns n (engine_calls c (logger_caller c))) (state_at (engine_past run.stopped.earlier)) Stop r.last r.start Completed (Channels tells.ends) =
+    laws.tallies (logger_caller c) n c.engine ends.engine (speaks n c.engine (names_own c ends)) Stop r.last r.start Completed r.last_tallies run.stopped tells.index (Channels tells.ends) tells.tells in
+    let answered : t.turn.answer ≡ Some (Yes (Channels tells.ends)) = t.answered ∙ ap (λ (a : Answer). Some a) (yes_channels t.answer tells.ends t.tally_is) in
+    let so : AreEndsSo tells.ends first now = answers_so laws c ends first now reasons t.turn (Yes (Channels tells.ends)) t.stands answered in
+    so channel.number told tells.at broken
 
 with_dump : (dump : Option (List ℕ)) → (dump ≡ None → ⊥) → Ended ≡ state_by_dump dump
 with_dump None some = absurd (some refl)
 with_dump (Some bytes) some = refl
 
-state_is : (s : Session) → IsComposed s → (r : SessionRun) → IsStoppedRun s r → (index : ℕ) (channel : LoggerChannel) → slice_get s.channels index ≡ Some channel → (ToldState s r channel Broken → ⊥) → (state : ChannelState) → ToldState s r channel state
+state_is : (s : Session) → IsComposed s → (r : SessionRun) → IsStoppedRun s r → (index : ℕ) (channel : LoggerChannel) → slice_get s.channels index ≡ Some channel → (told : ChannelEnd) → ToldChannel s r channel told → (told.state ≡ Broken → ⊥) → (state : ChannelState) → told.state ≡ state
     → IsStateSo (buffer_calls s channel.buffer s.logger) r.start r.last.dump state → state ≡ state_by_dump r.last.dump
-state_is s composed r run index channel at none Idle told so = absurd so
-state_is s composed r run index channel at none Writing told so = absurd so
-state_is s composed r run index channel at none Broken told so = absurd (none told)
-state_is s composed r run index channel at none Ended told so = with_dump r.last.dump so.0
-state_is s composed r run index channel at none NoEnd told so = ap state_by_dump (sym so.0)
-state_is s composed r run index channel at none NoMark told so = absurd (composed.no_end_refused r run index channel at told)
+state_is s composed r run index channel at told tells none Idle is so = absurd so
+state_is s composed r run index channel at told tells none Writing is so = absurd so
+state_is s composed r run index channel at told tells none Broken is so = absurd (none is)
+state_is s composed r run index channel at told tells none Ended is so = with_dump r.last.dump so.0
+state_is s composed r run index channel at told tells none NoEnd is so = ap state_by_dump (sym so.0)
+state_is s composed r run index channel at told tells none NoMark is so = absurd (composed.no_end_refused r run index channel at told tells is)
 
 ended_so : CountLaws → (c : ClosedSession) (ends : MembersAtEnd c) (first now : RunFiles) → LoggerReasons c ends first now → (Rose first.faults now.faults → ⊥) → (moments : (client : ℕ) → List ℕ) (r : SessionRun) → RunIn (engine_calls c main_caller) r → (index : ℕ) (channel : LoggerChannel)
-    → slice_get (logger_channels (λ number. 0) c.slots) index ≡ Some channel → (state : ChannelState) → ToldState (session_of c moments) r channel state → state ≡ state_by_dump r.last.dump
-ended_so laws c ends first now reasons stays moments r made index channel at state told =
+    → slice_get (logger_channels (λ number. 0) c.slots) index ≡ Some channel → (told : ChannelEnd) → ToldChannel (session_of c moments) r channel told → told.state ≡ state_by_dump r.last.dump
+ended_so laws c ends first now reasons stays moments r made index channel at told tells =
     let composed = laws.composed c ends in
     let s : Session = session_of c composed.0 in
     let run : IsStoppedRun s r = laws.stopped s ends.engine r made in
-    let here : ToldState s r channel state = record { index = told.index; states = told.states; told = told.told; state_is = told.state_is } in
-    state_is s composed.1 r run index channel at (λ broken. stays (broken_so laws c ends first now reasons composed.0 r made channel broken)) state here (composed.1.states_so r run index channel at state here)
+    let here : ToldChannel s r channel told = record { index = tells.index; ends = tells.ends; tells = tells.tells; at = tells.at } in
+    state_is s composed.1 r run index channel at told here (λ broken. stays (broken_so laws c ends first now reasons composed.0 r made channel told here broken)) told.state refl (composed.1.ends_so r run index channel at told here).state
 
 -- Names that were taken.
 
@@ -195,7 +197,7 @@ taken_so laws c ends first now reasons names tells none over sheet start number 
     let n : ℕ = logger_client c in
     let has : HasTransition c.engine Start sheet start (Refused n (Exists number)) tallies = has_made laws.main c.engine Start sheet start (Refused n (Exists number)) tallies ends.engine made in
     let r = refused_turn laws c ends sheet start n (Exists number) tallies has in
-    taken_name laws.undone laws.over c ends first now names tells none over r.turn r.stands r.starts number r.answered sheet.run start (ap (λ (o : Order). o.run) r.of_begin.order) (ap (λ (o : Order). o.start) r.of_begin.order)
+    taken_name laws.turns laws.over c ends first now names tells none over r.turn r.stands r.starts number r.answered sheet.run start (ap (λ (o : Order). o.run) r.of_begin.order) (ap (λ (o : Order). o.start) r.of_begin.order)
 
 pub counts_tell : CountLaws → CountsTell
 counts_tell laws c ends first now reasons names = record {
@@ -203,7 +205,7 @@ counts_tell laws c ends first now reasons names = record {
   started = started_so laws c ends;
   broken = broken_so laws c ends first now reasons;
   ended = ended_so laws c ends first now reasons;
-  names = undone_stay laws.undone c ends first now names;
-  kept = firsts_stay laws.undone c ends first now names;
+  names = undone_stay laws.turns c ends first now names;
+  kept = firsts_stay laws.turns c ends first now names;
   taken = taken_so laws c ends first now reasons names;
 }

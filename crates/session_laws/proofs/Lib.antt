@@ -13,6 +13,7 @@ pub mod FrontsEnd
 pub mod KeptTogether
 pub mod RunsMade
 pub mod NamesStay
+pub mod RunTurns
 pub mod UndoneNames
 pub mod LoggerRefusals
 pub mod NoneRefused

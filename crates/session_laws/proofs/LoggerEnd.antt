@@ -153,7 +153,7 @@ logger_keeps law all c ends =
     let channels : List LoggerChannel = logger_channels (λ number. 0) c.slots in
     let turns = member_turns (logger_client c) (engine_calls c (logger_caller c)) in
     let stands = ends.logger.stands (none_taken_back c ends) in
-    let kept : KeepsLogger channels (logger_ports ends.logger.ports) turns c.files = law ends.logger.run ends.logger.stop_dump c.slots ends.logger.ports turns c.files (λ number. 0) stands in
+    let kept : KeepsLogger channels (logger_ports ends.logger.ports) turns c.files = law ends.logger.run ends.logger.dumps c.slots ends.logger.ports turns c.files (λ number. 0) stands in
     let same : logger_ports ends.logger.ports ≡ (λ buffer. record { own = calls_on_buffer c (logger_caller c) buffer; got = got_from_buffer c (logger_caller c) buffer }) =
     (λ i buffer. port_at all c ends buffer (both_at ends.logger.ports c.buffers buffer ends.logger.many) i) in
     subst (λ (p : ℕ → LoggerPort). KeepsLogger channels p turns c.files) same kept

@@ -20,7 +20,7 @@ use Rattle.session_laws.proofs.KeptTogether.{names_own}
 use Rattle.session_laws.proofs.LoggerEnd.{BothAt, Both, Neither, none_taken_back}
 use Rattle.session_laws.proofs.MainFirst.{registered}
 use Rattle.session_laws.proofs.Registrations.{logger_at}
-use Rattle.session_laws.proofs.UndoneNames.{UndoneLaws}
+use Rattle.session_laws.proofs.RunTurns.{TurnLaws}
 
 -- Not ready.
 
@@ -45,7 +45,7 @@ always_called c ends earlier later caller begun sheet start whole =
       registered c ends n m.0 m.1 StartAbort 800 (ap (λ (role : Role). sequence_for (sequences_of role) StartAbort) m.2) (λ client. []) earlier later caller begun sheet start whole,
     )
 
-pub never_unready : UndoneLaws → RunsAreOver → (c : ClosedSession) (ends : MembersAtEnd c) (turn : MemberTurn) → HasTurn (member_turns (logger_client c) (engine_calls c (logger_caller c))) turn → turn.transition ≡ Start → turn.answer ≡ Some (No NotReady) → ⊥
+pub never_unready : TurnLaws → RunsAreOver → (c : ClosedSession) (ends : MembersAtEnd c) (turn : MemberTurn) → HasTurn (member_turns (logger_client c) (engine_calls c (logger_caller c))) turn → turn.transition ≡ Start → turn.answer ≡ Some (No NotReady) → ⊥
 never_unready laws over c ends turn has starts answered =
     let n : ℕ = logger_client c in
     let turns : List MemberTurn = member_turns n (engine_calls c (logger_caller c)) in

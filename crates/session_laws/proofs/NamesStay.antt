@@ -16,9 +16,9 @@ use Rattle.transitions.specs.EnginePoints.{engine_past, state_at}
 use Rattle.member_model.specs.RunEngines.{Sheet, EngineEntry, IsEngineCaller, IsLegalEngine}
 use Rattle.member_model.specs.Turns.{MemberTurn, HasTurn}
 use Rattle.member_model.specs.TurnCalls.{member_turns}
+use Rattle.sub_files.specs.Patterns.{piece_name_by}
 use Rattle.mid_logger.specs.declared.channel.Channel.{Channel}
 use Rattle.mid_logger.specs.declared.channel_spec.ChannelSpec.{ChannelSpec}
-use Rattle.mid_logger.specs.Patterns.{file_name_by}
 use Rattle.loggers.specs.OtherFiles.{specs_in, IsRunName, KeepsOtherFiles}
 use Rattle.engine_laws.specs.BegunTurns.{WasBegun}
 use Rattle.engine_laws.specs.EngineLaws.{TurnsWereBegun}
@@ -137,6 +137,6 @@ names_stay law c ends name other =
     let kept : KeepsOtherFiles (specs_in c.slots) (started_runs turns) c.first_files c.files = ends.logger.others (none_taken_back c ends) in
     let never : IsRunName (specs_in c.slots) (started_runs turns) name → ⊥ = λ is.
     (let channel : HasSpec c.slots is.number is.spec = has_spec c.slots is.number is.spec is.there in
-    other is.run is.number channel.channel (starts_run law c ends is.run (start_turn turns is.run is.among)) channel.at
-    (ap (λ (s : ChannelSpec). file_name_by s.pattern is.run) channel.is ∙ is.is)) in
+    other is.run is.number is.sub channel.channel (starts_run law c ends is.run (start_turn turns is.run is.among)) channel.at is.few
+    (ap (λ (s : ChannelSpec). piece_name_by s.pattern is.run is.sub) channel.is ∙ is.is)) in
     kept.others name never

@@ -39,7 +39,7 @@ use Rattle.session_laws.proofs.GotSent.{legal_buffer}
 use Rattle.session_laws.proofs.KeptTogether.{names_own}
 use Rattle.session_laws.proofs.LoggerEnd.{BothAt, Both, Neither, both_at, none_taken_back}
 use Rattle.session_laws.proofs.LoggerRefusals.{always_called, own_by}
-use Rattle.session_laws.proofs.UndoneNames.{UndoneLaws, are_turns}
+use Rattle.session_laws.proofs.RunTurns.{TurnLaws, are_turns}
 
 -- the laws of what a buffer refuses
 pub record AskLaws : Type 0 where
@@ -158,11 +158,11 @@ sends_none (e ∷ own) sends = omega (arith, sum_by-cons attaches_by e own, send
 none_attached : (own : List BufferEntry) → own ≡ [] → attaches_made own ≡ 0
 none_attached own none = ap attaches_made none
 
-module _ (laws : UndoneLaws) (asking : AskLaws) (c : ClosedSession) (ends : MembersAtEnd c) where
+module _ (laws : TurnLaws) (asking : AskLaws) (c : ClosedSession) (ends : MembersAtEnd c) where
   abbrev turns : List MemberTurn
   turns = member_turns (logger_client c) (engine_calls c (logger_caller c))
 
-  stands : LoggerStands ends.logger.run ends.logger.stop_dump c.slots ends.logger.ports turns c.files
+  stands : LoggerStands ends.logger.run ends.logger.dumps c.slots ends.logger.ports turns c.files
   stands = ends.logger.stands (none_taken_back c ends)
 
   abbrev attached : (buffer by : ℕ) → ℕ

@@ -8,7 +8,7 @@ use Rattle.std.proofs.lemmas.List.Elements.{Contains-append_left}
 use Rattle.std.proofs.lemmas.List.Sums.{sum_by-cons}
 use Rattle.std.proofs.lemmas.Option.{get_or_from_slice_get, slice_get_within}
 use Rattle.daq_types.specs.Callers.{entries_by, main_caller}
-use Rattle.daq_types.specs.declared.runs.ChannelState.{ChannelState}
+use Rattle.daq_types.specs.declared.runs.ChannelEnd.{ChannelEnd}
 use Rattle.daq_types.specs.declared.runs.Order.{Order}
 use Rattle.daq_types.specs.declared.runs.StartOutcome.{StartOutcome}
 use Rattle.daq_types.specs.declared.runs.StartOutcome.TheVariants.{Completed, Refused}
@@ -34,14 +34,14 @@ use Rattle.loggers.proofs.ManyRose.{has_counts}
 use Rattle.engine_laws.specs.BegunTurns.{HasTransition, IsRefusedTurn, IsTallyOfTurn}
 use Rattle.engine_laws.specs.EngineLaws.{MainHasTransition, RefusalsAreAnswers, TalliesAreAnswers}
 use Rattle.engine_laws.proofs.MainCalls.{OwnAt, own_at}
-use Rattle.session_runs.specs.declared.records.FileRecord.{FileRecord}
+use Rattle.session_runs.specs.declared.records.ChannelFiles.{ChannelFiles}
 use Rattle.session_runs.specs.declared.records.RunRecord.{RunRecord}
 use Rattle.session_runs.specs.MadeTransitions.{TransitionIn}
 use Rattle.session_runs.specs.declared.channels.RunChannel.{RunChannel}
 use Rattle.session_runs.specs.KeptRuns.{run_channel}
 use Rattle.session_runs.specs.RunEntries.{start_sheet, later_sheet, dump_saved}
 use Rattle.session_runs.specs.RunsFit.{MainOwn, FitsRun, FitsOutcome, FitsRefused, FitsWhole, run_of, start_begun, start_of, starts_begun}
-use Rattle.session_runs.specs.ToldTallies.{ended_file, files_told, files_of, states_told}
+use Rattle.session_runs.specs.ToldTallies.{ended_files, files_told, files_of, ends_told}
 use Rattle.composition.proofs.FilesTogether.{yes_channels}
 use Rattle.composition.proofs.SessionTurns.{StartsRise, speaks}
 use Rattle.session_laws.specs.ClosedSessions.{ClosedSession, logger_client, logger_caller, engine_calls}
@@ -53,7 +53,7 @@ use Rattle.session_laws.specs.OneAnswer.{faults_of_outcome, clashes_of_outcome, 
 use Rattle.session_laws.proofs.EachCaller.{all_each}
 use Rattle.session_laws.proofs.KeptTogether.{names_own}
 use Rattle.session_laws.proofs.LoggerEnd.{none_taken_back}
-use Rattle.session_laws.proofs.RecordsMade.{made_then, made_behind, ToldStates, states_so}
+use Rattle.session_laws.proofs.RecordsMade.{made_then, made_behind, ToldEnds, ends_so}
 use Rattle.session_laws.proofs.RunsMade.{has_made}
 
 -- Sums.
@@ -238,63 +238,67 @@ starts_differ rise c ends own more calls first second start at other = once (sta
 
 -- Files.
 
-abbrev pub faults_of_file : FileRecord → ℕ
-faults_of_file file = faults_of_state file.state
+abbrev pub faults_of_files : ChannelFiles → ℕ
+faults_of_files files = faults_of_state files.told.state
+
+-- what is told of one channel counts for its state
+abbrev pub faults_of_end : ChannelEnd → ℕ
+faults_of_end told = faults_of_state told.state
 
 -- the channels have the numbers from this one on
 abbrev AreNumberedFrom : (place : ℕ) → List (Option Channel) → Type 0
 AreNumberedFrom place slots = (n : ℕ) → (c : Channel) → slot_at slots n ≡ Some c → c.spec.number ≡ place + n
 
-abbrev pub state_counts : Option ChannelState → ℕ
-state_counts None = 0
-state_counts (Some state) = faults_of_state state
+abbrev pub end_counts : Option ChannelEnd → ℕ
+end_counts None = 0
+end_counts (Some told) = faults_of_end told
 
--- the faults of the states from this place on, as many as there are slots
-abbrev counts_from : List ChannelState → (place : ℕ) → List (Option Channel) → ℕ
-counts_from states place [] = 0
-counts_from states place (o ∷ os) = state_counts (slice_get states place) + counts_from states (suc place) os
+-- the faults of what is told from this place on, as many as there are slots
+abbrev counts_from : List ChannelEnd → (place : ℕ) → List (Option Channel) → ℕ
+counts_from told place [] = 0
+counts_from told place (o ∷ os) = end_counts (slice_get told place) + counts_from told (suc place) os
 
-pub file_first : (run : ℕ) (ch : RunChannel) (rest : List FileRecord) (o : Option ChannelState) → sum_by faults_of_file (option_to_list (option_map (ended_file run ch) o) ++ rest) ≡ state_counts o + sum_by faults_of_file rest
-file_first run ch rest None = omega arith
-file_first run ch rest (Some state) = sum_by-cons faults_of_file (ended_file run ch state) rest
+pub files_first : (ch : RunChannel) (rest : List ChannelFiles) (o : Option ChannelEnd) → sum_by faults_of_files (option_to_list (option_map (ended_files ch) o) ++ rest) ≡ end_counts o + sum_by faults_of_files rest
+files_first ch rest None = omega arith
+files_first ch rest (Some told) = sum_by-cons faults_of_files (ended_files ch told) rest
 
 numbered_later : (place : ℕ) (o : Option Channel) (os : List (Option Channel)) → AreNumberedFrom place (o ∷ os) → AreNumberedFrom (suc place) os
 numbered_later place o os numbered n c there = numbered (suc n) c there ∙ omega arith
 
-files_from : (states : List ChannelState) (run place : ℕ) (slots : List (Option Channel)) → AreNumberedFrom place slots → sum_by faults_of_file (files_told states run (run_channels slots)) ≤ counts_from states place slots
-files_from states run place [] numbered = omega arith
-files_from states run place (None ∷ os) numbered =
-    let rest = files_from states run (suc place) os (numbered_later place None os numbered) in
+files_from : (told : List ChannelEnd) (place : ℕ) (slots : List (Option Channel)) → AreNumberedFrom place slots → sum_by faults_of_files (files_told told (run_channels slots)) ≤ counts_from told place slots
+files_from told place [] numbered = omega arith
+files_from told place (None ∷ os) numbered =
+    let rest = files_from told (suc place) os (numbered_later place None os numbered) in
     omega (arith, rest)
-files_from states run place (Some c ∷ os) numbered =
-    let rest = files_from states run (suc place) os (numbered_later place (Some c) os numbered) in
-    let first = file_first run (run_channel c.spec) (files_told states run (run_channels os)) (slice_get states c.spec.number) in
+files_from told place (Some c ∷ os) numbered =
+    let rest = files_from told (suc place) os (numbered_later place (Some c) os numbered) in
+    let first = files_first (run_channel c.spec) (files_told told (run_channels os)) (slice_get told c.spec.number) in
     let at : c.spec.number ≡ place = numbered 0 c refl ∙ omega arith in
-    let same : state_counts (slice_get states c.spec.number) ≡ state_counts (slice_get states place) = ap (λ (n : ℕ). state_counts (slice_get states n)) at in
+    let same : end_counts (slice_get told c.spec.number) ≡ end_counts (slice_get told place) = ap (λ (n : ℕ). end_counts (slice_get told n)) at in
     omega (arith, rest, first, same)
 
 none_counts : (place : ℕ) (slots : List (Option Channel)) → counts_from [] place slots ≡ 0
 none_counts place [] = refl
 none_counts place (o ∷ os) = omega (arith, none_at place, none_counts (suc place) os)
   where
-    none_at : (n : ℕ) → state_counts (slice_get [] n) ≡ 0
+    none_at : (n : ℕ) → end_counts (slice_get [] n) ≡ 0
     none_at zero = refl
     none_at (suc n) = refl
 
-counts_later : (x : ChannelState) (xs : List ChannelState) (place : ℕ) (slots : List (Option Channel)) → counts_from (x ∷ xs) (suc place) slots ≡ counts_from xs place slots
+counts_later : (x : ChannelEnd) (xs : List ChannelEnd) (place : ℕ) (slots : List (Option Channel)) → counts_from (x ∷ xs) (suc place) slots ≡ counts_from xs place slots
 counts_later x xs place [] = refl
-counts_later x xs place (o ∷ os) = ap (λ (n : ℕ). state_counts (slice_get xs place) + n) (counts_later x xs (suc place) os)
+counts_later x xs place (o ∷ os) = ap (λ (n : ℕ). end_counts (slice_get xs place) + n) (counts_later x xs (suc place) os)
 
-counts_within : (states : List ChannelState) (slots : List (Option Channel)) → counts_from states 0 slots ≤ sum_by faults_of_state states
+counts_within : (told : List ChannelEnd) (slots : List (Option Channel)) → counts_from told 0 slots ≤ sum_by faults_of_end told
 counts_within [] slots = omega (arith, none_counts 0 slots)
 counts_within (x ∷ xs) [] = omega arith
-counts_within (x ∷ xs) (o ∷ os) = omega (arith, counts_later x xs 0 os, counts_within xs os, sum_by-cons faults_of_state x xs)
+counts_within (x ∷ xs) (o ∷ os) = omega (arith, counts_later x xs 0 os, counts_within xs os, sum_by-cons faults_of_end x xs)
 
 -- the files of a logger's channels tell no more faults than it told
-files_within : (states : List ChannelState) (run : ℕ) (slots : List (Option Channel)) → ((n : ℕ) (c : Channel) → slot_at slots n ≡ Some c → c.spec.number ≡ n) → sum_by faults_of_file (files_told states run (run_channels slots)) ≤ sum_by faults_of_state states
-files_within states run slots numbered =
-    let some = files_from states run 0 slots (λ n c there. numbered n c there ∙ omega arith) in
-    omega (arith, some, counts_within states slots)
+files_within : (told : List ChannelEnd) (slots : List (Option Channel)) → ((n : ℕ) (c : Channel) → slot_at slots n ≡ Some c → c.spec.number ≡ n) → sum_by faults_of_files (files_told told (run_channels slots)) ≤ sum_by faults_of_end told
+files_within told slots numbered =
+    let some = files_from told 0 slots (λ n c there. numbered n c there ∙ omega arith) in
+    omega (arith, some, counts_within told slots)
 
 -- Records.
 
@@ -382,26 +386,26 @@ module _ (laws : OneLaws) (c : ClosedSession) (ends : MembersAtEnd c) (first now
         let made : TransitionIn (engine_calls c main_caller) Start sheet r.start (Refused client why) start.tallies =
         subst (λ (l : List EngineEntry). TransitionIn l Start sheet r.start (Refused client why) start.tallies) (sym calls) (made_then own.engine more Start sheet r.start (Refused client why) start.tallies here) in
         let told : RefusalTold ts r.start why = refusal_told why sheet r.start client start.tallies made in
-        let files : sum_by faults_of_file r.files ≡ 0 = ap (λ (l : List FileRecord). sum_by faults_of_file l) fits.files in
+        let files : sum_by faults_of_files r.files ≡ 0 = ap (λ (l : List ChannelFiles). sum_by faults_of_files l) fits.files in
         let outcome : faults_of_outcome r.outcome ≡ faults_of_refusal why = ap faults_of_outcome is in
         let clashed : clashes_of_outcome r.outcome ≡ clashes_of_answer (No why) = ap clashes_of_outcome is ∙ clashes_refused client why in
         let some = told.faults in
         let names_taken = told.clashes in
         record { faults = omega (arith, files, outcome, some); clashes = omega (arith, clashed, names_taken) }
 
-    states_told_by : (r : RunRecord) (sheet : Sheet) (tallies : List ClientTally) → TransitionIn (engine_calls c main_caller) Stop sheet r.start Completed tallies → (o : Option (List ChannelState)) → states_told (logger_client c) tallies ≡ o
-        → sum_by faults_of_file (files_of o r.run (run_channels c.slots)) ≤ told_for fault_count ts r.start
-    states_told_by r sheet tallies made None none = omega arith
-    states_told_by r sheet tallies made (Some states) is =
+    ends_told_by : (r : RunRecord) (sheet : Sheet) (tallies : List ClientTally) → TransitionIn (engine_calls c main_caller) Stop sheet r.start Completed tallies → (o : Option (List ChannelEnd)) → ends_told (logger_client c) tallies ≡ o
+        → sum_by faults_of_files (files_of o (run_channels c.slots)) ≤ told_for fault_count ts r.start
+    ends_told_by r sheet tallies made None none = omega arith
+    ends_told_by r sheet tallies made (Some told) is =
         let n : ℕ = logger_client c in
-        let says : ToldStates n tallies states = states_so n tallies states is in
+        let says : ToldEnds n tallies told = ends_so n tallies told is in
         let has : HasTransition c.engine Stop sheet r.start Completed tallies = has_made laws.main c.engine Stop sheet r.start Completed tallies ends.engine made in
-        let t : IsTallyOfTurn c.engine n ts (state_at (engine_past has.earlier)) Stop sheet r.start Completed (Channels states) =
-        laws.tallies (logger_caller c) n c.engine ends.engine (speaks n c.engine (names_own c ends)) Stop sheet r.start Completed tallies has says.index (Channels states) says.at in
-        let answered : t.turn.answer ≡ Some (Yes (Channels states)) = t.answered ∙ ap (λ (a : Answer). Some a) (yes_channels t.answer states t.tally_is) in
-        let count : fault_count t.turn ≡ sum_by faults_of_state states = ap (count_in_answer faults_of_answer) answered in
+        let t : IsTallyOfTurn c.engine n ts (state_at (engine_past has.earlier)) Stop sheet r.start Completed (Channels told) =
+        laws.tallies (logger_caller c) n c.engine ends.engine (speaks n c.engine (names_own c ends)) Stop sheet r.start Completed tallies has says.index (Channels told) says.at in
+        let answered : t.turn.answer ≡ Some (Yes (Channels told)) = t.answered ∙ ap (λ (a : Answer). Some a) (yes_channels t.answer told t.tally_is) in
+        let count : fault_count t.turn ≡ sum_by faults_of_end told = ap (count_in_answer faults_of_answer) answered in
         let of : t.turn.order.start ≡ r.start = ap (λ (o : Order). o.start) t.of_begin.order in
-        let files = files_within states r.run c.slots (ends.logger.stands (none_taken_back c ends)).holds.standing.numbered in
+        let files = files_within told c.slots (ends.logger.stands (none_taken_back c ends)).holds.standing.numbered in
         omega (arith, files, count, told_by_turn fault_count ts t.turn r.start t.stands of)
 
     whole_told : (r : RunRecord) (quota : ℕ) → r.outcome ≡ Completed → FitsWhole (clients_in c) own (run_of r quota) r → ToldByTurns ts r
@@ -414,8 +418,8 @@ module _ (laws : OneLaws) (c : ClosedSession) (ends : MembersAtEnd c) (first now
         let made : TransitionIn (engine_calls c main_caller) Stop sheet r.start Completed stop.tallies =
         subst (λ (l : List EngineEntry). TransitionIn l Stop sheet r.start Completed stop.tallies) joined
         (made_then (early ++ late) more Stop sheet r.start Completed stop.tallies (made_behind early late Stop sheet r.start Completed stop.tallies stop.made)) in
-        let files : sum_by faults_of_file r.files ≡ sum_by faults_of_file (files_of (states_told (logger_client c) stop.tallies) r.run (run_channels c.slots)) = ap (λ (l : List FileRecord). sum_by faults_of_file l) stop.tells.files in
-        let some = states_told_by r sheet stop.tallies made (states_told (logger_client c) stop.tallies) refl in
+        let files : sum_by faults_of_files r.files ≡ sum_by faults_of_files (files_of (ends_told (logger_client c) stop.tallies) (run_channels c.slots)) = ap (λ (l : List ChannelFiles). sum_by faults_of_files l) stop.tells.files in
+        let some = ends_told_by r sheet stop.tallies made (ends_told (logger_client c) stop.tallies) refl in
         let outcome : faults_of_outcome r.outcome ≡ 0 = ap faults_of_outcome is in
         let clashed : clashes_of_outcome r.outcome ≡ 0 = ap clashes_of_outcome is in
         record { faults = omega (arith, files, some, outcome); clashes = omega (arith, clashed) }

@@ -4,7 +4,7 @@ use Rattle.std.specs.Option.{option_map, option_or, option_to_list}
 use Rattle.std.proofs.Common.{ap, sym, subst, ◌∙◌, arith, inl, inr, append_assoc, length-append}
 use Rattle.std.proofs.lemmas.Bool.Decides.{eqb_tells}
 use Rattle.daq_types.specs.Callers.{main_caller}
-use Rattle.daq_types.specs.declared.runs.ChannelState.{ChannelState}
+use Rattle.daq_types.specs.declared.runs.ChannelEnd.{ChannelEnd}
 use Rattle.daq_types.specs.declared.runs.FrontEnded.{FrontEnded}
 use Rattle.daq_types.specs.declared.runs.StartOutcome.{StartOutcome}
 use Rattle.daq_types.specs.declared.runs.StartOutcome.TheVariants.{Completed}
@@ -16,25 +16,24 @@ use Rattle.member_model.specs.RunEngines.{Sheet, Tally, ClientTally, EngineEntry
 use Rattle.transitions.specs.declared.entry.EngineEntry.TheVariants.{Begin, Check}
 use Rattle.member_model.specs.LoggerKept.{LoggerChannel}
 use Rattle.mid_logger.specs.declared.channel.Channel.{Channel}
-use Rattle.mid_logger.specs.Patterns.{file_name_by}
 use Rattle.loggers.specs.LoggerStands.{logger_channel, logger_channels}
 use Rattle.session_runs.specs.MadeTransitions.{TransitionIn}
 use Rattle.session_runs.specs.declared.records.FrontTally.{FrontTally}
-use Rattle.session_runs.specs.declared.records.FileRecord.{FileRecord}
+use Rattle.session_runs.specs.declared.records.ChannelFiles.{ChannelFiles}
 use Rattle.session_runs.specs.declared.records.RunRecord.{RunRecord}
 use Rattle.session_runs.specs.declared.channels.RunChannel.{RunChannel}
 use Rattle.session_runs.specs.declared.on.CurrentRun.{CurrentRun}
 use Rattle.session_runs.specs.KeptRuns.{run_channel}
-use Rattle.session_runs.specs.ToldTallies.{front_in, front_by, front_told, fronts_told, states_in, states_by, states_told, ended_file, files_told, files_of}
+use Rattle.session_runs.specs.ToldTallies.{front_in, front_by, front_told, fronts_told, ends_in, ends_by, ends_told, ended_files, files_told, files_of}
 use Rattle.session_runs.specs.RunEntries.{start_sheet, later_sheet, dump_saved}
 use Rattle.session_runs.specs.RunsFit.{MainOwn, run_of}
 use Rattle.composition.specs.Sessions.{Session, SessionFront}
-use Rattle.composition.specs.SessionRuns.{SessionRun, IsStoppedRun, TellsFront, ToldState}
+use Rattle.composition.specs.SessionRuns.{SessionRun, IsStoppedRun, TellsFront, ToldChannel}
 use Rattle.session_laws.specs.ClosedSessions.{ClosedFront, ClosedSession, logger_client, engine_calls, session_front, session_fronts, session_of}
 use Rattle.session_laws.specs.MadeRuns.{RunIn, RunHolds}
 use Rattle.session_laws.specs.EndLaws.{SessionHolds}
-use Rattle.session_laws.specs.RecordedRuns.{FrontRecordHolds, FileRecordHolds, run_channels, RecordsHold}
-use Rattle.session_laws.proofs.RunsMade.{file_so}
+use Rattle.session_laws.specs.RecordedRuns.{FrontRecordHolds, ChannelFilesHold, run_channels, RecordsHold}
+use Rattle.session_laws.proofs.RunsMade.{files_so}
 use Rattle.session_laws.proofs.ListedTold.{tally_is, or_there, got_before, got_last, same_or_less}
 use Rattle.session_laws.proofs.ReportsMade.{many_analyzers, many_reports, report_record}
 
@@ -152,68 +151,68 @@ listed_at (suc n) tallies all k less t is =
 -- What was told of channels.
 
 -- the logger told this among the tallies
-pub record ToldStates (client : ℕ) (tallies : List ClientTally) (states : List ChannelState) : Type 0 where
+pub record ToldEnds (client : ℕ) (tallies : List ClientTally) (told : List ChannelEnd) : Type 0 where
   pub index : ℕ
-  pub at : slice_get tallies index ≡ Some (record { client = client; tally = Channels states })
+  pub at : slice_get tallies index ≡ Some (record { client = client; tally = Channels told })
 
-states_in_so : (tally : Tally) (states : List ChannelState) → states_in tally ≡ Some states → tally ≡ Channels states
-states_in_so (Channels s) states is = (let same : s ≡ states = cc (is) in ap Channels same)
-states_in_so Plain states is = absurd (cc (is))
-states_in_so (Front sent ended) states is = absurd (cc (is))
-states_in_so (Report report) states is = absurd (cc (is))
+ends_in_so : (tally : Tally) (told : List ChannelEnd) → ends_in tally ≡ Some told → tally ≡ Channels told
+ends_in_so (Channels l) told is = (let same : l ≡ told = cc (is) in ap Channels same)
+ends_in_so Plain told is = absurd (cc (is))
+ends_in_so (Front sent ended) told is = absurd (cc (is))
+ends_in_so (Report report) told is = absurd (cc (is))
 
-states_by_so : (client : ℕ) (told : ClientTally) (states : List ChannelState) → states_by client told ≡ Some states → told ≡ record { client = client; tally = Channels states }
-states_by_so client told states is = elim (eqb_tells told.client client) as (λ w. told ≡ record { client = client; tally = Channels states }) [
-  | inl same ↦ tally_is told client (Channels states) same.1 (states_in_so told.tally states (sym (ap (λ (b : Bool). if b then states_in told.tally else None) same.0) ∙ is))
-  | inr differs ↦ (let none : states_by client told ≡ None = ap (λ (b : Bool). if b then states_in told.tally else None) differs.0 in absurd (cc (none, is)))
+ends_by_so : (client : ℕ) (x : ClientTally) (told : List ChannelEnd) → ends_by client x ≡ Some told → x ≡ record { client = client; tally = Channels told }
+ends_by_so client x told is = elim (eqb_tells x.client client) as (λ w. x ≡ record { client = client; tally = Channels told }) [
+  | inl same ↦ tally_is x client (Channels told) same.1 (ends_in_so x.tally told (sym (ap (λ (b : Bool). if b then ends_in x.tally else None) same.0) ∙ is))
+  | inr differs ↦ (let none : ends_by client x ≡ None = ap (λ (b : Bool). if b then ends_in x.tally else None) differs.0 in absurd (cc (none, is)))
 ]
 
-first_states : (client : ℕ) (x : ClientTally) (xs : List ClientTally) (states : List ChannelState) (o : Option (List ChannelState)) → states_by client x ≡ o → option_or o (states_told client xs) ≡ Some states → (states_told client xs ≡ Some states → ToldStates client xs states)
-    → ToldStates client (x ∷ xs) states
-first_states client x xs states None by is later = (let found : ToldStates client xs states = later is in record { index = suc found.index; at = found.at })
-first_states client x xs states (Some s) by is later =
-    let same : s ≡ states = cc (is) in
-    record { index = 0; at = ap Some (states_by_so client x states (by ∙ ap Some same)) }
+first_ends : (client : ℕ) (x : ClientTally) (xs : List ClientTally) (told : List ChannelEnd) (o : Option (List ChannelEnd)) → ends_by client x ≡ o → option_or o (ends_told client xs) ≡ Some told → (ends_told client xs ≡ Some told → ToldEnds client xs told)
+    → ToldEnds client (x ∷ xs) told
+first_ends client x xs told None by is later = (let found : ToldEnds client xs told = later is in record { index = suc found.index; at = found.at })
+first_ends client x xs told (Some l) by is later =
+    let same : l ≡ told = cc (is) in
+    record { index = 0; at = ap Some (ends_by_so client x told (by ∙ ap Some same)) }
 
-pub states_so : (client : ℕ) (tallies : List ClientTally) (states : List ChannelState) → states_told client tallies ≡ Some states → ToldStates client tallies states
-states_so client [] states is = absurd (cc (is))
-states_so client (x ∷ xs) states is = first_states client x xs states (states_by client x) refl is (λ later. states_so client xs states later)
+pub ends_so : (client : ℕ) (tallies : List ClientTally) (told : List ChannelEnd) → ends_told client tallies ≡ Some told → ToldEnds client tallies told
+ends_so client [] told is = absurd (cc (is))
+ends_so client (x ∷ xs) told is = first_ends client x xs told (ends_by client x) refl is (λ later. ends_so client xs told later)
 
--- the file is that of a channel of these, of which a state was told
-pub record FileTold (states : List ChannelState) (run : ℕ) (channels : List RunChannel) (file : FileRecord) : Type 0 where
+-- the files are those of a channel of these, of which this was told
+pub record FilesTold (told : List ChannelEnd) (channels : List RunChannel) (files : ChannelFiles) : Type 0 where
   pub place : ℕ
   pub channel : RunChannel
   pub at : slice_get channels place ≡ Some channel
-  pub state : slice_get states channel.number ≡ Some file.state
-  pub is : file ≡ ended_file run channel file.state
+  pub end_at : slice_get told channel.number ≡ Some files.told
+  pub is : files ≡ ended_files channel files.told
 
-file_here : (states : List ChannelState) (run : ℕ) (ch : RunChannel) (chs : List RunChannel) (o : Option ChannelState) (place : ℕ) (file : FileRecord) → slice_get states ch.number ≡ o → slice_get (option_to_list (option_map (ended_file run ch) o) ++ files_told states run chs) place ≡ Some file
-    → ((k : ℕ) → slice_get (files_told states run chs) k ≡ Some file → FileTold states run chs file) → FileTold states run (ch ∷ chs) file
-file_here states run ch chs None place file told at later = (let found : FileTold states run chs file = later place at in record { place = suc found.place; channel = found.channel; at = found.at; state = found.state; is = found.is })
-file_here states run ch chs (Some s) zero file told at later =
-    let same : ended_file run ch s ≡ file = cc (at) in
-    let state : s ≡ file.state = ap (λ (f : FileRecord). f.state) same in
-    record { place = 0; channel = ch; at = refl; state = told ∙ ap Some state; is = sym same ∙ ap (ended_file run ch) state }
-file_here states run ch chs (Some s) (suc place) file told at later = (let found : FileTold states run chs file = later place at in record { place = suc found.place; channel = found.channel; at = found.at; state = found.state; is = found.is })
+files_here : (told : List ChannelEnd) (ch : RunChannel) (chs : List RunChannel) (o : Option ChannelEnd) (place : ℕ) (files : ChannelFiles) → slice_get told ch.number ≡ o → slice_get (option_to_list (option_map (ended_files ch) o) ++ files_told told chs) place ≡ Some files
+    → ((k : ℕ) → slice_get (files_told told chs) k ≡ Some files → FilesTold told chs files) → FilesTold told (ch ∷ chs) files
+files_here told ch chs None place files by at later = (let found : FilesTold told chs files = later place at in record { place = suc found.place; channel = found.channel; at = found.at; end_at = found.end_at; is = found.is })
+files_here told ch chs (Some e) zero files by at later =
+    let same : ended_files ch e ≡ files = cc (at) in
+    let end_is : e ≡ files.told = ap (λ (f : ChannelFiles). f.told) same in
+    record { place = 0; channel = ch; at = refl; end_at = by ∙ ap Some end_is; is = sym same ∙ ap (ended_files ch) end_is }
+files_here told ch chs (Some e) (suc place) files by at later = (let found : FilesTold told chs files = later place at in record { place = suc found.place; channel = found.channel; at = found.at; end_at = found.end_at; is = found.is })
 
-file_so_told : (states : List ChannelState) (run : ℕ) (channels : List RunChannel) (place : ℕ) (file : FileRecord) → slice_get (files_told states run channels) place ≡ Some file → FileTold states run channels file
-file_so_told states run [] place file at = absurd (cc (at))
-file_so_told states run (ch ∷ chs) place file at = file_here states run ch chs (slice_get states ch.number) place file refl at (λ k there. file_so_told states run chs k file there)
+files_so_told : (told : List ChannelEnd) (channels : List RunChannel) (place : ℕ) (files : ChannelFiles) → slice_get (files_told told channels) place ≡ Some files → FilesTold told channels files
+files_so_told told [] place files at = absurd (cc (at))
+files_so_told told (ch ∷ chs) place files at = files_here told ch chs (slice_get told ch.number) place files refl at (λ k there. files_so_told told chs k files there)
 
 -- the channel of a record among those of the logger
 pub record IsLoggerChannel (slots : List (Option Channel)) (place : ℕ) (channel : RunChannel) : Type 0 where
   pub logger : LoggerChannel
   pub at : slice_get (logger_channels (λ n. 0) slots) place ≡ Some logger
   pub number : channel.number ≡ logger.number
-  pub name : (run : ℕ) → file_name_by channel.pattern run ≡ logger.name run
+  pub pattern : channel.pattern ≡ logger.pattern
 
 logger_channel_at : (slots : List (Option Channel)) (place : ℕ) (channel : RunChannel) → slice_get (run_channels slots) place ≡ Some channel → IsLoggerChannel slots place channel
 logger_channel_at [] place channel at = absurd (cc (at))
-logger_channel_at (None ∷ slots) place channel at = (let found : IsLoggerChannel slots place channel = logger_channel_at slots place channel at in record { logger = found.logger; at = found.at; number = found.number; name = found.name })
+logger_channel_at (None ∷ slots) place channel at = (let found : IsLoggerChannel slots place channel = logger_channel_at slots place channel at in record { logger = found.logger; at = found.at; number = found.number; pattern = found.pattern })
 logger_channel_at (Some c ∷ slots) zero channel at =
     let same : run_channel c.spec ≡ channel = cc (at) in
-    record { logger = _; at = refl; number = sym (ap (λ (x : RunChannel). x.number) same); name = λ run. sym (ap (λ (x : RunChannel). file_name_by x.pattern run) same) }
-logger_channel_at (Some c ∷ slots) (suc place) channel at = (let found : IsLoggerChannel slots place channel = logger_channel_at slots place channel at in record { logger = found.logger; at = found.at; number = found.number; name = found.name })
+    record { logger = _; at = refl; number = sym (ap (λ (x : RunChannel). x.number) same); pattern = sym (ap (λ (x : RunChannel). x.pattern) same) }
+logger_channel_at (Some c ∷ slots) (suc place) channel at = (let found : IsLoggerChannel slots place channel = logger_channel_at slots place channel at in record { logger = found.logger; at = found.at; number = found.number; pattern = found.pattern })
 
 -- A record.
 
@@ -269,119 +268,122 @@ front_record c holds run stopped fronts is client f at =
       },
     )
 
-file_record : (c : ClosedSession) (holds : SessionHolds c) (run : SessionRun) (stopped : IsStoppedRun (session_of c holds.moments) run) (number : ℕ) → run.first.run ≡ number → (o : Option (List ChannelState)) → states_told (logger_client c) run.last_tallies ≡ o
-    → (place : ℕ) (file : FileRecord) → slice_get (files_of o number (run_channels c.slots)) place ≡ Some file → FileRecordHolds (session_of c holds.moments) run file
-file_record c holds run stopped number is None told place file at = absurd (cc (at))
-file_record c holds run stopped number is (Some states) told place file at =
+channel_files : (c : ClosedSession) (holds : SessionHolds c) (run : SessionRun) (stopped : IsStoppedRun (session_of c holds.moments) run) → (o : Option (List ChannelEnd)) → ends_told (logger_client c) run.last_tallies ≡ o
+    → (place : ℕ) (files : ChannelFiles) → slice_get (files_of o (run_channels c.slots)) place ≡ Some files → ChannelFilesHold (session_of c holds.moments) run files
+channel_files c holds run stopped None told place files at = absurd (cc (at))
+channel_files c holds run stopped (Some told) is place files at =
     let s : Session = session_of c holds.moments in
-    let found : FileTold states number (run_channels c.slots) file = file_so_told states number (run_channels c.slots) place file at in
+    let found : FilesTold told (run_channels c.slots) files = files_so_told told (run_channels c.slots) place files at in
     let ch : IsLoggerChannel c.slots found.place found.channel = logger_channel_at c.slots found.place found.channel found.at in
-    let says : ToldStates (logger_client c) run.last_tallies states = states_so (logger_client c) run.last_tallies states told in
-    let state : ToldState s run ch.logger file.state = record {
+    let says : ToldEnds (logger_client c) run.last_tallies told = ends_so (logger_client c) run.last_tallies told is in
+    let tells : ToldChannel s run ch.logger files.told = record {
       index = says.index;
-      states = states;
-      told = says.at;
-      state_is = subst (λ (n : ℕ). slice_get states n ≡ Some file.state) ch.number found.state;
+      ends = told;
+      tells = says.at;
+      at = subst (λ (n : ℕ). slice_get told n ≡ Some files.told) ch.number found.end_at;
     } in
     record {
       index = found.place;
       channel = ch.logger;
       at = ch.at;
-      number = ap (λ (f : FileRecord). f.channel) found.is ∙ ch.number;
-      name = ap (λ (f : FileRecord). f.name) found.is ∙ (ch.name number ∙ ap ch.logger.name (sym is));
-      told = state;
-      has = file_so s holds.composed run stopped found.place ch.logger ch.at file.state state;
+      number = ap (λ (f : ChannelFiles). f.channel) found.is ∙ ch.number;
+      pattern = ap (λ (f : ChannelFiles). f.pattern) found.is ∙ ch.pattern;
+      told = tells;
+      so = holds.composed.ends_so run stopped found.place ch.logger ch.at files.told tells;
+      have = files_so s holds.composed run stopped found.place ch.logger ch.at files.told tells files.told.state refl;
     }
 
 -- All of them.
 
-states_in_tally : (client : ℕ) (states : List ChannelState) → states_by client (record { client = client; tally = Channels states }) ≡ Some states
-states_in_tally client states = elim (eqb_tells client client) as (λ w. states_by client (record { client = client; tally = Channels states }) ≡ Some states) [
-  | inl same ↦ ap (λ (b : Bool). if b then Some states else None) same.0
+ends_in_tally : (client : ℕ) (told : List ChannelEnd) → ends_by client (record { client = client; tally = Channels told }) ≡ Some told
+ends_in_tally client told = elim (eqb_tells client client) as (λ w. ends_by client (record { client = client; tally = Channels told }) ≡ Some told) [
+  | inl same ↦ ap (λ (b : Bool). if b then Some told else None) same.0
   | inr differs ↦ absurd (differs.1 refl)
 ]
 
-pub states_there : (client : ℕ) (tallies : List ClientTally) (index : ℕ) (states : List ChannelState) → slice_get tallies index ≡ Some (record { client = client; tally = Channels states }) → (found : List ChannelState) × (states_told client tallies ≡ Some found)
-states_there client [] index states at = absurd (cc (at))
-states_there client (x ∷ xs) zero states at =
-    let same : x ≡ record { client = client; tally = Channels states } = cc (at) in
-    (states, ap (λ (o : Option (List ChannelState)). option_or o (states_told client xs)) (ap (states_by client) same ∙ states_in_tally client states))
-states_there client (x ∷ xs) (suc index) states at =
-    let rest = states_there client xs index states at in
-    or_there (states_by client x) (states_told client xs) rest.0 rest.1
+pub ends_there : (client : ℕ) (tallies : List ClientTally) (index : ℕ) (told : List ChannelEnd) → slice_get tallies index ≡ Some (record { client = client; tally = Channels told }) → (found : List ChannelEnd) × (ends_told client tallies ≡ Some found)
+ends_there client [] index told at = absurd (cc (at))
+ends_there client (x ∷ xs) zero told at =
+    let same : x ≡ record { client = client; tally = Channels told } = cc (at) in
+    (told, ap (λ (o : Option (List ChannelEnd)). option_or o (ends_told client xs)) (ap (ends_by client) same ∙ ends_in_tally client told))
+ends_there client (x ∷ xs) (suc index) told at =
+    let rest = ends_there client xs index told at in
+    or_there (ends_by client x) (ends_told client xs) rest.0 rest.1
 
--- a state of each channel is among these
-abbrev AllStates : List ChannelState → List LoggerChannel → Type 0
-AllStates states channels = (index : ℕ) → (channel : LoggerChannel) → slice_get channels index ≡ Some channel → (state : ChannelState) × (slice_get states channel.number ≡ Some state)
+-- each channel is told of among these
+abbrev AllEnds : List ChannelEnd → List LoggerChannel → Type 0
+AllEnds told channels = (index : ℕ) → (channel : LoggerChannel) → slice_get channels index ≡ Some channel → (e : ChannelEnd) × (slice_get told channel.number ≡ Some e)
 
-as_many : (slots : List (Option Channel)) (states : List ChannelState) (run : ℕ) → AllStates states (logger_channels (λ n. 0) slots) → length (files_told states run (run_channels slots)) ≡ length (logger_channels (λ n. 0) slots)
-as_many [] states run all = refl
-as_many (None ∷ slots) states run all = as_many slots states run all
-as_many (Some c ∷ slots) states run all =
+as_many : (slots : List (Option Channel)) (told : List ChannelEnd) → AllEnds told (logger_channels (λ n. 0) slots) → length (files_told told (run_channels slots)) ≡ length (logger_channels (λ n. 0) slots)
+as_many [] told all = refl
+as_many (None ∷ slots) told all = as_many slots told all
+as_many (Some c ∷ slots) told all =
     let here = all 0 _ refl in
-    let rest : length (files_told states run (run_channels slots)) ≡ length (logger_channels (λ n. 0) slots) = as_many slots states run (λ index channel at. all (suc index) channel at) in
-    ap (λ (o : Option ChannelState). length (option_to_list (option_map (ended_file run (run_channel c.spec)) o) ++ files_told states run (run_channels slots))) here.1 ∙ ap suc rest
+    let rest : length (files_told told (run_channels slots)) ≡ length (logger_channels (λ n. 0) slots) = as_many slots told (λ index channel at. all (suc index) channel at) in
+    ap (λ (o : Option ChannelEnd). length (option_to_list (option_map (ended_files (run_channel c.spec)) o) ++ files_told told (run_channels slots))) here.1 ∙ ap suc rest
 
--- among the files there is one of each channel
-record HasFile (files : List FileRecord) (name : List ℕ) : Type 0 where
+-- among these are the files of the channel
+record HasFiles (all : List ChannelFiles) (channel : LoggerChannel) : Type 0 where
   place : ℕ
-  file : FileRecord
-  at : slice_get files place ≡ Some file
-  is : file.name ≡ name
+  files : ChannelFiles
+  at : slice_get all place ≡ Some files
+  number : files.channel ≡ channel.number
+  pattern : files.pattern ≡ channel.pattern
 
-listed_here : (c : Channel) (slots : List (Option Channel)) (states : List ChannelState) (run : ℕ) (state : ChannelState) → slice_get states c.spec.number ≡ Some state → (index : ℕ) (channel : LoggerChannel) → slice_get (logger_channels (λ n. 0) (Some c ∷ slots)) index ≡ Some channel
-    → ((k : ℕ) → slice_get (logger_channels (λ n. 0) slots) k ≡ Some channel → HasFile (files_told states run (run_channels slots)) (channel.name run)) → HasFile (files_told states run (run_channels (Some c ∷ slots))) (channel.name run)
-listed_here c slots states run state told zero channel at later =
-    let file : FileRecord = ended_file run (run_channel c.spec) state in
-    let rest : List FileRecord = files_told states run (run_channels slots) in
+listed_here : (c : Channel) (slots : List (Option Channel)) (told : List ChannelEnd) (e : ChannelEnd) → slice_get told c.spec.number ≡ Some e → (index : ℕ) (channel : LoggerChannel) → slice_get (logger_channels (λ n. 0) (Some c ∷ slots)) index ≡ Some channel
+    → ((k : ℕ) → slice_get (logger_channels (λ n. 0) slots) k ≡ Some channel → HasFiles (files_told told (run_channels slots)) channel) → HasFiles (files_told told (run_channels (Some c ∷ slots))) channel
+listed_here c slots told e is zero channel at later =
+    let rest : List ChannelFiles = files_told told (run_channels slots) in
     let same : logger_channel 0 c ≡ channel = cc (at) in
     record {
       place = 0;
-      file = file;
-      at = ap (λ (o : Option ChannelState). slice_get (option_to_list (option_map (ended_file run (run_channel c.spec)) o) ++ rest) 0) told;
-      is = ap (λ (x : LoggerChannel). x.name run) same;
+      files = ended_files (run_channel c.spec) e;
+      at = ap (λ (o : Option ChannelEnd). slice_get (option_to_list (option_map (ended_files (run_channel c.spec)) o) ++ rest) 0) is;
+      number = ap (λ (x : LoggerChannel). x.number) same;
+      pattern = ap (λ (x : LoggerChannel). x.pattern) same;
     }
-listed_here c slots states run state told (suc k) channel at later =
-    let rest : List FileRecord = files_told states run (run_channels slots) in
-    let found : HasFile rest (channel.name run) = later k at in
+listed_here c slots told e is (suc k) channel at later =
+    let rest : List ChannelFiles = files_told told (run_channels slots) in
+    let found : HasFiles rest channel = later k at in
     record {
       place = suc found.place;
-      file = found.file;
-      at = ap (λ (o : Option ChannelState). slice_get (option_to_list (option_map (ended_file run (run_channel c.spec)) o) ++ rest) (suc found.place)) told ∙ found.at;
-      is = found.is;
+      files = found.files;
+      at = ap (λ (o : Option ChannelEnd). slice_get (option_to_list (option_map (ended_files (run_channel c.spec)) o) ++ rest) (suc found.place)) is ∙ found.at;
+      number = found.number;
+      pattern = found.pattern;
     }
 
-each_listed : (slots : List (Option Channel)) (states : List ChannelState) (run : ℕ) → AllStates states (logger_channels (λ n. 0) slots) → (index : ℕ) (channel : LoggerChannel) → slice_get (logger_channels (λ n. 0) slots) index ≡ Some channel
-    → HasFile (files_told states run (run_channels slots)) (channel.name run)
-each_listed [] states run all index channel at = absurd (cc (at))
-each_listed (None ∷ slots) states run all index channel at = each_listed slots states run all index channel at
-each_listed (Some c ∷ slots) states run all index channel at =
+each_listed : (slots : List (Option Channel)) (told : List ChannelEnd) → AllEnds told (logger_channels (λ n. 0) slots) → (index : ℕ) (channel : LoggerChannel) → slice_get (logger_channels (λ n. 0) slots) index ≡ Some channel
+    → HasFiles (files_told told (run_channels slots)) channel
+each_listed [] told all index channel at = absurd (cc (at))
+each_listed (None ∷ slots) told all index channel at = each_listed slots told all index channel at
+each_listed (Some c ∷ slots) told all index channel at =
     let here = all 0 _ refl in
-    listed_here c slots states run here.0 here.1 index channel at (λ k there. each_listed slots states run (λ i x is. all (suc i) x is) k channel there)
+    listed_here c slots told here.0 here.1 index channel at (λ k there. each_listed slots told (λ i x is. all (suc i) x is) k channel there)
 
-each_file : (c : ClosedSession) (holds : SessionHolds c) (run : SessionRun) → IsStoppedRun (session_of c holds.moments) run → (number : ℕ) (o : Option (List ChannelState)) → states_told (logger_client c) run.last_tallies ≡ o
-    → (index : ℕ) (channel : LoggerChannel) → slice_get (logger_channels (λ n. 0) c.slots) index ≡ Some channel → HasFile (files_of o number (run_channels c.slots)) (channel.name number)
-each_file c holds run stopped number None none index channel at =
+each_channel : (c : ClosedSession) (holds : SessionHolds c) (run : SessionRun) → IsStoppedRun (session_of c holds.moments) run → (o : Option (List ChannelEnd)) → ends_told (logger_client c) run.last_tallies ≡ o
+    → (index : ℕ) (channel : LoggerChannel) → slice_get (logger_channels (λ n. 0) c.slots) index ≡ Some channel → HasFiles (files_of o (run_channels c.slots)) channel
+each_channel c holds run stopped None none index channel at =
     let told = holds.composed.channels_told run stopped index channel at in
-    let found = states_there (logger_client c) run.last_tallies told.1.index told.1.states told.1.told in
+    let found = ends_there (logger_client c) run.last_tallies told.1.index told.1.ends told.1.tells in
     absurd (cc (none, found.1))
-each_file c holds run stopped number (Some states) told index channel at =
-    let says : ToldStates (logger_client c) run.last_tallies states = states_so (logger_client c) run.last_tallies states told in
-    each_listed c.slots states number (λ i x is. holds.composed.states_told run stopped says.index states says.at i x is) index channel at
+each_channel c holds run stopped (Some told) is index channel at =
+    let says : ToldEnds (logger_client c) run.last_tallies told = ends_so (logger_client c) run.last_tallies told is in
+    each_listed c.slots told (λ i x there. holds.composed.ends_told run stopped says.index told says.at i x there) index channel at
 
-many_files : (c : ClosedSession) (holds : SessionHolds c) (run : SessionRun) → IsStoppedRun (session_of c holds.moments) run → (number : ℕ) (o : Option (List ChannelState)) → states_told (logger_client c) run.last_tallies ≡ o
-    → length (files_of o number (run_channels c.slots)) ≡ length (logger_channels (λ n. 0) c.slots)
-many_files c holds run stopped number None none = no_channels (logger_channels (λ n. 0) c.slots) refl
+many_files : (c : ClosedSession) (holds : SessionHolds c) (run : SessionRun) → IsStoppedRun (session_of c holds.moments) run → (o : Option (List ChannelEnd)) → ends_told (logger_client c) run.last_tallies ≡ o
+    → length (files_of o (run_channels c.slots)) ≡ length (logger_channels (λ n. 0) c.slots)
+many_files c holds run stopped None none = no_channels (logger_channels (λ n. 0) c.slots) refl
   where
     no_channels : (channels : List LoggerChannel) → logger_channels (λ n. 0) c.slots ≡ channels → 0 ≡ length (logger_channels (λ n. 0) c.slots)
     no_channels [] is = sym (ap length is)
     no_channels (ch ∷ chs) is =
         let told = holds.composed.channels_told run stopped 0 ch (ap (λ (l : List LoggerChannel). slice_get l 0) is) in
-        let found = states_there (logger_client c) run.last_tallies told.1.index told.1.states told.1.told in
+        let found = ends_there (logger_client c) run.last_tallies told.1.index told.1.ends told.1.tells in
         absurd (cc (none, found.1))
-many_files c holds run stopped number (Some states) told =
-    let says : ToldStates (logger_client c) run.last_tallies states = states_so (logger_client c) run.last_tallies states told in
-    as_many c.slots states number (λ index channel at. holds.composed.states_told run stopped says.index states says.at index channel at)
+many_files c holds run stopped (Some told) is =
+    let says : ToldEnds (logger_client c) run.last_tallies told = ends_so (logger_client c) run.last_tallies told is in
+    as_many c.slots told (λ index channel at. holds.composed.ends_told run stopped says.index told says.at index channel at)
 
 many_listed : (first : ℕ) (fs : List ClosedFront) (moments : ℕ → List ℕ) → length (session_fronts first fs moments) ≡ length fs
 many_listed first [] moments = refl
@@ -403,8 +405,8 @@ records_hold c holds own more same r quota fits =
     } in
     let all : RunHolds (session_of c holds.moments) run = holds.runs run (subst (λ (l : List EngineEntry). RunIn l run) joined makes) in
     let tells = fits.stop.tells in
-    let listed : (index : ℕ) (channel : LoggerChannel) → slice_get (logger_channels (λ n. 0) c.slots) index ≡ Some channel → HasFile r.files (channel.name r.run) = λ index channel at.
-    subst (λ (l : List FileRecord). HasFile l (channel.name r.run)) (sym tells.files) (each_file c holds run all.stopped r.run (states_told n fits.stop.tallies) refl index channel at) in
+    let listed : (index : ℕ) (channel : LoggerChannel) → slice_get (logger_channels (λ n. 0) c.slots) index ≡ Some channel → HasFiles r.files channel = λ index channel at.
+    subst (λ (l : List ChannelFiles). HasFiles l channel) (sym tells.files) (each_channel c holds run all.stopped (ends_told n fits.stop.tallies) refl index channel at) in
     record {
       run = run;
       made = subst (λ (l : List EngineEntry). RunIn l run) joined makes;
@@ -414,10 +416,10 @@ records_hold c holds own more same r quota fits =
       last_is = refl;
       many_fronts = ap length tells.sent ∙ (many_told (length c.fronts) fits.stop.tallies (all_told c holds run all.stopped) ∙ sym (many_listed 0 c.fronts holds.moments));
       fronts = front_record c holds run all.stopped r.fronts tells.sent;
-      many_files = ap length tells.files ∙ many_files c holds run all.stopped r.run (states_told n fits.stop.tallies) refl;
-      files = λ place file at.
-          file_record c holds run all.stopped r.run refl (states_told n fits.stop.tallies) refl place file (subst (λ (l : List FileRecord). slice_get l place ≡ Some file) tells.files at);
-      each_file = λ index channel at. (let found : HasFile r.files (channel.name r.run) = listed index channel at in record { place = found.place; file = found.file; at = found.at; is = found.is });
+      many_files = ap length tells.files ∙ many_files c holds run all.stopped (ends_told n fits.stop.tallies) refl;
+      files = λ place files at.
+          channel_files c holds run all.stopped (ends_told n fits.stop.tallies) refl place files (subst (λ (l : List ChannelFiles). slice_get l place ≡ Some files) tells.files at);
+      each_channel = λ index channel at. (let found : HasFiles r.files channel = listed index channel at in record { place = found.place; files = found.files; at = found.at; number = found.number; pattern = found.pattern });
       many_reports = ap length tells.reports ∙ (many_reports c holds run all.stopped ∙ sym (many_analyzers c (suc (length c.fronts)) c.analyzers));
       reports = report_record c holds run all.stopped r.reports tells.reports;
     }

@@ -1,9 +1,10 @@
 -- A count that rose is told by a record: where all that the logger told of a start is in the record of it.
-use Rattle.std.specs.Prelude.{◌≡◌, ◌≤◌, ◌<◌, ℕ, zero, suc, cond, is_some, sum_by, List, [], ◌∷◌, ◌++◌, length, map, slice_get, Contains, Option, Some, None, refl}
+use Rattle.std.specs.Prelude.{◌≡◌, ◌≤◌, ℕ, zero, suc, cond, is_some, sum_by, List, [], ◌∷◌, ◌++◌, length, map, slice_get, Contains, Option, Some, None, refl}
 use Rattle.std.specs.List.{AllByRecursion}
 use Rattle.std.proofs.Common.{ap, sym, subst, ◌∙◌, arith, inl, inr, append-nil}
 use Rattle.std.proofs.lemmas.List.Sums.{sum_by-cons}
 use Rattle.daq_types.specs.Callers.{main_caller}
+use Rattle.daq_types.specs.declared.runs.ChannelEnd.{ChannelEnd}
 use Rattle.daq_types.specs.declared.runs.ChannelState.{ChannelState}
 use Rattle.daq_types.specs.declared.runs.ChannelState.TheVariants.{Idle as IsIdle, Writing as IsWriting, Ended, NoEnd, NoMark, Broken as IsBroken}
 use Rattle.daq_types.specs.declared.runs.StartOutcome.{StartOutcome}
@@ -16,8 +17,7 @@ use Rattle.buffer_core.specs.Ports.{Access}
 use Rattle.buffer_core.specs.Slots.{slot_at, passes}
 use Rattle.transitions.specs.declared.answers.Answer.TheVariants.{Yes, No}
 use Rattle.transitions.specs.declared.answers.Tally.TheVariants.{Plain, Front, Channels, Report}
-use Rattle.transitions.specs.EnginePoints.{tally_of}
-use Rattle.member_model.specs.RunEngines.{Sheet, Answer, Tally, EngineEntry}
+use Rattle.member_model.specs.RunEngines.{Sheet, Answer, EngineEntry}
 use Rattle.member_model.specs.Turns.{MemberTurn, HasTurn, AreEngineTurns}
 use Rattle.member_model.specs.TurnCalls.{member_turns}
 use Rattle.mid_logger.specs.declared.channel.Channel.{Channel}
@@ -27,30 +27,26 @@ use Rattle.mid_logger.specs.declared.stage.ChannelStage.{ChannelStage}
 use Rattle.mid_logger.specs.declared.stage.ChannelStage.TheVariants.{Idle, Asking, Writing, Draining, Drained, Broken}
 use Rattle.mid_logger.specs.Channels.{channel_run}
 use Rattle.mid_logger.specs.ChannelTurns.{broken_run}
-use Rattle.loggers.specs.declared.logged_run.LoggedRun.{LoggedRun}
-use Rattle.loggers.specs.declared.logged_run.RunPart.{RunPart}
-use Rattle.loggers.specs.declared.logged_run.RunPart.TheVariants.{Refused as WasRefused, Started, Stopping}
 use Rattle.loggers.specs.Moments.{RunFiles}
-use Rattle.loggers.specs.LoggerStands.{LoggerStands, HasEndTurn, IsStageOf, IsStagePart, IsRunTold, IsPartTold, IsStillGoing, ToldSo}
+use Rattle.loggers.specs.LoggerStands.{LoggerStands, ToldSo}
 use Rattle.loggers.specs.LeftNames.{IsStartedRun}
 use Rattle.loggers.specs.OtherFiles.{specs_in}
-use Rattle.loggers.specs.Reasons.{AnswerFits, ClashesAreTold}
+use Rattle.loggers.specs.Reasons.{AnswerFits, ClashesAreTold, HaveNoLimit}
 use Rattle.loggers.specs.ToldCounts.{faults_of_state, faults_of_answer, clashes_of_answer, undone_of_answer, undone_by, count_in_answer, faults_told, starts_undone, broken_off}
 use Rattle.loggers.proofs.ManyRose.{member_counts, off_of}
-use Rattle.engine_laws.specs.BegunTurns.{HasTransition, HasTally}
+use Rattle.engine_laws.specs.BegunTurns.{HasTransition}
 use Rattle.engine_laws.specs.EngineLaws.{LoneNosAreRefusals}
-use Rattle.session_runs.specs.declared.records.FileRecord.{FileRecord}
+use Rattle.session_runs.specs.declared.records.ChannelFiles.{ChannelFiles}
 use Rattle.session_runs.specs.declared.records.RunRecord.{RunRecord}
 use Rattle.session_runs.specs.MadeTransitions.{TransitionIn}
 use Rattle.session_runs.specs.declared.on.CurrentRun.{CurrentRun}
 use Rattle.session_runs.specs.KeptRuns.{run_channel}
 use Rattle.session_runs.specs.RunEntries.{start_sheet, later_sheet, dump_saved}
 use Rattle.session_runs.specs.RunsFit.{MainOwn, RunClients, FitsRun, FitsOutcome, FitsRefused, FitsWhole, RecordsFit, run_of, start_of, starts_begun}
-use Rattle.session_runs.specs.ToldTallies.{files_told, files_of, states_told}
+use Rattle.session_runs.specs.ToldTallies.{files_told, files_of, ends_told}
 use Rattle.composition.specs.Sessions.{Session}
 use Rattle.composition.specs.SessionRuns.{SessionRun, IsStoppedRun}
-use Rattle.composition.proofs.FilesTogether.{yes_channels}
-use Rattle.composition.proofs.SessionTurns.{EngineFacts, HasStartTally, StopTally, number_of, one_start, start_tally, stop_tally, last_tally, speaks}
+use Rattle.composition.proofs.SessionTurns.{one_start, speaks}
 use Rattle.session_laws.specs.ClosedSessions.{ClosedSession, logger_client, logger_caller, engine_calls, session_of}
 use Rattle.session_laws.specs.MembersAtEnd.{MembersAtEnd}
 use Rattle.session_laws.specs.CountedFaults.{LoggerReasons}
@@ -60,14 +56,15 @@ use Rattle.session_laws.specs.OneAnswer.{faults_recorded, clashes_recorded, clas
 use Rattle.session_laws.proofs.KeptTogether.{names_own, one_number}
 use Rattle.session_laws.proofs.LoggerEnd.{none_taken_back}
 use Rattle.session_laws.proofs.NamesStay.{StartBegun, start_begun, abort_begun, HasSpec, has_spec}
-use Rattle.session_laws.proofs.OneEach.{starts_joined, state_counts, faults_of_file, file_first}
-use Rattle.session_laws.proofs.RecordsMade.{made_then, made_behind, ToldStates, states_so, states_there}
+use Rattle.session_laws.proofs.OneEach.{starts_joined, faults_of_end, end_counts, faults_of_files, files_first}
+use Rattle.session_laws.proofs.RecordsMade.{made_then, made_behind, ToldEnds, ends_so, ends_there}
 use Rattle.session_laws.proofs.RunsMade.{has_made, made_are_stopped}
-use Rattle.session_laws.proofs.UndoneNames.{UndoneLaws, Turned, one_end, one_stop, started_in, are_turns}
+use Rattle.session_laws.proofs.RunTurns.{TurnLaws, Turned, TurnsOf, there_within, one_end, are_turns, turns_of_run, told_is, told_there, never_open}
+use Rattle.session_laws.proofs.UndoneNames.{started_in}
 
 -- the laws of engines and of loggers
 pub record RiseLaws : Type 0 where
-  pub undone : UndoneLaws
+  pub turns : TurnLaws
   pub nos : LoneNosAreRefusals
   pub names : ClashesAreTold
 
@@ -77,11 +74,6 @@ all_at : {X : Type 0} (P : X → Type 0) (xs : List X) → AllByRecursion P xs �
 all_at P [] all n x at = absurd (cc (at))
 all_at P (y ∷ xs) all zero x at = subst P (cc (at)) all.0
 all_at P (y ∷ xs) all (suc n) x at = all_at P xs all.1 n x at
-
-there_within : {X : Type 0} (xs : List X) (n : ℕ) → n < length xs → (x : X) × (slice_get xs n ≡ Some x)
-there_within [] n within = absurd (omega (arith, within))
-there_within (x ∷ xs) zero within = (x, refl)
-there_within (x ∷ xs) (suc n) within = there_within xs n (omega (arith, within))
 
 -- what stands in a list of images is the image of a member
 record MappedAt {X Y : Type 0} (f : X → Y) (xs : List X) (y : Y) : Type 0 where
@@ -102,9 +94,9 @@ turns_none : (f : MemberTurn → ℕ) (ts : List MemberTurn) → ((t : MemberTur
 turns_none f [] none = refl
 turns_none f (t ∷ ts) none = omega (arith, none t (inl refl), turns_none f ts (λ u has. none u (inr has)), sum_by-cons f t ts)
 
-states_none : (states : List ChannelState) → ((k : ℕ) → slice_get states k ≡ Some IsBroken → ⊥) → sum_by faults_of_state states ≡ 0
-states_none [] none = refl
-states_none (s ∷ ss) none = omega (arith, state_none s (λ is. none 0 (ap (λ (x : ChannelState). Some x) is)), states_none ss (λ k at. none (suc k) at), sum_by-cons faults_of_state s ss)
+ends_none : (told : List ChannelEnd) → ((k : ℕ) (e : ChannelEnd) → slice_get told k ≡ Some e → e.state ≡ IsBroken → ⊥) → sum_by faults_of_end told ≡ 0
+ends_none [] none = refl
+ends_none (e ∷ es) none = omega (arith, state_none e.state (λ is. none 0 e refl is), ends_none es (λ k x at. none (suc k) x at), sum_by-cons faults_of_end e es)
   where
     state_none : (state : ChannelState) → (state ≡ IsBroken → ⊥) → faults_of_state state ≡ 0
     state_none IsIdle never = refl
@@ -132,17 +124,18 @@ slots_none (Some ch ∷ os) none = omega (arith, stage_none ch.stage (λ run fal
 
 -- Records.
 
--- the file of a channel that broke off is among those of the record
-file_counts : (states : List ChannelState) (run : ℕ) (slots : List (Option Channel)) (n : ℕ) (ch : Channel) → slot_at slots n ≡ Some ch → slice_get states ch.spec.number ≡ Some IsBroken → 1 ≤ sum_by faults_of_file (files_told states run (run_channels slots))
-file_counts states run [] n ch there broken = absurd (cc (there))
-file_counts states run (None ∷ os) zero ch there broken = absurd (cc (there))
-file_counts states run (None ∷ os) (suc n) ch there broken = file_counts states run os n ch there broken
-file_counts states run (Some x ∷ os) zero ch there broken =
+-- the files of a channel that broke off are among those of the record
+files_count : (told : List ChannelEnd) (slots : List (Option Channel)) (n : ℕ) (ch : Channel) (e : ChannelEnd) → slot_at slots n ≡ Some ch → slice_get told ch.spec.number ≡ Some e → e.state ≡ IsBroken → 1 ≤ sum_by faults_of_files (files_told told (run_channels slots))
+files_count told [] n ch e there at broken = absurd (cc (there))
+files_count told (None ∷ os) zero ch e there at broken = absurd (cc (there))
+files_count told (None ∷ os) (suc n) ch e there at broken = files_count told os n ch e there at broken
+files_count told (Some x ∷ os) zero ch e there at broken =
     let same : x ≡ ch = cc (there) in
-    let counts : state_counts (slice_get states x.spec.number) ≡ 1 = ap state_counts (subst (λ (c : Channel). slice_get states c.spec.number ≡ Some IsBroken) (sym same) broken) in
-    omega (arith, counts, file_first run (run_channel x.spec) (files_told states run (run_channels os)) (slice_get states x.spec.number))
-file_counts states run (Some x ∷ os) (suc n) ch there broken =
-    omega (arith, file_counts states run os n ch there broken, file_first run (run_channel x.spec) (files_told states run (run_channels os)) (slice_get states x.spec.number))
+    let here : slice_get told x.spec.number ≡ Some e = subst (λ (c : Channel). slice_get told c.spec.number ≡ Some e) (sym same) at in
+    let counts : end_counts (slice_get told x.spec.number) ≡ 1 = ap end_counts here ∙ ap faults_of_state broken in
+    omega (arith, counts, files_first (run_channel x.spec) (files_told told (run_channels os)) (slice_get told x.spec.number))
+files_count told (Some x ∷ os) (suc n) ch e there at broken =
+    omega (arith, files_count told os n ch e there at broken, files_first (run_channel x.spec) (files_told told (run_channels os)) (slice_get told x.spec.number))
 
 whole : (clients : RunClients) (own : MainOwn) (begun : CurrentRun) (r : RunRecord) (o : StartOutcome) → o ≡ Completed → FitsOutcome clients own begun r o → FitsWhole clients own begun r
 whole clients own begun r Completed is fits = fits
@@ -157,12 +150,12 @@ module _ (laws : RiseLaws) (c : ClosedSession) (ends : MembersAtEnd c) where
   ts = member_turns (logger_client c) (engine_calls c (logger_caller c))
 
   abbrev its : Session
-  its = session_of c (laws.undone.keep c ends).0
+  its = session_of c (laws.turns.keep c ends).0
 
   are : AreEngineTurns ts
-  are = are_turns laws.undone c ends
+  are = are_turns laws.turns c ends
 
-  stands : LoggerStands ends.logger.run ends.logger.stop_dump c.slots ends.logger.ports ts c.files
+  stands : LoggerStands ends.logger.run ends.logger.dumps c.slots ends.logger.ports ts c.files
   stands = ends.logger.stands (none_taken_back c ends)
 
   -- a run that came about, with what the logger told of its files
@@ -170,7 +163,7 @@ module _ (laws : RiseLaws) (c : ClosedSession) (ends : MembersAtEnd c) where
     run : SessionRun
     stopped : IsStoppedRun its run
     of : run.start ≡ r.start
-    files : r.files ≡ files_of (states_told (logger_client c) run.last_tallies) r.run (run_channels c.slots)
+    files : r.files ≡ files_of (ends_told (logger_client c) run.last_tallies) (run_channels c.slots)
 
   run_came : (own : MainOwn) (more : List EngineEntry) → engine_calls c main_caller ≡ own.engine ++ more → (r : RunRecord) (quota : ℕ) → FitsWhole (clients_in c) own (run_of r quota) r → RunCame r
   run_came own more calls r quota fits =
@@ -189,61 +182,22 @@ module _ (laws : RiseLaws) (c : ClosedSession) (ends : MembersAtEnd c) where
       (made_then (early ++ late) more Stop last r.start Completed stop.tallies (made_behind early late Stop last r.start Completed stop.tallies stop.made)) in
       let run : SessionRun = record { start = r.start; first = first; last = last; first_tallies = start.tallies; last_tallies = stop.tallies } in
       let made : RunIn (engine_calls c main_caller) run = record { started = began; stopped = ended } in
-      record { run = run; stopped = made_are_stopped laws.undone.main its ends.engine run made; of = refl; files = stop.tells.files }
+      record { run = run; stopped = made_are_stopped laws.turns.main its ends.engine run made; of = refl; files = stop.tells.files }
 
-  -- the logger's turns in it
-  record TurnsOf (start : ℕ) : Type 0 where
-    begin : MemberTurn
-    starts : Turned ts Start start begin
-    tally : Tally
-    accepted : begin.answer ≡ Some (Yes tally)
-    stop : MemberTurn
-    stops : Turned ts Stop start stop
-    answer : Answer
-    answered : stop.answer ≡ Some answer
-
-  turns_of_run : (r : RunRecord) → RunCame r → TurnsOf r.start
-  turns_of_run r came =
-      let facts : EngineFacts = laws.undone.facts in
-      let n : ℕ = logger_client c in
-      let keep = (laws.undone.keep c ends).1 in
-      let first : HasStartTally its came.run came.stopped n = start_tally facts its keep came.run came.stopped n keep.logger_registered.0 in
-      let b = first.told in
-      let is : b.turn.transition ≡ Start = b.completed refl in
-      let told : HasTally n came.run.last_tallies = last_tally facts its keep came.run came.stopped n keep.logger_registered.1 in
-      let s : StopTally its came.run came.stopped n told.1 = stop_tally facts its keep came.run came.stopped n told.0 told.1 told.2 in
-      record {
-        begin = b.turn;
-        starts = record { stands = b.stands; is = is; of = number_of Start came.run.first came.run.start b.turn b.of_begin ∙ came.of };
-        tally = first.tally;
-        accepted = b.answered ∙ ap (λ (a : Answer). Some a) (b.accepted is);
-        stop = s.turn;
-        stops = record { stands = s.stands; is = s.completed refl; of = number_of Stop came.run.last came.run.start s.turn s.of_begin ∙ came.of };
-        answer = s.answer;
-        answered = s.answered;
-      }
+  turns_of_record : (r : RunRecord) → RunCame r → TurnsOf ts r.start
+  turns_of_record r came = subst (λ (n : ℕ). TurnsOf ts n) came.of (turns_of_run laws.turns c ends came.run came.stopped)
 
   -- what the logger told of the channels at the stop stands in the record's files
-  states_recorded : (r : RunRecord) (came : RunCame r) (states : List ChannelState) (turn : MemberTurn) → Turned ts Stop r.start turn → turn.answer ≡ Some (Yes (Channels states)) → r.files ≡ files_told states r.run (run_channels c.slots)
-  states_recorded r came states turn stops answered =
-      let facts : EngineFacts = laws.undone.facts in
+  ends_recorded : (r : RunRecord) (came : RunCame r) (told : List ChannelEnd) (stop : MemberTurn) → Turned ts Stop r.start stop → stop.answer ≡ Some (Yes (Channels told)) → r.files ≡ files_told told (run_channels c.slots)
+  ends_recorded r came told stop stops answered =
       let n : ℕ = logger_client c in
-      let keep = (laws.undone.keep c ends).1 in
-      let turns : TurnsOf r.start = turns_of_run r came in
-      let told : HasTally n came.run.last_tallies = last_tally facts its keep came.run came.stopped n keep.logger_registered.1 in
-      let s : StopTally its came.run came.stopped n told.1 = stop_tally facts its keep came.run came.stopped n told.0 told.1 told.2 in
-      let here : turn ≡ s.turn = one_stop ts r.start turns.begin turn s.turn are turns.starts stops (record { stands = s.stands; is = s.completed refl; of = number_of Stop came.run.last came.run.start s.turn s.of_begin ∙ came.of }) in
-      let answer : Some (Yes (Channels states)) ≡ Some s.answer = sym answered ∙ (ap (λ (t : MemberTurn). t.answer) here ∙ s.answered) in
-      let is : Yes (Channels states) ≡ s.answer = cc (answer) in
-      let tally : told.1 ≡ Channels states = s.tally_is ∙ ap tally_of (sym is) in
-      let found = states_there n came.run.last_tallies told.0 states (subst (λ (x : Tally). slice_get came.run.last_tallies told.0 ≡ Some (record { client = n; tally = x })) tally told.2) in
-      let says : ToldStates n came.run.last_tallies found.0 = states_so n came.run.last_tallies found.0 found.1 in
-      let other : StopTally its came.run came.stopped n (Channels found.0) = stop_tally facts its keep came.run came.stopped n says.index (Channels found.0) says.at in
-      let there : turn ≡ other.turn = one_stop ts r.start turns.begin turn other.turn are turns.starts stops (record { stands = other.stands; is = other.completed refl; of = number_of Stop came.run.last came.run.start other.turn other.of_begin ∙ came.of }) in
-      let second : other.answer ≡ Yes (Channels found.0) = yes_channels other.answer found.0 other.tally_is in
-      let both : Some (Yes (Channels states)) ≡ Some (Yes (Channels found.0)) = sym answered ∙ (ap (λ (t : MemberTurn). t.answer) there ∙ (other.answered ∙ ap (λ (a : Answer). Some a) second)) in
-      let same : found.0 ≡ states = cc (both) in
-      came.files ∙ (ap (λ (o : Option (List ChannelState)). files_of o r.run (run_channels c.slots)) found.1 ∙ ap (λ (l : List ChannelState). files_told l r.run (run_channels c.slots)) same)
+      let its_stop : Turned ts Stop came.run.start stop = record { stands = stops.stands; is = stops.is; of = stops.of ∙ sym came.of } in
+      let at = told_there laws.turns c ends came.run came.stopped stop its_stop told answered in
+      let found = ends_there n came.run.last_tallies at.0 told at.1 in
+      let says : ToldEnds n came.run.last_tallies found.0 = ends_so n came.run.last_tallies found.0 found.1 in
+      let both : Some (Yes (Channels told)) ≡ Some (Yes (Channels found.0)) = sym answered ∙ told_is laws.turns c ends came.run came.stopped says.index found.0 says.at stop its_stop in
+      let same : found.0 ≡ told = cc (both) in
+      came.files ∙ (ap (λ (o : Option (List ChannelEnd)). files_of o (run_channels c.slots)) found.1 ∙ ap (λ (l : List ChannelEnd). files_told l (run_channels c.slots)) same)
 
   module _ (first now : RunFiles) (reasons : LoggerReasons c ends first now) (own : MainOwn) (more : List EngineEntry) (calls : engine_calls c main_caller ≡ own.engine ++ more) (none_more : starts_begun more ≡ [])
       (runs : List RunRecord) (fits : RecordsFit (clients_in c) own runs) where
@@ -271,16 +225,16 @@ module _ (laws : RiseLaws) (c : ClosedSession) (ends : MembersAtEnd c) where
     came_of : (start : ℕ) (o : OfStart start) → o.kept.outcome ≡ Completed → RunCame o.kept
     came_of start o done = run_came own more calls o.kept o.fit.0 (whole (clients_in c) own (run_of o.kept o.fit.0) o.kept o.kept.outcome done o.fit.1)
 
-    turns_at : (start : ℕ) (o : OfStart start) → o.kept.outcome ≡ Completed → TurnsOf start
-    turns_at start o done = subst (λ (n : ℕ). TurnsOf n) o.is (turns_of_run o.kept (came_of start o done))
+    turns_at : (start : ℕ) (o : OfStart start) → o.kept.outcome ≡ Completed → TurnsOf ts start
+    turns_at start o done = subst (λ (n : ℕ). TurnsOf ts n) o.is (turns_of_record o.kept (came_of start o done))
 
     turn_begun : (t : MemberTurn) → HasTurn ts t → t.transition ≡ Start → OfStart t.order.start
-    turn_begun t has starts = of_start t (start_begun laws.undone.facts.begun c ends t has starts)
+    turn_begun t has starts = of_start t (start_begun laws.turns.facts.begun c ends t has starts)
 
     -- a start that came about was not refused by the logger
     never_refused : (t : MemberTurn) (why : Why) → HasTurn ts t → t.transition ≡ Start → t.answer ≡ Some (No why) → (o : OfStart t.order.start) → o.kept.outcome ≡ Completed → ⊥
     never_refused t why has starts answered o done =
-        let turns : TurnsOf t.order.start = turns_at t.order.start o done in
+        let turns : TurnsOf ts t.order.start = turns_at t.order.start o done in
         let same : t ≡ turns.begin = one_start ts t.order.start t turns.begin are (record { stands = has; is = starts; of = refl }) (record { stands = turns.starts.stands; is = turns.starts.is; of = turns.starts.of }) in
         let both : Some (No why) ≡ Some (Yes turns.tally) = sym answered ∙ (ap (λ (u : MemberTurn). u.answer) same ∙ turns.accepted) in
         cc (both)
@@ -299,29 +253,29 @@ module _ (laws : RiseLaws) (c : ClosedSession) (ends : MembersAtEnd c) where
 
       calls_none_off : (t : MemberTurn) → HasTurn ts t → t.transition ≡ StartAbort → ⊥
       calls_none_off t has aborts =
-          let o : OfStart t.order.start = of_start t (abort_begun laws.undone.facts.begun c ends t has aborts) in
-          let turns : TurnsOf t.order.start = turns_at t.order.start o (all o.place o.kept o.at) in
+          let o : OfStart t.order.start = of_start t (abort_begun laws.turns.facts.begun c ends t has aborts) in
+          let turns : TurnsOf ts t.order.start = turns_at t.order.start o (all o.place o.kept o.at) in
           one_end ts t.order.start turns.begin turns.stop t are turns.starts turns.stops (record { stands = has; is = aborts; of = refl })
 
-      breaks_none : (t : MemberTurn) (states : List ChannelState) → HasTurn ts t → t.answer ≡ Some (Yes (Channels states)) → (k : ℕ) → slice_get states k ≡ Some IsBroken → ⊥
-      breaks_none t states has answered k broken =
-          let fit : AnswerFits (specs_in c.slots) t.transition (Some (Yes (Channels states))) = fits_as t (Some (Yes (Channels states))) has answered in
-          let named = fit.channels k broken in
+      breaks_none : (t : MemberTurn) (told : List ChannelEnd) → HasTurn ts t → t.answer ≡ Some (Yes (Channels told)) → (k : ℕ) (e : ChannelEnd) → slice_get told k ≡ Some e → e.state ≡ IsBroken → ⊥
+      breaks_none t told has answered k e at broken =
+          let fit : AnswerFits (specs_in c.slots) t.transition (Some (Yes (Channels told))) = fits_as t (Some (Yes (Channels told))) has answered in
+          let named = fit.channels k e at broken in
           let channel : HasSpec c.slots k named.0 = has_spec c.slots k named.0 named.1 in
           let ch : Channel = channel.channel in
           let holds = stands.holds in
           let served = there_within ends.logger.ports ch.spec.buffer (holds.served k ch channel.at) in
           let port : Access = served.0 in
           let at_port : slice_get ends.logger.ports ch.spec.buffer ≡ Some port = served.1 in
-          let told : ToldSo ts c.slots c.files k ch port t states = holds.standing.left are t states (record { stands = has; is = fit.kind; answered = answered }) k ch port channel.at at_port in
-          let start = told.left.headed.is_start.is_start in
-          let begin : MemberTurn = told.left.headed.turn in
+          let so : ToldSo ts c.slots c.files k ch port t told = holds.standing.left are t told (record { stands = has; is = fit.kind; answered = answered }) k ch port channel.at at_port in
+          let start = so.left.headed.is_start.is_start in
+          let begin : MemberTurn = so.left.headed.turn in
           let o : OfStart begin.order.start = turn_begun begin start.stands start.is in
           let of : o.kept.start ≡ t.order.start = o.is ∙ start.of in
-          let files : o.kept.files ≡ files_told states o.kept.run (run_channels c.slots) = states_recorded o.kept (came_of begin.order.start o (all o.place o.kept o.at)) states t (record { stands = has; is = fit.kind; of = sym of }) answered in
-          let number : slice_get states ch.spec.number ≡ Some IsBroken = subst (λ (i : ℕ). slice_get states i ≡ Some IsBroken) (sym (holds.standing.numbered k ch channel.at)) broken in
-          let some = file_counts states o.kept.run c.slots k ch channel.at number in
-          let same : sum_by faults_of_file o.kept.files ≡ sum_by faults_of_file (files_told states o.kept.run (run_channels c.slots)) = ap (λ (l : List FileRecord). sum_by faults_of_file l) files in
+          let files : o.kept.files ≡ files_told told (run_channels c.slots) = ends_recorded o.kept (came_of begin.order.start o (all o.place o.kept o.at)) told t (record { stands = has; is = fit.kind; of = sym of }) answered in
+          let number : slice_get told ch.spec.number ≡ Some e = subst (λ (i : ℕ). slice_get told i ≡ Some e) (sym (holds.standing.numbered k ch channel.at)) at in
+          let some = files_count told c.slots k ch e channel.at number broken in
+          let same : sum_by faults_of_files o.kept.files ≡ sum_by faults_of_files (files_told told (run_channels c.slots)) = ap (λ (l : List ChannelFiles). sum_by faults_of_files l) files in
           omega (arith, some, same, quiet, member_counts faults_recorded runs o.place o.kept o.at)
 
       faults_none : (t : MemberTurn) → HasTurn ts t → (answer : Option Answer) → t.answer ≡ answer → count_in_answer faults_of_answer answer ≡ 0
@@ -329,7 +283,7 @@ module _ (laws : RiseLaws) (c : ClosedSession) (ends : MembersAtEnd c) where
       faults_none t has (Some (No why)) is = absurd (refuses_none t why has is)
       faults_none t has (Some (Yes Plain)) is = refl
       faults_none t has (Some (Yes (Front sent ended))) is = refl
-      faults_none t has (Some (Yes (Channels states))) is = states_none states (breaks_none t states has is)
+      faults_none t has (Some (Yes (Channels told))) is = ends_none told (breaks_none t told has is)
       faults_none t has (Some (Yes (Report report))) is = refl
 
       start_none : (t : MemberTurn) → HasTurn ts t → (answer : Option Answer) → t.answer ≡ answer → count_in_answer undone_of_answer answer ≡ 0
@@ -344,37 +298,14 @@ module _ (laws : RiseLaws) (c : ClosedSession) (ends : MembersAtEnd c) where
       undone_none t has Resume is = refl
       undone_none t has StartAbort is = absurd (calls_none_off t has is)
 
-      -- a channel that broke off has a run whose stop is not answered
+      -- a channel that broke off has a run that is not over
       off_none : (n : ℕ) (ch : Channel) (run : BegunRun) (fallen : Fallen) → slot_at c.slots n ≡ Some ch → ch.stage ≡ Broken run fallen → ⊥
       off_none n ch run fallen there is =
-          let holds = stands.holds in
-          let started : IsStartedRun ts run.opened = laws.undone.started ends.logger.run ends.logger.stop_dump c.slots ends.logger.ports ts c.files stands are n ch run.opened there (ap channel_run is) in
+          let started : IsStartedRun ts run.opened = laws.turns.started ends.logger.run ends.logger.dumps c.slots ends.logger.ports ts c.files stands are n ch run.opened there (ap channel_run is) in
           let start = started.is_start.is_start in
           let o : OfStart started.begin.order.start = turn_begun started.begin start.stands start.is in
-          let turns : TurnsOf run.opened.start = subst (λ (s : ℕ). TurnsOf s) start.of (turns_at started.begin.order.start o (all o.place o.kept o.at)) in
-          let served = there_within ends.logger.ports ch.spec.buffer (holds.served n ch there) in
-          let port : Access = served.0 in
-          let at_port : slice_get ends.logger.ports ch.spec.buffer ≡ Some port = served.1 in
-          let stage : IsStageOf ends.logger.run ts port.own (Broken run fallen) = subst (λ (s : ChannelStage). IsStageOf ends.logger.run ts port.own s) is (holds.stages n ch port there at_port) in
-          by_run ends.logger.run turns port stage holds.told (holds.going are)
-        where
-          ended_turn : (start : ℕ) → run.opened.start ≡ start → TurnsOf run.opened.start → HasEndTurn ts start
-          ended_turn start of turns = record { turn = turns.stop; stands = turns.stops.stands; ends = inl turns.stops.is; of = turns.stops.of ∙ of }
-
-          by_part : (r : LoggedRun) (part : RunPart) → r.part ≡ part → TurnsOf run.opened.start → (port : Access) → IsStagePart part ts port.own r.start (Broken run fallen) → IsPartTold part ts r.start ends.logger.stop_dump → (r.part ≡ Started → HasEndTurn ts r.start → ⊥) → ⊥
-          by_part r WasRefused part turns port stage told going = absurd (cc (stage))
-          by_part r Started part turns port stage told going = going part (ended_turn r.start stage.of turns)
-          by_part r (Stopping time) part turns port stage told going =
-              let waits = told.0 in
-              let w : MemberTurn = record { transition = Stop; order = waits.order; dump = ends.logger.stop_dump; answer = None } in
-              let has : HasTurn ts w = subst (λ (l : List MemberTurn). HasTurn l w) (sym waits.latest) (inl refl) in
-              let same : w ≡ turns.stop = one_stop ts run.opened.start turns.begin w turns.stop are turns.starts (record { stands = has; is = refl; of = waits.of ∙ sym stage.of }) turns.stops in
-              let both : None ≡ Some turns.answer = ap (λ (u : MemberTurn). u.answer) same ∙ turns.answered in
-              cc (both)
-
-          by_run : (o : Option LoggedRun) → TurnsOf run.opened.start → (port : Access) → IsStageOf o ts port.own (Broken run fallen) → IsRunTold o ts ends.logger.stop_dump → IsStillGoing o ts → ⊥
-          by_run None turns port stage told going = absurd (cc (stage))
-          by_run (Some r) turns port stage told going = by_part r r.part refl turns port stage told (λ part ended. going r refl part ended)
+          let came : RunCame o.kept = came_of started.begin.order.start o (all o.place o.kept o.at) in
+          never_open laws.turns c ends came.run came.stopped n ch run.opened there (ap channel_run is) (sym start.of ∙ (sym o.is ∙ sym came.of))
 
       faults_so : now.faults ≡ first.faults
       faults_so =
@@ -396,7 +327,7 @@ module _ (laws : RiseLaws) (c : ClosedSession) (ends : MembersAtEnd c) where
           let here : TransitionIn own.engine Start sheet o.kept.start (Refused client why) start.tallies = subst (λ (x : StartOutcome). TransitionIn own.engine Start sheet o.kept.start x start.tallies) is start.made in
           let made : TransitionIn (engine_calls c main_caller) Start sheet o.kept.start (Refused client why) start.tallies =
           subst (λ (l : List EngineEntry). TransitionIn l Start sheet o.kept.start (Refused client why) start.tallies) (sym calls) (made_then own.engine more Start sheet o.kept.start (Refused client why) start.tallies here) in
-          let stood : HasTransition c.engine Start sheet o.kept.start (Refused client why) start.tallies = has_made laws.undone.main c.engine Start sheet o.kept.start (Refused client why) start.tallies ends.engine made in
+          let stood : HasTransition c.engine Start sheet o.kept.start (Refused client why) start.tallies = has_made laws.turns.main c.engine Start sheet o.kept.start (Refused client why) start.tallies ends.engine made in
           let told : Refused client why ≡ Refused n (Exists channel) = laws.nos (logger_caller c) n c.engine ends.engine (speaks n c.engine (names_own c ends)) 200 (one_number c ends) sheet o.kept.start (Refused client why) start.tallies stood t has starts (sym o.is) (Exists channel) answered in
           let one : clashes_recorded o.kept ≡ 1 = ap clashes_of_outcome (is ∙ told) in
           omega (arith, one, quiet, member_counts clashes_recorded runs o.place o.kept o.at)
@@ -412,11 +343,11 @@ module _ (laws : RiseLaws) (c : ClosedSession) (ends : MembersAtEnd c) where
       clash_none t has (Some (No (Fault channel))) is = refl
       clash_none t has (Some (No BufferRefused)) is = refl
 
-      clashes_so : now.clashes ≡ first.clashes
-      clashes_so = laws.names c.slots ends.logger.ports first now ts reasons (turns_none (λ (t : MemberTurn). count_in_answer clashes_of_answer t.answer) ts (λ t has. clash_none t has t.answer refl))
+      clashes_so : HaveNoLimit (specs_in c.slots) → now.clashes ≡ first.clashes
+      clashes_so unlimited = laws.names c.slots ends.logger.ports first now ts reasons unlimited (turns_none (λ (t : MemberTurn). count_in_answer clashes_of_answer t.answer) ts (λ t has. clash_none t has t.answer refl))
 
 pub rises_told : RiseLaws → RisesToldEach
 rises_told laws c ends first now reasons own more calls none_more runs fits = record {
-  clashes = clashes_so laws c ends first now reasons own more calls none_more runs fits;
+  clashes = λ unlimited quiet. clashes_so laws c ends first now reasons own more calls none_more runs fits quiet unlimited;
   faults = faults_so laws c ends first now reasons own more calls none_more runs fits;
 }

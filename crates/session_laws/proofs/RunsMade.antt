@@ -1,6 +1,7 @@
 -- The runs that the main thread's own calls tell.
-use Rattle.std.specs.Prelude.{◌≡◌, ℕ, List, slice_get, Some}
+use Rattle.std.specs.Prelude.{◌≡◌, ℕ, List, slice_get, Some, refl}
 use Rattle.daq_types.specs.Callers.{entries_by, main_caller}
+use Rattle.daq_types.specs.declared.runs.ChannelEnd.{ChannelEnd}
 use Rattle.daq_types.specs.declared.runs.ChannelState.{ChannelState}
 use Rattle.daq_types.specs.declared.runs.ChannelState.TheVariants.{Idle, Writing, Broken, Ended, NoEnd, NoMark}
 use Rattle.daq_types.specs.declared.runs.StartOutcome.{StartOutcome}
@@ -14,10 +15,10 @@ use Rattle.engine_laws.specs.BegunTurns.{HasTransition}
 use Rattle.engine_laws.specs.EngineLaws.{MainHasTransition}
 use Rattle.event_report.specs.Reports.{Totals}
 use Rattle.composition.specs.Sessions.{Session, SessionAnalyzer, SessionFront, HasAnalyzer, HasFront}
-use Rattle.composition.specs.SessionRuns.{SessionRun, IsStoppedRun, TellsTotals, ToldState}
+use Rattle.composition.specs.SessionRuns.{SessionRun, IsStoppedRun, TellsTotals, ToldChannel}
 use Rattle.composition.specs.CompositionLaws.{IsComposed}
 use Rattle.session_runs.specs.MadeTransitions.{TransitionIn}
-use Rattle.session_laws.specs.MadeRuns.{FrontHolds, IsFileSo, ChannelHolds, ReportIsSo, AnalyzerHolds}
+use Rattle.session_laws.specs.MadeRuns.{FrontHolds, AreFilesSo, ChannelHolds, ReportIsSo, AnalyzerHolds}
 use Rattle.session_laws.specs.EndLaws.{MadeAreStopped, StoppedHold}
 
 pub has_made : MainHasTransition → (history : EngineHistory) (t : Transition) (sheet : Sheet) (start : ℕ) (outcome : StartOutcome) (tallies : List ClientTally) → IsLegalEngine engine_opening history
@@ -41,18 +42,18 @@ front_holds s composed r run f has =
       set = composed.stops_set r run f has told.0 told.1 told.2;
     }
 
-pub file_so : (s : Session) → IsComposed s → (r : SessionRun) → IsStoppedRun s r → (index : ℕ) (channel : LoggerChannel) → slice_get s.channels index ≡ Some channel → (state : ChannelState) → ToldState s r channel state → IsFileSo state s r channel
-file_so s composed r run index channel at Idle told = tt
-file_so s composed r run index channel at Writing told = tt
-file_so s composed r run index channel at Broken told = composed.parts_hold r run index channel at told
-file_so s composed r run index channel at Ended told = composed.files_hold r run index channel at told
-file_so s composed r run index channel at NoEnd told = tt
-file_so s composed r run index channel at NoMark told = tt
+pub files_so : (s : Session) → IsComposed s → (r : SessionRun) → IsStoppedRun s r → (index : ℕ) (channel : LoggerChannel) → slice_get s.channels index ≡ Some channel → (told : ChannelEnd) → ToldChannel s r channel told → (state : ChannelState) → told.state ≡ state → AreFilesSo state s r channel told
+files_so s composed r run index channel at told tells Idle is = tt
+files_so s composed r run index channel at told tells Writing is = tt
+files_so s composed r run index channel at told tells Broken is = composed.parts_hold r run index channel at told tells is
+files_so s composed r run index channel at told tells Ended is = composed.files_hold r run index channel at told tells is
+files_so s composed r run index channel at told tells NoEnd is = tt
+files_so s composed r run index channel at told tells NoMark is = tt
 
 channel_holds : (s : Session) → IsComposed s → (r : SessionRun) → IsStoppedRun s r → (index : ℕ) (channel : LoggerChannel) → slice_get s.channels index ≡ Some channel → ChannelHolds s r channel
 channel_holds s composed r run index channel at =
     let told = composed.channels_told r run index channel at in
-    record { state = told.0; told = told.1; so = told.2; file = file_so s composed r run index channel at told.0 told.1 }
+    record { told = told.0; tells = told.1; so = told.2; files = files_so s composed r run index channel at told.0 told.1 told.0.state refl }
 
 pub report_so : (s : Session) → IsComposed s → (r : SessionRun) → IsStoppedRun s r → (a : SessionAnalyzer) → HasAnalyzer s a → (report : Totals) → TellsTotals r a.client report → ReportIsSo s r a report
 report_so s composed r run a has report tells = record {

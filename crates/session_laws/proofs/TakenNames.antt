@@ -1,15 +1,17 @@
 -- The logger of a closed session refused a start for a name only where that was taken.
-use Rattle.std.specs.Prelude.{◌≡◌, ◌<◌, ℕ, IsTrue, IsSome, List, [], ◌∷◌, Contains, Option, Some, refl, ◌⊎◌}
+use Rattle.std.specs.Prelude.{◌≡◌, ◌<◌, ℕ, IsTrue, IsSome, List, [], ◌∷◌, slice_get, Contains, Option, Some, refl, ◌⊎◌}
 use Rattle.std.proofs.Common.{ap, sym, subst, ◌∙◌, inl, inr}
 use Rattle.daq_types.specs.Callers.{main_caller}
 use Rattle.daq_types.specs.declared.runs.Order.{Order}
-use Rattle.daq_types.specs.declared.runs.Transition.TheVariants.{Start}
+use Rattle.daq_types.specs.declared.runs.Transition.TheVariants.{Start, Stop}
 use Rattle.daq_types.specs.declared.runs.Why.TheVariants.{Exists}
 use Rattle.daq_io.specs.Seen.{Seen}
 use Rattle.transitions.specs.declared.answers.Answer.TheVariants.{No}
 use Rattle.member_model.specs.RunEngines.{EngineEntry}
 use Rattle.member_model.specs.Turns.{MemberTurn, HasTurn}
 use Rattle.member_model.specs.TurnCalls.{member_turns}
+use Rattle.sub_files.specs.Patterns.{piece_name_by}
+use Rattle.mid_logger.specs.declared.channel.Channel.{Channel}
 use Rattle.mid_logger.specs.declared.channel_spec.ChannelSpec.{ChannelSpec}
 use Rattle.mid_logger.specs.Patterns.{file_name_by}
 use Rattle.loggers.specs.Moments.{RunFiles}
@@ -18,7 +20,7 @@ use Rattle.loggers.specs.LeftNames.{NoneRose, IsStoppedName, IsGivenBefore, IsNa
 use Rattle.engine_laws.specs.BegunTurns.{StartsComeLast}
 use Rattle.engine_laws.specs.EngineLaws.{RunsAreOver}
 use Rattle.session_runs.specs.RunsFit.{starts_begun}
-use Rattle.composition.specs.SessionRuns.{IsStoppedRun}
+use Rattle.composition.specs.SessionRuns.{SessionRun, IsStoppedRun}
 use Rattle.composition.proofs.SessionTurns.{IsStartTurn, start_turn, speaks}
 use Rattle.session_laws.specs.ClosedSessions.{ClosedSession, logger_client, logger_caller, engine_calls, session_of}
 use Rattle.session_laws.specs.MembersAtEnd.{MembersAtEnd}
@@ -29,7 +31,8 @@ use Rattle.session_laws.proofs.LoggerEnd.{none_taken_back}
 use Rattle.session_laws.proofs.LoggerRefusals.{always_called}
 use Rattle.session_laws.proofs.NamesStay.{StartBegun, start_begun, HasSpec, has_spec}
 use Rattle.session_laws.proofs.RunsMade.{made_are_stopped}
-use Rattle.session_laws.proofs.UndoneNames.{UndoneLaws, one_end, started_in, are_turns, called_off}
+use Rattle.session_laws.proofs.RunTurns.{TurnLaws, Turned, one_end, are_turns, told_there}
+use Rattle.session_laws.proofs.UndoneNames.{started_in, called_off}
 
 -- The turns before one of them.
 
@@ -51,7 +54,7 @@ before specs first (u ∷ us) t taken last has starts = elim has as (λ w. Befor
   | inr old ↦ (let b : Before specs first us t = before specs first us t taken.1 last.1 old starts in record { older = b.older; among = λ v is. inr (b.among v is); above = b.above; taken = b.taken })
 ]
 
-module _ (laws : UndoneLaws) (over_law : RunsAreOver) (c : ClosedSession) (ends : MembersAtEnd c) where
+module _ (laws : TurnLaws) (over_law : RunsAreOver) (c : ClosedSession) (ends : MembersAtEnd c) where
   abbrev turns : List MemberTurn
   turns = member_turns (logger_client c) (engine_calls c (logger_caller c))
 
@@ -75,17 +78,26 @@ module _ (laws : UndoneLaws) (over_law : RunsAreOver) (c : ClosedSession) (ends 
             (record { stands = among o.stopped.stop o.stopped.stands; is = o.stopped.is; of = sym first.of }) (record { stands = off.stands; is = off.is; of = off.of }))
         | inr came ↦
             let keep = laws.keep c ends in
-            let run : IsStoppedRun (session_of c keep.0) came.0 = made_are_stopped laws.main (session_of c keep.0) ends.engine came.0 came.1 in
-            let turn : IsStartTurn came.0 begin = start_turn laws.facts (session_of c keep.0) keep.1 came.0 run (logger_client c) begin (record { stands = has; is = first.is; of = sym came.2 }) in
+            let ch : Channel = channel.channel in
+            let r : SessionRun = came.0 in
+            let run : IsStoppedRun (session_of c keep.0) r = made_are_stopped laws.main (session_of c keep.0) ends.engine r came.1 in
+            let turn : IsStartTurn r begin = start_turn laws.facts (session_of c keep.0) keep.1 r run (logger_client c) begin (record { stands = has; is = first.is; of = sym came.2 }) in
+            let stops : Turned turns Stop r.start o.stopped.stop = record { stands = among o.stopped.stop o.stopped.stands; is = o.stopped.is; of = sym first.of ∙ sym came.2 } in
+            let there = told_there laws c ends r run o.stopped.stop stops o.ends o.stopped.answered in
+            let number : o.number ≡ ch.spec.number = sym ((ends.logger.stands (none_taken_back c ends)).holds.standing.numbered o.number ch channel.at) in
             record {
-              run = came.0;
+              run = r;
               made = came.1;
               before = subst (λ (n : ℕ). n < start) (sym came.2) (above begin first.stands);
               place = o.number;
-              channel = channel.channel;
+              channel = ch;
               there = channel.at;
-              is = ap (λ (s : ChannelSpec). file_name_by s.pattern came.0.first.run) channel.is
-                  ∙ (ap (λ (n : ℕ). file_name_by o.spec.pattern n) (sym (ap (λ (x : Order). x.run) turn.order) ∙ o.stopped.number)
+              told = o.told;
+              tells = record { index = there.0; ends = o.ends; tells = there.1; at = subst (λ (n : ℕ). slice_get o.ends n ≡ Some o.told) number o.at };
+              sub = o.sub;
+              has = o.made;
+              is = ap (λ (s : ChannelSpec). piece_name_by s.pattern r.first.run o.sub) channel.is
+                  ∙ (ap (λ (n : ℕ). piece_name_by o.spec.pattern n o.sub) (sym (ap (λ (x : Order). x.run) turn.order) ∙ o.stopped.number)
                   ∙ o.is);
             }
       ]

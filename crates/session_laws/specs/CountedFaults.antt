@@ -1,6 +1,7 @@
 -- What the counts of a closed session's run files tell of its starts, its channels and the names of the files.
 use Rattle.std.specs.Prelude.{◌≡◌, ℕ, false, true, IsTrue, List, ◌<◌, length, slice_get, Option, Some, None, ◌⊎◌}
 use Rattle.daq_types.specs.Callers.{main_caller}
+use Rattle.daq_types.specs.declared.runs.ChannelEnd.{ChannelEnd}
 use Rattle.daq_types.specs.declared.runs.ChannelState.{ChannelState}
 use Rattle.daq_types.specs.declared.runs.ChannelState.TheVariants.{Broken, Ended, NoEnd}
 use Rattle.daq_types.specs.declared.runs.Order.{Order}
@@ -21,7 +22,7 @@ use Rattle.loggers.specs.NewLoggers.{NoneTakenBack}
 use Rattle.loggers.specs.OtherFiles.{specs_in}
 use Rattle.loggers.specs.Reasons.{GivesReasons, IsChannelNumber}
 use Rattle.loggers.specs.LeftNames.{NoneRose, KeepsNames}
-use Rattle.composition.specs.SessionRuns.{SessionRun, ToldState}
+use Rattle.composition.specs.SessionRuns.{SessionRun, ToldChannel}
 use Rattle.session_laws.specs.ClosedSessions.{ClosedFront, ClosedSession, logger_client, logger_caller, engine_calls, session_of, ClosedAnalyzer, analyzer_client}
 use Rattle.session_laws.specs.MembersAtEnd.{MembersAtEnd}
 use Rattle.session_runs.specs.MadeTransitions.{TransitionIn}
@@ -47,7 +48,7 @@ pub record IsFrontRefusal (c : ClosedSession) (order : Order) (client : ℕ) (wh
   pub why_is : why ≡ NotReady
   pub no_part : front.takes order ≡ false
 
--- Why the logger refuses a start: for the name of the file of one of its channels, where a clash of names was counted, or for a
+-- Why the logger refuses a start: for the name of the first file of one of its channels, where a clash of names was counted, or for a
 -- fault of it, where one was.
 abbrev pub IsLoggerReason : ClosedSession → Why → (first now : RunFiles) → Type 0
 IsLoggerReason c NotReady first now = ⊥
@@ -72,7 +73,7 @@ IsRefusedSo c first now sheet start client why =
     IsFrontRefusal c (order_for sheet start Stopped) client why
     ⊎ (((client ≡ logger_client c) × IsLoggerReason c why first now) ⊎ IsAnalyzerRefusal c sheet client why)
 
--- how the file of a channel ends that did not break off, where the stop's sheet has this dump
+-- how a channel ends that did not break off, where the stop's sheet has this dump
 abbrev pub state_by_dump : (dump : Option (List ℕ)) → ChannelState
 state_by_dump None = NoEnd
 state_by_dump (Some dump) = Ended
@@ -80,8 +81,8 @@ state_by_dump (Some dump) = Ended
 -- What the main thread was told of starts and of channels, where the counts of the run files were so at first, and are so
 -- now: why a start was refused; that each front-end takes part in a run that was started; that a channel broke off only
 -- where a fault was counted; so that where none was, all that was told of a channel of a run is that it ended, or that the
--- stop's sheet had no dump. And where none was, each name is there where it was there, with the same bytes, that no channel gives in
--- a run that came about, once each start is over: a start that was refused leaves no file. Nor is any file written over that was
+-- stop's sheet had no dump. And where none was, each name is there where it was there, with the same bytes, that no file of a run
+-- has that came about, once each start is over: a start that was refused leaves no file. Nor is any file written over that was
 -- there at first; and the logger refuses a start for a name only where that is taken.
 pub record CountsHold (c : ClosedSession) (first now : RunFiles) : Type 0 where
   pub refused : (sheet : Sheet) → (start client : ℕ) → (why : Why) → (tallies : List ClientTally) →
@@ -92,11 +93,12 @@ pub record CountsHold (c : ClosedSession) (first now : RunFiles) : Type 0 where
       (client : ℕ) → (f : ClosedFront) → slice_get c.fronts client ≡ Some f →
       f.takes (order_for sheet start Stopped) ≡ true
   pub broken : (moments : (client : ℕ) → List ℕ) → (r : SessionRun) → RunIn (engine_calls c main_caller) r →
-      (channel : LoggerChannel) → ToldState (session_of c moments) r channel Broken → Rose first.faults now.faults
+      (channel : LoggerChannel) → (told : ChannelEnd) → ToldChannel (session_of c moments) r channel told → told.state ≡ Broken →
+      Rose first.faults now.faults
   pub ended : (Rose first.faults now.faults → ⊥) →
       (moments : (client : ℕ) → List ℕ) → (r : SessionRun) → RunIn (engine_calls c main_caller) r →
       (index : ℕ) → (channel : LoggerChannel) → slice_get (logger_channels (λ number. 0) c.slots) index ≡ Some channel →
-      (state : ChannelState) → ToldState (session_of c moments) r channel state → state ≡ state_by_dump r.last.dump
+      (told : ChannelEnd) → ToldChannel (session_of c moments) r channel told → told.state ≡ state_by_dump r.last.dump
   pub names : IsTrue first.seen.tells → NoneRose first now → (name : List ℕ) → IsUnmadeName c name →
       now.seen.at name ≡ first.seen.at name
   pub kept : IsTrue first.seen.tells → NoneRose first now → (name : List ℕ) → (file : Stored) →

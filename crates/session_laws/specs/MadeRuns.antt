@@ -1,6 +1,7 @@
 -- A run that the main thread's own calls on the engine tell, and all that is so of it.
 use Rattle.std.specs.Prelude.{◌≡◌, ℕ, List, slice_get, Some, ⊤}
 use Rattle.daq_types.specs.Callers.{caller_of_client, entries_by}
+use Rattle.daq_types.specs.declared.runs.ChannelEnd.{ChannelEnd}
 use Rattle.daq_types.specs.declared.runs.ChannelState.{ChannelState}
 use Rattle.daq_types.specs.declared.runs.ChannelState.TheVariants.{Ended, Broken}
 use Rattle.daq_types.specs.declared.runs.FrontEnded.{FrontEnded}
@@ -10,13 +11,13 @@ use Rattle.buffer_core.specs.Histories.{History}
 use Rattle.buffer_core.specs.Ports.{GotEvent}
 use Rattle.member_model.specs.RunEngines.{EngineEntry}
 use Rattle.member_model.specs.Turns.{MemberTurn}
-use Rattle.member_model.specs.LoggerKept.{LoggerChannel, IsStateSo}
+use Rattle.member_model.specs.LoggerKept.{LoggerChannel, IsEndSo}
 use Rattle.session_runs.specs.MadeTransitions.{TransitionIn}
 use Rattle.event_report.specs.Reports.{Totals}
 use Rattle.analyzers.specs.declared.analyzer_run.EventRequest.{EventRequest}
 use Rattle.analyzers.specs.AnalyzerKept.{IsReportOfRun}
 use Rattle.composition.specs.Sessions.{Session, SessionAnalyzer, SessionFront, HasAnalyzer, HasFront, buffer_calls, turns_of}
-use Rattle.composition.specs.SessionRuns.{SessionRun, IsStoppedRun, TellsFront, FrontSent, SetAtStop, ToldState, HoldsRunFile, HoldsFilePart, TellsTotals, SawThrough, CountsAll}
+use Rattle.composition.specs.SessionRuns.{SessionRun, IsStoppedRun, TellsFront, FrontSent, SetAtStop, ToldChannel, HoldsRunFiles, HoldsFileParts, TellsTotals, SawThrough, CountsAll}
 
 -- A run stands among these calls: its start, which was not refused, and a stop with its start number.
 pub record RunIn (own : List EngineEntry) (r : SessionRun) : Type 0 where
@@ -32,19 +33,19 @@ pub record FrontHolds (s : Session) (r : SessionRun) (f : SessionFront) : Type 0
   pub sends : FrontSent s r f sent ended
   pub set : SetAtStop s r f sent
 
--- what the file of a channel with this state has
-abbrev pub IsFileSo : ChannelState → Session → SessionRun → LoggerChannel → Type 0
-IsFileSo Ended s r channel = HoldsRunFile s r channel
-IsFileSo Broken s r channel = (last_dump : List ℕ) → r.last.dump ≡ Some last_dump → HoldsFilePart s r channel last_dump
-IsFileSo state s r channel = ⊤
+-- what the files of a channel have, of which this was told, with this state
+abbrev pub AreFilesSo : ChannelState → Session → SessionRun → LoggerChannel → ChannelEnd → Type 0
+AreFilesSo Ended s r channel told = HoldsRunFiles s r channel told.files
+AreFilesSo Broken s r channel told = (last_dump : List ℕ) → r.last.dump ≡ Some last_dump → HoldsFileParts s r channel last_dump told
+AreFilesSo state s r channel told = ⊤
 
--- A channel in the run: what was told of it at the stop is so; and where it ended, its file is the run file of all events of
--- the run that it asks for, and where it broke off, a part of that.
+-- A channel in the run: what was told of it at the stop is so; and where it ended, its files hold all events of the run that it asks
+-- for, cut into pieces, and where it broke off, a part of that.
 pub record ChannelHolds (s : Session) (r : SessionRun) (channel : LoggerChannel) : Type 0 where
-  pub state : ChannelState
-  pub told : ToldState s r channel state
-  pub so : IsStateSo (buffer_calls s channel.buffer s.logger) r.start r.last.dump state
-  pub file : IsFileSo state s r channel
+  pub told : ChannelEnd
+  pub tells : ToldChannel s r channel told
+  pub so : IsEndSo (buffer_calls s channel.buffer s.logger) r.start r.last.dump told
+  pub files : AreFilesSo told.state s r channel told
 
 -- What was told of a run is the report of it, by the history of a buffer and a caller that asked there for events like these,
 -- got these, and has these turns on the engine: the caller made its request at the run's start, the only one that stood, was told

@@ -15,6 +15,7 @@ use Rattle.daq_types.specs.Callers.{entries_by}
 use Rattle.member_model.specs.TurnCalls.{member_turns}
 use Rattle.front_ends.specs.declared.front_run.FrontRun.{FrontRun}
 use Rattle.loggers.specs.declared.logged_run.LoggedRun.{LoggedRun}
+use Rattle.loggers.specs.declared.logged_run.RunDumps.{RunDumps}
 use Rattle.loggers.specs.NewLoggers.{NoneTakenBack}
 use Rattle.loggers.specs.LoggerStands.{LoggerStands}
 use Rattle.loggers.specs.OtherFiles.{specs_in, KeepsOtherFiles}
@@ -50,13 +51,13 @@ pub record IsAccessTo (caller : ℕ) (b : ClosedBuffer) (a : Access) : Type 0 wh
 pub record LoggerAtEnd (c : ClosedSession) : Type 0 where
   pub speaks : are_calls_for (logger_client c) (engine_calls c (logger_caller c)) ≡ true
   pub run : Option LoggedRun
-  pub stop_dump : Option (List ℕ)
+  pub dumps : RunDumps
   pub ports : List Access
   pub many : length ports ≡ length c.buffers
   pub access : (buffer : ℕ) → (a : Access) → (b : ClosedBuffer) → slice_get ports buffer ≡ Some a →
       slice_get c.buffers buffer ≡ Some b → IsAccessTo (logger_caller c) b a
   pub stands : NoneTakenBack ports →
-      LoggerStands run stop_dump c.slots ports (member_turns (logger_client c) (engine_calls c (logger_caller c))) c.files
+      LoggerStands run dumps c.slots ports (member_turns (logger_client c) (engine_calls c (logger_caller c))) c.files
   pub others : NoneTakenBack ports →
       KeepsOtherFiles (specs_in c.slots) (started_runs (member_turns (logger_client c) (engine_calls c (logger_caller c))))
       c.first_files c.files

@@ -1,13 +1,16 @@
 -- One fault gives one answer: what the records of a closed session's starts tell of faults and of clashes of names was each
 -- counted for itself. And none is counted without an answer: a count rose only where one of the records tells why.
-use Rattle.std.specs.Prelude.{◌≡◌, ◌+◌, ℕ, sum_by, List, [], ◌++◌, slice_get, Some}
+use Rattle.std.specs.Prelude.{◌≡◌, ◌+◌, ℕ, sum_by, List, [], ◌++◌, slice_get, Option, Some}
 use Rattle.daq_types.specs.Callers.{main_caller}
 use Rattle.daq_types.specs.declared.runs.StartOutcome.{StartOutcome}
 use Rattle.daq_types.specs.declared.runs.StartOutcome.TheVariants.{Completed, Refused}
 use Rattle.daq_types.specs.declared.runs.Why.TheVariants.{Exists}
 use Rattle.daq_io.specs.Counts.{RoseBy}
 use Rattle.member_model.specs.RunEngines.{EngineEntry}
+use Rattle.mid_logger.specs.declared.channel_spec.ChannelSpec.{ChannelSpec}
 use Rattle.loggers.specs.Moments.{RunFiles}
+use Rattle.loggers.specs.OtherFiles.{specs_in}
+use Rattle.loggers.specs.Reasons.{HaveNoLimit}
 use Rattle.loggers.specs.ToldCounts.{faults_of_state, faults_of_refusal}
 use Rattle.session_runs.specs.declared.records.RunRecord.{RunRecord}
 use Rattle.session_runs.specs.RunsFit.{MainOwn, RecordsFit, starts_begun}
@@ -26,9 +29,9 @@ abbrev pub clashes_of_outcome : StartOutcome → ℕ
 clashes_of_outcome (Refused client (Exists channel)) = 1
 clashes_of_outcome outcome = 0
 
--- the faults of which the record of a start tells: one where it was refused for one, and one for each file that broke off
+-- the faults of which the record of a start tells: one where it was refused for one, and one for each channel that broke off
 abbrev pub faults_recorded : RunRecord → ℕ
-faults_recorded r = faults_of_outcome r.outcome + sum_by (λ file. faults_of_state file.state) r.files
+faults_recorded r = faults_of_outcome r.outcome + sum_by (λ files. faults_of_state files.told.state) r.files
 
 -- the clashes of which it tells
 abbrev pub clashes_recorded : RunRecord → ℕ
@@ -51,15 +54,16 @@ OneAnswerEach = (c : ClosedSession) → (ends : MembersAtEnd c) → (first now :
 abbrev pub NoneRefused : List RunRecord → Type 0
 NoneRefused runs = (number : ℕ) → (r : RunRecord) → slice_get runs number ≡ Some r → r.outcome ≡ Completed
 
--- Where the run files were so at first, and are so now, each rise of a count is told. No clash was counted where no record tells
--- of one. And no fault was counted where no start was refused, and no file broke off: a start that is refused is undone, and what
--- fails then is not told.
-pub record RisesTold (runs : List RunRecord) (first now : RunFiles) : Type 0 where
-  pub clashes : sum_by clashes_recorded runs ≡ 0 → now.clashes ≡ first.clashes
+-- Where the run files of a logger with these channels were so at first, and are so now, each rise of a count is told. No clash was
+-- counted where no record tells of one, and no channel has a limit: one with a limit may find the name of a next file taken. And no
+-- fault was counted where no start was refused, and no channel broke off: a start that is refused is undone, and what fails then is
+-- not told.
+pub record RisesTold (specs : List (Option ChannelSpec)) (runs : List RunRecord) (first now : RunFiles) : Type 0 where
+  pub clashes : HaveNoLimit specs → sum_by clashes_recorded runs ≡ 0 → now.clashes ≡ first.clashes
   pub faults : NoneRefused runs → sum_by faults_recorded runs ≡ 0 → now.faults ≡ first.faults
 
 -- So it is with a closed session, where there is one record for each start that the main thread began, and they fit its calls.
 abbrev pub RisesToldEach : Type 0
 RisesToldEach = (c : ClosedSession) → (ends : MembersAtEnd c) → (first now : RunFiles) → LoggerReasons c ends first now →
     (own : MainOwn) → (more : List EngineEntry) → engine_calls c main_caller ≡ own.engine ++ more → starts_begun more ≡ [] →
-    (runs : List RunRecord) → RecordsFit (clients_in c) own runs → RisesTold runs first now
+    (runs : List RunRecord) → RecordsFit (clients_in c) own runs → RisesTold (specs_in c.slots) runs first now

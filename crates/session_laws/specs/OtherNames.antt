@@ -1,6 +1,7 @@
 -- The names of run files that channels give in runs of the session, and those that none gives.
-use Rattle.std.specs.Prelude.{◌≡◌, ◌≢◌, ◌<◌, ◌⊎◌, ℕ, IsSome, List, ◌∷◌, ◌++◌, Contains, Some, Ok}
+use Rattle.std.specs.Prelude.{◌≡◌, ◌≢◌, ◌≤◌, ◌<◌, ◌⊎◌, ℕ, IsSome, List, [], ◌∷◌, ◌++◌, Contains, Some, Ok}
 use Rattle.daq_types.specs.Callers.{main_caller}
+use Rattle.daq_types.specs.declared.runs.ChannelEnd.{ChannelEnd}
 use Rattle.daq_types.specs.declared.runs.StartOutcome.TheVariants.{Refused}
 use Rattle.daq_types.specs.declared.runs.Transition.TheVariants.{Start}
 use Rattle.daq_types.specs.declared.runs.Why.{Why}
@@ -8,12 +9,15 @@ use Rattle.daq_io.specs.Seen.{Seen}
 use Rattle.buffer_core.specs.Slots.{slot_at}
 use Rattle.member_model.specs.RunEngines.{Sheet, ClientTally, EngineEntry}
 use Rattle.transitions.specs.declared.entry.EngineEntry.TheVariants.{Begin}
+use Rattle.sub_files.specs.Cuts.{last_number}
+use Rattle.sub_files.specs.Patterns.{piece_name_by}
 use Rattle.mid_logger.specs.declared.channel.Channel.{Channel}
 use Rattle.mid_logger.specs.Patterns.{file_name_by}
-use Rattle.composition.specs.SessionRuns.{SessionRun}
+use Rattle.loggers.specs.LoggerStands.{logger_channel}
+use Rattle.composition.specs.SessionRuns.{SessionRun, ToldChannel}
 use Rattle.session_runs.specs.MadeTransitions.{TransitionIn}
 use Rattle.session_runs.specs.RunsFit.{starts_begun}
-use Rattle.session_laws.specs.ClosedSessions.{ClosedSession, engine_calls}
+use Rattle.session_laws.specs.ClosedSessions.{ClosedSession, engine_calls, session_of}
 use Rattle.session_laws.specs.MadeRuns.{RunIn}
 
 -- among these calls on the engine is the begin of a start of this run, whatever came of it
@@ -25,10 +29,10 @@ pub record BeginsStartOf (own : List EngineEntry) (run : ℕ) : Type 0 where
   pub whole : own ≡ before ++ Begin Start sheet (Ok start) ∷ after
   pub number : sheet.run ≡ run
 
--- no channel gives the name in a run that the main thread began
+-- no channel gives the name in a run that the main thread began, to a file of whatever number
 abbrev pub IsOtherName : ClosedSession → (name : List ℕ) → Type 0
-IsOtherName c name = (run number : ℕ) → (channel : Channel) → BeginsStartOf (engine_calls c main_caller) run →
-    slot_at c.slots number ≡ Some channel → file_name_by channel.spec.pattern run ≢ name
+IsOtherName c name = (run number sub : ℕ) → (channel : Channel) → BeginsStartOf (engine_calls c main_caller) run →
+    slot_at c.slots number ≡ Some channel → sub ≤ last_number → piece_name_by channel.spec.pattern run sub ≢ name
 
 -- among these calls the start with this number was refused
 pub record RefusesStart (own : List EngineEntry) (start : ℕ) : Type 0 where
@@ -43,7 +47,12 @@ abbrev pub AreStartsOver : List EngineEntry → Type 0
 AreStartsOver own = (start : ℕ) → Contains (starts_begun own) start →
     RefusesStart own start ⊎ ((run : SessionRun) × RunIn own run × (run.start ≡ start))
 
--- a run that came about before the start with this number has a file of this name
+-- the logger told this of its channel at the stop of the run
+abbrev pub ToldOf : ClosedSession → SessionRun → Channel → ChannelEnd → Type 0
+ToldOf c run channel told = ToldChannel (session_of c (λ client. [])) run (logger_channel 0 channel) told
+
+-- A run that came about before the start with this number has a file of this name: of a number below how many files the logger told
+-- of the channel.
 pub record HasMadeBefore (c : ClosedSession) (start : ℕ) (name : List ℕ) : Type 0 where
   pub run : SessionRun
   pub made : RunIn (engine_calls c main_caller) run
@@ -51,9 +60,13 @@ pub record HasMadeBefore (c : ClosedSession) (start : ℕ) (name : List ℕ) : T
   pub place : ℕ
   pub channel : Channel
   pub there : slot_at c.slots place ≡ Some channel
-  pub is : file_name_by channel.spec.pattern run.first.run ≡ name
+  pub told : ChannelEnd
+  pub tells : ToldOf c run channel told
+  pub sub : ℕ
+  pub has : sub < told.files
+  pub is : piece_name_by channel.spec.pattern run.first.run sub ≡ name
 
--- a channel of a lower place than this gives the name in the run of this number
+-- a channel of a lower place than this gives the name to its first file in the run of this number
 pub record GivesNameBefore (c : ClosedSession) (place run : ℕ) (name : List ℕ) : Type 0 where
   pub lower : ℕ
   pub channel : Channel
@@ -61,8 +74,8 @@ pub record GivesNameBefore (c : ClosedSession) (place run : ℕ) (name : List �
   pub there : slot_at c.slots lower ≡ Some channel
   pub is : file_name_by channel.spec.pattern run ≡ name
 
--- The name that the channel with this number gives in the run of this number, whose start has that start number, is taken: a file
--- had it at first, a run that came about before has it, or another channel of that run.
+-- The name that the channel with this number gives to its first file in the run of this number, whose start has that start number, is
+-- taken: a file had it at first, a run that came about before has it, or another channel of that run.
 pub record IsTakenName (c : ClosedSession) (first : Seen) (run start number : ℕ) : Type 0 where
   pub place : ℕ
   pub channel : Channel
@@ -72,16 +85,21 @@ pub record IsTakenName (c : ClosedSession) (first : Seen) (run start number : �
       ⊎ (HasMadeBefore c start (file_name_by channel.spec.pattern run)
       ⊎ GivesNameBefore c place run (file_name_by channel.spec.pattern run))
 
--- the start with this number was not refused, its run was stopped, and no channel gives the name in that run
+-- The logger told of the channel at the stop of the run, and gave the name to none of so many files.
+pub record GivesOthers (c : ClosedSession) (run : SessionRun) (channel : Channel) (name : List ℕ) : Type 0 where
+  pub told : ChannelEnd
+  pub tells : ToldOf c run channel told
+  pub others : (sub : ℕ) → sub < told.files → piece_name_by channel.spec.pattern run.first.run sub ≢ name
+
+-- the start with this number was not refused, its run was stopped, and no file of that run has the name
 pub record GivesNoName (c : ClosedSession) (name : List ℕ) (start : ℕ) : Type 0 where
   pub run : SessionRun
   pub made : RunIn (engine_calls c main_caller) run
   pub of : run.start ≡ start
-  pub other : (number : ℕ) → (channel : Channel) → slot_at c.slots number ≡ Some channel →
-      file_name_by channel.spec.pattern run.first.run ≢ name
+  pub each : (number : ℕ) → (channel : Channel) → slot_at c.slots number ≡ Some channel → GivesOthers c run channel name
 
 -- Each start that the main thread began is over, and left no file of this name: it was refused; or it was not, its run was
--- stopped, and no channel gives the name in that run.
+-- stopped, and no file of that run has the name.
 abbrev pub IsUnmadeName : ClosedSession → (name : List ℕ) → Type 0
 IsUnmadeName c name = (start : ℕ) → Contains (starts_begun (engine_calls c main_caller)) start →
     RefusesStart (engine_calls c main_caller) start ⊎ GivesNoName c name start

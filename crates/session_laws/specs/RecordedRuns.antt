@@ -1,23 +1,23 @@
 -- What a closed session's histories and run files hold of the records of its runs.
 use Rattle.std.specs.Prelude.{◌≡◌, ℕ, List, [], ◌∷◌, ◌++◌, length, slice_get, Option, Some, None}
 use Rattle.daq_types.specs.Callers.{entries_by, main_caller}
-use Rattle.member_model.specs.LoggerKept.{LoggerChannel}
+use Rattle.member_model.specs.LoggerKept.{LoggerChannel, IsEndSo}
 use Rattle.member_model.specs.RunEngines.{Sheet, EngineEntry}
 use Rattle.mid_logger.specs.declared.channel.Channel.{Channel}
 use Rattle.mid_logger.specs.declared.channel_spec.ChannelSpec.{ChannelSpec}
 use Rattle.loggers.specs.OtherFiles.{AreDeclared}
 use Rattle.session_runs.specs.declared.records.FrontTally.{FrontTally}
-use Rattle.session_runs.specs.declared.records.FileRecord.{FileRecord}
+use Rattle.session_runs.specs.declared.records.ChannelFiles.{ChannelFiles}
 use Rattle.session_runs.specs.declared.records.ReportTally.{ReportTally}
 use Rattle.session_runs.specs.declared.records.RunRecord.{RunRecord}
 use Rattle.session_runs.specs.declared.channels.RunChannel.{RunChannel}
 use Rattle.session_runs.specs.KeptRuns.{run_channel, channels_of}
 use Rattle.session_runs.specs.RunEntries.{start_sheet, later_sheet, dump_saved}
 use Rattle.session_runs.specs.RunsFit.{MainOwn, RunClients, FitsWhole, run_of}
-use Rattle.composition.specs.Sessions.{Session, SessionAnalyzer, SessionFront}
-use Rattle.composition.specs.SessionRuns.{SessionRun, IsStoppedRun, TellsFront, FrontSent, SetAtStop, TellsTotals, ToldState}
+use Rattle.composition.specs.Sessions.{Session, SessionAnalyzer, SessionFront, buffer_calls}
+use Rattle.composition.specs.SessionRuns.{SessionRun, IsStoppedRun, TellsFront, FrontSent, SetAtStop, TellsTotals, ToldChannel}
 use Rattle.session_laws.specs.ClosedSessions.{ClosedSession, logger_client, engine_calls, session_of}
-use Rattle.session_laws.specs.MadeRuns.{RunIn, IsFileSo, ReportIsSo}
+use Rattle.session_laws.specs.MadeRuns.{RunIn, AreFilesSo, ReportIsSo}
 use Rattle.session_laws.specs.EndLaws.{SessionHolds}
 
 -- What the record has of a front-end is what this told at the stop; it sent that, the first events of its equipment, and set
@@ -28,16 +28,17 @@ pub record FrontRecordHolds (s : Session) (run : SessionRun) (f : SessionFront) 
   pub sends : FrontSent s run f tally.sent tally.ended
   pub set : SetAtStop s run f tally.sent
 
--- What the record has of a file is what the logger told of its channel at the stop; and the file of a channel that ended is the
--- run file of all events of the run that it asks for, that of one that broke off a part of it.
-pub record FileRecordHolds (s : Session) (run : SessionRun) (file : FileRecord) : Type 0 where
+-- What the record has of a channel's files is what the logger told of the channel at the stop, and that is so; and the files of a
+-- channel that ended hold all events of the run that it asks for, those of one that broke off a part of that.
+pub record ChannelFilesHold (s : Session) (run : SessionRun) (files : ChannelFiles) : Type 0 where
   pub index : ℕ
   pub channel : LoggerChannel
   pub at : slice_get s.channels index ≡ Some channel
-  pub number : file.channel ≡ channel.number
-  pub name : file.name ≡ channel.name run.first.run
-  pub told : ToldState s run channel file.state
-  pub has : IsFileSo file.state s run channel
+  pub number : files.channel ≡ channel.number
+  pub pattern : files.pattern ≡ channel.pattern
+  pub told : ToldChannel s run channel files.told
+  pub so : IsEndSo (buffer_calls s channel.buffer s.logger) run.start run.last.dump files.told
+  pub have : AreFilesSo files.told.state s run channel files.told
 
 -- What the record has of an analyzer is the report that this told at the stop, and that is so.
 pub record ReportRecordHolds (s : Session) (run : SessionRun) (a : SessionAnalyzer) (tally : ReportTally) : Type 0 where
@@ -45,17 +46,18 @@ pub record ReportRecordHolds (s : Session) (run : SessionRun) (a : SessionAnalyz
   pub tells : TellsTotals run a.client tally.report
   pub so : ReportIsSo s run a tally.report
 
--- the record has a file of this name
-pub record ListsFile (r : RunRecord) (name : List ℕ) : Type 0 where
+-- the record has the files of this channel
+pub record ListsChannel (r : RunRecord) (channel : LoggerChannel) : Type 0 where
   pub place : ℕ
-  pub file : FileRecord
-  pub at : slice_get r.files place ≡ Some file
-  pub is : file.name ≡ name
+  pub files : ChannelFiles
+  pub at : slice_get r.files place ≡ Some files
+  pub number : files.channel ≡ channel.number
+  pub pattern : files.pattern ≡ channel.pattern
 
 -- The record of a run that was not refused, which was started with the first and stopped with the last of these sheets: it is
--- that of a run of the session, and so is what it has of each front-end, at the place of its client number, of each file, and of
--- each analyzer, in the order of their client numbers. The main thread's calls tell that run. The record has all front-ends, a
--- file for each channel, and all analyzers.
+-- that of a run of the session, and so is what it has of each front-end, at the place of its client number, of each channel, and of
+-- each analyzer, in the order of their client numbers. The main thread's calls tell that run. The record has all front-ends, the
+-- files of all channels, and all analyzers.
 pub record RecordHolds (s : Session) (r : RunRecord) (first last : Sheet) : Type 0 where
   pub run : SessionRun
   pub made : RunIn (entries_by main_caller s.engine) run
@@ -67,9 +69,8 @@ pub record RecordHolds (s : Session) (r : RunRecord) (first last : Sheet) : Type
   pub fronts : (client : ℕ) → (f : SessionFront) → slice_get s.fronts client ≡ Some f →
       (tally : FrontTally) × (slice_get r.fronts client ≡ Some tally) × FrontRecordHolds s run f tally
   pub many_files : length r.files ≡ length s.channels
-  pub files : (place : ℕ) → (file : FileRecord) → slice_get r.files place ≡ Some file → FileRecordHolds s run file
-  pub each_file : (index : ℕ) → (channel : LoggerChannel) → slice_get s.channels index ≡ Some channel →
-      ListsFile r (channel.name run.first.run)
+  pub files : (place : ℕ) → (files : ChannelFiles) → slice_get r.files place ≡ Some files → ChannelFilesHold s run files
+  pub each_channel : (index : ℕ) → (channel : LoggerChannel) → slice_get s.channels index ≡ Some channel → ListsChannel r channel
   pub many_reports : length r.reports ≡ length s.analyzers
   pub reports : (place : ℕ) → (a : SessionAnalyzer) → slice_get s.analyzers place ≡ Some a →
       (tally : ReportTally) × (slice_get r.reports place ≡ Some tally) × ReportRecordHolds s run a tally

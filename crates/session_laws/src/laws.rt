@@ -52,15 +52,15 @@ pub fn made_are_stopped()
 }
 
 /// Of a run that was not refused and was stopped: each front-end sent what it told at the stop, the first events of its
-/// equipment, and set that number in the database; what was told of each channel is so: the file of one that ended is the run
-/// file of all events of the run that it asks for, that of one that broke off a part of it; and each analyzer told a report, which
-/// is that of the events of the run that its client got.
+/// equipment, and set that number in the database; what was told of each channel is so: the files of one that ended hold all
+/// events of the run that it asks for, cut into pieces, those of one that broke off a part of that; and each analyzer told a report,
+/// which is that of the events of the run that its client got.
 pub fn stopped_hold()
     ensures { StoppedHold }
 {}
 
-/// Each run file whose name no channel gives in a run that the main thread began is as it was at first: it is there where it
-/// was there, with the same bytes.
+/// Each run file whose name no channel gives in a run that the main thread began, to a file of whatever number, is as it was at
+/// first: it is there where it was there, with the same bytes.
 pub fn other_names_stay()
     ensures { OtherNamesStay }
 {
@@ -86,7 +86,7 @@ pub fn channels_agree()
 /// no part in the run; by the logger, for a name only where a clash was counted, and for a fault only where one was; or by an
 /// analyzer as NotReady, only where the sheet had fewer blank reports than there are analyzers. No start was refused for a
 /// buffer. Each front-end's equipment takes part in a run that was started; and where no fault was counted each channel of each
-/// run ended, or the stop's sheet had no dump, and each name that no channel gives in a run that came about is as it was.
+/// run ended, or the stop's sheet had no dump, and each name that no file of a run has that came about is as it was.
 pub fn counts_tell()
     ensures { CountsTell }
 {
@@ -110,8 +110,8 @@ pub fn counts_tell()
 }
 
 /// The record of each run that was not refused, where it fits the main thread's own calls, has the numbers and the times of a
-/// run of the session, what each front-end told at the stop, which is what it sent, and what the logger told of each file: the
-/// file of a channel that ended is the run file of all events of the run that it asks for.
+/// run of the session, what each front-end told at the stop, which is what it sent, and what the logger told of each channel: the
+/// files of one that ended hold all events of the run that it asks for, cut into pieces.
 pub fn records_hold()
     ensures { RecordsHold }
 {}
@@ -124,7 +124,7 @@ pub fn records_refused()
 {}
 
 /// One fault gives one answer: the count of faults of the run files rose by at least as many as the starts that were refused for
-/// one and the files that broke off, and that of clashes by at least as many as the starts that were refused for a name.
+/// one and the channels that broke off, and that of clashes by at least as many as the starts that were refused for a name.
 pub fn one_answer()
     ensures { OneAnswerEach }
 {
@@ -134,8 +134,8 @@ pub fn one_answer()
     counts_tell();
 }
 
-/// And none is counted without an answer: no clash, where no record tells of one; and no fault, where no start was refused and no
-/// file broke off.
+/// And none is counted without an answer: no clash, where no record tells of one and no channel has a limit; and no fault, where no
+/// start was refused and no channel broke off.
 pub fn rises_told()
     ensures { RisesToldEach }
 {

@@ -21,10 +21,10 @@ returns-in_default g c = record {
       let after : DatabaseAccess = access_by_pass c.open_keys.new.access in
       let keys : CutsKeys (names_of places.lists.now.fronts) database.access after = rw c.as_slice-fronts.ensures at c.in_default.ensures.cut in
       rw c.end_unopened.ensures (record {
-        final = unopened_stage c.args.quota declared (record database { access = after }) clock;
+        final = unopened_stage c.args.places.now.quota declared (record database { access = after }) clock;
         tells = cut_tells _ c.args.script c.args.members.run_files _ _ _ _ _ refl refl refl;
         ends = (refl, refl, refl);
-        finishes = c.first_start_opens.ensures.cut _ _ _ (opening_cut c.args.quota declared places.lists.now database after clock opened keys);
+        finishes = c.first_start_opens.ensures.cut _ _ _ (opening_cut c.args.places.now.quota declared places.lists.now database after clock opened keys);
       });
 }
 
@@ -58,7 +58,7 @@ returns-in-Ok-open_members g c = record {
         tells = played.tells;
         ends = played.ends;
         finishes = c.first_start_opens.ensures.ready _ behind _ _ _ _ _
-            (opens_so c.args.quota declared places.lists.now database after clock opened places.objects.now.engine met.runs c.requires.opening keys met.ensures.runs) played.finishes;
+            (opens_so c.args.places.now.quota declared places.lists.now database after clock opened places.objects.now.engine met.runs c.requires.opening keys met.ensures.runs) played.finishes;
       };
 }
 
@@ -72,10 +72,10 @@ returns-in-Err g c = record {
       let after : DatabaseAccess = access_by_pass c.open_keys.new.access in
       let keys : KeysMade (names_of places.lists.now.fronts) database.access after = rw c.as_slice-fronts.ensures at c.in-Ok.ensures.made in
       rw (c.end_unopened-in-Err.ensures, c.in-Err.ensures.files) (record {
-        final = unopened_stage c.args.quota declared (record database { access = after }) clock;
+        final = unopened_stage c.args.places.now.quota declared (record database { access = after }) clock;
         tells = cut_tells _ c.args.script c.args.members.run_files _ _ _ _ _ refl refl refl;
         ends = (refl, refl, refl);
         finishes = c.first_start_opens.ensures.cut _ _ _
-            (opening_cut c.args.quota declared places.lists.now database after clock opened (keys_cut (names_of places.lists.now.fronts) database.access after keys));
+            (opening_cut c.args.places.now.quota declared places.lists.now database after clock opened (keys_cut (names_of places.lists.now.fronts) database.access after keys));
       });
 }

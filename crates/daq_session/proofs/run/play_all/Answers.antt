@@ -1,4 +1,5 @@
-use Rattle.std.proofs.Common.{refl, arith}
+use Rattle.std.proofs.Common.{refl, arith, ap, ◌∙◌}
+use Rattle.odb_watch.specs.DatabasePorts.{DatabaseAccess}
 use Rattle.odb_lock.specs.SharedAccesses.{access_by_pass}
 use Rattle.console.specs.DatabaseStages.{DatabaseStage, database_stage}
 use Rattle.session_runs.specs.RunAnswers.{ClockTold, clock_of}
@@ -8,20 +9,21 @@ use Rattle.daq_session.proofs.run.play_all.Goals as goal
 
 pub returns-in-Ended : goal.returns-in-Ended
 returns-in-Ended g c =
-    let first = c.play_first-end.result in
+    let first = c.play_first.new.unopened in
     let side = first.side in
     let database : DatabaseStage = database_stage (access_by_pass side.database.access) (g.E.Files.seen side.database.files) (g.E.Files.faults side.database.files) (g.E.Files.clashes side.database.files) (g.E.Files.first side.database.files) side.database.replies.replies in
     let clock : ClockTold = clock_of (g.C.Clock.tells side.clock) (g.C.Clock.ahead side.clock) in
     let left = c.leave_unopened.ensures in
+    let new = c.requires.session.unopened in
     record {
       played = rw left.lines (record {
         final = unopened_stage first.quota first.declarations database clock;
         tells = record {
           counts = record {
             may = tt;
-            source_counts = rw c.in-Ended.is at c.play_first-end.ensures.source;
-            lines = g.O.Sink.faults c.play_first-end.new.script.out;
-            sink_counts = rw c.in-Ended.is at c.play_first-end.ensures.sink;
+            source_counts = rw c.in-Ended.is at c.play_first.ensures.source;
+            lines = g.O.Sink.faults c.play_first.new.script.out;
+            sink_counts = rw c.in-Ended.is at c.play_first.ensures.sink;
             behind = refl;
           };
           failed = omega arith;
@@ -30,15 +32,16 @@ returns-in-Ended g c =
           clock_is = refl;
         };
         ends = unopened_ends _ c.args.shared.now c.args.members.run_files _ _ _ _ refl refl left.left;
-        finished = c.first_start_opens.ensures.unopened _ _ _ _ _ _ _ _ (rw (c.requires.database.fresh.seen, c.in-Ended.is) at c.play_first-end.ensures.played) refl;
+        finished = c.first_start_opens.ensures.unopened _ _ _ _ _ _ _ _ (rw (new.quota, new.nothing, new.access, new.replies, c.in-Ended.is) at c.play_first.ensures.played) refl;
       });
     }
 
 pub returns-in-Opens : goal.returns-in-Opens
 returns-in-Opens g c =
     let played = c.open_and_play.ensures.played in
-    let source = rw c.in-Opens.is at c.play_first-end.ensures.source in
-    let sink = rw c.in-Opens.is at c.play_first-end.ensures.sink in
+    let new = c.requires.session.unopened in
+    let source = rw c.in-Opens.is at c.play_first.ensures.source in
+    let sink = rw c.in-Opens.is at c.play_first.ensures.sink in
     record {
       played = record {
         final = played.final;
@@ -50,24 +53,24 @@ returns-in-Opens g c =
           clock_is = played.tells.clock_is;
         };
         ends = played.ends;
-        finished = played.finishes _ _ _ (rw (c.requires.database.fresh.seen, c.in-Opens.is) at c.play_first-end.ensures.played);
+        finished = played.finishes _ _ _ (rw (new.quota, new.nothing, new.access, new.replies, c.in-Opens.is) at c.play_first.ensures.played);
       };
     }
 
-pub play_first-end-requires-clause-main : goal.play_first-end-requires-clause-main
-play_first-end-requires-clause-main g c = c.requires.database.main_is
+pub play_first-requires-clause-caller : goal.play_first-requires-clause-caller
+play_first-requires-clause-caller g c = ap (λ (a : DatabaseAccess). a.caller) c.requires.session.unopened.access
 
-pub play_first-end-requires-clause-own : goal.play_first-end-requires-clause-own
-play_first-end-requires-clause-own g c = c.requires.database.own
+pub open_and_play-requires-clause-caller : goal.open_and_play-requires-clause-caller
+open_and_play-requires-clause-caller g c = λ κs lives. c.play_first.ensures.same.caller ∙ ap (λ (a : DatabaseAccess). a.caller) c.requires.session.unopened.access
 
-pub play_first-end-requires-clause-idle : goal.play_first-end-requires-clause-idle
-play_first-end-requires-clause-idle g c = c.requires.database.fresh.idle
+pub open_and_play-requires-clause-database : goal.open_and_play-requires-clause-database
+open_and_play-requires-clause-database g c = λ κs lives. c.play_first.ensures.same.database ∙ ap (λ (a : DatabaseAccess). a.database) c.requires.session.unopened.access
 
 pub leave_unopened-requires-clause-others : goal.leave_unopened-requires-clause-others
-leave_unopened-requires-clause-others g c = c.requires.database.others
+leave_unopened-requires-clause-others g c = c.requires.session.others
 
 pub open_and_play-requires-clause-callers : goal.open_and_play-requires-clause-callers
-open_and_play-requires-clause-callers g c = λ κs lives. c.requires.database.callers
+open_and_play-requires-clause-callers g c = λ κs lives. c.requires.session.callers
 
 pub open_and_play-requires-clause-others : goal.open_and_play-requires-clause-others
-open_and_play-requires-clause-others g c = λ κs lives. c.requires.database.others
+open_and_play-requires-clause-others g c = λ κs lives. c.requires.session.others

@@ -18,17 +18,19 @@ pub close_left-record-requires-clause-back : goal.close_left-record-requires-cla
 close_left-record-requires-clause-back g c =
     let played = c.play_all-lines.ensures.played in
     let lines = c.play_all-lines.result.0 in
-    is_back _ c.args.database.shared c.args.outside.run_files played.final lines.run_files lines.ending _ played.ends
+    is_back _ c.args.session.database.shared c.args.outside.run_files played.final lines.run_files lines.ending _ played.ends
 
 pub returns : goal.returns
 returns g c =
     let outside = c.args.outside in
     let all = c.play_all-lines in
+    let new = c.new_session-unopened.ensures.unopened in
     let played = all.ensures.played in
+    let finished = rw (new.files_are, new.clock_is) at played.finished in
     let lines = all.result.0 in
     let final : SessionStage = played.final in
     let refusals = lines.script.line_loop.refusals in
-    let kept = c.scripts_keep.ensures _ final lines.ending lines.closing _ _ _ _ refusals played.finished in
+    let kept = c.scripts_keep.ensures _ final lines.ending lines.closing _ _ _ _ refusals finished in
     let end = c.end_of-end.ensures (g.F.Files.faults outside.run_files) (g.E.Files.faults outside.odb_files) in
     let faults = end (λ asks. (played.tells.failed, rw (played.tells.replies_are, played.tells.files_are) at kept.faults refl asks)) in
     let saved : c.end_of-end.result ≢ NoMemory → StageSaved final = λ other. kept.saved (memory_found lines.ending lines.closing faults.0 refusals c.end_of-end.result faults.2 other) tt in
@@ -40,7 +42,7 @@ returns g c =
       ran = lines_left _ outside lines _ _ _ _ c.into_outside-replies.ensures.outside c.into_outside-replies.ensures.replies (record {
         final = final;
         plays = record {
-          access = shared_access (odb_identity c.args.database.shared) main_caller [];
+          access = shared_access (odb_identity c.args.session.database.shared) main_caller [];
           opens = c.requires.database.rows;
           caller = refl;
           unseen = refl;
@@ -48,7 +50,7 @@ returns g c =
           closing = lines.closing;
           refusals = refusals;
           lines = record {
-            finished = played.finished;
+            finished = finished;
             counts = played.tells.counts;
             odb_files = played.tells.files_are;
             clock = played.tells.clock_is;

@@ -1,6 +1,6 @@
 use Rattle.composition.proofs.SessionTurns.{EngineFacts}
 use Rattle.session_laws.proofs.CountsTold.{counts_tell}
-use Rattle.session_laws.proofs.UndoneNames.{UndoneLaws}
+use Rattle.session_laws.proofs.RunTurns.{TurnLaws}
 use Rattle.session_laws.proofs.laws.counts_tell.Goals as goal
 
 pub returns : goal.returns
@@ -13,7 +13,7 @@ returns c =
       told = c.called_told.ensures;
       rise = c.start_numbers_rise.ensures;
     } in
-    let undone : UndoneLaws = record {
+    let turns : TurnLaws = record {
       main = c.main_has_transition.ensures;
       facts = facts;
       calls_off = c.called_off.ensures;
@@ -27,7 +27,7 @@ returns c =
       tell = c.reasons_given.ensures.tell;
       composed = c.ends_composed.ensures;
       stopped = c.made_are_stopped.ensures;
-      undone = undone;
+      turns = turns;
       over = c.runs_over.ensures;
       asking = record {
         attaches = c.refuses_for_cause.ensures.attaches;

@@ -1,6 +1,6 @@
 use Rattle.composition.proofs.SessionTurns.{EngineFacts}
 use Rattle.session_laws.proofs.RisesTold.{rises_told}
-use Rattle.session_laws.proofs.UndoneNames.{UndoneLaws}
+use Rattle.session_laws.proofs.RunTurns.{TurnLaws}
 use Rattle.session_laws.proofs.laws.rises_told.Goals as goal
 
 pub returns : goal.returns
@@ -13,11 +13,11 @@ returns c =
       told = c.called_told.ensures;
       rise = c.start_numbers_rise.ensures;
     } in
-    let undone : UndoneLaws = record {
+    let turns : TurnLaws = record {
       main = c.main_has_transition.ensures;
       facts = facts;
       calls_off = c.called_off.ensures;
       started = c.names_kept.ensures.started;
       keep = c.members_keep.ensures;
     } in
-    rises_told (record { undone = undone; nos = c.tallies_answered.ensures.lone; names = c.reasons_given.ensures.names })
+    rises_told (record { turns = turns; nos = c.tallies_answered.ensures.lone; names = c.reasons_given.ensures.names })

@@ -1,0 +1,47 @@
+-- The run files that a session closed are framed pieces, by what its record tells.
+use Rattle.std.specs.Prelude.{ℕ, List, Option, Some, None}
+use Rattle.daq_io.specs.declared.objects.Outside.{Outside}
+use Rattle.frontend_kit.specs.declared.generator.Generator.{Generator}
+use Rattle.daq_members.specs.Members.{MemberTold}
+use Rattle.session_lines.specs.Stages.{SessionStage}
+use Rattle.session_objects.specs.declared.record.SessionRecord.{SessionRecord}
+use Rattle.daq_session.specs.declared.ends.ScriptEnd.{ScriptEnd}
+use Rattle.odb_commands.specs.declared.dump_replies.FileReply.{FileReply}
+use Rattle.daq_session.specs.Environments.{OutsideTold}
+use Rattle.daq_session.specs.Sessions.{RunsScript, SessionKept}
+use Rattle.daq_session.specs.FramedFiles.{ClosesFramedFiles}
+
+pub files_framed : {D F : Type 0} {g : _} → (told : MemberTold Generator F) → (first_files : F) → (final : SessionStage) → (end : ScriptEnd) →
+    (run_files : F) → (kept : Option (SessionRecord D g)) → SessionKept told first_files final end run_files kept →
+    ClosesFramedFiles (told.seen run_files) kept
+files_framed told first_files final end run_files None keeps = tt
+files_framed told first_files final end run_files (Some r) keeps = record {
+  declared = final.declared;
+  are = λ number run at whole place written here ended.
+      let tells = keeps.tells.runs number run at whole in
+      let closed = tells.files place written here ended in
+      let of = closed.2 in
+      record {
+        channel = of.of.channel;
+        is_declared = of.of.is_declared;
+        number = of.of.number;
+        pattern = of.of.pattern;
+        buffer = of.of.buffer;
+        there = of.of.there;
+        first_dump = tells.so.fits.start.dump;
+        last_dump = closed.0;
+        pieces = of.pieces;
+        each = of.many;
+        framed = of.each;
+        join = of.cut.joins;
+        quota = tells.so.quota;
+        sent = λ index at_place x is. tells.events of.of.channel.buffer index at_place of.of.buffer x of.of.there is;
+        fronts = tells.fronts;
+      };
+}
+
+-- so are those of a whole script
+pub files_ran : {D S O F E C K : Type 0} {g : _} (told : OutsideTold S O F E C) (before after : Outside S O F E C K) (end : ScriptEnd)
+    (replies : List (ℕ × FileReply)) (kept : Option (SessionRecord D g)) → RunsScript told before after end replies kept →
+    ClosesFramedFiles (told.crew.seen after.run_files) kept
+files_ran told before after end replies kept ran = files_framed told.crew before.run_files ran.final end after.run_files kept ran.keeps
