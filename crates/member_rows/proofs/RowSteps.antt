@@ -1,11 +1,10 @@
 -- What stands between two calls of a row.
-use Rattle.std.specs.Prelude.{◌≡◌, Bool, true, false, ◌≤◌, ◌<◌, ◌+◌, ◌-◌, ◌%◌, ◌++◌, ℕ, min, IfSome, List, [], ◌∷◌, length, map, slice_get, slice_set, Option, Some, None, ◌⊎◌, suc, zero, refl}
-use Rattle.std.specs.List.{list_all}
+use Rattle.std.specs.Prelude.{◌≡◌, ◌≤◌, ◌<◌, ◌+◌, ◌-◌, ◌%◌, ◌++◌, ℕ, min, List, [], ◌∷◌, length, map, slice_get, slice_set, Option, Some, None, ◌⊎◌, suc, zero, refl}
 use Rattle.std.proofs.Common.{ap, sym, subst, ◌∙◌, arith, inl, inr, get_or}
 use Rattle.std.proofs.Math.Nat.{mod-lt}
 use Rattle.std.proofs.lemmas.List.{length-set, length-append, map-append, map-set}
 use Rattle.std.proofs.lemmas.Option.{slice_get_within, slice_get-get_or}
-use Rattle.event.specs.Events.{event_limit, record_limit}
+use Rattle.event.specs.Events.{event_limit}
 use Rattle.daq_io.specs.Seen.{Seen}
 use Rattle.buffer_core.specs.Ports.{Access}
 use Rattle.mid_logger.specs.declared.channel.Channel.{Channel}
@@ -13,9 +12,8 @@ use Rattle.mid_logger.specs.declared.channel_spec.ChannelSpec.{ChannelSpec}
 use Rattle.loggers.specs.declared.logger.Logger.{Logger}
 use Rattle.loggers.specs.Moments.{IsLoggerReady, AreIdleChannels}
 use Rattle.loggers.specs.SlotPulls.{HasEventRoom}
-use Rattle.loggers.specs.Turning.{buffers_begun}
+use Rattle.loggers.specs.Turning.{buffers_begun, DumpsFit}
 use Rattle.loggers.specs.declared.logged_run.LoggedRun.{LoggedRun}
-use Rattle.loggers.specs.Finishing.{LoggerFinish, FinishesLogger, FinishesBy, is_settled_slot, waiting_stop}
 use Rattle.loggers.specs.NewLoggers.{HaveNumbers, HasNewChannels, HavePorts}
 use Rattle.loggers.proofs.SlotLists.{same_or_other, got_there, got_elsewhere}
 use Rattle.loggers.proofs.StepEntries.{lent_at, lent_port}
@@ -39,7 +37,7 @@ sized_ready before after logger seen sizes row = record {
     many = row.ready.many;
     served = λ n c stood. omega (arith, sizes.many, row.ready.served n c stood);
     files = row.ready.files;
-    unlimited = row.ready.unlimited;
+    few = row.ready.few;
   };
   idle = row.idle;
   begun = omega (arith, sizes.many, row.begun);
@@ -133,15 +131,15 @@ row_numbers count buffers specs few are = record {
   differ = λ i j s t first second other same. other (omega (arith, (are.each i s first).0, (are.each j t second).0, same));
 }
 
-pub new_row : (logger : Logger) (specs : List ChannelSpec) (rooms : List ℕ) (count buffers : ℕ) (ports : List Access) (seen : Seen) → 0 < buffers → AreRowSpecs count buffers specs → AreRowRooms count buffers rooms → AreRowPorts buffers ports → HasNewChannels specs rooms logger.channels → logger.run ≡ None → logger.stop_dump ≡ None → AreIdleChannels logger.channels
+pub new_row : (logger : Logger) (specs : List ChannelSpec) (rooms : List ℕ) (count buffers : ℕ) (ports : List Access) (seen : Seen) → 0 < buffers → AreRowSpecs count buffers specs → AreRowRooms count buffers rooms → AreRowPorts buffers ports → HasNewChannels specs rooms logger.channels → logger.run ≡ None → DumpsFit logger.dumps → AreIdleChannels logger.channels
     → ((ps : List Access) (files : Seen) → HavePorts specs ps → IsLoggerReady logger.channels ps files) → IsRowReady logger ports seen
-new_row logger specs rooms count buffers ports seen some spec room are new run stop idle ready = record {
+new_row logger specs rooms count buffers ports seen some spec room are new run small idle ready = record {
   ready = ready ports seen (λ i s at.
       let below : i % buffers < buffers = mod-lt i some in
       omega (arith, are.many, (spec.each i s at).1, below));
   idle = λ off. idle;
   begun = subst (λ (r : Option LoggedRun). buffers_begun r ≤ length ports) (sym run) (omega arith);
-  small = subst (λ (d : Option (List ℕ)). IfSome d (λ bytes. length bytes ≤ record_limit)) (sym stop) tt;
+  small = small;
   room = λ number c a stood at.
       let made = (new.only number c stood).1 in
       let buffer : c.spec.buffer ≡ made.0 % buffers = ap (λ (x : Channel). x.spec.buffer) made.1.is ∙ (spec.each made.0 made.1.spec made.1.has_spec).1 in
@@ -150,17 +148,3 @@ new_row logger specs rooms count buffers ports seen some spec room are new run s
       let bound : c.event.room ≡ a.size - 24 = event ∙ ap (λ (k : ℕ). k - 24) (sym size) in
       omega (arith, bound);
 }
-
--- A call to finish.
-
-abbrev IsSmall : Option (List ℕ) → Type 0
-IsSmall dump = IfSome dump (λ bytes. length bytes ≤ record_limit)
-
-small_by : (f : LoggerFinish) (settled : Bool) (stop : Option ℕ) → FinishesBy settled stop f → IsSmall f.stop_dump → IsSmall f.later_stop_dump
-small_by f settled None leaves small = subst IsSmall (sym leaves.stop_dump) small
-small_by f false (Some time) leaves small = subst IsSmall (sym leaves.stop_dump) small
-small_by f true (Some time) ends small = subst IsSmall (sym ends.stop_dump) tt
-
--- the dump of the stop that waits is as small behind it
-pub finished_small : (f : LoggerFinish) → FinishesLogger f → IfSome f.stop_dump (λ bytes. length bytes ≤ record_limit) → IfSome f.later_stop_dump (λ bytes. length bytes ≤ record_limit)
-finished_small f finishes small = small_by f (list_all is_settled_slot f.slots) (waiting_stop f.run) finishes small

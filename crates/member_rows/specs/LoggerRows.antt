@@ -1,6 +1,5 @@
 -- A logger with its ports and files between two calls of a row.
-use Rattle.std.specs.Prelude.{◌≡◌, ◌≤◌, ◌==◌, ◌-◌, ◌%◌, ℕ, if◌then◌else◌, IfSome, List, length, slice_get, Some}
-use Rattle.event.specs.Events.{record_limit}
+use Rattle.std.specs.Prelude.{◌≡◌, ◌≤◌, ◌==◌, ◌-◌, ◌%◌, ℕ, if◌then◌else◌, List, length, slice_get, Some}
 use Rattle.daq_io.specs.Seen.{Seen}
 use Rattle.buffer_core.specs.Ports.{Access}
 use Rattle.buffer_core.specs.Window.{Window}
@@ -10,7 +9,7 @@ use Rattle.mid_logger.specs.declared.channel_spec.ChannelSpec.{ChannelSpec}
 use Rattle.loggers.specs.declared.logger.Logger.{Logger}
 use Rattle.loggers.specs.Moments.{IsLoggerReady}
 use Rattle.loggers.specs.SlotPulls.{HasEventRoom}
-use Rattle.loggers.specs.Turning.{IsIdleOutside, buffers_begun}
+use Rattle.loggers.specs.Turning.{IsIdleOutside, buffers_begun, DumpsFit}
 
 -- what a port of the rows tells
 abbrev pub row_access : {g : _} → OwningPort Window g → Access
@@ -21,7 +20,7 @@ pub record IsRowReady (logger : Logger) (ports : List Access) (seen : Seen) : Ty
   pub ready : IsLoggerReady logger.channels ports seen
   pub idle : IsIdleOutside logger.run logger.channels
   pub begun : buffers_begun logger.run ≤ length ports
-  pub small : IfSome logger.stop_dump (λ bytes. length bytes ≤ record_limit)
+  pub small : DumpsFit logger.dumps
   pub room : (number : ℕ) → HasEventRoom number logger.channels ports
 
 -- the size in bytes of the buffer of this number: the first is the largest

@@ -1,6 +1,6 @@
 //! What the answers of a row tell.
 
-use daq_types::{ChannelState, FileName, Why};
+use daq_types::{ChannelEnd, ChannelState, FileName, Why};
 use member_model::{Answer, Tally};
 use std::alloc::Global;
 
@@ -21,17 +21,17 @@ pub enum Told {
 }
 
 /// How many channels ended in this state.
-fn count_in(states: &[ChannelState], state: ChannelState) -> usize {
-    states.iter().filter(|told| **told == state).count()
+fn count_in(ends: &[ChannelEnd], state: ChannelState) -> usize {
+    ends.iter().filter(|told| told.state == state).count()
 }
 
 /// What an answer tells that accepts.
 fn read_tally(tally: &Tally) -> Told {
     match tally {
         Tally::Plain => Told::Plain,
-        Tally::Channels(states) => Told::Ended(
-            count_in(states.as_slice(), ChannelState::Ended),
-            count_in(states.as_slice(), ChannelState::Broken),
+        Tally::Channels(ends) => Told::Ended(
+            count_in(ends.as_slice(), ChannelState::Ended),
+            count_in(ends.as_slice(), ChannelState::Broken),
         ),
         _ => Told::Other,
     }
@@ -58,5 +58,11 @@ pub fn read_answer(answer: Option<Answer>) -> Told {
 /// The name of the file of a channel in run 1; None without memory.
 pub fn name_of(alloc: Global, channel: u32) -> Option<FileName> {
     let text = format!(in alloc; "ch{channel}run00001.mid").ok()?;
+    FileName::new(text.as_str()).ok()
+}
+
+/// The name of the file of this number of a channel in run 1, where its files have a limit; None without memory.
+pub fn piece_name_of(alloc: Global, channel: u32, number: u32) -> Option<FileName> {
+    let text = format!(in alloc; "ch{channel}run00001-000{number}.mid").ok()?;
     FileName::new(text.as_str()).ok()
 }

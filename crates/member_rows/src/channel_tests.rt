@@ -1,8 +1,7 @@
 ghost use Rattle.std.specs.Prelude.{◌≡◌, ◌≤◌, ◌-◌, IfOk, min, length};
 ghost use Rattle.event.specs.Events.{event_limit, record_limit};
 ghost use Rattle.mid_logger.specs.declared.stage.ChannelStage.TheVariants.{Idle};
-ghost use Rattle.mid_logger.specs.Channels.{written_run};
-ghost use Rattle.mid_logger.specs.PieceFiles.{IsLastOpen};
+ghost use Rattle.mid_logger.specs.Channels.{IsLastOpen, written_run};
 ghost use Rattle.plain_buffer.specs.OwningPorts.{owned_access};
 
 use buffer_core::BufferPort;
@@ -49,8 +48,8 @@ fn new_channel(alloc: Global, pattern: Pattern) -> Result<Channel, NoMemory>
             buffer: 0,
             id: 65535,
             mask: 65535,
+            sub_bytes: 0,
         },
-        sub_bytes: 0,
         client: None,
         stage: ChannelStage::Idle,
         failed: false,

@@ -36,19 +36,20 @@ impl Model for Fixture {
 }
 
 impl Fixture {
-    /// A new logger of so many channels over these files. Channel n reads buffer n modulo the number of
+    /// A new logger of so many channels over these files, which have this limit. Channel n reads buffer n modulo the number of
     /// buffers, of which the first has 1,024 bytes and each other 256.
     pub fn new(
         alloc: Global,
         channels: u32,
         buffers: u32,
+        limit: u32,
         files: MemFiles,
     ) -> Result<Fixture, NoMemory>
         requires few { channels ≤ 16 }
         requires some { 0 < buffers }
     {
         let ports = new_ports(alloc, buffers)?;
-        let logger = new_logger(alloc, channels, buffers)?;
+        let logger = new_logger(alloc, channels, buffers, limit)?;
         Ok(Fixture {
             logger,
             files,

@@ -1,6 +1,6 @@
 //! The rows, each a logger with the calls on it and what comes of them.
 
-use crate::answers::{Told, name_of, read_answer};
+use crate::answers::{Told, name_of, piece_name_of, read_answer};
 use crate::fixture::Fixture;
 use daq_mem::{FileFail, FileOp, MemFiles};
 use daq_types::{NoMemory, RunState, Transition};
@@ -31,6 +31,8 @@ enum Step {
     Files(usize),
     /// How many bytes the closed file of a channel has.
     Closed(u32, usize),
+    /// How many bytes the closed file of this number of a channel has, where its files have a limit.
+    Piece(u32, u32, usize),
     /// Whether a call on the files failed.
     Failed(bool),
 }
@@ -38,7 +40,7 @@ enum Step {
 use Pulled::{Broke, Dropped, Nothing, Wrote};
 use RunState::{Paused, Running, Stopped};
 use Step::{
-    Begin, Closed, Failed, Files, Finish, Pause, Pull, PullAll, Send, Start, Stop, TakeBack,
+    Begin, Closed, Failed, Files, Finish, Pause, Piece, Pull, PullAll, Send, Start, Stop, TakeBack,
 };
 use Told::{Ended, Fault, Plain, Taken, Waits};
 
@@ -107,6 +109,22 @@ const BROKEN: &[Step] = &[
     Finish(Ended(0, 1)),
 ];
 
+/// Both channels read one buffer, and a file of 210 bytes has room for one event. Each file begins with the dump of the start, and
+/// the last one ends with that of the stop.
+const PIECES: &[Step] = &[
+    Start(Plain),
+    Send(0, 1, 2),
+    Send(0, 1, 2),
+    Stop(Running, Waits),
+    PullAll(4),
+    Finish(Ended(2, 0)),
+    Piece(0, 0, 223),
+    Piece(0, 1, 396),
+    Piece(1, 0, 223),
+    Piece(1, 1, 396),
+    Failed(false),
+];
+
 /// A fault at a start of two channels: no file is left.
 const FAULT_AT_0: &[Step] = &[Start(Fault(0)), Files(0), Failed(true)];
 
@@ -165,6 +183,11 @@ fn closed_bytes(alloc: Global, row: &Fixture, channel: u32) -> Option<usize> {
     row.closed_bytes(&name_of(alloc, channel)?)
 }
 
+/// How many bytes the closed file of this number of a channel has.
+fn piece_bytes(alloc: Global, row: &Fixture, channel: u32, number: u32) -> Option<usize> {
+    row.closed_bytes(&piece_name_of(alloc, channel, number)?)
+}
+
 /// Makes a call on a logger of so many channels, and answers whether it came to what it must.
 fn is_right<R: Abort + Wait>(
     rt: &R,
@@ -197,6 +220,7 @@ fn is_right<R: Abort + Wait>(
         PullAll(wrote) => pull_each(rt, row, channels) == wrote,
         Files(count) => count_files(alloc, row, channels) == Some(count),
         Closed(channel, len) => closed_bytes(alloc, row, channel) == Some(len),
+        Piece(channel, number, len) => piece_bytes(alloc, row, channel, number) == Some(len),
         Failed(failed) => row.failed() == failed,
     }
 }
@@ -217,8 +241,8 @@ fn are_right<R: Abort + Wait>(
     true
 }
 
-/// How many channels and buffers a logger has.
-type Counts = (u32, u32);
+/// How many channels and buffers a logger has, and the most bytes of a file.
+type Counts = (u32, u32, u32);
 
 /// A logger, the call of a kind on its files that fails, if one does, and the calls on the logger.
 type Row = (Counts, Option<(FileOp, u64)>, &'static [Step]);
@@ -254,9 +278,9 @@ fn row_files(alloc: Global, fail: Option<(FileOp, u64)>, is_taken: bool) -> Opti
 
 /// The logger of the row.
 fn new_logger(alloc: Global, row: &Row, is_taken: bool) -> Option<Fixture> {
-    let ((channels, buffers), fail, _) = *row;
+    let ((channels, buffers, limit), fail, _) = *row;
     let files = row_files(alloc, fail, is_taken)?;
-    Fixture::new(alloc, channels.min(16), buffers.max(1), files).ok()
+    Fixture::new(alloc, channels.min(16), buffers.max(1), limit, files).ok()
 }
 
 /// Whether each call of the row comes to what it must.
@@ -264,7 +288,7 @@ fn is_row_right<R: Abort + Wait>(rt: &R, alloc: Global, row: &Row, is_taken: boo
     let Some(mut logger) = new_logger(alloc, row, is_taken) else {
         return false;
     };
-    let ((channels, _), _, steps) = *row;
+    let ((channels, _, _), _, steps) = *row;
     are_right(rt, alloc, &mut logger, channels, steps)
 }
 
@@ -279,10 +303,11 @@ fn are_rows_right<R: Abort + Wait>(rt: &R, alloc: Global, rows: &[Row], is_taken
 }
 
 const RUNS: &[Row] = &[
-    ((16, 8), None, SIXTEEN),
-    ((2, 2), None, LARGE),
-    ((1, 1), None, PAUSED),
-    ((1, 1), None, BEHIND),
+    ((16, 8, 0), None, SIXTEEN),
+    ((2, 2, 0), None, LARGE),
+    ((1, 1, 0), None, PAUSED),
+    ((1, 1, 0), None, BEHIND),
+    ((2, 1, 210), None, PIECES),
 ];
 
 #[test]
@@ -290,7 +315,7 @@ fn runs_of_several_channels(rt: HostRuntime) {
     assert!(rt; are_rows_right(&rt, rt.alloc(), RUNS, false));
 }
 
-const TAKES: &[Row] = &[((4, 2), None, TAKEN)];
+const TAKES: &[Row] = &[((4, 2, 0), None, TAKEN)];
 
 #[test]
 fn the_name_of_a_file_is_taken(rt: HostRuntime) {
@@ -299,16 +324,16 @@ fn the_name_of_a_file_is_taken(rt: HostRuntime) {
 
 /// Which call of a kind fails. A begin record is two appends, an event one, an end record two.
 const FAILS: &[Row] = &[
-    ((2, 1), Some((FileOp::Create, 0)), FAULT_AT_0),
-    ((2, 1), Some((FileOp::Append, 0)), FAULT_AT_0),
-    ((2, 1), Some((FileOp::Append, 1)), FAULT_AT_0),
-    ((2, 1), Some((FileOp::Create, 1)), FAULT_AT_1),
-    ((2, 1), Some((FileOp::Append, 2)), FAULT_AT_1),
-    ((2, 1), Some((FileOp::Append, 3)), FAULT_AT_1),
-    ((1, 1), Some((FileOp::Append, 2)), BROKEN),
-    ((1, 1), Some((FileOp::Append, 3)), LATE),
-    ((1, 1), Some((FileOp::Append, 4)), LATE),
-    ((1, 1), Some((FileOp::Close, 0)), LATE),
+    ((2, 1, 0), Some((FileOp::Create, 0)), FAULT_AT_0),
+    ((2, 1, 0), Some((FileOp::Append, 0)), FAULT_AT_0),
+    ((2, 1, 0), Some((FileOp::Append, 1)), FAULT_AT_0),
+    ((2, 1, 0), Some((FileOp::Create, 1)), FAULT_AT_1),
+    ((2, 1, 0), Some((FileOp::Append, 2)), FAULT_AT_1),
+    ((2, 1, 0), Some((FileOp::Append, 3)), FAULT_AT_1),
+    ((1, 1, 0), Some((FileOp::Append, 2)), BROKEN),
+    ((1, 1, 0), Some((FileOp::Append, 3)), LATE),
+    ((1, 1, 0), Some((FileOp::Append, 4)), LATE),
+    ((1, 1, 0), Some((FileOp::Close, 0)), LATE),
 ];
 
 #[test]
@@ -317,8 +342,8 @@ fn each_call_fails_in_turn(rt: HostRuntime) {
 }
 
 const LEAVES: &[Row] = &[
-    ((3, 1), Some((FileOp::Remove, 0)), LEFT),
-    ((3, 1), Some((FileOp::Remove, 1)), LEFT),
+    ((3, 1, 0), Some((FileOp::Remove, 0)), LEFT),
+    ((3, 1, 0), Some((FileOp::Remove, 1)), LEFT),
 ];
 
 #[test]
@@ -328,8 +353,8 @@ fn a_file_is_left_where_its_removal_fails(rt: HostRuntime) {
 
 /// The first close is that of the file whose name is taken, before the start.
 const CLOSES: &[Row] = &[
-    ((3, 1), Some((FileOp::Close, 1)), REMOVED),
-    ((3, 1), Some((FileOp::Close, 2)), REMOVED),
+    ((3, 1, 0), Some((FileOp::Close, 1)), REMOVED),
+    ((3, 1, 0), Some((FileOp::Close, 2)), REMOVED),
 ];
 
 #[test]

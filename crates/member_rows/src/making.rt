@@ -42,19 +42,23 @@ pub fn new_ports(alloc: Global, count: u32) -> Result<Ports<Port>, NoMemory>
     Ok(ports)
 }
 
-/// The pattern of the names of a channel's files; None without memory.
-fn pattern_of(alloc: Global, number: u32) -> Option<Pattern> {
-    let text = format!(in alloc; "ch{number}run%05d.mid").ok()?;
-    Pattern::new(text.as_str(), false).ok()
+/// The pattern of the names of a channel's files, with this limit for each; None without memory.
+fn pattern_of(alloc: Global, number: u32, limit: u32) -> Option<Pattern> {
+    if limit == 0 {
+        let text = format!(in alloc; "ch{number}run%05d.mid").ok()?;
+        return Pattern::new(text.as_str(), false).ok();
+    }
+    let text = format!(in alloc; "ch{number}run%05d-%04d.mid").ok()?;
+    Pattern::new(text.as_str(), true).ok()
 }
 
-/// Channel n reads buffer n modulo the number of buffers, and asks for all events.
-fn spec_of(alloc: Global, number: u32, buffers: u32) -> Result<ChannelSpec, NoMemory>
+/// Channel n reads buffer n modulo the number of buffers, and asks for all events. Its files have this limit.
+fn spec_of(alloc: Global, number: u32, buffers: u32, limit: u32) -> Result<ChannelSpec, NoMemory>
     requires some { 0 < buffers }
     ensures number { IfOk result (λ spec. spec.number ≡ number) }
     ensures buffer { IfOk result (λ spec. spec.buffer ≡ number % buffers) }
 {
-    let Some(pattern) = pattern_of(alloc, number) else {
+    let Some(pattern) = pattern_of(alloc, number, limit) else {
         return Err(NoMemory);
     };
     Ok(ChannelSpec {
@@ -63,17 +67,23 @@ fn spec_of(alloc: Global, number: u32, buffers: u32) -> Result<ChannelSpec, NoMe
         buffer: number % buffers,
         id: 65535,
         mask: 65535,
+        sub_bytes: limit,
     })
 }
 
 /// The specs of so many channels.
-fn new_specs(alloc: Global, channels: u32, buffers: u32) -> Result<ChannelSpecs, NoMemory>
+fn new_specs(
+    alloc: Global,
+    channels: u32,
+    buffers: u32,
+    limit: u32,
+) -> Result<ChannelSpecs, NoMemory>
     requires some { 0 < buffers }
     ensures { IfOk result (AreRowSpecs channels buffers) }
 {
     let mut specs = ChannelSpecs::new(alloc)?;
     for number in 0..channels {
-        specs.try_push(spec_of(alloc, number, buffers)?)?;
+        specs.try_push(spec_of(alloc, number, buffers, limit)?)?;
     }
     Ok(specs)
 }
@@ -90,14 +100,19 @@ fn new_rooms(alloc: Global, channels: u32, buffers: u32) -> Result<Vec<u32>, NoM
     Ok(rooms)
 }
 
-/// A logger with so many channels.
-pub fn new_logger(alloc: Global, channels: u32, buffers: u32) -> Result<Logger, NoMemory>
+/// A logger with so many channels, whose files have this limit.
+pub fn new_logger(
+    alloc: Global,
+    channels: u32,
+    buffers: u32,
+    limit: u32,
+) -> Result<Logger, NoMemory>
     requires few { channels ≤ 16 }
     requires some { 0 < buffers }
     ensures { IfOk result (λ logger. (ports : List Access) → (seen : Seen) →
         AreRowPorts buffers ports → IsRowReady logger ports seen) }
 {
-    let specs = new_specs(alloc, channels, buffers)?;
+    let specs = new_specs(alloc, channels, buffers, limit)?;
     let rooms = new_rooms(alloc, channels, buffers)?;
     let logger = Logger::new(alloc, specs, rooms.as_slice())?;
     Ok(logger)

@@ -4,16 +4,20 @@ use std::test::Fail;
 
 #[test]
 fn patterns_by_the_rule(rt: HostRuntime) {
-    for (text, is_pattern) in &[
-        ("run%05d.mid", true),
-        ("%05d", true),
-        ("run.mid", false),
-        ("run%5d.mid", false),
-        ("run%05d-%05d.mid", false),
-        ("run%05d%.mid", false),
-        ("run %05d.mid", false),
+    for (text, limited, is_pattern) in &[
+        ("run%05d.mid", false, true),
+        ("%05d", false, true),
+        ("run.mid", false, false),
+        ("run%5d.mid", false, false),
+        ("run%05d-%05d.mid", false, false),
+        ("run%05d%.mid", false, false),
+        ("run %05d.mid", false, false),
+        ("run%05dsub%04d.mid", true, true),
+        ("run%05dsub%04d.mid", false, false),
+        ("run%05d.mid", true, false),
+        ("sub%04drun%05d.mid", true, false),
     ] {
-        assert_eq!(rt; Pattern::new(text, false).is_ok(), *is_pattern);
+        assert_eq!(rt; Pattern::new(text, *limited).is_ok(), *is_pattern);
     }
 }
 
@@ -29,5 +33,10 @@ fn names_of_runs(rt: HostRuntime) -> Result<(), Fail> {
             Err(_) => assert!(rt; false),
         }
     }
+    let pattern = Pattern::new("run%05dsub%04d.mid", true)?;
+    assert_eq!(rt;
+        pattern.name(1, 42).as_slice(),
+        "run00001sub0042.mid".as_bytes()
+    );
     Ok(())
 }

@@ -11,6 +11,7 @@ mod meeting;
 mod orders;
 mod outsides;
 mod page;
+mod piece_rows;
 mod playing;
 mod rows;
 mod session_rows;
@@ -24,6 +25,7 @@ use crate::fault_rows::FAULT_ROWS;
 use crate::manners::{FIRST_FIRST, Manner, OTHERS};
 use crate::meeting::{MeetingGate, add_meeting};
 use crate::page::Page;
+use crate::piece_rows::{PIECE_FAULT_ROWS, PIECE_ROWS};
 use crate::playing::tell_row;
 use crate::rows::{PLAIN, Repeated, Row};
 use crate::session_rows::SESSION_ROWS;
@@ -94,6 +96,11 @@ fn add_starts<R: Threads + Wait + Sync>(rt: &R, alloc: Global, page: &mut Page) 
     add_table(rt, alloc, page, &START_ROWS);
 }
 
+/// Adds the rows of runs with several files a channel.
+fn add_pieces<R: Threads + Wait + Sync>(rt: &R, alloc: Global, page: &mut Page) {
+    add_table(rt, alloc, page, &PIECE_ROWS);
+}
+
 /// Adds the rows of words that run no session.
 fn add_words<R: Threads + Wait + Sync>(rt: &R, alloc: Global, page: &mut Page) {
     add_table(rt, alloc, page, &TOOL_ROWS);
@@ -102,6 +109,11 @@ fn add_words<R: Threads + Wait + Sync>(rt: &R, alloc: Global, page: &mut Page) {
 /// Adds the rows of sessions with a call on a stream or on a run file that fails.
 fn add_faults<R: Threads + Wait + Sync>(rt: &R, alloc: Global, page: &mut Page) {
     add_table(rt, alloc, page, &FAULT_ROWS);
+}
+
+/// Adds the rows of runs with several files a channel, with a call on one of them that fails.
+fn add_piece_faults<R: Threads + Wait + Sync>(rt: &R, alloc: Global, page: &mut Page) {
+    add_table(rt, alloc, page, &PIECE_FAULT_ROWS);
 }
 
 /// Adds the rows of sessions with a call on a file of the database that fails.
@@ -141,8 +153,10 @@ fn all_rows<R: Threads + Wait + Sync>(rt: &R, alloc: Global) -> Page {
     let mut page = Page::new(alloc);
     add_sessions(rt, alloc, &mut page);
     add_starts(rt, alloc, &mut page);
+    add_pieces(rt, alloc, &mut page);
     add_words(rt, alloc, &mut page);
     add_faults(rt, alloc, &mut page);
+    add_piece_faults(rt, alloc, &mut page);
     add_dump_faults(rt, alloc, &mut page);
     add_tool_faults(rt, alloc, &mut page);
     add_databases(rt, alloc, &mut page);

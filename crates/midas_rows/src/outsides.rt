@@ -8,7 +8,7 @@ use std::alloc::Global;
 pub type MemOutside = Outside<MemSource, MemSink, MemFiles, MemFiles, MemClock, MemPick>;
 
 /// How many files there may be.
-const FILES: u32 = 4;
+const FILES: u32 = 8;
 
 /// How many bytes the console takes.
 const TEXT: usize = 10_000;

@@ -9,7 +9,7 @@ returns g c = record {
     ready = c.pull.ensures.ready;
     idle = c.pull.ensures.idle;
     begun = rw (c.pull.ensures.run, c.pull.ensures.same.many) c.requires.row.begun;
-    small = rw c.pull.ensures.stop_dump c.requires.row.small;
+    small = rw c.pull.ensures.dumps c.requires.row.small;
     room = c.pull.ensures.room c.requires.row.room;
   };
 }
