@@ -1,10 +1,10 @@
 # Lets each request for memory fail in turn, and each call on the system for the streams and the files, in a session of every
-# command with two channels and an analyzer, on one thread, and in the tools; lets each read and write move one byte alone; plays
+# command with two channels, of which one has a limit, and an analyzer, on one thread, and in the tools; lets each read and write move one byte alone; plays
 # the session in threads within less memory than it needs; and closes standard input and output. Of each such call it reads:
 #   - the status: 5 where memory was wanting and 4 where a call failed, unless nothing differs from the call where nothing fails;
 #   - the text: where memory or a stream was wanting, a first part of what is printed where nothing fails;
-#   - each file that the text calls Ended: `check` says of it what it says where nothing fails, but for the length; each one that
-#     is called saved: it is as long as then;
+#   - each file that the text calls Ended: `check` says that it is whole, and where all files of its channel and run are called so,
+#     they have as many events as the text says that were sent; each one that is called saved: it is as long as then;
 #   - each other file: a line tells of its run or of its fault, and where none could be printed it is a whole run file.
 # It prints what it tried and each call in which something else was found, and ends with status 1 where there is one.
 # The failing calls are made by ptrace, on x86-64 alone.
@@ -17,7 +17,7 @@ buffer BUF 65536
 equip A 1 1 SYSTEM
 equip B 2 2 BUF 100
 channel 0 a%05d.mid SYSTEM 65535 65535
-channel 1 b%05d.mid BUF 65535 65535
+channel 1 b%05dsub%04d.mid BUF 65535 65535 1500
 analyzer ANA SYSTEM 65535 65535 all
 create STRING /Settings/Name
 set /Settings/Name "Muon decay"
@@ -281,13 +281,14 @@ class Expected:
         if cause != "file" and not self.text.startswith(text):
             return "another text: %r" % text
         for name, content in files.items():
-            wrong = self.fault_of(name, content, text, cause)
+            wrong = self.fault_of(name, files, text, cause)
             if wrong:
                 return "%s: %s" % (name, wrong)
         return None
 
-    def fault_of(self, name, content, text, cause):
+    def fault_of(self, name, files, text, cause):
         """The same of a file that is left."""
+        content = files[name]
         # No line can be printed where the sink fails: then the file is the one that is written where nothing fails.
         if content == self.files.get(name) and cause == "sink" or name == "kept.mid":
             return None
@@ -295,8 +296,12 @@ class Expected:
             run = int(re.search(r"\d{5}", name).group())
             told = re.search(r"^%s (\w+)$" % name, text, re.M)
             if told and told.group(1) == "Ended":
-                whole = "ok run %d events %d" % (run, sent_in(text, name))
-                return None if content == whole else "it is called Ended, and is %r" % content
+                whole = "ok run %d events " % run
+                series = re.findall(r"^(%s%05d\S*) (\w+)$" % (name[: name.index("0")], run), text, re.M)
+                has_all = all(state == "Ended" for _, state in series)
+                counts = [int(files.get(of, "")[len(whole):] or -1) for of, _ in series if has_all]
+                fine = content.startswith(whole) and (not has_all or sum(counts) == sent_in(text, name))
+                return None if fine else "it is called Ended, and is %r" % content
             # The file of a start that was called off stays where it could not be removed, and the next start says so.
             if told or "run %d started\n" % run in text or cause == "file" and "StartRefused Logger Exists" in text:
                 return None

@@ -2,9 +2,9 @@
 # Measures `run` of an empty script beside /bin/true; and with one front-end, with four of them over a buffer of 65,536 bytes, and
 # with these and an analyzer: runs of 1,000 and of 100,000 events and of two, four and ten times as many, in threads and, by
 # `run --cooperative`, on one thread, beside `cat` of the run file that was written, whose events `check` counts, and beside a copy
-# of it that is put on the disk; and a hundred short runs of four transitions each, with four front-ends and an analyzer. Prints
-# seconds by the clock and of the processor (the least of three, and of a hundred for the empty script), ratios, growth and the
-# peak memory. TMPDIR=/dev/shm keeps the disk out of the times.
+# of it that is put on the disk; a million events in one file and in files of 1,000,000 bytes; and a hundred short runs of four
+# transitions each, with four front-ends and an analyzer. Prints seconds by the clock and of the processor (the least of three, and
+# of a hundred for the empty script), ratios, growth and the peak memory. TMPDIR=/dev/shm keeps the disk out of the times.
 # usage: bench/run.sh PROGRAM
 set -e
 program=$(realpath "$1")
@@ -98,6 +98,15 @@ for title, fronts, declared in SESSIONS:
                   "  %5.1f times a copy to the disk  growth %5.2f of %4.4g (exponent %4.2f)  peak %d kB"
                   % (events, os.path.getsize(RUN_FILE) / 1e6, way, took, took / on_one, busy, busy / events * 1e6, took / read,
                      took / copied(), took / first, times, exponent, peak))
+MANY = b"events 1000000\nstart\nstop\n"
+PIECES = b"channel 0 run%05dsub%04d.mid SYSTEM 65535 65535 1000000\n" + MANY
+print("a million events in one file, and in files of 1,000,000 bytes each")
+for way, words in (("on one thread", ["--cooperative"]), ("in threads", [])):
+    one, busy, _ = seconds([program, "run"] + words, MANY, remove)
+    took, spent, _ = seconds([program, "run"] + words, PIECES, remove)
+    files = len([name for name in os.listdir(".") if name.endswith(".mid")])
+    print("%-13s %7.3f s, in %d files %7.3f s, %5.2f times; processor %7.3f s and %7.3f s, %5.2f times"
+          % (way, one, files, took, took / one, busy, spent, spent / busy))
 for way, words in (("on one thread", ["--cooperative"]), ("in threads", [])):
     script = SESSIONS[-1][2] + b"events 4\n" + SHORT_RUNS * b"start\npause\nresume\nstop\n"
     took, busy, _ = seconds([program, "run"] + words, script, remove)
