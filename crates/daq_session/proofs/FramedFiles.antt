@@ -9,39 +9,43 @@ use Rattle.daq_session.specs.declared.ends.ScriptEnd.{ScriptEnd}
 use Rattle.odb_commands.specs.declared.dump_replies.FileReply.{FileReply}
 use Rattle.daq_session.specs.Environments.{OutsideTold}
 use Rattle.daq_session.specs.Sessions.{RunsScript, SessionKept}
-use Rattle.daq_session.specs.FramedFiles.{ClosesFramedFiles}
+use Rattle.daq_session.specs.FramedFiles.{ClosesFramedFiles, KeptFramedFiles}
 
-pub files_framed : {D F : Type 0} {g : _} → (told : MemberTold Generator F) → (first_files : F) → (final : SessionStage) → (end : ScriptEnd) →
-    (run_files : F) → (kept : Option (SessionRecord D g)) → SessionKept told first_files final end run_files kept →
-    ClosesFramedFiles (told.seen run_files) kept
+files_framed : {D F : Type 0} {g : _} → (told : MemberTold Generator F) → (first_files : F) → (final : SessionStage) → (end : ScriptEnd) →
+    (run_files : F) → (kept : Option (SessionRecord D g)) → (keeps : SessionKept told first_files final end run_files kept) →
+    KeptFramedFiles told first_files final end run_files kept keeps
 files_framed told first_files final end run_files None keeps = tt
 files_framed told first_files final end run_files (Some r) keeps = record {
-  declared = final.declared;
   are = λ number run at whole place written here ended.
       let tells = keeps.tells.runs number run at whole in
       let closed = tells.files place written here ended in
-      let of = closed.2 in
-      record {
-        channel = of.of.channel;
-        is_declared = of.of.is_declared;
-        number = of.of.number;
-        pattern = of.of.pattern;
-        buffer = of.of.buffer;
-        there = of.of.there;
-        first_dump = tells.so.fits.start.dump;
-        last_dump = closed.0;
-        pieces = of.pieces;
-        each = of.many;
-        framed = of.each;
-        join = of.cut.joins;
-        quota = tells.so.quota;
-        sent = λ index at_place x is. tells.events of.of.channel.buffer index at_place of.of.buffer x of.of.there is;
-        fronts = tells.fronts;
-      };
+      let of = closed.2 in (
+        closed.0,
+        closed.1,
+        record {
+          channel = of.of.channel;
+          is_declared = of.of.is_declared;
+          number = of.of.number;
+          pattern = of.of.pattern;
+          buffer = of.of.buffer;
+          there = of.of.there;
+          pieces = of.pieces;
+          each = of.many;
+          framed = of.each;
+          join = of.cut.joins;
+          sent = λ index at_place x is. tells.events of.of.channel.buffer index at_place of.of.buffer x of.of.there is;
+          fronts = tells.fronts;
+        },
+      );
 }
 
 -- so are those of a whole script
 pub files_ran : {D S O F E C K : Type 0} {g : _} (told : OutsideTold S O F E C) (before after : Outside S O F E C K) (end : ScriptEnd)
     (replies : List (ℕ × FileReply)) (kept : Option (SessionRecord D g)) → RunsScript told before after end replies kept →
-    ClosesFramedFiles (told.crew.seen after.run_files) kept
-files_ran told before after end replies kept ran = files_framed told.crew before.run_files ran.final end after.run_files kept ran.keeps
+    ClosesFramedFiles told before after kept
+files_ran told before after end replies kept ran = record {
+  end = end;
+  replies = replies;
+  ran = ran;
+  files = files_framed told.crew before.run_files ran.final end after.run_files kept ran.keeps;
+}

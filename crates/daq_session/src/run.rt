@@ -287,7 +287,9 @@ pub fn run_script<
     ensures ran { RunsScript (outside_told S.left S.faults O.written O.faults F.seen F.faults
         F.clashes F.first E.seen E.faults E.clashes E.first C.tells C.ahead)
         outside result.3 result.0 result.2.replies result.1 }
-    ensures files { ClosesFramedFiles (F.seen result.3.run_files) result.1 }
+    ensures files { ClosesFramedFiles (outside_told S.left S.faults O.written O.faults F.seen F.faults
+        F.clashes F.first E.seen E.faults E.clashes E.first C.tells C.ahead)
+        outside result.3 result.1 }
 {
     let (Ok(line_loop), Ok(declarations), Ok(database)) = (
         LineLoop::new(alloc),

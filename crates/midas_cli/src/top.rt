@@ -81,7 +81,9 @@ pub fn midas<
     ensures file_replies { ¬ IsRunWords words.now → result.0.file_replies.replies ≡ [] }
     // The run files: those of each channel that ended in a run are framed pieces that join to all events of front-ends in the run for
     // which the channel asks, in each front-end's order.
-    ensures run_files { ClosesFramedFiles (F.seen result.1.run_files) result.0.session }
+    ensures run_files { (result.0.session ≡ None) ⊎ ClosesFramedFiles
+        (outside_told S.left S.faults K.written K.faults F.seen F.faults F.clashes F.first E.seen
+        E.faults E.clashes E.first C.tells C.ahead) outside result.1 result.0.session }
     // The words of a session: how the script ended, what it did, and what the record of its session tells of the histories, of
     // the runs and of their files; or nothing was done where the words found no memory.
     ensures ran { IsRunWords words.now → ((end : ScriptEnd) × (result.0.cause ≡ script_cause end)
