@@ -10,8 +10,9 @@ use Rattle.buffer_core.specs.declared.entry.BufferEntry.{BufferEntry}
 use Rattle.buffer_core.proofs.SlotLaws.{split}
 use Rattle.daq_types.specs.Callers.{entries_by, main_caller}
 use Rattle.odb_value.specs.Values.{HeldValue}
-use Rattle.odb_tree.specs.Links.{resolved, through}
-use Rattle.odb_tree.specs.Calls.{Gives, get_reply}
+use Rattle.odb_tree.specs.Links.{resolved, meets_link, through}
+use Rattle.odb_tree.specs.Calls.{GivesTaking, get_reply}
+use Rattle.odb_tree.proofs.Led.{told_due}
 use Rattle.odb_tree.specs.Noting.{Watched}
 use Rattle.odb_tree.specs.Rows.{Rows}
 use Rattle.odb_tree.specs.declared.entry.DatabaseEntry.{DatabaseEntry}
@@ -66,15 +67,15 @@ Stays = (first : Watched) (h : List (ℕ × WatchEntry)) (last : Watched) → Le
 abbrev Given : Type 0
 Given = (s : Rows) (has : HasRunNumber s.rows) → through (resolved s (key_path RunNumber) true) (λ q. get_reply s q) ≡ Ok has.held
 
-given_by : (got reply : Result HeldValue OdbRefusal) (held : HeldValue) → IsSettled got → reply ≡ Ok held → Gives got reply → got ≡ Ok held
-given_by (Ok x) reply held settled is gives = sym gives ∙ is
-given_by (Err refusal) reply held settled is gives = absurd (cc (sym is ∙ gives settled))
+given_by : (early : Bool) (got reply : Result HeldValue OdbRefusal) (held : HeldValue) → IsSettled got → reply ≡ Ok held → GivesTaking early got reply → got ≡ Ok held
+given_by early (Ok x) reply held settled is gives = sym gives ∙ is
+given_by early (Err refusal) reply held settled is gives = absurd (cc (sym is ∙ told_due early refusal reply gives settled))
 
 gives_number : Given → (before : Watched) (caller : ℕ) (entry : WatchEntry) (after : Watched) → StepsDatabase before caller entry after → HasRunNumber before.rows.rows → GivesNumber entry
 gives_number given before caller entry after step has = λ got is settled.
     let this : StepsDatabase before caller (call.Call (number_asked got)) after = subst (λ (x : WatchEntry). StepsDatabase before caller x after) is step in
     let reply : Result HeldValue OdbRefusal = through (resolved before.rows (key_path RunNumber) true) (λ q. get_reply before.rows q) in
-    (has.held, given_by got reply has.held settled (given before.rows has) this.step.0, has.number)
+    (has.held, given_by (meets_link before.rows (key_path RunNumber) true) got reply has.held settled (given before.rows has) this.step.0, has.number)
 
 put_first : (hit : Bool) (e : ℕ × WatchEntry) (es : List (ℕ × WatchEntry)) → GivesNumber e.1 → AllByRecursion GivesNumber (map (λ (x : ℕ × WatchEntry). x.1) es)
     → AllByRecursion GivesNumber (map (λ (x : ℕ × WatchEntry). x.1) (cond hit (e ∷ es) es))

@@ -1,5 +1,5 @@
 -- The answer of a command whose calls are legal.
-use Rattle.std.proofs.Common.{◌≡◌, ◌≢◌, ℕ, Bool, true, false, List, [], ◌∷◌, Option, Some, None, Result, Ok, Err, refl, ap, sym, subst, ◌∙◌, eq-eqb}
+use Rattle.std.proofs.Common.{◌≡◌, ◌≢◌, ℕ, Bool, true, false, ◌||◌, List, [], ◌∷◌, Option, Some, None, Result, Ok, Err, refl, ap, sym, subst, ◌∙◌, eq-eqb}
 use Rattle.std.specs.Prelude.{◌==◌, if◌then◌else◌}
 use Rattle.std.specs.Option.{unwrap_or}
 use Rattle.daq_types.specs.Callers.{entries_by}
@@ -18,7 +18,7 @@ use Rattle.odb_tree.specs.declared.rows.NewKey.{NewKey}
 use Rattle.odb_tree.specs.declared.rows.NewKey.TheVariants.{Dir, Keys, Link}
 use Rattle.odb_tree.specs.Rows.{Rows}
 use Rattle.odb_tree.specs.Links.{meets_link}
-use Rattle.odb_tree.specs.Calls.{Gives, GivesIf, GivesItem, delete_reply, path_with, rows_after}
+use Rattle.odb_tree.specs.Calls.{GivesTaking, GivesIf, GivesItem, makes_link, delete_reply, path_with, rows_after}
 use Rattle.odb_commands.specs.LedReplies.{create_led, set_led, get_led, find_led, list_led}
 use Rattle.odb_tree.specs.Histories.{IsLegalRows, IsLegalCall}
 use Rattle.odb_watch.specs.DatabasePorts.{IsSettled, calls_by}
@@ -33,17 +33,18 @@ use Rattle.odb_commands.specs.CommandCalls.{AtPath, CreatesKey, LinksTo, SetsIte
 
 -- A legal reply is that of the rows, where memory was not wanting.
 
-given_is : {X : Type 0} (given reply : Result X OdbRefusal) → Gives given reply → IsSettled given → given ≡ reply
-given_is (Ok x) reply gives settled = sym gives
-given_is (Err why) reply gives settled = sym (gives settled)
+given_is : {X : Type 0} (early : Bool) (given reply : Result X OdbRefusal) → GivesTaking early given reply → IsSettled given → given ≡ reply
+given_is early (Ok x) reply gives settled = sym gives
+given_is true (Err why) reply gives settled = sym (gives settled)
+given_is false (Err why) reply gives settled = sym (gives.0 settled)
 
 given_if : {X : Type 0} (met : Bool) (given reply : Result X OdbRefusal) → GivesIf met given reply → IsSettled given → given ≡ reply
-given_if true given reply gives settled = given_is given reply gives settled
+given_if true given reply gives settled = given_is true given reply gives settled
 given_if false given reply gives settled = gives
 
 item_given : (met : Bool) (type : Tid) (given reply : Result ℕ OdbRefusal) → GivesItem met type given reply → IsSettled given → given ≡ reply
-item_given met tid.Text given reply gives settled = given_is given reply gives settled
-item_given true _ given reply gives settled = given_is given reply gives settled
+item_given met tid.Text given reply gives settled = given_is met given reply gives settled
+item_given true _ given reply gives settled = given_is true given reply gives settled
 item_given false _ given reply gives settled = gives
 
 -- the same calls are legal
@@ -55,7 +56,7 @@ legal_as s calls more is legal = subst (λ (es : List DatabaseEntry). IsLegalRow
 create_answered : (s : Rows) (kind : NewKey) (p : List (List ℕ)) (calls : List DatabaseEntry) (reply : CommandReply) → IsLegalRows s (calls_by 0 calls) → CreatesKey kind p calls reply → IsAnswered (create_at s kind p) calls reply
 create_answered s kind p calls reply legal does =
     let here = legal_as s calls (call.Create p kind does.0 ∷ []) does.1 legal in
-    let same : does.0 ≡ create_led s p kind = given_is does.0 (create_led s p kind) here.0.reply does.2 in
+    let same : does.0 ≡ create_led s p kind = given_is (makes_link kind || meets_link s p false) does.0 (create_led s p kind) here.0.reply does.2 in
     (does.1 ∙ ap (λ (got : Result ℕ OdbRefusal). call.Create p kind got ∷ []) same, does.3 ∙ ap done_or same)
 
 item_answered : (s : Rows) (p : List (List ℕ)) (index : ℕ) (item : Result Item CommandRefusal) (calls : List DatabaseEntry) (reply : CommandReply) → IsLegalRows s (calls_by 0 calls) → SetsItem p index item calls reply
@@ -74,7 +75,7 @@ set_in_answered s p index text (Ok v) calls reply legal does = item_answered s p
 set_answered : (s : Rows) (index : ℕ) (text : List ℕ) (p : List (List ℕ)) (calls : List DatabaseEntry) (reply : CommandReply) → IsLegalRows s (calls_by 0 calls) → Sets index text p calls reply → IsAnswered (set_at s index text p) calls reply
 set_answered s index text p calls reply legal does =
     let here = legal_as s calls (call.Get p does.0 ∷ does.1) does.2 legal in
-    let same : does.0 ≡ get_led s p = given_is does.0 (get_led s p) here.0.reply does.3 in
+    let same : does.0 ≡ get_led s p = given_is (meets_link s p true) does.0 (get_led s p) here.0.reply does.3 in
     let rest : IsAnswered (set_in s p index text (get_led s p)) does.1 reply =
     subst (λ (got : Result HeldValue OdbRefusal). IsAnswered (set_in s p index text got) does.1 reply) same (set_in_answered s p index text does.0 does.1 reply here.1 does.4) in (
       does.2
@@ -113,7 +114,7 @@ get_in_answered s p index (Ok v) calls reply legal does = shown_answered s p ind
 get_answered : (s : Rows) (index : Option ℕ) (p : List (List ℕ)) (calls : List DatabaseEntry) (reply : CommandReply) → IsLegalRows s (calls_by 0 calls) → Gets index p calls reply → IsAnswered (get_at s index p) calls reply
 get_answered s index p calls reply legal does =
     let here = legal_as s calls (call.Get p does.0 ∷ does.1) does.2 legal in
-    let same : does.0 ≡ get_led s p = given_is does.0 (get_led s p) here.0.reply does.3 in
+    let same : does.0 ≡ get_led s p = given_is (meets_link s p true) does.0 (get_led s p) here.0.reply does.3 in
     let rest : IsAnswered (get_in s p index (get_led s p)) does.1 reply =
     subst (λ (got : Result HeldValue OdbRefusal). IsAnswered (get_in s p index got) does.1 reply) same (get_in_answered s p index does.0 does.1 reply here.1 does.4) in (
       does.2
@@ -125,7 +126,7 @@ get_answered s index p calls reply legal does =
 list_answered : (s : Rows) (p : List (List ℕ)) (calls : List DatabaseEntry) (reply : CommandReply) → IsLegalRows s (calls_by 0 calls) → Lists p calls reply → IsAnswered (list_at s p) calls reply
 list_answered s p calls reply legal does =
     let here = legal_as s calls (call.ListDir p does.0 ∷ []) does.1 legal in
-    let same : does.0 ≡ list_led s p = given_is does.0 (list_led s p) here.0.reply does.2 in
+    let same : does.0 ≡ list_led s p = given_is (meets_link s p true) does.0 (list_led s p) here.0.reply does.2 in
     (does.1 ∙ ap (λ (got : Result (List Child) OdbRefusal). call.ListDir p got ∷ []) same, does.3 ∙ ap listed_or same)
 
 remove_answered : (s : Rows) (p : List (List ℕ)) (b : Bool) (calls : List DatabaseEntry) (reply : CommandReply) → IsLegalRows s (calls_by 0 calls) → RemovesIf b p calls reply

@@ -4,14 +4,14 @@ use Rattle.std.specs.Option.{option_or}
 use Rattle.std.specs.List.{AllByRecursion}
 use Rattle.std.specs.Str.Lines.{lines}
 use Rattle.odb_value.specs.Values.{HeldValue}
-use Rattle.odb_value.specs.LinkValues.{IsValueOrLink}
+use Rattle.odb_value.specs.LinkValues.{IsValueOrLink, is_link_type}
 use Rattle.odb_tree.specs.declared.refusals.OdbRefusal.{OdbRefusal}
 use Rattle.odb_tree.specs.declared.rows.NewKey.TheVariants.{Dir}
 use Rattle.odb_tree.specs.declared.entry.DatabaseEntry.{DatabaseEntry}
 use Rattle.odb_tree.specs.declared.entry.DatabaseEntry.TheVariants.{Create}
 use Rattle.odb_tree.specs.Rows.{Rows, row_at}
 use Rattle.odb_tree.specs.Links.{resolved, through}
-use Rattle.odb_tree.specs.Calls.{Gives, reply_or, create_fault, create_reply, number_at, put_fault, put_reply, after_put}
+use Rattle.odb_tree.specs.Calls.{GivesTaking, reply_or, create_fault, create_reply, number_at, put_fault, put_reply, after_put}
 use Rattle.odb_tree.specs.Making.{new_number}
 use Rattle.odb_tree.specs.Databases.{IsHeld}
 use Rattle.odb_tree.specs.Noting.{Watched}
@@ -29,7 +29,7 @@ use Rattle.odb_commands.specs.WatchSpares.{SparesWatched, AllSpareWatched}
 -- What holds of calls on the rows alone, and of texts.
 pub record NumberLaws : Type 0 where
   pub calls : (s : Rows) (h : List (ℕ × DatabaseEntry)) → IsLegalRows s h → AllSpareRuninfo h → HasRunNumber s.rows → HasRunNumber (rows_replay s h).rows
-  pub put : (s : Rows) (p : List (List ℕ)) (v : HeldValue) (reply : Result ℕ OdbRefusal) → IsValueOrLink v → Gives reply (put_reply s p v) → HasRunNumber s.rows → HasRunNumber (after_put s p v reply).rows
+  pub put : (s : Rows) (p : List (List ℕ)) (v : HeldValue) (reply : Result ℕ OdbRefusal) → IsValueOrLink v → GivesTaking (is_link_type v.tid) reply (put_reply s p v) → HasRunNumber s.rows → HasRunNumber (after_put s p v reply).rows
   pub sound : (s after : Rows) (text : List (List ℕ)) (steps : List TextStep) → SpellsSteps s.links 1 [] text steps → run_steps steps s ≡ Ok after
       → AllByRecursion (λ (step : TextStep). IsSoundAct s.links step.act) steps
   pub links : (s : Rows) (act : Act) → (after_act s act).links ≡ s.links

@@ -1,5 +1,5 @@
 -- A call at the path after its links, as a call on the database below.
-use Rattle.std.proofs.Common.{◌≡◌, ◌≢◌, ℕ, zero, suc, ◌+◌, ◌-◌, Bool, true, false, cond, List, [], ◌∷◌, length, Option, Some, None, Result, Ok, Err, ◌⊎◌, inl, inr, refl, sym, ap, ◌∙◌, subst}
+use Rattle.std.proofs.Common.{◌≡◌, ◌≢◌, ℕ, zero, suc, ◌+◌, ◌-◌, Bool, true, false, cond, ◌||◌, List, [], ◌∷◌, length, Option, Some, None, Result, Ok, Err, ◌⊎◌, inl, inr, refl, sym, ap, ◌∙◌, subst}
 use Rattle.std.specs.Prelude.{All}
 use Rattle.daq_types.specs.declared.types.Tid.{Tid}
 use Rattle.daq_types.specs.declared.types.Tid.TheVariants as tid
@@ -20,11 +20,11 @@ use Rattle.odb_tree.specs.declared.entry.DatabaseEntry.{DatabaseEntry}
 use Rattle.odb_tree.specs.declared.entry.DatabaseEntry.TheVariants.{Create, Set, SetAll, Get, Find, ListDir, Resize}
 use Rattle.odb_tree.specs.Rows.{Rows, row_at}
 use Rattle.odb_tree.specs.Links.{resolved, meets_link, through, led_to}
-use Rattle.odb_tree.specs.Calls.{Gives, GivesIf, GivesItem, IsRowsReply, rows_after, rows_there, is_row_below, create_reply, set_reply, set_all_reply, get_reply, find_reply, list_reply, resize_reply, after_create, after_set, after_set_all, after_set_all_at, after_resize, new_value}
+use Rattle.odb_tree.specs.Calls.{Gives, GivesTaking, GivesIf, GivesItem, makes_link, IsRowsReply, rows_after, rows_there, is_row_below, create_reply, set_reply, set_all_reply, get_reply, find_reply, list_reply, resize_reply, after_create, after_set, after_set_all, after_set_all_at, after_resize, new_value}
 use Rattle.odb_tree.specs.Databases.{IsSoundCall, IsSoundKey}
 use Rattle.odb_tree.specs.Noting.{Change, with_note, noted_all, all_noted, changes_from, changes_for, changes_of}
 use Rattle.odb_tree.proofs.Noted.{none_noted}
-use Rattle.odb_tree.proofs.Led.{unlinked, unmet, after_unlinked}
+use Rattle.odb_tree.proofs.Led.{unlinked, unmet, after_unlinked, taking, tight}
 use Rattle.odb_tree.proofs.Sound.{database_after, links_after}
 use Rattle.odb_links.specs.declared.links.Link.{Link}
 use Rattle.odb_links.specs.Seen.{seen, LinksRise, IsRight, AreLinks}
@@ -74,17 +74,26 @@ still_links links s step h sound reply kept = record {
   right = kept.1;
 }
 
-pub gives_below : {X : Type 0} (given : Result X OdbRefusal) (s : Rows) (q : List (List ℕ)) (last : Bool) (reply : List (List ℕ) → Result X OdbRefusal) → s.links ≡ false → Gives given (through (resolved s q last) reply) → Gives given (reply q)
-gives_below given s q last reply plain h = subst (λ (r : Result (List (List ℕ)) OdbRefusal). Gives given (through r reply)) (unlinked s q last plain) h
+pub gives_below : {X : Type 0} (given : Result X OdbRefusal) (s : Rows) (q : List (List ℕ)) (last : Bool) (reply : List (List ℕ) → Result X OdbRefusal) → s.links ≡ false → GivesTaking (meets_link s q last) given (through (resolved s q last) reply) → Gives given (reply q)
+gives_below given s q last reply plain h =
+    tight given (reply q) (subst (λ (r : Result (List (List ℕ)) OdbRefusal). GivesTaking false given (through r reply)) (unlinked s q last plain)
+    (subst (λ (b : Bool). GivesTaking b given (through (resolved s q last) reply)) (unmet s q last plain) h))
 
-gives_here : {X : Type 0} (given : Result X OdbRefusal) (t : Rows) (p q : List (List ℕ)) (last : Bool) (reply : List (List ℕ) → Result X OdbRefusal) (below : Result X OdbRefusal) → resolved t p last ≡ Ok q → reply q ≡ below → Gives given below → Gives given (through (resolved t p last) reply)
-gives_here given t p q last reply below e same h =
-    subst (λ (r : Result (List (List ℕ)) OdbRefusal). Gives given (through r reply)) (sym e) (subst (λ (x : Result _ OdbRefusal). Gives given x) (sym same) h)
+create_below : (s : Rows) (q : List (List ℕ)) (kind : NewKey) (reply : Result ℕ OdbRefusal) → IsNoLink kind → s.links ≡ false → IsRowsReply s (Create q kind reply) → Gives reply (create_reply s q kind)
+create_below s q Dir reply no_link plain h = gives_below reply s q false (λ x. create_reply s x Dir) plain h
+create_below s q (Keys type len) reply no_link plain h = gives_below reply s q false (λ x. create_reply s x (Keys type len)) plain h
+create_below s q (new_link target) reply no_link plain h = absurd (no_link target refl)
+
+gives_here : {X : Type 0} (early : Bool) (given : Result X OdbRefusal) (t : Rows) (p q : List (List ℕ)) (last : Bool) (reply : List (List ℕ) → Result X OdbRefusal) (below : Result X OdbRefusal) → resolved t p last ≡ Ok q → reply q ≡ below → Gives given below → GivesTaking early given (through (resolved t p last) reply)
+gives_here early given t p q last reply below e same h =
+    taking early given (through (resolved t p last) reply)
+    (subst (λ (r : Result (List (List ℕ)) OdbRefusal). Gives given (through r reply)) (sym e) (subst (λ (x : Result _ OdbRefusal). Gives given x) (sym same) h))
 
 pub create_seen : (links : List Link) (s : Rows) (p q : List (List ℕ)) (kind : NewKey) (reply : Result ℕ OdbRefusal) → AreLinks links s → IsNoLink kind → IsPath q → resolved (seen links s) p false ≡ Ok q
     → IsRowsReply s (Create q kind reply) → IsSeenAs links s (Create q kind reply) (Create p kind reply)
 create_seen links s p q kind reply h plain path e given = record {
-  reply = gives_here reply (seen links s) p q false (λ x. create_reply (seen links s) x kind) (create_reply s q kind) e (create_same links s q kind h plain) (gives_below reply s q false (λ x. create_reply s x kind) h.plain given);
+  reply = gives_here (makes_link kind || meets_link (seen links s) p false) reply (seen links s) p q false (λ x. create_reply (seen links s) x kind) (create_reply s q kind) e (create_same links s q kind h plain)
+      (create_below s q kind reply plain h.plain given);
   links_kept = still_links links s (Create q kind reply) h (path, sound kind plain) given (kept reply);
   after = leaves kind reply;
   notes = noted kind plain;
@@ -119,7 +128,7 @@ item_below type given s q reply plain h =
 
 -- where no memory is wanting there, none is here
 item_more : (met : Bool) (type : Tid) (given reply : Result ℕ OdbRefusal) → GivesItem false type given reply → GivesItem met type given reply
-item_more met tid.Text given reply h = h
+item_more met tid.Text given reply h = taking met given reply (tight given reply h)
 item_more false _ given reply h = h
 item_more true _ (Ok n) reply h = sym h
 item_more true _ (Err why) reply h = λ memory. sym h
@@ -156,7 +165,7 @@ right_written links s q v (Some r) h free = (h.order, right_changed links s q (�
 pub set_all_seen : (links : List Link) (s : Rows) (p q : List (List ℕ)) (v : HeldValue) (reply : Result ℕ OdbRefusal) → AreLinks links s → IsPath q → IsValueOrLink v → resolved (seen links s) p true ≡ Ok q
     → IsRowsReply s (SetAll q v reply) → IsSeenAs links s (SetAll q v reply) (SetAll p v reply)
 set_all_seen links s p q v reply h path sound e given = record {
-  reply = gives_here reply (seen links s) p q true (λ x. set_all_reply (seen links s) x v) (set_all_reply s q v) e (set_all_same links s q v h.order free) (gives_below reply s q true (λ x. set_all_reply s x v) h.plain given);
+  reply = gives_here (meets_link (seen links s) p true) reply (seen links s) p q true (λ x. set_all_reply (seen links s) x v) (set_all_reply s q v) e (set_all_same links s q v h.order free) (gives_below reply s q true (λ x. set_all_reply s x v) h.plain given);
   links_kept = still_links links s (SetAll q v reply) h (path, sound) given (kept reply);
   after = leaves reply;
   notes = notes_seen links (rows_after (seen links s) (SetAll p v reply)) (rows_after s (SetAll q v reply)) (sym (leaves reply)) reply 0 (length v.items);
@@ -178,7 +187,7 @@ set_all_seen links s p q v reply h path sound e given = record {
 pub resize_seen : (links : List Link) (s : Rows) (p q : List (List ℕ)) (len : ℕ) (reply : Result ℕ OdbRefusal) → AreLinks links s → IsPath q → resolved (seen links s) p true ≡ Ok q
     → IsRowsReply s (Resize q len reply) → IsSeenAs links s (Resize q len reply) (Resize p len reply)
 resize_seen links s p q len reply h path e given = record {
-  reply = gives_here reply (seen links s) p q true (λ x. resize_reply (seen links s) x len) (resize_reply s q len) e (resize_same links s q len free) (gives_below reply s q true (λ x. resize_reply s x len) h.plain given);
+  reply = gives_here (meets_link (seen links s) p true) reply (seen links s) p q true (λ x. resize_reply (seen links s) x len) (resize_reply s q len) e (resize_same links s q len free) (gives_below reply s q true (λ x. resize_reply s x len) h.plain given);
   links_kept = still_links links s (Resize q len reply) h path given (kept reply);
   after = leaves reply;
   notes = notes_seen links (rows_after (seen links s) (Resize p len reply)) (rows_after s (Resize q len reply)) (sym (leaves reply)) reply (len - 1) 1;
@@ -201,12 +210,12 @@ resize_seen links s p q len reply h path e given = record {
 
 pub get_seen : (links : List Link) (s : Rows) (p q : List (List ℕ)) (reply : Result HeldValue OdbRefusal) → AreLinks links s → resolved (seen links s) p true ≡ Ok q → IsRowsReply s (Get q reply) → IsRowsReply (seen links s) (Get p reply)
 get_seen links s p q reply h e given =
-    gives_here reply (seen links s) p q true (get_reply (seen links s)) (get_reply s q) e (get_same links s q (free_after links s p q h e)) (gives_below reply s q true (get_reply s) h.plain given)
+    gives_here (meets_link (seen links s) p true) reply (seen links s) p q true (get_reply (seen links s)) (get_reply s q) e (get_same links s q (free_after links s p q h e)) (gives_below reply s q true (get_reply s) h.plain given)
 
 pub list_seen : (links : List Link) (s : Rows) (p q : List (List ℕ)) (reply : Result (List Child) OdbRefusal) → AreLinks links s → resolved (seen links s) p true ≡ Ok q → IsRowsReply s (ListDir q reply)
     → IsRowsReply (seen links s) (ListDir p reply)
 list_seen links s p q reply h e given =
-    gives_here reply (seen links s) p q true (list_reply (seen links s)) (list_reply s q) e (list_same links s q) (gives_below reply s q true (list_reply s) h.plain given)
+    gives_here (meets_link (seen links s) p true) reply (seen links s) p q true (list_reply (seen links s)) (list_reply s q) e (list_same links s q) (gives_below reply s q true (list_reply s) h.plain given)
 
 found_more : (met : Bool) (given reply : Result ℕ OdbRefusal) → given ≡ reply → GivesIf met given reply
 found_more false given reply h = h
@@ -225,12 +234,20 @@ find_seen links s p q reply h e given =
 
 -- calls whose path has no end
 
-pub no_end : {X : Type 0} (led : Result (List (List ℕ)) OdbRefusal) (reply : List (List ℕ) → Result X OdbRefusal) (why : OdbRefusal) → (why ≢ NoMemory → led ≡ Err why) → Gives (Err why) (through led reply)
-no_end led reply why h memory = ap (λ (r : Result (List (List ℕ)) OdbRefusal). through r reply) (h memory)
+pub no_end : {X : Type 0} (met : Bool) (led : Result (List (List ℕ)) OdbRefusal) (reply : List (List ℕ) → Result X OdbRefusal) (why : OdbRefusal) → (why ≢ NoMemory → led ≡ Err why) → (why ≡ NoMemory → met ≡ true)
+    → GivesTaking met (Err why) (through led reply)
+no_end true led reply why h memory = λ other. ap (λ (r : Result (List (List ℕ)) OdbRefusal). through r reply) (h other)
+no_end false led reply why h memory =
+    let due : through led reply ≡ Err why = ap (λ (r : Result (List (List ℕ)) OdbRefusal). through r reply) (h (λ e. let k : false ≡ true = memory e in absurd (cc))) in (λ _. due, λ _. due)
+
+-- a link that is met is so beside one that is made
+pub or_met : (made met : Bool) → met ≡ true → (made || met) ≡ true
+or_met true met h = refl
+or_met false met h = h
 
 no_end_told : {X : Type 0} (met : Bool) (led : Result (List (List ℕ)) OdbRefusal) (reply : List (List ℕ) → Result X OdbRefusal) (why : OdbRefusal) → (why ≢ NoMemory → led ≡ Err why) → (why ≡ NoMemory → met ≡ true)
     → GivesIf met (Err why) (through led reply)
-no_end_told true led reply why h memory = no_end led reply why h
+no_end_told true led reply why h memory = no_end true led reply why h memory
 no_end_told false led reply why h memory = sym (ap (λ (r : Result (List (List ℕ)) OdbRefusal). through r reply) (h (λ e. let k : false ≡ true = memory e in absurd (cc))))
 
 pub no_end_found : (met : Bool) (led : Result (List (List ℕ)) OdbRefusal) (reply : List (List ℕ) → Result ℕ OdbRefusal) (why : OdbRefusal) → (why ≢ NoMemory → led ≡ Err why) → (why ≡ NoMemory → met ≡ true)
@@ -239,7 +256,7 @@ no_end_found met led reply why h memory = no_end_told met led reply why h memory
 
 pub no_end_set : (met : Bool) (type : Tid) (led : Result (List (List ℕ)) OdbRefusal) (reply : List (List ℕ) → Result ℕ OdbRefusal) (why : OdbRefusal) → (why ≢ NoMemory → led ≡ Err why) → (why ≡ NoMemory → met ≡ true)
     → GivesItem met type (Err why) (through led reply)
-no_end_set met tid.Text led reply why h memory = no_end led reply why h
+no_end_set met tid.Text led reply why h memory = no_end met led reply why h memory
 no_end_set met _ led reply why h memory = no_end_told met led reply why h memory
 
 -- a refusal notes nothing
@@ -263,11 +280,11 @@ pub record IsLinkMade (t : Rows) (p q target : List (List ℕ)) (kind : NewKey) 
   pub after : rows_there t (Create q (new_link target) reply) ≡ rows_after t (Create p kind reply)
   pub notes : (ws : List (Option Watch)) → all_noted (changes_for (rows_there t (Create q (new_link target) reply)) reply 0 1) ws ≡ all_noted (changes_of t (Create p kind reply)) ws
 
-pub link_made : (t : Rows) (p q target : List (List ℕ)) (kind : NewKey) (reply : Result ℕ OdbRefusal) → resolved t p false ≡ Ok q → kind ≡ new_link target → Gives reply (create_reply t q (new_link target))
+pub link_made : (t : Rows) (p q target : List (List ℕ)) (kind : NewKey) (reply : Result ℕ OdbRefusal) → resolved t p false ≡ Ok q → kind ≡ new_link target → GivesTaking true reply (create_reply t q (new_link target))
     → IsLinkMade t p q target kind reply
 link_made t p q target kind reply e is given =
     subst (λ (k : NewKey). IsLinkMade t p q target k reply) (sym is) (record {
-      reply_is = gives_here reply t p q false (λ x. create_reply t x (new_link target)) (create_reply t q (new_link target)) e refl given;
+      reply_is = subst (λ (r : Result (List (List ℕ)) OdbRefusal). GivesTaking true reply (through r (λ x. create_reply t x (new_link target)))) (sym e) given;
       after = left reply;
       notes = λ ws. ap (λ (x : Rows). all_noted (changes_for x reply 0 1) ws) (left reply);
     })

@@ -36,13 +36,13 @@ use Rattle.odb_tree.specs.Limits.{rows_limit, limit_fault}
 use Rattle.odb_tree.specs.Lookups.{parent_of, obstacle_at, obstacle_from, obstacle_to_new, found_row, key_of, key_or_refusal, seek, seek_key}
 use Rattle.odb_tree.specs.Making.{new_number, created}
 use Rattle.odb_tree.specs.Links.{target_of_items, path_or_root, is_link_value}
-use Rattle.odb_tree.specs.Calls.{Gives, rows_there, reply_or, exists_fault, items_fault, create_reply, after_create, value_fault, directory_fault, link_fault, replace_fault, there_fault, own_fault, number_at, after_set_all_at, after_set_all, put_reply, after_put, value_reply, get_reply, raw_reply}
+use Rattle.odb_tree.specs.Calls.{Gives, GivesTaking, rows_there, reply_or, exists_fault, items_fault, create_reply, after_create, value_fault, directory_fault, link_fault, replace_fault, there_fault, own_fault, number_at, after_set_all_at, after_set_all, put_reply, after_put, value_reply, get_reply, raw_reply}
 use Rattle.odb_tree.specs.Noting.{all_noted, changes_for, changes_of_put}
 use Rattle.odb_tree.proofs.EachRow.{row_has}
 use Rattle.odb_tree.proofs.Noted.{none_noted}
 use Rattle.odb_tree.proofs.Limited.{new_counts}
 use Rattle.odb_tree.specs.Trees.{IsTree}
-use Rattle.odb_tree.proofs.Led.{no_link_row, value_no_link}
+use Rattle.odb_tree.proofs.Led.{no_link_row, value_no_link, tight}
 use Rattle.odb_tree.proofs.Sound.{database_put}
 use Rattle.odb_links.specs.declared.links.Link.{Link}
 use Rattle.odb_links.specs.Seen.{link_numbered, is_linked, typed, as_seen, seen, IsRight, AreLinks}
@@ -305,14 +305,17 @@ pub record IsPut (links : List Link) (s : Rows) (p : List (List ℕ)) (v : HeldV
   pub after : seen links (after_put s p v reply) ≡ after_put (seen links s) p v reply
   pub notes : (ws : List (Option Watch)) → all_noted (changes_of_put s p v reply) ws ≡ all_noted (changes_of_put (seen links s) p v reply) ws
 
-pub plain_put : (links : List Link) (s : Rows) (p : List (List ℕ)) (v : HeldValue) (reply : Result ℕ OdbRefusal) → AreLinks links s → IsFree links s p → IsValue v → IsPath p → Gives reply (put_reply s p v) → IsPut links s p v reply
+pub plain_put : (links : List Link) (s : Rows) (p : List (List ℕ)) (v : HeldValue) (reply : Result ℕ OdbRefusal) → AreLinks links s → IsFree links s p → IsValue v → IsPath p → GivesTaking (is_link_type v.tid) reply (put_reply s p v) → IsPut links s p v reply
 plain_put links s p v reply h free value path given = record {
-  reply_is = subst (Gives reply) (sym (plain_same links s p v h free value)) given;
-  links_kept = kept reply given;
+  reply_is = subst (Gives reply) (sym (plain_same links s p v h free value)) strict;
+  links_kept = kept reply strict;
   after = leaves reply;
   notes = notes_seen links (after_put (seen links s) p v reply) (after_put s p v reply) (sym (leaves reply)) reply 0 (length v.items);
 }
   where
+    strict : Gives reply (put_reply s p v)
+    strict = tight reply (put_reply s p v) (subst (λ (b : Bool). GivesTaking b reply (put_reply s p v)) (value_no_link v value) given)
+
     leaves : (reply : Result ℕ OdbRefusal) → seen links (after_put s p v reply) ≡ after_put (seen links s) p v reply
     leaves (Ok n) = sym (set_all_leaves links s p v h.order free)
     leaves (Err why) = refl
@@ -348,6 +351,26 @@ raw_refused links s (name ∷ names) why e =
     of_row false r k = k
 
     at : (r : Result Row OdbRefusal) → value_reply (key_or_refusal r) ≡ Err why → value_reply (key_or_refusal (sought (as_seen links) r)) ≡ Err why
+    at (Err x) k = k
+    at (Ok r) k = of_row (is_linked links r.number) r k
+
+-- where one is read below, one is read
+pub raw_err : (links : List Link) (s : Rows) (p : List (List ℕ)) → IsErr (raw_reply (seen links s) p) → IsErr (get_reply s p)
+raw_err links s [] e = e
+raw_err links s (name ∷ names) e =
+    at (seek s.rows (name ∷ names)) (subst (λ (r : Result Row OdbRefusal). IsErr (value_reply (key_or_refusal r))) (seek_mapped (as_seen links) (seen_retypes links) s.rows (name ∷ names)) e)
+  where
+    of_value : (t : Bool) (n m : ℕ) (o : Option HeldValue) → IsErr (value_reply (key_of m (cond t (option_map (typed tid.Link) o) o))) → IsErr (value_reply (key_of n o))
+    of_value true n m None k = k
+    of_value false n m None k = k
+    of_value true n m (Some v) k = k
+    of_value false n m (Some v) k = k
+
+    of_row : (t : Bool) (r : Row) → (let x : Row = cond t (change_row (typed tid.Link) r) r in IsErr (value_reply (key_of x.number x.value))) → IsErr (value_reply (key_of r.number r.value))
+    of_row true r k = of_value true r.number r.number r.value k
+    of_row false r k = k
+
+    at : (r : Result Row OdbRefusal) → IsErr (value_reply (key_or_refusal (sought (as_seen links) r))) → IsErr (value_reply (key_or_refusal r))
     at (Err x) k = k
     at (Ok r) k = of_row (is_linked links r.number) r k
 

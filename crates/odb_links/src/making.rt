@@ -1,15 +1,15 @@
-ghost use Rattle.std.specs.Prelude.{◌≡◌, ◌<◌, ◌≤◌, ℕ, List, false, length, Ok, IfOk, IsOk, IsErr};
+ghost use Rattle.std.specs.Prelude.{◌≡◌, ◌<◌, ◌≤◌, ℕ, List, false, true, length, Ok, IfOk, IsOk, IsErr};
 ghost use Rattle.std.specs.Option.{option_copied};
 ghost use Rattle.daq_types.specs.declared.types.Tid.TheVariants as tid;
 ghost use Rattle.odb_value.specs.Paths.{IsPath};
 ghost use Rattle.odb_value.specs.PathText.{path_text, path_reply};
 ghost use Rattle.odb_value.specs.ItemTexts.{text_limit};
 ghost use Rattle.odb_value.specs.Values.{IsValue};
-ghost use Rattle.odb_value.specs.LinkValues.{IsLink, IsValueOrLink};
+ghost use Rattle.odb_value.specs.LinkValues.{IsLink, IsValueOrLink, is_link_type};
 ghost use Rattle.odb_tree.specs.declared.rows.NewKey.TheVariants.{Link as new_link};
 ghost use Rattle.odb_tree.specs.declared.entry.DatabaseEntry.TheVariants.{Create};
 ghost use Rattle.odb_tree.specs.Links.{target_of_items};
-ghost use Rattle.odb_tree.specs.Calls.{Gives, create_reply, rows_there, raw_reply, put_reply, after_put};
+ghost use Rattle.odb_tree.specs.Calls.{Gives, GivesTaking, create_reply, rows_there, raw_reply, put_reply, after_put};
 ghost use Rattle.odb_tree.specs.Noting.{changes_for, changes_of_put, all_noted};
 ghost use Rattle.odb_links.specs.Seen.{AreLinks, seen, typed};
 ghost use Rattle.odb_links.specs.declared.links.Link.{Link};
@@ -86,8 +86,8 @@ fn keep_link<D: Database>(
     requires text { text.now.tid ≡ tid.Text }
     requires link { IsLink (typed tid.Link text.now) }
     requires goes { target_of_items text.now.items ≡ target }
-    ensures reply { Gives result (put_reply (seen links.old.items (D.rows tree.old)) path.now
-        (typed tid.Link text.now)) }
+    ensures reply { GivesTaking true result (put_reply (seen links.old.items (D.rows tree.old))
+        path.now (typed tid.Link text.now)) }
     ensures links { AreLinks links.new.items (D.rows tree.new) }
     ensures after { seen links.new.items (D.rows tree.new) ≡ after_put
         (seen links.old.items (D.rows tree.old)) path.now (typed tid.Link text.now) result }
@@ -144,7 +144,8 @@ fn refuse_long<D: Database>(tree: &mut D, alloc: Global, path: &Path) -> Result<
     requires { (D.rows tree.old).links ≡ false }
     ensures reply { (links : List Link) (target : List (List ℕ)) → AreLinks links (D.rows tree.old)
         → text_limit < length (path_text target)
-        → Gives result (create_reply (seen links (D.rows tree.old)) path.now (new_link target)) }
+        → GivesTaking true result (create_reply (seen links (D.rows tree.old)) path.now
+        (new_link target)) }
     ensures refused { IsErr result }
     ensures rows { D.rows tree.new ≡ D.rows tree.old }
     ensures watches { D.watches tree.new ≡ D.watches tree.old }
@@ -168,8 +169,8 @@ pub fn make_link<D: Database>(
     target: &Path,
 ) -> Result<u32, OdbRefusal>
     requires { AreLinks links.old.items (D.rows tree.old) }
-    ensures reply { Gives result (create_reply (seen links.old.items (D.rows tree.old)) path.now
-        (new_link target.now)) }
+    ensures reply { GivesTaking true result (create_reply (seen links.old.items (D.rows tree.old))
+        path.now (new_link target.now)) }
     ensures links { AreLinks links.new.items (D.rows tree.new) }
     ensures after { seen links.new.items (D.rows tree.new) ≡ rows_there
         (seen links.old.items (D.rows tree.old)) (Create path.now (new_link target.now) result) }
@@ -221,8 +222,8 @@ fn put_link<D: Database>(
 ) -> Result<u32, OdbRefusal>
     requires links { AreLinks links.old.items (D.rows tree.old) }
     requires link { IsLink value.now }
-    ensures reply { Gives result (put_reply (seen links.old.items (D.rows tree.old)) path.now
-        value.now) }
+    ensures reply { GivesTaking true result (put_reply (seen links.old.items (D.rows tree.old))
+        path.now value.now) }
     ensures links { AreLinks links.new.items (D.rows tree.new) }
     ensures after { seen links.new.items (D.rows tree.new) ≡ after_put
         (seen links.old.items (D.rows tree.old)) path.now value.now result }
@@ -278,8 +279,8 @@ pub fn put_value<D: Database>(
     value: &Value,
 ) -> Result<u32, OdbRefusal>
     requires { AreLinks links.old.items (D.rows tree.old) }
-    ensures reply { Gives result (put_reply (seen links.old.items (D.rows tree.old)) path.now
-        value.now) }
+    ensures reply { GivesTaking (is_link_type value.now.tid) result
+        (put_reply (seen links.old.items (D.rows tree.old)) path.now value.now) }
     ensures links { AreLinks links.new.items (D.rows tree.new) }
     ensures after { seen links.new.items (D.rows tree.new) ≡ after_put
         (seen links.old.items (D.rows tree.old)) path.now value.now result }

@@ -15,7 +15,7 @@ use Rattle.odb_value.specs.declared.items.Item.{Item}
 use Rattle.odb_value.specs.declared.items.Item.TheVariants.{Int32}
 use Rattle.odb_value.specs.Items.{tid_of, is_kept, IsItem}
 use Rattle.odb_value.specs.Values.{HeldValue}
-use Rattle.odb_value.specs.LinkValues.{IsValueOrLink}
+use Rattle.odb_value.specs.LinkValues.{IsValueOrLink, is_link_type}
 use Rattle.odb_value.proofs.LinksKept.{value_of_kept}
 use Rattle.odb_value.specs.ValueChanges.{default_item, put_in, resized}
 use Rattle.odb_tree.specs.declared.rows.Row.{Row}
@@ -25,7 +25,7 @@ use Rattle.odb_tree.specs.declared.entry.DatabaseEntry.TheVariants.{Create, Set,
 use Rattle.odb_tree.specs.Rows.{Rows, row_at, change_row, change_at, rows_outside}
 use Rattle.odb_tree.specs.Lookups.{obstacle_to_new, seek_key}
 use Rattle.odb_tree.specs.Limits.{len_fault, limit_fault}
-use Rattle.odb_tree.specs.Calls.{after_create, after_set, after_set_all, resize_reply, IsRowsReply, after_resize, after_set_all_at, get_reply, number_at, replace_fault, resize_reply_to, rows_after, set_all_fault, set_all_reply, set_fault, set_reply, set_reply_to, there_fault, tid_fault, value_fault, Gives, link_fault, put_fault, put_reply, after_put}
+use Rattle.odb_tree.specs.Calls.{after_create, after_set, after_set_all, resize_reply, IsRowsReply, after_resize, after_set_all_at, get_reply, number_at, replace_fault, resize_reply_to, rows_after, set_all_fault, set_all_reply, set_fault, set_reply, set_reply_to, there_fault, tid_fault, value_fault, GivesTaking, link_fault, put_fault, put_reply, after_put}
 use Rattle.odb_tree.specs.Changes.{IsKeyAt}
 use Rattle.odb_tree.specs.Histories.{IsLegalRows, rows_replay}
 use Rattle.odb_tree.specs.Databases.{IsSoundCall}
@@ -239,7 +239,7 @@ replaced : (s : Rows) (q : List (List ℕ)) (v : HeldValue) (o : Option Row) →
 replaced s q v None same held has = appended s.rows _ has
 replaced s q v (Some r) same held has = changed s.rows q (λ _. v) (λ w at. value_number v w held (same w at)) has
 
-pub number_put : (s : Rows) (p : List (List ℕ)) (v : HeldValue) (reply : Result ℕ OdbRefusal) → IsValueOrLink v → Gives reply (put_reply s p v) → HasRunNumber s.rows → HasRunNumber (after_put s p v reply).rows
+pub number_put : (s : Rows) (p : List (List ℕ)) (v : HeldValue) (reply : Result ℕ OdbRefusal) → IsValueOrLink v → GivesTaking (is_link_type v.tid) reply (put_reply s p v) → HasRunNumber s.rows → HasRunNumber (after_put s p v reply).rows
 number_put s p v (Ok n) held gives has = replaced s p v (row_at s.rows p) same held has
   where
     same : (w : HeldValue) → IsKeyAt s.rows p w → v.tid ≡ w.tid

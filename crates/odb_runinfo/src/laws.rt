@@ -8,9 +8,9 @@ ghost use Rattle.odb_watch.specs.DatabasePorts.{calls_by};
 ghost use Rattle.odb_tree.specs.declared.rows.Row.{Row};
 ghost use Rattle.odb_tree.specs.Rows.{Rows};
 ghost use Rattle.odb_tree.specs.Histories.{IsLegalRows, rows_replay};
-ghost use Rattle.odb_value.specs.LinkValues.{IsValueOrLink};
+ghost use Rattle.odb_value.specs.LinkValues.{IsValueOrLink, is_link_type};
 ghost use Rattle.odb_tree.specs.Links.{is_link, resolved, through};
-ghost use Rattle.odb_tree.specs.Calls.{Gives, get_reply, put_reply, after_put};
+ghost use Rattle.odb_tree.specs.Calls.{GivesTaking, get_reply, put_reply, after_put};
 ghost use Rattle.odb_runinfo.specs.declared.keys.RunKey.TheVariants.{RunNumber};
 ghost use Rattle.odb_runinfo.specs.RunKeys.{key_path, opened_rows};
 ghost use Rattle.odb_runinfo.specs.RunNumberKept.{AllSpareRuninfo, HasRunNumber, SparesRuninfo};
@@ -22,8 +22,8 @@ pub fn run_number_stays()
     ensures calls { (s : Rows) (h : List (ℕ × DatabaseEntry)) → IsLegalRows s h → AllSpareRuninfo h
         → HasRunNumber s.rows → HasRunNumber (rows_replay s h).rows }
     ensures put { (s : Rows) (p : List (List ℕ)) (v : HeldValue) (reply : Result ℕ OdbRefusal)
-        → IsValueOrLink v → Gives reply (put_reply s p v) → HasRunNumber s.rows
-        → HasRunNumber (after_put s p v reply).rows }
+        → IsValueOrLink v → GivesTaking (is_link_type v.tid) reply (put_reply s p v)
+        → HasRunNumber s.rows → HasRunNumber (after_put s p v reply).rows }
 {}
 
 /// A session opens with the run number.

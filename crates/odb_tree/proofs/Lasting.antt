@@ -18,7 +18,7 @@ use Rattle.odb_tree.specs.Calls.{reply_or, type_fault, index_fault, set_fault, s
 use Rattle.odb_tree.proofs.Led.{resolved_unmet}
 use Rattle.odb_tree.specs.Lookups.{obstacle_at, obstacle_from, obstacle_to, parent_of, found_row, seek, key_of, key_or_refusal, seek_key, not_there, absent_fault}
 
-at_key : (t : Bool) → cond t (Some NotDir) None ≡ Some NoMemory → ⊥
+pub at_key : (t : Bool) → cond t (Some NotDir) None ≡ Some NoMemory → ⊥
 at_key true h = cc
 at_key false h = cc
 
@@ -26,7 +26,7 @@ at_row : (o : Option Row) → obstacle_at (Some NoKey) o ≡ Some NoMemory → �
 at_row None h = cc
 at_row (Some r) h = at_key (is_key r) h
 
-either : (a b : Option OdbRefusal) → (a ≡ Some NoMemory → ⊥) → (b ≡ Some NoMemory → ⊥) → option_or a b ≡ Some NoMemory → ⊥
+pub either : (a b : Option OdbRefusal) → (a ≡ Some NoMemory → ⊥) → (b ≡ Some NoMemory → ⊥) → option_or a b ≡ Some NoMemory → ⊥
 either None b h k e = k e
 either (Some x) b h k e = h e
 
@@ -73,11 +73,11 @@ refusal_is reply x is e = cc
 
 -- An item that is written is not refused so either, nor a path that is found.
 
-unless : (t : Bool) (x : OdbRefusal) → (x ≡ NoMemory → ⊥) → cond t None (Some x) ≡ Some NoMemory → ⊥
+pub unless : (t : Bool) (x : OdbRefusal) → (x ≡ NoMemory → ⊥) → cond t None (Some x) ≡ Some NoMemory → ⊥
 unless true x h e = cc
 unless false x h e = let same : x ≡ NoMemory = cc in h same
 
-of_limit : (o : Option What) → option_map Limit o ≡ Some NoMemory → ⊥
+pub of_limit : (o : Option What) → option_map Limit o ≡ Some NoMemory → ⊥
 of_limit None e = cc
 of_limit (Some what) e = cc
 
@@ -86,11 +86,11 @@ set_faults s p index item v =
     either (type_fault v.tid (tid_of item)) _ (unless (eqb (tid_code v.tid) (tid_code (tid_of item))) (TypeMismatch v.tid) (λ e. cc))
     (either (index_fault (length v.items) index) _ (unless (ltb index (length v.items)) (BadIndex (length v.items)) (λ e. cc)) (of_limit _))
 
-of_fault : (o : Option OdbRefusal) (number : ℕ) → (o ≡ Some NoMemory → ⊥) → reply_or o number ≡ Err NoMemory → ⊥
+pub of_fault : (o : Option OdbRefusal) (number : ℕ) → (o ≡ Some NoMemory → ⊥) → reply_or o number ≡ Err NoMemory → ⊥
 of_fault None number h e = cc
 of_fault (Some x) number h e = let same : Some x ≡ Some NoMemory = cc in h same
 
-set_lasts : (s : Rows) (p : List (List ℕ)) (index : ℕ) (item : Item) → set_reply s p index item ≡ Err NoMemory → ⊥
+pub set_lasts : (s : Rows) (p : List (List ℕ)) (index : ℕ) (item : Item) → set_reply s p index item ≡ Err NoMemory → ⊥
 set_lasts s p index item e = from (seek_key s.rows p) (sought_key s.rows p) e
   where
     from : (r : Result (ℕ × HeldValue) OdbRefusal) → (r ≡ Err NoMemory → ⊥) → set_reply_to s p index item r ≡ Err NoMemory → ⊥

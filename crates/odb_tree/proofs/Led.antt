@@ -1,6 +1,6 @@
 -- The path of a call after its links, and the call as a step at that path.
 use Rattle.std.proofs.Common.{◌≡◌, ◌≢◌, ℕ, zero, suc, ◌+◌, ◌≤◌, ltb, Bool, true, false, cond, ◌&&◌, ◌||◌, List, [], ◌∷◌, ◌++◌, length, Option, Some, None, Result, Ok, Err, ◌⊎◌, inl, inr, refl, sym, ap, ◌∙◌, subst, arith, append_assoc, length-append}
-use Rattle.std.specs.Prelude.{All, IfSome, IsTrue}
+use Rattle.std.specs.Prelude.{All, IfSome, IsTrue, IsErr}
 use Rattle.std.specs.Option.{option_or, is_some}
 use Rattle.std.proofs.lemmas.Bool.Decides.{nat_tests}
 use Rattle.std.proofs.lemmas.List.Elements.{All-tail, All-append}
@@ -13,7 +13,7 @@ use Rattle.odb_value.specs.Values.{HeldValue, IsValue}
 use Rattle.odb_value.proofs.ValueKept.{is_kept-value}
 use Rattle.odb_tree.specs.declared.rows.Row.{Row}
 use Rattle.odb_tree.specs.declared.refusals.OdbRefusal.{OdbRefusal}
-use Rattle.odb_tree.specs.declared.refusals.OdbRefusal.TheVariants.{BadLink}
+use Rattle.odb_tree.specs.declared.refusals.OdbRefusal.TheVariants.{BadLink, NoMemory}
 use Rattle.odb_tree.specs.declared.entry.DatabaseEntry.{DatabaseEntry}
 use Rattle.odb_tree.specs.declared.entry.DatabaseEntry.TheVariants.{Create, Set, SetAll, Get, Find, ListDir, Delete, Resize, PathOf}
 use Rattle.odb_tree.specs.Rows.{Rows, row_at}
@@ -22,7 +22,7 @@ use Rattle.odb_tree.specs.Changes.{RowCanResize}
 use Rattle.odb_tree.specs.Links.{is_link, is_link_value, target_of, target_of_value, target_of_items, path_or_root, Met, has_names, met_at, first_link, follow, lead, links_limit, resolved, meets_link, through, led_to}
 use Rattle.odb_tree.specs.Lookups.{obstacle_to_new}
 use Rattle.odb_tree.specs.Limits.{limit_fault}
-use Rattle.odb_tree.specs.Calls.{reply_or, value_fault, link_fault, there_fault, own_fault, number_at, put_reply, Gives, GivesIf, GivesItem, IsReplyThere, rows_there, IsRowsReply, rows_after, after_create, after_set, after_set_all, after_resize, create_reply, set_reply, set_all_reply, get_reply, find_reply, list_reply, resize_reply}
+use Rattle.odb_tree.specs.Calls.{reply_or, value_fault, link_fault, there_fault, own_fault, number_at, put_reply, makes_link, Gives, GivesTaking, GivesIf, GivesItem, IsReplyThere, rows_there, IsRowsReply, rows_after, after_create, after_set, after_set_all, after_resize, create_reply, set_reply, set_all_reply, get_reply, find_reply, list_reply, resize_reply}
 use Rattle.odb_tree.specs.Databases.{IsHeld, IsRow, IsSoundCall}
 use Rattle.odb_tree.proofs.EachRow.{row_has}
 
@@ -342,25 +342,49 @@ unlinked s p last none = ap (λ (b : Bool). cond b (lead links_limit s.rows last
 pub unmet : (s : Rows) (p : List (List ℕ)) (last : Bool) → s.links ≡ false → meets_link s p last ≡ false
 unmet s p last none = ap (λ (b : Bool). b && is_some (first_link s.rows last [] p)) none
 
-gives_at : {X : Type 0} (given : Result X OdbRefusal) (s : Rows) (p : List (List ℕ)) (last : Bool) (reply : List (List ℕ) → Result X OdbRefusal) → s.links ≡ false → Gives given (reply p)
-    → Gives given (through (resolved s p last) reply)
-gives_at given s p last reply none h =
-    subst (λ (r : Result (List (List ℕ)) OdbRefusal). Gives given (through r reply)) (sym (unlinked s p last none)) h
+-- what excuses no refusal is a reply also where memory is taken early
+pub taking : {X : Type 0} (early : Bool) (given due : Result X OdbRefusal) → Gives given due → GivesTaking early given due
+taking early (Ok x) due h = h
+taking true (Err why) due h = h.0
+taking false (Err why) due h = h
+
+-- where none is taken early, nor is it the other way
+pub tight : {X : Type 0} (given due : Result X OdbRefusal) → GivesTaking false given due → Gives given due
+tight (Ok x) due h = h
+tight (Err why) due h = h
+
+-- a refusal but for want of memory is the one that is due
+pub told_due : {X : Type 0} (early : Bool) (why : OdbRefusal) (due : Result X OdbRefusal) → GivesTaking early (Err why) due → why ≢ NoMemory → due ≡ Err why
+told_due true why due h = h
+told_due false why due h = h.0
+
+-- memory is wanting behind a call that was accepted
+pub lacking : {X : Type 0} (early : Bool) (why : OdbRefusal) (x : X) (due : Result X OdbRefusal) → why ≡ NoMemory → due ≡ Ok x → GivesTaking early (Err why) due
+lacking {X} true why x due none is = λ other. absurd (other none)
+lacking {X} false why x due none is = (
+  λ other. absurd (other none),
+  λ err. (let k : false ≡ true = subst (λ (r : Result X OdbRefusal). IsErr r) is err in absurd (cc)),
+)
+
+gives_at : {X : Type 0} (given : Result X OdbRefusal) (s : Rows) (p : List (List ℕ)) (last early : Bool) (reply : List (List ℕ) → Result X OdbRefusal) → s.links ≡ false → Gives given (reply p)
+    → GivesTaking early given (through (resolved s p last) reply)
+gives_at given s p last early reply none h =
+    taking early given (through (resolved s p last) reply) (subst (λ (r : Result (List (List ℕ)) OdbRefusal). Gives given (through r reply)) (sym (unlinked s p last none)) h)
 
 -- there each call is the step at its path
 pub reply_unlinked : (s : Rows) (entry : DatabaseEntry) → s.links ≡ false → IsReplyThere s entry → IsRowsReply s entry
-reply_unlinked s (Create p kind reply) none h = gives_at reply s p false (λ q. create_reply s q kind) none h
+reply_unlinked s (Create p kind reply) none h = gives_at reply s p false (makes_link kind || meets_link s p false) (λ q. create_reply s q kind) none h
 reply_unlinked s (Set p index item reply) none h =
     subst (λ (b : Bool). GivesItem b (tid_of item) reply (through (resolved s p true) (λ q. set_reply s q index item))) (sym (unmet s p true none))
     (subst (λ (r : Result (List (List ℕ)) OdbRefusal). GivesItem false (tid_of item) reply (through r (λ q. set_reply s q index item))) (sym (unlinked s p true none)) h)
-reply_unlinked s (SetAll p v reply) none h = gives_at reply s p true (λ q. set_all_reply s q v) none h
-reply_unlinked s (Get p reply) none h = gives_at reply s p true (λ q. get_reply s q) none h
+reply_unlinked s (SetAll p v reply) none h = gives_at reply s p true (meets_link s p true) (λ q. set_all_reply s q v) none h
+reply_unlinked s (Get p reply) none h = gives_at reply s p true (meets_link s p true) (λ q. get_reply s q) none h
 reply_unlinked s (Find p reply) none h =
     subst (λ (b : Bool). GivesIf b reply (through (resolved s p true) (λ q. find_reply s q))) (sym (unmet s p true none))
     (subst (λ (r : Result (List (List ℕ)) OdbRefusal). reply ≡ through r (λ q. find_reply s q)) (sym (unlinked s p true none)) h)
-reply_unlinked s (ListDir p reply) none h = gives_at reply s p true (λ q. list_reply s q) none h
+reply_unlinked s (ListDir p reply) none h = gives_at reply s p true (meets_link s p true) (λ q. list_reply s q) none h
 reply_unlinked s (Delete p reply) none h = h
-reply_unlinked s (Resize p len reply) none h = gives_at reply s p true (λ q. resize_reply s q len) none h
+reply_unlinked s (Resize p len reply) none h = gives_at reply s p true (meets_link s p true) (λ q. resize_reply s q len) none h
 reply_unlinked s (PathOf row reply) none h = h
 
 led_at : (s : Rows) (p : List (List ℕ)) (last : Bool) (after : List (List ℕ) → Rows) → s.links ≡ false → led_to s (resolved s p last) after ≡ after p

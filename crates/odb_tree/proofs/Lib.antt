@@ -14,6 +14,7 @@ pub mod Short
 pub mod EachRow
 pub mod Sound
 pub mod Lasting
+pub mod Excused
 pub mod Listed
 pub mod WalkLaws
 pub mod Noted

@@ -33,7 +33,7 @@ use Rattle.odb_value.specs.LinkValues.{IsLink, IsValueOrLink, is_link_type, link
 use Rattle.odb_value.proofs.LinksKept.{value_of_kept}
 use Rattle.odb_tree.specs.Links.{is_link_value, first_link}
 use Rattle.odb_tree.specs.Trees.{AreNew, AreShort}
-use Rattle.odb_tree.specs.Calls.{Gives, GivesItem, IsReplyThere, rows_there, IsRowsReply, rows_after, tid_fault, value_fault, set_all_reply, put_fault, put_reply, after_put, resize_reply, reply_or, create_fault, exists_fault, kept_fault, items_fault, new_value, after_create, set_fault, set_reply, set_reply_to, after_set, set_all_fault, after_set_all, after_set_all_at, number_at, after_resize, resize_reply_to, count_gone}
+use Rattle.odb_tree.specs.Calls.{GivesTaking, GivesItem, IsReplyThere, rows_there, IsRowsReply, rows_after, tid_fault, value_fault, set_all_reply, put_fault, put_reply, after_put, resize_reply, reply_or, create_fault, exists_fault, kept_fault, items_fault, new_value, after_create, set_fault, set_reply, set_reply_to, after_set, set_all_fault, after_set_all, after_set_all_at, number_at, after_resize, resize_reply_to, count_gone}
 use Rattle.odb_tree.specs.Making.{new_number, created}
 use Rattle.odb_tree.specs.Histories.{IsLegalRows, rows_replay}
 use Rattle.odb_tree.specs.Databases.{IsHeld, IsRow, IsDatabase, IsSoundKey, IsSoundCall}
@@ -268,7 +268,7 @@ links_put s p v (Ok n) = same_links_at s p v (row_at s.rows p)
 links_put s p v (Err why) = refl
 
 -- an accepted `put` keeps a database
-pub database_put : (s : Rows) (p : List (List ℕ)) (v : HeldValue) (reply : Result ℕ OdbRefusal) → IsDatabase s → IsPath p → IsHeld s.links v → Gives reply (put_reply s p v) → IsDatabase (after_put s p v reply)
+pub database_put : (s : Rows) (p : List (List ℕ)) (v : HeldValue) (reply : Result ℕ OdbRefusal) → IsDatabase s → IsPath p → IsHeld s.links v → GivesTaking (is_link_type v.tid) reply (put_reply s p v) → IsDatabase (after_put s p v reply)
 database_put s p v (Err why) h path held reply = h
 database_put s p v (Ok n) h path held reply =
     let none : put_fault s p v ≡ None = ok_none (put_fault s p v) (number_at s p (row_at s.rows p)) n reply in
@@ -313,7 +313,7 @@ unlinked_key s p kind r unlinked is none =
 
 pub item_given : (type : Tid) (given reply : Result ℕ OdbRefusal) → reply ≡ given → GivesItem false type given reply
 item_given tid.Text (Ok n) reply h = h
-item_given tid.Text (Err refusal) reply h = λ _. h
+item_given tid.Text (Err refusal) reply h = (λ _. h, λ _. h)
 item_given _ given reply h = sym h
 
 pub set_replied : (s : Rows) (p : List (List ℕ)) (index : ℕ) (item : Item) (n : ℕ) (v : HeldValue) (r : Option OdbRefusal) → seek_key s.rows p ≡ Ok (n, v) → r ≡ set_fault s p index item v → r ≡ None

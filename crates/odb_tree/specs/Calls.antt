@@ -1,6 +1,6 @@
 -- The calls of the database: the reply of each, and the rows after it. First each at the path as it is, where no link is
 -- followed; then as they are, at the path after its links.
-use Rattle.std.specs.Prelude.{◌≡◌, ◌≢◌, ℕ, ◌-◌, ◌==◌, Bool, true, false, not, nat_lt, if◌then◌else◌, List, [], ◌∷◌, ◌++◌, length, map, slice_index_or, Option, Some, None, Result, Ok, Err}
+use Rattle.std.specs.Prelude.{◌≡◌, ◌≢◌, ℕ, ◌-◌, ◌==◌, ◌||◌, Bool, true, false, not, nat_lt, if◌then◌else◌, List, [], ◌∷◌, ◌++◌, length, map, slice_index_or, Option, Some, None, Result, Ok, Err, IsErr}
 use Rattle.std.specs.Option.{option_or, option_map, is_some}
 use Rattle.daq_types.specs.declared.types.Tid.{Tid}
 use Rattle.daq_types.specs.declared.types.Tid.TheVariants as tid
@@ -239,27 +239,39 @@ delete_reply s p = reply_or (absent_fault s.rows p) (count_gone s p)
 
 -- The calls.
 
--- the reply is this one, or memory was wanting
-abbrev pub Gives : {X : Type 0} → Result X OdbRefusal → Result X OdbRefusal → Type 0
-Gives (Ok x) reply = reply ≡ Ok x
-Gives (Err refusal) reply = refusal ≢ no_memory → reply ≡ Err refusal
+-- The reply is the one that is due, or memory was wanting. Want of memory excuses no refusal: one that is due is answered.
+abbrev pub Gives : {X : Type 0} → Result X OdbRefusal → (due : Result X OdbRefusal) → Type 0
+Gives (Ok x) due = due ≡ Ok x
+Gives (Err refusal) due = (refusal ≢ no_memory → due ≡ Err refusal) × (IsErr due → due ≡ Err refusal)
+
+-- The same, but with `early` memory is taken before the tests, so that it may be wanting where a refusal is due.
+abbrev pub GivesTaking : {X : Type 0} → (early : Bool) → Result X OdbRefusal → (due : Result X OdbRefusal) → Type 0
+GivesTaking early (Ok x) due = due ≡ Ok x
+GivesTaking true (Err refusal) due = refusal ≢ no_memory → due ≡ Err refusal
+GivesTaking false (Err refusal) due = Gives (Err refusal) due
 
 abbrev pub GivesPath : Result (Option (List (List ℕ))) NoMemory → Option (List (List ℕ)) → Type 0
 GivesPath (Ok path) is = is ≡ path
 GivesPath (Err _) is = Unit {0}
 
--- the same where memory is wanted, and else this very reply
-abbrev pub GivesIf : {X : Type 0} → (memory : Bool) → Result X OdbRefusal → Result X OdbRefusal → Type 0
-GivesIf true given reply = Gives given reply
-GivesIf false given reply = given ≡ reply
+-- memory is taken early or not at all, and then the reply is the one that is due
+abbrev pub GivesIf : {X : Type 0} → (early : Bool) → Result X OdbRefusal → (due : Result X OdbRefusal) → Type 0
+GivesIf true given due = GivesTaking true given due
+GivesIf false given due = given ≡ due
 
 -- a text takes memory, and so does a link that is met; any other item none
-abbrev pub GivesItem : (met : Bool) → Tid → Result ℕ OdbRefusal → Result ℕ OdbRefusal → Type 0
-GivesItem met tid.Text given reply = Gives given reply
-GivesItem met type given reply = GivesIf met given reply
+abbrev pub GivesItem : (met : Bool) → Tid → Result ℕ OdbRefusal → (due : Result ℕ OdbRefusal) → Type 0
+GivesItem met tid.Text given due = GivesTaking met given due
+GivesItem met type given due = GivesIf met given due
 
--- Calls at the path as it is: the entry's reply is the one that the database gives there, or memory was wanting; `find`
--- and `delete` take none.
+-- A link's text takes memory before the tests.
+abbrev pub makes_link : NewKey → Bool
+makes_link Dir = false
+makes_link (Keys type len) = false
+makes_link (Link target) = true
+
+-- Calls at the path as it is: the entry's reply is the one that the database gives there, or memory was wanting where it
+-- gives no refusal; `find` and `delete` take none.
 abbrev pub IsReplyThere : Rows → DatabaseEntry → Type 0
 IsReplyThere s (Create p kind reply) = Gives reply (create_reply s p kind)
 IsReplyThere s (Set p index item reply) = GivesItem false (tid_of item) reply (set_reply s p index item)
@@ -281,17 +293,18 @@ rows_there s (Resize p len (Ok n)) = after_resize s p len
 rows_there s entry = s
 
 -- Each call but `delete` and `path_of` goes to the path after its links, and to a link at its end but for `create`. The
--- entry's reply is the one that the database gives there, or memory was wanting; `find` takes some only where a link is
--- met, and `delete` none.
+-- entry's reply is the one that the database gives there, or memory was wanting. That comes in place of a refusal only
+-- where a link is met on the path, since to follow one takes memory before the tests, and where one is made. `find` takes
+-- some only where a link is met, and `delete` none.
 abbrev pub IsRowsReply : Rows → DatabaseEntry → Type 0
-IsRowsReply s (Create p kind reply) = Gives reply (through (resolved s p false) (λ q. create_reply s q kind))
+IsRowsReply s (Create p kind reply) = GivesTaking (makes_link kind || meets_link s p false) reply (through (resolved s p false) (λ q. create_reply s q kind))
 IsRowsReply s (Set p index item reply) = GivesItem (meets_link s p true) (tid_of item) reply (through (resolved s p true) (λ q. set_reply s q index item))
-IsRowsReply s (SetAll p v reply) = Gives reply (through (resolved s p true) (λ q. set_all_reply s q v))
-IsRowsReply s (Get p reply) = Gives reply (through (resolved s p true) (λ q. get_reply s q))
+IsRowsReply s (SetAll p v reply) = GivesTaking (meets_link s p true) reply (through (resolved s p true) (λ q. set_all_reply s q v))
+IsRowsReply s (Get p reply) = GivesTaking (meets_link s p true) reply (through (resolved s p true) (λ q. get_reply s q))
 IsRowsReply s (Find p reply) = GivesIf (meets_link s p true) reply (through (resolved s p true) (λ q. find_reply s q))
-IsRowsReply s (ListDir p reply) = Gives reply (through (resolved s p true) (λ q. list_reply s q))
+IsRowsReply s (ListDir p reply) = GivesTaking (meets_link s p true) reply (through (resolved s p true) (λ q. list_reply s q))
 IsRowsReply s (Delete p reply) = reply ≡ delete_reply s p
-IsRowsReply s (Resize p len reply) = Gives reply (through (resolved s p true) (λ q. resize_reply s q len))
+IsRowsReply s (Resize p len reply) = GivesTaking (meets_link s p true) reply (through (resolved s p true) (λ q. resize_reply s q len))
 IsRowsReply s (PathOf row reply) = GivesPath reply (path_with s.rows row)
 
 -- the rows after a call with this reply: a refusal, want of memory too, leaves them as they were

@@ -1,11 +1,12 @@
 ghost use Rattle.std.specs.Prelude.{◌≡◌, ◌≢◌, ◌++◌, ◌⊎◌, [], true, drop, length, Err, IfOk};
 ghost use Rattle.daq_types.specs.declared.types.Tid.{Tid};
 ghost use Rattle.odb_value.specs.Items.{tid_of};
+ghost use Rattle.odb_value.specs.LinkValues.{is_link_type};
 ghost use Rattle.odb_tree.specs.declared.refusals.OdbRefusal.TheVariants.{NoMemory as no_memory};
 ghost use Rattle.odb_tree.specs.Databases.{IsDatabase};
 ghost use Rattle.odb_tree.specs.declared.entry.DatabaseEntry.TheVariants.{Create, Set, SetAll, Get, Find, ListDir, Delete, Resize, PathOf};
 ghost use Rattle.odb_tree.specs.Links.{meets_link, numbers_along};
-ghost use Rattle.odb_tree.specs.Calls.{Gives, IsRowsReply, rows_after, raw_reply, put_reply, after_put, is_row_below};
+ghost use Rattle.odb_tree.specs.Calls.{Gives, GivesTaking, IsRowsReply, rows_after, raw_reply, put_reply, after_put, is_row_below};
 ghost use Rattle.odb_tree.specs.Noting.{changes_of, changes_of_put, all_noted};
 
 use crate::children::Children;
@@ -16,7 +17,8 @@ use odb_value::{Item, Path, Value};
 use std::alloc::Global;
 
 /// An online database, seen as a list of rows. Each call replies what `IsRowsReply` says of the rows before it, and leaves
-/// `rows_after` of them. Want of memory is the one answer that no clause ties to the rows; it leaves them as they were.
+/// `rows_after` of them. Want of memory leaves them as they were. It excuses no refusal: where the rows refuse a call, that
+/// refusal is answered. Only to follow a link, and to write one, takes memory before the rows are asked.
 /// The rows are always those of a database, which `find` and `list` tell.
 ///
 /// A database may keep links: keys of type LINK with the text of a path. Each call but `delete`, `raw`, `put`, `walk`,
@@ -68,9 +70,10 @@ pub trait Database: Drop {
             (SetAll path.now value.now result)) (watches self.old) };
 
     /// What `set_all` does, but at the path as it is: a link at its end is itself the key. A value of type LINK is
-    /// written where the database keeps links.
+    /// written where the database keeps links; for that alone memory is taken before the rows are asked.
     fn put(&mut self, alloc: Global, path: &Path, value: &Value) -> Result<u32, OdbRefusal>
-        ensures reply { Gives result (put_reply (rows self.old) path.now value.now) }
+        ensures reply { GivesTaking (is_link_type value.now.tid) result
+            (put_reply (rows self.old) path.now value.now) }
         ensures after { rows self.new ≡ after_put (rows self.old) path.now value.now result }
         ensures notes { watches self.new ≡ all_noted (changes_of_put (rows self.old) path.now
             value.now result) (watches self.old) };

@@ -1,19 +1,20 @@
 //! Laws of the walk through the database, over its definitions alone.
-ghost use Rattle.std.specs.Prelude.{◌≡◌, ◌≢◌, ℕ, Bool, Result, suc, None, List, [], ◌∷◌, ◌++◌, map, true, false, ◌≤◌, length, Some, Ok, Err, IsPermutation};
+ghost use Rattle.std.specs.Prelude.{◌≡◌, ◌≢◌, ℕ, Bool, Result, suc, None, IsOk, List, [], ◌∷◌, ◌++◌, map, true, false, ◌≤◌, length, Some, Ok, Err, IsPermutation};
 ghost use Rattle.daq_types.specs.declared.types.Tid.{Tid};
 ghost use Rattle.odb_value.specs.Items.{tid_of};
+ghost use Rattle.odb_value.specs.LinkValues.{is_link_type};
 ghost use Rattle.odb_value.specs.Paths.{is_front, depth_limit, IsPath};
 ghost use Rattle.odb_tree.specs.declared.rows.Row.{Row};
 ghost use Rattle.odb_tree.specs.declared.children.Child.{Child};
 ghost use Rattle.odb_tree.specs.Trees.{IsTree, IsDir, with_rows};
 ghost use Rattle.odb_tree.specs.declared.entry.DatabaseEntry.{DatabaseEntry};
-ghost use Rattle.odb_tree.specs.declared.entry.DatabaseEntry.TheVariants.{Create, Set, SetAll, Find, ListDir};
+ghost use Rattle.odb_tree.specs.declared.entry.DatabaseEntry.TheVariants.{Create, Set, SetAll, Get, Find, ListDir, Resize};
 ghost use Rattle.odb_tree.specs.declared.rows.NewKey.{NewKey};
 ghost use Rattle.odb_tree.specs.Places.{AreInserted, made_for};
 ghost use Rattle.odb_tree.specs.declared.refusals.OdbRefusal.{OdbRefusal};
 ghost use Rattle.odb_tree.specs.declared.refusals.OdbRefusal.TheVariants.{NoMemory as no_memory};
 ghost use Rattle.odb_tree.specs.Links.{is_link, links_limit, lead, first_link, resolved, meets_link};
-ghost use Rattle.odb_tree.specs.Calls.{Gives, put_reply, after_put, IsRowsReply, child_of, rows_after, after_delete, after_set, after_set_all, after_resize, after_create, new_value};
+ghost use Rattle.odb_tree.specs.Calls.{GivesTaking, makes_link, create_reply, set_reply, set_all_reply, resize_reply, get_reply, list_reply, put_reply, after_put, IsRowsReply, child_of, rows_after, after_delete, after_set, after_set_all, after_resize, after_create, new_value};
 ghost use Rattle.odb_tree.specs.Databases.{IsHeld, IsDatabase, IsSoundCall};
 ghost use Rattle.odb_tree.specs.Histories.{IsLegalRows, rows_replay};
 ghost use Rattle.odb_tree.specs.Rows.{Rows, no_rows, is_listed, keys_in, dirs_in, rows_outside, change_at, row_at};
@@ -120,8 +121,8 @@ pub fn databases_stay()
     ensures stays { (s : Rows) (history : List (ℕ × DatabaseEntry)) → IsDatabase s
         → IsLegalRows s history → IsDatabase (rows_replay s history) }
     ensures put { (s : Rows) (p : List (List ℕ)) (v : HeldValue) (reply : Result ℕ OdbRefusal)
-        → IsDatabase s → IsPath p → IsHeld s.links v → Gives reply (put_reply s p v)
-        → IsDatabase (after_put s p v reply) }
+        → IsDatabase s → IsPath p → IsHeld s.links v → GivesTaking (is_link_type v.tid) reply
+        (put_reply s p v) → IsDatabase (after_put s p v reply) }
 {}
 
 /// A call, a `put` or a legal history leaves it as it is whether links are kept.
@@ -161,6 +162,28 @@ pub fn links_alone_take_memory()
         → IsRowsReply s (Set p index item (Err no_memory)) → meets_link s p true ≡ true }
     ensures find { (s : Rows) (p : List (List ℕ)) → IsRowsReply s (Find p (Err no_memory))
         → meets_link s p true ≡ true }
+{}
+
+/// Want of memory excuses no refusal: where no link is met, and none is made or put, a call that answers it is one that the
+/// rows accept.
+pub fn memory_excuses_no_refusal()
+    ensures create { (s : Rows) (p : List (List ℕ)) (kind : NewKey) → makes_link kind ≡ false
+        → meets_link s p false ≡ false → IsRowsReply s (Create p kind (Err no_memory))
+        → IsOk (create_reply s p kind) }
+    ensures set { (s : Rows) (p : List (List ℕ)) (index : ℕ) (item : Item)
+        → meets_link s p true ≡ false → IsRowsReply s (Set p index item (Err no_memory))
+        → IsOk (set_reply s p index item) }
+    ensures set_all { (s : Rows) (p : List (List ℕ)) (v : HeldValue) → meets_link s p true ≡ false
+        → IsRowsReply s (SetAll p v (Err no_memory)) → IsOk (set_all_reply s p v) }
+    ensures put { (s : Rows) (p : List (List ℕ)) (v : HeldValue) → is_link_type v.tid ≡ false
+        → GivesTaking (is_link_type v.tid) (Err no_memory) (put_reply s p v)
+        → IsOk (put_reply s p v) }
+    ensures resize { (s : Rows) (p : List (List ℕ)) (len : ℕ) → meets_link s p true ≡ false
+        → IsRowsReply s (Resize p len (Err no_memory)) → IsOk (resize_reply s p len) }
+    ensures get { (s : Rows) (p : List (List ℕ)) → meets_link s p true ≡ false
+        → IsRowsReply s (Get p (Err no_memory)) → IsOk (get_reply s p) }
+    ensures list { (s : Rows) (p : List (List ℕ)) → meets_link s p true ≡ false
+        → IsRowsReply s (ListDir p (Err no_memory)) → IsOk (list_reply s p) }
 {}
 
 /// The walk through a database has its rows, each once, and so at most one row at a path.

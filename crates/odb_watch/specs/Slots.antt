@@ -42,11 +42,11 @@ pub record AreFew (slots : List (Option Watch)) : Type 0 where
   pub few : length slots ≤ watches_limit
   pub short : AllByRecursion HasFewNotes slots
 
--- `watch` answers the least free number, or that all are taken; or memory was wanting
+-- `watch` answers the least free number, or that all are taken; or memory was wanting, where one is free
 abbrev pub GivesWatch : List (Option Watch) → Result ℕ WatchRefusal → Type 0
 GivesWatch slots (Ok w) = (w ≡ free_watch slots) × (nat_lt w watches_limit ≡ true)
 GivesWatch slots (Err NoWatchSlot) = nat_lt (free_watch slots) watches_limit ≡ false
-GivesWatch slots (Err NoMemory) = Unit {0}
+GivesWatch slots (Err NoMemory) = nat_lt (free_watch slots) watches_limit ≡ true
 
 abbrev pub after_watch : List (Option Watch) → (row : ℕ) → Result ℕ WatchRefusal → List (Option Watch)
 after_watch slots row (Ok w) = with_slot slots w (Some (new_watch row))

@@ -1,11 +1,12 @@
 ghost use Rattle.std.specs.Prelude.{◌≡◌, ◌≢◌, ◌≤◌, ◌⊎◌, true, [], length, map, Err, IfOk, OnErr, OnOk};
 ghost use Rattle.daq_types.specs.declared.types.Tid.{Tid};
 ghost use Rattle.odb_value.specs.Items.{tid_of};
+ghost use Rattle.odb_value.specs.LinkValues.{is_link_type};
 ghost use Rattle.odb_tree.specs.declared.refusals.OdbRefusal.TheVariants.{NoMemory as no_memory};
 ghost use Rattle.odb_tree.specs.declared.entry.DatabaseEntry.TheVariants.{Create, Set, SetAll, Get, Find, ListDir, Delete, Resize, PathOf};
 ghost use Rattle.odb_tree.specs.Databases.{IsDatabase};
 ghost use Rattle.odb_tree.specs.Links.{meets_link};
-ghost use Rattle.odb_tree.specs.Calls.{Gives, IsRowsReply, rows_after, put_reply, after_put, is_row_below};
+ghost use Rattle.odb_tree.specs.Calls.{GivesTaking, IsRowsReply, rows_after, put_reply, after_put, is_row_below};
 ghost use Rattle.odb_tree.specs.Noting.{changes_of, changes_of_put, all_noted, notes_limit};
 ghost use Rattle.odb_watch.specs.declared.entry.WatchEntry.TheVariants.{Watch as begin_of, Notes as notes_of, Unwatch as end_of};
 ghost use Rattle.odb_watch.specs.Steps.{StepsWatched, moved_out};
@@ -147,7 +148,8 @@ impl<D: Database> Database for Watches<D> {
     }
 
     fn put(&mut self, alloc: Global, path: &Path, value: &Value) -> Result<u32, OdbRefusal>
-        ensures reply { Gives result (put_reply self.old.rows path.now value.now) }
+        ensures reply { GivesTaking (is_link_type value.now.tid) result
+            (put_reply self.old.rows path.now value.now) }
         ensures after { self.new.rows ≡ after_put self.old.rows path.now value.now result }
         ensures notes { self.new.slots ≡ all_noted (changes_of_put self.old.rows path.now value.now
             result) self.old.slots }

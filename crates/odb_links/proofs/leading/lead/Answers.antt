@@ -24,7 +24,7 @@ returns-in_err-onward-clause-refused g c =
     let p = err_from_is_err_and c.from_residual.result c.from_residual.ensures.1 in
     subst (λ (r : Result (Option (List (List ℕ))) OdbRefusal). IfErr r (λ refusal. refusal ≢ NoMemory → resolved (seen c.args.links.now (g.D.Database.rows c.args.tree.now)) c.args.path.now c.args.last ≡ Err refusal)) (sym (p.1 ∙ ap (λ (x : OdbRefusal). Err x) p.2))
     (way_refused rows c.args.last c.args.path.now here c.loop-steps.steps c.loop-steps.led (met_by here c.in-Some.hit) why c.loop-steps.invariant c.goal-here.ensures.path c.loop-steps-test.true c.in-Some.ensures.first
-    (subst (λ (names : List (List ℕ)). why ≢ NoMemory → follow Ok c.loop-steps.steps names (Some (met_by names c.in-Some.hit)) ≡ Err why) c.names.ensures.names c.in_err-onward.ensures))
+    (subst (λ (names : List (List ℕ)). why ≢ NoMemory → follow Ok c.loop-steps.steps names (Some (met_by names c.in-Some.hit)) ≡ Err why) c.names.ensures.names c.in_err-onward.ensures.0))
 
 pub returns-in-Some-first_hit-clause-refused : goal.returns-in-Some-first_hit-clause-refused
 returns-in-Some-first_hit-clause-refused g c = λ _.

@@ -1,11 +1,13 @@
-use Rattle.std.proofs.Common.{◌^◌, ℕ, List, Result, Err, sym, ap, ◌∙◌, subst}
+use Rattle.std.proofs.Common.{◌^◌, ℕ, List, Result, Err, true, sym, ap, ◌∙◌, subst}
 use Rattle.std.proofs.lemmas.Result.{err_from_is_err_and}
 use Rattle.odb_tree.specs.declared.refusals.OdbRefusal.{OdbRefusal}
 use Rattle.daq_types.specs.declared.types.Tid.TheVariants as tid
+use Rattle.odb_value.specs.LinkValues.{is_link_type}
 use Rattle.odb_tree.specs.Rows.{Rows}
-use Rattle.odb_tree.specs.Calls.{Gives, put_reply}
+use Rattle.odb_tree.specs.Calls.{GivesTaking, put_reply}
 use Rattle.odb_tree.specs.Noting.{changes_of_put, all_noted}
 use Rattle.odb_tree.proofs.Noted.{none_noted}
+use Rattle.odb_tree.proofs.Led.{told_due}
 use Rattle.odb_links.specs.declared.links.Link.{Link}
 use Rattle.odb_links.specs.Seen.{seen, typed, LinksRise}
 use Rattle.odb_links.proofs.LinkPlaces.{order_wide}
@@ -22,8 +24,9 @@ pub returns-in_err-row-clause-reply : goal.returns-in_err-row-clause-reply
 returns-in_err-row-clause-reply g c =
     let s : Rows = g.D.Database.rows c.args.tree.now in
     let p = err_from_is_err_and c.from_residual-in_err-row.result c.from_residual-in_err-row.ensures.1 in
-    subst (λ (r : Result ℕ OdbRefusal). Gives r (put_reply (seen c.args.links.now.items s) c.args.path.now (typed tid.Link c.args.text.now))) (sym (p.1 ∙ ap (λ (x : OdbRefusal). Err x) p.2))
-    (λ memory. reply_written c.args.links.now.items s c.args.path.now c.args.text.now c.args.target c.requires.links c.requires.free c.requires.text ∙ c.in_err-row.ensures.reply memory)
+    subst (λ (r : Result ℕ OdbRefusal). GivesTaking true r (put_reply (seen c.args.links.now.items s) c.args.path.now (typed tid.Link c.args.text.now))) (sym (p.1 ∙ ap (λ (x : OdbRefusal). Err x) p.2))
+    (λ memory. reply_written c.args.links.now.items s c.args.path.now c.args.text.now c.args.target c.requires.links c.requires.free c.requires.text
+    ∙ told_due (is_link_type c.args.text.now.tid) c.in_err-row.field-0.0 (put_reply s c.args.path.now c.args.text.now) c.in_err-row.ensures.reply memory)
 
 pub keep-requires-clause-order : goal.keep-requires-clause-order
 keep-requires-clause-order g c =

@@ -1,7 +1,7 @@
-use Rattle.std.proofs.Common.{subst, sym, ◌∙◌, refl}
+use Rattle.std.proofs.Common.{true, subst, sym, ◌∙◌, refl}
 use Rattle.std.proofs.lemmas.Result.{err_from_is_err_and}
 use Rattle.odb_tree.specs.declared.rows.NewKey.TheVariants.{Link as new_link}
-use Rattle.odb_tree.specs.Calls.{Gives}
+use Rattle.odb_tree.specs.Calls.{GivesTaking}
 use Rattle.odb_tree.proofs.Noted.{none_noted}
 use Rattle.odb_links.specs.Writing.{IsTextTo}
 use Rattle.odb_links.proofs.Stands.{some_there}
@@ -37,7 +37,7 @@ keep_link-requires-clause-goes g c =
 
 pub returns-clause-reply : goal.returns-clause-reply
 returns-clause-reply g c =
-    subst (Gives c.keep_link.result)
+    subst (GivesTaking true c.keep_link.result)
     (made_link c.args.links.now.items (g.D.Database.rows c.args.tree.now) c.args.path.now c.args.target.now c.in-Some.text c.keep_link.result c.in-Nothing.ensures.1 c.in-Nothing.ensures.0
     (subst (IsTextTo c.args.target.now) c.in-Some.is c.in_ok-text.ensures.text)).reply_is c.keep_link.ensures.reply
 

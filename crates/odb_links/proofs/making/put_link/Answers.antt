@@ -5,7 +5,7 @@ use Rattle.daq_types.specs.declared.types.Tid.{Tid}
 use Rattle.daq_types.specs.declared.types.Tid.TheVariants as tid
 use Rattle.odb_value.specs.Values.{HeldValue}
 use Rattle.odb_tree.specs.declared.refusals.OdbRefusal.TheVariants.{TypeMismatch}
-use Rattle.odb_tree.specs.Calls.{Gives, get_reply, put_reply, after_put}
+use Rattle.odb_tree.specs.Calls.{GivesTaking, get_reply, put_reply, after_put}
 use Rattle.odb_tree.specs.Noting.{all_noted, changes_of_put}
 use Rattle.odb_links.specs.Seen.{seen, typed}
 use Rattle.odb_tree.proofs.Noted.{none_noted}
@@ -32,7 +32,7 @@ pub returns-in-Err-clause-reply : goal.returns-in-Err-clause-reply
 returns-in-Err-clause-reply g c = λ memory.
     let s : Rows = g.D.Database.rows c.args.tree.now in
     other_put c.args.links.now.items s c.args.path.now c.args.value.now c.requires.links (subst (λ (l : List Link). StandsThere l s c.args.path.now Other) c.as_slice.ensures.value c.in-Other.ensures) c.requires.link.of_type
-    ∙ ap other_type (gives_below (Err c.in-Err.refusal) s c.args.path.now true (get_reply s) c.requires.links.plain c.in-Err.ensures memory)
+    ∙ ap other_type ((gives_below (Err c.in-Err.refusal) s c.args.path.now true (get_reply s) c.requires.links.plain c.in-Err.ensures).0 memory)
 
 pub returns-in-Err-clause-notes : goal.returns-in-Err-clause-notes
 returns-in-Err-clause-notes g c = sym (none_noted (g.D.Database.watches c.args.tree.now))
@@ -49,7 +49,7 @@ pub returns-in_ok-text-in-Nothing-clause-reply : goal.returns-in_ok-text-in-Noth
 returns-in_ok-text-in-Nothing-clause-reply g c =
     let same : typed tid.Link c.in_ok-text-in-Nothing.text ≡ c.args.value.now =
     ap (typed tid.Link) (c.in_ok-text-in-Nothing.ensures ∙ ap text_held c.in_ok-try_clone-in-Nothing.ensures) ∙ typed_text c.args.value.now c.in-Some.text.now c.requires.link c.in-Some.ensures in
-    subst (λ (v : HeldValue). Gives c.keep_link.result (put_reply (seen c.args.links.now.items (g.D.Database.rows c.args.tree.now)) c.args.path.now v)) same c.keep_link.ensures.reply
+    subst (λ (v : HeldValue). GivesTaking true c.keep_link.result (put_reply (seen c.args.links.now.items (g.D.Database.rows c.args.tree.now)) c.args.path.now v)) same c.keep_link.ensures.reply
 
 pub returns-in_ok-text-in-Nothing-clause-after : goal.returns-in_ok-text-in-Nothing-clause-after
 returns-in_ok-text-in-Nothing-clause-after g c =

@@ -6,7 +6,8 @@ use Rattle.odb_links.proofs.Written.{link_refuses, plain_put}
 use Rattle.odb_links.proofs.making.put_plain.Goals as goal
 
 pub returns-then-is_link_at-clause-reply : goal.returns-then-is_link_at-clause-reply
-returns-then-is_link_at-clause-reply g c = λ _. link_refuses c.args.links.now (g.D.Database.rows c.args.tree.now) c.args.path.now c.args.value.now c.requires.links c.if-is_link_at.ensures c.requires.value
+returns-then-is_link_at-clause-reply g c =
+    let refused = link_refuses c.args.links.now (g.D.Database.rows c.args.tree.now) c.args.path.now c.args.value.now c.requires.links c.if-is_link_at.ensures c.requires.value in (λ _. refused, λ _. refused)
 
 pub returns-then-is_link_at-clause-notes : goal.returns-then-is_link_at-clause-notes
 returns-then-is_link_at-clause-notes g c = sym (none_noted (g.D.Database.watches c.args.tree.now))

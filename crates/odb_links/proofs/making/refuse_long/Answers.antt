@@ -18,7 +18,7 @@ pub returns-clause-reply : goal.returns-clause-reply
 returns-clause-reply g c = λ links target h long memory.
     let s : Rows = g.D.Database.rows c.args.tree.now in
     long_same links s c.args.path.now target c.in-Err.refusal h long
-    (gives_below (Err c.in-Err.refusal) s c.args.path.now false (λ x. create_reply s x (Keys tid.Text 0)) c.requires c.in-Err.ensures.reply (size_memory c.in-Err.refusal (λ e. memory (c.as_size.ensures ∙ e))))
+    ((gives_below (Err c.in-Err.refusal) s c.args.path.now false (λ x. create_reply s x (Keys tid.Text 0)) c.requires c.in-Err.ensures.reply).0 (size_memory c.in-Err.refusal (λ e. memory (c.as_size.ensures ∙ e))))
     ∙ ap (λ (x : OdbRefusal). Err x) (sym c.as_size.ensures)
 
 pub returns-clause-watches : goal.returns-clause-watches

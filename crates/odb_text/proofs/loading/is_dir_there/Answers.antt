@@ -18,4 +18,4 @@ returns-clause-dir g c =
     let whole : c.args.path.now ≡ c.in_ok-above.above ++ c.in-Some.name.now ∷ [] =
     sym c.names.ensures.names ∙ (c.in-Some.ensures.cases.0 ∙ ap (λ (l : List (List ℕ)). l ++ c.in-Some.name.now ∷ []) (sym c.in_ok-above.ensures)) in
     on_ok_weaker c.has_reason.result
-    (λ h. no_key_there s c.args.path.now c.in_ok-there.there c.in-Err.refusal (subst (λ (p : List (List ℕ)). IsPlaceOf s p c.in_ok-there.there) (sym whole) c.in_ok-there.ensures) (c.in-Err.ensures h)) c.has_reason.ensures.reason
+    (λ h. no_key_there s c.args.path.now c.in_ok-there.there c.in-Err.refusal (subst (λ (p : List (List ℕ)). IsPlaceOf s p c.in_ok-there.there) (sym whole) c.in_ok-there.ensures) (c.in-Err.ensures.0 h)) c.has_reason.ensures.reason

@@ -1,15 +1,15 @@
-use Rattle.std.proofs.Common.{◌≡◌, ◌≢◌, ℕ, List, Result, Ok, Err, false, unwrap_or, sym, ap, ◌∙◌, subst}
+use Rattle.std.proofs.Common.{◌≡◌, ◌≢◌, ℕ, List, Result, Ok, Err, true, false, ◌||◌, unwrap_or, sym, ap, ◌∙◌, subst}
 use Rattle.std.proofs.lemmas.Result.{err_from_is_err_and}
 use Rattle.odb_tree.specs.declared.refusals.OdbRefusal.{OdbRefusal}
 use Rattle.odb_tree.specs.declared.refusals.OdbRefusal.TheVariants.{NoMemory}
 use Rattle.odb_tree.specs.declared.entry.DatabaseEntry.TheVariants.{Create}
-use Rattle.odb_tree.specs.Links.{resolved}
-use Rattle.odb_tree.specs.Calls.{IsRowsReply, rows_after, create_reply}
+use Rattle.odb_tree.specs.Links.{resolved, meets_link}
+use Rattle.odb_tree.specs.Calls.{IsRowsReply, rows_after, makes_link, create_reply}
 use Rattle.odb_tree.specs.Noting.{Watched, all_noted, changes_of}
 use Rattle.odb_tree.specs.Rows.{Rows}
 use Rattle.odb_links.specs.declared.links.Link.{Link}
 use Rattle.odb_links.specs.Seen.{seen, AreLinks}
-use Rattle.odb_links.proofs.SeenCalls.{create_seen, create_refused, plain_kind, link_made, no_end}
+use Rattle.odb_links.proofs.SeenCalls.{create_seen, create_refused, plain_kind, link_made, no_end, or_met}
 use Rattle.odb_links.proofs.tree.LinkTreeDatabase.create.Goals as goal
 
 pub returns-in_err-led-clause-reply : goal.returns-in_err-led-clause-reply
@@ -23,7 +23,8 @@ returns-in_err-led-clause-reply g c =
     let refused : why ≢ NoMemory → resolved (seen links s) p false ≡ Err why =
     subst (λ (l : List Link). why ≢ NoMemory → resolved (seen l s) p false ≡ Err why) c.as_slice.ensures.value c.in_err-led.ensures.refused in
     subst (λ (r : Result ℕ OdbRefusal). IsRowsReply c.args.self.now.rows (Create p c.args.kind.now r)) (sym is)
-    (subst (λ (w : Watched). IsRowsReply w.rows (Create p c.args.kind.now (Err why))) c.self.view_is (no_end (resolved (seen links s) p false) (λ x. create_reply (seen links s) x c.args.kind.now) why refused))
+    (subst (λ (w : Watched). IsRowsReply w.rows (Create p c.args.kind.now (Err why))) c.self.view_is (no_end (makes_link c.args.kind.now || meets_link (seen links s) p false) (resolved (seen links s) p false) (λ x. create_reply (seen links s) x c.args.kind.now) why refused
+    (λ k. or_met (makes_link c.args.kind.now) (meets_link (seen links s) p false) (subst (λ (l : List Link). meets_link (seen l s) p false ≡ true) c.as_slice.ensures.value (c.in_err-led.ensures.memory (ap (λ (x : OdbRefusal). Err x) k))))))
 
 pub returns-in_err-led-clause-notes : goal.returns-in_err-led-clause-notes
 returns-in_err-led-clause-notes g c =

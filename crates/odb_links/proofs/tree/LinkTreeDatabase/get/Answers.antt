@@ -4,7 +4,7 @@ use Rattle.odb_value.specs.Values.{HeldValue}
 use Rattle.odb_tree.specs.declared.refusals.OdbRefusal.{OdbRefusal}
 use Rattle.odb_tree.specs.declared.refusals.OdbRefusal.TheVariants.{NoMemory}
 use Rattle.odb_tree.specs.declared.entry.DatabaseEntry.TheVariants.{Get}
-use Rattle.odb_tree.specs.Links.{resolved}
+use Rattle.odb_tree.specs.Links.{resolved, meets_link}
 use Rattle.odb_tree.specs.Calls.{IsRowsReply, get_reply}
 use Rattle.odb_tree.specs.Noting.{Watched}
 use Rattle.odb_tree.specs.Rows.{Rows}
@@ -24,7 +24,8 @@ returns-in_err-led g c =
     let refused : why ≢ NoMemory → resolved (seen links s) p true ≡ Err why =
     subst (λ (l : List Link). why ≢ NoMemory → resolved (seen l s) p true ≡ Err why) c.as_slice.ensures.value c.in_err-led.ensures.refused in
     subst (λ (r : Result HeldValue OdbRefusal). IsRowsReply c.args.self.now.rows (Get p r)) (sym is)
-    (subst (λ (w : Watched). IsRowsReply w.rows (Get p (Err why))) c.self.view_is (no_end (resolved (seen links s) p true) (λ x. get_reply (seen links s) x) why refused))
+    (subst (λ (w : Watched). IsRowsReply w.rows (Get p (Err why))) c.self.view_is (no_end (meets_link (seen links s) p true) (resolved (seen links s) p true) (λ x. get_reply (seen links s) x) why refused
+    (λ k. subst (λ (l : List Link). meets_link (seen l s) p true ≡ true) c.as_slice.ensures.value (c.in_err-led.ensures.memory (ap (λ (x : OdbRefusal). Err x) k)))))
 
 pub returns : goal.returns
 returns g c =

@@ -3,7 +3,7 @@ use Rattle.std.proofs.lemmas.Result.{err_from_is_err_and}
 use Rattle.odb_tree.specs.declared.refusals.OdbRefusal.{OdbRefusal}
 use Rattle.odb_tree.specs.declared.refusals.OdbRefusal.TheVariants.{NoMemory}
 use Rattle.odb_tree.specs.declared.entry.DatabaseEntry.TheVariants.{SetAll}
-use Rattle.odb_tree.specs.Links.{resolved}
+use Rattle.odb_tree.specs.Links.{resolved, meets_link}
 use Rattle.odb_tree.specs.Calls.{IsRowsReply, rows_after, set_all_reply}
 use Rattle.odb_tree.specs.Noting.{Watched, all_noted, changes_of}
 use Rattle.odb_tree.specs.Rows.{Rows}
@@ -23,7 +23,8 @@ returns-in_err-led-clause-reply g c =
     let refused : why ≢ NoMemory → resolved (seen links s) p true ≡ Err why =
     subst (λ (l : List Link). why ≢ NoMemory → resolved (seen l s) p true ≡ Err why) c.as_slice.ensures.value c.in_err-led.ensures.refused in
     subst (λ (r : Result ℕ OdbRefusal). IsRowsReply c.args.self.now.rows (SetAll p c.args.value.now r)) (sym is)
-    (subst (λ (w : Watched). IsRowsReply w.rows (SetAll p c.args.value.now (Err why))) c.self.view_is (no_end (resolved (seen links s) p true) (λ x. set_all_reply (seen links s) x c.args.value.now) why refused))
+    (subst (λ (w : Watched). IsRowsReply w.rows (SetAll p c.args.value.now (Err why))) c.self.view_is (no_end (meets_link (seen links s) p true) (resolved (seen links s) p true) (λ x. set_all_reply (seen links s) x c.args.value.now) why refused
+    (λ k. subst (λ (l : List Link). meets_link (seen l s) p true ≡ true) c.as_slice.ensures.value (c.in_err-led.ensures.memory (ap (λ (x : OdbRefusal). Err x) k)))))
 
 pub returns-in_err-led-clause-notes : goal.returns-in_err-led-clause-notes
 returns-in_err-led-clause-notes g c =
