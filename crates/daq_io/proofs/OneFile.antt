@@ -20,12 +20,12 @@ module _ (first old new : Seen) (number count_first count_old count_new : ℕ) w
   }
 
   pub one_read_on : (into : List ℕ) (r : Result ℕ Failed) → IsOneRead first old number count_first count_old → ReadsAtMost r into → IfOk r (λ count. Reads old new number (take count into)) → OnErr r (Same old new)
-      → IfOk r (λ count. IsTrue old.tells → RoseJustBy count count_old count_new) → OnErr r (count_new ≡ count_old) → IsOneRead first new number count_first count_new
+      → IfOk r (λ count. IsTrue old.names → RoseJustBy count count_old count_new) → OnErr r (count_new ≡ count_old) → IsOneRead first new number count_first count_new
   one_read_on into (Ok count) o within reads kept counted none = record {
     reads = reads.reads;
     files = KeepsFiles-trans o.files reads.files;
     others = KeepsOthers-trans o.others reads.others;
-    front = λ told. let tells : IsTrue old.tells = o.files.tells ∙ told in
+    front = λ told. let tells : IsTrue old.names = o.files.names ∙ told in
         reads_more (take count into) (o.front told) (reads.consumes tells) (subst (λ (n : ℕ). RoseJustBy n count_old count_new) within.1 (counted tells));
   }
   one_read_on into (Err failed) o within reads kept counted none = record {

@@ -5,13 +5,15 @@ use Rattle.daq_io.specs.Seen.{Seen, KeepsFiles, KeepsOthers}
 
 -- the bytes left of the file of a number, where they are told
 abbrev pub told_left : Seen → ℕ → Option (List ℕ)
-told_left seen number = if seen.tells then Some (seen.left number) else None
+told_left seen number = if seen.names then Some (seen.left number) else None
 
--- several files, the number under which one of them is read, and the files as they stood when that began
+-- several files, the number under which one of them is read, the files as they stood when that began, and the bytes that were
+-- read since
 pub record OneFile (F : Type 0) : Type 0 where
   pub files : F
   pub number : ℕ
   pub first : F
+  pub gave : List ℕ
 
 -- The first of the bytes left under a number were read, and counted.
 pub record ReadsFirst (first now : Seen) (number : ℕ) (bytes_first bytes_now : ℕ) : Type 0 where
@@ -24,4 +26,4 @@ pub record IsOneRead (first now : Seen) (number : ℕ) (bytes_first bytes_now : 
   pub reads : IsTrue (now.reads number)
   pub files : KeepsFiles first now
   pub others : KeepsOthers first now number
-  pub front : IsTrue first.tells → ReadsFirst first now number bytes_first bytes_now
+  pub front : IsTrue first.names → ReadsFirst first now number bytes_first bytes_now

@@ -4,6 +4,8 @@ pub mod FileLeft
 pub mod Origins
 pub mod Rooms
 pub mod Seen
+pub mod Told
+pub mod Traces
 pub mod Streams
 pub mod Tallies
 pub mod Uses

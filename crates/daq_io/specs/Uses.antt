@@ -1,6 +1,6 @@
 -- What the numbers of files are in use for.
 use Rattle.std.specs.Prelude.{◌≡◌, ◌≢◌, ℕ, ◌+◌, Bool, true, false, if◌then◌else◌, count_by, length, List, [], Option, Some, None, slice_get}
-use Rattle.daq_io.specs.Seen.{Seen}
+use Rattle.daq_io.specs.Seen.{Seen, FileDone}
 use Rattle.daq_io.specs.declared.uses.Usage.{Usage}
 use Rattle.daq_io.specs.declared.uses.Usage.TheVariants.{Free, Writing, Reading}
 
@@ -47,13 +47,15 @@ pub record CountsUse (old new : List Usage) (number : ℕ) (usage : Usage) : Typ
   pub count : length new ≡ length old
   pub free : free_numbers new + (if is_unused (use_at old number) then 1 else 0) ≡ free_numbers old + (if is_unused usage then 1 else 0)
 
--- the numbers in use and their names, where no name of a file and no byte is told
-abbrev pub told_numbers : List Usage → Seen
-told_numbers uses = record {
-  tells = false;
+-- the numbers in use and their names, what was given under them, and what was done, where no name of a file is told
+abbrev pub told_numbers : List Usage → (given : ℕ → List ℕ) → List FileDone → Seen
+told_numbers uses given done = record {
+  names = false;
   at = λ name. None;
   writes = λ n. is_writing (use_at uses n);
   reads = λ n. is_reading (use_at uses n);
   name_of = λ n. name_by (use_at uses n);
   left = λ n. [];
+  given = given;
+  done = done;
 }

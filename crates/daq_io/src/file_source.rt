@@ -1,10 +1,11 @@
-ghost use Rattle.std.specs.Prelude.{◌≡◌, Some, IsTrue};
+ghost use Rattle.std.specs.Prelude.{◌≡◌, [], Some, IsTrue};
 ghost use Rattle.daq_io.specs.Seen.{KeepsFiles, KeepsOthers};
 ghost use Rattle.daq_io.specs.FileLeft.{ReadsFirst, told_left};
 
 use crate::faults::Failed;
 use crate::folder::Files;
 use crate::streams::Source;
+use crate::traces::ByteTrace;
 use std::marker::Model;
 use std::snapshot::Snapshot;
 
@@ -14,6 +15,7 @@ pub struct FileSource<F: Files> {
     files: F,
     number: u32,
     first: Snapshot<F>,
+    gave: ByteTrace,
 }
 
 impl<F: Files> Model for FileSource<F> {
@@ -21,29 +23,31 @@ impl<F: Files> Model for FileSource<F> {
 
     ghost Value = { OneFile F };
 
-    ghost view = { λ s. record { files = s.files; number = s.number; first = s.first.value } };
+    ghost view = { λ s. record { files = s.files; number = s.number; first = s.first.value; gave = s.gave } };
 
     // What else the files tell is as it was when the source was made.
-    ghost invariant = { λ s. IsOneRead (F.seen s.first.value) (F.seen s.files) s.number
-        (F.bytes_read s.first.value) (F.bytes_read s.files) };
+    ghost invariant = { λ s. IsOneRead (F.told s.first.value).seen (F.told s.files).seen s.number
+        (F.told s.first.value).bytes_read (F.told s.files).bytes_read };
 }
 
 impl<F: Files> FileSource<F> {
     /// A source of the bytes left of this file, which is in use for reading.
     pub fn new(files: F, file: u32) -> FileSource<F>
-        requires { IsTrue ((F.seen files).reads file) }
-        ensures value { result ≡ record { files = files; number = file; first = files } }
-        ensures left { ⟦<FileSource<F> as Source>⟧.left result ≡ told_left (F.seen files) file }
-        ensures faults { ⟦<FileSource<F> as Source>⟧.faults result ≡ F.faults files }
-        ensures origin { ⟦<FileSource<F> as Source>⟧.origin result
+        requires { IsTrue ((F.told files).seen.reads file) }
+        ensures value { result ≡ record { files = files; number = file; first = files; gave = [] } }
+        ensures left { (⟦<FileSource<F> as Source>⟧.told result).left ≡ told_left (F.told files).seen file }
+        ensures gave { (⟦<FileSource<F> as Source>⟧.told result).gave ≡ [] }
+        ensures faults { (⟦<FileSource<F> as Source>⟧.told result).faults ≡ (F.told files).faults }
+        ensures origin { (⟦<FileSource<F> as Source>⟧.told result).origin
             ≡ Some (record
-            { files = F.seen files; bytes_read = F.bytes_read files; number = file }) }
+            { files = (F.told files).seen; bytes_read = (F.told files).bytes_read; number = file }) }
     {
         let first = Snapshot::of(&files);
         FileSource {
             files,
             number: file,
             first,
+            gave: ByteTrace::new(),
         }
     }
 
@@ -57,33 +61,38 @@ impl<F: Files> FileSource<F> {
     /// The files, with what is left of the one that was read. Nothing else of them has changed since the source was made.
     pub fn into_files(self) -> F
         ensures files { result ≡ self.files }
-        ensures reading { IsTrue ((F.seen result).reads self.number) }
-        ensures kept { KeepsFiles (F.seen self.first) (F.seen result) }
-        ensures others { KeepsOthers (F.seen self.first) (F.seen result) self.number }
-        ensures front { IsTrue (F.seen self.first).tells → ReadsFirst (F.seen self.first)
-            (F.seen result) self.number (F.bytes_read self.first) (F.bytes_read result) }
+        ensures reading { IsTrue ((F.told result).seen.reads self.number) }
+        ensures kept { KeepsFiles (F.told self.first).seen (F.told result).seen }
+        ensures others { KeepsOthers (F.told self.first).seen (F.told result).seen self.number }
+        ensures front { IsTrue (F.told self.first).seen.names → ReadsFirst (F.told self.first).seen
+            (F.told result).seen self.number (F.told self.first).bytes_read (F.told result).bytes_read }
     {
         let FileSource {
             files,
             number: _,
             first: _,
+            gave: _,
         } = self;
         files
     }
 }
 
 impl<F: Files> Source for FileSource<F> {
-    ghost left = { λ s. told_left (F.seen s.files) s.number };
-
-    ghost faults = { λ s. F.faults s.files };
-
-    ghost origin = { λ s. Some (record {
-      files = F.seen s.first;
-      bytes_read = F.bytes_read s.first;
-      number = s.number;
-    }) };
+    ghost told = { λ s. record {
+      left = told_left (F.told s.files).seen s.number;
+      gave = s.gave;
+      faults = (F.told s.files).faults;
+      at_hand = [];
+      origin = Some (record {
+        files = (F.told s.first).seen;
+        bytes_read = (F.told s.first).bytes_read;
+        number = s.number;
+      });
+    } };
 
     fn read(&mut self, into: &mut [u8]) -> Result<usize, Failed> {
-        self.files.read(self.number, into)
+        let count = self.files.read(self.number, into)?;
+        self.gave.more(into, count);
+        Ok(count)
     }
 }

@@ -11,14 +11,16 @@ mod readings;
 mod rooms;
 mod streams;
 mod tallies;
+mod traces;
 mod uses;
 
 pub use faults::Failed;
 pub use file_source::FileSource;
-pub use folder::{Files, NameRefused};
+pub use folder::{FileState, Files, NameRefused};
 pub use objects::Outside;
 pub use readings::{Clock, Gate, Pick, Point};
 pub use rooms::ByteRoom;
 pub use streams::{Sink, Source, copy_front, write_all};
 pub use tallies::Tally;
+pub use traces::{ByteTrace, ByteTraces, FileTrace};
 pub use uses::{Usage, UseTable};

@@ -1,37 +1,32 @@
-ghost use Rattle.std.specs.Prelude.{◌≡◌, ◌+◌, ◌%◌, ◌<◌, ℕ, Bool, IsTrue};
+ghost use Rattle.std.specs.Prelude.{◌≡◌, ◌+◌, ◌%◌, ◌<◌, ℕ, IsTrue};
+ghost use Rattle.daq_io.specs.Told.{AheadTold};
 
 /// A clock.
 pub trait Clock {
-    /// Whether the clock tells its readings.
-    ghost tells: { Self → Bool };
-
-    /// The readings that lie ahead, by their place from 0.
-    ghost ahead: { Self → ℕ → ℕ };
+    /// Whether the clock tells its readings, and those that lie ahead.
+    ghost told: { Self → AheadTold };
 
     /// Seconds since 1970, modulo 2^32.
     fn now(&mut self) -> u32
-        ensures tells { tells self.new ≡ tells self.old }
-        ensures value { IsTrue (tells self.old) → result ≡ ahead self.old 0 }
-        ensures later { IsTrue (tells self.old) → (n : ℕ) → ahead self.new n
-            ≡ ahead self.old (n + 1) };
+        ensures tells { (told self.new).tells ≡ (told self.old).tells }
+        ensures value { IsTrue (told self.old).tells → result ≡ (told self.old).ahead 0 }
+        ensures later { IsTrue (told self.old).tells → (n : ℕ) → (told self.new).ahead n
+            ≡ (told self.old).ahead (n + 1) };
 }
 
 /// The choice of the member that has the first turn of a round.
 pub trait Pick {
-    /// Whether the choices are told.
-    ghost tells: { Self → Bool };
-
-    /// The numbers that lie ahead, by their place from 0. Each is taken modulo the members.
-    ghost ahead: { Self → ℕ → ℕ };
+    /// Whether the choices are told, and the numbers that lie ahead. Each is taken modulo the members.
+    ghost told: { Self → AheadTold };
 
     /// The number of a member, of which there are so many.
     fn first(&mut self, members: u32) -> u32
         requires { 0 < members }
         ensures member { result < members }
-        ensures tells { tells self.new ≡ tells self.old }
-        ensures value { IsTrue (tells self.old) → result ≡ ahead self.old 0 % members }
-        ensures later { IsTrue (tells self.old) → (n : ℕ) → ahead self.new n
-            ≡ ahead self.old (n + 1) };
+        ensures tells { (told self.new).tells ≡ (told self.old).tells }
+        ensures value { IsTrue (told self.old).tells → result ≡ (told self.old).ahead 0 % members }
+        ensures later { IsTrue (told self.old).tells → (n : ℕ) → (told self.new).ahead n
+            ≡ (told self.old).ahead (n + 1) };
 }
 
 /// A moment in a member's turn.

@@ -8,7 +8,7 @@ returns-in_err-count-clause-part g c = on_err c.from_residual.result (part_writt
 
 pub loop-rest-preserved : goal.loop-rest-preserved
 loop-rest-preserved g c = record {
-  bytes = subst (λ (rest : List ℕ). AppendsAllBut (g.K.Sink.written c.args.out.now) (g.K.Sink.written c.write.new.self) rest c.args.bytes.now)
+  bytes = subst (λ (rest : List ℕ). AppendsAllBut (g.O.Sink.told c.args.out.now).written (g.O.Sink.told c.write.new.self).written rest c.args.bytes.now)
       (sym c.split_at.ensures.back) (more_written _ c.in_ok-count.count c.loop-rest.invariant.bytes c.in_ok-count.ensures.bytes);
   faults = c.in_ok-count.ensures.faults.done ∙ c.loop-rest.invariant.faults;
 }

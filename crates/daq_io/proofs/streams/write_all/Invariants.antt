@@ -4,8 +4,8 @@ use Rattle.daq_io.proofs.streams.write_all.Given as goal
 
 abbrev pub invariant-loop-rest : goal.invariant-loop-rest
 invariant-loop-rest g l = record {
-  bytes : AppendsAllBut (g.K.Sink.written l.fn.out) (g.K.Sink.written l.out) l.rest l.fn.bytes;
-  faults : g.K.Sink.faults l.out ≡ g.K.Sink.faults l.fn.out;
+  bytes : AppendsAllBut (g.O.Sink.told l.fn.out).written (g.O.Sink.told l.out).written l.rest l.fn.bytes;
+  faults : (g.O.Sink.told l.out).faults ≡ (g.O.Sink.told l.fn.out).faults;
 }
 
 abbrev pub decreases-loop-rest : goal.decreases-loop-rest
