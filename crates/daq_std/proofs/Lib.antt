@@ -1,2 +1,3 @@
+mod BlockBytes
 mod ByteSteps
 mod InUse

@@ -1,8 +1,11 @@
 -- Files in blocks, each under a number.
 use Rattle.std.specs.Prelude.{◌≡◌, ◌≢◌, ℕ, List, length, [], Option, Some, None, Bool, true, is_some, slice_get}
+use mathlib.Core.List.{IsPrefix}
 use Rattle.std.specs.Io.KnownBytes.{Appends}
-use Rattle.daq_std.specs.Blocks.{bytes_given, opening_of, left_of}
-use Rattle.daq_std.specs.SystemCalls.{OpenedFile, Opening}
+use Rattle.daq_io.specs.Seen.{stored_as}
+use Rattle.daq_io.specs.declared.folder.FileState.TheVariants.{InVain}
+use Rattle.daq_std.specs.Blocks.{bytes_given, given_of, opening_of, left_of}
+use Rattle.daq_std.specs.SystemCalls.{OpenedFile, OpenedThenLeft, Opening}
 use Rattle.daq_std.specs.declared.blocks.BlockFile.{BlockFile}
 
 -- Blocks that go on with this file: nothing is to be written, and nothing was read ahead.
@@ -24,6 +27,19 @@ opening_at blocks number = opening_by (slice_get blocks number)
 -- the bytes that the file in these blocks was given
 abbrev pub given_to : {F : Type 0} → (F → Option (List ℕ)) → BlockFile F → Option (List ℕ)
 given_to contents block = bytes_given contents block.file block.pending.bytes
+
+-- the bytes that the file in these blocks was given, whether it tells them or not
+abbrev pub given_in : {F : Type 0} → BlockFile F → List ℕ
+given_in block = given_of block.file block.broken block.pending.bytes
+
+-- those that the file in a block, if there is one, was given
+abbrev pub given_by : {F : Type 0} → Option (BlockFile F) → List ℕ
+given_by None = []
+given_by (Some block) = given_in block
+
+-- those that the file of a number was given
+abbrev pub given_at : {F : Type 0} → List (BlockFile F) → ℕ → List ℕ
+given_at blocks number = given_by (slice_get blocks number)
 
 -- the bytes that are left to read of the file in these blocks
 abbrev pub left_in : {F : Type 0} → (F → Option (List ℕ)) → BlockFile F → Option (List ℕ)
@@ -55,6 +71,13 @@ is_broken_by (Some block) = is_some block.broken
 -- whether a write of the file of a number failed since it was opened
 abbrev pub is_broken_at : {F : Type 0} → List (BlockFile F) → ℕ → Bool
 is_broken_at blocks number = is_broken_by (slice_get blocks number)
+
+-- A file that the system opened so was let go, and was left in vain with a first part of these bytes.
+pub record IsLetGo (opening : Option Opening) (given : List ℕ) (gone : OpenedThenLeft) : Type 0 where
+  pub has : List ℕ
+  pub part : IsPrefix has given
+  pub left : gone.left ≡ stored_as InVain has
+  pub opened : Some gone.opening ≡ opening
 
 -- At most the blocks of one number are others.
 pub record ChangesBlock {F : Type 0} (old new : List (BlockFile F)) (number : ℕ) : Type 0 where

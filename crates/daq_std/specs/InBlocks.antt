@@ -2,24 +2,25 @@
 use Rattle.std.specs.Prelude.{◌≡◌, ℕ, List, length, Option, Some, Result, IsTrue, ⊤}
 use Rattle.std.specs.Io.KnownBytes.{Appends, Keeps, ReadConsumes}
 use Rattle.daq_io.specs.Counts.{CountsClash, CountsFault, CountsNamed, NamesFirst, NamesFirstOf}
-use Rattle.daq_io.specs.Seen.{Seen}
+use Rattle.daq_io.specs.Seen.{FileDone, Seen}
 use Rattle.daq_io.specs.Tallies.{Tallied}
 use Rattle.daq_io.specs.Uses.{told_numbers, use_at}
 use Rattle.daq_io.specs.declared.folder.NameRefused.{NameRefused}
 use Rattle.daq_io.specs.declared.uses.Usage.{Usage}
 use Rattle.daq_io.specs.declared.uses.Usage.TheVariants.{Free, Writing, Reading}
-use Rattle.daq_std.specs.BlockTables.{OpensBlock, UsesBlock, ahead_at, bytes_given_at, opening_at, is_broken_at}
+use Rattle.daq_std.specs.BlockTables.{OpensBlock, UsesBlock, ahead_at, bytes_given_at, given_at, opening_at, is_broken_at}
 use Rattle.daq_std.specs.Paths.{KeepsName, path_in}
 use Rattle.daq_std.specs.SystemCalls.{KeptName, OpenedFile, Opening, new_to_write, to_read}
 use Rattle.daq_std.specs.declared.blocks.BlockFile.{BlockFile}
 use Rattle.std.specs.declared.fs.OpenOptions.{OpenOptions}
 
 -- a folder, with the path of the last removal and of the last file whose name was put on the disk; neither once a file was asked to
--- be made since
+-- be made since; and what was done with its files
 pub record InFolder : Type 0 where
   pub folder : List ℕ
   pub removed : Option (List ℕ)
   pub kept : Option KeptName
+  pub done : List FileDone
 
 -- the folder, what each number is in use for, the files of the system with the bytes that they were given, and the counts
 pub record InBlocks (F : Type 0) : Type 0 where
@@ -39,9 +40,9 @@ pub record HasFiles {F : Type 0} (folder : List ℕ) (uses : List Usage) (blocks
   pub count : length blocks ≡ length uses
   pub opened : (number : ℕ) → IsOpenFor folder (use_at uses number) (opening_at blocks number)
 
--- what is told of the numbers
+-- what is told of the numbers, of what was given under them, and of what was done
 abbrev pub told_by : {F : Type 0} → InBlocks F → Seen
-told_by files = told_numbers files.uses
+told_by files = told_numbers files.uses (given_at files.blocks) files.inside.done
 
 -- The file of a number was given these bytes more; it may have them in its block. Other numbers' blocks stay.
 pub record GivesBytes {F : Type 0} (contents : F → Option (List ℕ)) (old new : InBlocks F) (number : ℕ) (bytes : List ℕ) : Type 0 where

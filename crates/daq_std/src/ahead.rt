@@ -79,6 +79,7 @@ impl ReadAhead {
             (F.remaining file.new.file)) }
         ensures none { OnErr result (self.new ≡ []) }
         ensures opening { file.new.opening ≡ file.old.opening }
+        ensures handed { file.new.handed ≡ file.old.handed }
     {
         self.start = 0;
         self.end = 0;

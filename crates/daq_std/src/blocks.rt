@@ -1,11 +1,12 @@
-ghost use Rattle.std.specs.Prelude.{◌≡◌, [], IsErr, IsNone, IsSome, IfOk, OnErr, OnOk, Some};
+ghost use Rattle.std.specs.Prelude.{◌≡◌, ◌++◌, [], IsErr, IsNone, IsSome, IfErr, IfOk, OnErr, OnOk, None, Some};
+ghost use mathlib.Core.List.{IsPrefix};
 ghost use Rattle.std.specs.Io.{ReadsAtMost};
 ghost use Rattle.std.specs.Io.KnownBytes.{Appends, Keeps, ReadConsumes};
 ghost use Rattle.daq_std.specs.Blocks.{bytes_given, opening_of};
-ghost use Rattle.daq_std.specs.BlockTables.{IsOpened, given_to, left_in};
+ghost use Rattle.daq_std.specs.BlockTables.{IsLetGo, IsOpened, given_in, given_to, left_in};
 
 use crate::ahead::ReadAhead;
-use crate::system::{Fault, OnDisk, SystemFile};
+use crate::system::{Fault, LetGo, OnDisk, SystemFile};
 use daq_io::ByteRoom;
 use daq_types::NoMemory;
 use std::alloc::Global;
@@ -56,7 +57,11 @@ impl<F: Read + Write + OpenFile + Drop> BlockFile<F> {
         requires { IsSome (opening_of self.old.file) }
         ensures grown { OnOk result (Appends (given_to F.contents self.old)
             (given_to F.contents self.new) bytes.now) }
+        ensures given { OnOk result (given_in self.new ≡ given_in self.old ++ bytes.now) }
+        ensures part { OnErr result (IsPrefix (given_in self.new)
+            (given_in self.old ++ bytes.now)) }
         ensures never_again { IsSome self.old.broken → IsErr result }
+        ensures stays { IsSome self.old.broken → self.new ≡ self.old }
         ensures breaks { OnErr result (IsSome self.new.broken) }
         ensures opening { opening_of self.new.file ≡ opening_of self.old.file }
     {
@@ -79,7 +84,11 @@ impl<F: Read + Write + OpenFile + Drop> BlockFile<F> {
         ensures kept { OnOk result (Keeps (bytes_given F.contents self.old.file
             self.old.pending.bytes) (bytes_given F.contents self.new.file [])) }
         ensures empty { OnOk result (self.new.pending.bytes ≡ []) }
+        ensures given { OnOk result (given_in self.new ≡ given_in self.old) }
+        ensures part { OnErr result (IsPrefix (given_in self.new) (given_in self.old)) }
         ensures never_again { IsSome self.old.broken → IsErr result }
+        ensures stays { IsSome self.old.broken → self.new ≡ self.old }
+        ensures whole { OnOk result (self.new.broken ≡ None) }
         ensures breaks { OnErr result (IsSome self.new.broken) }
         ensures opening { opening_of self.new.file ≡ opening_of self.old.file }
     {
@@ -101,8 +110,12 @@ impl<F: Read + Write + OpenFile + Drop> BlockFile<F> {
     fn write_out(&mut self, bytes: &[u8]) -> Result<(), Fault>
         requires open { IsSome (opening_of self.old.file) }
         requires empty { self.old.pending.bytes ≡ [] }
+        requires whole { self.old.broken ≡ None }
         ensures grown { OnOk result (Appends (bytes_given F.contents self.old.file [])
             (bytes_given F.contents self.new.file self.new.pending.bytes) bytes.now) }
+        ensures given { OnOk result (given_in self.new ≡ given_in self.old ++ bytes.now) }
+        ensures part { OnErr result (IsPrefix (given_in self.new)
+            (given_in self.old ++ bytes.now)) }
         ensures breaks { OnErr result (IsSome self.new.broken) }
         ensures opening { opening_of self.new.file ≡ opening_of self.old.file }
     {
@@ -139,12 +152,15 @@ impl<F: Read + Write + OpenFile + Drop> BlockFile<F> {
 
     /// Writes what is left, has the system put all of the file on the disk, and hands the file out. Where a part was not
     /// written, also before, the file is let go.
-    pub fn close(&mut self) -> Result<OnDisk<F>, Fault>
+    pub fn close(&mut self) -> Result<OnDisk<F>, LetGo>
         requires { IsSome (opening_of self.old.file) }
         ensures whole { IfOk result (λ synced. Keeps (given_to F.contents self.old)
             (F.contents synced.file)) }
         ensures opening { IfOk result (λ synced. Some synced.opening
             ≡ opening_of self.old.file) }
+        ensures handed { IfOk result (λ synced. synced.handed ≡ given_in self.old) }
+        ensures let_go { IfErr result (λ gone. IsLetGo (opening_of self.old.file)
+            (given_in self.old) gone.file) }
         ensures broken { IsSome self.old.broken → IsErr result }
         ensures gone { IsNone self.new.file }
     {
@@ -152,8 +168,10 @@ impl<F: Read + Write + OpenFile + Drop> BlockFile<F> {
         let Some(file) = self.file.take() else {
             unreachable!();
         };
-        written?;
-        file.sync()
+        match written {
+            Ok(()) => file.sync(),
+            Err(fault) => Err(file.let_go(fault)),
+        }
     }
 
     /// Lets the file go.

@@ -31,9 +31,7 @@ fn reading(told: Result<Duration, Error>) -> u32
 }
 
 impl<R: rt::Clock + Drop> Clock for StdClock<R> {
-    ghost tells = { λ c. false };
-
-    ghost ahead = { λ c n. 0 };
+    ghost told = { λ _. record { tells = false; ahead = λ _. 0 } };
 
     fn now(&mut self) -> u32 {
         reading(self.system.since_1970())
@@ -54,9 +52,7 @@ impl RoundPick {
 }
 
 impl Pick for RoundPick {
-    ghost tells = { λ p. false };
-
-    ghost ahead = { λ p n. 0 };
+    ghost told = { λ _. record { tells = false; ahead = λ _. 0 } };
 
     fn first(&mut self, members: u32) -> u32 {
         let member = self.next % members;

@@ -1,7 +1,7 @@
 ghost use Rattle.std.specs.Prelude.{◌≡◌, ℕ, [], IfOk, IsErr, IsErrOf, IsTrue, None, OnErr, OnOk, Some, take};
 ghost use Rattle.std.specs.Io.{ReadsAtMost};
 ghost use Rattle.daq_io.specs.Counts.{NamesFirst};
-ghost use Rattle.daq_io.specs.Seen.{Closes, Creates, Ends, Extends, ExtendsPart, InUse, IsFree, Opens, Reads, Removes, Same};
+ghost use Rattle.daq_io.specs.Seen.{close_state, Closes, Creates, Ends, Extends, ExtendsPart, InUse, IsFree, Opens, Reads, Removes, Same};
 ghost use Rattle.daq_io.specs.Uses.{free_numbers};
 ghost use Rattle.daq_std.specs.BlockTables.{LeavesBlock, UsesBlock};
 ghost use Rattle.daq_std.specs.InBlocks.{CountsOne, CountsOnName, GivesBytes, HasAll, IsBroken, NamesFirstAt, NamesOnDisk, OpensFile, TakesBytes, told_by};
@@ -19,8 +19,9 @@ use std::alloc::Global;
 use std::marker::Model;
 use std::rt;
 
-/// The files of one folder of the system; a name that begins with `/` is one from the root. Nothing is told of their names
-/// and bytes. Reads and appends go through blocks that are taken once, so bytes may reach the system only at a later
+/// The files of one folder of the system; a name that begins with `/` is one from the root. Told are the bytes that each file
+/// which was made here was given, and how it was left; nothing is told of which names there are, and of the bytes that files
+/// had before. Reads and appends go through blocks that are taken once, so bytes may reach the system only at a later
 /// append or at the close, and a failure there is that call's fault. A close answers Ok only when the system has put the
 /// file and the names of its folder on the disk; what a removal undoes is there behind the next close in that folder. A
 /// file of which a write failed takes no more bytes, and its close fails. What is no file, such as a folder or a pipe, is
@@ -61,9 +62,14 @@ impl<R: rt::Files + Drop> StdFiles<R> {
         ensures folder { IfOk result (λ made. made.inside.folder ≡ folder.now) }
         ensures numbers { IfOk result (λ made. free_numbers made.uses ≡ numbers) }
         ensures unused { IfOk result (λ made. (number : ℕ)
-            → IsFree (⟦<StdFiles<R> as Files>⟧.seen made) number) }
-        ensures faults { IfOk result (λ made. ⟦<StdFiles<R> as Files>⟧.faults made ≡ 0) }
-        ensures clashes { IfOk result (λ made. ⟦<StdFiles<R> as Files>⟧.clashes made ≡ 0) }
+            → IsFree (⟦<StdFiles<R> as Files>⟧.told made).seen number) }
+        ensures faults { IfOk result (λ made. (⟦<StdFiles<R> as Files>⟧.told made).faults ≡ 0) }
+        ensures clashes { IfOk result (λ made. (⟦<StdFiles<R> as Files>⟧.told made).clashes ≡ 0) }
+        ensures first { IfOk result (λ made. (⟦<StdFiles<R> as Files>⟧.told made).first ≡ None) }
+        ensures nothing_given { IfOk result (λ made. (number : ℕ)
+            → (⟦<StdFiles<R> as Files>⟧.told made).seen.given number ≡ []) }
+        ensures nothing_done { IfOk result
+            (λ made. (⟦<StdFiles<R> as Files>⟧.told made).seen.done ≡ []) }
     {
         let folder = SystemFolder::new(alloc, system, folder)?;
         let blocks = BlockTable::new(alloc, numbers)?;
@@ -115,7 +121,7 @@ impl<R: rt::Files + Drop> StdFiles<R> {
     fn finish(&mut self, file: u32, name: &FileName) -> Result<(), Fault>
         requires writes { IsTrue ((told_by self.old).writes file) }
         requires named { (told_by self.old).name_of file ≡ name.now }
-        ensures closes { Closes (told_by self.old) (told_by self.new) file [] }
+        ensures closes { Closes (told_by self.old) (told_by self.new) file (close_state result) [] }
         ensures all { OnOk result (HasAll R.File.contents self.old file) }
         ensures named { OnOk result (NamesOnDisk self.old self.new file) }
         ensures broken { IsBroken self.old file → IsErr result }
@@ -124,24 +130,27 @@ impl<R: rt::Files + Drop> StdFiles<R> {
         ensures folder { self.new.inside.folder ≡ self.old.inside.folder }
     {
         self.numbers.assign(file, Usage::Free);
-        let on_disk = self.blocks.finish(file)?;
-        self.folder.sync(name, on_disk)
+        match self.blocks.finish(file) {
+            Ok(on_disk) => self.folder.sync(name, on_disk),
+            Err(gone) => {
+                self.folder.leave(name, gone.file);
+                Err(gone.fault)
+            }
+        }
     }
 }
 
 impl<R: rt::Files + Drop> Files for StdFiles<R> {
     ghost use Rattle.daq_std.specs.InBlocks.{told_by};
 
-    ghost seen = { λ s. told_by s };
-
-    ghost faults = { λ s. s.tallied.faults };
-
-    ghost clashes = { λ s. s.tallied.clashes };
-
-    // None is counted, since no bytes are told.
-    ghost bytes_read = { λ _. 0 };
-
-    ghost first = { λ s. s.tallied.first };
+    // No byte that is read is counted, since what files had before is not told.
+    ghost told = { λ s. record {
+      seen = told_by s;
+      faults = s.tallied.faults;
+      clashes = s.tallied.clashes;
+      first = s.tallied.first;
+      bytes_read = 0;
+    } };
 
     /// The number goes on with a file that the system made under the path of the name.
     fn create(&mut self, name: &FileName) -> Result<u32, NameRefused>
@@ -150,8 +159,8 @@ impl<R: rt::Files + Drop> Files for StdFiles<R> {
         ensures kept { OnErr result (Same (told_by self.old) (told_by self.new)) }
         ensures not_missing { ¬ IsErrOf result NameRefused.Missing }
         ensures counts { CountsOnName name.now self.old self.new result }
-        ensures bytes_read { ⟦<StdFiles<R> as Files>⟧.bytes_read self.new
-            ≡ ⟦<StdFiles<R> as Files>⟧.bytes_read self.old }
+        ensures bytes_read { (⟦<StdFiles<R> as Files>⟧.told self.new).bytes_read
+            ≡ (⟦<StdFiles<R> as Files>⟧.told self.old).bytes_read }
         ensures opened { IfOk result (OpensFile new_to_write name.now self.old self.new) }
         ensures others { OnErr result (self.new.blocks ≡ self.old.blocks) }
         ensures removed { OnOk result (self.new.inside.removed ≡ None) }
@@ -173,12 +182,14 @@ impl<R: rt::Files + Drop> Files for StdFiles<R> {
             (ExtendsPart (told_by self.old) (told_by self.new) file bytes.now) }
         ensures faults { CountsOne self.old self.new result }
         ensures clashes { self.new.tallied.clashes ≡ self.old.tallied.clashes }
-        ensures bytes_read { ⟦<StdFiles<R> as Files>⟧.bytes_read self.new
-            ≡ ⟦<StdFiles<R> as Files>⟧.bytes_read self.old }
+        ensures bytes_read { (⟦<StdFiles<R> as Files>⟧.told self.new).bytes_read
+            ≡ (⟦<StdFiles<R> as Files>⟧.told self.old).bytes_read }
         ensures first { NamesFirstAt file self.old self.new result }
         ensures given { OnOk result (GivesBytes R.File.contents self.old self.new file bytes.now) }
         ensures never_again { IsBroken self.old file → IsErr result }
         ensures breaks { OnErr result (IsBroken self.new file) }
+        ensures stays { IsBroken self.old file → (told_by self.new).given file
+            ≡ (told_by self.old).given file }
         ensures uses { UsesBlock self.old.blocks self.new.blocks file }
         ensures inside { self.new.inside ≡ self.old.inside }
     {
@@ -195,13 +206,13 @@ impl<R: rt::Files + Drop> Files for StdFiles<R> {
     fn close(&mut self, file: u32) -> Result<(), Failed>
         requires { InUse (told_by self.old) file }
         ensures written { IsTrue ((told_by self.old).writes file)
-            → Closes (told_by self.old) (told_by self.new) file [] }
+            → Closes (told_by self.old) (told_by self.new) file (close_state result) [] }
         ensures read { IsTrue ((told_by self.old).reads file)
             → Ends (told_by self.old) (told_by self.new) file }
         ensures faults { CountsOne self.old self.new result }
         ensures clashes { self.new.tallied.clashes ≡ self.old.tallied.clashes }
-        ensures bytes_read { ⟦<StdFiles<R> as Files>⟧.bytes_read self.new
-            ≡ ⟦<StdFiles<R> as Files>⟧.bytes_read self.old }
+        ensures bytes_read { (⟦<StdFiles<R> as Files>⟧.told self.new).bytes_read
+            ≡ (⟦<StdFiles<R> as Files>⟧.told self.old).bytes_read }
         ensures first { NamesFirstAt file self.old self.new result }
         ensures all { IsTrue ((told_by self.old).writes file)
             → OnOk result (HasAll R.File.contents self.old file) }
@@ -232,8 +243,8 @@ impl<R: rt::Files + Drop> Files for StdFiles<R> {
         ensures kept { OnErr result (Same (told_by self.old) (told_by self.new)) }
         ensures faults { CountsOne self.old self.new result }
         ensures clashes { self.new.tallied.clashes ≡ self.old.tallied.clashes }
-        ensures bytes_read { ⟦<StdFiles<R> as Files>⟧.bytes_read self.new
-            ≡ ⟦<StdFiles<R> as Files>⟧.bytes_read self.old }
+        ensures bytes_read { (⟦<StdFiles<R> as Files>⟧.told self.new).bytes_read
+            ≡ (⟦<StdFiles<R> as Files>⟧.told self.old).bytes_read }
         ensures first { NamesFirst name.now self.old.tallied.first self.new.tallied.first result }
         ensures done { OnOk result (self.new.inside.removed
             ≡ Some (path_in self.old.inside.folder name.now)) }
@@ -254,8 +265,8 @@ impl<R: rt::Files + Drop> Files for StdFiles<R> {
         ensures kept { OnErr result (Same (told_by self.old) (told_by self.new)) }
         ensures not_exists { ¬ IsErrOf result NameRefused.Exists }
         ensures counts { CountsOnName name.now self.old self.new result }
-        ensures bytes_read { ⟦<StdFiles<R> as Files>⟧.bytes_read self.new
-            ≡ ⟦<StdFiles<R> as Files>⟧.bytes_read self.old }
+        ensures bytes_read { (⟦<StdFiles<R> as Files>⟧.told self.new).bytes_read
+            ≡ (⟦<StdFiles<R> as Files>⟧.told self.old).bytes_read }
         ensures opened { IfOk result (OpensFile to_read name.now self.old self.new) }
         ensures others { OnErr result (self.new.blocks ≡ self.old.blocks) }
         ensures inside { self.new.inside ≡ self.old.inside }
@@ -275,8 +286,8 @@ impl<R: rt::Files + Drop> Files for StdFiles<R> {
         ensures kept { OnErr result (Same (told_by self.old) (told_by self.new)) }
         ensures faults { CountsOne self.old self.new result }
         ensures clashes { self.new.tallied.clashes ≡ self.old.tallied.clashes }
-        ensures bytes_read { ⟦<StdFiles<R> as Files>⟧.bytes_read self.new
-            ≡ ⟦<StdFiles<R> as Files>⟧.bytes_read self.old }
+        ensures bytes_read { (⟦<StdFiles<R> as Files>⟧.told self.new).bytes_read
+            ≡ (⟦<StdFiles<R> as Files>⟧.told self.old).bytes_read }
         ensures first { NamesFirstAt file self.old self.new result }
         ensures taken { TakesBytes R.File.remaining self.old self.new file result into.new }
         ensures inside { self.new.inside ≡ self.old.inside }

@@ -1,10 +1,14 @@
-ghost use Rattle.std.specs.Prelude.{◌≡◌, ◌<◌, ◌+◌, ◌≤◌, ◌++◌, All, IfOk, IsTrue, None, OnOk, Some, length, string_bytes, string_capacity, take};
+ghost use Rattle.std.specs.Prelude.{◌≡◌, ◌<◌, ◌+◌, ◌≤◌, ◌++◌, ◌∷◌, [], All, IfOk, IsTrue, None, OnErr, OnOk, Some, length, string_bytes, string_capacity, take};
 ghost use Rattle.daq_types.specs.Names.{is_file_byte};
+ghost use Rattle.daq_io.specs.Seen.{close_state, stored_as, was_left, was_removed};
 ghost use Rattle.daq_std.specs.Paths.{IsFolderPart, KeepsName, is_rooted, path_in};
 ghost use Rattle.daq_std.specs.SystemCalls.{new_to_write, to_read};
 
 use crate::opening::{make_file, open_file};
-use crate::system::{Fault, NameOnDisk, OnDisk, Removed, SystemFile, remove_file, sync_folder};
+use crate::system::{
+    Fault, LeftFile, NameOnDisk, OnDisk, Removed, SystemFile, remove_file, sync_folder,
+};
+use daq_io::FileTrace;
 use daq_types::{FileName, NoMemory};
 use std::alloc::Global;
 use std::marker::Model;
@@ -24,6 +28,8 @@ pub struct SystemFolder<R> {
     removed: Option<Removed>,
     /// The last name that was put on the disk, where none was made or removed since.
     kept: Option<NameOnDisk>,
+    /// The files that were written and left, or removed.
+    done: FileTrace,
 }
 
 impl<R> Model for SystemFolder<R> {
@@ -36,6 +42,7 @@ impl<R> Model for SystemFolder<R> {
       folder = string_bytes s.folder;
       removed = s.removed;
       kept = s.kept;
+      done = s.done;
     } };
 
     // There is room for the longest path.
@@ -105,6 +112,7 @@ impl<R: rt::Files + Drop> SystemFolder<R> {
     /// A folder, with room for the longest path.
     pub fn new(alloc: Global, system: R, folder: &str) -> Result<SystemFolder<R>, NoMemory>
         ensures folder { IfOk result (λ made. made.folder ≡ folder.now) }
+        ensures nothing { IfOk result (λ made. made.done ≡ []) }
     {
         let Some(room) = folder.len().checked_add(NAME_ROOM) else {
             return Err(NoMemory);
@@ -115,6 +123,7 @@ impl<R: rt::Files + Drop> SystemFolder<R> {
             path: String::with_capacity(alloc, room)?,
             removed: None,
             kept: None,
+            done: FileTrace::new(),
         })
     }
 
@@ -122,6 +131,7 @@ impl<R: rt::Files + Drop> SystemFolder<R> {
     pub fn create(&mut self, name: &FileName) -> Result<SystemFile<R::File>, Fault>
         ensures made { IfOk result (λ file. file.opening
             ≡ record { how = new_to_write; path = path_in self.old.folder name.now }) }
+        ensures nothing { IfOk result (λ file. file.handed ≡ []) }
         ensures folder { self.new ≡ record self.old { removed = None; kept = None } }
     {
         self.removed = None;
@@ -134,6 +144,7 @@ impl<R: rt::Files + Drop> SystemFolder<R> {
     pub fn open(&mut self, name: &FileName) -> Result<SystemFile<R::File>, Fault>
         ensures opened { IfOk result (λ file. file.opening
             ≡ record { how = to_read; path = path_in self.old.folder name.now }) }
+        ensures nothing { IfOk result (λ file. file.handed ≡ []) }
         ensures folder { self.new ≡ self.old }
     {
         make_path(self.folder.as_str(), name.as_slice(), &mut self.path);
@@ -144,27 +155,45 @@ impl<R: rt::Files + Drop> SystemFolder<R> {
     pub fn remove(&mut self, name: &FileName) -> Result<(), Fault>
         ensures removed { OnOk result (self.new.removed
             ≡ Some (path_in self.old.folder name.now)) }
+        ensures done { OnOk result (self.new.done ≡ self.old.done ++ was_removed name.now ∷ []) }
+        ensures not_done { OnErr result (self.new.done ≡ self.old.done) }
         ensures folder { self.new.folder ≡ self.old.folder }
     {
         self.kept = None;
         make_path(self.folder.as_str(), name.as_slice(), &mut self.path);
-        self.removed = Some(remove_file(&self.system, &self.path)?);
+        let folder = self.folder.as_str();
+        self.removed = Some(remove_file(&self.system, &self.path, &mut self.done, folder, name)?);
         Ok(())
     }
 
-    /// Has the system put the names of the folder in which the file of this name lies on the disk, behind that file.
+    /// Has the system put the names of the folder in which the file of this name lies on the disk, behind that file. The file is
+    /// closed where the system did, and else let go.
     pub fn sync(&mut self, name: &FileName, file: OnDisk<R::File>) -> Result<(), Fault>
+        requires { file.opening.path ≡ path_in self.old.folder name.now }
         ensures kept { OnOk result (KeepsName self.old.folder name.now file.opening.path
             self.new.kept) }
+        ensures done { self.new.done ≡ self.old.done
+            ++ was_left name.now (stored_as (close_state result) file.handed) ∷ [] }
         ensures folder { self.new.folder ≡ self.old.folder }
     {
-        let name = name.as_slice();
+        let bytes = name.as_slice();
         make_path(
             self.folder.as_str(),
-            &name[..folder_part(name)],
+            &bytes[..folder_part(bytes)],
             &mut self.path,
         );
-        self.kept = Some(sync_folder(&self.system, &self.path, file)?);
+        let (kept, file) = sync_folder(&self.system, &self.path, file);
+        file.tell(&mut self.done, self.folder.as_str(), name);
+        self.kept = Some(kept?);
         Ok(())
+    }
+
+    /// Notes that the file of this name is written no more.
+    pub fn leave(&mut self, name: &FileName, file: LeftFile)
+        requires { file.opening.path ≡ path_in self.old.folder name.now }
+        ensures { self.new ≡ record self.old
+            { done = self.old.done ++ was_left name.now file.left ∷ [] } }
+    {
+        file.tell(&mut self.done, self.folder.as_str(), name);
     }
 }

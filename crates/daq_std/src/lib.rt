@@ -1,5 +1,5 @@
-//! The outside for real: standard input and output, the files of a folder, the clock of the system. Nothing is told of
-//! what the system gives.
+//! The outside for real: standard input and output, the files of a folder, the clock of the system. Told is what the system took by
+//! its writes, and which files it was asked to put on the disk or to remove and did; nothing is told of what the system gives.
 #![tactic(auto)]
 
 mod again;

@@ -1,18 +1,21 @@
 //! The calls of the system on files and streams, one in each function. What they hand out says what the system did, and there is
 //! no other way to have it than to ask the system. A fault is made here alone: of an error that the system told, of what is no
 //! file, of a write that took no byte, of too many interruptions, and where no number is free.
-ghost use Rattle.std.specs.Prelude.{◌≡◌, ◌≢◌, ◌<◌, ◌+◌, ◌-◌, ◌^◌, ◌↔◌, IfErr, IfOk, IsErrAnd, IsOk, IsTrue, Err, Ok, OnErr, OnOk, length, string_bytes};
+ghost use Rattle.std.specs.Prelude.{◌≡◌, ◌≢◌, ◌<◌, ◌+◌, ◌-◌, ◌^◌, ◌↔◌, ◌++◌, ◌∷◌, [], IfErr, IfOk, IsErrAnd, IsOk, IsTrue, Err, Ok, OnErr, OnOk, length, string_bytes};
 ghost use Rattle.std.specs.Fs.{IsFile, file_type};
 ghost use Rattle.std.specs.Io.{ReadsAtMost, WritesAtMost};
 ghost use Rattle.std.specs.Io.KnownBytes.{Appends, ReadConsumes, WriteAppends};
 ghost use Rattle.std.specs.IoError.{error_kind};
+ghost use Rattle.daq_io.specs.Seen.{close_state, was_left, was_removed};
 ghost use Rattle.daq_io.specs.Uses.{free_numbers, use_at};
 ghost use Rattle.daq_io.specs.declared.uses.Usage.TheVariants.{Free};
-ghost use Rattle.daq_std.specs.SystemCalls.{TellsKind, reason_of};
+ghost use Rattle.daq_std.specs.Paths.{path_in};
+ghost use Rattle.daq_std.specs.SystemCalls.{TellsKind, TookPart, TookWrite, left_so, reason_of};
 
-use crate::again::read_once;
+use crate::again::{read_once, write_whole};
 use crate::opening::open_to_read;
-use daq_io::UseTable;
+use daq_io::{ByteTrace, FileState, FileTrace, UseTable};
+use daq_types::FileName;
 use std::fs::{Metadata, OpenFile, OpenOptions};
 use std::io::{self, ErrorKind, Read, Write};
 use std::marker::Model;
@@ -84,12 +87,52 @@ impl Model for Removed {
     ghost view = { λ r. string_bytes r.path.value };
 }
 
+/// A file of the system that is written no more: how it was opened, under which path; the bytes that the system took for it;
+/// and how it was left.
+#[derive(Drop)]
+pub struct LeftFile {
+    how: Snapshot<OpenOptions>,
+    path: Snapshot<String>,
+    taken: ByteTrace,
+    state: FileState,
+}
+
+impl Model for LeftFile {
+    ghost use Rattle.std.specs.Prelude.{string_bytes};
+    ghost use Rattle.daq_io.specs.Seen.{stored_as};
+    ghost use Rattle.daq_std.specs.SystemCalls.{OpenedThenLeft};
+
+    ghost Value = { OpenedThenLeft };
+
+    ghost view = { λ f. record {
+      opening = record { how = f.how.value; path = string_bytes f.path.value };
+      left = stored_as f.state f.taken;
+    } };
+}
+
+impl LeftFile {
+    /// Notes the file, which was opened under the path of this name of a folder.
+    pub fn tell(self, done: &mut FileTrace, _folder: &str, name: &FileName)
+        requires { self.opening.path ≡ path_in _folder.now name.now }
+        ensures { done.new ≡ done.old ++ was_left name.now self.left ∷ [] }
+    {
+        done.left(name, self.taken, self.state);
+    }
+}
+
+/// A file that was let go, and why.
+#[derive(Drop)]
+pub struct LetGo {
+    pub file: LeftFile,
+    pub fault: Fault,
+}
+
 /// The system put the names of the folder under a path on the disk, or told that it cannot do so for a folder; and before that
-/// the file that was opened under another.
+/// this file.
 #[derive(Drop)]
 pub struct NameOnDisk {
     folder: Snapshot<String>,
-    file: Snapshot<String>,
+    file: Snapshot<LeftFile>,
 }
 
 impl Model for NameOnDisk {
@@ -100,14 +143,33 @@ impl Model for NameOnDisk {
 
     ghost view = { λ n. record {
       folder = string_bytes n.folder.value;
-      file = string_bytes n.file.value;
+      file = n.file.value.opening.path;
     } };
 }
 
-/// A file of the system, which opened it so, under this path.
+/// What takes writes, and the bytes that it took of them, in order.
+#[derive(Drop)]
+pub struct TakingWriter<W> {
+    writer: W,
+    taken: ByteTrace,
+}
+
+impl<W> TakingWriter<W> {
+    /// Nothing was taken yet.
+    pub fn new(writer: W) -> TakingWriter<W>
+        ensures { result ≡ record { writer = writer; taken = [] } }
+    {
+        TakingWriter {
+            writer,
+            taken: ByteTrace::new(),
+        }
+    }
+}
+
+/// A file of the system, which opened it so, under this path, and the bytes that the system took for it.
 #[derive(Drop)]
 pub struct SystemFile<F> {
-    file: F,
+    file: TakingWriter<F>,
     how: Snapshot<OpenOptions>,
     path: Snapshot<String>,
 }
@@ -119,8 +181,9 @@ impl<F> Model for SystemFile<F> {
     ghost Value = { OpenedFile F };
 
     ghost view = { λ f. record {
-      file = f.file;
+      file = f.file.writer;
       opening = record { how = f.how.value; path = string_bytes f.path.value };
+      handed = f.file.taken;
     } };
 }
 
@@ -186,11 +249,12 @@ pub fn open_as<R: rt::Files>(
     how: &OpenOptions,
     path: &String,
 ) -> Result<SystemFile<R::File>, Fault>
-    ensures { IfOk result (λ opened. opened.opening
+    ensures opening { IfOk result (λ opened. opened.opening
         ≡ record { how = how.now; path = string_bytes path.now }) }
+    ensures nothing { IfOk result (λ opened. opened.handed ≡ []) }
 {
     Ok(SystemFile {
-        file: told(how.open(system, path.as_str()))?,
+        file: TakingWriter::new(told(how.open(system, path.as_str()))?),
         how: Snapshot::of(how),
         path: Snapshot::of(path),
     })
@@ -201,31 +265,54 @@ pub fn look_at<R: rt::Files>(system: &R, path: &String) -> Result<(), Fault> {
     regular(system.metadata(path.as_str()))
 }
 
-/// Removes the file. That there is none is as good.
-pub fn remove_file<R: rt::Files>(system: &R, path: &String) -> Result<Removed, Fault>
-    ensures { IfOk result (λ removed. removed ≡ string_bytes path.now) }
+/// Removes the file of this name of a folder, and notes it. That there is none is as good.
+pub fn remove_file<R: rt::Files>(
+    system: &R,
+    path: &String,
+    done: &mut FileTrace,
+    _folder: &str,
+    name: &FileName,
+) -> Result<Removed, Fault>
+    requires { string_bytes path.now ≡ path_in _folder.now name.now }
+    ensures removed { IfOk result (λ removed. removed ≡ string_bytes path.now) }
+    ensures done { OnOk result (done.new ≡ done.old ++ was_removed name.now ∷ []) }
+    ensures kept { OnErr result (done.new ≡ done.old) }
 {
     told_unless(ErrorKind::NotFound, system.remove_file(path.as_str()))?;
+    done.removed(name);
     Ok(Removed {
         path: Snapshot::of(path),
     })
 }
 
-/// Has the system put the names of a folder on the disk, behind a file. That it cannot do so for a folder is as good.
+/// Has the system put the names of a folder on the disk. That it cannot do so for a folder is as good.
+fn sync_names<R: rt::Files>(system: &R, path: &String) -> Result<(), Fault> {
+    let folder = open_to_read(system, path)?;
+    told_unless(ErrorKind::InvalidInput, folder.file.writer.sync_all())
+}
+
+/// Has the system put the names of a folder on the disk, behind a file, and answers how that file is left: closed where the
+/// system did.
 pub fn sync_folder<R: rt::Files>(
     system: &R,
     path: &String,
     file: OnDisk<R::File>,
-) -> Result<NameOnDisk, Fault>
-    ensures { IfOk result (λ kept. kept
+) -> (Result<NameOnDisk, Fault>, LeftFile)
+    ensures kept { IfOk result.0 (λ kept. kept
         ≡ record { folder = string_bytes path.now; file = file.opening.path }) }
+    ensures left { result.1 ≡ left_so (close_state result.0) file }
 {
-    let folder = open_to_read(system, path)?;
-    told_unless(ErrorKind::InvalidInput, folder.file.sync_all())?;
-    Ok(NameOnDisk {
-        folder: Snapshot::of(path),
-        file: file.file.path,
-    })
+    match sync_names(system, path) {
+        Ok(()) => {
+            let closed = file.file.leave(FileState::Closed);
+            let kept = NameOnDisk {
+                folder: Snapshot::of(path),
+                file: Snapshot::of(&closed),
+            };
+            (Ok(kept), closed)
+        }
+        Err(fault) => (Err(fault), file.file.leave(FileState::InVain)),
+    }
 }
 
 /// Reads, by one call.
@@ -249,14 +336,16 @@ fn taken(count: usize, some: bool) -> Result<usize, Fault>
     Ok(count)
 }
 
-/// Writes, by one call. That no byte is taken, where there is one, is a fault.
-pub fn write_to<W: Write>(writer: &mut W, bytes: &[u8]) -> Result<usize, Fault>
+/// Writes, by one call, and notes what was taken. That no byte is taken, where there is one, is a fault.
+pub fn write_to<W: Write>(to: &mut TakingWriter<W>, bytes: &[u8]) -> Result<usize, Fault>
     ensures within { WritesAtMost result bytes.now }
     ensures some { IfOk result (λ count. 0 < length bytes.now → 0 < count) }
-    ensures bytes { WriteAppends (W.contents writer.old) (W.contents writer.new) result
+    ensures bytes { WriteAppends (W.contents to.old.writer) (W.contents to.new.writer) result
         bytes.now }
+    ensures taken { TookWrite to.old.taken to.new.taken result bytes.now }
 {
-    let count = told(writer.write(bytes))?;
+    let count = told(to.writer.write(bytes))?;
+    to.taken.more(bytes, count);
     taken(count, !bytes.is_empty())
 }
 
@@ -267,34 +356,64 @@ impl<F: Read> SystemFile<F> {
         ensures bytes { ReadConsumes (F.remaining self.old.file) (F.remaining self.new.file) result
             into.new }
         ensures opening { self.new.opening ≡ self.old.opening }
+        ensures handed { self.new.handed ≡ self.old.handed }
     {
-        read_once(&mut self.file, into)
+        read_once(&mut self.file.writer, into)
     }
 }
 
 impl<F: Write> SystemFile<F> {
-    /// Writes all of the bytes to the file.
+    /// Writes all of the bytes to the file. After a failure the system took the front of them.
     pub fn write_all(&mut self, bytes: &[u8]) -> Result<(), Fault>
         ensures bytes { OnOk result (Appends (F.contents self.old.file) (F.contents self.new.file)
             bytes.now) }
+        ensures handed { OnOk result (self.new.handed ≡ self.old.handed ++ bytes.now) }
+        ensures part { OnErr result (TookPart (F.contents self.old.file)
+            (F.contents self.new.file) self.old.handed self.new.handed bytes.now) }
         ensures opening { self.new.opening ≡ self.old.opening }
     {
-        told(self.file.write_all(bytes))
+        write_whole(&mut self.file, bytes)
     }
 }
 
 impl<F: OpenFile + Drop> SystemFile<F> {
     /// Refuses what is no file.
     pub fn look(&self) -> Result<(), Fault> {
-        regular(self.file.metadata())
+        regular(self.file.writer.metadata())
     }
 
     /// Has the system put all of the file on the disk. Where it does not, the file is let go.
-    pub fn sync(self) -> Result<OnDisk<F>, Fault>
-        ensures { IfOk result (λ synced. synced ≡ self) }
+    pub fn sync(self) -> Result<OnDisk<F>, LetGo>
+        ensures synced { IfOk result (λ synced. synced ≡ self) }
+        ensures gone { IfErr result (λ gone. gone.file ≡ left_so FileState.InVain self) }
     {
-        told(self.file.sync_all())?;
-        Ok(OnDisk { file: self })
+        match told(self.file.writer.sync_all()) {
+            Ok(()) => Ok(OnDisk { file: self }),
+            Err(fault) => Err(self.let_go(fault)),
+        }
+    }
+
+    /// Lets the file go, for this fault.
+    pub fn let_go(self, fault: Fault) -> LetGo
+        ensures file { result.file ≡ left_so FileState.InVain self }
+        ensures fault { result.fault ≡ fault }
+    {
+        LetGo {
+            file: self.leave(FileState::InVain),
+            fault,
+        }
+    }
+
+    /// What is left of the file, which is written no more.
+    fn leave(self, state: FileState) -> LeftFile
+        ensures { result ≡ left_so state self }
+    {
+        LeftFile {
+            how: self.how,
+            path: self.path,
+            taken: self.file.taken,
+            state,
+        }
     }
 }
 

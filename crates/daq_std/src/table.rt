@@ -1,10 +1,11 @@
-ghost use Rattle.std.specs.Prelude.{◌≡◌, ◌<◌, IfOk, IsErr, IsSome, IsTrue, OnErr, OnOk, Some, length};
+ghost use Rattle.std.specs.Prelude.{◌≡◌, ◌<◌, ◌++◌, ℕ, [], IfErr, IfOk, IsErr, IsSome, IsTrue, OnErr, OnOk, Some, length};
+ghost use mathlib.Core.List.{IsPrefix};
 ghost use Rattle.std.specs.Io.{ReadsAtMost};
 ghost use Rattle.std.specs.Io.KnownBytes.{Keeps, ReadConsumes};
-ghost use Rattle.daq_std.specs.BlockTables.{GrowsBlock, LeavesBlock, OpensBlock, UsesBlock, ahead_at, bytes_given_at, opening_at, is_broken_at};
+ghost use Rattle.daq_std.specs.BlockTables.{GrowsBlock, IsLetGo, LeavesBlock, OpensBlock, UsesBlock, ahead_at, bytes_given_at, given_at, opening_at, is_broken_at};
 
 use crate::blocks::BlockFile;
-use crate::system::{Fault, OnDisk, SystemFile};
+use crate::system::{Fault, LetGo, OnDisk, SystemFile};
 use daq_types::NoMemory;
 use std::alloc::Global;
 use std::fs::OpenFile;
@@ -19,7 +20,9 @@ pub struct BlockTable<F> {
 impl<F: Read + Write + OpenFile + Drop> BlockTable<F> {
     /// Blocks for so many numbers.
     pub fn new(alloc: Global, count: u32) -> Result<BlockTable<F>, NoMemory>
-        ensures { IfOk result (λ made. length made.blocks.items ≡ count) }
+        ensures count { IfOk result (λ made. length made.blocks.items ≡ count) }
+        ensures nothing { IfOk result (λ made. (number : ℕ)
+            → given_at made.blocks.items number ≡ []) }
     {
         let mut blocks = Vec::new(alloc);
         for _ in 0..count {
@@ -42,6 +45,12 @@ impl<F: Read + Write + OpenFile + Drop> BlockTable<F> {
         requires { IsSome (opening_at self.old.blocks.items number) }
         ensures grown { OnOk result (GrowsBlock F.contents self.old.blocks.items
             self.new.blocks.items number bytes.now) }
+        ensures given { OnOk result (given_at self.new.blocks.items number
+            ≡ given_at self.old.blocks.items number ++ bytes.now) }
+        ensures part { OnErr result (IsPrefix (given_at self.new.blocks.items number)
+            (given_at self.old.blocks.items number ++ bytes.now)) }
+        ensures stays { IsTrue (is_broken_at self.old.blocks.items number)
+            → given_at self.new.blocks.items number ≡ given_at self.old.blocks.items number }
         ensures never_again { IsTrue (is_broken_at self.old.blocks.items number) → IsErr result }
         ensures breaks { OnErr result (IsTrue (is_broken_at self.new.blocks.items number)) }
         ensures uses { UsesBlock self.old.blocks.items self.new.blocks.items number }
@@ -64,12 +73,16 @@ impl<F: Read + Write + OpenFile + Drop> BlockTable<F> {
 
     /// Writes what is left of the file of this number, has all of it put on the disk, and hands the file out. It does not
     /// where a write failed before.
-    pub fn finish(&mut self, number: u32) -> Result<OnDisk<F>, Fault>
+    pub fn finish(&mut self, number: u32) -> Result<OnDisk<F>, LetGo>
         requires { IsSome (opening_at self.old.blocks.items number) }
         ensures whole { IfOk result (λ synced. Keeps (bytes_given_at F.contents
             self.old.blocks.items number) (F.contents synced.file)) }
         ensures opening { IfOk result (λ synced. Some synced.opening
             ≡ opening_at self.old.blocks.items number) }
+        ensures handed { IfOk result (λ synced. synced.handed
+            ≡ given_at self.old.blocks.items number) }
+        ensures let_go { IfErr result (λ gone. IsLetGo (opening_at self.old.blocks.items number)
+            (given_at self.old.blocks.items number) gone.file) }
         ensures broken { IsTrue (is_broken_at self.old.blocks.items number) → IsErr result }
         ensures leaves { LeavesBlock self.old.blocks.items self.new.blocks.items number }
     {
