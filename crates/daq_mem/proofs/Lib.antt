@@ -1,3 +1,4 @@
+mod FileSteps
 mod ReaderLemmas
 mod Results
 mod SlotLemmas

@@ -7,7 +7,9 @@ use Rattle.std.proofs.Math.Seq.{split_at}
 use Rattle.std.proofs.lemmas.List.{set_split, take_all}
 use Rattle.std.proofs.lemmas.List.Sums.{sum_by-set, sum_by-cons}
 use Rattle.std.specs.Cmp.Lexicographic.{pointwise, same_text, other_text}
-use Rattle.daq_io.specs.Seen.{Stored, stored_open, stored_closed}
+use Rattle.daq_io.specs.Seen.{Stored, stored_as, stored_open}
+use Rattle.daq_io.specs.declared.folder.FileState.{FileState}
+use Rattle.daq_io.specs.declared.folder.FileState.TheVariants.{Open}
 use Rattle.daq_mem.specs.MemSeen.{has_name, file_in, stored_in, free_slots, named_count, IsFirstNamed, ChangesOnly, ChangesNothing}
 use Rattle.daq_mem.specs.declared.slots.Slot.{Slot}
 
@@ -78,24 +80,24 @@ some_stored : {x y : Stored} → Some x ≡ Some y → x ≡ y
 some_stored e = cc
 
 -- bytes that are put into the file of this name
-pub put_bytes : (slots : List Slot) (name : List ℕ) (i : ℕ) (old new : Slot) (bytes so_far : List ℕ) → IsFirstNamed slots name i → old ≡ get_or slots i old → new.name ≡ old.name → new.bytes.bytes ≡ old.bytes.bytes ++ bytes → new.closed ≡ old.closed
+pub put_bytes : (slots : List Slot) (name : List ℕ) (i : ℕ) (old new : Slot) (bytes so_far : List ℕ) → IsFirstNamed slots name i → old ≡ get_or slots i old → new.name ≡ old.name → new.bytes.bytes ≡ old.bytes.bytes ++ bytes → new.state ≡ old.state
     → stored_in slots name ≡ Some (stored_open so_far) → stored_in (set slots i new) name ≡ Some (stored_open (so_far ++ bytes))
-put_bytes slots name i old new bytes so_far first is name_is bytes_is closed_is here =
+put_bytes slots name i old new bytes so_far first is name_is bytes_is state_is here =
     let was : file_in old ≡ stored_open so_far = some_stored (sym (named_file slots name i old first is) ∙ here) in
     let named : has_name name new.name ≡ true = ap (has_name name) name_is ∙ (ap (λ s. has_name name s.name) is ∙ first.named old) in
     named_file_set slots name i new first named ∙ ap (λ file. Some file)
     (let b : new.bytes.bytes ≡ so_far ++ bytes = bytes_is ∙ ap (λ file. file.bytes ++ bytes) was in
-    let c : new.closed ≡ false = closed_is ∙ ap (λ file. file.closed) was in
+    let c : new.state ≡ Open = state_is ∙ ap (λ file. file.state) was in
     rw (b, c) refl)
 
--- the file of this name is closed
-pub close_file : (slots : List Slot) (name : List ℕ) (i : ℕ) (old new : Slot) (so_far : List ℕ) → IsFirstNamed slots name i → old ≡ get_or slots i old → new.name ≡ old.name → new.bytes.bytes ≡ old.bytes.bytes → new.closed ≡ true
-    → stored_in slots name ≡ Some (stored_open so_far) → stored_in (set slots i new) name ≡ Some (stored_closed so_far)
-close_file slots name i old new so_far first is name_is bytes_is closed_is here =
+-- the file of this name is left so
+pub leave_file : (slots : List Slot) (name : List ℕ) (i : ℕ) (old new : Slot) (state : FileState) (so_far : List ℕ) → IsFirstNamed slots name i → old ≡ get_or slots i old → new.name ≡ old.name → new.bytes.bytes ≡ old.bytes.bytes → new.state ≡ state
+    → stored_in slots name ≡ Some (stored_open so_far) → stored_in (set slots i new) name ≡ Some (stored_as state so_far)
+leave_file slots name i old new state so_far first is name_is bytes_is state_is here =
     let was : file_in old ≡ stored_open so_far = some_stored (sym (named_file slots name i old first is) ∙ here) in
     let named : has_name name new.name ≡ true = ap (has_name name) name_is ∙ (ap (λ s. has_name name s.name) is ∙ first.named old) in
     named_file_set slots name i new first named ∙ ap (λ file. Some file)
-    (let b : new.bytes.bytes ≡ so_far = bytes_is ∙ ap (λ file. file.bytes) was in rw (b, closed_is) refl)
+    (let b : new.bytes.bytes ≡ so_far = bytes_is ∙ ap (λ file. file.bytes) was in rw (b, state_is) refl)
 
 -- the slot of this name changed, and kept the name
 pub named_changes_only : (slots : List Slot) (name : List ℕ) (i : ℕ) (old new : Slot) → IsFirstNamed slots name i → old ≡ get_or slots i old → new.name ≡ old.name → ChangesOnly slots (set slots i new) name

@@ -1,16 +1,13 @@
 -- What files in memory tell, with their plan and their room.
 use Rattle.std.specs.Prelude.{◌≡◌, ℕ, ◌+◌, ◌≤◌, ◌<◌, ◌==◌, ◌||◌, nat_lt, Bool, false, List, length, Option, Some, None}
-use Rattle.daq_io.specs.Seen.{Seen, Stored}
+use Rattle.daq_io.specs.Seen.{KeepsNumbers, Seen, Stored, Touches, stored_closed}
+use Rattle.daq_io.specs.Told.{FilesTold}
 use Rattle.daq_mem.specs.Plans.{FilePlan}
 
--- All that a caller sees: what any files tell, the counts and the first fault, how many bytes were read, the calls that
--- fail, room for how many bytes a file has, how many files more there is room for, and how many numbers are free.
+-- All that a caller sees: what any files tell, the calls that fail, room for how many bytes a file has, how many files more there is
+-- room for, and how many numbers are free.
 pub record FilesSeen : Type 0 where
-  pub seen : Seen
-  pub faults : ℕ
-  pub clashes : ℕ
-  pub first : Option (List ℕ)
-  pub bytes_read : ℕ
+  pub told : FilesTold
   pub plan : FilePlan
   pub room : ℕ
   pub free_files : ℕ
@@ -18,10 +15,18 @@ pub record FilesSeen : Type 0 where
 
 -- The counts and the first fault stay.
 pub record SameCounts (old new : FilesSeen) : Type 0 where
-  pub faults : new.faults ≡ old.faults
-  pub clashes : new.clashes ≡ old.clashes
-  pub first : new.first ≡ old.first
-  pub bytes_read : new.bytes_read ≡ old.bytes_read
+  pub faults : new.told.faults ≡ old.told.faults
+  pub clashes : new.told.clashes ≡ old.told.clashes
+  pub first : new.told.first ≡ old.told.first
+  pub bytes_read : new.told.bytes_read ≡ old.told.bytes_read
+
+-- A closed file of this name is there, with these bytes, as one that was there before: the object did not make it.
+pub record Adds (old new : Seen) (name : List ℕ) (bytes : List ℕ) : Type 0 where
+  pub touches : Touches old new name
+  pub numbers : KeepsNumbers old new
+  pub done : new.done ≡ old.done
+  pub fresh : old.at name ≡ None
+  pub holds : new.at name ≡ Some (stored_closed bytes)
 
 -- Room for so many files, and so many numbers, were taken.
 pub record TakesRoom (old new : FilesSeen) (files numbers : ℕ) : Type 0 where
@@ -51,4 +56,4 @@ is_behind_room room (Some file) count = nat_lt room (length file.bytes + count)
 
 -- whether the file of a number has no room for so many bytes more
 abbrev pub is_too_long : FilesSeen → ℕ → ℕ → Bool
-is_too_long files number count = is_behind_room files.room (files.seen.at (files.seen.name_of number)) count
+is_too_long files number count = is_behind_room files.room (files.told.seen.at (files.told.seen.name_of number)) count

@@ -1,7 +1,8 @@
 -- What files in memory tell.
 use Rattle.std.specs.Prelude.{count_by, is_none, ◌≡◌, ◌≢◌, ℕ, ◌<◌, Bool, true, false, if◌then◌else◌, nat_eq, List, [], ◌∷◌, length, take, drop, slice_get, HoldsAt, All, Option, Some, None}
 use Rattle.std.specs.Cmp.Lexicographic.{pointwise}
-use Rattle.daq_io.specs.Seen.{Stored, Seen}
+use Rattle.daq_io.specs.Seen.{FileDone, Seen, Stored, stored_as}
+use Rattle.daq_io.specs.Traces.{trace_at}
 use Rattle.daq_mem.specs.declared.slots.Slot.{Slot}
 use Rattle.daq_io.specs.Uses.{is_writing, is_reading, name_by, use_at}
 use Rattle.daq_mem.specs.declared.readers.Reader.{Reader}
@@ -14,7 +15,7 @@ has_name name (Some own) = pointwise nat_eq own name
 
 -- the file in a slot
 abbrev pub file_in : Slot → Stored
-file_in slot = record { bytes = slot.bytes.bytes; closed = slot.closed }
+file_in slot = stored_as slot.state slot.bytes.bytes
 
 -- the file of a name: that of the first slot that has the name
 abbrev pub stored_in : List Slot → List ℕ → Option Stored
@@ -57,12 +58,14 @@ pub record ChangesLeft (old new : List Reader) (number : ℕ) : Type 0 where
   pub others : (other : ℕ) → other ≢ number → left_at new other ≡ left_at old other
 
 -- all that is told
-abbrev pub seen_of : List Slot → List Usage → List Reader → Seen
-seen_of slots uses readers = record {
-  tells = true;
+abbrev pub seen_of : List Slot → List Usage → List Reader → (given : List (List ℕ)) → List FileDone → Seen
+seen_of slots uses readers given done = record {
+  names = true;
   at = stored_in slots;
   writes = λ n. is_writing (use_at uses n);
   reads = λ n. is_reading (use_at uses n);
   name_of = λ n. name_by (use_at uses n);
   left = left_at readers;
+  given = trace_at given;
+  done = done;
 }

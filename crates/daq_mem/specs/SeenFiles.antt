@@ -7,11 +7,13 @@ use Rattle.daq_mem.specs.declared.files.MemFiles.{MemFiles}
 -- all that files in memory tell, with their plan and their room
 abbrev pub seen_files : MemFiles → FilesSeen
 seen_files files = record {
-  seen = seen_of files.slots.slots.items files.numbers.uses.items files.readers.readers.items;
-  faults = files.tally.faults;
-  clashes = files.tally.clashes;
-  first = files.tally.first;
-  bytes_read = files.bytes_read;
+  told = record {
+    seen = seen_of files.slots.slots.items files.numbers.uses.items files.readers.readers.items files.given files.done;
+    faults = files.tally.faults;
+    clashes = files.tally.clashes;
+    first = files.tally.first;
+    bytes_read = files.bytes_read;
+  };
   plan = files.planned;
   room = files.slots.room;
   free_files = free_slots files.slots.slots.items;

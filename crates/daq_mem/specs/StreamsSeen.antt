@@ -2,9 +2,10 @@
 use Rattle.std.specs.Prelude.{ℕ, List}
 use Rattle.daq_mem.specs.Plans.{Plan}
 
--- a source: the bytes left, the count of its faults, and which calls fail
+-- a source: the bytes left, those that it gave, the count of its faults, and which calls fail
 pub record SourceSeen : Type 0 where
   pub left : List ℕ
+  pub gave : List ℕ
   pub faults : ℕ
   pub plan : Plan
 

@@ -54,8 +54,8 @@ pub struct MemClock {
 impl MemClock {
     /// A clock that gives these readings. The last repeats, and where there is none, 0 does.
     pub fn new(values: Vec<u32>) -> MemClock
-        ensures tells { IsTrue (⟦<MemClock as Clock>⟧.tells result) }
-        ensures ahead { (n : ℕ) → ⟦<MemClock as Clock>⟧.ahead result n
+        ensures tells { IsTrue (⟦<MemClock as Clock>⟧.told result).tells }
+        ensures ahead { (n : ℕ) → (⟦<MemClock as Clock>⟧.told result).ahead n
             ≡ slice_index values.items (min n (length values.items - 1)) }
     {
         MemClock {
@@ -65,9 +65,7 @@ impl MemClock {
 }
 
 impl Clock for MemClock {
-    ghost tells = { λ c. true };
-
-    ghost ahead = { λ c n. ahead_in c.numbers n };
+    ghost told = { λ c. record { tells = true; ahead = ahead_in c.numbers } };
 
     fn now(&mut self) -> u32 {
         self.numbers.give()
@@ -83,8 +81,8 @@ pub struct MemPick {
 impl MemPick {
     /// A pick that takes each of these numbers modulo the members. The last repeats, and where there is none, 0 does.
     pub fn new(values: Vec<u32>) -> MemPick
-        ensures tells { IsTrue (⟦<MemPick as Pick>⟧.tells result) }
-        ensures ahead { (n : ℕ) → ⟦<MemPick as Pick>⟧.ahead result n
+        ensures tells { IsTrue (⟦<MemPick as Pick>⟧.told result).tells }
+        ensures ahead { (n : ℕ) → (⟦<MemPick as Pick>⟧.told result).ahead n
             ≡ slice_index values.items (min n (length values.items - 1)) }
     {
         MemPick {
@@ -94,9 +92,7 @@ impl MemPick {
 }
 
 impl Pick for MemPick {
-    ghost tells = { λ p. true };
-
-    ghost ahead = { λ p n. ahead_in p.numbers n };
+    ghost told = { λ p. record { tells = true; ahead = ahead_in p.numbers } };
 
     fn first(&mut self, members: u32) -> u32 {
         self.numbers.give() % members

@@ -1,14 +1,16 @@
 ghost use Rattle.std.specs.Prelude.{◌≡◌, ◌≤◌, ◌+◌, ◌<◌, ◌==◌, ◌↔◌, ◌||◌, ◌&&◌, Some, None, IfOk, IsTrue, IsSome, IsNone, IsErr, IsErrOf, IsOk, OnOk, OnErr, MatchOption, option_map, is_some, if◌then◌else◌, ℕ, List, [], length, take, min, replicate};
 ghost use Rattle.std.specs.Io.{ReadsAtMost};
 ghost use Rattle.daq_io.specs.Counts.{CountsClash, CountsFault, CountsNamed, NamesFirst, NamesFirstOf, RoseJustBy};
-ghost use Rattle.daq_io.specs.Seen.{Closes, Creates, Ends, Extends, ExtendsPart, InUse, IsFree, Opens, Reads, Removes, Same, Stores, is_closed};
-ghost use Rattle.daq_mem.specs.FilesSeen.{FitsIn, GivesRoom, SameCounts, TakesRoom, is_full, is_too_long};
+ghost use Rattle.daq_io.specs.Seen.{Closes, Creates, Ends, Extends, ExtendsPart, InUse, IsFree, Opens, Reads, Removes, Same, close_state, is_closed};
+ghost use Rattle.daq_mem.specs.FilesSeen.{Adds, FitsIn, GivesRoom, SameCounts, TakesRoom, is_full, is_too_long};
 ghost use Rattle.daq_mem.specs.Plans.{is_op_planned, after_op_call};
 
 use crate::plans::{FileFail, FileOp, PlannedFails};
 use crate::readers::Readers;
 use crate::slots::Slots;
-use daq_io::{Failed, Files, NameRefused, Tally, Usage, UseTable};
+use daq_io::{
+    ByteTraces, Failed, FileState, FileTrace, Files, NameRefused, Tally, Usage, UseTable,
+};
 use daq_types::{FileName, NoMemory};
 use std::alloc::Global;
 
@@ -22,9 +24,12 @@ pub struct MemFiles {
     planned: PlannedFails,
     tally: Tally,
     bytes_read: u64,
+    given: ByteTraces,
+    done: FileTrace,
     // Each number has a reader, with the room of a file.
     ghost read_by_number: { length readers.readers.items ≡ length numbers.uses.items },
     ghost room_to_read: { readers.room ≡ slots.room },
+    ghost given_by_number: { length given ≡ length numbers.uses.items },
 }
 
 impl MemFiles {
@@ -38,13 +43,14 @@ impl MemFiles {
         room: u64,
         fails: Vec<FileFail>,
     ) -> Result<MemFiles, NoMemory>
-        ensures tells { IfOk result (λ made. IsTrue (seen_files made).seen.tells) }
-        ensures empty { IfOk result (λ made. (name : List ℕ) → (seen_files made).seen.at name
+        ensures names { IfOk result (λ made. IsTrue (seen_files made).told.seen.names) }
+        ensures empty { IfOk result (λ made. (name : List ℕ) → (seen_files made).told.seen.at name
             ≡ None) }
-        ensures unused { IfOk result (λ made. (number : ℕ) → IsFree (seen_files made).seen number) }
-        ensures faults { IfOk result (λ made. (seen_files made).faults ≡ 0) }
-        ensures clashes { IfOk result (λ made. (seen_files made).clashes ≡ 0) }
-        ensures bytes_read { IfOk result (λ made. (seen_files made).bytes_read ≡ 0) }
+        ensures unused { IfOk result (λ made. (number : ℕ) → IsFree (seen_files made).told.seen number) }
+        ensures done { IfOk result (λ made. (seen_files made).told.seen.done ≡ []) }
+        ensures faults { IfOk result (λ made. (seen_files made).told.faults ≡ 0) }
+        ensures clashes { IfOk result (λ made. (seen_files made).told.clashes ≡ 0) }
+        ensures bytes_read { IfOk result (λ made. (seen_files made).told.bytes_read ≡ 0) }
         ensures plan { IfOk result (λ made. (seen_files made).plan
             ≡ record { fails = fails.items; calls = replicate 6 0 }) }
         ensures room { IfOk result (λ made. (seen_files made).room ≡ room) }
@@ -54,6 +60,7 @@ impl MemFiles {
         let slots = Slots::new(alloc, files, room as usize)?;
         let numbers = UseTable::new(alloc, files)?;
         let readers = Readers::new(alloc, files, room as usize)?;
+        let given = ByteTraces::new(alloc, files)?;
         Ok(MemFiles {
             slots,
             numbers,
@@ -61,16 +68,19 @@ impl MemFiles {
             planned: PlannedFails::new(fails),
             tally: Tally::new(),
             bytes_read: 0,
+            given,
+            done: FileTrace::new(),
         })
     }
 
-    /// Adds a closed file. Where the name is there, or the file does not fit, nothing happens and the answer is Err.
+    /// Adds a closed file, as one that was there before. Where the name is there, or the file does not fit, nothing happens
+    /// and the answer is Err.
     pub fn add(&mut self, name: FileName, bytes: Vec<u8>) -> Result<(), NoMemory>
-        ensures added { OnOk result (Stores (seen_files self.old).seen (seen_files self.new).seen
+        ensures added { OnOk result (Adds (seen_files self.old).told.seen (seen_files self.new).told.seen
             name bytes.items) }
-        ensures kept { OnErr result (Same (seen_files self.old).seen (seen_files self.new).seen) }
-        ensures there { IsSome ((seen_files self.old).seen.at name) → IsErr result }
-        ensures fits { IsNone ((seen_files self.old).seen.at name)
+        ensures kept { OnErr result (Same (seen_files self.old).told.seen (seen_files self.new).told.seen) }
+        ensures there { IsSome ((seen_files self.old).told.seen.at name) → IsErr result }
+        ensures fits { IsNone ((seen_files self.old).told.seen.at name)
             → (IsOk result ↔ FitsIn (seen_files self.old) (length bytes.items)) }
         ensures counts { SameCounts (seen_files self.old) (seen_files self.new) }
         ensures plan { (seen_files self.new).plan ≡ (seen_files self.old).plan }
@@ -81,7 +91,7 @@ impl MemFiles {
         match self.slots.file(&name) {
             Some(_) => Err(NoMemory),
             None => {
-                if self.slots.store(&name, bytes.as_slice(), true) {
+                if self.slots.store(&name, bytes.as_slice(), FileState::Closed) {
                     return Ok(());
                 }
                 Err(NoMemory)
@@ -91,8 +101,8 @@ impl MemFiles {
 
     /// The bytes of the file of this name.
     pub fn find(&self, name: &FileName) -> Option<&[u8]>
-        ensures { MatchOption result ((seen_files self.now).seen.at name.now ≡ None)
-            (λ bytes. option_map (λ file. file.bytes) ((seen_files self.now).seen.at name.now)
+        ensures { MatchOption result ((seen_files self.now).told.seen.at name.now ≡ None)
+            (λ bytes. option_map (λ file. file.bytes) ((seen_files self.now).told.seen.at name.now)
             ≡ Some bytes.now) }
     {
         match self.slots.file(name) {
@@ -101,46 +111,48 @@ impl MemFiles {
         }
     }
 
-    /// Whether there is a closed file of this name.
+    /// Whether there is a file of this name that is written no more.
     pub fn is_closed(&self, name: &FileName) -> bool
-        ensures { result ≡ is_closed ((seen_files self.now).seen.at name.now) }
+        ensures { result ≡ is_closed ((seen_files self.now).told.seen.at name.now) }
     {
         match self.slots.file(name) {
-            Some(slot) => slot.closed,
+            Some(slot) => slot.state != FileState::Open,
             None => false,
         }
     }
+}
+
+/// What a close leaves a file as that was written.
+fn state_left(fails: bool) -> FileState
+    ensures { result ≡ (if fails then FileState.InVain else FileState.Closed) }
+{
+    if fails {
+        return FileState::InVain;
+    }
+    FileState::Closed
 }
 
 // Each call is counted among those of its operation, and fails where it is listed.
 impl Files for MemFiles {
     ghost use Rattle.daq_mem.specs.SeenFiles.{seen_files};
 
-    ghost seen = { λ m. (seen_files m).seen };
-
-    ghost faults = { λ m. (seen_files m).faults };
-
-    ghost clashes = { λ m. (seen_files m).clashes };
-
-    ghost bytes_read = { λ m. (seen_files m).bytes_read };
-
-    ghost first = { λ m. (seen_files m).first };
+    ghost told = { λ m. (seen_files m).told };
 
     /// Fails exactly where the name is free and the call is listed, or there is no room for a file or no number.
     fn create(&mut self, name: &FileName) -> Result<u32, NameRefused>
-        ensures made { IfOk result (λ number. Creates (seen_files self.old).seen
-            (seen_files self.new).seen name.now number []) }
-        ensures kept { OnErr result (Same (seen_files self.old).seen (seen_files self.new).seen) }
+        ensures made { IfOk result (λ number. Creates (seen_files self.old).told.seen
+            (seen_files self.new).told.seen name.now number []) }
+        ensures kept { OnErr result (Same (seen_files self.old).told.seen (seen_files self.new).told.seen) }
         ensures exists { IsErrOf result NameRefused.Exists
-            ↔ IsSome ((seen_files self.old).seen.at name.now) }
+            ↔ IsSome ((seen_files self.old).told.seen.at name.now) }
         ensures not_missing { ¬ IsErrOf result NameRefused.Missing }
-        ensures faults { CountsNamed (seen_files self.old).faults (seen_files self.new).faults
+        ensures faults { CountsNamed (seen_files self.old).told.faults (seen_files self.new).told.faults
             result }
-        ensures clashes { CountsClash (seen_files self.old).clashes (seen_files self.new).clashes
+        ensures clashes { CountsClash (seen_files self.old).told.clashes (seen_files self.new).told.clashes
             result }
-        ensures bytes_read { (seen_files self.new).bytes_read ≡ (seen_files self.old).bytes_read }
-        ensures first { NamesFirstOf name.now (seen_files self.old).first
-            (seen_files self.new).first result }
+        ensures bytes_read { (seen_files self.new).told.bytes_read ≡ (seen_files self.old).told.bytes_read }
+        ensures first { NamesFirstOf name.now (seen_files self.old).told.first
+            (seen_files self.new).told.first result }
         ensures called { (seen_files self.new).plan ≡ after_op_call (seen_files self.old).plan
             FileOp.Create }
         ensures listed { IsTrue (is_op_planned (seen_files self.old).plan FileOp.Create)
@@ -161,8 +173,9 @@ impl Files for MemFiles {
         if let Some(number) = self.numbers.free()
             && !fails
         {
-            if self.slots.store(name, &[], false) {
+            if self.slots.store(name, &[], FileState::Open) {
                 self.numbers.assign(number, Usage::Writing(*name));
+                self.given.begin(number);
                 return Ok(number);
             }
             self.tally.fault(name);
@@ -174,18 +187,18 @@ impl Files for MemFiles {
 
     /// Fails exactly where the call is listed, or the file has no room for the bytes. A failed call keeps nothing of them.
     fn append(&mut self, file: u32, bytes: &[u8]) -> Result<(), Failed>
-        requires { IsTrue ((seen_files self.old).seen.writes file) }
-        ensures written { OnOk result (Extends (seen_files self.old).seen
-            (seen_files self.new).seen file bytes.now) }
-        ensures part { OnErr result (ExtendsPart (seen_files self.old).seen
-            (seen_files self.new).seen file bytes.now) }
-        ensures kept { OnErr result (Same (seen_files self.old).seen (seen_files self.new).seen) }
-        ensures faults { CountsFault (seen_files self.old).faults (seen_files self.new).faults
+        requires { IsTrue ((seen_files self.old).told.seen.writes file) }
+        ensures written { OnOk result (Extends (seen_files self.old).told.seen
+            (seen_files self.new).told.seen file bytes.now) }
+        ensures part { OnErr result (ExtendsPart (seen_files self.old).told.seen
+            (seen_files self.new).told.seen file bytes.now) }
+        ensures kept { OnErr result (Same (seen_files self.old).told.seen (seen_files self.new).told.seen) }
+        ensures faults { CountsFault (seen_files self.old).told.faults (seen_files self.new).told.faults
             result }
-        ensures clashes { (seen_files self.new).clashes ≡ (seen_files self.old).clashes }
-        ensures bytes_read { (seen_files self.new).bytes_read ≡ (seen_files self.old).bytes_read }
-        ensures first { NamesFirst ((seen_files self.old).seen.name_of file)
-            (seen_files self.old).first (seen_files self.new).first result }
+        ensures clashes { (seen_files self.new).told.clashes ≡ (seen_files self.old).told.clashes }
+        ensures bytes_read { (seen_files self.new).told.bytes_read ≡ (seen_files self.old).told.bytes_read }
+        ensures first { NamesFirst ((seen_files self.old).told.seen.name_of file)
+            (seen_files self.old).told.first (seen_files self.new).told.first result }
         ensures called { (seen_files self.new).plan ≡ after_op_call (seen_files self.old).plan
             FileOp.Append }
         ensures fails { IsErr result ↔ IsTrue (is_op_planned (seen_files self.old).plan
@@ -199,6 +212,7 @@ impl Files for MemFiles {
                     return Err(Failed);
                 }
                 if self.slots.append(&name, bytes) {
+                    self.given.more(file, bytes, bytes.len());
                     return Ok(());
                 }
                 self.tally.fault(&name);
@@ -208,19 +222,19 @@ impl Files for MemFiles {
         }
     }
 
-    /// Fails exactly where the call is listed.
+    /// Fails exactly where the call is listed. A file that was written is then closed in vain, with all that was given.
     fn close(&mut self, file: u32) -> Result<(), Failed>
-        requires { InUse (seen_files self.old).seen file }
-        ensures written { IsTrue ((seen_files self.old).seen.writes file)
-            → Closes (seen_files self.old).seen (seen_files self.new).seen file [] }
-        ensures read { IsTrue ((seen_files self.old).seen.reads file)
-            → Ends (seen_files self.old).seen (seen_files self.new).seen file }
-        ensures faults { CountsFault (seen_files self.old).faults (seen_files self.new).faults
+        requires { InUse (seen_files self.old).told.seen file }
+        ensures written { IsTrue ((seen_files self.old).told.seen.writes file)
+            → Closes (seen_files self.old).told.seen (seen_files self.new).told.seen file (close_state result) [] }
+        ensures read { IsTrue ((seen_files self.old).told.seen.reads file)
+            → Ends (seen_files self.old).told.seen (seen_files self.new).told.seen file }
+        ensures faults { CountsFault (seen_files self.old).told.faults (seen_files self.new).told.faults
             result }
-        ensures clashes { (seen_files self.new).clashes ≡ (seen_files self.old).clashes }
-        ensures bytes_read { (seen_files self.new).bytes_read ≡ (seen_files self.old).bytes_read }
-        ensures first { NamesFirst ((seen_files self.old).seen.name_of file)
-            (seen_files self.old).first (seen_files self.new).first result }
+        ensures clashes { (seen_files self.new).told.clashes ≡ (seen_files self.old).told.clashes }
+        ensures bytes_read { (seen_files self.new).told.bytes_read ≡ (seen_files self.old).told.bytes_read }
+        ensures first { NamesFirst ((seen_files self.old).told.seen.name_of file)
+            (seen_files self.old).told.first (seen_files self.new).told.first result }
         ensures called { (seen_files self.new).plan ≡ after_op_call (seen_files self.old).plan
             FileOp.Close }
         ensures fails { IsErr result ↔ IsTrue (is_op_planned (seen_files self.old).plan
@@ -230,7 +244,9 @@ impl Files for MemFiles {
         let fails = self.planned.is_next(FileOp::Close);
         match self.numbers.usage(file) {
             Usage::Writing(name) => {
-                self.slots.close(&name);
+                let state = state_left(fails);
+                self.slots.leave(&name, state);
+                self.done.left(&name, self.given.take(file), state);
                 self.numbers.assign(file, Usage::Free);
                 if fails {
                     self.tally.fault(&name);
@@ -252,22 +268,22 @@ impl Files for MemFiles {
 
     /// Fails exactly where there is such a file and the call is listed.
     fn remove(&mut self, name: &FileName) -> Result<(), Failed>
-        ensures removed { OnOk result (Removes (seen_files self.old).seen
-            (seen_files self.new).seen name.now) }
-        ensures kept { OnErr result (Same (seen_files self.old).seen (seen_files self.new).seen) }
-        ensures absent { IsNone ((seen_files self.old).seen.at name.now) → IsOk result }
-        ensures faults { CountsFault (seen_files self.old).faults (seen_files self.new).faults
+        ensures removed { OnOk result (Removes (seen_files self.old).told.seen
+            (seen_files self.new).told.seen name.now) }
+        ensures kept { OnErr result (Same (seen_files self.old).told.seen (seen_files self.new).told.seen) }
+        ensures absent { IsNone ((seen_files self.old).told.seen.at name.now) → IsOk result }
+        ensures faults { CountsFault (seen_files self.old).told.faults (seen_files self.new).told.faults
             result }
-        ensures clashes { (seen_files self.new).clashes ≡ (seen_files self.old).clashes }
-        ensures bytes_read { (seen_files self.new).bytes_read ≡ (seen_files self.old).bytes_read }
-        ensures first { NamesFirst name.now (seen_files self.old).first
-            (seen_files self.new).first result }
+        ensures clashes { (seen_files self.new).told.clashes ≡ (seen_files self.old).told.clashes }
+        ensures bytes_read { (seen_files self.new).told.bytes_read ≡ (seen_files self.old).told.bytes_read }
+        ensures first { NamesFirst name.now (seen_files self.old).told.first
+            (seen_files self.new).told.first result }
         ensures called { (seen_files self.new).plan ≡ after_op_call (seen_files self.old).plan
             FileOp.Remove }
-        ensures fails { IsErr result ↔ IsTrue (is_some ((seen_files self.old).seen.at name.now) &&
+        ensures fails { IsErr result ↔ IsTrue (is_some ((seen_files self.old).told.seen.at name.now) &&
             is_op_planned (seen_files self.old).plan FileOp.Remove) }
         ensures gives { OnOk result (GivesRoom (seen_files self.old) (seen_files self.new)
-            (if is_some ((seen_files self.old).seen.at name.now) then 1 else 0) 0) }
+            (if is_some ((seen_files self.old).told.seen.at name.now) then 1 else 0) 0) }
         ensures gives_none { OnErr result (GivesRoom (seen_files self.old) (seen_files self.new) 0
             0) }
     {
@@ -277,24 +293,25 @@ impl Files for MemFiles {
             return Err(Failed);
         }
         self.slots.remove(name);
+        self.done.removed(name);
         Ok(())
     }
 
     /// Fails exactly where there is such a file and the call is listed or no number is free.
     fn open_read(&mut self, name: &FileName) -> Result<u32, NameRefused>
-        ensures opened { IfOk result (λ number. Opens (seen_files self.old).seen
-            (seen_files self.new).seen name.now number []) }
-        ensures kept { OnErr result (Same (seen_files self.old).seen (seen_files self.new).seen) }
+        ensures opened { IfOk result (λ number. Opens (seen_files self.old).told.seen
+            (seen_files self.new).told.seen name.now number []) }
+        ensures kept { OnErr result (Same (seen_files self.old).told.seen (seen_files self.new).told.seen) }
         ensures missing { IsErrOf result NameRefused.Missing
-            ↔ IsNone ((seen_files self.old).seen.at name.now) }
+            ↔ IsNone ((seen_files self.old).told.seen.at name.now) }
         ensures not_exists { ¬ IsErrOf result NameRefused.Exists }
-        ensures faults { CountsNamed (seen_files self.old).faults (seen_files self.new).faults
+        ensures faults { CountsNamed (seen_files self.old).told.faults (seen_files self.new).told.faults
             result }
-        ensures clashes { CountsClash (seen_files self.old).clashes (seen_files self.new).clashes
+        ensures clashes { CountsClash (seen_files self.old).told.clashes (seen_files self.new).told.clashes
             result }
-        ensures bytes_read { (seen_files self.new).bytes_read ≡ (seen_files self.old).bytes_read }
-        ensures first { NamesFirstOf name.now (seen_files self.old).first
-            (seen_files self.new).first result }
+        ensures bytes_read { (seen_files self.new).told.bytes_read ≡ (seen_files self.old).told.bytes_read }
+        ensures first { NamesFirstOf name.now (seen_files self.old).told.first
+            (seen_files self.new).told.first result }
         ensures called { (seen_files self.new).plan ≡ after_op_call (seen_files self.old).plan
             FileOp.OpenRead }
         ensures listed { IsTrue (is_op_planned (seen_files self.old).plan FileOp.OpenRead)
@@ -332,24 +349,24 @@ impl Files for MemFiles {
 
     /// Fails exactly where the call is listed. Each other one gives as many bytes as there are and fit.
     fn read(&mut self, file: u32, into: &mut [u8]) -> Result<usize, Failed>
-        requires { IsTrue ((seen_files self.old).seen.reads file) }
+        requires { IsTrue ((seen_files self.old).told.seen.reads file) }
         ensures within { ReadsAtMost result into.new }
-        ensures bytes { IfOk result (λ count. Reads (seen_files self.old).seen
-            (seen_files self.new).seen file (take count into.new)) }
+        ensures bytes { IfOk result (λ count. Reads (seen_files self.old).told.seen
+            (seen_files self.new).told.seen file (take count into.new)) }
         ensures end { IfOk result (λ count. count ≡ 0 → 0 < length into.new
-            → (seen_files self.new).seen.left file ≡ []) }
+            → (seen_files self.new).told.seen.left file ≡ []) }
         ensures count { IfOk result (λ count. count ≡ min
-            (length ((seen_files self.old).seen.left file)) (length into.old)) }
-        ensures kept { OnErr result (Same (seen_files self.old).seen (seen_files self.new).seen) }
-        ensures faults { CountsFault (seen_files self.old).faults (seen_files self.new).faults
+            (length ((seen_files self.old).told.seen.left file)) (length into.old)) }
+        ensures kept { OnErr result (Same (seen_files self.old).told.seen (seen_files self.new).told.seen) }
+        ensures faults { CountsFault (seen_files self.old).told.faults (seen_files self.new).told.faults
             result }
-        ensures clashes { (seen_files self.new).clashes ≡ (seen_files self.old).clashes }
-        ensures bytes_read { IfOk result (λ count. RoseJustBy count (seen_files self.old).bytes_read
-            (seen_files self.new).bytes_read) }
-        ensures none_read { OnErr result ((seen_files self.new).bytes_read
-            ≡ (seen_files self.old).bytes_read) }
-        ensures first { NamesFirst ((seen_files self.old).seen.name_of file)
-            (seen_files self.old).first (seen_files self.new).first result }
+        ensures clashes { (seen_files self.new).told.clashes ≡ (seen_files self.old).told.clashes }
+        ensures bytes_read { IfOk result (λ count. RoseJustBy count (seen_files self.old).told.bytes_read
+            (seen_files self.new).told.bytes_read) }
+        ensures none_read { OnErr result ((seen_files self.new).told.bytes_read
+            ≡ (seen_files self.old).told.bytes_read) }
+        ensures first { NamesFirst ((seen_files self.old).told.seen.name_of file)
+            (seen_files self.old).told.first (seen_files self.new).told.first result }
         ensures called { (seen_files self.new).plan ≡ after_op_call (seen_files self.old).plan
             FileOp.Read }
         ensures fails { IsErr result ↔ IsTrue (is_op_planned (seen_files self.old).plan

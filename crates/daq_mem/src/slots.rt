@@ -1,10 +1,10 @@
 ghost use Rattle.std.specs.Prelude.{◌≡◌, ◌≢◌, ◌+◌, ◌<◌, ◌≤◌, ◌++◌, ◌↔◌, ◌⊎◌, ℕ, List, [], Some, None, All, IsTrue, IsFalse, IfOk, IfSome, IfNone, HoldsAt, is_some, if◌then◌else◌, length, not};
 ghost use Rattle.std.specs.Bool.{OnTrue, OnFalse};
-ghost use Rattle.daq_io.specs.Seen.{stored_open, stored_closed};
+ghost use Rattle.daq_io.specs.Seen.{stored_as, stored_open};
 ghost use Rattle.daq_mem.specs.FilesSeen.{is_behind_room};
 ghost use Rattle.daq_mem.specs.MemSeen.{has_name, file_in, stored_in, free_slots, named_count, IsFirstNamed, ChangesOnly, ChangesNothing};
 
-use daq_io::ByteRoom;
+use daq_io::{ByteRoom, FileState};
 use daq_types::{FileName, NoMemory};
 use std::alloc::Global;
 
@@ -13,7 +13,7 @@ use std::alloc::Global;
 pub struct Slot {
     pub name: Option<FileName>,
     pub bytes: ByteRoom,
-    pub closed: bool,
+    pub state: FileState,
 }
 
 /// Files in memory, each in a slot of its own. No two have one name.
@@ -50,7 +50,7 @@ impl Slots {
             slots.push(Slot {
                 name: None,
                 bytes: ByteRoom::new(alloc, room)?,
-                closed: false,
+                state: FileState::Open,
             })?;
         }
         Ok(Slots { slots, room })
@@ -97,11 +97,11 @@ impl Slots {
     }
 
     /// Stores a file of this name, where there is room, and answers whether there was.
-    pub fn store(&mut self, name: &FileName, bytes: &[u8], closed: bool) -> bool
+    pub fn store(&mut self, name: &FileName, bytes: &[u8], state: FileState) -> bool
         requires { stored_in self.old.slots.items name.now ≡ None }
         ensures others { ChangesOnly self.old.slots.items self.new.slots.items name.now }
         ensures stored { OnTrue result (stored_in self.new.slots.items name.now
-            ≡ Some (record { bytes = bytes.now; closed = closed })) }
+            ≡ Some (stored_as state bytes.now)) }
         ensures kept { OnFalse result (ChangesNothing self.old.slots.items self.new.slots.items) }
         ensures fits { OnTrue result (length bytes.now ≤ self.old.room) }
         ensures full { OnFalse result (free_slots self.old.slots.items ≡ 0 ⊎ self.old.room
@@ -119,7 +119,7 @@ impl Slots {
                 slot.bytes.clear();
                 if slot.bytes.put(bytes) {
                     slot.name = Some(*name);
-                    slot.closed = closed;
+                    slot.state = state;
                     return true;
                 }
                 false
@@ -149,12 +149,12 @@ impl Slots {
         }
     }
 
-    /// Closes the file of this name.
-    pub fn close(&mut self, name: &FileName)
+    /// Leaves the file of this name so.
+    pub fn leave(&mut self, name: &FileName, state: FileState)
         ensures others { ChangesOnly self.old.slots.items self.new.slots.items name.now }
-        ensures closed { (so_far : List ℕ) → stored_in self.old.slots.items name.now
+        ensures left { (so_far : List ℕ) → stored_in self.old.slots.items name.now
             ≡ Some (stored_open so_far) → stored_in self.new.slots.items name.now
-            ≡ Some (stored_closed so_far) }
+            ≡ Some (stored_as state so_far) }
         ensures free { free_slots self.new.slots.items ≡ free_slots self.old.slots.items }
         ensures room { self.new.room ≡ self.old.room }
     {
@@ -162,7 +162,7 @@ impl Slots {
             None => (),
             Some(place) => {
                 let slot = &mut self.slots[place];
-                slot.closed = true;
+                slot.state = state;
             }
         }
     }

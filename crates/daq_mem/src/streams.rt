@@ -2,6 +2,7 @@ ghost use Rattle.std.specs.Prelude.{◌≡◌, ◌+◌, ◌<◌, ◌↔◌, ◌|
 ghost use Rattle.std.specs.Io.{ReadsAtMost, WritesAtMost};
 ghost use Rattle.std.specs.Io.KnownBytes.{ReadConsumes, WriteAppends};
 ghost use Rattle.daq_io.specs.Counts.{CountsFault};
+ghost use Rattle.daq_io.specs.Streams.{GaveRead};
 ghost use Rattle.daq_mem.specs.Plans.{after_call, is_planned};
 
 use crate::planned::Planned;
@@ -20,13 +21,14 @@ pub struct MemSource {
 }
 
 impl Model for MemSource {
-    ghost use Rattle.std.specs.Prelude.{◌≤◌, drop, length};
+    ghost use Rattle.std.specs.Prelude.{◌≤◌, drop, length, take};
     ghost use Rattle.daq_mem.specs.StreamsSeen.{SourceSeen};
 
     ghost Value = { SourceSeen };
 
     ghost view = { λ s. record {
       left = drop s.at s.bytes.items;
+      gave = take s.at s.bytes.items;
       faults = s.faults;
       plan = s.planned;
     } };
@@ -39,13 +41,15 @@ impl MemSource {
     pub fn new(bytes: Vec<u8>, fails: Vec<u64>) -> MemSource
         ensures made { result ≡ record {
           left = bytes.items;
+          gave = [];
           faults = 0;
           plan = record
               { fails = fails.items; calls = 0 };
         } }
-        ensures left { ⟦<MemSource as Source>⟧.left result ≡ Some bytes.items }
-        ensures faults { ⟦<MemSource as Source>⟧.faults result ≡ 0 }
-        ensures origin { ⟦<MemSource as Source>⟧.origin result ≡ None }
+        ensures left { (⟦<MemSource as Source>⟧.told result).left ≡ Some bytes.items }
+        ensures gave { (⟦<MemSource as Source>⟧.told result).gave ≡ [] }
+        ensures faults { (⟦<MemSource as Source>⟧.told result).faults ≡ 0 }
+        ensures origin { (⟦<MemSource as Source>⟧.told result).origin ≡ None }
     {
         MemSource {
             bytes,
@@ -57,19 +61,22 @@ impl MemSource {
 }
 
 impl Source for MemSource {
-    ghost left = { λ s. Some s.left };
-
-    ghost faults = { λ s. s.faults };
-
-    ghost origin = { λ _. None };
+    ghost told = { λ s. record {
+      left = Some s.left;
+      gave = s.gave;
+      faults = s.faults;
+      at_hand = [];
+      origin = None;
+    } };
 
     fn read(&mut self, into: &mut [u8]) -> Result<usize, Failed>
         ensures within { ReadsAtMost result into.new }
         ensures bytes { ReadConsumes (Some self.old.left) (Some self.new.left) result into.new }
+        ensures gave { GaveRead self.old.gave self.new.gave result into.new }
         ensures faults { CountsFault self.old.faults self.new.faults result }
-        ensures origin { ⟦<MemSource as Source>⟧.origin self.new
-            ≡ ⟦<MemSource as Source>⟧.origin self.old }
-        ensures at_hand { OnErr result (⟦<MemSource as Source>⟧.at_hand self.new ≡ []) }
+        ensures origin { (⟦<MemSource as Source>⟧.told self.new).origin
+            ≡ (⟦<MemSource as Source>⟧.told self.old).origin }
+        ensures at_hand { OnErr result ((⟦<MemSource as Source>⟧.told self.new).at_hand ≡ []) }
         // The listed calls fail and no others. Each other one gives as many bytes as there are and fit.
         ensures listed { IsErr result ↔ IsTrue (is_planned self.old.plan) }
         ensures count { IfOk result (λ count. count ≡ min (length self.old.left)
@@ -118,8 +125,8 @@ impl MemSink {
           plan = record
               { fails = fails.items; calls = 0 };
         }) }
-        ensures written { IfOk result (λ sink. ⟦<MemSink as Sink>⟧.written sink ≡ Some []) }
-        ensures faults { IfOk result (λ sink. ⟦<MemSink as Sink>⟧.faults sink ≡ 0) }
+        ensures written { IfOk result (λ sink. (⟦<MemSink as Sink>⟧.told sink).written ≡ Some []) }
+        ensures faults { IfOk result (λ sink. (⟦<MemSink as Sink>⟧.told sink).faults ≡ 0) }
     {
         let bytes = ByteRoom::new(alloc, room)?;
         Ok(MemSink {
@@ -131,16 +138,14 @@ impl MemSink {
 
     /// The bytes that were written.
     pub fn bytes(&self) -> &[u8]
-        ensures { ⟦<MemSink as Sink>⟧.written self.now ≡ Some result.now }
+        ensures { (⟦<MemSink as Sink>⟧.told self.now).written ≡ Some result.now }
     {
         self.bytes.as_slice()
     }
 }
 
 impl Sink for MemSink {
-    ghost written = { λ s. Some s.bytes };
-
-    ghost faults = { λ s. s.faults };
+    ghost told = { λ s. record { written = Some s.bytes; faults = s.faults } };
 
     fn write(&mut self, bytes: &[u8]) -> Result<usize, Failed>
         ensures within { WritesAtMost result bytes.now }

@@ -12,10 +12,11 @@ use Rattle.mid_format.specs.HasRead.{HasRead}
 use Rattle.mid_format.specs.declared.faults.MidFault.{MidFault}
 use Rattle.mid_format.specs.declared.progress.Progress.{Progress}
 
--- a source, and the bytes that were read of it and not taken yet
+-- a source, the bytes that were read of it and not taken yet, and those that were taken
 pub record Blockwise (S : Type 0) : Type 0 where
   pub source : S
   pub at_hand : List ℕ
+  pub gave : List ℕ
 
 -- The next event of a run file stands at the front of these bytes, with all of its data, and nothing is wrong with it.
 pub record StandsWhole (progress : Progress) (bytes : List ℕ) (h : Header) : Type 0 where

@@ -2,23 +2,25 @@ ghost use Rattle.std.specs.Prelude.{◌≡◌, ◌≤◌, ◌<◌, ◌++◌, [],
 ghost use Rattle.std.specs.Io.KnownBytes.{Consumes, IsAtEnd, Keeps};
 ghost use Rattle.daq_io.specs.Counts.{CountsFault};
 
-use daq_io::{Failed, Source, copy_front};
+use daq_io::{ByteTrace, Failed, Source, copy_front};
 use std::marker::Model;
 
 /// A source of which some bytes lie at hand: they can be looked at before they are taken.
 pub trait Ahead: Source {
     /// The bytes at hand, the first of those left. There may be none while more are left: a `read` brings them.
     fn peek(&self) -> &[u8]
-        ensures { result.now ≡ Self.at_hand self.now };
+        ensures { result.now ≡ (Self.told self.now).at_hand };
 
-    /// Takes so many of the bytes at hand.
+    /// Takes so many of the bytes at hand, as a `read` would give them.
     fn pass(&mut self, count: usize)
-        requires { count ≤ length (Self.at_hand self.old) }
-        ensures taken { Consumes (Self.left self.old) (Self.left self.new)
-            (take count (Self.at_hand self.old)) }
-        ensures behind { Self.at_hand self.new ≡ drop count (Self.at_hand self.old) }
-        ensures faults { Self.faults self.new ≡ Self.faults self.old }
-        ensures origin { Self.origin self.new ≡ Self.origin self.old };
+        requires { count ≤ length (Self.told self.old).at_hand }
+        ensures taken { Consumes (Self.told self.old).left (Self.told self.new).left
+            (take count (Self.told self.old).at_hand) }
+        ensures gave { (Self.told self.new).gave ≡ (Self.told self.old).gave
+            ++ take count (Self.told self.old).at_hand }
+        ensures behind { (Self.told self.new).at_hand ≡ drop count (Self.told self.old).at_hand }
+        ensures faults { (Self.told self.new).faults ≡ (Self.told self.old).faults }
+        ensures origin { (Self.told self.new).origin ≡ (Self.told self.old).origin };
 }
 
 /// A source that is read in blocks. What was read of it and not taken yet lies at hand.
@@ -28,6 +30,7 @@ pub struct BlockSource<S> {
     block: Vec<u8>,
     start: usize,
     end: usize,
+    gave: ByteTrace,
 }
 
 impl<S> Model for BlockSource<S> {
@@ -39,6 +42,7 @@ impl<S> Model for BlockSource<S> {
     ghost view = { λ b. record {
       source = b.source;
       at_hand = slice_range b.block.items b.start b.end;
+      gave = b.gave;
     } };
 
     ghost invariant = { λ b. (b.start ≤ b.end) × (b.end ≤ length b.block.items)
@@ -49,14 +53,15 @@ impl<S: Source> BlockSource<S> {
     /// The bytes of a source, read into this block, as many at a time as it is long.
     pub fn new(source: S, block: Vec<u8>) -> BlockSource<S>
         requires { 0 < vec_len block }
-        ensures value { result ≡ record { source = source; at_hand = [] } }
-        ensures left { ⟦<BlockSource<S> as Source>⟧.left result ≡ S.left source }
+        ensures value { result ≡ record { source = source; at_hand = []; gave = [] } }
+        ensures left { (⟦<BlockSource<S> as Source>⟧.told result).left ≡ (S.told source).left }
     {
         BlockSource {
             source,
             block,
             start: 0,
             end: 0,
+            gave: ByteTrace::new(),
         }
     }
 
@@ -69,19 +74,21 @@ impl<S: Source> BlockSource<S> {
             block: _,
             start: _,
             end: _,
+            gave: _,
         } = self;
         source
     }
 
     /// Reads the next block, where nothing is left of the one before. No byte is the end.
     fn fill(&mut self) -> Result<(), Failed>
-        ensures read { OnOk result (Consumes (S.left self.old.source) (S.left self.new.source)
+        ensures read { OnOk result (Consumes (S.told self.old.source).left (S.told self.new.source).left
             self.new.at_hand) }
-        ensures end { OnOk result (self.new.at_hand ≡ [] → IsAtEnd (S.left self.new.source)) }
-        ensures failed { OnErr result (Keeps (S.left self.old.source) (S.left self.new.source)) }
+        ensures end { OnOk result (self.new.at_hand ≡ [] → IsAtEnd (S.told self.new.source).left) }
+        ensures failed { OnErr result (Keeps (S.told self.old.source).left (S.told self.new.source).left) }
         ensures none { OnErr result (self.new.at_hand ≡ []) }
-        ensures faults { CountsFault (S.faults self.old.source) (S.faults self.new.source) result }
-        ensures origin { S.origin self.new.source ≡ S.origin self.old.source }
+        ensures faults { CountsFault (S.told self.old.source).faults (S.told self.new.source).faults result }
+        ensures origin { (S.told self.new.source).origin ≡ (S.told self.old.source).origin }
+        ensures gave { self.new.gave ≡ self.old.gave }
     {
         self.start = 0;
         self.end = 0;
@@ -99,11 +106,13 @@ impl<S: Source> BlockSource<S> {
         ensures count { result ≡ min (length self.old.at_hand) (length into.old) }
         ensures moved { self.old.at_hand ≡ take result into.new ++ self.new.at_hand }
         ensures source { self.new.source ≡ self.old.source }
+        ensures gave { self.new.gave ≡ self.old.gave ++ take result into.new }
     {
         let (filled, _) = self.block.as_slice().split_at(self.end);
         let (_, at_hand) = filled.split_at(self.start);
         let count = copy_front(at_hand, into);
         self.start += count;
+        self.gave.more(into, count);
         count
     }
 }
@@ -111,13 +120,13 @@ impl<S: Source> BlockSource<S> {
 impl<S: Source> Source for BlockSource<S> {
     ghost use Rattle.std.specs.Io.KnownBytes.{prepend_known};
 
-    ghost left = { λ b. prepend_known b.at_hand (S.left b.source) };
-
-    ghost faults = { λ b. S.faults b.source };
-
-    ghost at_hand = { λ b. b.at_hand };
-
-    ghost origin = { λ b. S.origin b.source };
+    ghost told = { λ b. record {
+      left = prepend_known b.at_hand (S.told b.source).left;
+      gave = b.gave;
+      faults = (S.told b.source).faults;
+      at_hand = b.at_hand;
+      origin = (S.told b.source).origin;
+    } };
 
     fn read(&mut self, into: &mut [u8]) -> Result<usize, Failed> {
         if self.start == self.end {
@@ -135,6 +144,9 @@ impl<S: Source> Ahead for BlockSource<S> {
     }
 
     fn pass(&mut self, count: usize) {
+        let (filled, _) = self.block.as_slice().split_at(self.end);
+        let (_, at_hand) = filled.split_at(self.start);
+        self.gave.more(at_hand, count);
         self.start += count;
     }
 }

@@ -14,13 +14,13 @@ const BLOCK_BYTES: u32 = 4096;
 /// Reads the header at this place, in the file of a run or at its begin.
 pub fn read_head<S: Source>(source: &mut S, run: Option<u32>, at: u64) -> Result<Header, MidFault>
     requires { at ≤ 2 ^ 62 }
-    ensures head { IfOk result (ReadsHead (S.left source.old) (S.left source.new) run at) }
+    ensures head { IfOk result (ReadsHead (S.told source.old).left (S.told source.new).left run at) }
     ensures fault { IfErr result (λ fault. OfBytes fault
-        (IfSome (S.left source.old) (λ rest. fault_at run at rest ≡ Some fault))) }
-    ensures fails { IfErr result (λ fault. OfSource fault (FailsBehind (S.left source.old)
-        (S.left source.new) (S.at_hand source.new) 16)) }
-    ensures counted { CountsReads (S.faults source.old) (S.faults source.new) result }
-    ensures origin { S.origin source.new ≡ S.origin source.old }
+        (IfSome (S.told source.old).left (λ rest. fault_at run at rest ≡ Some fault))) }
+    ensures fails { IfErr result (λ fault. OfSource fault (FailsBehind (S.told source.old).left
+        (S.told source.new).left (S.told source.new).at_hand 16)) }
+    ensures counted { CountsReads (S.told source.old).faults (S.told source.new).faults result }
+    ensures origin { (S.told source.new).origin ≡ (S.told source.old).origin }
 {
     let mut head = [0; 16];
     let Ok(count) = read_full(source, &mut head) else {
@@ -43,11 +43,11 @@ pub fn read_head<S: Source>(source: &mut S, run: Option<u32>, at: u64) -> Result
 
 /// Passes over so many bytes, or as many as the source has, and answers how many.
 fn pass<S: Source>(source: &mut S, size: u32) -> Result<u32, Failed>
-    ensures passes { IfOk result (PassesOver (S.left source.old) (S.left source.new) size) }
-    ensures fails { OnErr result (FailsBehind (S.left source.old) (S.left source.new)
-        (S.at_hand source.new) size) }
-    ensures faults { CountsFault (S.faults source.old) (S.faults source.new) result }
-    ensures origin { S.origin source.new ≡ S.origin source.old }
+    ensures passes { IfOk result (PassesOver (S.told source.old).left (S.told source.new).left size) }
+    ensures fails { OnErr result (FailsBehind (S.told source.old).left (S.told source.new).left
+        (S.told source.new).at_hand size) }
+    ensures faults { CountsFault (S.told source.old).faults (S.told source.new).faults result }
+    ensures origin { (S.told source.new).origin ≡ (S.told source.old).origin }
 {
     let mut block = [0; 4096];
     let mut rest = size;
@@ -66,12 +66,12 @@ fn pass<S: Source>(source: &mut S, size: u32) -> Result<u32, Failed>
 /// Passes over the data at this place.
 pub fn pass_data<S: Source>(source: &mut S, place: u64, size: u32) -> Result<(), MidFault>
     requires { place + size ≤ 2 ^ 62 }
-    ensures passed { OnOk result (PassesAll (S.left source.old) (S.left source.new) size) }
-    ensures cut { IfErr result (IsCut (S.left source.old) place size) }
-    ensures fails { IfErr result (λ fault. OfSource fault (FailsBehind (S.left source.old)
-        (S.left source.new) (S.at_hand source.new) size)) }
-    ensures counted { CountsReads (S.faults source.old) (S.faults source.new) result }
-    ensures origin { S.origin source.new ≡ S.origin source.old }
+    ensures passed { OnOk result (PassesAll (S.told source.old).left (S.told source.new).left size) }
+    ensures cut { IfErr result (IsCut (S.told source.old).left place size) }
+    ensures fails { IfErr result (λ fault. OfSource fault (FailsBehind (S.told source.old).left
+        (S.told source.new).left (S.told source.new).at_hand size)) }
+    ensures counted { CountsReads (S.told source.old).faults (S.told source.new).faults result }
+    ensures origin { (S.told source.new).origin ≡ (S.told source.old).origin }
 {
     let Ok(count) = pass(source, size) else {
         return Err(MidFault::ReadFault);
@@ -93,14 +93,14 @@ pub fn read_data<S: Source>(
 ) -> Result<(), MidFault>
     requires place { place + header.now.data_size ≤ 2 ^ 62 }
     requires room { header.now.data_size ≤ into.old.room }
-    ensures read { OnOk result (ReadsBody (S.left source.old) (S.left source.new) header.now
+    ensures read { OnOk result (ReadsBody (S.told source.old).left (S.told source.new).left header.now
         into.new) }
-    ensures cut { IfErr result (IsCut (S.left source.old) place header.now.data_size) }
-    ensures fails { IfErr result (λ fault. OfSource fault (FailsBehind (S.left source.old)
-        (S.left source.new) (S.at_hand source.new) header.now.data_size)) }
+    ensures cut { IfErr result (IsCut (S.told source.old).left place header.now.data_size) }
+    ensures fails { IfErr result (λ fault. OfSource fault (FailsBehind (S.told source.old).left
+        (S.told source.new).left (S.told source.new).at_hand header.now.data_size)) }
     ensures room { into.new.room ≡ into.old.room }
-    ensures counted { CountsReads (S.faults source.old) (S.faults source.new) result }
-    ensures origin { S.origin source.new ≡ S.origin source.old }
+    ensures counted { CountsReads (S.told source.old).faults (S.told source.new).faults result }
+    ensures origin { (S.told source.new).origin ≡ (S.told source.old).origin }
 {
     let Ok(count) = into.fill_from(header, source) else {
         return Err(MidFault::ReadFault);
@@ -115,12 +115,12 @@ pub fn read_data<S: Source>(
 
 /// Sees to it that the source has no more bytes behind this place.
 pub fn read_end<S: Source>(source: &mut S, at: u64) -> Result<(), MidFault>
-    ensures end { OnOk result (IsEnd (S.left source.old) (S.left source.new)) }
-    ensures more { IfErr result (IsBehindEnd (S.left source.old) at) }
-    ensures fails { IfErr result (λ fault. OfSource fault (FailsBehind (S.left source.old)
-        (S.left source.new) (S.at_hand source.new) 1)) }
-    ensures counted { CountsReads (S.faults source.old) (S.faults source.new) result }
-    ensures origin { S.origin source.new ≡ S.origin source.old }
+    ensures end { OnOk result (IsEnd (S.told source.old).left (S.told source.new).left) }
+    ensures more { IfErr result (IsBehindEnd (S.told source.old).left at) }
+    ensures fails { IfErr result (λ fault. OfSource fault (FailsBehind (S.told source.old).left
+        (S.told source.new).left (S.told source.new).at_hand 1)) }
+    ensures counted { CountsReads (S.told source.old).faults (S.told source.new).faults result }
+    ensures origin { (S.told source.new).origin ≡ (S.told source.old).origin }
 {
     let mut byte = [0; 1];
     let Ok(count) = read_full(source, &mut byte) else {

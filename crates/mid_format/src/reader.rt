@@ -110,7 +110,7 @@ impl<S: Source> MidReader<S> {
     pub fn next(&mut self, into: &mut EventBuf) -> Result<Option<()>, MidFault>
         requires { event_limit ≤ into.old.room }
         // What was read is the bytes of the records and of the events that were given, and the fault is theirs.
-        ensures reads { ReadsOn (S.left self.old.source) (S.left self.new.source)
+        ensures reads { ReadsOn (S.told self.old.source).left (S.told self.new.source).left
             self.old.progress self.new.progress result into.new.event }
         ensures fault { self.new.progress.fault ≡ fault_of result }
         ensures end { IfOk result (λ given. IsNone given ↔ IsSome self.new.progress.last) }
@@ -127,16 +127,16 @@ impl<S: Source> MidReader<S> {
         ensures onward { IfOk result (λ given. IsSome given → self.old.progress.at
             < self.new.progress.at) }
         ensures limit { self.new.progress.at ≤ 2 ^ 62 }
-        ensures counted { CountsNext self.old.progress.fault (S.faults self.old.source)
-            (S.faults self.new.source) result }
+        ensures counted { CountsNext self.old.progress.fault (S.told self.old.source).faults
+            (S.told self.new.source).faults result }
         // Where the source fails, nothing lies at hand any more.
         ensures at_hand { self.old.progress.fault ≡ None → IfErr result (λ fault. OfSource fault
-            (S.at_hand self.new.source ≡ [])) }
+            ((S.told self.new.source).at_hand ≡ [])) }
         // `into` stays at the end, and where a fault is answered again.
         ensures into_at_end { IfOk result (λ given. IsNone given → into.new ≡ into.old) }
         ensures into_again { IsSome self.old.progress.fault → into.new ≡ into.old }
         ensures room { into.new.room ≡ into.old.room }
-        ensures origin { S.origin self.new.source ≡ S.origin self.old.source }
+        ensures origin { (S.told self.new.source).origin ≡ (S.told self.old.source).origin }
     {
         if let Some(fault) = self.progress.fault {
             return Err(fault);
@@ -159,9 +159,9 @@ impl<S: Ahead> MidReader<S> {
     /// nothing: `next` reads on.
     pub fn whole_event(&self) -> Option<(Header, &[u8])>
         ensures whole { IfSome result (λ event. StandsWhole self.now.progress
-            (S.at_hand self.now.source) event.0) }
+            (S.told self.now.source).at_hand event.0) }
         ensures data { IfSome result (λ event. event.1.now
-            ≡ take event.0.data_size (drop 16 (S.at_hand self.now.source))) }
+            ≡ take event.0.data_size (drop 16 (S.told self.now.source).at_hand)) }
     {
         let bytes = self.source.peek();
         let header = find_whole(&self.progress, bytes)?;
@@ -172,17 +172,17 @@ impl<S: Ahead> MidReader<S> {
 
     /// Reads on behind the event with this header, which lies whole at hand.
     pub fn pass_event(&mut self, header: &Header)
-        requires { StandsWhole self.old.progress (S.at_hand self.old.source) header.now }
-        ensures reads { ReadsOn (S.left self.old.source) (S.left self.new.source)
+        requires { StandsWhole self.old.progress (S.told self.old.source).at_hand header.now }
+        ensures reads { ReadsOn (S.told self.old.source).left (S.told self.new.source).left
             self.old.progress self.new.progress (Ok (Some tt))
-            (event_at_front header.now (S.at_hand self.old.source)) }
+            (event_at_front header.now (S.told self.old.source).at_hand) }
         ensures fault { self.new.progress.fault ≡ None }
         ensures end { self.new.progress.last ≡ None }
         ensures begun { self.new.progress.begin ≡ self.old.progress.begin }
         ensures onward { self.old.progress.at < self.new.progress.at }
         ensures limit { self.new.progress.at ≤ 2 ^ 62 }
-        ensures faults { S.faults self.new.source ≡ S.faults self.old.source }
-        ensures origin { S.origin self.new.source ≡ S.origin self.old.source }
+        ensures faults { (S.told self.new.source).faults ≡ (S.told self.old.source).faults }
+        ensures origin { (S.told self.new.source).origin ≡ (S.told self.old.source).origin }
     {
         pass_whole(&mut self.source, &mut self.progress, header);
     }
@@ -194,14 +194,14 @@ impl<S: Ahead> MidReader<S> {
         room: &mut EventBuf,
         taker: &mut T,
     ) -> Result<Option<()>, MidFault>
-        requires so_far { TakesSoFar (T.has_taken taker.old) (S.left self.old.source)
+        requires so_far { TakesSoFar (T.has_taken taker.old) (S.told self.old.source).left
             self.old.progress }
         requires room { event_limit ≤ room.old.room }
         // The taker has one event more, the one that was read, or no more at the end and at a fault.
         ensures gives { (start : ℕ) → (first : Option (List ℕ)) → (before events : List Event)
-            → HasRead start first (S.left self.old.source) self.old.progress events
+            → HasRead start first (S.told self.old.source).left self.old.progress events
             → T.has_taken taker.old (before ++ events) → TakesNext (T.has_taken taker.new) start
-            first (S.left self.new.source) self.new.progress before events result }
+            first (S.told self.new.source).left self.new.progress before events result }
         ensures fault { self.new.progress.fault ≡ fault_of result }
         ensures end { IfOk result (λ given. IsNone given ↔ IsSome self.new.progress.last) }
         ensures begun { IsSome self.old.progress.begin → self.new.progress.begin
@@ -209,10 +209,10 @@ impl<S: Ahead> MidReader<S> {
         ensures onward { IfOk result (λ given. IsSome given → self.old.progress.at
             < self.new.progress.at) }
         ensures limit { self.new.progress.at ≤ 2 ^ 62 }
-        ensures counted { CountsNext self.old.progress.fault (S.faults self.old.source)
-            (S.faults self.new.source) result }
+        ensures counted { CountsNext self.old.progress.fault (S.told self.old.source).faults
+            (S.told self.new.source).faults result }
         ensures room { room.new.room ≡ room.old.room }
-        ensures origin { S.origin self.new.source ≡ S.origin self.old.source }
+        ensures origin { (S.told self.new.source).origin ≡ (S.told self.old.source).origin }
     {
         let Some(header) = find_whole(&self.progress, self.source.peek()) else {
             return self.give_read(room, taker);
@@ -227,13 +227,13 @@ impl<S: Ahead> MidReader<S> {
         room: &mut EventBuf,
         taker: &mut T,
     ) -> Result<Option<()>, MidFault>
-        requires so_far { TakesSoFar (T.has_taken taker.old) (S.left self.old.source)
+        requires so_far { TakesSoFar (T.has_taken taker.old) (S.told self.old.source).left
             self.old.progress }
         requires room { event_limit ≤ room.old.room }
         ensures gives { (start : ℕ) → (first : Option (List ℕ)) → (before events : List Event)
-            → HasRead start first (S.left self.old.source) self.old.progress events
+            → HasRead start first (S.told self.old.source).left self.old.progress events
             → T.has_taken taker.old (before ++ events) → TakesNext (T.has_taken taker.new) start
-            first (S.left self.new.source) self.new.progress before events result }
+            first (S.told self.new.source).left self.new.progress before events result }
         ensures fault { self.new.progress.fault ≡ fault_of result }
         ensures end { IfOk result (λ given. IsNone given ↔ IsSome self.new.progress.last) }
         ensures begun { IsSome self.old.progress.begin → self.new.progress.begin
@@ -241,10 +241,10 @@ impl<S: Ahead> MidReader<S> {
         ensures onward { IfOk result (λ given. IsSome given → self.old.progress.at
             < self.new.progress.at) }
         ensures limit { self.new.progress.at ≤ 2 ^ 62 }
-        ensures counted { CountsNext self.old.progress.fault (S.faults self.old.source)
-            (S.faults self.new.source) result }
+        ensures counted { CountsNext self.old.progress.fault (S.told self.old.source).faults
+            (S.told self.new.source).faults result }
         ensures room { room.new.room ≡ room.old.room }
-        ensures origin { S.origin self.new.source ≡ S.origin self.old.source }
+        ensures origin { (S.told self.new.source).origin ≡ (S.told self.old.source).origin }
     {
         match self.next(room) {
             Ok(Some(())) => {

@@ -14,13 +14,13 @@ use event::{EventBuf, HEADER_BYTES, Header};
 /// Reads the begin record where it was not read yet, and answers its header.
 fn begin<S: Source>(source: &mut S, progress: &mut Progress) -> Result<Header, MidFault>
     requires { progress.old.at ≤ 2 ^ 62 }
-    ensures begins { IfOk result (BeginsReading (S.left source.old) (S.left source.new)
+    ensures begins { IfOk result (BeginsReading (S.told source.old).left (S.told source.new).left
         progress.old progress.new) }
-    ensures stops { IfErr result (BeginStops (S.left source.old) progress.old progress.new) }
-    ensures fails { IfErr result (λ fault. OfSource fault (FailsInside (S.left source.old)
-        (S.left source.new) (S.at_hand source.new))) }
-    ensures counted { CountsReads (S.faults source.old) (S.faults source.new) result }
-    ensures origin { S.origin source.new ≡ S.origin source.old }
+    ensures stops { IfErr result (BeginStops (S.told source.old).left progress.old progress.new) }
+    ensures fails { IfErr result (λ fault. OfSource fault (FailsInside (S.told source.old).left
+        (S.told source.new).left (S.told source.new).at_hand)) }
+    ensures counted { CountsReads (S.told source.old).faults (S.told source.new).faults result }
+    ensures origin { (S.told source.new).origin ≡ (S.told source.old).origin }
 {
     if let Some(begin) = progress.begin {
         return Ok(begin);
@@ -40,12 +40,12 @@ fn finish<S: Source>(
     header: Header,
 ) -> Result<(), MidFault>
     requires { progress.old.at + 16 + header.data_size ≤ 2 ^ 62 }
-    ensures finishes { OnOk result (FinishesReading (S.left source.old) (S.left source.new)
+    ensures finishes { OnOk result (FinishesReading (S.told source.old).left (S.told source.new).left
         progress.old progress.new header) }
-    ensures stops { IfErr result (FinishStops (S.left source.old) (S.left source.new)
-        (S.at_hand source.new) progress.old progress.new header) }
-    ensures counted { CountsReads (S.faults source.old) (S.faults source.new) result }
-    ensures origin { S.origin source.new ≡ S.origin source.old }
+    ensures stops { IfErr result (FinishStops (S.told source.old).left (S.told source.new).left
+        (S.told source.new).at_hand progress.old progress.new header) }
+    ensures counted { CountsReads (S.told source.old).faults (S.told source.new).faults result }
+    ensures origin { (S.told source.new).origin ≡ (S.told source.old).origin }
 {
     let place = progress.at + HEADER_BYTES as u64;
     pass_data(source, place, header.data_size)?;
@@ -63,11 +63,11 @@ pub fn step<S: Source>(
     requires room { event_limit ≤ into.old.room }
     requires place { progress.old.at ≤ 2 ^ 62 }
     requires going { IsGoing progress.old }
-    ensures reads { IfOk result (λ given. StepReads (S.left source.old) (S.left source.new)
+    ensures reads { IfOk result (λ given. StepReads (S.told source.old).left (S.told source.new).left
         progress.old progress.new given into.new.event) }
-    ensures stops { IfErr result (Stops (S.left source.old) (S.left source.new) progress.old
+    ensures stops { IfErr result (Stops (S.told source.old).left (S.told source.new).left progress.old
         progress.new) }
-    ensures at_hand { IfErr result (λ fault. OfSource fault (S.at_hand source.new ≡ [])) }
+    ensures at_hand { IfErr result (λ fault. OfSource fault ((S.told source.new).at_hand ≡ [])) }
     ensures place { progress.new.at ≤ 2 ^ 62 }
     ensures onward { IfOk result (λ given. IsSome given → progress.old.at < progress.new.at) }
     ensures begun { IsSome progress.old.begin → progress.new.begin ≡ progress.old.begin }
@@ -75,8 +75,8 @@ pub fn step<S: Source>(
     ensures last { IfOk result (λ given. IsNone given ↔ IsSome progress.new.last) }
     ensures kept { IfOk result (λ given. IsNone given → into.new ≡ into.old) }
     ensures room { into.new.room ≡ into.old.room }
-    ensures counted { CountsReads (S.faults source.old) (S.faults source.new) result }
-    ensures origin { S.origin source.new ≡ S.origin source.old }
+    ensures counted { CountsReads (S.told source.old).faults (S.told source.new).faults result }
+    ensures origin { (S.told source.new).origin ≡ (S.told source.old).origin }
 {
     let begin = begin(source, progress)?;
     let header = read_head(source, Some(begin.serial_number), progress.at)?;

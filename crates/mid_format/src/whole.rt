@@ -36,16 +36,16 @@ pub fn find_whole(progress: &Progress, bytes: &[u8]) -> Option<Header>
 
 /// Passes over the event with this header, which stands whole at hand.
 pub fn pass_whole<S: Ahead>(source: &mut S, progress: &mut Progress, header: &Header)
-    requires { StandsWhole progress.old (S.at_hand source.old) header.now }
-    ensures reads { StepReads (S.left source.old) (S.left source.new) progress.old progress.new
-        (Some tt) (event_at_front header.now (S.at_hand source.old)) }
+    requires { StandsWhole progress.old (S.told source.old).at_hand header.now }
+    ensures reads { StepReads (S.told source.old).left (S.told source.new).left progress.old progress.new
+        (Some tt) (event_at_front header.now (S.told source.old).at_hand) }
     ensures place { progress.new.at ≤ 2 ^ 62 }
     ensures onward { progress.old.at < progress.new.at }
     ensures begun { progress.new.begin ≡ progress.old.begin }
     ensures no_fault { progress.new.fault ≡ None }
     ensures no_end { progress.new.last ≡ None }
-    ensures faults { S.faults source.new ≡ S.faults source.old }
-    ensures origin { S.origin source.new ≡ S.origin source.old }
+    ensures faults { (S.told source.new).faults ≡ (S.told source.old).faults }
+    ensures origin { (S.told source.new).origin ≡ (S.told source.old).origin }
 {
     let size = HEADER_BYTES + header.data_size as usize;
     source.pass(size);
@@ -59,19 +59,19 @@ pub fn give_whole<S: Ahead, T: EventTaker>(
     header: &Header,
     taker: &mut T,
 )
-    requires so_far { TakesSoFar (T.has_taken taker.old) (S.left source.old) progress.old }
-    requires whole { StandsWhole progress.old (S.at_hand source.old) header.now }
+    requires so_far { TakesSoFar (T.has_taken taker.old) (S.told source.old).left progress.old }
+    requires whole { StandsWhole progress.old (S.told source.old).at_hand header.now }
     ensures gives { (start : ℕ) → (first : Option (List ℕ)) → (before events : List Event)
-        → HasRead start first (S.left source.old) progress.old events
+        → HasRead start first (S.told source.old).left progress.old events
         → T.has_taken taker.old (before ++ events) → TakesNext (T.has_taken taker.new) start first
-        (S.left source.new) progress.new before events (Ok (Some tt)) }
+        (S.told source.new).left progress.new before events (Ok (Some tt)) }
     ensures place { progress.new.at ≤ 2 ^ 62 }
     ensures onward { progress.old.at < progress.new.at }
     ensures begun { progress.new.begin ≡ progress.old.begin }
     ensures no_fault { progress.new.fault ≡ None }
     ensures no_end { progress.new.last ≡ None }
-    ensures faults { S.faults source.new ≡ S.faults source.old }
-    ensures origin { S.origin source.new ≡ S.origin source.old }
+    ensures faults { (S.told source.new).faults ≡ (S.told source.old).faults }
+    ensures origin { (S.told source.new).origin ≡ (S.told source.old).origin }
 {
     let (_, behind) = source.peek().split_at(HEADER_BYTES);
     let (body, _) = behind.split_at(header.data_size as usize);

@@ -22,10 +22,10 @@ loop-rest-preserved g c = record {
 pub returns-in_err-count-clause-fails : goal.returns-in_err-count-clause-fails
 returns-in_err-count-clause-fails g c =
     on_err _ _ (passed_fails _ _ _ _ c.args.size c.loop-rest.rest c.min-part.result c.loop-rest.invariant.passed
-    (subst (λ n. FailsBehind (g.S.Source.left c.loop-rest.source) (g.S.Source.left c.read_full.new.source) (g.S.Source.at_hand c.read_full.new.source) n) (search rules) c.in_err-count.ensures.fails) (search rules))
+    (subst (λ n. FailsBehind (g.S.Source.told c.loop-rest.source).left (g.S.Source.told c.read_full.new.source).left (g.S.Source.told c.read_full.new.source).at_hand n) (search rules) c.in_err-count.ensures.fails) (search rules))
 
 pub loop-rest-init : goal.loop-rest-init
-loop-rest-init g c = record { passed = passed_none (g.S.Source.left c.args.source.now) c.args.size; faults = refl; origin = refl; block = refl }
+loop-rest-init g c = record { passed = passed_none (g.S.Source.told c.args.source.now).left c.args.size; faults = refl; origin = refl; block = refl }
 
 pub returns-in_err-count-clause-passes : goal.returns-in_err-count-clause-passes
 returns-in_err-count-clause-passes g c = IfOk-from_err c.from_residual.result _ c.from_residual.ensures.0
@@ -33,8 +33,8 @@ returns-in_err-count-clause-passes g c = IfOk-from_err c.from_residual.result _ 
 pub returns-in_err-count-clause-faults : goal.returns-in_err-count-clause-faults
 returns-in_err-count-clause-faults g c =
     let p = err_from_is_err_and c.from_residual.result c.from_residual.ensures.1 in
-    subst (λ r. CountsFault (g.S.Source.faults c.args.source.now) (g.S.Source.faults c.read_full.new.source) r) (sym p.1)
-    (subst (λ (n : ℕ). CountsFault {T = ℕ} n (g.S.Source.faults c.read_full.new.source) (Err p.0)) c.loop-rest.invariant.faults
+    subst (λ r. CountsFault (g.S.Source.told c.args.source.now).faults (g.S.Source.told c.read_full.new.source).faults r) (sym p.1)
+    (subst (λ (n : ℕ). CountsFault {T = ℕ} n (g.S.Source.told c.read_full.new.source).faults (Err p.0)) c.loop-rest.invariant.faults
     (record { later = c.in_err-count.ensures.faults.later; done = tt; failed = c.in_err-count.ensures.faults.failed }))
 
 pub returns-then-count-part-clause-faults : goal.returns-then-count-part-clause-faults
@@ -44,4 +44,4 @@ returns-then-count-part-clause-faults g c =
 
 pub returns-clause-passes : goal.returns-clause-passes
 returns-clause-passes g c =
-    passed_all (g.S.Source.left c.args.source.now) (g.S.Source.left c.loop-rest.source) c.args.size c.loop-rest.rest c.loop-rest.invariant.passed (omega (arith, c.loop-rest-test.false))
+    passed_all (g.S.Source.told c.args.source.now).left (g.S.Source.told c.loop-rest.source).left c.args.size c.loop-rest.rest c.loop-rest.invariant.passed (omega (arith, c.loop-rest-test.false))

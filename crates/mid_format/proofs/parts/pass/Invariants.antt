@@ -4,9 +4,9 @@ use Rattle.mid_format.proofs.parts.pass.Given as goal
 
 abbrev pub invariant-loop-rest : goal.invariant-loop-rest
 invariant-loop-rest g l = record {
-  passed : Passed (g.S.Source.left l.fn.source) (g.S.Source.left l.source) l.size l.rest;
-  faults : g.S.Source.faults l.source ≡ g.S.Source.faults l.fn.source;
-  origin : g.S.Source.origin l.source ≡ g.S.Source.origin l.fn.source;
+  passed : Passed (g.S.Source.told l.fn.source).left (g.S.Source.told l.source).left l.size l.rest;
+  faults : (g.S.Source.told l.source).faults ≡ (g.S.Source.told l.fn.source).faults;
+  origin : (g.S.Source.told l.source).origin ≡ (g.S.Source.told l.fn.source).origin;
   block : length l.block ≡ 4096;
 }
 

@@ -15,8 +15,8 @@ returns-in_default-clause-counted g c = record { done = tt; fault = c.in_default
 
 pub returns-then-count-eq0-clause-fault : goal.returns-then-count-eq0-clause-fault
 returns-then-count-eq0-clause-fault g c =
-    subst (λ (f : MidFault). OfBytes f (IfSome (g.S.Source.left c.args.source.now) (λ rest. fault_at c.args.run c.args.at rest ≡ Some f))) (sym c.nothing_left.ensures)
-    (of_bytes (nothing_left c.args.run c.args.at) _ (head_missing (g.S.Source.left c.args.source.now) (g.S.Source.left c.read_full.new.source) c.read_full.new.into c.in-Ok.count c.args.run c.args.at
+    subst (λ (f : MidFault). OfBytes f (IfSome (g.S.Source.told c.args.source.now).left (λ rest. fault_at c.args.run c.args.at rest ≡ Some f))) (sym c.nothing_left.ensures)
+    (of_bytes (nothing_left c.args.run c.args.at) _ (head_missing (g.S.Source.told c.args.source.now).left (g.S.Source.told c.read_full.new.source).left c.read_full.new.into c.in-Ok.count c.args.run c.args.at
     c.in-Ok.ensures.gathers c.in-Ok.ensures.length c.if-count-eq0.true))
 
 pub returns-then-count-eq0-clause-fails : goal.returns-then-count-eq0-clause-fails
@@ -25,7 +25,7 @@ returns-then-count-eq0-clause-fails g c = left_none c.args.run c.args.at c.nothi
 pub returns-then-count-eq0-clause-counted : goal.returns-then-count-eq0-clause-counted
 returns-then-count-eq0-clause-counted g c = record {
   done = tt;
-  fault = counted_at c.nothing_left.result (g.S.Source.faults c.args.source.now) (g.S.Source.faults c.read_full.new.source) (left_none c.args.run c.args.at c.nothing_left.result ⊥ c.nothing_left.ensures)
+  fault = counted_at c.nothing_left.result (g.S.Source.told c.args.source.now).faults (g.S.Source.told c.read_full.new.source).faults (left_none c.args.run c.args.at c.nothing_left.result ⊥ c.nothing_left.ensures)
       c.in-Ok.ensures.faults.done;
 }
 
@@ -35,7 +35,7 @@ overflow_add-result g c = omega (arith, c.in-Ok.ensures.gathers.within, c.in-Ok.
 pub returns-in_default-read_header-clause-fault : goal.returns-in_default-read_header-clause-fault
 returns-in_default-read_header-clause-fault g c =
     let short : length c.split_at.result.0.now < 16 = search rules in
-    head_cut (g.S.Source.left c.args.source.now) (g.S.Source.left c.read_full.new.source) c.read_full.new.into c.in-Ok.count c.args.run c.args.at c.in-Ok.ensures.gathers c.in-Ok.ensures.length
+    head_cut (g.S.Source.told c.args.source.now).left (g.S.Source.told c.read_full.new.source).left c.read_full.new.into c.in-Ok.count c.args.run c.args.at c.in-Ok.ensures.gathers c.in-Ok.ensures.length
     (omega (arith, c.if-count-eq0.false))
     (omega (arith, short, ap (length {A = ℕ}) c.split_at.ensures.front, length-take c.in-Ok.count c.read_full.new.into, c.in-Ok.ensures.gathers.within, c.in-Ok.ensures.length))
 
@@ -56,7 +56,7 @@ returns-in-Some-clause-fails g c = of_header c.args.run c.args.at c.in-Ok-read_h
 pub returns-in-Some-clause-counted : goal.returns-in-Some-clause-counted
 returns-in-Some-clause-counted g c = record {
   done = tt;
-  fault = counted_at c.in-Some.fault (g.S.Source.faults c.args.source.now) (g.S.Source.faults c.read_full.new.source) (of_header c.args.run c.args.at c.in-Ok-read_header.header c.in-Some.fault ⊥ (sym c.in-Some.ensures))
+  fault = counted_at c.in-Some.fault (g.S.Source.told c.args.source.now).faults (g.S.Source.told c.read_full.new.source).faults (of_header c.args.run c.args.at c.in-Ok-read_header.header c.in-Some.fault ⊥ (sym c.in-Some.ensures))
       c.in-Ok.ensures.faults.done;
 }
 
@@ -69,4 +69,4 @@ returns-in-None-clause-head g c = record {
 }
 
 pub returns-in-None-clause-counted : goal.returns-in-None-clause-counted
-returns-in-None-clause-counted g c = counted_ok (g.S.Source.faults c.args.source.now) (g.S.Source.faults c.read_full.new.source) _ c.in-Ok.ensures.faults.done
+returns-in-None-clause-counted g c = counted_ok (g.S.Source.told c.args.source.now).faults (g.S.Source.told c.read_full.new.source).faults _ c.in-Ok.ensures.faults.done

@@ -8,7 +8,7 @@ pub take-requires-clause-room : goal.take-requires-clause-room
 take-requires-clause-room g c =
     let so_far = c.requires.so_far in
     let h = c.args.header.now in
-    let body : c.split_at-2.result.0.now ≡ take h.data_size (drop 16 (g.S.Source.at_hand c.args.source.now)) =
+    let body : c.split_at-2.result.0.now ≡ take h.data_size (drop 16 (g.S.Source.told c.args.source.now).at_hand) =
     ◌∙◌ {b = take h.data_size c.split_at.result.1.now} c.split_at-2.ensures.front (ap (λ (l : List ℕ). take h.data_size l) (c.split_at.ensures.back ∙ ap (λ (l : List ℕ). drop 16 l) c.peek.ensures)) in
     record {
       events = so_far.before ++ so_far.events;

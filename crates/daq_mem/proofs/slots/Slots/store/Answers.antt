@@ -1,5 +1,5 @@
 use Rattle.std.proofs.Common.{◌≡◌, ◌++◌, List, ℕ, Option, Some, None, ap, ◌∙◌, refl}
-use Rattle.daq_io.specs.Seen.{Stored}
+use Rattle.daq_io.specs.Seen.{Stored, stored_as}
 use Rattle.daq_mem.proofs.SlotLemmas.{file_put, no_file_put, stored_in-fresh, own_name, ChangesNothing-ChangesOnly, distinct_gone, distinct_put, sized_kept}
 use Rattle.daq_mem.proofs.slots.Slots.store.Goals as goal
 
@@ -10,7 +10,7 @@ returns-then-put-clause-others c = file_put _ c.in-Some.place c.index_mut-slot.r
 pub returns-then-put-clause-stored : goal.returns-then-put-clause-stored
 returns-then-put-clause-stored c =
     let bytes : c.put.new.self.bytes ≡ c.args.bytes.now = ap (λ room. room.bytes) c.if-put.ensures.put ∙ ap (λ room. room.bytes ++ c.args.bytes.now) c.clear.ensures in
-    let file : List ℕ → Option Stored = λ bs. Some (record { bytes = bs; closed = c.args.closed }) in
+    let file : List ℕ → Option Stored = λ bs. Some (stored_as c.args.state bs) in
     stored_in-fresh _ c.in-Some.place _ c.args.name.now c.in-Some.ensures.inside c.requires (own_name c.args.name.now) ∙ ap file bytes
 
 pub returns-else-put-clause-others : goal.returns-else-put-clause-others

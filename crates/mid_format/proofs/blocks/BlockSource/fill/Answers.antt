@@ -20,7 +20,7 @@ invariant_of-self g c =
 pub returns-in-Ok-clause-read : goal.returns-in-Ok-clause-read
 returns-in-Ok-clause-read g c =
     let block = filled c.read.new.into c.self.inside.block.items c.self.inside.block.len c.self.inside.block.ok.0 (c.read.auto.into ∙ ap (length {A = ℕ}) c.as_mut_slice.ensures.value) in
-    rw (← c.self.view_is) (subst (Consumes (g.S.Source.left c.self.inside.source) (g.S.Source.left c.read.new.self)) (sym (front_of _ c.read.new.into c.in-Ok.count block)) c.in-Ok.ensures.bytes.0)
+    rw (← c.self.view_is) (subst (Consumes (g.S.Source.told c.self.inside.source).left (g.S.Source.told c.read.new.self).left) (sym (front_of _ c.read.new.into c.in-Ok.count block)) c.in-Ok.ensures.bytes.0)
 
 pub returns-in-Ok-clause-end : goal.returns-in-Ok-clause-end
 returns-in-Ok-clause-end g c = λ none.

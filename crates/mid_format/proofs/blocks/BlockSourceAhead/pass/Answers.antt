@@ -17,5 +17,5 @@ returns-clause-taken g c =
     let old : List ℕ = c.args.self.now.at_hand in
     let new : List ℕ = slice_range b.block.items (b.start + c.args.count) b.end in
     let parts : old ≡ take c.args.count old ++ new = sym (take-append-drop c.args.count old) ∙ ap (λ (l : List ℕ). take c.args.count old ++ l) (sym (returns-clause-behind g c)) in
-    subst (λ s. Consumes (prepend_known old (g.S.Source.left s)) (prepend_known new (g.S.Source.left b.source)) (take c.args.count old)) (ap (λ v. v.source) c.self.view_is)
-    (taken_at_hand (g.S.Source.left b.source) old (take c.args.count old) new parts)
+    subst (λ s. Consumes (prepend_known old (g.S.Source.told s).left) (prepend_known new (g.S.Source.told b.source).left) (take c.args.count old)) (ap (λ v. v.source) c.self.view_is)
+    (taken_at_hand (g.S.Source.told b.source).left old (take c.args.count old) new parts)
