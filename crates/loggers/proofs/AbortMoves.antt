@@ -21,7 +21,7 @@ use Rattle.loggers.specs.LoggerStands.{ChannelKept, SlotsApart, SlotsStand}
 use Rattle.loggers.proofs.ReadySteps.{last_used}
 use Rattle.loggers.proofs.Moved.{Moves, moved}
 use Rattle.loggers.proofs.LoneCalls.{cancels_lone}
-use Rattle.loggers.proofs.PullMoves.{GrowsOn, grows_same, grows_cancel, grown_on, port_grown, file_left, run_files_left, apart_on, tells_same}
+use Rattle.loggers.proofs.PullMoves.{GrowsOn, grows_same, grows_cancel, grown_on, port_grown, file_left, run_files_left, apart_on, goes_on, tells_same}
 
 standing_grows : (standing : Option ChannelRun) (x y : Access) → CancelsStanding standing x y → GrowsOn x y
 standing_grows None x y cancels = grows_same x y cancels
@@ -47,7 +47,7 @@ abort_moves keep change beside files H turns slots n s there open_files apart ke
     let no_run : channel_run s.after.stage ≡ None = ap (λ (x : ChannelStage). channel_run x) idle in
     let made : ℕ = files_made before.stage in
     let changes : ChangesRun before.spec (channel_run before.stage) (written_run before.stage) made made old new = change before.spec before.stage old new s.files.faults s.later_files.faults aborts.removes aborts.last in
-    let tells : new.tells ≡ old.tells = tells_same before.spec (channel_run before.stage) (written_run before.stage) made made old new changes in
+    let tells : new.names ≡ old.names = tells_same before.spec (channel_run before.stage) (written_run before.stage) made made old new changes in
     let used : (m : ℕ) (d : Channel) → slot_at slots m ≡ Some d → (o : ChannelRun) → written_run d.stage ≡ Some o → IsTrue (old.writes o.at.file) = λ m d stood o is. last_used d.spec old (written_run d.stage) (open_files.files m d stood) o is in
     let grows : GrowsOn s.port s.later_port = standing_grows (asking_run before.stage) s.port s.later_port aborts.cancels in
     let own_stands : (head : FileHead) → ChannelStands before.spec before.client before.stage head s.port.own s.port.got old → ChannelStands s.after.spec s.after.client s.after.stage head s.later_port.own s.later_port.got new =
@@ -55,7 +55,8 @@ abort_moves keep change beside files H turns slots n s there open_files apart ke
     record {
       spec = spec;
       client = λ k is. client ∙ is;
-      tells = tells;
+      names = tells;
+      on = goes_on before.spec (channel_run before.stage) (written_run before.stage) made made old new changes;
       self = λ b. record { head = b.head; stands = own_stands b.head b.stands; headed = λ opened is. absurd (let never : None ≡ Some opened = sym no_run ∙ is in cc (never)) };
       beside = λ m d other stood same b k. record {
         head = k.head;

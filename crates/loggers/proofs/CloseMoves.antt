@@ -8,6 +8,7 @@ use Rattle.daq_types.specs.declared.runs.ChannelEnd.{ChannelEnd}
 use Rattle.daq_types.specs.declared.runs.ChannelState.{ChannelState}
 use Rattle.daq_types.specs.declared.runs.ChannelState.TheVariants.{Broken as IsBroken, Ended, NoEnd, NoMark, Idle as IsIdle, Writing as IsWriting}
 use Rattle.daq_io.specs.Seen.{Seen}
+use Rattle.daq_io.specs.Told.{FilesTold}
 use Rattle.buffer_core.specs.declared.entry.BufferEntry.{BufferEntry}
 use Rattle.buffer_core.specs.Ports.{Access, GotEvent}
 use Rattle.buffer_core.specs.Slots.{slot_at}
@@ -30,14 +31,14 @@ use Rattle.mid_logger.specs.ChannelEnds.{ClosesRead, ClosesFile, HasBroken, HasL
 use Rattle.mid_logger.specs.Beside.{ClosesBeside, FilesBeside}
 use Rattle.mid_logger.specs.Keeping.{ChangesRun, KeepsThere, ClosesKeep, ClosesChange, ClosesKnow}
 use Rattle.loggers.specs.declared.logged_run.RunDumps.{RunDumps}
-use Rattle.loggers.specs.Moments.{RunFiles, HaveFilesOpen}
+use Rattle.loggers.specs.Moments.{HaveFilesOpen}
 use Rattle.loggers.specs.ChannelSteps.{EndsChannel}
 use Rattle.loggers.specs.Finishing.{is_settled_stage}
 use Rattle.loggers.specs.LoggerStands.{HasHead, IsHeadTold, IsEndedSo, IsStoppingStage, ChannelKept, SlotsApart, LeftRun, SlotsStand}
 use Rattle.loggers.proofs.SlotLists.{one_changed}
 use Rattle.loggers.proofs.ReadySteps.{settled_written, last_used}
 use Rattle.loggers.proofs.Moved.{Moves, grown_none}
-use Rattle.loggers.proofs.PullMoves.{file_left, run_files_left, apart_on, tells_same}
+use Rattle.loggers.proofs.PullMoves.{file_left, run_files_left, apart_on, goes_on, tells_same}
 
 settled_run : (stage : ChannelStage) → (channel_run (stage_settled stage) ≡ channel_run stage) ⊎ (channel_run (stage_settled stage) ≡ None)
 settled_run Idle = inl refl
@@ -64,7 +65,7 @@ same_run before later o either is = elim either as (λ w. before ≡ Some o) [
 ]
 
 -- the ending of a channel's file, as a step among all channels: its port stays
-pub close_moves : ClosesKeep → ClosesChange → ClosesBeside → FilesBeside → (H : ChannelRun → FileHead → Type 0) (turns : List MemberTurn) (time : ℕ) (dump : Option (List ℕ)) (told : ChannelEnd) (slots : List (Option Channel)) (n : ℕ) (before after : Channel) (a : Access) (files later : RunFiles)
+pub close_moves : ClosesKeep → ClosesChange → ClosesBeside → FilesBeside → (H : ChannelRun → FileHead → Type 0) (turns : List MemberTurn) (time : ℕ) (dump : Option (List ℕ)) (told : ChannelEnd) (slots : List (Option Channel)) (n : ℕ) (before after : Channel) (a : Access) (files later : FilesTold)
     → slot_at slots n ≡ Some before → HaveFilesOpen slots files.seen → ((m : ℕ) (d : Channel) → m ≢ n → slot_at slots m ≡ Some d → SlotsApart files.seen before d) → EndsChannel time dump told before after files later
     → Moves H turns slots n before after a a files.seen later.seen
 close_moves keep change beside others H turns time dump told slots n before after a files later there open_files apart ends =
@@ -76,7 +77,7 @@ close_moves keep change beside others H turns time dump told slots n before afte
     let file : IsLastOpen old before.spec (written_run before.stage) = open_files.files n before there in
     let made : ℕ = files_made before.stage in
     let changes : ChangesRun before.spec (channel_run before.stage) (written_run before.stage) made made old new = change before.spec before.stage told.state time dump old new files.faults later.faults ends.ends file in
-    let tells : new.tells ≡ old.tells = tells_same before.spec (channel_run before.stage) (written_run before.stage) made made old new changes in
+    let tells : new.names ≡ old.names = tells_same before.spec (channel_run before.stage) (written_run before.stage) made made old new changes in
     let used : (m : ℕ) (d : Channel) → slot_at slots m ≡ Some d → (o : ChannelRun) → written_run d.stage ≡ Some o → IsTrue (old.writes o.at.file) = λ m d stood o is. last_used d.spec old (written_run d.stage) (open_files.files m d stood) o is in
     let as_many : files_made after.stage ≤ made = subst (λ (s : ChannelStage). files_made s ≤ made) (sym stage) (settled_made before.stage) in
     let ran : (o : ChannelRun) → channel_run after.stage ≡ Some o → channel_run before.stage ≡ Some o =
@@ -86,7 +87,8 @@ close_moves keep change beside others H turns time dump told slots n before afte
     record {
       spec = spec;
       client = λ k is. client ∙ is;
-      tells = tells;
+      names = tells;
+      on = goes_on before.spec (channel_run before.stage) (written_run before.stage) made made old new changes;
       self = λ k. record { head = k.head; stands = rw (spec, client, stage) (keep before.spec before.client before.stage told.state time dump k.head a.own a.got old new files.faults later.faults ends.ends k.stands).0; headed = λ o is. k.headed o (ran o is) };
       beside = λ m d other stood same b k. record {
         head = k.head;
@@ -219,10 +221,10 @@ settled_idle (Broken run fallen) settled = refl
 -- A run that was left now, while other channels may have theirs; where its channel found a name taken, a file of that is there.
 pub record LeftNow (turns : List MemberTurn) (slots : List (Option Channel)) (seen : Seen) (c : Channel) (port : Access) (stop : MemberTurn) (told : ChannelEnd) : Type 0 where
   pub left : LeftRun turns slots seen c port stop told
-  pub there : IsTrue seen.tells → IsTrue left.run.opened.at.taken → IsSome (seen.at (piece_name_by c.spec.pattern left.run.opened.run (left.run.opened.at.sub + 1)))
+  pub there : IsTrue seen.names → IsTrue left.run.opened.at.taken → IsSome (seen.at (piece_name_by c.spec.pattern left.run.opened.run (left.run.opened.at.sub + 1)))
 
 -- the run of the channel whose files are ended, behind that
-pub left_now : ClosesKeep → ClosesChange → ClosesKnow → (turns : List MemberTurn) (dumps : RunDumps) (stop : MemberTurn) (told : ChannelEnd) (slots : List (Option Channel)) (ports : List Access) (n : ℕ) (before after : Channel) (a : Access) (files later : RunFiles) → slot_at slots n ≡ Some before
+pub left_now : ClosesKeep → ClosesChange → ClosesKnow → (turns : List MemberTurn) (dumps : RunDumps) (stop : MemberTurn) (told : ChannelEnd) (slots : List (Option Channel)) (ports : List Access) (n : ℕ) (before after : Channel) (a : Access) (files later : FilesTold) → slot_at slots n ≡ Some before
     → slice_get ports before.spec.buffer ≡ Some a → IsLastOpen files.seen before.spec (written_run before.stage) → KnowsTaken files.seen before.spec before.stage → is_settled_stage before.stage ≡ true → IsStoppingStage turns a.own stop.order.start before.stage
     → SlotsStand (IsHeadTold turns dumps) turns slots ports files.seen → EndsChannel stop.order.time stop.dump told before after files later → AreEngineTurns turns → LeftNow turns (slice_set slots n (Some after)) later.seen after a stop told
 left_now keep change know turns dumps stop told slots ports n before after a files later there at_port file knows settled at stands ends are =
@@ -235,7 +237,7 @@ left_now keep change know turns dumps stop told slots ports n before after a fil
     let spec : after.spec ≡ before.spec = ap (λ (c : Channel). c.spec) ends.channel in
     let client : after.client ≡ before.client = ap (λ (c : Channel). c.client) ends.channel in
     let stage : after.stage ≡ Idle = ap (λ (c : Channel). c.stage) ends.channel ∙ settled_idle before.stage settled in
-    let tells : later.seen.tells ≡ files.seen.tells =
+    let tells : later.seen.names ≡ files.seen.names =
     tells_same before.spec (channel_run before.stage) (written_run before.stage) (files_made before.stage) (files_made before.stage) files.seen later.seen (change before.spec before.stage told.state time dump files.seen later.seen files.faults later.faults ends.ends file) in
     let keeps : KeepsThere files.seen later.seen = know before.spec before.client before.stage told.state time dump kept.head a.own a.got files.seen later.seen files.faults later.faults ends.ends kept.stands in
     let now : LeftRun turns (slice_set slots n (Some after)) later.seen after a stop told = record {
@@ -259,7 +261,7 @@ left_now keep change know turns dumps stop told slots ports n before after a fil
     record {
       left = now;
       there = λ told_now taken.
-          let told_before : IsTrue files.seen.tells = subst (λ (b : Bool). IsTrue b) tells told_now in
+          let told_before : IsTrue files.seen.names = subst (λ (b : Bool). IsTrue b) tells told_now in
           let was : IsSome (files.seen.at (piece_name_by before.spec.pattern l.run.opened.run (l.run.opened.at.sub + 1))) = knows l.run.opened l.is taken told_before in
           subst (λ (s : ChannelSpec). IsSome (later.seen.at (piece_name_by s.pattern l.run.opened.run (l.run.opened.at.sub + 1)))) (sym spec) (keeps told_before (piece_name_by before.spec.pattern l.run.opened.run (l.run.opened.at.sub + 1)) was);
     }

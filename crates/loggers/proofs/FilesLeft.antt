@@ -8,7 +8,9 @@ use Rattle.daq_types.specs.declared.runs.Order.{Order}
 use Rattle.daq_types.specs.declared.runs.Transition.{Transition}
 use Rattle.daq_types.specs.declared.runs.Transition.TheVariants.{Start, Stop, Pause, Resume, StartAbort}
 use Rattle.daq_types.specs.declared.runs.Why.{Why}
-use Rattle.daq_io.specs.Seen.{Seen, Touches}
+use Rattle.daq_io.specs.Seen.{GoesOn, Seen, Touches}
+use Rattle.daq_io.specs.Told.{FilesTold}
+use Rattle.daq_io.proofs.SeenLaws.{on_same, on_then}
 use Rattle.buffer_core.specs.declared.entry.BufferEntry.{BufferEntry}
 use Rattle.buffer_core.specs.Slots.{slot_at}
 use Rattle.mid_logger.specs.declared.channel.Channel.{Channel}
@@ -24,13 +26,14 @@ use Rattle.mid_logger.specs.Channels.{channel_run, written_run, stage_begun, sta
 use Rattle.mid_logger.specs.ChannelTurns.{ChannelAt, OpensBy, drained_run}
 use Rattle.mid_logger.specs.ChannelEnds.{ClosesFile, stage_settled}
 use Rattle.mid_logger.specs.Keeping.{ChangesRun, KeepsRun, any_file, PullsChange, AbortsChange, ClosesChange, OpensChange}
-use Rattle.loggers.specs.Moments.{RunFiles, LoggerMoment, ChannelStep, StepsChannel, StepsSlot, StepsAt, CallsBuffer, MarksBuffer, InTurn, noted_channel, HaveFilesOpen, IsLoggerReady}
+use Rattle.loggers.specs.Moments.{LoggerMoment, ChannelStep, StepsChannel, StepsSlot, StepsAt, CallsBuffer, MarksBuffer, InTurn, noted_channel, HaveFilesOpen, IsLoggerReady}
 use Rattle.loggers.specs.ChannelSteps.{OpensChannel, AbortsChannel, PullsChannel}
 use Rattle.loggers.specs.SlotPulls.{PullsSlot, PullsNumbered}
 use Rattle.loggers.specs.Turning.{BeginsBuffer, EndsBuffer, PausesBuffer, ResumesBuffer, LoggerTurn, OpensBelow, BeginsBelow, AbortsAll, UndoesOpens, UndoesBegins, StartsSo, TakesStart, TakesStop, TakesMark, TakesAbort, TakesTurnBy, TakesTurn, is_run_on, is_started, is_of_start, buffers_begun}
 use Rattle.loggers.specs.Finishing.{EndingMoment, EndsSlot, EndsSlotAt, LoggerFinish, FinishesBy, FinishesLogger, ending_of, ends_idle, is_settled_slot, waiting_stop}
 use Rattle.loggers.specs.OtherFiles.{specs_in, IsRunName, HaveRunsAmong, LeavesOtherFiles, TurnsLeaveFiles, PullsLeaveFiles, FinishesLeaveFiles}
 use Rattle.loggers.proofs.InTurns.{turns_keep}
+use Rattle.loggers.proofs.PullMoves.{goes_on, tells_same}
 use Rattle.loggers.proofs.SlotLists.{one_changed}
 use Rattle.loggers.proofs.ReadySteps.{begun_made, ended_made, WasNoted, was_noted, pulled_slot, ended_files}
 
@@ -74,18 +77,20 @@ pub record IsHeld (runs : List ℕ) (slots : List (Option Channel)) : Type 0 whe
 -- The channels are the same. Where they are held so, they are behind it, and at most their files in these runs changed.
 pub record LeavesFiles (Held : List (Option Channel) → Type 0) (runs : List ℕ) (slots later : List (Option Channel)) (old new : Seen) : Type 0 where
   pub specs : specs_in later ≡ specs_in slots
-  pub tells : new.tells ≡ old.tells
+  pub names : new.names ≡ old.names
+  pub on : GoesOn old new
   pub held : Held slots → Held later
   pub others : Held slots → (name : List ℕ) → (IsRunName (specs_in slots) runs name → ⊥) → new.at name ≡ old.at name
 
 files_same : (Held : List (Option Channel) → Type 0) (runs : List ℕ) (slots : List (Option Channel)) (old new : Seen) → new ≡ old → LeavesFiles Held runs slots slots old new
-files_same Held runs slots old new same = record { specs = refl; tells = ap (λ (s : Seen). s.tells) same; held = λ h. h; others = λ h name other. ap (λ (s : Seen). s.at name) same }
+files_same Held runs slots old new same = record { specs = refl; names = ap (λ (s : Seen). s.names) same; on = on_same (ap (λ (s : Seen). s.done) same); held = λ h. h; others = λ h name other. ap (λ (s : Seen). s.at name) same }
 
 files_then : (Held : List (Option Channel) → Type 0) (runs : List ℕ) (slots between later : List (Option Channel)) (old middle new : Seen) → LeavesFiles Held runs slots between old middle → LeavesFiles Held runs between later middle new
     → LeavesFiles Held runs slots later old new
 files_then Held runs slots between later old middle new first second = record {
   specs = second.specs ∙ first.specs;
-  tells = second.tells ∙ first.tells;
+  names = second.names ∙ first.names;
+  on = on_then first.on second.on;
   held = λ h. second.held (first.held h);
   others = λ h name other.
       second.others (first.held h) name (λ is. other (subst (λ (specs : List (Option ChannelSpec)). IsRunName specs runs name) first.specs is)) ∙ first.others h name other;
@@ -130,16 +135,13 @@ others_at : (runs : List ℕ) (slots : List (Option Channel)) (n : ℕ) (c : Cha
 others_at runs slots n c None written before now old new at among few changes name other = ap (λ (s : Seen). s.at name) changes
 others_at runs slots n c (Some opened) written before now old new at among few changes name other = changes.others name (not_made runs slots n c opened.run now name at (among opened refl) few other)
 
-changes_tell : (spec : ChannelSpec) (run written : Option ChannelRun) (before now : ℕ) (old new : Seen) → ChangesRun spec run written before now old new → new.tells ≡ old.tells
-changes_tell spec None written before now old new changes = ap (λ (s : Seen). s.tells) changes
-changes_tell spec (Some opened) written before now old new changes = changes.tells
-
 -- One channel changed at most files of its run.
 slot_leaves : (runs : List ℕ) (slots : List (Option Channel)) (n : ℕ) (before after : Channel) (now : ℕ) (old new : Seen) → slot_at slots n ≡ Some before → after.spec ≡ before.spec → (HasHeld runs before.stage → HasHeld runs after.stage × (now ≤ suc last_number))
     → ChangesRun before.spec (channel_run before.stage) (written_run before.stage) (files_made before.stage) now old new → LeavesFiles (IsHeld runs) runs slots (slice_set slots n (Some after)) old new
 slot_leaves runs slots n before after now old new at spec held changes = record {
   specs = specs_set slots n before after at spec;
-  tells = changes_tell before.spec (channel_run before.stage) (written_run before.stage) (files_made before.stage) now old new changes;
+  names = tells_same before.spec (channel_run before.stage) (written_run before.stage) (files_made before.stage) now old new changes;
+  on = goes_on before.spec (channel_run before.stage) (written_run before.stage) (files_made before.stage) now old new changes;
   held = λ h. held_set runs slots n before after at (held (held_at runs slots n before at h)).0 h;
   others = λ h name other. others_at runs slots n before (channel_run before.stage) (written_run before.stage) (files_made before.stage) now old new at (held_at runs slots n before at h).among (held (held_at runs slots n before at h)).1 changes name other;
 }
@@ -163,10 +165,12 @@ opened_held runs spec order dump (Err why) a b opens among held = subst (λ (sta
 
 opened_leaves : OpensChange → (runs : List ℕ) (order : Order) (dump : List ℕ) (r : Result ⊤ Why) (n : ℕ) (before : Channel) (a b : LoggerMoment) → slot_at a.slots n ≡ Some before → Contains runs order.run → StepsChannel (OpensChannel order dump r) n before a b → Leaves runs a b
 opened_leaves change runs order dump r n before a b there among s =
-    let touches : Touches a.files.seen b.files.seen (piece_name_by before.spec.pattern order.run 0) = (change before.spec order dump r _ _ s.step.opens).0.touches in
+    let file = (change before.spec order dump r _ _ s.step.opens).0 in
+    let touches : Touches a.files.seen b.files.seen (piece_name_by before.spec.pattern order.run 0) = file.touches in
     step_leaves runs (OpensChannel order dump r) n before a b s (record {
       specs = specs_set a.slots n before s.after there s.step.spec;
-      tells = touches.tells;
+      names = touches.names;
+      on = file.on;
       held = λ h. held_set runs a.slots n before s.after there (opened_held runs before.spec order dump r _ _ s.step.opens among (held_at runs a.slots n before there h)) h;
       others = λ h name other. touches.others name (not_made runs a.slots n before order.run 1 name there among (omega arith) other 0 (omega arith));
     })
@@ -213,7 +217,7 @@ slot_pulls change runs dump n answer (Some before) a b there s open_files =
 
 call_leaves : (runs : List ℕ) (entry : BufferEntry) (buffer : ℕ) (a b : LoggerMoment) → CallsBuffer entry buffer a b → Leaves runs a b
 call_leaves runs entry buffer a b calls =
-    subst (λ (l : List (Option Channel)). LeavesFiles (IsHeld runs) runs a.slots l a.files.seen b.files.seen) (sym calls.slots) (files_same (IsHeld runs) runs a.slots a.files.seen b.files.seen (ap (λ (f : RunFiles). f.seen) calls.files))
+    subst (λ (l : List (Option Channel)). LeavesFiles (IsHeld runs) runs a.slots l a.files.seen b.files.seen) (sym calls.slots) (files_same (IsHeld runs) runs a.slots a.files.seen b.files.seen (ap (λ (f : FilesTold). f.seen) calls.files))
 
 -- a note leaves the run, and how many files were made
 pub record KeepsFiles (note : ChannelStage → ChannelStage) : Type 0 where
@@ -239,14 +243,15 @@ mark_leaves runs entry note buffer a b keeps marks =
     let was : (n : ℕ) (c : Channel) → slot_at b.slots n ≡ Some c → WasNoted note buffer a.slots n c = λ n c there. was_noted note buffer a.slots n c (subst (λ (l : List (Option Channel)). slot_at l n ≡ Some c) marks.noted there) in
     record {
       specs = ap specs_in marks.noted ∙ specs_noted note buffer a.slots;
-      tells = ap (λ (f : RunFiles). f.seen.tells) marks.marks.files;
+      names = ap (λ (f : FilesTold). f.seen.names) marks.marks.files;
+      on = on_same (ap (λ (f : FilesTold). f.seen.done) marks.marks.files);
       held = λ h. record {
         among = λ n c opened there run. h.among n (was n c there).before opened (was n c there).there (sym (noted_run note buffer (was n c there).before keeps) ∙ (sym (ap (λ (x : Channel). channel_run x.stage) (was n c there).is) ∙ run));
         few = λ n c there.
             let same : files_made c.stage ≡ files_made (was n c there).before.stage = ap (λ (x : Channel). files_made x.stage) (was n c there).is ∙ noted_made note buffer (was n c there).before keeps in
             omega (arith, same, h.few n (was n c there).before (was n c there).there);
       };
-      others = λ h name other. ap (λ (f : RunFiles). f.seen.at name) marks.marks.files;
+      others = λ h name other. ap (λ (f : FilesTold). f.seen.at name) marks.marks.files;
     }
 
 begun_run : (place : ℕ) (stage : ChannelStage) → channel_run (stage_begun stage place) ≡ channel_run stage
@@ -353,7 +358,7 @@ pub turn_leaves : FileChanges → (runs : List ℕ) (t : LoggerTurn) → TakesTu
 turn_leaves laws runs t takes among = turn_by laws runs t.transition t takes among
 
 leaves_held : (Held : List (Option Channel) → Type 0) (runs : List ℕ) (slots later : List (Option Channel)) (old new : Seen) → ((l : List (Option Channel)) → Held l → HaveRunsAmong runs l) → Held slots → LeavesFiles Held runs slots later old new → LeavesOtherFiles runs slots later old new
-leaves_held Held runs slots later old new among h leaves = record { specs = leaves.specs; held = among later (leaves.held h); files = record { tells = leaves.tells; others = leaves.others h } }
+leaves_held Held runs slots later old new among h leaves = record { specs = leaves.specs; held = among later (leaves.held h); files = record { told = leaves.names; on = leaves.on; others = leaves.others h } }
 
 leaves_ready : (runs : List ℕ) (a b : LoggerMoment) → IsLoggerReady a.slots a.ports a.files.seen → HaveRunsAmong runs a.slots → Leaves runs a b → LeavesOtherFiles runs a.slots b.slots a.files.seen b.files.seen
 leaves_ready runs a b ready held leaves = leaves_held (IsHeld runs) runs a.slots b.slots a.files.seen b.files.seen (λ l h. h.among) (record { among = held; few = ready.few }) leaves
@@ -407,7 +412,8 @@ ended_slot laws runs time dump n (Some before) x y there ends open_files =
     let changes = laws.closes before.spec before.stage ends.told.state time dump x.files.seen y.files.seen x.files.faults y.files.faults ends.ends.ends last in
     let left : LeavesFiles (HaveRunsAmong runs) runs x.slots (slice_set x.slots n (Some ends.after)) x.files.seen y.files.seen = record {
       specs = specs_set x.slots n before ends.after there (ap (λ (c : Channel). c.spec) ends.ends.channel);
-      tells = changes_tell before.spec (channel_run before.stage) (written_run before.stage) (files_made before.stage) (files_made before.stage) x.files.seen y.files.seen changes;
+      names = tells_same before.spec (channel_run before.stage) (written_run before.stage) (files_made before.stage) (files_made before.stage) x.files.seen y.files.seen changes;
+      on = goes_on before.spec (channel_run before.stage) (written_run before.stage) (files_made before.stage) (files_made before.stage) x.files.seen y.files.seen changes;
       held = λ h m c opened at is.
           one_changed (λ k z. (o : ChannelRun) → channel_run z.stage ≡ Some o → Contains runs o.run) x.slots n ends.after (λ z stood o of. h n before o there (settled_run before.stage o (sym (ap channel_run stage) ∙ of))) (λ k z other stood o of. h k z o stood of) before there m c at opened is;
       others = λ h name other. closed_others laws.closes runs x.slots n before before.stage ends.told.state time dump x.files.seen y.files.seen x.files.faults y.files.faults there (λ opened is. h n before opened there is) ends.ends.ends last name other;

@@ -90,8 +90,8 @@ now_moved law H turns slots n before after p old new moves there keeps c x stop 
     let both = left_moved law H turns slots n before after p p old new moves there c c x x (λ i is. is) (grown_none x) stop told l.left in
     record {
       left = both.0;
-      there = subst (λ (r : BegunRun). IsTrue new.tells → IsTrue r.opened.at.taken → IsSome (new.at (piece_name_by c.spec.pattern r.opened.run (r.opened.at.sub + 1)))) (sym both.1)
-          (λ tells taken. let told_before : IsTrue old.tells = subst (λ (b : Bool). IsTrue b) moves.tells tells in keeps told_before _ (l.there told_before taken));
+      there = subst (λ (r : BegunRun). IsTrue new.names → IsTrue r.opened.at.taken → IsSome (new.at (piece_name_by c.spec.pattern r.opened.run (r.opened.at.sub + 1)))) (sym both.1)
+          (λ tells taken. let told_before : IsTrue old.names = subst (λ (b : Bool). IsTrue b) moves.names tells in keeps told_before _ (l.there told_before taken));
     }
 
 ended_one : EndingLaws → (turns : List MemberTurn) (dumps : RunDumps) (stop : MemberTurn) (ports : List Access) (many k : ℕ) (before : Channel) (a b : EndingMoment) → slot_at a.slots k ≡ Some before → EndsNumbered stop.order.time stop.dump k before a b → EndedTo turns dumps stop ports many k a
@@ -129,7 +129,7 @@ ended_one laws turns dumps stop ports many k before a b there ends to =
       long = length-set a.slots k (Some after) ∙ to.long;
       knows = one_changed (λ j z. KnowsTaken new z.spec z.stage) a.slots k after
           (λ z here opened is. absurd (let never : None ≡ Some opened = sym (ap (λ (s : ChannelStage). channel_run s) idle) ∙ is in cc (never)))
-          (λ j z other here opened is taken tells. let told_before : IsTrue old.tells = subst (λ (t : Bool). IsTrue t) moves.tells tells in keeps told_before _ (to.knows j z here opened is taken told_before)) before there;
+          (λ j z other here opened is taken tells. let told_before : IsTrue old.names = subst (λ (t : Bool). IsTrue t) moves.names tells in keeps told_before _ (to.knows j z here opened is taken told_before)) before there;
       stages = λ n c x stood at above.
           one_changed (λ j z. (y : Access) → slice_get ports z.spec.buffer ≡ Some y → suc k ≤ j → IsStoppingStage turns y.own stop.order.start z.stage × (is_settled_stage z.stage ≡ true)) a.slots k after (λ z here y at_y high. absurd (omega arith))
           (λ j z other here y at_y high. to.stages j z y here at_y (omega arith)) before there n c stood x at above;
@@ -189,7 +189,7 @@ told_now turns later slots seen n c a stop now ends told idle at order dump head
       told = told;
       at = at;
       left = both.0;
-      taken = subst (λ (r : BegunRun). IsTrue seen.tells → IsTrue r.opened.at.taken → TakenStays slots seen (piece_name_by c.spec.pattern r.opened.run (r.opened.at.sub + 1))) (sym both.1)
+      taken = subst (λ (r : BegunRun). IsTrue seen.names → IsTrue r.opened.at.taken → TakenStays slots seen (piece_name_by c.spec.pattern r.opened.run (r.opened.at.sub + 1))) (sym both.1)
           (λ tells taken. record { there = l.there tells taken; apart = no_open_idle slots idle _ });
     }
 

@@ -7,6 +7,7 @@ use Rattle.daq_types.specs.declared.runs.ChannelEnd.{ChannelEnd}
 use Rattle.daq_types.specs.declared.runs.Why.{Why}
 use Rattle.daq_types.specs.declared.runs.Why.TheVariants.{NotReady, Exists, Fault, BufferRefused}
 use Rattle.daq_io.specs.Counts.{Rose, RoseBy}
+use Rattle.daq_io.specs.Told.{FilesTold}
 use Rattle.daq_io.proofs.Counts.{RoseBy-fewer, RoseBy-then}
 use Rattle.buffer_core.specs.Slots.{slot_at, passes}
 use Rattle.transitions.specs.declared.answers.Answer.TheVariants.{Yes, No}
@@ -16,7 +17,7 @@ use Rattle.member_model.specs.Turns.{MemberTurn, HasTurn}
 use Rattle.mid_logger.specs.declared.channel.Channel.{Channel}
 use Rattle.mid_logger.specs.declared.stage.ChannelStage.{ChannelStage}
 use Rattle.mid_logger.specs.ChannelTurns.{broken_run}
-use Rattle.loggers.specs.Moments.{RunFiles, noted_channel}
+use Rattle.loggers.specs.Moments.{noted_channel}
 use Rattle.loggers.specs.Reasons.{IsReasonSo, AreEndsSo, IsAnswerSo, AreAnswersSo, NoneFell, GivesReasons}
 use Rattle.loggers.specs.ToldCounts.{faults_of_state, faults_of_end, faults_of_refusal, faults_of_answer, clashes_of_answer, count_in_answer, faults_told, clashes_told, broken_off}
 
@@ -56,10 +57,10 @@ pub by_some : (many f g : ℕ) → 1 ≤ many → RoseBy many f g → Rose f g
 by_some many f g some rose = RoseBy-fewer 1 many f g some rose
 
 -- nothing falls
-pub fell_same : (files : RunFiles) → NoneFell files files
+pub fell_same : (files : FilesTold) → NoneFell files files
 fell_same files = record { faults = by_same files.faults files.faults refl; clashes = by_same files.clashes files.clashes refl }
 
-pub fell_then : (f g h : RunFiles) → NoneFell f g → NoneFell g h → NoneFell f h
+pub fell_then : (f g h : FilesTold) → NoneFell f g → NoneFell g h → NoneFell f h
 fell_then f g h first second = record {
   faults = RoseBy-then 0 0 f.faults g.faults h.faults first.faults second.faults;
   clashes = RoseBy-then 0 0 f.clashes g.clashes h.clashes first.clashes second.clashes;
@@ -139,28 +140,28 @@ map_off note buffer (o ∷ os) keeps = omega (arith, noted_off note buffer o kee
 
 -- What the counts tell of each answer.
 
-reason_by : (why : Why) (old new : RunFiles) → RoseBy (faults_of_refusal why) old.faults new.faults → RoseBy (clashes_of_answer (No why)) old.clashes new.clashes → IsReasonSo why old new
+reason_by : (why : Why) (old new : FilesTold) → RoseBy (faults_of_refusal why) old.faults new.faults → RoseBy (clashes_of_answer (No why)) old.clashes new.clashes → IsReasonSo why old new
 reason_by NotReady old new faults clashes = tt
 reason_by (Exists channel) old new faults clashes = clashes
 reason_by (Fault channel) old new faults clashes = faults
 reason_by BufferRefused old new faults clashes = tt
 
-ends_by : (ends : List ChannelEnd) (old new : RunFiles) → RoseBy (sum_by faults_of_end ends) old.faults new.faults → AreEndsSo ends old new
+ends_by : (ends : List ChannelEnd) (old new : FilesTold) → RoseBy (sum_by faults_of_end ends) old.faults new.faults → AreEndsSo ends old new
 ends_by ends old new faults = λ n told at broke.
     let one : faults_of_end told ≡ 1 = ap faults_of_state broke in
     by_some (sum_by faults_of_end ends) old.faults new.faults (omega (arith, one, member_counts faults_of_end ends n told at)) faults
 
-tally_by : (tally : Tally) (old new : RunFiles) → RoseBy (faults_of_answer (Yes tally)) old.faults new.faults → IsAnswerSo (Yes tally) old new
+tally_by : (tally : Tally) (old new : FilesTold) → RoseBy (faults_of_answer (Yes tally)) old.faults new.faults → IsAnswerSo (Yes tally) old new
 tally_by Plain old new faults = tt
 tally_by (Front sent ended) old new faults = tt
 tally_by (Channels ends) old new faults = ends_by ends old new faults
 tally_by (Report report) old new faults = tt
 
-pub answer_by : (answer : Answer) (old new : RunFiles) → RoseBy (faults_of_answer answer) old.faults new.faults → RoseBy (clashes_of_answer answer) old.clashes new.clashes → IsAnswerSo answer old new
+pub answer_by : (answer : Answer) (old new : FilesTold) → RoseBy (faults_of_answer answer) old.faults new.faults → RoseBy (clashes_of_answer answer) old.clashes new.clashes → IsAnswerSo answer old new
 answer_by (Yes tally) old new faults clashes = tally_by tally old new faults
 answer_by (No why) old new faults clashes = reason_by why old new faults clashes
 
-pub reasons_tell : (slots : List (Option Channel)) (ports : _) (first now : RunFiles) (turns : List MemberTurn) → GivesReasons slots ports first now turns → AreAnswersSo turns first now
+pub reasons_tell : (slots : List (Option Channel)) (ports : _) (first now : FilesTold) (turns : List MemberTurn) → GivesReasons slots ports first now turns → AreAnswersSo turns first now
 reasons_tell slots ports first now turns gives = λ t answer stands is.
     let many : faults_of_answer answer ≤ faults_told turns = turn_counts faults_of_answer turns t answer stands is in
     answer_by answer first now

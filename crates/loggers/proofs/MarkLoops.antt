@@ -13,11 +13,12 @@ use Rattle.mid_logger.specs.declared.stage.ChannelStage.{ChannelStage}
 use Rattle.mid_logger.specs.Channels.{FileHead, KnowsTaken, stage_begun, stage_ended, place_marked}
 use Rattle.mid_logger.specs.Beside.{CallsBeside, LeftBeside}
 use Rattle.mid_logger.specs.Keeping.{BegunKeeps, EndedKeeps}
-use Rattle.loggers.specs.Moments.{RunFiles, LoggerMoment, InTurn}
+use Rattle.loggers.specs.Moments.{LoggerMoment, InTurn}
 use Rattle.loggers.specs.Turning.{BeginsBuffer, EndsBuffer, PausesBuffer, ResumesBuffer, BeginsBelow, RefusesMark}
 use Rattle.loggers.specs.LoggerStands.{IsStartedStage, ChannelKept, HasEndTurn, SlotsStand}
 use Rattle.loggers.proofs.SlotLists.{same_or_other, got_there, got_elsewhere, many_set}
 use Rattle.daq_io.specs.Seen.{Seen}
+use Rattle.daq_io.specs.Told.{FilesTold}
 use Rattle.loggers.proofs.PortSteps.{IsFrom}
 use Rattle.loggers.proofs.OpenSlots.{FoundNone}
 use Rattle.loggers.proofs.MarkMoves.{refused_quiet, pause_quiet, resume_quiet, called_stands, IsAskingStage, begun_started, begins_from, begins_stands, NeverEnded, HasBegunRun, begins_started, MayEnd, HasEnded, has_ended, NoneTold, ends_from, ends_stands}
@@ -44,14 +45,14 @@ pub record HaveStayed (H : ChannelRun → FileHead → Type 0) (turns : List Mem
 pub paused_all : LeftBeside → CallsBeside → (H : ChannelRun → FileHead → Type 0) (turns : List MemberTurn) (start count : ℕ) (a b : LoggerMoment) → InTurn (λ buffer. PausesBuffer start buffer) count a b → SlotsStand H turns a.slots a.ports a.files.seen → HaveStayed H turns a b
 paused_all law calls H turns start count a b steps stands =
     let done : StaysStanding H turns a.slots a.files.seen b = all_stay H turns (λ buffer. PausesBuffer start buffer) a.slots a.files.seen count a b
-    (λ k x y step stays. record { standing = called_stands law calls H turns (Pause start step.0) k x y (pause_quiet start step.0) step.1 stays.standing; same = step.1.slots ∙ stays.same; quiet = ap (λ (f : RunFiles). f.seen) step.1.files ∙ stays.quiet }) steps
+    (λ k x y step stays. record { standing = called_stands law calls H turns (Pause start step.0) k x y (pause_quiet start step.0) step.1 stays.standing; same = step.1.slots ∙ stays.same; quiet = ap (λ (f : FilesTold). f.seen) step.1.files ∙ stays.quiet }) steps
     (record { standing = stands; same = refl; quiet = refl }) in
     record { standing = done.standing; same = done.same; quiet = done.quiet }
 
 pub resumed_all : LeftBeside → CallsBeside → (H : ChannelRun → FileHead → Type 0) (turns : List MemberTurn) (start count : ℕ) (a b : LoggerMoment) → InTurn (λ buffer. ResumesBuffer start buffer) count a b → SlotsStand H turns a.slots a.ports a.files.seen → HaveStayed H turns a b
 resumed_all law calls H turns start count a b steps stands =
     let done : StaysStanding H turns a.slots a.files.seen b = all_stay H turns (λ buffer. ResumesBuffer start buffer) a.slots a.files.seen count a b
-    (λ k x y step stays. record { standing = called_stands law calls H turns (Resume start step.0) k x y (resume_quiet start step.0) step.1 stays.standing; same = step.1.slots ∙ stays.same; quiet = ap (λ (f : RunFiles). f.seen) step.1.files ∙ stays.quiet }) steps
+    (λ k x y step stays. record { standing = called_stands law calls H turns (Resume start step.0) k x y (resume_quiet start step.0) step.1 stays.standing; same = step.1.slots ∙ stays.same; quiet = ap (λ (f : FilesTold). f.seen) step.1.files ∙ stays.quiet }) steps
     (record { standing = stands; same = refl; quiet = refl }) in
     record { standing = done.standing; same = done.same; quiet = done.quiet }
 

@@ -3,7 +3,7 @@ use Rattle.std.specs.Prelude.{◌≡◌, ◌≢◌, ◌<◌, ◌+◌, ◌++◌, 
 use Rattle.std.proofs.Common.{ap, sym, subst, ◌∙◌, arith, inl, inr}
 use Rattle.std.proofs.lemmas.List.{length-set, append-nil}
 use Rattle.daq_types.specs.declared.runs.ChannelEnd.{ChannelEnd}
-use Rattle.daq_io.specs.Seen.{Seen, Stored}
+use Rattle.daq_io.specs.Seen.{GoesOn, Seen, Stored}
 use Rattle.buffer_core.specs.declared.entry.BufferEntry.{BufferEntry}
 use Rattle.buffer_core.specs.Ports.{Access, GotEvent}
 use Rattle.buffer_core.specs.Slots.{slot_at}
@@ -35,7 +35,8 @@ IsNotMade c name = (opened : ChannelRun) → channel_run c.stage ≡ Some opened
 pub record Moves (IsHeadOf : ChannelRun → FileHead → Type 0) (turns : List MemberTurn) (slots : List (Option Channel)) (n : ℕ) (before after : Channel) (p q : Access) (old new : Seen) : Type 0 where
   pub spec : after.spec ≡ before.spec
   pub client : (c : ℕ) → before.client ≡ Some c → after.client ≡ Some c
-  pub tells : new.tells ≡ old.tells
+  pub names : new.names ≡ old.names
+  pub on : GoesOn old new
   pub self : ChannelKept IsHeadOf old before p → ChannelKept IsHeadOf new after q
   pub beside : (m : ℕ) → (d : Channel) → m ≢ n → slot_at slots m ≡ Some d → d.spec.buffer ≡ before.spec.buffer → ChannelKept IsHeadOf old before p → ChannelKept IsHeadOf old d p → ChannelKept IsHeadOf new d q
   pub elsewhere : (m : ℕ) → (d : Channel) → (a : Access) → m ≢ n → slot_at slots m ≡ Some d → ChannelKept IsHeadOf old d a → ChannelKept IsHeadOf new d a
@@ -43,13 +44,13 @@ pub record Moves (IsHeadOf : ChannelRun → FileHead → Type 0) (turns : List M
   pub calls : PortKept turns p.own → PortKept turns q.own
   pub grows : Grows p q
   -- a file that is there, and is none of those that a channel made in its run, stays, and is not one that this channel has made behind the step
-  pub left : (name : List ℕ) → IsTrue old.tells → TakenStays slots old name → (new.at name ≡ old.at name) × IsNotMade after name
+  pub left : (name : List ℕ) → IsTrue old.names → TakenStays slots old name → (new.at name ≡ old.at name) × IsNotMade after name
 
 pub grown_none : (a : Access) → Grows a a
 grown_none a = record { more = []; given = []; own = sym (append-nil a.own); got = sym (append-nil a.got); ended = λ start ended so. so }
 
 -- two channels that did nothing are still apart
-still_apart : (old new : Seen) (c d : Channel) → new.tells ≡ old.tells → SlotsApart old c d → SlotsApart new c d
+still_apart : (old new : Seen) (c d : Channel) → new.names ≡ old.names → SlotsApart old c d → SlotsApart new c d
 still_apart old new c d tells apart = record {
   clients = apart.clients;
   names = λ r s is other_is told. apart.names r s is other_is (subst (λ (b : Bool). IsTrue b) tells told);
@@ -64,7 +65,7 @@ apart_flipped seen c d apart = record {
 }
 
 -- what one name is behind the step
-name_moved : (H : ChannelRun → FileHead → Type 0) (turns : List MemberTurn) (slots : List (Option Channel)) (n : ℕ) (before after : Channel) (p q : Access) (old new : Seen) → Moves H turns slots n before after p q old new → slot_at slots n ≡ Some before → (name : List ℕ) → IsTrue old.tells
+name_moved : (H : ChannelRun → FileHead → Type 0) (turns : List MemberTurn) (slots : List (Option Channel)) (n : ℕ) (before after : Channel) (p q : Access) (old new : Seen) → Moves H turns slots n before after p q old new → slot_at slots n ≡ Some before → (name : List ℕ) → IsTrue old.names
     → TakenStays slots old name → TakenStays (slice_set slots n (Some after)) new name
 name_moved H turns slots n before after p q old new moves there name told stays =
     let behind = moves.left name told stays in
@@ -82,9 +83,9 @@ pub left_moved : LeftBeside → (H : ChannelRun → FileHead → Type 0) (turns 
     → (k : LeftRun turns (slice_set slots n (Some after)) new (record d { spec = c.spec }) y stop end) × (k.run ≡ l.run)
 left_moved law H turns slots n before after p q old new moves there c d x y client grows stop end l =
     let name : (i : ℕ) → List ℕ = λ i. piece_name_by c.spec.pattern l.run.opened.run i in
-    let stays : IsTrue old.tells → (i : ℕ) → i < end.files → TakenStays slots old (name i) =
+    let stays : IsTrue old.names → (i : ℕ) → i < end.files → TakenStays slots old (name i) =
     λ told i below. record { there = left_there end c.spec l.head l.run stop.order.time stop.dump x.own x.got old l.left told i below; apart = l.apart told i below } in
-    let leaves : LeavesRunFiles c.spec (Some l.run.opened) None end.files old new = record { tells = moves.tells; at = λ told i below. (moves.left (name i) told (stays told i below)).0; number = tt } in
+    let leaves : LeavesRunFiles c.spec (Some l.run.opened) None end.files old new = record { told = moves.names; on = moves.on; at = λ told i below. (moves.left (name i) told (stays told i below)).0; number = tt } in
     let behind = law end c.spec l.head l.run stop.order.time stop.dump x.own grows.more x.got grows.given old new l.left leaves in
     let now : LeftRun turns (slice_set slots n (Some after)) new (record d { spec = c.spec }) y stop end = record {
       run = l.run;
@@ -98,7 +99,7 @@ left_moved law H turns slots n before after p q old new moves there c d x y clie
       few = l.few;
       left = rw (grows.own, grows.got) behind;
       apart = λ told i below.
-          let told_before : IsTrue old.tells = subst (λ (b : Bool). IsTrue b) moves.tells told in
+          let told_before : IsTrue old.names = subst (λ (b : Bool). IsTrue b) moves.names told in
           (name_moved H turns slots n before after p q old new moves there (name i) told_before (stays told_before i below)).apart;
       last = l.last;
     } in
@@ -114,7 +115,7 @@ told_moved law H turns slots n before after p q old new moves there m c d x y sp
       at = so.at;
       left = both.0;
       taken = λ told is_taken.
-          let told_before : IsTrue old.tells = subst (λ (b : Bool). IsTrue b) moves.tells told in
+          let told_before : IsTrue old.names = subst (λ (b : Bool). IsTrue b) moves.names told in
           let was : TakenStays slots old (piece_name_by c.spec.pattern so.left.run.opened.run (so.left.run.opened.at.sub + 1)) = so.taken told_before (subst (λ (r : BegunRun). IsTrue r.opened.at.taken) both.1 is_taken) in
           subst (λ (r : BegunRun). TakenStays (slice_set slots n (Some after)) new (piece_name_by c.spec.pattern r.opened.run (r.opened.at.sub + 1))) (sym both.1)
           (name_moved H turns slots n before after p q old new moves there (piece_name_by c.spec.pattern so.left.run.opened.run (so.left.run.opened.at.sub + 1)) told_before was);
@@ -161,7 +162,7 @@ moved law H turns slots ports n before after p q old new there at_port moves sta
           (λ i x other stood j y ne at_j.
           one_changed (λ r z. i ≢ r → SlotsApart new x z) slots n after
           (λ b2 stood2 ne2. apart_flipped new after x (moves.apart i x other stood (stands.apart n i before x (λ same. other (sym same)) there stood)))
-          (λ r z other2 stood2 ne2. still_apart old new x z moves.tells (stands.apart i r x z ne2 stood stood2)) before there j y at_j ne)
+          (λ r z other2 stood2 ne2. still_apart old new x z moves.names (stands.apart i r x z ne2 stood stood2)) before there j y at_j ne)
           before there k c first m d differ second;
       calls = λ k a at. elim ((port_of ports buffer p q k a at_port at).which) as (λ w. PortKept turns a.own) [
         | inl hit ↦ subst (λ (z : Access). PortKept turns z.own) (sym hit.1) (moves.calls (stands.calls buffer p at_port))

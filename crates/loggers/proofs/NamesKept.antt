@@ -6,6 +6,7 @@ use Rattle.daq_types.specs.declared.runs.ChannelEnd.{ChannelEnd}
 use Rattle.daq_types.specs.declared.runs.Transition.TheVariants.{Stop}
 use Rattle.daq_types.specs.declared.runs.Order.{Order}
 use Rattle.daq_io.specs.Seen.{Seen, Stored}
+use Rattle.daq_io.specs.Told.{FilesTold}
 use Rattle.buffer_core.specs.declared.entry.BufferEntry.{BufferEntry}
 use Rattle.buffer_core.specs.Ports.{Access, GotEvent}
 use Rattle.buffer_core.specs.Slots.{slot_at}
@@ -25,7 +26,7 @@ use Rattle.loggers.specs.declared.logged_run.LoggedRun.{LoggedRun}
 use Rattle.loggers.specs.declared.logged_run.RunDumps.{RunDumps}
 use Rattle.loggers.specs.declared.logged_run.RunPart.{RunPart}
 use Rattle.loggers.specs.declared.logged_run.RunPart.TheVariants.{Refused, Started, Stopping}
-use Rattle.loggers.specs.Moments.{RunFiles, LoggerMoment, InTurn, HaveFilesOpen, channel_limit}
+use Rattle.loggers.specs.Moments.{LoggerMoment, InTurn, HaveFilesOpen, channel_limit}
 use Rattle.loggers.specs.SlotPulls.{PullsSlot}
 use Rattle.loggers.specs.Finishing.{EndingMoment, EndsSlot, EndsSlotAt, LoggerFinish, FinishesLogger, FinishesBy, EndsFiles, ending_of, ends_idle, is_settled_slot, waiting_stop}
 use Rattle.loggers.specs.LoggerStands.{LoggerHolds, logger_turn, ChannelKept, HasHead, IsHeadTold, IsStopWaiting, IsStartedStage, IsStoppingStage, IsStageOf, IsStagePart, IsRunTold, IsPartTold}
@@ -99,11 +100,11 @@ turns_keep_names laws t first turns takes idle gives keeps =
     let later : List MemberTurn = logger_turn t.transition t.order t.dump t.answer ∷ turns in
     let stays : StaysOrRose t.before.files.faults t.after.files.faults = (turn_faults t takes).count in
     record {
-      tells = leaves.tells ∙ keeps.tells;
+      told = leaves.names ∙ keeps.told;
       names = λ tells none.
           let before_none : NoneRose first t.before.files = none_first first.faults t.before.files.faults t.after.files.faults none stays in
           let now_none : NoneRose t.before.files t.after.files = none_last first.faults t.before.files.faults t.after.files.faults none (by_stays _ first.faults t.before.files.faults gives.faults) in
-          let told : IsTrue t.before.files.seen.tells = subst (λ (b : Bool). IsTrue b) (sym keeps.tells) tells in
+          let told : IsTrue t.before.files.seen.names = subst (λ (b : Bool). IsTrue b) (sym keeps.told) tells in
           let left : NamesLeft (IsNameLeft (specs_in t.before.slots) turns first.seen) t.after.slots t.after.files.seen =
           turn_left laws.aborts (IsNameLeft (specs_in t.before.slots) turns first.seen) t takes idle told now_none (keeps.names tells before_none) in
           subst (λ (specs : List (Option ChannelSpec)). NamesLeft (IsNameLeft specs later first.seen) t.after.slots t.after.files.seen) (sym leaves.specs)
@@ -111,7 +112,7 @@ turns_keep_names laws t first turns takes idle gives keeps =
           (name_more (specs_in t.before.slots) turns later first.seen (turn_more (logger_turn t.transition t.order t.dump t.answer) turns)) left);
       taken = λ tells none.
           let before_none : NoneRose first t.before.files = none_first first.faults t.before.files.faults t.after.files.faults none stays in
-          let told : IsTrue t.before.files.seen.tells = subst (λ (b : Bool). IsTrue b) (sym keeps.tells) tells in
+          let told : IsTrue t.before.files.seen.names = subst (λ (b : Bool). IsTrue b) (sym keeps.told) tells in
           subst (λ (specs : List (Option ChannelSpec)). AreTaken specs first.seen later) (sym leaves.specs)
           (turn_taken turns first.seen t idle told (keeps.names tells before_none) takes, keeps.taken tells before_none);
     }
@@ -122,10 +123,10 @@ pub pulls_keep_names : FileChanges → PullsKeepNames
 pulls_keep_names laws dump number answer a b first turns pulls ready keeps =
     let leaves = pull_leaves laws.pulls [] dump number answer a b pulls ready.files in
     record {
-      tells = leaves.tells ∙ keeps.tells;
+      told = leaves.names ∙ keeps.told;
       names = λ tells none.
           let before_none : NoneRose first a.files = none_first first.faults a.files.faults b.files.faults none (pull_faults dump number answer a b pulls).count in
-          let told : IsTrue a.files.seen.tells = subst (λ (t : Bool). IsTrue t) (sym keeps.tells) tells in
+          let told : IsTrue a.files.seen.names = subst (λ (t : Bool). IsTrue t) (sym keeps.told) tells in
           subst (λ (specs : List (Option ChannelSpec)). NamesLeft (IsNameLeft specs turns first.seen) b.slots b.files.seen) (sym leaves.specs)
           (pull_left laws.pulls (IsNameLeft (specs_in a.slots) turns first.seen) dump number answer a b pulls ready.files told (keeps.names tells before_none));
       taken = λ tells none.
@@ -292,7 +293,7 @@ told_one slots time dump k (Some before) a b few there ends below =
     subst (λ (l : List (Option Channel)). ToldBelow slots (suc k) (ending_of l b.files b.told)) (sym ends.slots)
     (subst (λ (l : List ChannelEnd). ToldBelow slots (suc k) (ending_of (slice_set a.slots k (Some ends.after)) b.files l)) (sym ends.at) put)
 
-told_below : (slots : List (Option Channel)) (files : RunFiles) (time : ℕ) (dump : Option (List ℕ)) (k : ℕ) (b : EndingMoment) → length slots ≤ channel_limit → InTurn (λ n. EndsSlotAt time dump n) k (ending_of slots files ends_idle) b → ToldBelow slots k b
+told_below : (slots : List (Option Channel)) (files : FilesTold) (time : ℕ) (dump : Option (List ℕ)) (k : ℕ) (b : EndingMoment) → length slots ≤ channel_limit → InTurn (λ n. EndsSlotAt time dump n) k (ending_of slots files ends_idle) b → ToldBelow slots k b
 told_below slots files time dump zero b few same = subst (λ (m : EndingMoment). ToldBelow slots 0 m) (sym same) (record { wide = refl; still = λ n c from at. at; told = λ n c early at. absurd (omega (arith, early)) })
 told_below slots files time dump (suc k) b few turns = told_one slots time dump k (slot_at turns.0.slots k) turns.0 b few refl turns.2 (told_below slots files time dump k turns.0 few turns.1)
 
@@ -329,7 +330,7 @@ open_stopped f time ends few turns stops name o =
       is = o.is;
     }
 
-finished_names : FileChanges → (f : LoggerFinish) (first : RunFiles) (turns : List MemberTurn) (time : ℕ) → FinishesLogger f → length f.slots ≤ channel_limit → HaveFilesOpen f.slots f.files.seen → EndsFiles f time → StopsOpenRuns f.dumps.stop f.slots turns → KeepsNames f.slots first f.files turns
+finished_names : FileChanges → (f : LoggerFinish) (first : FilesTold) (turns : List MemberTurn) (time : ℕ) → FinishesLogger f → length f.slots ≤ channel_limit → HaveFilesOpen f.slots f.files.seen → EndsFiles f time → StopsOpenRuns f.dumps.stop f.slots turns → KeepsNames f.slots first f.files turns
     → KeepsNames f.later_slots first f.later_files (latest_answered turns f.answer)
 finished_names laws f first turns time finishes few open_files ends stops keeps =
     let dump : Option (List ℕ) = f.dumps.stop in
@@ -340,7 +341,7 @@ finished_names laws f first turns time finishes few open_files ends stops keeps 
     let specs : List (Option ChannelSpec) = specs_in f.slots in
     let stays : StaysOrRose f.files.faults f.later_files.faults = (finish_faults f finishes).count in
     let done : KeepsNames f.later_slots first f.later_files later = record {
-      tells = leaves.tells ∙ keeps.tells;
+      told = leaves.names ∙ keeps.told;
       names = λ tells none.
           let before_none : NoneRose first f.files = none_first first.faults f.files.faults f.later_files.faults none stays in
           let left : NamesLeft (IsNameLeft specs later first.seen) f.slots f.files.seen =
@@ -354,7 +355,7 @@ finished_names laws f first turns time finishes few open_files ends stops keeps 
     let answered : KeepsNames f.later_slots first f.later_files (latest_answered before (Some (Yes (Channels ends.told)))) = done in
     rw ends.answer_is (subst (λ (l : List MemberTurn). KeepsNames f.later_slots first f.later_files (latest_answered l (Some (Yes (Channels ends.told))))) (sym stops.latest) answered)
 
-finish_by : FileChanges → (f : LoggerFinish) (first : RunFiles) (turns : List MemberTurn) (settled : Bool) (stop : Option ℕ) → FinishesLogger f → waiting_stop f.run ≡ stop → length f.slots ≤ channel_limit → HaveFilesOpen f.slots f.files.seen → FinishesBy settled stop f
+finish_by : FileChanges → (f : LoggerFinish) (first : FilesTold) (turns : List MemberTurn) (settled : Bool) (stop : Option ℕ) → FinishesLogger f → waiting_stop f.run ≡ stop → length f.slots ≤ channel_limit → HaveFilesOpen f.slots f.files.seen → FinishesBy settled stop f
     → HaveStoppedRuns f.run f.dumps.stop f.slots turns → KeepsNames f.slots first f.files turns → KeepsNames f.later_slots first f.later_files (latest_answered turns f.answer)
 finish_by laws f first turns settled None finishes waits few open_files leaves stopped keeps = rw (leaves.answer_is, leaves.slots, leaves.files) keeps
 finish_by laws f first turns false (Some time) finishes waits few open_files leaves stopped keeps = rw (leaves.answer_is, leaves.slots, leaves.files) keeps

@@ -75,7 +75,7 @@ exists_number (Exists channel) number spec name a b is refuses = (let same : cha
 exists_number (Fault channel) number spec name a b is refuses = absurd (cc (is))
 exists_number BufferRefused number spec name a b is refuses = absurd (cc (is))
 
-module _ (turns : List MemberTurn) (first : Seen) (order : Order) (dump : List ℕ) (why : Why) (begun : ℕ) (a b : LoggerMoment) (undoes : UndoesOpens order dump why begun a b) (idle : AreIdleChannels a.slots) (tells : IsTrue a.files.seen.tells)
+module _ (turns : List MemberTurn) (first : Seen) (order : Order) (dump : List ℕ) (why : Why) (begun : ℕ) (a b : LoggerMoment) (undoes : UndoesOpens order dump why begun a b) (idle : AreIdleChannels a.slots) (tells : IsTrue a.files.seen.names)
     (left : NamesLeft (IsNameLeft (specs_in a.slots) turns first) a.slots a.files.seen) (number : ℕ) (is : why ≡ Exists number) where
   abbrev specs : List (Option ChannelSpec)
   specs = specs_in a.slots
@@ -102,7 +102,7 @@ module _ (turns : List MemberTurn) (first : Seen) (order : Order) (dump : List �
   number_is = exists_number why number spec _ _ _ is undoes.opens.refuses.step.opens.1
 
   was_there : IsSome (undoes.opens.opened.files.seen.at name)
-  was_there = (undoes.opens.refuses.step.exists opening.tells).0 (ap (λ (w : Why). Err w) (is ∙ ap (λ (n : ℕ). Exists n) number_is))
+  was_there = (undoes.opens.refuses.step.exists opening.names).0 (ap (λ (w : Why). Err w) (is ∙ ap (λ (n : ℕ). Exists n) number_is))
 
   -- another channel of the run has it
   given : OpenFrom 0 undoes.opens.opened.slots name → IsGivenBefore specs undoes.opens.number order.run name
@@ -139,7 +139,7 @@ module _ (turns : List MemberTurn) (first : Seen) (order : Order) (dump : List �
 
 -- A turn.
 
-module _ (turns : List MemberTurn) (first : Seen) (t : LoggerTurn) (idle : IsIdleOutside t.run t.before.slots) (tells : IsTrue t.before.files.seen.tells) (left : NamesLeft (IsNameLeft (specs_in t.before.slots) turns first) t.before.slots t.before.files.seen) where
+module _ (turns : List MemberTurn) (first : Seen) (t : LoggerTurn) (idle : IsIdleOutside t.run t.before.slots) (tells : IsTrue t.before.files.seen.names) (left : NamesLeft (IsNameLeft (specs_in t.before.slots) turns first) t.before.slots t.before.files.seen) where
   abbrev Taken : Type 0
   Taken = (number : ℕ) → t.answer ≡ Some (No (Exists number)) → IsNameTaken (specs_in t.before.slots) turns first t.order.run number
 

@@ -10,6 +10,7 @@ use Rattle.daq_types.specs.declared.runs.Why.{Why}
 use Rattle.daq_types.specs.declared.runs.Why.TheVariants.{NotReady, Exists, Fault, BufferRefused}
 use Rattle.daq_io.specs.Counts.{Rose}
 use Rattle.daq_io.specs.Seen.{Seen, Stored, Touches}
+use Rattle.daq_io.specs.Told.{FilesTold}
 use Rattle.buffer_core.specs.Slots.{slot_at}
 use Rattle.buffer_core.proofs.SlotLaws.{slot_set_other}
 use Rattle.mid_logger.specs.declared.channel.Channel.{Channel}
@@ -20,13 +21,13 @@ use Rattle.mid_logger.specs.declared.stage.ChannelStage.{ChannelStage}
 use Rattle.mid_logger.specs.declared.stage.ChannelStage.TheVariants.{Idle}
 use Rattle.sub_files.specs.declared.open_file.OpenFile.{OpenFile}
 use Rattle.sub_files.specs.Patterns.{piece_name_by}
-use Rattle.sub_files.specs.RecordFiles.{AreGone, UndoesFile}
+use Rattle.sub_files.specs.RecordFiles.{AreGone, IsGone, LeavesNone, UndoesFile}
 use Rattle.mid_logger.specs.Channels.{channel_run, written_run, stage_begun, stage_ended, place_marked, files_by as files_made}
 use Rattle.mid_logger.specs.ChannelEnds.{RemovesRun, stage_settled}
 use Rattle.mid_logger.specs.Keeping.{ChangesRun, KeepsRun, any_file, PullsChange, AbortsChange, ClosesChange}
 use Rattle.mid_logger.specs.ChannelTurns.{ChannelAt, OpenFaults, RefusesRun}
 use Rattle.mid_logger.specs.Patterns.{file_name_by}
-use Rattle.loggers.specs.Moments.{RunFiles, LoggerMoment, StepsChannel, StepsSlot, StepsAt, CallsBuffer, MarksBuffer, InTurn, noted_channel, AreIdleChannels, HaveFilesOpen}
+use Rattle.loggers.specs.Moments.{LoggerMoment, StepsChannel, StepsSlot, StepsAt, CallsBuffer, MarksBuffer, InTurn, noted_channel, AreIdleChannels, HaveFilesOpen}
 use Rattle.loggers.specs.ChannelSteps.{OpensChannel, AbortsChannel, PullsChannel}
 use Rattle.loggers.specs.SlotPulls.{PullsSlot, PullsNumbered}
 use Rattle.loggers.specs.Finishing.{EndingMoment, EndsSlot, EndsSlotAt, EndsFiles, LoggerFinish, ending_of, ends_idle}
@@ -138,14 +139,14 @@ idle_none c name idle has = no_run c.stage has.opened idle has.of
 -- Opening.
 
 pub record Opening (Good : List ℕ → Option Stored → Type 0) (n : ℕ) (m : LoggerMoment) : Type 0 where
-  pub tells : IsTrue m.files.seen.tells
+  pub names : IsTrue m.files.seen.names
   pub each : (name : List ℕ) → (Good name (m.files.seen.at name)) ⊎ OpenFrom 0 m.slots name
   pub fresh : (name : List ℕ) → IsOpenName m.slots name → Good name None
   pub idle : (i : ℕ) (c : Channel) → n ≤ i → slot_at m.slots i ≡ Some c → c.stage ≡ Idle
 
 opening_none : (Good : List ℕ → Option Stored → Type 0) (n : ℕ) (a b : LoggerMoment) → b ≡ a → Opening Good n a → Opening Good (suc n) b
 opening_none Good n a b same g = subst (λ (m : LoggerMoment). Opening Good (suc n) m) (sym same)
-    (record { tells = g.tells; each = g.each; fresh = g.fresh; idle = λ i c le at. g.idle i c (omega (arith, le)) at })
+    (record { names = g.names; each = g.each; fresh = g.fresh; idle = λ i c le at. g.idle i c (omega (arith, le)) at })
 
 opening_one : (Good : List ℕ → Option Stored → Type 0) (order : Order) (dump : List ℕ) (n : ℕ) (before : Channel) (a b : LoggerMoment) → slot_at a.slots n ≡ Some before → StepsChannel (OpensChannel order dump (Ok tt)) n before a b → Opening Good n a → Opening Good (suc n) b
 opening_one Good order dump n before a b there s g =
@@ -158,7 +159,7 @@ opening_one Good order dump n before a b there s g =
     let made : files_made s.after.stage ≡ o.at.sub + 1 = ap files_made o.asks.stage in
     let slots : List (Option Channel) = slice_set a.slots n (Some s.after) in
     let none_n : Good name_n None = elim (g.each name_n) as (λ w. Good name_n None) [
-      | inl same ↦ subst (λ (x : Option Stored). Good name_n x) (o.makes.fresh g.tells) same
+      | inl same ↦ subst (λ (x : Option Stored). Good name_n x) (o.makes.fresh g.names) same
       | inr open_ ↦ g.fresh name_n open_.open_name
     ] in
     let idle : before.stage ≡ Idle = g.idle n before (omega arith) there in
@@ -167,7 +168,7 @@ opening_one Good order dump n before a b there s g =
       from = omega arith;
     } in
     let now : Opening Good (suc n) (record b { slots = slots }) = record {
-      tells = subst (λ (t : Bool). IsTrue t) (sym touches.tells) g.tells;
+      names = subst (λ (t : Bool). IsTrue t) (sym touches.names) g.names;
       each = λ name. elim (names_tell name name_n) as (λ w. (Good name (b.files.seen.at name)) ⊎ OpenFrom 0 slots name) [
         | inl same ↦ inr (subst (λ (l : List ℕ). OpenFrom 0 slots l) (sym same) here)
         | inr differs ↦ elim (g.each name) as (λ w. (Good name (b.files.seen.at name)) ⊎ OpenFrom 0 slots name) [
@@ -196,9 +197,9 @@ pub opening_all : (Good : List ℕ → Option Stored → Type 0) (order : Order)
 opening_all Good order dump zero a b same g = subst (λ (m : LoggerMoment). Opening Good 0 m) (sym same) g
 opening_all Good order dump (suc n) a b opens g = opening_slot Good order dump n (slot_at opens.0.slots n) opens.0 b refl opens.2 (opening_all Good order dump n a opens.0 opens.1 g)
 
-pub opening_first : (Good : List ℕ → Option Stored → Type 0) (a : LoggerMoment) → AreIdleChannels a.slots → IsTrue a.files.seen.tells → NamesLeft Good a.slots a.files.seen → Opening Good 0 a
+pub opening_first : (Good : List ℕ → Option Stored → Type 0) (a : LoggerMoment) → AreIdleChannels a.slots → IsTrue a.files.seen.names → NamesLeft Good a.slots a.files.seen → Opening Good 0 a
 opening_first Good a idle tells left = record {
-  tells = tells;
+  names = tells;
   each = λ name. elim (left.each name) as (λ w. Good name (a.files.seen.at name) ⊎ OpenFrom 0 a.slots name) [
     | inl same ↦ inl same
     | inr o ↦ inr (record { open_name = o; from = omega arith })
@@ -211,17 +212,22 @@ opening_first Good a idle tells left = record {
 
 -- each file is as it was at Good, but for open names of channels from this number on
 record Undo (Good : List ℕ → Option Stored → Type 0) (k many : ℕ) (m : LoggerMoment) : Type 0 where
-  tells : IsTrue m.files.seen.tells
+  names : IsTrue m.files.seen.names
   many_is : length m.slots ≡ many
   each : (name : List ℕ) → (Good name (m.files.seen.at name)) ⊎ OpenFrom k m.slots name
   fresh : (name : List ℕ) → IsOpenName m.slots name → Good name None
 
 undo_opened : (Good : List ℕ → Option Stored → Type 0) (n : ℕ) (m : LoggerMoment) → Opening Good n m → Undo Good 0 (length m.slots) m
-undo_opened Good n m g = record { tells = g.tells; many_is = refl; each = g.each; fresh = g.fresh }
+undo_opened Good n m g = record { names = g.names; many_is = refl; each = g.each; fresh = g.fresh }
+
+-- nothing was made, or what was made is gone
+none_left : (old new : Seen) (name : List ℕ) → LeavesNone old new name → IsGone new name
+none_left old new name (inl none) = none.0
+none_left old new name (inr undone) = undone.gone
 
 -- a refusal leaves all files
 
-refused_at : (why : Why) (spec : ChannelSpec) (name other : List ℕ) (a b : ChannelAt) (f g : ℕ) → OpenFaults (Err why) f g → (Rose f g → ⊥) → a.faults ≡ f → b.faults ≡ g → IsTrue a.files.tells → RefusesRun why spec name a b → b.files.at other ≡ a.files.at other
+refused_at : (why : Why) (spec : ChannelSpec) (name other : List ℕ) (a b : ChannelAt) (f g : ℕ) → OpenFaults (Err why) f g → (Rose f g → ⊥) → a.faults ≡ f → b.faults ≡ g → IsTrue a.files.names → RefusesRun why spec name a b → b.files.at other ≡ a.files.at other
 refused_at NotReady spec name other a b f g faults none fa gb tells r = absurd r
 refused_at (Exists channel) spec name other a b f g faults none fa gb tells r = r.2.files.at other
 refused_at (Fault channel) spec name other a b f g faults none fa gb tells r = absurd (none faults)
@@ -231,18 +237,18 @@ refused_at BufferRefused spec name other a b f g faults none fa gb tells r =
       | inl same ↦
           let was : a.files.at other ≡ None = subst (λ (l : List ℕ). a.files.at l ≡ None) (sym same) (u.fresh tells) in
           let is : b.files.at other ≡ None = elim u.gone as (λ w. b.files.at other ≡ None) [
-            | inl gone ↦ subst (λ (l : List ℕ). b.files.at l ≡ None) (sym same) (gone (subst (λ (t : Bool). IsTrue t) (sym u.touches.tells) tells))
+            | inl gone ↦ subst (λ (l : List ℕ). b.files.at l ≡ None) (sym same) (none_left a.files b.files name gone (subst (λ (t : Bool). IsTrue t) (sym u.touches.names) tells))
             | inr rose ↦ absurd (none (subst (λ (x : ℕ). Rose x g) fa (subst (λ (x : ℕ). Rose a.faults x) gb rose)))
           ] in
           is ∙ sym was
       | inr differs ↦ u.touches.others other differs
     ]
 
-refused_tells : (why : Why) (spec : ChannelSpec) (name : List ℕ) (a b : ChannelAt) → RefusesRun why spec name a b → b.files.tells ≡ a.files.tells
+refused_tells : (why : Why) (spec : ChannelSpec) (name : List ℕ) (a b : ChannelAt) → RefusesRun why spec name a b → b.files.names ≡ a.files.names
 refused_tells NotReady spec name a b r = absurd r
-refused_tells (Exists channel) spec name a b r = r.2.files.tells
-refused_tells (Fault channel) spec name a b r = r.2.touches.tells
-refused_tells BufferRefused spec name a b r = r.1.touches.tells
+refused_tells (Exists channel) spec name a b r = r.2.files.names
+refused_tells (Fault channel) spec name a b r = r.2.touches.names
+refused_tells BufferRefused spec name a b r = r.1.touches.names
 
 undo_refused : (Good : List ℕ → Option Stored → Type 0) (order : Order) (dump : List ℕ) (why : Why) (n : ℕ) (before : Channel) (a b : LoggerMoment) → slot_at a.slots n ≡ Some before → StepsChannel (OpensChannel order dump (Err why)) n before a b → NoneRose a.files b.files → Opening Good n a → Undo Good 0 (length b.slots) b
 undo_refused Good order dump why n before a b there s none g =
@@ -251,9 +257,9 @@ undo_refused Good order dump why n before a b there s none g =
     let slots : List (Option Channel) = slice_set a.slots n (Some s.after) in
     let idle : before.stage ≡ Idle = g.idle n before (omega arith) there in
     let now_idle : s.after.stage ≡ Idle = s.step.opens.0 ∙ idle in
-    let at_same : (name : List ℕ) → b.files.seen.at name ≡ a.files.seen.at name = λ name. refused_at why before.spec name_n name _ _ a.files.faults b.files.faults s.step.faults none refl refl g.tells r in
+    let at_same : (name : List ℕ) → b.files.seen.at name ≡ a.files.seen.at name = λ name. refused_at why before.spec name_n name _ _ a.files.faults b.files.faults s.step.faults none refl refl g.names r in
     let now : Undo Good 0 (length b.slots) (record b { slots = slots }) = record {
-      tells = subst (λ (t : Bool). IsTrue t) (sym (refused_tells why before.spec name_n _ _ r)) g.tells;
+      names = subst (λ (t : Bool). IsTrue t) (sym (refused_tells why before.spec name_n _ _ r)) g.names;
       many_is = sym (ap (λ (l : List (Option Channel)). length l) s.slots);
       each = λ name. elim (g.each name) as (λ w. (Good name (b.files.seen.at name)) ⊎ OpenFrom 0 slots name) [
         | inl old ↦ inl (subst (λ (x : Option Stored). Good name x) (sym (at_same name)) old)
@@ -306,7 +312,7 @@ undo_marked : (Good : List ℕ → Option Stored → Type 0) (many : ℕ) (entry
 undo_marked Good many entry note buffer a b keeps marks g =
     let slots : List (Option Channel) = map (option_map (noted_channel note buffer)) a.slots in
     let now : Undo Good 0 many (record a { slots = slots }) = record {
-      tells = g.tells;
+      names = g.names;
       many_is = map_length (option_map (noted_channel note buffer)) a.slots ∙ g.many_is;
       each = λ name. elim (g.each name) as (λ w. (Good name (a.files.seen.at name)) ⊎ OpenFrom 0 slots name) [
         | inl old ↦ inl old
@@ -320,14 +326,14 @@ undo_marked Good many entry note buffer a b keeps marks g =
           let was = map_from note buffer a.slots o.number o.channel o.there in
           g.fresh name (open_at a.slots o.number was.0 name was.1 (open_noted note buffer was.0 name keeps (subst (λ (c : Channel). HasOpen c name) (sym was.2) (has_open slots name o))));
     } in
-    let files : Undo Good 0 many (record a { slots = slots; files = b.files }) = subst (λ (f : RunFiles). Undo Good 0 many (record a { slots = slots; files = f })) (sym marks.marks.files) now in
-    let all : Undo Good 0 many (record b { slots = slots }) = record { tells = files.tells; many_is = files.many_is; each = files.each; fresh = files.fresh } in
+    let files : Undo Good 0 many (record a { slots = slots; files = b.files }) = subst (λ (f : FilesTold). Undo Good 0 many (record a { slots = slots; files = f })) (sym marks.marks.files) now in
+    let all : Undo Good 0 many (record b { slots = slots }) = record { names = files.names; many_is = files.many_is; each = files.each; fresh = files.fresh } in
     subst (λ (l : List (Option Channel)). Undo Good 0 many (record b { slots = l })) (sym marks.noted) all
 
 undo_called : (Good : List ℕ → Option Stored → Type 0) (many : ℕ) (entry : _) (buffer : ℕ) (a b : LoggerMoment) → CallsBuffer entry buffer a b → Undo Good 0 many a → Undo Good 0 many b
 undo_called Good many entry buffer a b calls g =
-    let files : Undo Good 0 many (record a { files = b.files }) = subst (λ (f : RunFiles). Undo Good 0 many (record a { files = f })) (sym calls.files) g in
-    let all : Undo Good 0 many (record b { slots = a.slots }) = record { tells = files.tells; many_is = files.many_is; each = files.each; fresh = files.fresh } in
+    let files : Undo Good 0 many (record a { files = b.files }) = subst (λ (f : FilesTold). Undo Good 0 many (record a { files = f })) (sym calls.files) g in
+    let all : Undo Good 0 many (record b { slots = a.slots }) = record { names = files.names; many_is = files.many_is; each = files.each; fresh = files.fresh } in
     subst (λ (l : List (Option Channel)). Undo Good 0 many (record b { slots = l })) (sym calls.slots) all
 
 undo_begins : (Good : List ℕ → Option Stored → Type 0) (many start n : ℕ) (a b : LoggerMoment) → BeginsBelow start n a b → Undo Good 0 many a → Undo Good 0 many b
@@ -342,35 +348,35 @@ undo_ends Good many start (suc n) a b ends g = undo_marked Good many _ (λ stage
 
 -- all its files are gone, so many, and no other file changed
 record RemovesAll (names : ℕ → List ℕ) (many : ℕ) (old new : Seen) : Type 0 where
-  tells : new.tells ≡ old.tells
+  told : new.names ≡ old.names
   others : (name : List ℕ) → IsNoneOf names many name → new.at name ≡ old.at name
-  gone : AreGone new names many
+  gone : (n : ℕ) → n < many → IsGone new (names n)
 
 abbrev Removes : ChannelSpec → Option ChannelRun → (many : ℕ) → (old new : Seen) → Type 0
 Removes spec None many old new = new ≡ old
 Removes spec (Some opened) many old new = RemovesAll (piece_name_by spec.pattern opened.run) many old new
 
-surely_gone : (new : Seen) (names : ℕ → List ℕ) (many f g : ℕ) → (Rose f g → ⊥) → AreGone new names many ⊎ Rose f g → AreGone new names many
-surely_gone new names many f g none (inl gone) = gone
-surely_gone new names many f g none (inr rose) = absurd (none rose)
+surely_gone : (old new : Seen) (names : ℕ → List ℕ) (many f g : ℕ) → (Rose f g → ⊥) → AreGone old new names many ⊎ Rose f g → (n : ℕ) → n < many → IsGone new (names n)
+surely_gone old new names many f g none (inl gone) n below = (gone n below).gone
+surely_gone old new names many f g none (inr rose) n below = absurd (none rose)
 
 removes_by : (spec : ChannelSpec) (run written : Option ChannelRun) (many : ℕ) (old new : Seen) (f g : ℕ) → (Rose f g → ⊥) → ChangesRun spec run written many many old new → RemovesRun run written spec many old new f g → Removes spec run many old new
 removes_by spec None written many old new f g none changes removes = removes.0
 removes_by spec (Some opened) written many old new f g none changes removes = record {
-  tells = changes.tells;
+  told = changes.told;
   others = changes.others;
-  gone = surely_gone new (piece_name_by spec.pattern opened.run) many f g none removes.gone;
+  gone = surely_gone removes.closed new (piece_name_by spec.pattern opened.run) many f g none removes.gone;
 }
 
 -- the files behind that
 record Aborted (Good : List ℕ → Option Stored → Type 0) (k : ℕ) (before : Channel) (a : LoggerMoment) (new : Seen) : Type 0 where
-  tells : IsTrue new.tells
+  names : IsTrue new.names
   each : (name : List ℕ) → (Good name (new.at name)) ⊎ (OpenFrom k a.slots name × (HasOpen before name → ⊥))
 
 aborted_by : (Good : List ℕ → Option Stored → Type 0) (k many : ℕ) (before : Channel) (a : LoggerMoment) (new : Seen) (run : Option ChannelRun) → channel_run before.stage ≡ run → slot_at a.slots k ≡ Some before → Removes before.spec run (files_made before.stage) a.files.seen new → Undo Good k many a
     → Aborted Good k before a new
 aborted_by Good k many before a new None is there same g = record {
-  tells = subst (λ (s : Seen). IsTrue s.tells) (sym same) g.tells;
+  names = subst (λ (s : Seen). IsTrue s.names) (sym same) g.names;
   each = λ name. elim (g.each name) as (λ w. (Good name (new.at name)) ⊎ (OpenFrom k a.slots name × (HasOpen before name → ⊥))) [
     | inl old ↦ inl (subst (λ (s : Seen). Good name (s.at name)) (sym same) old)
     | inr o ↦ inr (o, λ has. absurd (let of = has.of in cc (is, of)))
@@ -378,9 +384,9 @@ aborted_by Good k many before a new None is there same g = record {
 }
 aborted_by Good k many before a new (Some opened) is there removes g =
     let names : ℕ → List ℕ = piece_name_by before.spec.pattern opened.run in
-    let tells : IsTrue new.tells = subst (λ (t : Bool). IsTrue t) (sym removes.tells) g.tells in
+    let tells : IsTrue new.names = subst (λ (t : Bool). IsTrue t) (sym removes.told) g.names in
     record {
-      tells = tells;
+      names = tells;
       each = λ name. elim (one_or_none names (files_made before.stage) name) as (λ w. (Good name (new.at name)) ⊎ (OpenFrom k a.slots name × (HasOpen before name → ⊥))) [
         | inl one ↦
             let free : Good (names one.place) None = g.fresh (names one.place) (open_at a.slots k before (names one.place) there (record { opened = opened; of = is; sub = one.place; made = one.below; is = refl })) in
@@ -407,7 +413,7 @@ undo_one change Good k many before a b there s none g =
     (removes_by before.spec (channel_run before.stage) (written_run before.stage) (files_made before.stage) a.files.seen b.files.seen a.files.faults b.files.faults none
     (change before.spec before.stage a.files.seen b.files.seen a.files.faults b.files.faults s.step.removes s.step.last) s.step.removes) g in
     let now : Undo Good (suc k) many (record b { slots = slots }) = record {
-      tells = files.tells;
+      names = files.names;
       many_is = many_set a.slots k (Some s.after) ∙ g.many_is;
       each = λ name. elim (files.each name) as (λ w. (Good name (b.files.seen.at name)) ⊎ OpenFrom (suc k) slots name) [
         | inl same ↦ inl same
@@ -422,7 +428,7 @@ undo_one change Good k many before a b there s none g =
 
 undo_none : (Good : List ℕ → Option Stored → Type 0) (k many : ℕ) (a b : LoggerMoment) → slot_at a.slots k ≡ None → b ≡ a → Undo Good k many a → Undo Good (suc k) many b
 undo_none Good k many a b there same g = subst (λ (m : LoggerMoment). Undo Good (suc k) many m) (sym same) (record {
-  tells = g.tells;
+  names = g.names;
   many_is = g.many_is;
   each = λ name. elim (g.each name) as (λ w. (Good name (a.files.seen.at name)) ⊎ OpenFrom (suc k) a.slots name) [
     | inl old ↦ inl old
@@ -463,9 +469,9 @@ undone change Good a b aborts none g =
       fresh = done.fresh;
     }
 
-left_undo : (Good : List ℕ → Option Stored → Type 0) (a : LoggerMoment) → IsTrue a.files.seen.tells → NamesLeft Good a.slots a.files.seen → Undo Good 0 (length a.slots) a
+left_undo : (Good : List ℕ → Option Stored → Type 0) (a : LoggerMoment) → IsTrue a.files.seen.names → NamesLeft Good a.slots a.files.seen → Undo Good 0 (length a.slots) a
 left_undo Good a tells left = record {
-  tells = tells;
+  names = tells;
   many_is = refl;
   each = λ name. elim (left.each name) as (λ w. Good name (a.files.seen.at name) ⊎ OpenFrom 0 a.slots name) [
     | inl same ↦ inl same
@@ -484,11 +490,11 @@ undo_left Good many a g = record {
 }
 
 same_many : (Good : List ℕ → Option Stored → Type 0) (many : ℕ) (m : LoggerMoment) → Undo Good 0 many m → Undo Good 0 (length m.slots) m
-same_many Good many m g = record { tells = g.tells; many_is = refl; each = g.each; fresh = g.fresh }
+same_many Good many m g = record { names = g.names; many_is = refl; each = g.each; fresh = g.fresh }
 
 -- The turns.
 
-opens_undone : AbortsChange → (Good : List ℕ → Option Stored → Type 0) (order : Order) (dump : List ℕ) (why : Why) (begun : ℕ) (a b : LoggerMoment) → UndoesOpens order dump why begun a b → AreIdleChannels a.slots → IsTrue a.files.seen.tells → NoneRose a.files b.files → NamesLeft Good a.slots a.files.seen
+opens_undone : AbortsChange → (Good : List ℕ → Option Stored → Type 0) (order : Order) (dump : List ℕ) (why : Why) (begun : ℕ) (a b : LoggerMoment) → UndoesOpens order dump why begun a b → AreIdleChannels a.slots → IsTrue a.files.seen.names → NoneRose a.files b.files → NamesLeft Good a.slots a.files.seen
     → NamesLeft Good b.slots b.files.seen
 opens_undone change Good order dump why begun a b undoes idle tells none left =
     let r = undoes.opens in
@@ -502,7 +508,7 @@ opens_undone change Good order dump why begun a b undoes idle tells none left =
     (undo_refused Good order dump why r.number r.channel r.opened m r.there r.refuses (none_last a.files.faults r.opened.files.faults m.files.faults none_until early)
     (opening_all Good order dump r.number a r.opened r.opens (opening_first Good a idle tells left)))
 
-begins_undone : AbortsChange → (Good : List ℕ → Option Stored → Type 0) (order : Order) (dump : List ℕ) (why : Why) (begun : ℕ) (a b : LoggerMoment) → UndoesBegins order dump why begun a b → AreIdleChannels a.slots → IsTrue a.files.seen.tells → NoneRose a.files b.files → NamesLeft Good a.slots a.files.seen
+begins_undone : AbortsChange → (Good : List ℕ → Option Stored → Type 0) (order : Order) (dump : List ℕ) (why : Why) (begun : ℕ) (a b : LoggerMoment) → UndoesBegins order dump why begun a b → AreIdleChannels a.slots → IsTrue a.files.seen.names → NoneRose a.files b.files → NamesLeft Good a.slots a.files.seen
     → NamesLeft Good b.slots b.files.seen
 begins_undone change Good order dump why begun a b undoes idle tells none left =
     let m : LoggerMoment = undoes.refused in
@@ -515,7 +521,7 @@ begins_undone change Good order dump why begun a b undoes idle tells none left =
     (counts_then opened.files.faults c.begun.files.faults m.files.faults (step_stays opened c.begun (begins_kept order.start begun opened c.begun c.begins)) (step_stays c.begun m (call_kept _ begun c.begun m c.refuses.1))) in
     undone change Good m b undoes.aborts (none_last a.files.faults m.files.faults b.files.faults none until) (same_many Good (length opened.slots) m refused)
 
-starts_left : AbortsChange → (Good : List ℕ → Option Stored → Type 0) (result : Result ⊤ Why) (order : Order) (dump : List ℕ) (begun : ℕ) (a b : LoggerMoment) → StartsSo result order dump begun a b → AreIdleChannels a.slots → IsTrue a.files.seen.tells → NoneRose a.files b.files → NamesLeft Good a.slots a.files.seen
+starts_left : AbortsChange → (Good : List ℕ → Option Stored → Type 0) (result : Result ⊤ Why) (order : Order) (dump : List ℕ) (begun : ℕ) (a b : LoggerMoment) → StartsSo result order dump begun a b → AreIdleChannels a.slots → IsTrue a.files.seen.names → NoneRose a.files b.files → NamesLeft Good a.slots a.files.seen
     → NamesLeft Good b.slots b.files.seen
 starts_left change Good (Ok done) order dump begun a b starts idle tells none left =
     let opened : LoggerMoment = starts.opened in
@@ -529,17 +535,17 @@ starts_left change Good (Err why) order dump begun a b starts idle tells none le
 same_left : (Good : List ℕ → Option Stored → Type 0) (a b : LoggerMoment) → b ≡ a → NamesLeft Good a.slots a.files.seen → NamesLeft Good b.slots b.files.seen
 same_left Good a b same left = subst (λ (m : LoggerMoment). NamesLeft Good m.slots m.files.seen) (sym same) left
 
-start_left : AbortsChange → (Good : List ℕ → Option Stored → Type 0) (on : Bool) (t : LoggerTurn) → (on ≡ false → AreIdleChannels t.before.slots) → TakesStart on t → IsTrue t.before.files.seen.tells → NoneRose t.before.files t.after.files → NamesLeft Good t.before.slots t.before.files.seen
+start_left : AbortsChange → (Good : List ℕ → Option Stored → Type 0) (on : Bool) (t : LoggerTurn) → (on ≡ false → AreIdleChannels t.before.slots) → TakesStart on t → IsTrue t.before.files.seen.names → NoneRose t.before.files t.after.files → NamesLeft Good t.before.slots t.before.files.seen
     → NamesLeft Good t.after.slots t.after.files.seen
 start_left change Good true t idle takes tells none left = same_left Good t.before t.after takes.moment left
 start_left change Good false t idle takes tells none left = starts_left change Good takes.result t.order _ takes.begun t.before t.after takes.starts (idle refl) tells none left
 
-stop_left : (Good : List ℕ → Option Stored → Type 0) (of : Bool) (t : LoggerTurn) → TakesStop of t → IsTrue t.before.files.seen.tells → NamesLeft Good t.before.slots t.before.files.seen → NamesLeft Good t.after.slots t.after.files.seen
+stop_left : (Good : List ℕ → Option Stored → Type 0) (of : Bool) (t : LoggerTurn) → TakesStop of t → IsTrue t.before.files.seen.names → NamesLeft Good t.before.slots t.before.files.seen → NamesLeft Good t.after.slots t.after.files.seen
 stop_left Good true t takes tells left = undo_left Good (length t.before.slots) t.after (undo_ends Good (length t.before.slots) t.order.start (length t.before.ports) t.before t.after takes.ends (left_undo Good t.before tells left))
 stop_left Good false t takes tells left = same_left Good t.before t.after takes.moment left
 
 called_left : (Good : List ℕ → Option Stored → Type 0) (entry : _) (buffer : ℕ) (a b : LoggerMoment) → CallsBuffer entry buffer a b → NamesLeft Good a.slots a.files.seen → NamesLeft Good b.slots b.files.seen
-called_left Good entry buffer a b calls left = subst (λ (l : List (Option Channel)). NamesLeft Good l b.files.seen) (sym calls.slots) (subst (λ (f : RunFiles). NamesLeft Good a.slots f.seen) (sym calls.files) left)
+called_left Good entry buffer a b calls left = subst (λ (l : List (Option Channel)). NamesLeft Good l b.files.seen) (sym calls.slots) (subst (λ (f : FilesTold). NamesLeft Good a.slots f.seen) (sym calls.files) left)
 
 pause_left : (Good : List ℕ → Option Stored → Type 0) (of : Bool) (t : LoggerTurn) → TakesMark PausesBuffer of t → NamesLeft Good t.before.slots t.before.files.seen → NamesLeft Good t.after.slots t.after.files.seen
 pause_left Good true t takes left = turns_keep (λ k. PausesBuffer t.order.start k) (λ m. NamesLeft Good m.slots m.files.seen) (length t.before.ports) t.before t.after (λ k x y step kept. called_left Good _ k x y step.1 kept) takes.marks left
@@ -549,7 +555,7 @@ resume_left : (Good : List ℕ → Option Stored → Type 0) (of : Bool) (t : Lo
 resume_left Good true t takes left = turns_keep (λ k. ResumesBuffer t.order.start k) (λ m. NamesLeft Good m.slots m.files.seen) (length t.before.ports) t.before t.after (λ k x y step kept. called_left Good _ k x y step.1 kept) takes.marks left
 resume_left Good false t takes left = same_left Good t.before t.after takes.moment left
 
-called_off_left : AbortsChange → (Good : List ℕ → Option Stored → Type 0) (of : Bool) (t : LoggerTurn) → TakesAbort of t → IsTrue t.before.files.seen.tells → NoneRose t.before.files t.after.files → NamesLeft Good t.before.slots t.before.files.seen → NamesLeft Good t.after.slots t.after.files.seen
+called_off_left : AbortsChange → (Good : List ℕ → Option Stored → Type 0) (of : Bool) (t : LoggerTurn) → TakesAbort of t → IsTrue t.before.files.seen.names → NoneRose t.before.files t.after.files → NamesLeft Good t.before.slots t.before.files.seen → NamesLeft Good t.after.slots t.after.files.seen
 called_off_left change Good true t takes tells none left =
     let a : LoggerMoment = t.before in
     let m : LoggerMoment = takes.ended in
@@ -557,7 +563,7 @@ called_off_left change Good true t takes tells none left =
     undone change Good m t.after takes.aborts (none_last a.files.faults m.files.faults t.after.files.faults none (step_stays a m (ends_kept t.order.start (buffers_begun t.run) a m takes.ends))) (same_many Good (length a.slots) m ended)
 called_off_left change Good false t takes tells none left = same_left Good t.before t.after takes.moment left
 
-turn_by : AbortsChange → (Good : List ℕ → Option Stored → Type 0) (transition : Transition) (t : LoggerTurn) → IsIdleOutside t.run t.before.slots → TakesTurnBy transition t → IsTrue t.before.files.seen.tells → NoneRose t.before.files t.after.files → NamesLeft Good t.before.slots t.before.files.seen
+turn_by : AbortsChange → (Good : List ℕ → Option Stored → Type 0) (transition : Transition) (t : LoggerTurn) → IsIdleOutside t.run t.before.slots → TakesTurnBy transition t → IsTrue t.before.files.seen.names → NoneRose t.before.files t.after.files → NamesLeft Good t.before.slots t.before.files.seen
     → NamesLeft Good t.after.slots t.after.files.seen
 turn_by change Good Start t idle takes tells none left = start_left change Good (is_run_on t.run) t idle takes tells none left
 turn_by change Good Stop t idle takes tells none left = stop_left Good (is_started t.run t.order.start) t takes tells left
@@ -566,7 +572,7 @@ turn_by change Good Resume t idle takes tells none left = resume_left Good (is_s
 turn_by change Good StartAbort t idle takes tells none left = called_off_left change Good (is_of_start t.run t.order.start) t takes tells none left
 
 -- A turn in which no fault is counted leaves the names that are good so.
-pub turn_left : AbortsChange → (Good : List ℕ → Option Stored → Type 0) (t : LoggerTurn) → TakesTurn t → IsIdleOutside t.run t.before.slots → IsTrue t.before.files.seen.tells → NoneRose t.before.files t.after.files → NamesLeft Good t.before.slots t.before.files.seen → NamesLeft Good t.after.slots t.after.files.seen
+pub turn_left : AbortsChange → (Good : List ℕ → Option Stored → Type 0) (t : LoggerTurn) → TakesTurn t → IsIdleOutside t.run t.before.slots → IsTrue t.before.files.seen.names → NoneRose t.before.files t.after.files → NamesLeft Good t.before.slots t.before.files.seen → NamesLeft Good t.after.slots t.after.files.seen
 turn_left change Good t takes idle tells none left = turn_by change Good t.transition t idle takes tells none left
 
 -- A pull.
@@ -585,7 +591,7 @@ pulled_open before after old name spec keeps has =
       is = ap (λ (x : ChannelSpec). piece_name_by x.pattern was.0.run has.sub) spec ∙ (ap (λ (r : ChannelRun). piece_name_by before.spec.pattern r.run has.sub) (sym was.2) ∙ has.is);
     }
 
-module _ (Good : List ℕ → Option Stored → Type 0) (number : ℕ) (before after : Channel) (a : LoggerMoment) (new : Seen) (spec : after.spec ≡ before.spec) (there : slot_at a.slots number ≡ Some before) (tells : IsTrue a.files.seen.tells) (left : NamesLeft Good a.slots a.files.seen)
+module _ (Good : List ℕ → Option Stored → Type 0) (number : ℕ) (before after : Channel) (a : LoggerMoment) (new : Seen) (spec : after.spec ≡ before.spec) (there : slot_at a.slots number ≡ Some before) (tells : IsTrue a.files.seen.names) (left : NamesLeft Good a.slots a.files.seen)
     (keeps : KeepsRun a.files.seen before.stage after.stage) where
   abbrev slots : List (Option Channel)
   slots = slice_set a.slots number (Some after)
@@ -655,18 +661,18 @@ module _ (Good : List ℕ → Option Stored → Type 0) (number : ℕ) (before a
     ];
   }
 
-pull_step : PullsChange → (Good : List ℕ → Option Stored → Type 0) (dump : List ℕ) (number : ℕ) (answer : Pulled) (before : Channel) (a b : LoggerMoment) → slot_at a.slots number ≡ Some before → HaveFilesOpen a.slots a.files.seen → IsTrue a.files.seen.tells → StepsChannel (PullsChannel dump answer) number before a b
+pull_step : PullsChange → (Good : List ℕ → Option Stored → Type 0) (dump : List ℕ) (number : ℕ) (answer : Pulled) (before : Channel) (a b : LoggerMoment) → slot_at a.slots number ≡ Some before → HaveFilesOpen a.slots a.files.seen → IsTrue a.files.seen.names → StepsChannel (PullsChannel dump answer) number before a b
     → NamesLeft Good a.slots a.files.seen → NamesLeft Good b.slots b.files.seen
 pull_step change Good dump number answer before a b there open_files tells s left =
     let changes = change _ before.event.room s.step.pulls (open_files.files number before there) in
     subst (λ (l : List (Option Channel)). NamesLeft Good l b.files.seen) (sym s.slots) (pulled_left Good number before s.after a b.files.seen s.step.spec there tells left changes.1 changes.0)
 
-pull_by : PullsChange → (Good : List ℕ → Option Stored → Type 0) (dump : List ℕ) (number : ℕ) (answer : Pulled) (slot : Option Channel) (a b : LoggerMoment) → slot_at a.slots number ≡ slot → HaveFilesOpen a.slots a.files.seen → IsTrue a.files.seen.tells → PullsSlot dump slot number answer a b
+pull_by : PullsChange → (Good : List ℕ → Option Stored → Type 0) (dump : List ℕ) (number : ℕ) (answer : Pulled) (slot : Option Channel) (a b : LoggerMoment) → slot_at a.slots number ≡ slot → HaveFilesOpen a.slots a.files.seen → IsTrue a.files.seen.names → PullsSlot dump slot number answer a b
     → NamesLeft Good a.slots a.files.seen → NamesLeft Good b.slots b.files.seen
 pull_by change Good dump number answer None a b there open_files tells pulls left = same_left Good a b pulls.1 left
 pull_by change Good dump number answer (Some before) a b there open_files tells s left = pull_step change Good dump number answer before a b there open_files tells s left
 
-pub pull_left : PullsChange → (Good : List ℕ → Option Stored → Type 0) (dump : List ℕ) (number : ℕ) (answer : Pulled) (a b : LoggerMoment) → PullsNumbered dump number answer a b → HaveFilesOpen a.slots a.files.seen → IsTrue a.files.seen.tells → NamesLeft Good a.slots a.files.seen
+pub pull_left : PullsChange → (Good : List ℕ → Option Stored → Type 0) (dump : List ℕ) (number : ℕ) (answer : Pulled) (a b : LoggerMoment) → PullsNumbered dump number answer a b → HaveFilesOpen a.slots a.files.seen → IsTrue a.files.seen.names → NamesLeft Good a.slots a.files.seen
     → NamesLeft Good b.slots b.files.seen
 pull_left change Good dump number answer a b pulls open_files tells left = pull_by change Good dump number answer (slot_at a.slots number) a b refl open_files tells pulls left
 

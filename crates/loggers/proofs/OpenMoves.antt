@@ -69,11 +69,11 @@ open_grows spec order dump (Err why) a b opens = refusal_grows spec _ why a b op
 
 -- A file that is there is not the new one.
 
-pub not_new : (old : Seen) (fresh name : List ℕ) → IsGone old fresh → IsTrue old.tells → IsSome (old.at name) → name ≢ fresh
+pub not_new : (old : Seen) (fresh name : List ℕ) → IsGone old fresh → IsTrue old.names → IsSome (old.at name) → name ≢ fresh
 not_new old fresh name gone told there same = let never : IsSome {T = Stored} None = subst (λ (o : Option Stored). IsSome o) (ap (λ (l : List ℕ). old.at l) same ∙ gone told) there in absurd (cc (never))
 
 -- It stays behind the opening, whether a file was made or none.
-pub there_stays : (old new : Seen) (fresh name : List ℕ) → OpensRunFile fresh old new → IsTrue old.tells → IsSome (old.at name) → new.at name ≡ old.at name
+pub there_stays : (old new : Seen) (fresh name : List ℕ) → OpensRunFile fresh old new → IsTrue old.names → IsSome (old.at name) → new.at name ≡ old.at name
 there_stays old new fresh name opens told there = elim opens.fresh as (λ w. new.at name ≡ old.at name) [
   | inl gone ↦ opens.touches.others name (not_new old fresh name gone told there)
   | inr same ↦ same name

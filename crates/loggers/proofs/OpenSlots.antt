@@ -79,11 +79,12 @@ open_self keep order dump (Err why) s opens idle small none k =
     }
 
 -- the files of another channel stay
-open_leaves : (spec : ChannelSpec) (run written : Option ChannelRun) (many : ℕ) (fresh : List ℕ) (old new : Seen) → OpensRunFile fresh old new → ((s : ChannelRun) → run ≡ Some s → IsTrue old.tells → (j : ℕ) → j < many → IsSome (old.at (piece_name_by spec.pattern s.run j)))
+open_leaves : (spec : ChannelSpec) (run written : Option ChannelRun) (many : ℕ) (fresh : List ℕ) (old new : Seen) → OpensRunFile fresh old new → ((s : ChannelRun) → run ≡ Some s → IsTrue old.names → (j : ℕ) → j < many → IsSome (old.at (piece_name_by spec.pattern s.run j)))
     → ((s : ChannelRun) → written ≡ Some s → IsTrue (old.writes s.at.file)) → LeavesRunFiles spec run written many old new
 open_leaves spec None written many fresh old new opens there used = tt
 open_leaves spec (Some s) written many fresh old new opens there used = record {
-  tells = opens.touches.tells;
+  told = opens.touches.names;
+  on = opens.on;
   at = λ told n below. there_stays old new fresh (piece_name_by spec.pattern s.run n) opens told (there s refl told n below);
   number = number_left old new written (λ k is. opens.numbers k.at.file (used k is));
 }
@@ -105,7 +106,7 @@ open_moves keep alone change file_there beside files order dump r turns slots po
     let used : (m : ℕ) (d : Channel) → slot_at slots m ≡ Some d → (o : ChannelRun) → written_run d.stage ≡ Some o → IsTrue (old.writes o.at.file) = λ m d stood o is. last_used d.spec old (written_run d.stage) (open_files.files m d stood) o is in
     let is_there : (m : ℕ) (d : Channel) → slot_at slots m ≡ Some d → IsThere old d = all_there file_there H turns slots ports old served stands in
     -- a file that is there is not the one that was made
-    let no_new : (other : List ℕ) → IsTrue old.tells → IsSome (old.at other) → (o : ChannelRun) → channel_run s.after.stage ≡ Some o → (i : ℕ) → i < files_made s.after.stage → other ≢ piece_name_by s.after.spec.pattern o.run i =
+    let no_new : (other : List ℕ) → IsTrue old.names → IsSome (old.at other) → (o : ChannelRun) → channel_run s.after.stage ≡ Some o → (i : ℕ) → i < files_made s.after.stage → other ≢ piece_name_by s.after.spec.pattern o.run i =
     λ other told here o is i low. (
     let made : IsMade order before.spec old s.after.stage o = open_made order dump r s opens idle o is in
     let first : i ≡ 0 = omega (arith, low, made.one) in
@@ -114,7 +115,8 @@ open_moves keep alone change file_there beside files order dump r turns slots po
     record {
       spec = opens.spec;
       client = λ k is. open_client before.spec order dump r _ _ k opens.opens is;
-      tells = file.touches.tells;
+      names = file.touches.names;
+      on = file.on;
       self = λ k. open_self keep order dump r s opens idle small none k;
       beside = λ m d other stood same b k. record {
         head = k.head;
@@ -132,7 +134,7 @@ open_moves keep alone change file_there beside files order dump r turns slots po
             let k : ChannelKept H old d s.port = stands.channels m d s.port stood (subst (λ (j : ℕ). slice_get ports j ≡ Some s.port) on_buffer at_port) in
             (beside before.spec order dump r _ _ kept.head d.spec d.client d.stage k.head opens.opens none idle kept.stands (apart_on old before d on_buffer was) k.stands).1.clients;
         names = λ o q is other_is told i j low below same.
-            let told_before : IsTrue old.tells = subst (λ (b : Bool). IsTrue b) file.touches.tells told in
+            let told_before : IsTrue old.names = subst (λ (b : Bool). IsTrue b) file.touches.names told in
             no_new (piece_name_by d.spec.pattern q.run j) told_before (is_there m d stood q other_is told_before j below) o is i low (sym same);
         numbers = λ o q is other_is. used_apart old o.at.file q.at.file (open_fresh order dump r s opens idle o is) (used m d stood q other_is);
       };

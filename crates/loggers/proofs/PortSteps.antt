@@ -4,6 +4,7 @@ use Rattle.std.proofs.Common.{ap, sym, subst, ◌∙◌, arith, inl, inr}
 use Rattle.std.proofs.lemmas.List.{append-nil}
 use Rattle.daq_types.specs.declared.runs.ChannelEnd.{ChannelEnd}
 use Rattle.daq_io.specs.Seen.{Seen}
+use Rattle.daq_io.proofs.SeenLaws.{on_same}
 use Rattle.buffer_core.specs.declared.entry.BufferEntry.{BufferEntry}
 use Rattle.buffer_core.specs.Ports.{Access, GotEvent}
 use Rattle.buffer_core.specs.Slots.{slot_at}
@@ -50,7 +51,7 @@ pub record StepsPort (note : ChannelStage → ChannelStage) (turns : List Member
 
 -- a run's files stay where nothing is done with files
 stays_there : (spec : ChannelSpec) (opened : ChannelRun) (many : ℕ) (seen : Seen) → LeavesRunFiles spec (Some opened) None many seen seen
-stays_there spec opened many seen = record { tells = refl; at = λ told n below. refl; number = tt }
+stays_there spec opened many seen = record { told = refl; on = on_same refl; at = λ told n below. refl; number = tt }
 
 -- a name that is none of a run that a channel has is none behind the call
 no_open_from : (note : ChannelStage → ChannelStage) (slots later : List (Option Channel)) (buffer : ℕ) → ((n : ℕ) (c : Channel) → slot_at later n ≡ Some c → IsFrom note slots buffer n c) → (name : List ℕ) → IsNoOpenName slots name → IsNoOpenName later name

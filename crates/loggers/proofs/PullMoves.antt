@@ -4,7 +4,8 @@ use Rattle.std.specs.Option.{option_map}
 use Rattle.std.proofs.Common.{ap, sym, subst, ◌∙◌, append_assoc, inl, inr}
 use Rattle.std.proofs.lemmas.List.{append-nil}
 use Rattle.daq_types.specs.declared.events.Event.{Event}
-use Rattle.daq_io.specs.Seen.{Seen, Stored}
+use Rattle.daq_io.specs.Seen.{GoesOn, Seen, Stored}
+use Rattle.daq_io.proofs.SeenLaws.{on_same}
 use Rattle.buffer_core.specs.declared.entry.BufferEntry.{BufferEntry}
 use Rattle.buffer_core.specs.declared.entry.BufferEntry.TheVariants.{Receive, Cancel, Begin, End}
 use Rattle.buffer_core.specs.declared.replies.Received.{Received}
@@ -43,20 +44,25 @@ number_left old new None keeps = tt
 number_left old new (Some s) keeps = keeps s refl
 
 -- what is told of names stays told
-pub tells_same : (spec : ChannelSpec) (run written : Option ChannelRun) (made now : ℕ) (old new : Seen) → ChangesRun spec run written made now old new → new.tells ≡ old.tells
-tells_same spec None written made now old new changes = ap (λ (x : Seen). x.tells) changes
-tells_same spec (Some opened) written made now old new changes = changes.tells
+pub tells_same : (spec : ChannelSpec) (run written : Option ChannelRun) (made now : ℕ) (old new : Seen) → ChangesRun spec run written made now old new → new.names ≡ old.names
+tells_same spec None written made now old new changes = ap (λ (x : Seen). x.names) changes
+tells_same spec (Some opened) written made now old new changes = changes.told
+
+-- what was done before still stands
+pub goes_on : (spec : ChannelSpec) (run written : Option ChannelRun) (made now : ℕ) (old new : Seen) → ChangesRun spec run written made now old new → GoesOn old new
+goes_on spec None written made now old new changes = on_same (ap (λ (x : Seen). x.done) changes)
+goes_on spec (Some opened) written made now old new changes = changes.on
 
 -- where names are told, each file that the channel made in its run is there
 abbrev pub IsThere : (seen : Seen) → Channel → Type 0
-IsThere seen d = (s : ChannelRun) → channel_run d.stage ≡ Some s → IsTrue seen.tells → (j : ℕ) → j < files_made d.stage → IsSome (seen.at (piece_name_by d.spec.pattern s.run j))
+IsThere seen d = (s : ChannelRun) → channel_run d.stage ≡ Some s → IsTrue seen.names → (j : ℕ) → j < files_made d.stage → IsSome (seen.at (piece_name_by d.spec.pattern s.run j))
 
 -- a name that had no file is none that is there
 gone_apart : (seen : Seen) (name other : List ℕ) → seen.at name ≡ None → IsSome (seen.at other) → name ≢ other
 gone_apart seen name other gone there same = let never : IsSome {T = Stored} None = subst (λ (o : Option Stored). IsSome o) (ap (λ (l : List ℕ). seen.at l) (sym same) ∙ gone) there in absurd (cc (never))
 
 -- A file that is there, and is none of those that were made of this run before, is none of those that are made now.
-pub not_changed : (spec : ChannelSpec) (run written : Option ChannelRun) (made now : ℕ) (old new : Seen) → ChangesRun spec run written made now old new → (r : ChannelRun) → run ≡ Some r → (name : List ℕ) → IsTrue old.tells → IsSome (old.at name)
+pub not_changed : (spec : ChannelSpec) (run written : Option ChannelRun) (made now : ℕ) (old new : Seen) → ChangesRun spec run written made now old new → (r : ChannelRun) → run ≡ Some r → (name : List ℕ) → IsTrue old.names → IsSome (old.at name)
     → ((i : ℕ) → i < made → name ≢ piece_name_by spec.pattern r.run i) → (i : ℕ) → i < now → name ≢ piece_name_by spec.pattern r.run i
 not_changed spec run written made now old new changes r is name told there apart i low = elim (below_or_not i made) as (λ w. name ≢ piece_name_by spec.pattern r.run i) [
   | inl below ↦ apart i below
@@ -72,11 +78,12 @@ file_left spec (Some r) written made now old new changes name apart = changes.ot
 
 -- a run's files stay, where at most the files of another run changed
 pub run_files_left : (spec : ChannelSpec) (run written : Option ChannelRun) (made now : ℕ) (other : ChannelSpec) (other_run other_written : Option ChannelRun) (many : ℕ) (old new : Seen) → ChangesRun spec run written made now old new
-    → ((r s : ChannelRun) → run ≡ Some r → other_run ≡ Some s → IsTrue old.tells → (i j : ℕ) → i < now → j < many → piece_name_by spec.pattern r.run i ≢ piece_name_by other.pattern s.run j)
+    → ((r s : ChannelRun) → run ≡ Some r → other_run ≡ Some s → IsTrue old.names → (i j : ℕ) → i < now → j < many → piece_name_by spec.pattern r.run i ≢ piece_name_by other.pattern s.run j)
     → ((s : ChannelRun) → other_written ≡ Some s → IsTrue (old.writes s.at.file)) → HaveNumbersApart written other_written → LeavesRunFiles other other_run other_written many old new
 run_files_left spec run written made now other None other_written many old new changes names used numbers = tt
 run_files_left spec run written made now other (Some s) other_written many old new changes names used numbers = record {
-  tells = tells_same spec run written made now old new changes;
+  told = tells_same spec run written made now old new changes;
+  on = goes_on spec run written made now old new changes;
   at = λ told n below. file_left spec run written made now old new changes (piece_name_by other.pattern s.run n) (λ r is i low same. names r s is refl told i n low below (sym same));
   number = number_left old new other_written (λ k is. numbers_left spec run written other_written made now old new changes numbers k is (used k is));
 }
@@ -274,12 +281,12 @@ pub apart_on : (seen : Seen) (c d : Channel) → c.spec.buffer ≡ d.spec.buffer
 apart_on seen c d same apart = record { clients = apart.clients same; names = apart.names; numbers = apart.numbers }
 
 -- Behind a pull of another, a channel's files are apart from those that the pull made.
-pulled_apart : (old new : Seen) (before after d : Channel) → new.tells ≡ old.tells → after.spec ≡ before.spec → after.client ≡ before.client → KeepsRun old before.stage after.stage
+pulled_apart : (old new : Seen) (before after d : Channel) → new.names ≡ old.names → after.spec ≡ before.spec → after.client ≡ before.client → KeepsRun old before.stage after.stage
     → ChangesRun before.spec (channel_run before.stage) (written_run before.stage) (files_made before.stage) (files_made after.stage) old new → IsThere old d → ((s : ChannelRun) → written_run d.stage ≡ Some s → IsTrue (old.writes s.at.file)) → SlotsApart old before d → SlotsApart new after d
 pulled_apart old new before after d tells spec client keeps changes there used apart = record {
   clients = λ same m n is other_is. apart.clients (ap (λ (s : ChannelSpec). s.buffer) (sym spec) ∙ same) m n (sym client ∙ is) other_is;
   names = λ r s is other_is told i j low below e.
-      let told_before : IsTrue old.tells = subst (λ (b : Bool). IsTrue b) tells told in
+      let told_before : IsTrue old.names = subst (λ (b : Bool). IsTrue b) tells told in
       let run : RunBefore before.stage r = same_run_before old before.stage after.stage r keeps is in
       let number : r.run ≡ run.v.run = ap (λ (x : ChannelRun). x.run) run.same in
       let name_is : piece_name_by d.spec.pattern s.run j ≡ piece_name_by before.spec.pattern run.v.run i = sym e ∙ (ap (λ (x : ChannelSpec). piece_name_by x.pattern r.run i) spec ∙ ap (λ (k : ℕ). piece_name_by before.spec.pattern k i) number) in
@@ -340,7 +347,7 @@ pull_moves laws H turns dump answer slots n s fits there open_files is_there apa
     let file : IsLastOpen old before.spec (written_run before.stage) = open_files.files n before there in
     let changes = laws.change p room pulls.pulls file in
     let keeps : KeepsRun old before.stage s.after.stage = changes.1 in
-    let tells : new.tells ≡ old.tells = tells_same before.spec (channel_run before.stage) (written_run before.stage) (files_made before.stage) (files_made s.after.stage) old new changes.0 in
+    let tells : new.names ≡ old.names = tells_same before.spec (channel_run before.stage) (written_run before.stage) (files_made before.stage) (files_made s.after.stage) old new changes.0 in
     let grows : GrowsOn s.port s.later_port = pull_grows p room pulls.pulls in
     let used : (m : ℕ) (d : Channel) → slot_at slots m ≡ Some d → (o : ChannelRun) → written_run d.stage ≡ Some o → IsTrue (old.writes o.at.file) = λ m d stood o is. last_used d.spec old (written_run d.stage) (open_files.files m d stood) o is in
     let with : KeptWith H dump old before s.port = kept_with H dump old before s.port before.stage refl fits kept in
@@ -349,7 +356,8 @@ pull_moves laws H turns dump answer slots n s fits there open_files is_there apa
     record {
       spec = pulls.spec;
       client = λ k is. pulls.client ∙ is;
-      tells = tells;
+      names = tells;
+      on = goes_on before.spec (channel_run before.stage) (written_run before.stage) (files_made before.stage) (files_made s.after.stage) old new changes.0;
       self = λ b. record { head = with.head; stands = own_stands; headed = λ opened is. let run : RunBefore before.stage opened = same_run_before old before.stage s.after.stage opened keeps is in fits.any opened run.v with.head run.same (with.headed run.v run.is) };
       beside = λ m d other stood same b k. record {
         head = k.head;
@@ -406,7 +414,7 @@ pull_knows laws H turns dump answer n before a b fits there s ready stands knows
     let with : KeptWith H dump old before s.port = kept_with H dump old before s.port before.stage refl fits (stands.channels n before s.port there s.at_port) in
     let known = laws.know p before.event.room before.client with.head s.step.pulls with.same with.stands in
     let changes = laws.change p before.event.room s.step.pulls (ready.files.files n before there) in
-    let tells : new.tells ≡ old.tells = tells_same before.spec (channel_run before.stage) (written_run before.stage) (files_made before.stage) (files_made s.after.stage) old new changes.0 in
+    let tells : new.names ≡ old.names = tells_same before.spec (channel_run before.stage) (written_run before.stage) (files_made before.stage) (files_made s.after.stage) old new changes.0 in
     rw s.slots (one_changed (λ k c. KnowsTaken new c.spec c.stage) a.slots n s.after
     (λ x here. subst (λ (sp : ChannelSpec). KnowsTaken new sp s.after.stage) (sym s.step.spec) (known.1 (knows n before there)))
-    (λ k c other here opened is taken told. let told_before : IsTrue old.tells = subst (λ (t : Bool). IsTrue t) tells told in known.0 told_before (piece_name_by c.spec.pattern opened.run (opened.at.sub + 1)) (knows k c here opened is taken told_before)) before there)
+    (λ k c other here opened is taken told. let told_before : IsTrue old.names = subst (λ (t : Bool). IsTrue t) tells told in known.0 told_before (piece_name_by c.spec.pattern opened.run (opened.at.sub + 1)) (knows k c here opened is taken told_before)) before there)

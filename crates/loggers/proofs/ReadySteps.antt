@@ -8,6 +8,7 @@ use Rattle.daq_types.specs.declared.runs.ChannelState.{ChannelState}
 use Rattle.daq_types.specs.declared.runs.Order.{Order}
 use Rattle.daq_types.specs.declared.runs.Why.{Why}
 use Rattle.daq_io.specs.Seen.{Seen, KeepsNumber}
+use Rattle.daq_io.specs.Told.{FilesTold}
 use Rattle.buffer_core.specs.declared.entry.BufferEntry.{BufferEntry}
 use Rattle.buffer_core.specs.Ports.{Access}
 use Rattle.buffer_core.specs.Slots.{slot_at}
@@ -25,7 +26,7 @@ use Rattle.mid_logger.specs.Channels.{HasLastOpen, IsLastOpen, channel_run, writ
 use Rattle.mid_logger.specs.ChannelTurns.{drained_run}
 use Rattle.mid_logger.specs.ChannelEnds.{ClosesFile, stage_settled}
 use Rattle.mid_logger.specs.Keeping.{ChangesRun, KeepsRun, OpensRunFile, PullsChange, AbortsChange, ClosesChange, OpensChange}
-use Rattle.loggers.specs.Moments.{RunFiles, LoggerMoment, ChannelStep, StepsChannel, StepsSlot, CallsBuffer, MarksBuffer, noted_channel, HaveNumbersApart, HaveFilesOpen, IsLoggerReady}
+use Rattle.loggers.specs.Moments.{LoggerMoment, ChannelStep, StepsChannel, StepsSlot, CallsBuffer, MarksBuffer, noted_channel, HaveNumbersApart, HaveFilesOpen, IsLoggerReady}
 use Rattle.loggers.specs.ChannelSteps.{OpensChannel, AbortsChannel, PullsChannel, EndsChannel}
 use Rattle.loggers.specs.SlotPulls.{PullsSlot}
 use Rattle.loggers.specs.Finishing.{EndingMoment, EndsSlot}
@@ -53,7 +54,7 @@ last_used spec seen written file s is = let here : HasLastOpen seen spec s = sub
 -- a change of one run's files leaves the numbers of others
 pub numbers_left : (spec : ChannelSpec) (run written other : Option ChannelRun) (made now : ℕ) (old new : Seen) → ChangesRun spec run written made now old new → HaveNumbersApart written other → (s : ChannelRun) → other ≡ Some s → IsTrue (old.writes s.at.file) → KeepsNumber old new s.at.file
 numbers_left spec None written other made now old new changes apart s is used =
-    let same : KeepsNumber old old s.at.file = record { writes = refl; reads = refl; name = λ used. refl; left = λ reads. refl } in
+    let same : KeepsNumber old old s.at.file = record { writes = refl; reads = refl; name = λ used. refl; left = λ reads. refl; given = λ writes. refl } in
     subst (λ (n : Seen). KeepsNumber old n s.at.file) (sym changes) same
 numbers_left spec (Some opened) written other made now old new changes apart s is used = changes.numbers s.at.file used (λ r writes same. apart r s writes is (sym same))
 
@@ -320,8 +321,8 @@ marked_ready entry note buffer a b keeps as_many marks ready =
     rw marks.noted now
 
 -- the run files, of which this is told
-abbrev pub files_with : Seen → RunFiles
-files_with seen = record { seen = seen; faults = 0; clashes = 0; first = None }
+abbrev pub files_with : Seen → FilesTold
+files_with seen = record { seen = seen; faults = 0; clashes = 0; first = None; bytes_read = 0 }
 
 begun_stays : (place : ℕ) (stage : ChannelStage) → written_run (stage_begun stage place) ≡ written_run stage
 begun_stays place (Asking opened) = refl
@@ -361,7 +362,7 @@ none_or_same (Drained run) state time dump old new faults later closes = inl ref
 none_or_same (Broken run fallen) state time dump old new faults later closes = inl refl
 
 -- the files behind the ending of one channel's
-pub ended_files : ClosesChange → (time : ℕ) (dump : Option (List ℕ)) (told : ChannelEnd) (slots : List (Option Channel)) (n : ℕ) (before after : Channel) (files later : RunFiles) → slot_at slots n ≡ Some before → EndsChannel time dump told before after files later
+pub ended_files : ClosesChange → (time : ℕ) (dump : Option (List ℕ)) (told : ChannelEnd) (slots : List (Option Channel)) (n : ℕ) (before after : Channel) (files later : FilesTold) → slot_at slots n ≡ Some before → EndsChannel time dump told before after files later
     → HaveFilesOpen slots files.seen → HaveFilesOpen (slice_set slots n (Some after)) later.seen
 ended_files change time dump told slots n before after files later there ends open_before =
     let file : IsLastOpen files.seen before.spec (written_run before.stage) = open_before.files n before there in
@@ -380,7 +381,7 @@ ended_files change time dump told slots n before after files later there ends op
 
 -- A slot by its number.
 
-pub opened_at : OpensChange → (order : Order) (dump : List ℕ) (r : Result ⊤ Why) (n : ℕ) (slot later : Option Channel) (slots : List (Option Channel)) (ports later_ports : List Access) (files later_files : RunFiles) → slot_at slots n ≡ slot → ((c : Channel) → slot ≡ Some c → c.stage ≡ Idle)
+pub opened_at : OpensChange → (order : Order) (dump : List ℕ) (r : Result ⊤ Why) (n : ℕ) (slot later : Option Channel) (slots : List (Option Channel)) (ports later_ports : List Access) (files later_files : FilesTold) → slot_at slots n ≡ slot → ((c : Channel) → slot ≡ Some c → c.stage ≡ Idle)
     → OnOk r (OpensSlot order dump slot later ports later_ports files later_files) → IfErr r (RefusesSlot order dump slot later ports later_ports files later_files) → IsLoggerReady slots ports files.seen → IsLoggerReady (slice_set slots n later) later_ports later_files.seen
 opened_at change order dump (Ok done) n None later slots ports later_ports files later_files there idle opens refuses ready =
     subst (λ (m : LoggerMoment). IsLoggerReady m.slots m.ports m.files.seen) (sym (opens slots n there)) ready
@@ -389,7 +390,7 @@ opened_at change order dump (Ok done) n (Some c) later slots ports later_ports f
 opened_at change order dump (Err why) n slot later slots ports later_ports files later_files there idle opens refuses ready =
     opened_ready change order dump (Err why) n refuses.0 _ _ (there ∙ refuses.1) (idle refuses.0 refuses.1) (refuses.2 slots n there) ready
 
-pub ended_at : ClosesChange → (time : ℕ) (dump : Option (List ℕ)) (n : ℕ) (slot later : Option Channel) (slots : List (Option Channel)) (files later_files : RunFiles) (told later_told : List ChannelEnd) → slot_at slots n ≡ slot
+pub ended_at : ClosesChange → (time : ℕ) (dump : Option (List ℕ)) (n : ℕ) (slot later : Option Channel) (slots : List (Option Channel)) (files later_files : FilesTold) (told later_told : List ChannelEnd) → slot_at slots n ≡ slot
     → EndsSlot time dump n slot (record { slots = slots; files = files; told = told }) (record { slots = slice_set slots n later; files = later_files; told = later_told })
     → HaveFilesOpen slots files.seen → HaveFilesOpen (slice_set slots n later) later_files.seen
 ended_at change time dump n None later slots files later_files told later_told there ends in_use_before = subst (λ (m : EndingMoment). HaveFilesOpen m.slots m.files.seen) (sym ends) in_use_before

@@ -16,6 +16,7 @@ use Rattle.daq_types.specs.declared.runs.Why.{Why}
 use Rattle.daq_types.specs.declared.runs.Why.TheVariants.{NotReady, Exists, Fault, BufferRefused}
 use Rattle.daq_io.specs.Counts.{RoseBy}
 use Rattle.daq_io.specs.Seen.{Seen}
+use Rattle.daq_io.specs.Told.{FilesTold}
 use Rattle.daq_io.proofs.Counts.{RoseBy-fewer, RoseBy-then}
 use Rattle.buffer_core.specs.declared.entry.BufferEntry.{BufferEntry}
 use Rattle.buffer_core.specs.declared.replies.Received.{Received}
@@ -38,7 +39,7 @@ use Rattle.mid_logger.specs.Channels.{stage_at, stage_begun, stage_ended, place_
 use Rattle.mid_logger.specs.ChannelEnds.{ClosesRead, ClosesFile, stage_settled, state_otherwise}
 use Rattle.mid_logger.specs.ChannelTurns.{NotesFault, OpenFaults, OpenClashes, broken_run, drained_run}
 use Rattle.mid_logger.specs.Pulls.{PullOf, PullsIn, TakesReply, TakesBy, FindsNone, PullFaults, RisesWith, drains_at_none}
-use Rattle.loggers.specs.Moments.{RunFiles, LoggerMoment, ChannelStep, StepsChannel, StepsSlot, StepsAt, CallsBuffer, MarksBuffer, InTurn, noted_channel, AreIdleChannels, channel_limit}
+use Rattle.loggers.specs.Moments.{LoggerMoment, ChannelStep, StepsChannel, StepsSlot, StepsAt, CallsBuffer, MarksBuffer, InTurn, noted_channel, AreIdleChannels, channel_limit}
 use Rattle.loggers.specs.ChannelSteps.{OpensChannel, AbortsChannel, PullsChannel}
 use Rattle.loggers.specs.SlotPulls.{PullsSlot, PullsNumbered}
 use Rattle.loggers.specs.Finishing.{EndingMoment, EndsSlot, EndsSlotAt, EndsFiles, LoggerFinish, FinishesBy, FinishesLogger, ending_of, ends_idle, is_settled_slot, waiting_stop}
@@ -58,32 +59,32 @@ use Rattle.loggers.proofs.ManyRose.{StaysOrRose, KeepsOff, by_none, by_same, by_
 
 -- Between these two moments so many faults and clashes were told. Each fault that was told, and each channel that broke off,
 -- had a fault of its own that was counted meanwhile, or is one that had broken off before.
-pub record CountsKept (told clashes : ℕ) (slots later : List (Option Channel)) (old new : RunFiles) : Type 0 where
+pub record CountsKept (told clashes : ℕ) (slots later : List (Option Channel)) (old new : FilesTold) : Type 0 where
   pub more : ℕ
   pub off : told + broken_off later ≤ broken_off slots + more
   pub rose : RoseBy more old.faults new.faults
   pub clashed : RoseBy clashes old.clashes new.clashes
 
-pub kept_faults : (told clashes : ℕ) (slots later : List (Option Channel)) (old new : RunFiles) → CountsKept told clashes slots later old new → StaysOrRose old.faults new.faults
+pub kept_faults : (told clashes : ℕ) (slots later : List (Option Channel)) (old new : FilesTold) → CountsKept told clashes slots later old new → StaysOrRose old.faults new.faults
 kept_faults told clashes slots later old new kept = by_stays kept.more old.faults new.faults kept.rose
 
-kept_clashes : (told clashes : ℕ) (slots later : List (Option Channel)) (old new : RunFiles) → CountsKept told clashes slots later old new → StaysOrRose old.clashes new.clashes
+kept_clashes : (told clashes : ℕ) (slots later : List (Option Channel)) (old new : FilesTold) → CountsKept told clashes slots later old new → StaysOrRose old.clashes new.clashes
 kept_clashes told clashes slots later old new kept = by_stays clashes old.clashes new.clashes kept.clashed
 
-kept_fell : (told clashes : ℕ) (slots later : List (Option Channel)) (old new : RunFiles) → CountsKept told clashes slots later old new → NoneFell old new
+kept_fell : (told clashes : ℕ) (slots later : List (Option Channel)) (old new : FilesTold) → CountsKept told clashes slots later old new → NoneFell old new
 kept_fell told clashes slots later old new kept = record {
   faults = RoseBy-fewer 0 kept.more old.faults new.faults (omega arith) kept.rose;
   clashes = RoseBy-fewer 0 clashes old.clashes new.clashes (omega arith) kept.clashed;
 }
 
-kept_same : (slots : List (Option Channel)) (files : RunFiles) → CountsKept 0 0 slots slots files files
+kept_same : (slots : List (Option Channel)) (files : FilesTold) → CountsKept 0 0 slots slots files files
 kept_same slots files = record { more = 0; off = omega arith; rose = by_same files.faults files.faults refl; clashed = by_same files.clashes files.clashes refl }
 
 off_then : (t t1 t2 x y z m n : ℕ) → t ≤ t1 + t2 → t1 + y ≤ x + m → t2 + z ≤ y + n → t + z ≤ x + (m + n)
 off_then t t1 t2 x y z m n many first second = omega arith
 
 -- One behind the other, of which at most what both told is told.
-kept_then : (t c t1 c1 t2 c2 : ℕ) (x y z : List (Option Channel)) (f g h : RunFiles) → t ≤ t1 + t2 → c ≤ c1 + c2 → CountsKept t1 c1 x y f g → CountsKept t2 c2 y z g h → CountsKept t c x z f h
+kept_then : (t c t1 c1 t2 c2 : ℕ) (x y z : List (Option Channel)) (f g h : FilesTold) → t ≤ t1 + t2 → c ≤ c1 + c2 → CountsKept t1 c1 x y f g → CountsKept t2 c2 y z g h → CountsKept t c x z f h
 kept_then t c t1 c1 t2 c2 x y z f g h told clashed first second = record {
   more = first.more + second.more;
   off = off_then t t1 t2 (broken_off x) (broken_off y) (broken_off z) first.more second.more told first.off second.off;
@@ -104,7 +105,7 @@ breaks_none told before after more none few = let off : off_of after ≡ 0 = ap 
 set_part : (told more l s b a : ℕ) → l + b ≡ s + a → told + a ≤ b + more → told + l ≤ s + more
 set_part told more l s b a set breaks = omega arith
 
-set_kept : (told clashes more : ℕ) (slots : List (Option Channel)) (n : ℕ) (before after : Channel) (old new : RunFiles) → slot_at slots n ≡ Some before → BreaksBy told before.stage after.stage more → RoseBy more old.faults new.faults → RoseBy clashes old.clashes new.clashes
+set_kept : (told clashes more : ℕ) (slots : List (Option Channel)) (n : ℕ) (before after : Channel) (old new : FilesTold) → slot_at slots n ≡ Some before → BreaksBy told before.stage after.stage more → RoseBy more old.faults new.faults → RoseBy clashes old.clashes new.clashes
     → CountsKept told clashes slots (slice_set slots n (Some after)) old new
 set_kept told clashes more slots n before after old new there breaks rose clashed = record {
   more = more;
@@ -257,7 +258,7 @@ pulled_kept dump n answer (Some before) a b there s = step_kept 0 0 (faults_of_p
 
 pub call_kept : (entry : BufferEntry) (buffer : ℕ) (a b : LoggerMoment) → CallsBuffer entry buffer a b → Kept a b
 call_kept entry buffer a b calls = subst (λ (l : List (Option Channel)). CountsKept 0 0 a.slots l a.files b.files) (sym calls.slots)
-    (subst (λ (files : RunFiles). CountsKept 0 0 a.slots a.slots a.files files) (sym calls.files) (kept_same a.slots a.files))
+    (subst (λ (files : FilesTold). CountsKept 0 0 a.slots a.slots a.files files) (sym calls.files) (kept_same a.slots a.files))
 
 mark_kept : (entry : BufferEntry) (note : ChannelStage → ChannelStage) (buffer : ℕ) (a b : LoggerMoment) → KeepsOff note → MarksBuffer entry note buffer a b → Kept a b
 mark_kept entry note buffer a b keeps marks =
@@ -269,7 +270,7 @@ mark_kept entry note buffer a b keeps marks =
       clashed = by_same a.files.clashes a.files.clashes refl;
     } in
     subst (λ (l : List (Option Channel)). CountsKept 0 0 a.slots l a.files b.files) (sym marks.noted)
-    (subst (λ (files : RunFiles). CountsKept 0 0 a.slots (map (option_map (noted_channel note buffer)) a.slots) a.files files) (sym marks.marks.files) kept)
+    (subst (λ (files : FilesTold). CountsKept 0 0 a.slots (map (option_map (noted_channel note buffer)) a.slots) a.files files) (sym marks.marks.files) kept)
 
 -- Turns.
 
@@ -394,7 +395,7 @@ turned_by StartAbort t takes = record { kept = called_off_kept (is_of_start t.ru
 -- Endings.
 
 -- the channels, the files and what is told of the channels, since the first file was ended
-abbrev EndedSince : (slots : List (Option Channel)) → (files : RunFiles) → (m : EndingMoment) → Type 0
+abbrev EndedSince : (slots : List (Option Channel)) → (files : FilesTold) → (m : EndingMoment) → Type 0
 EndedSince slots files m = CountsKept (sum_by faults_of_end m.told) 0 slots m.slots files m.files
 
 settled_none : (stage : ChannelStage) → broken_run (stage_settled stage) ≡ None
@@ -436,7 +437,7 @@ closed_by None state stage time dump a b f g closes stays =
     let is : faults_of_state state ≡ off_of stage = ap faults_of_state closes.0 ∙ otherwise_off stage in
     none_more stage state f g (omega (arith, is)) stays
 
-ends_slot : (slots : List (Option Channel)) (files : RunFiles) (time : ℕ) (dump : Option (List ℕ)) (n : ℕ) (slot : Option Channel) (a b : EndingMoment) → slot_at a.slots n ≡ slot → EndsSlot time dump n slot a b → EndedSince slots files a → EndedSince slots files b
+ends_slot : (slots : List (Option Channel)) (files : FilesTold) (time : ℕ) (dump : Option (List ℕ)) (n : ℕ) (slot : Option Channel) (a b : EndingMoment) → slot_at a.slots n ≡ slot → EndsSlot time dump n slot a b → EndedSince slots files a → EndedSince slots files b
 ends_slot slots files time dump n None a b there same since = subst (λ (m : EndingMoment). EndedSince slots files m) (sym same) since
 ends_slot slots files time dump n (Some before) a b there ends since =
     let c = ends.after in
@@ -459,16 +460,16 @@ ends_all f time ends = turns_keep (λ k. EndsSlotAt time f.dumps.stop k) (EndedS
 
 -- From the first moment on.
 
-clashed_then : (specs : List (Option ChannelSpec)) (f g h : RunFiles) → NoneClashed specs f g → NoneClashed specs g h → NoneClashed specs f h
+clashed_then : (specs : List (Option ChannelSpec)) (f g h : FilesTold) → NoneClashed specs f g → NoneClashed specs g h → NoneClashed specs f h
 clashed_then specs f g h first second = record { fell = fell_then f g h first.fell second.fell; clashes = λ none. second.clashes none ∙ first.clashes none }
 
-turns_later : (specs : List (Option ChannelSpec)) (turns : List MemberTurn) (first old new : RunFiles) → NoneClashed specs old new → AreTurnsSo specs turns first old → AreTurnsSo specs turns first new
+turns_later : (specs : List (Option ChannelSpec)) (turns : List MemberTurn) (first old new : FilesTold) → NoneClashed specs old new → AreTurnsSo specs turns first old → AreTurnsSo specs turns first new
 turns_later specs [] first old new quiet so = clashed_then specs first old new so quiet
 turns_later specs (t ∷ ts) first old new quiet so =
     let last = so.1.1.1 in
     (so.0, (so.1.0, (so.1.1.0, record { start = last.start; within = last.within; clashes = last.clashes; since = clashed_then specs so.1.0 old new last.since quiet })))
 
-turns_of : (specs later : List (Option ChannelSpec)) (turns : List MemberTurn) (first now : RunFiles) → later ≡ specs → AreTurnsSo specs turns first now → AreTurnsSo later turns first now
+turns_of : (specs later : List (Option ChannelSpec)) (turns : List MemberTurn) (first now : FilesTold) → later ≡ specs → AreTurnsSo specs turns first now → AreTurnsSo later turns first now
 turns_of specs later turns first now same so = subst (λ (s : List (Option ChannelSpec)). AreTurnsSo s turns first now) (sym same) so
 
 fits_later : (slots later : List (Option Channel)) (turns : List MemberTurn) → specs_in later ≡ specs_in slots → ((t : MemberTurn) → HasTurn turns t → AnswerFits (specs_in slots) t.transition t.answer) → (t : MemberTurn) → HasTurn turns t → AnswerFits (specs_in later) t.transition t.answer
@@ -480,18 +481,18 @@ few_later slots later same few =
     omega (arith, many, few, length-map later (option_map (λ (c : Channel). c.spec)), length-map slots (option_map (λ (c : Channel). c.spec)))
 
 -- A call in which so much more is told.
-more_faults : (many told clashes : ℕ) (slots later : List (Option Channel)) (first old new : RunFiles) → CountsKept told clashes slots later old new → RoseBy (many + broken_off slots) first.faults old.faults → RoseBy (told + many + broken_off later) first.faults new.faults
+more_faults : (many told clashes : ℕ) (slots later : List (Option Channel)) (first old new : FilesTold) → CountsKept told clashes slots later old new → RoseBy (many + broken_off slots) first.faults old.faults → RoseBy (told + many + broken_off later) first.faults new.faults
 more_faults many told clashes slots later first old new kept rose =
     let off = kept.off in
     RoseBy-fewer (told + many + broken_off later) (many + broken_off slots + kept.more) first.faults new.faults (omega (arith, off))
     (RoseBy-then (many + broken_off slots) kept.more first.faults old.faults new.faults rose kept.rose)
 
-more_clashes : (many clashes told : ℕ) (slots later : List (Option Channel)) (first old new : RunFiles) → CountsKept told clashes slots later old new → RoseBy many first.clashes old.clashes → RoseBy (clashes + many) first.clashes new.clashes
+more_clashes : (many clashes told : ℕ) (slots later : List (Option Channel)) (first old new : FilesTold) → CountsKept told clashes slots later old new → RoseBy many first.clashes old.clashes → RoseBy (clashes + many) first.clashes new.clashes
 more_clashes many clashes told slots later first old new kept rose =
     RoseBy-fewer (clashes + many) (many + clashes) first.clashes new.clashes (omega arith) (RoseBy-then many clashes first.clashes old.clashes new.clashes rose kept.clashed)
 
 -- a call by which no turn was answered; it may count a clash where there is a limit
-later_reasons : (slots later : List (Option Channel)) (ports more : List Access) (first old new : RunFiles) (turns : List MemberTurn) → CountsKept 0 0 slots later old new → RisesKept 0 1 slots later old new → (HaveNoLimit (specs_in slots) → new.clashes ≡ old.clashes) → (HasRefusedAsk ports → HasRefusedAsk more)
+later_reasons : (slots later : List (Option Channel)) (ports more : List Access) (first old new : FilesTold) (turns : List MemberTurn) → CountsKept 0 0 slots later old new → RisesKept 0 1 slots later old new → (HaveNoLimit (specs_in slots) → new.clashes ≡ old.clashes) → (HasRefusedAsk ports → HasRefusedAsk more)
     → GivesReasons slots ports first old turns → GivesReasons later more first new turns
 later_reasons slots later ports more first old new turns kept rises clashes stay gives = record {
   faults = RoseBy-fewer (faults_told turns + broken_off later) (0 + faults_told turns + broken_off later) first.faults new.faults (omega arith) (more_faults (faults_told turns) 0 0 slots later first old new kept gives.faults);
@@ -507,7 +508,7 @@ later_reasons slots later ports more first old new turns kept rises clashes stay
 }
 
 -- one turn more
-turn_more_reasons : (slots later : List (Option Channel)) (ports more : List Access) (first old new : RunFiles) (turns : List MemberTurn) (t : MemberTurn) → CountsKept (count_in_answer faults_of_answer t.answer) (count_in_answer clashes_of_answer t.answer) slots later old new
+turn_more_reasons : (slots later : List (Option Channel)) (ports more : List Access) (first old new : FilesTold) (turns : List MemberTurn) (t : MemberTurn) → CountsKept (count_in_answer faults_of_answer t.answer) (count_in_answer clashes_of_answer t.answer) slots later old new
     → RisesKept (told_by t.transition t.answer) (count_in_answer clashes_of_answer t.answer) slots later old new → AnswerFits (specs_in slots) t.transition t.answer
     → (t.transition ≡ Start → (answer : Answer) → t.answer ≡ Some answer → IsStartSo answer old new) → (t.answer ≡ Some (No BufferRefused) → HasRefusedAsk more) → (HasRefusedAsk ports → HasRefusedAsk more)
     → GivesReasons slots ports first old turns → GivesReasons later more first new (t ∷ turns)
@@ -551,14 +552,14 @@ turn_more_reasons slots later ports more first old new turns t kept rises fits s
       ];
     }
 
-pub turn_reasons : (t : LoggerTurn) (first : RunFiles) (turns : List MemberTurn) → TakesTurn t → GivesReasons t.before.slots t.before.ports first t.before.files turns
+pub turn_reasons : (t : LoggerTurn) (first : FilesTold) (turns : List MemberTurn) → TakesTurn t → GivesReasons t.before.slots t.before.ports first t.before.files turns
     → GivesReasons t.after.slots t.after.ports first t.after.files (logger_turn t.transition t.order t.dump t.answer ∷ turns)
 turn_reasons t first turns takes gives =
     let turned : Turned t.transition t = turned_by t.transition t takes in
     let asks : TurnAsks t = turn_asks t takes in
     turn_more_reasons t.before.slots t.after.slots t.before.ports t.after.ports first t.before.files t.after.files turns (logger_turn t.transition t.order t.dump t.answer) turned.kept (turn_rises t takes) (turn_fits t takes) turned.start asks.refused asks.stay gives
 
-pub pull_reasons : (dump : List ℕ) (n : ℕ) (answer : Pulled) (a b : LoggerMoment) (first : RunFiles) (turns : List MemberTurn) → PullsNumbered dump n answer a b → GivesReasons a.slots a.ports first a.files turns → GivesReasons b.slots b.ports first b.files turns
+pub pull_reasons : (dump : List ℕ) (n : ℕ) (answer : Pulled) (a b : LoggerMoment) (first : FilesTold) (turns : List MemberTurn) → PullsNumbered dump n answer a b → GivesReasons a.slots a.ports first a.files turns → GivesReasons b.slots b.ports first b.files turns
 pull_reasons dump n answer a b first turns pulls gives =
     later_reasons a.slots b.slots a.ports b.ports first a.files b.files turns (pulled_kept dump n answer (slot_at a.slots n) a b refl pulls) (pull_rises dump n answer (slot_at a.slots n) a b refl pulls)
     (pull_clashes dump n answer (slot_at a.slots n) a b refl pulls) (pull_asks dump n answer a b pulls) gives
@@ -567,7 +568,7 @@ pull_reasons dump n answer a b first turns pulls gives =
 open_stop : (specs : List (Option ChannelSpec)) (t : MemberTurn) → t.answer ≡ None → AnswerFits specs t.transition t.answer → t.transition ≡ Stop
 open_stop specs t waits fits = (subst (λ (answer : Option Answer). AnswerFits specs t.transition answer) waits fits).kind
 
-answered_reasons : (slots later : List (Option Channel)) (ports : List Access) (first old new : RunFiles) (ends : List ChannelEnd) (turns : List MemberTurn) → CountsKept (sum_by faults_of_end ends) 0 slots later old new → RisesKept (sum_by faults_of_end ends) 0 slots later old new
+answered_reasons : (slots later : List (Option Channel)) (ports : List Access) (first old new : FilesTold) (ends : List ChannelEnd) (turns : List MemberTurn) → CountsKept (sum_by faults_of_end ends) 0 slots later old new → RisesKept (sum_by faults_of_end ends) 0 slots later old new
     → NamesChannels (Some (Yes (Channels ends))) (specs_in slots) → IsLatestOpen turns → GivesReasons slots ports first old turns → GivesReasons later ports first new (latest_answered turns (Some (Yes (Channels ends))))
 answered_reasons slots later ports first old new ends [] kept rises named waits gives = absurd waits
 answered_reasons slots later ports first old new ends (t ∷ ts) kept rises named waits gives =
@@ -618,10 +619,10 @@ answered_reasons slots later ports first old new ends (t ∷ ts) kept rises name
       ];
     }
 
-waiting_reasons : (f : LoggerFinish) (ports : List Access) (first : RunFiles) (turns : List MemberTurn) → f.answer ≡ None → f.later_slots ≡ f.slots → f.later_files ≡ f.files → GivesReasons f.slots ports first f.files turns → GivesReasons f.later_slots ports first f.later_files (latest_answered turns f.answer)
+waiting_reasons : (f : LoggerFinish) (ports : List Access) (first : FilesTold) (turns : List MemberTurn) → f.answer ≡ None → f.later_slots ≡ f.slots → f.later_files ≡ f.files → GivesReasons f.slots ports first f.files turns → GivesReasons f.later_slots ports first f.later_files (latest_answered turns f.answer)
 waiting_reasons f ports first turns none slots files gives = rw (none, slots, files) gives
 
-finish_by : (f : LoggerFinish) (ports : List Access) (first : RunFiles) (turns : List MemberTurn) (settled : Bool) (stop : Option ℕ) → FinishesBy settled stop f → IsLatestOpen turns → GivesReasons f.slots ports first f.files turns
+finish_by : (f : LoggerFinish) (ports : List Access) (first : FilesTold) (turns : List MemberTurn) (settled : Bool) (stop : Option ℕ) → FinishesBy settled stop f → IsLatestOpen turns → GivesReasons f.slots ports first f.files turns
     → GivesReasons f.later_slots ports first f.later_files (latest_answered turns f.answer)
 finish_by f ports first turns settled None leaves waits gives = waiting_reasons f ports first turns leaves.answer_is leaves.slots leaves.files gives
 finish_by f ports first turns false (Some time) leaves waits gives = waiting_reasons f ports first turns leaves.answer_is leaves.slots leaves.files gives
@@ -630,14 +631,14 @@ finish_by f ports first turns true (Some time) ends waits gives =
     subst (λ (answer : Option Answer). GivesReasons f.later_slots ports first f.later_files (latest_answered turns answer)) (sym ends.answer_is)
     (answered_reasons f.slots f.later_slots ports first f.files f.later_files ends.told turns (ends_all f time ends) told.rises told.named waits gives)
 
-pub finish_reasons : (f : LoggerFinish) (ports : List Access) (first : RunFiles) (turns : List MemberTurn) → FinishesLogger f → IsLatestOpen turns → GivesReasons f.slots ports first f.files turns → GivesReasons f.later_slots ports first f.later_files (latest_answered turns f.answer)
+pub finish_reasons : (f : LoggerFinish) (ports : List Access) (first : FilesTold) (turns : List MemberTurn) → FinishesLogger f → IsLatestOpen turns → GivesReasons f.slots ports first f.files turns → GivesReasons f.later_slots ports first f.later_files (latest_answered turns f.answer)
 finish_reasons f ports first turns finishes waits gives = finish_by f ports first turns (list_all is_settled_slot f.slots) (waiting_stop f.run) finishes waits gives
 
 -- The clashes of which the turns tell.
-pub clashes_are_told : (slots : List (Option Channel)) (ports : List Access) (first now : RunFiles) (turns : List MemberTurn) → GivesReasons slots ports first now turns → HaveNoLimit (specs_in slots) → clashes_told turns ≡ 0 → now.clashes ≡ first.clashes
+pub clashes_are_told : (slots : List (Option Channel)) (ports : List Access) (first now : FilesTold) (turns : List MemberTurn) → GivesReasons slots ports first now turns → HaveNoLimit (specs_in slots) → clashes_told turns ≡ 0 → now.clashes ≡ first.clashes
 clashes_are_told slots ports first now turns gives unlimited none = clashes_by turns first now gives.in_turns none
   where
-    clashes_by : (ts : List MemberTurn) (f g : RunFiles) → AreTurnsSo (specs_in slots) ts f g → clashes_told ts ≡ 0 → g.clashes ≡ f.clashes
+    clashes_by : (ts : List MemberTurn) (f g : FilesTold) → AreTurnsSo (specs_in slots) ts f g → clashes_told ts ≡ 0 → g.clashes ≡ f.clashes
     clashes_by [] f g so untold = so.clashes unlimited
     clashes_by (t ∷ ts) f g so untold =
         let all : clashes_told (t ∷ ts) ≡ count_in_answer clashes_of_answer t.answer + clashes_told ts = sum_by-cons (λ (u : MemberTurn). count_in_answer clashes_of_answer u.answer) t ts in
@@ -645,7 +646,7 @@ clashes_are_told slots ports first now turns gives unlimited none = clashes_by t
         last.since.clashes unlimited ∙ (last.clashes (omega (arith, all, untold)) ∙ clashes_by ts f so.0 so.1.1.0 (omega (arith, all, untold)))
 
 -- A logger whose channels are all idle, and that gave no answer.
-pub idle_reasons : (slots : List (Option Channel)) (ports : List Access) → AreIdleChannels slots → length slots ≤ channel_limit → (files : RunFiles) → GivesReasons slots ports files files []
+pub idle_reasons : (slots : List (Option Channel)) (ports : List Access) → AreIdleChannels slots → length slots ≤ channel_limit → (files : FilesTold) → GivesReasons slots ports files files []
 idle_reasons slots ports idle few files = record {
   faults = subst (λ (off : ℕ). RoseBy (0 + off) files.faults files.faults) (sym (idle_off slots idle)) (by_same files.faults files.faults refl);
   clashes = by_same files.clashes files.clashes refl;

@@ -13,6 +13,7 @@ use Rattle.daq_types.specs.declared.runs.Transition.TheVariants.{Start, Stop, Pa
 use Rattle.daq_types.specs.declared.runs.Why.{Why}
 use Rattle.daq_types.specs.declared.runs.Why.TheVariants.{NotReady, Exists, Fault, BufferRefused}
 use Rattle.daq_io.specs.Seen.{Seen}
+use Rattle.daq_io.specs.Told.{FilesTold}
 use Rattle.buffer_core.specs.declared.entry.BufferEntry.{BufferEntry}
 use Rattle.buffer_core.specs.declared.replies.Received.{Received}
 use Rattle.buffer_core.specs.declared.replies.Received.TheVariants.{Got, Empty, NoClient, SmallBuf}
@@ -31,7 +32,7 @@ use Rattle.mid_logger.specs.Channels.{stage_begun, stage_ended, place_marked, re
 use Rattle.mid_logger.specs.ChannelEnds.{ClosesRead, ClosesFile, stage_settled}
 use Rattle.mid_logger.specs.ChannelTurns.{OpenClashes, broken_run, drained_run}
 use Rattle.mid_logger.specs.Pulls.{PullOf, PullsIn, TakesReply, TakesBy, FindsNone, PullFaults, RisesWith, drains_at_none}
-use Rattle.loggers.specs.Moments.{RunFiles, LoggerMoment, ChannelStep, StepsChannel, StepsSlot, StepsAt, CallsBuffer, MarksBuffer, InTurn, noted_channel, AreIdleChannels, channel_limit}
+use Rattle.loggers.specs.Moments.{LoggerMoment, ChannelStep, StepsChannel, StepsSlot, StepsAt, CallsBuffer, MarksBuffer, InTurn, noted_channel, AreIdleChannels, channel_limit}
 use Rattle.loggers.specs.ChannelSteps.{OpensChannel, AbortsChannel, PullsChannel}
 use Rattle.loggers.specs.SlotPulls.{PullsSlot}
 use Rattle.loggers.specs.Finishing.{EndingMoment, EndsSlot, EndsSlotAt, EndsFiles, LoggerFinish, ending_of, idle_end, ends_idle}
@@ -46,11 +47,11 @@ use Rattle.loggers.proofs.ManyRose.{KeepsOff, off_of, set_off, map_off}
 
 -- What was counted where a start came about.
 
-abbrev pub SameCounts : (old new : RunFiles) → Type 0
+abbrev pub SameCounts : (old new : FilesTold) → Type 0
 SameCounts old new = (new.faults ≡ old.faults) × (new.clashes ≡ old.clashes)
 
-pub counts_same : (old new : RunFiles) → new ≡ old → SameCounts old new
-counts_same old new same = (ap (λ (f : RunFiles). f.faults) same, ap (λ (f : RunFiles). f.clashes) same)
+pub counts_same : (old new : FilesTold) → new ≡ old → SameCounts old new
+counts_same old new same = (ap (λ (f : FilesTold). f.faults) same, ap (λ (f : FilesTold). f.clashes) same)
 
 same_turns : (Step : ℕ → LoggerMoment → LoggerMoment → Type 0) (n : ℕ) (a b : LoggerMoment) → ((k : ℕ) (x y : LoggerMoment) → Step k x y → SameCounts x.files y.files) → InTurn Step n a b → SameCounts a.files b.files
 same_turns Step n a b each turns = turns_keep Step (λ (m : LoggerMoment). SameCounts a.files m.files) n a b
@@ -93,7 +94,7 @@ off_within (o ∷ os) (suc n) c there = omega (arith, off_within os n c there, s
 -- Between these two moments so much was told of faults and of openings that were undone, and so many clashes. Where none of the
 -- first was, and behind them no channel has broken off, none had before, and no fault was counted; where no clash was told, none
 -- was counted; and the channels are the same.
-pub record RisesKept (told clashes : ℕ) (slots later : List (Option Channel)) (old new : RunFiles) : Type 0 where
+pub record RisesKept (told clashes : ℕ) (slots later : List (Option Channel)) (old new : FilesTold) : Type 0 where
   pub clean : told + broken_off later ≡ 0 → (broken_off slots ≡ 0) × (new.faults ≡ old.faults)
   pub names : clashes ≡ 0 → new.clashes ≡ old.clashes
   pub specs : specs_in later ≡ specs_in slots
@@ -101,14 +102,14 @@ pub record RisesKept (told clashes : ℕ) (slots later : List (Option Channel)) 
 abbrev pub RisesSo : (told clashes : ℕ) → (a b : LoggerMoment) → Type 0
 RisesSo told clashes a b = RisesKept told clashes a.slots b.slots a.files b.files
 
-pub rises_same : (told clashes : ℕ) (slots : List (Option Channel)) (files : RunFiles) → RisesKept told clashes slots slots files files
+pub rises_same : (told clashes : ℕ) (slots : List (Option Channel)) (files : FilesTold) → RisesKept told clashes slots slots files files
 rises_same told clashes slots files = record { clean = λ none. (omega (arith, none), refl); names = λ none. refl; specs = refl }
 
 rises_moment : (told clashes : ℕ) (a b : LoggerMoment) → b ≡ a → RisesSo told clashes a b
 rises_moment told clashes a b same = subst (λ (m : LoggerMoment). RisesSo told clashes a m) (sym same) (rises_same told clashes a.slots a.files)
 
 -- One behind the other, of which more is told than of both, or nothing.
-pub rises_then : (t c t1 c1 t2 c2 : ℕ) (x y z : List (Option Channel)) (f g h : RunFiles) → (t ≡ 0 → t1 + t2 ≡ 0) → (c ≡ 0 → c1 + c2 ≡ 0) → RisesKept t1 c1 x y f g → RisesKept t2 c2 y z g h → RisesKept t c x z f h
+pub rises_then : (t c t1 c1 t2 c2 : ℕ) (x y z : List (Option Channel)) (f g h : FilesTold) → (t ≡ 0 → t1 + t2 ≡ 0) → (c ≡ 0 → c1 + c2 ≡ 0) → RisesKept t1 c1 x y f g → RisesKept t2 c2 y z g h → RisesKept t c x z f h
 rises_then t c t1 c1 t2 c2 x y z f g h untold unclashed first second = record {
   clean = λ none.
       let parts : t1 + t2 ≡ 0 = untold (omega (arith, none)) in
@@ -130,7 +131,7 @@ moment_turns : (told : ℕ) (Step : ℕ → LoggerMoment → LoggerMoment → Ty
 moment_turns told Step n a b each turns = turns_keep Step (λ m. RisesSo told 0 a m) n a b (λ k x y step kept. moment_then told 0 0 0 a x y (λ none. refl) kept (each k x y step)) turns (rises_same told 0 a.slots a.files)
 
 -- one channel changed
-pub set_rises : (told clashes : ℕ) (slots : List (Option Channel)) (n : ℕ) (before after : Channel) (old new : RunFiles) → slot_at slots n ≡ Some before → after.spec ≡ before.spec → (told + off_of after.stage ≡ 0 → (off_of before.stage ≡ 0) × (new.faults ≡ old.faults))
+pub set_rises : (told clashes : ℕ) (slots : List (Option Channel)) (n : ℕ) (before after : Channel) (old new : FilesTold) → slot_at slots n ≡ Some before → after.spec ≡ before.spec → (told + off_of after.stage ≡ 0 → (off_of before.stage ≡ 0) × (new.faults ≡ old.faults))
     → (clashes ≡ 0 → new.clashes ≡ old.clashes) → RisesKept told clashes slots (slice_set slots n (Some after)) old new
 set_rises told clashes slots n before after old new there spec clean names = record {
   clean = λ none.
@@ -152,7 +153,7 @@ step_rises told clashes Step n before a b s there spec clean names =
 
 call_rises : (told : ℕ) (entry : BufferEntry) (buffer : ℕ) (a b : LoggerMoment) → CallsBuffer entry buffer a b → RisesSo told 0 a b
 call_rises told entry buffer a b calls = subst (λ (l : List (Option Channel)). RisesKept told 0 a.slots l a.files b.files) (sym calls.slots)
-    (subst (λ (files : RunFiles). RisesKept told 0 a.slots a.slots a.files files) (sym calls.files) (rises_same told 0 a.slots a.files))
+    (subst (λ (files : FilesTold). RisesKept told 0 a.slots a.slots a.files files) (sym calls.files) (rises_same told 0 a.slots a.files))
 
 pub begun_off : (place : ℕ) → KeepsOff (λ stage. stage_begun stage place)
 begun_off place Idle = refl
@@ -179,7 +180,7 @@ mark_rises told entry note buffer a b keeps marks =
       specs = specs_noted note buffer a.slots;
     } in
     subst (λ (l : List (Option Channel)). RisesKept told 0 a.slots l a.files b.files) (sym marks.noted)
-    (subst (λ (files : RunFiles). RisesKept told 0 a.slots (map (option_map (noted_channel note buffer)) a.slots) a.files files) (sym marks.marks.files) kept)
+    (subst (λ (files : FilesTold). RisesKept told 0 a.slots (map (option_map (noted_channel note buffer)) a.slots) a.files files) (sym marks.marks.files) kept)
 
 begins_rise : (told start n : ℕ) (a b : LoggerMoment) → BeginsBelow start n a b → RisesSo told 0 a b
 begins_rise told start n a b begins = moment_turns told (λ k. BeginsBuffer start k) n a b (λ k x y step. mark_rises told _ (λ stage. stage_begun stage step.0) k x y (begun_off step.0) step.1) begins
@@ -496,13 +497,13 @@ closed_quiet (Broken run fallen) state time dump a b f g closes none =
     absurd (omega (arith, none, one))
 
 -- what is told once the files of the channels with lower numbers are ended
-record EndedBelow (slots : List (Option Channel)) (files : RunFiles) (n : ℕ) (m : EndingMoment) : Type 0 where
+record EndedBelow (slots : List (Option Channel)) (files : FilesTold) (n : ℕ) (m : EndingMoment) : Type 0 where
   many : length m.told ≡ channel_limit
   later : (k : ℕ) (told : ChannelEnd) → n ≤ k → slice_get m.told k ≡ Some told → faults_of_end told ≡ 0
   named : (k : ℕ) (told : ChannelEnd) → slice_get m.told k ≡ Some told → told.state ≡ IsBroken → (spec : ChannelSpec) × (slot_at (specs_in slots) k ≡ Some spec)
   rises : RisesKept (sum_by faults_of_end m.told) 0 slots m.slots files m.files
 
-ended_none : (slots : List (Option Channel)) (files : RunFiles) → EndedBelow slots files 0 (ending_of slots files ends_idle)
+ended_none : (slots : List (Option Channel)) (files : FilesTold) → EndedBelow slots files 0 (ending_of slots files ends_idle)
 ended_none slots files = record {
   many = refl;
   later = λ k told from at. idle_ends channel_limit k told at;
@@ -510,7 +511,7 @@ ended_none slots files = record {
   rises = rises_same _ 0 slots files;
 }
 
-ends_slot_rises : (slots : List (Option Channel)) (files : RunFiles) (time : ℕ) (dump : Option (List ℕ)) (n : ℕ) (slot : Option Channel) (a b : EndingMoment) → n < channel_limit → slot_at a.slots n ≡ slot → EndsSlot time dump n slot a b → EndedBelow slots files n a → EndedBelow slots files (suc n) b
+ends_slot_rises : (slots : List (Option Channel)) (files : FilesTold) (time : ℕ) (dump : Option (List ℕ)) (n : ℕ) (slot : Option Channel) (a b : EndingMoment) → n < channel_limit → slot_at a.slots n ≡ slot → EndsSlot time dump n slot a b → EndedBelow slots files n a → EndedBelow slots files (suc n) b
 ends_slot_rises slots files time dump n None a b within there same ended = subst (λ (m : EndingMoment). EndedBelow slots files (suc n) m) (sym same)
     (record { many = ended.many; later = λ k told from at. ended.later k told (omega (arith, from)) at; named = ended.named; rises = ended.rises })
 ends_slot_rises slots files time dump n (Some before) a b within there ends ended =
@@ -539,7 +540,7 @@ ends_slot_rises slots files time dump n (Some before) a b within there ends ende
     subst (λ (l : List (Option Channel)). EndedBelow slots files (suc n) (ending_of l b.files b.told)) (sym ends.slots)
     (subst (λ (l : List ChannelEnd). EndedBelow slots files (suc n) (ending_of (slice_set a.slots n (Some c)) b.files l)) (sym ends.at) put)
 
-ends_below : (slots : List (Option Channel)) (files : RunFiles) (time : ℕ) (dump : Option (List ℕ)) (n : ℕ) (b : EndingMoment) → n ≤ channel_limit
+ends_below : (slots : List (Option Channel)) (files : FilesTold) (time : ℕ) (dump : Option (List ℕ)) (n : ℕ) (b : EndingMoment) → n ≤ channel_limit
     → InTurn (λ k. EndsSlotAt time dump k) n (ending_of slots files ends_idle) b → EndedBelow slots files n b
 ends_below slots files time dump zero b within same = subst (λ (m : EndingMoment). EndedBelow slots files 0 m) (sym same) (ended_none slots files)
 ends_below slots files time dump (suc n) b within turns =

@@ -6,20 +6,21 @@ use Rattle.std.proofs.lemmas.List.{length-set, map-set, set-get_or, get_or_past}
 use Rattle.std.proofs.lemmas.Option.{slice_get-map, slice_get-get_or, get_or_from_slice_get}
 use Rattle.daq_types.specs.declared.runs.Order.{Order}
 use Rattle.daq_types.specs.declared.runs.Why.{Why}
+use Rattle.daq_io.specs.Told.{FilesTold}
 use Rattle.buffer_core.specs.declared.entry.BufferEntry.{BufferEntry}
 use Rattle.buffer_core.specs.Ports.{Access, Calls}
 use Rattle.buffer_core.specs.Slots.{slot_at}
 use Rattle.buffer_core.proofs.SlotLaws.{slot_set_other}
 use Rattle.mid_logger.specs.declared.channel.Channel.{Channel}
 use Rattle.mid_logger.specs.declared.pulled.Pulled.{Pulled}
-use Rattle.loggers.specs.Moments.{RunFiles, LoggerMoment, ChannelStep, StepsChannel, StepsSlot, StepsAt, LeavesOthers, CallsBuffer}
+use Rattle.loggers.specs.Moments.{LoggerMoment, ChannelStep, StepsChannel, StepsSlot, StepsAt, LeavesOthers, CallsBuffer}
 use Rattle.loggers.specs.ChannelSteps.{OpensChannel, PullsChannel}
 use Rattle.loggers.specs.Finishing.{EndingMoment, EndsNumbered, EndsSlot}
 use Rattle.loggers.specs.SlotPulls.{PullsSlot}
 
 -- The lists.
 
-pub stepped : {P : Type 0} (Step : ChannelStep → Type 0) (access : P → Access) (n : ℕ) (before after : Channel) (slots : List (Option Channel)) (ports : List P) (p q : P) (files later : RunFiles) → slice_get ports before.spec.buffer ≡ Some p
+pub stepped : {P : Type 0} (Step : ChannelStep → Type 0) (access : P → Access) (n : ℕ) (before after : Channel) (slots : List (Option Channel)) (ports : List P) (p q : P) (files later : FilesTold) → slice_get ports before.spec.buffer ≡ Some p
     → Step (record { before = before; after = after; port = access p; later_port = access q; files = files; later_files = later })
     → StepsChannel Step n before (record { slots = slots; ports = map access ports; files = files }) (record { slots = slice_set slots n (Some after); ports = map access (slice_set ports before.spec.buffer q); files = later })
 stepped {P} Step access n before after slots ports p q files later there step = record {
@@ -66,7 +67,7 @@ none_left slots n = record { many = refl; at = λ m other. refl }
 
 -- One call on a port.
 
-pub called_at : {P : Type 0} (access : P → Access) (entry : BufferEntry) (buffer : ℕ) (slots : List (Option Channel)) (ports : List P) (p q : P) (files : RunFiles) → slice_get ports buffer ≡ Some p → Calls (access p) (access q) entry
+pub called_at : {P : Type 0} (access : P → Access) (entry : BufferEntry) (buffer : ℕ) (slots : List (Option Channel)) (ports : List P) (p q : P) (files : FilesTold) → slice_get ports buffer ≡ Some p → Calls (access p) (access q) entry
     → CallsBuffer entry buffer (record { slots = slots; ports = map access ports; files = files }) (record { slots = slots; ports = map access (slice_set ports buffer q); files = files })
 called_at {P} access entry buffer slots ports p q files there called = record {
   port = access p;
@@ -87,29 +88,29 @@ pub slot_ends : (time : ℕ) (dump : Option (List ℕ)) (n : ℕ) (slot : Option
 slot_ends time dump n slot before a b is ends = subst (λ (o : Option Channel). EndsSlot time dump n o a b) (sym is) ends
 
 -- the moments before and behind a step of a slot
-abbrev pub slot_before : (ports : List Access) → (files : RunFiles) → List (Option Channel) → LoggerMoment
+abbrev pub slot_before : (ports : List Access) → (files : FilesTold) → List (Option Channel) → LoggerMoment
 slot_before ports files slots = record { slots = slots; ports = ports; files = files }
 
-abbrev pub slot_behind : (later : Option Channel) → (ports : List Access) → (files : RunFiles) → List (Option Channel) → (number : ℕ) → LoggerMoment
+abbrev pub slot_behind : (later : Option Channel) → (ports : List Access) → (files : FilesTold) → List (Option Channel) → (number : ℕ) → LoggerMoment
 slot_behind later ports files slots number = record { slots = slice_set slots number later; ports = ports; files = files }
 
 -- a slot opens the run, whatever the other slots are
-abbrev pub OpensSlot : Order → (dump : List ℕ) → (slot later : Option Channel) → (ports later_ports : List Access) → (files later_files : RunFiles) → Type 0
+abbrev pub OpensSlot : Order → (dump : List ℕ) → (slot later : Option Channel) → (ports later_ports : List Access) → (files later_files : FilesTold) → Type 0
 OpensSlot order dump slot later ports later_ports files later_files =
     (slots : List (Option Channel)) → (number : ℕ) → slot_at slots number ≡ slot → StepsSlot (OpensChannel order dump (Ok tt)) number slot (slot_before ports files slots) (slot_behind later later_ports later_files slots number)
 
-abbrev pub RefusesSlot : Order → (dump : List ℕ) → (slot later : Option Channel) → (ports later_ports : List Access) → (files later_files : RunFiles) → Why → Type 0
+abbrev pub RefusesSlot : Order → (dump : List ℕ) → (slot later : Option Channel) → (ports later_ports : List Access) → (files later_files : FilesTold) → Why → Type 0
 RefusesSlot order dump slot later ports later_ports files later_files why =
     (c : Channel) × (slot ≡ Some c) × ((slots : List (Option Channel)) → (number : ℕ) → slot_at slots number ≡ slot → StepsChannel (OpensChannel order dump (Err why)) number c (slot_before ports files slots) (slot_behind later later_ports later_files slots number))
 
-pub slot_opens : {P : Type 0} (access : P → Access) (order : Order) (dump : List ℕ) (r : Result ⊤ Why) (slot : Option Channel) (before after : Channel) (ports : List P) (p q : P) (files later : RunFiles) → slot ≡ Some before → slice_get ports before.spec.buffer ≡ Some p
+pub slot_opens : {P : Type 0} (access : P → Access) (order : Order) (dump : List ℕ) (r : Result ⊤ Why) (slot : Option Channel) (before after : Channel) (ports : List P) (p q : P) (files later : FilesTold) → slot ≡ Some before → slice_get ports before.spec.buffer ≡ Some p
     → OpensChannel order dump r (record { before = before; after = after; port = access p; later_port = access q; files = files; later_files = later })
     → OnOk r (OpensSlot order dump slot (Some after) (map access ports) (map access (slice_set ports before.spec.buffer q)) files later)
 slot_opens {P} access order dump (Ok done) slot before after ports p q files later is there opens = λ slots number at.
     slot_steps (OpensChannel order dump (Ok tt)) number slot before _ _ is (stepped (OpensChannel order dump (Ok tt)) access number before after slots ports p q files later there opens)
 slot_opens {P} access order dump (Err why) slot before after ports p q files later is there opens = tt
 
-pub slot_refuses : {P : Type 0} (access : P → Access) (order : Order) (dump : List ℕ) (r : Result ⊤ Why) (slot : Option Channel) (before after : Channel) (ports : List P) (p q : P) (files later : RunFiles) → slot ≡ Some before → slice_get ports before.spec.buffer ≡ Some p
+pub slot_refuses : {P : Type 0} (access : P → Access) (order : Order) (dump : List ℕ) (r : Result ⊤ Why) (slot : Option Channel) (before after : Channel) (ports : List P) (p q : P) (files later : FilesTold) → slot ≡ Some before → slice_get ports before.spec.buffer ≡ Some p
     → OpensChannel order dump r (record { before = before; after = after; port = access p; later_port = access q; files = files; later_files = later })
     → IfErr r (RefusesSlot order dump slot (Some after) (map access ports) (map access (slice_set ports before.spec.buffer q)) files later)
 slot_refuses {P} access order dump (Ok done) slot before after ports p q files later is there opens = tt

@@ -101,11 +101,11 @@ bytes_told run run2 time ended place dump bytes one two three = rw (one, two, th
 
 -- where the name behind the last file was found taken, a file of it is there
 beyond_told : (turns : List MemberTurn) (slots : List (Option Channel)) (seen : Seen) (c : Channel) (a : Access) (stop : MemberTurn) (told : ChannelEnd) (l : LeftRun turns slots seen c a stop told) (run : ℕ) → told.state ≢ IsBroken → l.run.opened.run ≡ run
-    → (IsTrue seen.tells → IsTrue l.run.opened.at.taken → TakenStays slots seen (piece_name_by c.spec.pattern l.run.opened.run (l.run.opened.at.sub + 1))) → IsTrue l.run.opened.at.taken → IsTrue seen.tells → IsSome (seen.at (piece_name_by c.spec.pattern run told.files))
-beyond_told turns slots seen c a stop told l run whole run_is stays taken tells = rw (l.last whole, ← run_is) (stays tells taken).there
+    → (IsTrue seen.names → IsTrue l.run.opened.at.taken → TakenStays slots seen (piece_name_by c.spec.pattern l.run.opened.run (l.run.opened.at.sub + 1))) → IsTrue l.run.opened.at.taken → IsTrue seen.names → IsSome (seen.at (piece_name_by c.spec.pattern run told.files))
+beyond_told turns slots seen c a stop told l run whole run_is stays taken names = rw (l.last whole, ← run_is) (stays names taken).there
 
 left_written : (absent : ℕ) (turns : List MemberTurn) (slots : List (Option Channel)) (seen : Seen) (c : Channel) (a : Access) (stop : MemberTurn) (told : ChannelEnd) (l : LeftRun turns slots seen c a stop told) → told.state ≡ Ended
-    → (IsTrue seen.tells → IsTrue l.run.opened.at.taken → TakenStays slots seen (piece_name_by c.spec.pattern l.run.opened.run (l.run.opened.at.sub + 1))) → EndedParts l.run.ended stop.dump → HasWritten (logger_port (Some a)) turns seen (logger_channel absent c) stop told.files
+    → (IsTrue seen.names → IsTrue l.run.opened.at.taken → TakenStays slots seen (piece_name_by c.spec.pattern l.run.opened.run (l.run.opened.at.sub + 1))) → EndedParts l.run.ended stop.dump → HasWritten (logger_port (Some a)) turns seen (logger_channel absent c) stop told.files
 left_written absent turns slots seen c a stop told l state stays parts =
     let run : BegunRun = l.run in
     let time : ℕ = stop.order.time in
@@ -223,7 +223,7 @@ end_told ends n m x y same first second = cc (same, first, second)
 -- what was told at a stop, of a channel whose run was left so
 record ToldAs (turns : List MemberTurn) (slots : List (Option Channel)) (seen : Seen) (c : Channel) (port : Access) (stop : MemberTurn) (told : ChannelEnd) : Type 0 where
   left : LeftRun turns slots seen c port stop told
-  taken : IsTrue seen.tells → IsTrue left.run.opened.at.taken → TakenStays slots seen (piece_name_by c.spec.pattern left.run.opened.run (left.run.opened.at.sub + 1))
+  taken : IsTrue seen.names → IsTrue left.run.opened.at.taken → TakenStays slots seen (piece_name_by c.spec.pattern left.run.opened.run (left.run.opened.at.sub + 1))
 
 told_as : (turns : List MemberTurn) (slots : List (Option Channel)) (seen : Seen) (n : ℕ) (c : Channel) (a : Access) (stop : MemberTurn) (ends : List ChannelEnd) (told : ChannelEnd) (so : ToldSo turns slots seen n c a stop ends) → so.told ≡ told → ToldAs turns slots seen c a stop told
 told_as turns slots seen n c a stop ends told so same =

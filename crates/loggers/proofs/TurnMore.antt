@@ -63,7 +63,7 @@ told_as turns later slots seen n c a stop ends heads so =
       told = so.told;
       at = so.at;
       left = both.0;
-      taken = subst (λ (r : BegunRun). IsTrue seen.tells → IsTrue r.opened.at.taken → TakenStays slots seen (piece_name_by c.spec.pattern r.opened.run (r.opened.at.sub + 1))) (sym both.1) so.taken;
+      taken = subst (λ (r : BegunRun). IsTrue seen.names → IsTrue r.opened.at.taken → TakenStays slots seen (piece_name_by c.spec.pattern r.opened.run (r.opened.at.sub + 1))) (sym both.1) so.taken;
     }
 
 -- the turn tells no ends of channels

@@ -4,6 +4,7 @@ use Rattle.daq_types.specs.declared.runs.ChannelEnd.{ChannelEnd}
 use Rattle.daq_types.specs.declared.runs.Order.{Order}
 use Rattle.daq_types.specs.declared.runs.Why.{Why}
 use Rattle.daq_types.specs.declared.runs.Why.TheVariants.{Exists}
+use Rattle.daq_io.specs.Told.{FilesTold}
 use Rattle.mid_logger.specs.declared.channel.Channel.{Channel}
 use Rattle.mid_logger.specs.declared.pulled.Pulled.{Pulled}
 use Rattle.mid_logger.specs.declared.stage.ChannelStage.TheVariants.{Idle}
@@ -12,7 +13,7 @@ use Rattle.mid_logger.specs.Channels.{IsLastOpen, channel_run, written_run, file
 use Rattle.mid_logger.specs.Pulls.{Pulls, PullFaults, PullNames, RisesWith, open_name, name_behind, failed_by}
 use Rattle.mid_logger.specs.ChannelTurns.{OpensBy, OpenFaults, OpenClashes, OpenFirst, NotesFault, asking_run, drained_run}
 use Rattle.mid_logger.specs.ChannelEnds.{CancelsStanding, RemovesRun, NamesRun, ClosesFile, EndNames, end_of, stage_settled}
-use Rattle.loggers.specs.Moments.{RunFiles, ChannelStep}
+use Rattle.loggers.specs.Moments.{ChannelStep}
 
 -- The run of this order is opened, or that is refused. Where names are told, it is refused as taken exactly where there
 -- was a file of its name.
@@ -34,7 +35,7 @@ pub record OpensChannel (order : Order) (dump : List ℕ) (result : Result ⊤ W
         files = s.later_files.seen;
         faults = s.later_files.faults;
       })
-  pub exists : IsTrue s.files.seen.tells →
+  pub exists : IsTrue s.files.seen.names →
       (IsErrOf result (Exists s.before.spec.number)
       ↔ IsSome (s.files.seen.at (file_name_by s.before.spec.pattern order.run)))
   pub failed : NotesFault s.before.failed s.after.failed s.files.faults s.later_files.faults
@@ -78,7 +79,7 @@ pub record PullsChannel (dump : List ℕ) (answer : Pulled) (s : ChannelStep) : 
       (name_behind s.before.spec (written_run s.before.stage)) s.files.first s.later_files.first
 
 -- The files of a channel are ended, and this is told of it. Nothing is called on a port.
-pub record EndsChannel (time : ℕ) (dump : Option (List ℕ)) (told : ChannelEnd) (before after : Channel) (files later_files : RunFiles) : Type 0 where
+pub record EndsChannel (time : ℕ) (dump : Option (List ℕ)) (told : ChannelEnd) (before after : Channel) (files later_files : FilesTold) : Type 0 where
   pub channel : after ≡ record before { stage = stage_settled before.stage; failed = after.failed }
   pub told_is : told ≡ end_of before.stage told.state
   pub ends : ClosesFile (drained_run before.stage) before.stage told.state time dump files.seen later_files.seen

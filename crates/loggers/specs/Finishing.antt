@@ -3,6 +3,7 @@ use Rattle.std.specs.Prelude.{◌≡◌, ℕ, Bool, true, false, List, length, r
 use Rattle.std.specs.List.{list_all}
 use Rattle.daq_types.specs.declared.runs.ChannelEnd.{ChannelEnd}
 use Rattle.daq_types.specs.declared.runs.ChannelState.TheVariants.{Idle as IsIdle}
+use Rattle.daq_io.specs.Told.{FilesTold}
 use Rattle.member_model.specs.RunEngines.{Answer}
 use Rattle.transitions.specs.declared.answers.Answer.TheVariants.{Yes}
 use Rattle.transitions.specs.declared.answers.Tally.TheVariants.{Channels}
@@ -15,7 +16,7 @@ use Rattle.loggers.specs.declared.logged_run.LoggedRun.{LoggedRun}
 use Rattle.loggers.specs.declared.logged_run.RunDumps.{RunDumps}
 use Rattle.loggers.specs.declared.logged_run.RunPart.{RunPart}
 use Rattle.loggers.specs.declared.logged_run.RunPart.TheVariants.{Stopping}
-use Rattle.loggers.specs.Moments.{RunFiles, InTurn, channel_limit}
+use Rattle.loggers.specs.Moments.{InTurn, channel_limit}
 use Rattle.loggers.specs.Turning.{no_dumps}
 use Rattle.loggers.specs.ChannelSteps.{EndsChannel}
 
@@ -41,10 +42,10 @@ waiting_stop (Some r) = stop_time r.part
 -- The channels, the files, and what is told of the channels, between two steps of an ending.
 pub record EndingMoment : Type 0 where
   pub slots : List (Option Channel)
-  pub files : RunFiles
+  pub files : FilesTold
   pub told : List ChannelEnd
 
-abbrev pub ending_of : List (Option Channel) → RunFiles → (told : List ChannelEnd) → EndingMoment
+abbrev pub ending_of : List (Option Channel) → FilesTold → (told : List ChannelEnd) → EndingMoment
 ending_of slots files told = record { slots = slots; files = files; told = told }
 
 -- The files of this channel, which has this number, are ended, and what became of them is told at its number.
@@ -71,12 +72,12 @@ pub record LoggerFinish : Type 0 where
   pub later_dumps : RunDumps
   pub slots : List (Option Channel)
   pub later_slots : List (Option Channel)
-  pub files : RunFiles
-  pub later_files : RunFiles
+  pub files : FilesTold
+  pub later_files : FilesTold
   pub answer : Option Answer
 
 -- a call to finish with its answer, by the logger and the run files before it and behind it
-abbrev pub logger_finished : {F : Type 0} → (read : F → RunFiles) → (before after : Logger) → (files later_files : F) →
+abbrev pub logger_finished : {F : Type 0} → (read : F → FilesTold) → (before after : Logger) → (files later_files : F) →
     (answer : Option Answer) → LoggerFinish
 logger_finished read before after files later_files answer = record {
   run = before.run;

@@ -6,6 +6,7 @@ use Rattle.daq_types.specs.declared.runs.Transition.TheVariants.{Stop, StartAbor
 use Rattle.daq_types.specs.declared.runs.Why.TheVariants.{Exists}
 use Rattle.daq_io.specs.Counts.{Rose}
 use Rattle.daq_io.specs.Seen.{Seen, Stored}
+use Rattle.daq_io.specs.Told.{FilesTold}
 use Rattle.buffer_core.specs.Ports.{Access}
 use Rattle.buffer_core.specs.Slots.{slot_at}
 use Rattle.daq_types.specs.declared.runs.ChannelEnd.{ChannelEnd}
@@ -21,7 +22,7 @@ use Rattle.mid_logger.specs.Channels.{channel_run, files_by as files_made}
 use Rattle.sub_files.specs.Patterns.{piece_name_by}
 use Rattle.loggers.specs.declared.logged_run.LoggedRun.{LoggedRun}
 use Rattle.loggers.specs.declared.logged_run.RunDumps.{RunDumps}
-use Rattle.loggers.specs.Moments.{RunFiles, LoggerMoment, HaveFilesOpen, IsLoggerReady, channel_limit}
+use Rattle.loggers.specs.Moments.{LoggerMoment, HaveFilesOpen, IsLoggerReady, channel_limit}
 use Rattle.loggers.specs.SlotPulls.{PullsNumbered}
 use Rattle.loggers.specs.Turning.{LoggerTurn, TakesTurn, IsIdleOutside}
 use Rattle.loggers.specs.Finishing.{LoggerFinish, FinishesLogger, waiting_stop}
@@ -47,7 +48,7 @@ pub record NamesLeft (Good : (name : List ℕ) → Option Stored → Type 0) (sl
   pub fresh : (name : List ℕ) → IsOpenName slots name → Good name None
 
 -- no fault was counted meanwhile
-abbrev pub NoneRose : (old new : RunFiles) → Type 0
+abbrev pub NoneRose : (old new : FilesTold) → Type 0
 NoneRose old new = Rose old.faults new.faults → ⊥
 
 -- the run with this number was started, which was accepted, and stopped, and this was told of its channels
@@ -110,21 +111,21 @@ AreTaken specs first (t ∷ ts) =
 -- A logger with these channels and these turns, whose run files were so at first, and are so now: where names are told, and
 -- no fault was counted, it left all names so but those of the runs that it has. A start that was refused, or called off,
 -- left nothing; and it was refused for a name only where that was taken.
-pub record KeepsNames (slots : List (Option Channel)) (first now : RunFiles) (turns : List MemberTurn) : Type 0 where
-  pub tells : now.seen.tells ≡ first.seen.tells
-  pub names : IsTrue first.seen.tells → NoneRose first now →
+pub record KeepsNames (slots : List (Option Channel)) (first now : FilesTold) (turns : List MemberTurn) : Type 0 where
+  pub told : now.seen.names ≡ first.seen.names
+  pub names : IsTrue first.seen.names → NoneRose first now →
       NamesLeft (IsNameLeft (specs_in slots) turns first.seen) slots now.seen
-  pub taken : IsTrue first.seen.tells → NoneRose first now → AreTaken (specs_in slots) first.seen turns
+  pub taken : IsTrue first.seen.names → NoneRose first now → AreTaken (specs_in slots) first.seen turns
 
 -- A turn and a pull keep that.
 abbrev pub TurnsKeepNames : Type 0
-TurnsKeepNames = (t : LoggerTurn) → (first : RunFiles) → (turns : List MemberTurn) → TakesTurn t →
+TurnsKeepNames = (t : LoggerTurn) → (first : FilesTold) → (turns : List MemberTurn) → TakesTurn t →
     IsIdleOutside t.run t.before.slots →
     GivesReasons t.before.slots t.before.ports first t.before.files turns → KeepsNames t.before.slots first t.before.files turns →
     KeepsNames t.after.slots first t.after.files (logger_turn t.transition t.order t.dump t.answer ∷ turns)
 
 abbrev pub PullsKeepNames : Type 0
-PullsKeepNames = (dump : List ℕ) → (number : ℕ) → (answer : Pulled) → (a b : LoggerMoment) → (first : RunFiles) →
+PullsKeepNames = (dump : List ℕ) → (number : ℕ) → (answer : Pulled) → (a b : LoggerMoment) → (first : FilesTold) →
     (turns : List MemberTurn) → PullsNumbered dump number answer a b → IsLoggerReady a.slots a.ports a.files.seen →
     KeepsNames a.slots first a.files turns → KeepsNames b.slots first b.files turns
 
@@ -157,7 +158,7 @@ PullsKeepStopped = (dump : List ℕ) → (number : ℕ) → (answer : Pulled) �
 -- Then a call to finish keeps the names: the files that it ends are those of a run that was stopped, and it tells how many these
 -- are, where the channels are no more than are told of.
 abbrev pub FinishesKeepNames : Type 0
-FinishesKeepNames = (f : LoggerFinish) → (first : RunFiles) → (turns : List MemberTurn) → FinishesLogger f →
+FinishesKeepNames = (f : LoggerFinish) → (first : FilesTold) → (turns : List MemberTurn) → FinishesLogger f →
     length f.slots ≤ channel_limit → HaveFilesOpen f.slots f.files.seen → HaveStoppedRuns f.run f.dumps.stop f.slots turns →
     KeepsNames f.slots first f.files turns →
     KeepsNames f.later_slots first f.later_files (latest_answered turns f.answer)

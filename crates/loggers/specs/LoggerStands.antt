@@ -136,7 +136,7 @@ pub record ChannelKept (IsHeadOf : ChannelRun → FileHead → Type 0) (seen : S
 -- names are told, and the last ones are under two numbers.
 pub record SlotsApart (seen : Seen) (c d : Channel) : Type 0 where
   pub clients : c.spec.buffer ≡ d.spec.buffer → (m n : ℕ) → c.client ≡ Some m → d.client ≡ Some n → m ≢ n
-  pub names : (r s : ChannelRun) → channel_run c.stage ≡ Some r → channel_run d.stage ≡ Some s → IsTrue seen.tells →
+  pub names : (r s : ChannelRun) → channel_run c.stage ≡ Some r → channel_run d.stage ≡ Some s → IsTrue seen.names →
       (i j : ℕ) → i < files_made c.stage → j < files_made d.stage →
       piece_name_by c.spec.pattern r.run i ≢ piece_name_by d.spec.pattern s.run j
   pub numbers : HaveNumbersApart (written_run c.stage) (written_run d.stage)
@@ -185,7 +185,7 @@ pub record LeftRun (turns : List MemberTurn) (slots : List (Option Channel)) (se
   pub framed : AreFramedSo told.state told.files told.framed
   pub few : told.files ≤ suc last_number
   pub left : HasLeftRead told c.spec head run stop.order.time stop.dump port.own port.got seen
-  pub apart : IsTrue seen.tells → (i : ℕ) → i < told.files → IsNoOpenName slots (piece_name_by c.spec.pattern run.opened.run i)
+  pub apart : IsTrue seen.names → (i : ℕ) → i < told.files → IsNoOpenName slots (piece_name_by c.spec.pattern run.opened.run i)
   pub last : told.state ≢ IsBroken → told.files ≡ run.opened.at.sub + 1
 
 -- the stop turn was answered, and this was told of the channels
@@ -200,7 +200,7 @@ pub record ToldSo (turns : List MemberTurn) (slots : List (Option Channel)) (see
   pub told : ChannelEnd
   pub at : slice_get ends number ≡ Some told
   pub left : LeftRun turns slots seen c port stop told
-  pub taken : IsTrue seen.tells → IsTrue left.run.opened.at.taken →
+  pub taken : IsTrue seen.names → IsTrue left.run.opened.at.taken →
       TakenStays slots seen (piece_name_by c.spec.pattern left.run.opened.run (left.run.opened.at.sub + 1))
 
 -- What the channels and the ports keep, whatever run the logger has.

@@ -2,6 +2,7 @@
 use Rattle.std.specs.Prelude.{◌≡◌, ◌≢◌, ◌≤◌, ◌<◌, ◌==◌, ℕ, zero, suc, if◌then◌else◌, List, length, map, slice_get, slice_set, Option, Some, None}
 use Rattle.std.specs.Option.{option_map}
 use Rattle.daq_io.specs.Seen.{Seen}
+use Rattle.daq_io.specs.Told.{FilesTold}
 use Rattle.buffer_core.specs.declared.entry.BufferEntry.{BufferEntry}
 use Rattle.buffer_core.specs.Ports.{Access, Calls}
 use Rattle.buffer_core.specs.Slots.{slot_at}
@@ -12,27 +13,14 @@ use Rattle.mid_logger.specs.declared.stage.ChannelStage.TheVariants.{Idle}
 use Rattle.sub_files.specs.Cuts.{last_number}
 use Rattle.mid_logger.specs.Channels.{IsLastOpen, written_run, files_by as files_made}
 
--- The run files: what is told of them, the counts of faults and of clashes, and the name of the first fault.
-pub record RunFiles : Type 0 where
-  pub seen : Seen
-  pub faults : ℕ
-  pub clashes : ℕ
-  pub first : Option (List ℕ)
-
 -- The channels, each at its number; the ports, each at its buffer's number; and the run files.
 pub record LoggerMoment : Type 0 where
   pub slots : List (Option Channel)
   pub ports : List Access
-  pub files : RunFiles
+  pub files : FilesTold
 
-abbrev pub moment_of : List (Option Channel) → List Access → RunFiles → LoggerMoment
+abbrev pub moment_of : List (Option Channel) → List Access → FilesTold → LoggerMoment
 moment_of slots ports files = record { slots = slots; ports = ports; files = files }
-
--- run files, by what is told of them, their counts of faults and of clashes, and the name of the first fault
-abbrev pub files_by : {F : Type 0} → (seen : F → Seen) → (faults clashes : F → ℕ) → (first : F → Option (List ℕ)) → F →
-    RunFiles
-files_by seen faults clashes first files =
-    record { seen = seen files; faults = faults files; clashes = clashes files; first = first files }
 
 -- The steps of the numbers from 0 on, so many, were done one after another.
 abbrev pub InTurn : {M : Type 0} → (Step : ℕ → M → M → Type 0) → (count : ℕ) → (a b : M) → Type 0
@@ -47,8 +35,8 @@ pub record ChannelStep : Type 0 where
   pub after : Channel
   pub port : Access
   pub later_port : Access
-  pub files : RunFiles
-  pub later_files : RunFiles
+  pub files : FilesTold
+  pub later_files : FilesTold
 
 -- every channel with another number stays, and no number is added
 pub record LeavesOthers (number : ℕ) (before after : List (Option Channel)) : Type 0 where

@@ -3,7 +3,7 @@
 use Rattle.std.specs.Prelude.{◌≡◌, ◌≤◌, ℕ, List, length, map, Contains, Option, Some}
 use Rattle.std.specs.Option.{option_map}
 use Rattle.daq_types.specs.declared.runs.Transition.TheVariants.{Start}
-use Rattle.daq_io.specs.Seen.{Seen}
+use Rattle.daq_io.specs.Seen.{GoesOn, Seen}
 use Rattle.buffer_core.specs.Slots.{slot_at}
 use Rattle.mid_logger.specs.declared.channel.Channel.{Channel}
 use Rattle.mid_logger.specs.declared.channel_spec.ChannelSpec.{ChannelSpec}
@@ -44,9 +44,10 @@ abbrev pub HaveRunsAmong : (runs : List ℕ) → List (Option Channel) → Type 
 HaveRunsAmong runs slots = (n : ℕ) → (c : Channel) → (opened : ChannelRun) → slot_at slots n ≡ Some c →
     channel_run c.stage ≡ Some opened → Contains runs opened.run
 
--- Each file of another name is as it was.
+-- Each file of another name is as it was, and what was done before still stands.
 pub record KeepsOtherFiles (specs : List (Option ChannelSpec)) (runs : List ℕ) (old new : Seen) : Type 0 where
-  pub tells : new.tells ≡ old.tells
+  pub told : new.names ≡ old.names
+  pub on : GoesOn old new
   pub others : (name : List ℕ) → (IsRunName specs runs name → ⊥) → new.at name ≡ old.at name
 
 -- The channels are the same, their runs are among these, and at most their files in these runs changed.

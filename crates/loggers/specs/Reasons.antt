@@ -9,6 +9,7 @@ use Rattle.daq_types.specs.declared.runs.Transition.TheVariants.{Start, Stop}
 use Rattle.daq_types.specs.declared.runs.Why.{Why}
 use Rattle.daq_types.specs.declared.runs.Why.TheVariants.{NotReady, Exists, Fault, BufferRefused}
 use Rattle.daq_io.specs.Counts.{Rose, RoseBy}
+use Rattle.daq_io.specs.Told.{FilesTold}
 use Rattle.member_model.specs.RunEngines.{Answer}
 use Rattle.transitions.specs.declared.answers.Answer.TheVariants.{Yes, No}
 use Rattle.transitions.specs.declared.answers.Tally.TheVariants.{Plain, Channels}
@@ -20,7 +21,7 @@ use Rattle.buffer_core.specs.Slots.{slot_at}
 use Rattle.mid_logger.specs.declared.channel.Channel.{Channel}
 use Rattle.mid_logger.specs.declared.channel_spec.ChannelSpec.{ChannelSpec}
 use Rattle.mid_logger.specs.declared.pulled.Pulled.{Pulled}
-use Rattle.loggers.specs.Moments.{RunFiles, LoggerMoment, channel_limit}
+use Rattle.loggers.specs.Moments.{LoggerMoment, channel_limit}
 use Rattle.loggers.specs.SlotPulls.{PullsNumbered}
 use Rattle.loggers.specs.Turning.{LoggerTurn, TakesTurn}
 use Rattle.loggers.specs.Finishing.{LoggerFinish, FinishesLogger}
@@ -30,36 +31,36 @@ use Rattle.loggers.specs.ToldCounts.{clashes_of_answer, count_in_answer, faults_
 
 -- Between these two moments of the run files a start may be refused so: for a name, where a clash of names was counted; and
 -- for a fault, where a fault was. A logger that has a run, or that a buffer refuses, does not look at the files.
-abbrev pub IsReasonSo : Why → (old new : RunFiles) → Type 0
+abbrev pub IsReasonSo : Why → (old new : FilesTold) → Type 0
 IsReasonSo NotReady old new = ⊤
 IsReasonSo (Exists channel) old new = Rose old.clashes new.clashes
 IsReasonSo (Fault channel) old new = Rose old.faults new.faults
 IsReasonSo BufferRefused old new = ⊤
 
 -- where one of these channels is told to have broken off, a fault was counted
-abbrev pub AreEndsSo : List ChannelEnd → (old new : RunFiles) → Type 0
+abbrev pub AreEndsSo : List ChannelEnd → (old new : FilesTold) → Type 0
 AreEndsSo ends old new = (number : ℕ) → (told : ChannelEnd) → slice_get ends number ≡ Some told → told.state ≡ IsBroken →
     Rose old.faults new.faults
 
 -- Between these two moments of the run files a turn may be answered so.
-abbrev pub IsAnswerSo : Answer → (old new : RunFiles) → Type 0
+abbrev pub IsAnswerSo : Answer → (old new : FilesTold) → Type 0
 IsAnswerSo (No why) old new = IsReasonSo why old new
 IsAnswerSo (Yes (Channels ends)) old new = AreEndsSo ends old new
 IsAnswerSo (Yes tally) old new = ⊤
 
 -- each of these turns that was answered was answered so
-abbrev pub AreAnswersSo : List MemberTurn → (old new : RunFiles) → Type 0
+abbrev pub AreAnswersSo : List MemberTurn → (old new : FilesTold) → Type 0
 AreAnswersSo turns old new =
     (t : MemberTurn) → (answer : Answer) → HasTurn turns t → t.answer ≡ Some answer → IsAnswerSo answer old new
 
 -- Between these two moments of the run files neither of their counts fell.
-pub record NoneFell (old new : RunFiles) : Type 0 where
+pub record NoneFell (old new : FilesTold) : Type 0 where
   pub faults : RoseBy 0 old.faults new.faults
   pub clashes : RoseBy 0 old.clashes new.clashes
 
 -- A start may be answered so in a turn between these two moments of the run files: accepted where no fault and no clash was
 -- counted between them, and refused for a fault or for a name where one was.
-abbrev pub IsStartSo : Answer → (before behind : RunFiles) → Type 0
+abbrev pub IsStartSo : Answer → (before behind : FilesTold) → Type 0
 IsStartSo (No why) before behind = IsReasonSo why before behind
 IsStartSo (Yes Plain) before behind = (behind.faults ≡ before.faults) × (behind.clashes ≡ before.clashes)
 IsStartSo (Yes tally) before behind = ⊤
@@ -70,13 +71,13 @@ HaveNoLimit specs = (place : ℕ) → (spec : ChannelSpec) → slot_at specs pla
 
 -- Between these two moments of the run files neither of their counts fell, and no clash was counted, unless a channel has a limit,
 -- which may find the name of its next file taken.
-pub record NoneClashed (specs : List (Option ChannelSpec)) (old new : RunFiles) : Type 0 where
+pub record NoneClashed (specs : List (Option ChannelSpec)) (old new : FilesTold) : Type 0 where
   pub fell : NoneFell old new
   pub clashes : HaveNoLimit specs → new.clashes ≡ old.clashes
 
 -- The turn of a logger with these channels may have stood between these two moments of the run files, and this may be a later one: a
 -- clash was counted in the turn only where a start was refused for a name, and none behind it, but for a next file's name.
-pub record IsTurnSo (specs : List (Option ChannelSpec)) (t : MemberTurn) (before behind now : RunFiles) : Type 0 where
+pub record IsTurnSo (specs : List (Option ChannelSpec)) (t : MemberTurn) (before behind now : FilesTold) : Type 0 where
   pub start : t.transition ≡ Start → (answer : Answer) → t.answer ≡ Some answer → IsStartSo answer before behind
   pub within : NoneFell before behind
   pub clashes : count_in_answer clashes_of_answer t.answer ≡ 0 → behind.clashes ≡ before.clashes
@@ -84,10 +85,10 @@ pub record IsTurnSo (specs : List (Option ChannelSpec)) (t : MemberTurn) (before
 
 -- There are moments of the run files, one after another from the first of these to the other, between which the turns may have
 -- stood in order. The latest turn stands first.
-abbrev pub AreTurnsSo : List (Option ChannelSpec) → List MemberTurn → (first now : RunFiles) → Type 0
+abbrev pub AreTurnsSo : List (Option ChannelSpec) → List MemberTurn → (first now : FilesTold) → Type 0
 AreTurnsSo specs [] first now = NoneClashed specs first now
 AreTurnsSo specs (t ∷ ts) first now =
-    (before : RunFiles) × ((behind : RunFiles) × (AreTurnsSo specs ts first before × IsTurnSo specs t before behind now))
+    (before : FilesTold) × ((behind : FilesTold) × (AreTurnsSo specs ts first before × IsTurnSo specs t before behind now))
 
 -- a call to attach a client, to make a request or to begin a run was refused on one of these ports
 pub record HasRefusedAsk (ports : List Access) : Type 0 where
@@ -136,7 +137,7 @@ pub record AnswerFits (specs : List (Option ChannelSpec)) (transition : Transiti
 -- one; and a clash for each start that it refused for a name. And no fault was counted where there is none of these, and no turn
 -- undid what was opened; nor was a clash but in turns that were refused for a name, or for the name of a next file. Each answer fits
 -- its turn; the channels are no more than are told of. And a start was refused for a buffer only where that refused a call.
-pub record GivesReasons (slots : List (Option Channel)) (ports : List Access) (first now : RunFiles) (turns : List MemberTurn) : Type 0 where
+pub record GivesReasons (slots : List (Option Channel)) (ports : List Access) (first now : FilesTold) (turns : List MemberTurn) : Type 0 where
   pub faults : RoseBy (faults_told turns + broken_off slots) first.faults now.faults
   pub clashes : RoseBy (clashes_told turns) first.clashes now.clashes
   pub no_fault : faults_told turns + starts_undone turns + broken_off slots ≡ 0 → now.faults ≡ first.faults
@@ -147,12 +148,12 @@ pub record GivesReasons (slots : List (Option Channel)) (ports : List Access) (f
 
 -- So each answer that it gave was such.
 abbrev pub ReasonsTell : Type 0
-ReasonsTell = (slots : List (Option Channel)) → (ports : List Access) → (first now : RunFiles) →
+ReasonsTell = (slots : List (Option Channel)) → (ports : List Access) → (first now : FilesTold) →
     (turns : List MemberTurn) → GivesReasons slots ports first now turns → AreAnswersSo turns first now
 
 -- So no clash was counted where the turns tell of none, and no channel has a limit.
 abbrev pub ClashesAreTold : Type 0
-ClashesAreTold = (slots : List (Option Channel)) → (ports : List Access) → (first now : RunFiles) →
+ClashesAreTold = (slots : List (Option Channel)) → (ports : List Access) → (first now : FilesTold) →
     (turns : List MemberTurn) → GivesReasons slots ports first now turns → HaveNoLimit (specs_in slots) →
     clashes_told turns ≡ 0 → now.clashes ≡ first.clashes
 
@@ -163,16 +164,16 @@ IsLatestOpen (t ∷ ts) = t.answer ≡ None
 
 -- A turn keeps that, and so do a pull, and a call to finish while the latest turn is not answered.
 abbrev pub TurnsGiveReasons : Type 0
-TurnsGiveReasons = (t : LoggerTurn) → (first : RunFiles) → (turns : List MemberTurn) → TakesTurn t →
+TurnsGiveReasons = (t : LoggerTurn) → (first : FilesTold) → (turns : List MemberTurn) → TakesTurn t →
     GivesReasons t.before.slots t.before.ports first t.before.files turns →
     GivesReasons t.after.slots t.after.ports first t.after.files (logger_turn t.transition t.order t.dump t.answer ∷ turns)
 
 abbrev pub PullsGiveReasons : Type 0
-PullsGiveReasons = (dump : List ℕ) → (number : ℕ) → (answer : Pulled) → (a b : LoggerMoment) → (first : RunFiles) →
+PullsGiveReasons = (dump : List ℕ) → (number : ℕ) → (answer : Pulled) → (a b : LoggerMoment) → (first : FilesTold) →
     (turns : List MemberTurn) → PullsNumbered dump number answer a b →
     GivesReasons a.slots a.ports first a.files turns → GivesReasons b.slots b.ports first b.files turns
 
 abbrev pub FinishesGiveReasons : Type 0
-FinishesGiveReasons = (f : LoggerFinish) → (ports : List Access) → (first : RunFiles) → (turns : List MemberTurn) →
+FinishesGiveReasons = (f : LoggerFinish) → (ports : List Access) → (first : FilesTold) → (turns : List MemberTurn) →
     FinishesLogger f → IsLatestOpen turns → GivesReasons f.slots ports first f.files turns →
     GivesReasons f.later_slots ports first f.later_files (latest_answered turns f.answer)

@@ -6,6 +6,7 @@ use Rattle.daq_types.specs.declared.runs.Transition.TheVariants.{Start, Stop, Pa
 use Rattle.daq_types.specs.declared.runs.Why.{Why}
 use Rattle.daq_types.specs.declared.runs.Why.TheVariants.{NotReady, BufferRefused}
 use Rattle.event.specs.Events.{record_limit}
+use Rattle.daq_io.specs.Told.{FilesTold}
 use Rattle.buffer_core.specs.declared.replies.MarkRefusal.{MarkRefusal}
 use Rattle.buffer_core.specs.declared.entry.BufferEntry.TheVariants.{Begin, Pause as PausesRun, Resume as ResumesRun, End}
 use Rattle.buffer_core.specs.Ports.{Access}
@@ -20,7 +21,7 @@ use Rattle.loggers.specs.declared.logged_run.LoggedRun.{LoggedRun}
 use Rattle.loggers.specs.declared.logged_run.RunDumps.{RunDumps}
 use Rattle.loggers.specs.declared.logged_run.RunPart.{RunPart}
 use Rattle.loggers.specs.declared.logged_run.RunPart.TheVariants.{Refused, Started, Stopping}
-use Rattle.loggers.specs.Moments.{RunFiles, LoggerMoment, moment_of, InTurn, StepsChannel, StepsAt, CallsBuffer, MarksBuffer, AreIdleChannels}
+use Rattle.loggers.specs.Moments.{LoggerMoment, moment_of, InTurn, StepsChannel, StepsAt, CallsBuffer, MarksBuffer, AreIdleChannels}
 use Rattle.loggers.specs.ChannelSteps.{OpensChannel, AbortsChannel}
 
 -- Marks.
@@ -74,7 +75,7 @@ pub record LoggerTurn : Type 0 where
   pub after : LoggerMoment
 
 -- a turn with its answer, by the logger, what it knows of its ports, and the run files, before it and behind it
-abbrev pub logger_turned : {F : Type 0} → (read : F → RunFiles) → Transition → Order → (dump : Option (List ℕ)) →
+abbrev pub logger_turned : {F : Type 0} → (read : F → FilesTold) → Transition → Order → (dump : Option (List ℕ)) →
     (answer : Option Answer) → (before after : Logger) → (ports later_ports : List Access) → (files later_files : F) → LoggerTurn
 logger_turned read transition order dump answer before after ports later_ports files later_files = record {
   transition = transition;

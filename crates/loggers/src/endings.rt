@@ -5,7 +5,7 @@ ghost use Rattle.event.specs.Events.{record_limit};
 ghost use Rattle.buffer_core.specs.Slots.{slot_at};
 ghost use Rattle.mid_logger.specs.declared.channel.Channel.{Channel as a_channel};
 ghost use Rattle.mid_logger.specs.Channels.{IsLastOpen, written_run};
-ghost use Rattle.loggers.specs.Moments.{files_by, HaveFilesOpen};
+ghost use Rattle.loggers.specs.Moments.{HaveFilesOpen};
 ghost use Rattle.loggers.specs.Finishing.{EndsSlot, EndsSlotAt, EndsSlots, ending_of, ends_idle, waiting_stop};
 
 use crate::logged_run::{LoggedRun, RunPart};
@@ -38,13 +38,11 @@ fn end_slot<F: Files>(
 )
     requires number { number < 16 }
     requires file { (c : a_channel) → slot.old ≡ Some c →
-        IsLastOpen (F.seen files.old) c.spec (written_run c.stage) }
+        IsLastOpen (F.told files.old).seen c.spec (written_run c.stage) }
     requires small { IfSome dump.now (λ bytes. length bytes ≤ record_limit) }
     ensures ends { (slots : List (Option a_channel)) → slot_at slots number ≡ slot.old →
-        EndsSlot time dump.now number slot.old
-        (ending_of slots (files_by F.seen F.faults F.clashes F.first files.old) ends.old)
-        (ending_of (slice_set slots number slot.new)
-        (files_by F.seen F.faults F.clashes F.first files.new) ends.new) }
+        EndsSlot time dump.now number slot.old (ending_of slots (F.told files.old) ends.old)
+        (ending_of (slice_set slots number slot.new) (F.told files.new) ends.new) }
 {
     if let Some(channel) = slot {
         ends[number] = channel.close(files, time, dump);
@@ -61,12 +59,11 @@ fn end_file_at<F: Files>(
     dump: &Option<Bytes>,
 )
     requires number { number < 16 }
-    requires files { HaveFilesOpen slots.old (F.seen files.old) }
+    requires files { HaveFilesOpen slots.old (F.told files.old).seen }
     requires small { IfSome dump.now (λ bytes. length bytes ≤ record_limit) }
-    ensures ends { EndsSlotAt time dump.now number
-        (ending_of slots.old (files_by F.seen F.faults F.clashes F.first files.old) ends.old)
-        (ending_of slots.new (files_by F.seen F.faults F.clashes F.first files.new) ends.new) }
-    ensures files { HaveFilesOpen slots.new (F.seen files.new) }
+    ensures ends { EndsSlotAt time dump.now number (ending_of slots.old (F.told files.old) ends.old)
+        (ending_of slots.new (F.told files.new) ends.new) }
+    ensures files { HaveFilesOpen slots.new (F.told files.new).seen }
     ensures many { length slots.new ≡ length slots.old }
 {
     channel_laws::closes_kept();
@@ -83,12 +80,11 @@ pub fn end_files<F: Files>(
     dump: &Option<Bytes>,
 ) -> Ends
     requires many { length slots.old ≤ 16 }
-    requires files { HaveFilesOpen slots.old (F.seen files.old) }
+    requires files { HaveFilesOpen slots.old (F.told files.old).seen }
     requires small { IfSome dump.now (λ bytes. length bytes ≤ record_limit) }
-    ensures ends { EndsSlots time dump.now (ending_of slots.old
-        (files_by F.seen F.faults F.clashes F.first files.old) ends_idle)
-        (ending_of slots.new (files_by F.seen F.faults F.clashes F.first files.new) result) }
-    ensures files { HaveFilesOpen slots.new (F.seen files.new) }
+    ensures ends { EndsSlots time dump.now (ending_of slots.old (F.told files.old) ends_idle)
+        (ending_of slots.new (F.told files.new) result) }
+    ensures files { HaveFilesOpen slots.new (F.told files.new).seen }
 {
     let mut ends = [ChannelEnd {
         state: ChannelState::Idle,

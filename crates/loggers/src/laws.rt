@@ -45,7 +45,7 @@ pub fn still_known()
 {}
 
 /// A turn, a pull and a call to finish leave all files but those of the channels in the runs that the logger was told to
-/// start; and they leave what the channels are.
+/// start, and what was done before; and they leave what the channels are.
 pub fn other_files()
     ensures turns { TurnsLeaveFiles }
     ensures pulls { PullsLeaveFiles }

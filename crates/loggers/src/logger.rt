@@ -1,13 +1,14 @@
 ghost use Rattle.std.specs.Prelude.{◌≡◌, ◌≤◌, ◌<◌, ℕ, List, [], if◌then◌else◌, length, map, unwrap_or, Option, Some, None, IfOk, IfSome};
 ghost use Rattle.event.specs.Events.{record_limit};
 ghost use Rattle.daq_io.specs.Seen.{Seen};
+ghost use Rattle.daq_io.specs.Told.{FilesTold};
 ghost use Rattle.buffer_core.specs.Ports.{Access};
 ghost use Rattle.buffer_core.specs.Slots.{some_slot};
 ghost use Rattle.member_model.specs.Turns.{MemberTurn};
 ghost use Rattle.daq_types.specs.declared.runs.Transition.TheVariants.{Start, Stop, Pause, Resume, StartAbort};
 ghost use Rattle.transitions.specs.declared.answers.Answer.TheVariants.{Yes};
 ghost use Rattle.transitions.specs.declared.answers.Tally.TheVariants.{Plain};
-ghost use Rattle.loggers.specs.Moments.{RunFiles, files_by, moment_of, IsLoggerReady, HaveFilesOpen, AreIdleChannels, AreSamePorts};
+ghost use Rattle.loggers.specs.Moments.{moment_of, IsLoggerReady, HaveFilesOpen, AreIdleChannels, AreSamePorts};
 ghost use Rattle.loggers.specs.Turning.{logger_turned, TakesTurn, TakesStart, TakesStop, TakesMark, TakesAbort, StartsLogger, PausesBuffer, ResumesBuffer, is_run_on, is_started, is_of_start, buffers_begun, IsIdleOutside, start_answer, start_part, start_dumps, no_dumps, DumpsFit};
 ghost use Rattle.loggers.specs.Finishing.{FinishesLogger, logger_finished};
 ghost use Rattle.loggers.specs.SlotPulls.{HasEventRoom, PullsNumbered};
@@ -157,7 +158,7 @@ impl Logger {
         ensures own { IfOk result (λ logger. (ports : List Access) → AreUnused ports →
             KeepsLoggerCalls logger.channels ports) }
         ensures failed { IfOk result (λ logger. HasFailed logger.channels → ⊥) }
-        ensures reasons { IfOk result (λ logger. (ports : List Access) → (files : RunFiles) →
+        ensures reasons { IfOk result (λ logger. (ports : List Access) → (files : FilesTold) →
             GivesReasons logger.channels ports files files []) }
     {
         let channels = new_channels(alloc, specs, rooms)?;
@@ -188,15 +189,14 @@ impl Logger {
         dump: Option<Bytes>,
     ) -> Option<Answer>
         requires ready { IsLoggerReady self.old.channels (map P.access ports.old)
-            (F.seen files.old) }
+            (F.told files.old).seen }
         requires idle { IsIdleOutside self.old.run self.old.channels }
         requires begun { buffers_begun self.old.run ≤ length ports.old }
         requires small { IfSome dump (λ bytes. length bytes ≤ record_limit) }
-        ensures takes { TakesTurn (logger_turned
-            (files_by F.seen F.faults F.clashes F.first) transition order.now dump result self.old
+        ensures takes { TakesTurn (logger_turned F.told transition order.now dump result self.old
             self.new (map P.access ports.old) (map P.access ports.new) files.old files.new) }
         ensures ready { IsLoggerReady self.new.channels (map P.access ports.new)
-            (F.seen files.new) }
+            (F.told files.new).seen }
         ensures idle { IsIdleOutside self.new.run self.new.channels }
         ensures begun { buffers_begun self.new.run ≤ length ports.new }
         ensures small { DumpsFit self.old.dumps → DumpsFit self.new.dumps }
@@ -204,12 +204,12 @@ impl Logger {
         ensures own { KeepsLoggerCalls self.old.channels (map P.access ports.old) →
             KeepsLoggerCalls self.new.channels (map P.access ports.new) }
         ensures failed { NotesFaults self.old.channels self.new.channels
-            (F.faults files.old) (F.faults files.new) }
+            (F.told files.old).faults (F.told files.new).faults }
         ensures room { ((number : ℕ)
             → HasEventRoom number self.old.channels (map P.access ports.old)) →
             (number : ℕ) → HasEventRoom number self.new.channels (map P.access ports.new) }
         ensures keeps { StandsAfterTurn (logger_turned
-            (files_by F.seen F.faults F.clashes F.first) transition order.now dump result self.old
+            F.told transition order.now dump result self.old
             self.new (map P.access ports.old) (map P.access ports.new) files.old files.new) }
     {
         logger_laws::turns_keep();
@@ -227,15 +227,14 @@ impl Logger {
         dump: Option<Bytes>,
     ) -> Option<Answer>
         requires ready { IsLoggerReady self.old.channels (map P.access ports.old)
-            (F.seen files.old) }
+            (F.told files.old).seen }
         requires idle { IsIdleOutside self.old.run self.old.channels }
         requires begun { buffers_begun self.old.run ≤ length ports.old }
         requires small { IfSome dump (λ bytes. length bytes ≤ record_limit) }
-        ensures takes { TakesTurn (logger_turned
-            (files_by F.seen F.faults F.clashes F.first) transition order.now dump result self.old
+        ensures takes { TakesTurn (logger_turned F.told transition order.now dump result self.old
             self.new (map P.access ports.old) (map P.access ports.new) files.old files.new) }
         ensures ready { IsLoggerReady self.new.channels (map P.access ports.new)
-            (F.seen files.new) }
+            (F.told files.new).seen }
         ensures idle { IsIdleOutside self.new.run self.new.channels }
         ensures begun { buffers_begun self.new.run ≤ length ports.new }
         ensures small { DumpsFit self.old.dumps → DumpsFit self.new.dumps }
@@ -259,16 +258,16 @@ impl Logger {
         dump: Option<Bytes>,
     ) -> Answer
         requires ready { IsLoggerReady self.old.channels (map P.access ports.old)
-            (F.seen files.old) }
+            (F.told files.old).seen }
         requires idle { IsIdleOutside self.old.run self.old.channels }
         requires begun { buffers_begun self.old.run ≤ length ports.old }
         requires small { IfSome dump (λ bytes. length bytes ≤ record_limit) }
         ensures takes { TakesStart (is_run_on self.old.run)
-            (logger_turned (files_by F.seen F.faults F.clashes F.first) Start order.now dump
+            (logger_turned F.told Start order.now dump
             (Some result) self.old self.new (map P.access ports.old)
             (map P.access ports.new) files.old files.new) }
         ensures ready { IsLoggerReady self.new.channels (map P.access ports.new)
-            (F.seen files.new) }
+            (F.told files.new).seen }
         ensures idle { IsIdleOutside self.new.run self.new.channels }
         ensures begun { buffers_begun self.new.run ≤ length ports.new }
         ensures small { DumpsFit self.old.dumps → DumpsFit self.new.dumps }
@@ -289,15 +288,14 @@ impl Logger {
         dump: Option<Bytes>,
     ) -> Answer
         requires ready { IsLoggerReady self.old.channels (map P.access ports.old)
-            (F.seen files.old) }
+            (F.told files.old).seen }
         requires idle { AreIdleChannels self.old.channels }
         requires small { IfSome dump (λ bytes. length bytes ≤ record_limit) }
-        ensures starts { StartsLogger (logger_turned
-            (files_by F.seen F.faults F.clashes F.first) Start order.now dump
+        ensures starts { StartsLogger (logger_turned F.told Start order.now dump
             (Some result) self.old self.new (map P.access ports.old)
             (map P.access ports.new) files.old files.new) }
         ensures ready { IsLoggerReady self.new.channels (map P.access ports.new)
-            (F.seen files.new) }
+            (F.told files.new).seen }
         ensures idle { IsIdleOutside self.new.run self.new.channels }
         ensures begun { buffers_begun self.new.run ≤ length ports.new }
         ensures small { DumpsFit self.new.dumps }
@@ -329,15 +327,15 @@ impl Logger {
         dump: Option<Bytes>,
     ) -> Option<Answer>
         requires ready { IsLoggerReady self.old.channels (map P.access ports.old)
-            (F.seen files.old) }
+            (F.told files.old).seen }
         requires idle { IsIdleOutside self.old.run self.old.channels }
         requires begun { buffers_begun self.old.run ≤ length ports.old }
         ensures takes { TakesStop (is_started self.old.run order.now.start)
-            (logger_turned (files_by F.seen F.faults F.clashes F.first) Stop order.now dump
+            (logger_turned F.told Stop order.now dump
             result self.old self.new (map P.access ports.old) (map P.access ports.new)
             files.old files.new) }
         ensures ready { IsLoggerReady self.new.channels (map P.access ports.new)
-            (F.seen files.new) }
+            (F.told files.new).seen }
         ensures idle { IsIdleOutside self.new.run self.new.channels }
         ensures begun { buffers_begun self.new.run ≤ length ports.new }
         ensures dumps { self.new.dumps ≡ (if is_started self.old.run order.now.start
@@ -367,16 +365,16 @@ impl Logger {
         order: &Order,
     ) -> Answer
         requires ready { IsLoggerReady self.old.channels (map P.access ports.old)
-            (F.seen files.old) }
+            (F.told files.old).seen }
         requires idle { IsIdleOutside self.old.run self.old.channels }
         requires begun { buffers_begun self.old.run ≤ length ports.old }
         ensures takes { (dump : Option (List ℕ)) →
             TakesMark PausesBuffer (is_started self.old.run order.now.start)
-            (logger_turned (files_by F.seen F.faults F.clashes F.first) Pause order.now dump
+            (logger_turned F.told Pause order.now dump
             (Some result) self.old self.new (map P.access ports.old)
             (map P.access ports.new) files.old files.new) }
         ensures ready { IsLoggerReady self.new.channels (map P.access ports.new)
-            (F.seen files.new) }
+            (F.told files.new).seen }
         ensures idle { IsIdleOutside self.new.run self.new.channels }
         ensures begun { buffers_begun self.new.run ≤ length ports.new }
         ensures same { self.new ≡ self.old }
@@ -398,16 +396,16 @@ impl Logger {
         order: &Order,
     ) -> Answer
         requires ready { IsLoggerReady self.old.channels (map P.access ports.old)
-            (F.seen files.old) }
+            (F.told files.old).seen }
         requires idle { IsIdleOutside self.old.run self.old.channels }
         requires begun { buffers_begun self.old.run ≤ length ports.old }
         ensures takes { (dump : Option (List ℕ)) →
             TakesMark ResumesBuffer (is_started self.old.run order.now.start)
-            (logger_turned (files_by F.seen F.faults F.clashes F.first) Resume order.now dump
+            (logger_turned F.told Resume order.now dump
             (Some result) self.old self.new (map P.access ports.old)
             (map P.access ports.new) files.old files.new) }
         ensures ready { IsLoggerReady self.new.channels (map P.access ports.new)
-            (F.seen files.new) }
+            (F.told files.new).seen }
         ensures idle { IsIdleOutside self.new.run self.new.channels }
         ensures begun { buffers_begun self.new.run ≤ length ports.new }
         ensures same { self.new ≡ self.old }
@@ -429,16 +427,16 @@ impl Logger {
         order: &Order,
     ) -> Answer
         requires ready { IsLoggerReady self.old.channels (map P.access ports.old)
-            (F.seen files.old) }
+            (F.told files.old).seen }
         requires idle { IsIdleOutside self.old.run self.old.channels }
         requires begun { buffers_begun self.old.run ≤ length ports.old }
         ensures takes { (dump : Option (List ℕ)) →
             TakesAbort (is_of_start self.old.run order.now.start)
-            (logger_turned (files_by F.seen F.faults F.clashes F.first) StartAbort order.now dump
+            (logger_turned F.told StartAbort order.now dump
             (Some result) self.old self.new (map P.access ports.old)
             (map P.access ports.new) files.old files.new) }
         ensures ready { IsLoggerReady self.new.channels (map P.access ports.new)
-            (F.seen files.new) }
+            (F.told files.new).seen }
         ensures idle { IsIdleOutside self.new.run self.new.channels }
         ensures begun { buffers_begun self.new.run ≤ length ports.new }
         ensures small { DumpsFit self.old.dumps → DumpsFit self.new.dumps }
@@ -464,33 +462,31 @@ impl Logger {
         channel: u32,
     ) -> Pulled
         requires ready { IsLoggerReady self.old.channels (map P.access ports.old)
-            (F.seen files.old) }
+            (F.told files.old).seen }
         requires idle { IsIdleOutside self.old.run self.old.channels }
         requires room { HasEventRoom channel self.old.channels (map P.access ports.old) }
         requires small { DumpsFit self.old.dumps }
         ensures pulls { PullsNumbered (unwrap_or self.old.dumps.start []) channel result
-            (moment_of self.old.channels (map P.access ports.old)
-            (files_by F.seen F.faults F.clashes F.first files.old))
-            (moment_of self.new.channels (map P.access ports.new)
-            (files_by F.seen F.faults F.clashes F.first files.new)) }
+            (moment_of self.old.channels (map P.access ports.old) (F.told files.old))
+            (moment_of self.new.channels (map P.access ports.new) (F.told files.new)) }
         ensures run { self.new.run ≡ self.old.run }
         ensures dumps { self.new.dumps ≡ self.old.dumps }
         ensures ready { IsLoggerReady self.new.channels (map P.access ports.new)
-            (F.seen files.new) }
+            (F.told files.new).seen }
         ensures idle { IsIdleOutside self.new.run self.new.channels }
         ensures same { AreSamePorts (map P.access ports.old) (map P.access ports.new) }
         ensures own { KeepsLoggerCalls self.old.channels (map P.access ports.old) →
             KeepsLoggerCalls self.new.channels (map P.access ports.new) }
         ensures failed { NotesFaults self.old.channels self.new.channels
-            (F.faults files.old) (F.faults files.new) }
+            (F.told files.old).faults (F.told files.new).faults }
         ensures room { ((number : ℕ)
             → HasEventRoom number self.old.channels (map P.access ports.old)) →
             (number : ℕ) → HasEventRoom number self.new.channels (map P.access ports.new) }
         ensures keeps { (turns : List MemberTurn) →
             LoggerStands self.old.run self.old.dumps self.old.channels
-            (map P.access ports.old) turns (F.seen files.old) →
+            (map P.access ports.old) turns (F.told files.old).seen →
             LoggerStands self.new.run self.new.dumps self.new.channels
-            (map P.access ports.new) turns (F.seen files.new) }
+            (map P.access ports.new) turns (F.told files.new).seen }
     {
         channel_laws::left_beside();
         channel_laws::pulls_kept();
@@ -506,15 +502,15 @@ impl Logger {
     /// yet to read its run.
     pub fn finish<F: Files>(&mut self, files: &mut F) -> Option<Answer>
         requires many { length self.old.channels ≤ 16 }
-        requires files { HaveFilesOpen self.old.channels (F.seen files.old) }
+        requires files { HaveFilesOpen self.old.channels (F.told files.old).seen }
         requires idle { IsIdleOutside self.old.run self.old.channels }
         requires small { DumpsFit self.old.dumps }
         ensures finishes { FinishesLogger (logger_finished
-            (files_by F.seen F.faults F.clashes F.first) self.old self.new files.old files.new
+            F.told self.old self.new files.old files.new
             result) }
         ensures ready { (ports : List Access) →
-            IsLoggerReady self.old.channels ports (F.seen files.old) →
-            IsLoggerReady self.new.channels ports (F.seen files.new) }
+            IsLoggerReady self.old.channels ports (F.told files.old).seen →
+            IsLoggerReady self.new.channels ports (F.told files.new).seen }
         ensures idle { IsIdleOutside self.new.run self.new.channels }
         ensures begun { buffers_begun self.new.run ≤ buffers_begun self.old.run }
         ensures small { DumpsFit self.new.dumps }
@@ -524,9 +520,9 @@ impl Logger {
         ensures own { (ports : List Access) → KeepsLoggerCalls self.old.channels ports →
             KeepsLoggerCalls self.new.channels ports }
         ensures failed { NotesFaults self.old.channels self.new.channels
-            (F.faults files.old) (F.faults files.new) }
+            (F.told files.old).faults (F.told files.new).faults }
         ensures keeps { StandsAfterFinish (logger_finished
-            (files_by F.seen F.faults F.clashes F.first) self.old self.new files.old files.new
+            F.told self.old self.new files.old files.new
             result) }
     {
         logger_laws::finishes_keep();
@@ -536,15 +532,15 @@ impl Logger {
     /// Ends the files of the run whose stop waits, where every channel is settled.
     fn end_run<F: Files>(&mut self, files: &mut F) -> Option<Answer>
         requires many { length self.old.channels ≤ 16 }
-        requires files { HaveFilesOpen self.old.channels (F.seen files.old) }
+        requires files { HaveFilesOpen self.old.channels (F.told files.old).seen }
         requires idle { IsIdleOutside self.old.run self.old.channels }
         requires small { DumpsFit self.old.dumps }
         ensures finishes { FinishesLogger (logger_finished
-            (files_by F.seen F.faults F.clashes F.first) self.old self.new files.old files.new
+            F.told self.old self.new files.old files.new
             result) }
         ensures ready { (ports : List Access) →
-            IsLoggerReady self.old.channels ports (F.seen files.old) →
-            IsLoggerReady self.new.channels ports (F.seen files.new) }
+            IsLoggerReady self.old.channels ports (F.told files.old).seen →
+            IsLoggerReady self.new.channels ports (F.told files.new).seen }
         ensures idle { IsIdleOutside self.new.run self.new.channels }
         ensures begun { buffers_begun self.new.run ≤ buffers_begun self.old.run }
         ensures small { DumpsFit self.new.dumps }

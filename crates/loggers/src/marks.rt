@@ -3,10 +3,11 @@
 ghost use Rattle.std.specs.Prelude.{◌≡◌, ◌<◌, ◌≤◌, List, Option, length, map, OnOk, OnErr, IfErr};
 ghost use Rattle.std.specs.Option.{option_map};
 ghost use Rattle.daq_io.specs.Seen.{Seen};
+ghost use Rattle.daq_io.specs.Told.{FilesTold};
 ghost use Rattle.buffer_core.specs.Slots.{change_slot};
 ghost use Rattle.mid_logger.specs.declared.channel.Channel.{Channel as a_channel};
 ghost use Rattle.mid_logger.specs.Channels.{stage_begun, stage_ended};
-ghost use Rattle.loggers.specs.Moments.{RunFiles, IsLoggerReady, InTurn, noted_channel};
+ghost use Rattle.loggers.specs.Moments.{IsLoggerReady, InTurn, noted_channel};
 ghost use Rattle.loggers.specs.Turning.{BeginsBuffer, RefusesBegin, EndsBuffer, PausesBuffer, ResumesBuffer, BeginsBelow, RefusesMark};
 
 use crate::slots::{Ports, Slots};
@@ -95,10 +96,10 @@ fn begin_at<R: Wait, P: BufferPort>(
     start: u32,
 ) -> Result<(), NotBegun>
     requires within { buffer < length ports.old }
-    ensures begins { OnOk result ((files : RunFiles) → BeginsBuffer start buffer
+    ensures begins { OnOk result ((files : FilesTold) → BeginsBuffer start buffer
         (record { slots = slots.old; ports = map P.access ports.old; files = files })
         (record { slots = slots.new; ports = map P.access ports.new; files = files })) }
-    ensures refuses { OnErr result ((files : RunFiles) → RefusesBegin start buffer
+    ensures refuses { OnErr result ((files : FilesTold) → RefusesBegin start buffer
         (record { slots = slots.old; ports = map P.access ports.old; files = files })
         (record { slots = slots.new; ports = map P.access ports.new; files = files })) }
     ensures count { length ports.new ≡ length ports.old }
@@ -124,7 +125,7 @@ fn end_at<R: Wait, P: BufferPort>(
     start: u32,
 )
     requires within { buffer < length ports.old }
-    ensures ends { (files : RunFiles) → EndsBuffer start buffer
+    ensures ends { (files : FilesTold) → EndsBuffer start buffer
         (record { slots = slots.old; ports = map P.access ports.old; files = files })
         (record { slots = slots.new; ports = map P.access ports.new; files = files }) }
     ensures count { length ports.new ≡ length ports.old }
@@ -139,7 +140,7 @@ fn end_at<R: Wait, P: BufferPort>(
 /// Pauses the run in one buffer, where that is not refused.
 fn pause_at<R: Wait, P: BufferPort>(rt: &R, ports: &mut Ports<P>, buffer: usize, start: u32)
     requires within { buffer < length ports.old }
-    ensures pauses { (slots : List (Option a_channel)) → (files : RunFiles)
+    ensures pauses { (slots : List (Option a_channel)) → (files : FilesTold)
         → PausesBuffer start buffer
         (record { slots = slots; ports = map P.access ports.old; files = files })
         (record { slots = slots; ports = map P.access ports.new; files = files }) }
@@ -154,7 +155,7 @@ fn pause_at<R: Wait, P: BufferPort>(rt: &R, ports: &mut Ports<P>, buffer: usize,
 /// Resumes the run in one buffer, where that is not refused.
 fn resume_at<R: Wait, P: BufferPort>(rt: &R, ports: &mut Ports<P>, buffer: usize, start: u32)
     requires within { buffer < length ports.old }
-    ensures resumes { (slots : List (Option a_channel)) → (files : RunFiles)
+    ensures resumes { (slots : List (Option a_channel)) → (files : FilesTold)
         → ResumesBuffer start buffer
         (record { slots = slots; ports = map P.access ports.old; files = files })
         (record { slots = slots; ports = map P.access ports.new; files = files }) }
@@ -173,10 +174,10 @@ pub fn begin_all<R: Wait, P: BufferPort>(
     ports: &mut Ports<P>,
     start: u32,
 ) -> Result<(), usize>
-    ensures begins { OnOk result ((files : RunFiles) → BeginsBelow start (length ports.old)
+    ensures begins { OnOk result ((files : FilesTold) → BeginsBelow start (length ports.old)
         (record { slots = slots.old; ports = map P.access ports.old; files = files })
         (record { slots = slots.new; ports = map P.access ports.new; files = files })) }
-    ensures refuses { IfErr result (λ count. (files : RunFiles) → RefusesMark start count
+    ensures refuses { IfErr result (λ count. (files : FilesTold) → RefusesMark start count
         (record { slots = slots.old; ports = map P.access ports.old; files = files })
         (record { slots = slots.new; ports = map P.access ports.new; files = files })) }
     ensures ready { (seen : Seen) → IsLoggerReady slots.old (map P.access ports.old) seen →
@@ -201,7 +202,7 @@ pub fn end_first<R: Wait, P: BufferPort>(
     start: u32,
 )
     requires within { count ≤ length ports.old }
-    ensures ends { (files : RunFiles) → InTurn (λ buffer. EndsBuffer start buffer) count
+    ensures ends { (files : FilesTold) → InTurn (λ buffer. EndsBuffer start buffer) count
         (record { slots = slots.old; ports = map P.access ports.old; files = files })
         (record { slots = slots.new; ports = map P.access ports.new; files = files }) }
     ensures ready { (seen : Seen) → IsLoggerReady slots.old (map P.access ports.old) seen →
@@ -215,7 +216,7 @@ pub fn end_first<R: Wait, P: BufferPort>(
 
 /// Pauses the run in every buffer, in order.
 pub fn pause_all<R: Wait, P: BufferPort>(rt: &R, ports: &mut Ports<P>, start: u32)
-    ensures pauses { (slots : List (Option a_channel)) → (files : RunFiles) →
+    ensures pauses { (slots : List (Option a_channel)) → (files : FilesTold) →
         InTurn (λ buffer. PausesBuffer start buffer) (length ports.old)
         (record { slots = slots; ports = map P.access ports.old; files = files })
         (record { slots = slots; ports = map P.access ports.new; files = files }) }
@@ -228,7 +229,7 @@ pub fn pause_all<R: Wait, P: BufferPort>(rt: &R, ports: &mut Ports<P>, start: u3
 
 /// Resumes the run in every buffer, in order.
 pub fn resume_all<R: Wait, P: BufferPort>(rt: &R, ports: &mut Ports<P>, start: u32)
-    ensures resumes { (slots : List (Option a_channel)) → (files : RunFiles) →
+    ensures resumes { (slots : List (Option a_channel)) → (files : FilesTold) →
         InTurn (λ buffer. ResumesBuffer start buffer) (length ports.old)
         (record { slots = slots; ports = map P.access ports.old; files = files })
         (record { slots = slots; ports = map P.access ports.new; files = files }) }

@@ -2,7 +2,7 @@
 
 ghost use Rattle.std.specs.Prelude.{◌≡◌, ◌≤◌, length, map, OnOk, OnErr, IfErr};
 ghost use Rattle.event.specs.Events.{record_limit};
-ghost use Rattle.loggers.specs.Moments.{files_by, moment_of, IsLoggerReady, AreIdleChannels};
+ghost use Rattle.loggers.specs.Moments.{moment_of, IsLoggerReady, AreIdleChannels};
 ghost use Rattle.loggers.specs.Turning.{OpensBelow, RefusesOpen, AbortsAll, StartsSo};
 
 use crate::marks::begin_all;
@@ -22,20 +22,16 @@ fn open_all<R: Wait, F: Files, P: BufferPort>(
     order: &Order,
     dump: &[u8],
 ) -> Result<(), Why>
-    requires ready { IsLoggerReady slots.old (map P.access ports.old) (F.seen files.old) }
+    requires ready { IsLoggerReady slots.old (map P.access ports.old) (F.told files.old).seen }
     requires idle { AreIdleChannels slots.old }
     requires small { length dump.now ≤ record_limit }
     ensures opens { OnOk result (OpensBelow order.now dump.now (length slots.old)
-        (moment_of slots.old (map P.access ports.old)
-        (files_by F.seen F.faults F.clashes F.first files.old))
-        (moment_of slots.new (map P.access ports.new)
-        (files_by F.seen F.faults F.clashes F.first files.new))) }
+        (moment_of slots.old (map P.access ports.old) (F.told files.old))
+        (moment_of slots.new (map P.access ports.new) (F.told files.new))) }
     ensures refuses { IfErr result (λ why. RefusesOpen order.now dump.now why
-        (moment_of slots.old (map P.access ports.old)
-        (files_by F.seen F.faults F.clashes F.first files.old))
-        (moment_of slots.new (map P.access ports.new)
-        (files_by F.seen F.faults F.clashes F.first files.new))) }
-    ensures ready { IsLoggerReady slots.new (map P.access ports.new) (F.seen files.new) }
+        (moment_of slots.old (map P.access ports.old) (F.told files.old))
+        (moment_of slots.new (map P.access ports.new) (F.told files.new))) }
+    ensures ready { IsLoggerReady slots.new (map P.access ports.new) (F.told files.new).seen }
     ensures count { length ports.new ≡ length ports.old }
 {
     for number in 0..slots.len() {
@@ -54,13 +50,11 @@ pub fn abort_all<R: Wait, F: Files, P: BufferPort>(
     files: &mut F,
     ports: &mut Ports<P>,
 )
-    requires ready { IsLoggerReady slots.old (map P.access ports.old) (F.seen files.old) }
-    ensures aborts { AbortsAll (moment_of slots.old (map P.access ports.old)
-        (files_by F.seen F.faults F.clashes F.first files.old))
-        (moment_of slots.new (map P.access ports.new)
-        (files_by F.seen F.faults F.clashes F.first files.new)) }
+    requires ready { IsLoggerReady slots.old (map P.access ports.old) (F.told files.old).seen }
+    ensures aborts { AbortsAll (moment_of slots.old (map P.access ports.old) (F.told files.old))
+        (moment_of slots.new (map P.access ports.new) (F.told files.new)) }
     ensures idle { AreIdleChannels slots.new }
-    ensures ready { IsLoggerReady slots.new (map P.access ports.new) (F.seen files.new) }
+    ensures ready { IsLoggerReady slots.new (map P.access ports.new) (F.told files.new).seen }
     ensures count { length ports.new ≡ length ports.old }
 {
     for number in 0..slots.len() {
@@ -78,16 +72,14 @@ pub fn start_run<R: Wait, F: Files, P: BufferPort>(
     order: &Order,
     dump: &[u8],
 ) -> (usize, Result<(), Why>)
-    requires ready { IsLoggerReady slots.old (map P.access ports.old) (F.seen files.old) }
+    requires ready { IsLoggerReady slots.old (map P.access ports.old) (F.told files.old).seen }
     requires idle { AreIdleChannels slots.old }
     requires small { length dump.now ≤ record_limit }
     ensures starts { StartsSo result.1 order.now dump.now result.0
-        (moment_of slots.old (map P.access ports.old)
-        (files_by F.seen F.faults F.clashes F.first files.old))
-        (moment_of slots.new (map P.access ports.new)
-        (files_by F.seen F.faults F.clashes F.first files.new)) }
+        (moment_of slots.old (map P.access ports.old) (F.told files.old))
+        (moment_of slots.new (map P.access ports.new) (F.told files.new)) }
     ensures idle { OnErr result.1 (AreIdleChannels slots.new) }
-    ensures ready { IsLoggerReady slots.new (map P.access ports.new) (F.seen files.new) }
+    ensures ready { IsLoggerReady slots.new (map P.access ports.new) (F.told files.new).seen }
     ensures begun { result.0 ≤ length ports.new }
 {
     if let Err(why) = open_all(slots, rt, files, ports, order, dump) {

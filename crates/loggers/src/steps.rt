@@ -8,7 +8,7 @@ ghost use Rattle.mid_logger.specs.declared.channel.Channel.{Channel as a_channel
 ghost use Rattle.mid_logger.specs.declared.stage.ChannelStage.TheVariants.{Idle};
 ghost use Rattle.sub_files.specs.Cuts.{last_number};
 ghost use Rattle.mid_logger.specs.Channels.{IsLastOpen, written_run, files_by as files_made};
-ghost use Rattle.loggers.specs.Moments.{files_by, moment_of, StepsAt, StepsSlot, StepsChannel, IsLoggerReady, LeavesOthers};
+ghost use Rattle.loggers.specs.Moments.{moment_of, StepsAt, StepsSlot, StepsChannel, IsLoggerReady, LeavesOthers};
 ghost use Rattle.loggers.specs.ChannelSteps.{OpensChannel, AbortsChannel};
 ghost use Rattle.loggers.specs.SlotPulls.{HasEventRoom, PullsSlot, PullsNumbered};
 
@@ -34,17 +34,14 @@ fn open_slot<R: Wait, F: Files, P: BufferPort>(
     ensures opens { OnOk result ((slots : List (Option a_channel)) →
         (number : ℕ) → slot_at slots number ≡ slot.old →
         StepsSlot (OpensChannel order.now dump.now (Ok tt)) number slot.old
-        (moment_of slots (map P.access ports.old)
-        (files_by F.seen F.faults F.clashes F.first files.old))
-        (moment_of (slice_set slots number slot.new) (map P.access ports.new)
-        (files_by F.seen F.faults F.clashes F.first files.new))) }
+        (moment_of slots (map P.access ports.old) (F.told files.old))
+        (moment_of (slice_set slots number slot.new) (map P.access ports.new) (F.told files.new))) }
     ensures refuses { IfErr result (λ why. (c : a_channel) × (slot.old ≡ Some c) ×
         ((slots : List (Option a_channel)) → (number : ℕ) → slot_at slots number ≡ slot.old →
         StepsChannel (OpensChannel order.now dump.now (Err why)) number c
-        (moment_of slots (map P.access ports.old)
-        (files_by F.seen F.faults F.clashes F.first files.old))
+        (moment_of slots (map P.access ports.old) (F.told files.old))
         (moment_of (slice_set slots number slot.new) (map P.access ports.new)
-        (files_by F.seen F.faults F.clashes F.first files.new)))) }
+        (F.told files.new)))) }
     ensures count { length ports.new ≡ length ports.old }
 {
     let Some(channel) = slot else {
@@ -67,22 +64,18 @@ pub fn open_at<R: Wait, F: Files, P: BufferPort>(
     order: &Order,
     dump: &[u8],
 ) -> Result<(), Why>
-    requires ready { IsLoggerReady slots.old (map P.access ports.old) (F.seen files.old) }
+    requires ready { IsLoggerReady slots.old (map P.access ports.old) (F.told files.old).seen }
     requires idle { (c : a_channel) → slot_at slots.old number ≡ Some c → c.stage ≡ Idle }
     requires small { length dump.now ≤ record_limit }
     ensures opens { OnOk result (StepsAt (OpensChannel order.now dump.now (Ok tt)) number
-        (moment_of slots.old (map P.access ports.old)
-        (files_by F.seen F.faults F.clashes F.first files.old))
-        (moment_of slots.new (map P.access ports.new)
-        (files_by F.seen F.faults F.clashes F.first files.new))) }
+        (moment_of slots.old (map P.access ports.old) (F.told files.old))
+        (moment_of slots.new (map P.access ports.new) (F.told files.new))) }
     ensures refuses { IfErr result (λ why. (c : a_channel) ×
         (slot_at slots.old number ≡ Some c) ×
         StepsChannel (OpensChannel order.now dump.now (Err why)) number c
-        (moment_of slots.old (map P.access ports.old)
-        (files_by F.seen F.faults F.clashes F.first files.old))
-        (moment_of slots.new (map P.access ports.new)
-        (files_by F.seen F.faults F.clashes F.first files.new))) }
-    ensures ready { IsLoggerReady slots.new (map P.access ports.new) (F.seen files.new) }
+        (moment_of slots.old (map P.access ports.old) (F.told files.old))
+        (moment_of slots.new (map P.access ports.new) (F.told files.new))) }
+    ensures ready { IsLoggerReady slots.new (map P.access ports.new) (F.told files.new).seen }
     ensures others { LeavesOthers number slots.old slots.new }
     ensures count { length ports.new ≡ length ports.old }
 {
@@ -103,14 +96,12 @@ fn abort_slot<R: Wait, F: Files, P: BufferPort>(
     requires few { (c : a_channel) → slot.old ≡ Some c → files_made c.stage ≤ suc last_number }
     requires served { (c : a_channel) → slot.old ≡ Some c → c.spec.buffer < length ports.old }
     requires file { (c : a_channel) → slot.old ≡ Some c →
-        IsLastOpen (F.seen files.old) c.spec (written_run c.stage) }
+        IsLastOpen (F.told files.old).seen c.spec (written_run c.stage) }
     ensures aborts { (slots : List (Option a_channel)) →
         (number : ℕ) → slot_at slots number ≡ slot.old →
         StepsSlot AbortsChannel number slot.old
-        (moment_of slots (map P.access ports.old)
-        (files_by F.seen F.faults F.clashes F.first files.old))
-        (moment_of (slice_set slots number slot.new) (map P.access ports.new)
-        (files_by F.seen F.faults F.clashes F.first files.new)) }
+        (moment_of slots (map P.access ports.old) (F.told files.old))
+        (moment_of (slice_set slots number slot.new) (map P.access ports.new) (F.told files.new)) }
     ensures idle { (c : a_channel) → slot.new ≡ Some c → c.stage ≡ Idle }
     ensures count { length ports.new ≡ length ports.old }
 {
@@ -131,14 +122,12 @@ pub fn abort_at<R: Wait, F: Files, P: BufferPort>(
     ports: &mut Ports<P>,
     number: usize,
 )
-    requires ready { IsLoggerReady slots.old (map P.access ports.old) (F.seen files.old) }
+    requires ready { IsLoggerReady slots.old (map P.access ports.old) (F.told files.old).seen }
     ensures aborts { StepsAt AbortsChannel number
-        (moment_of slots.old (map P.access ports.old)
-        (files_by F.seen F.faults F.clashes F.first files.old))
-        (moment_of slots.new (map P.access ports.new)
-        (files_by F.seen F.faults F.clashes F.first files.new)) }
+        (moment_of slots.old (map P.access ports.old) (F.told files.old))
+        (moment_of slots.new (map P.access ports.new) (F.told files.new)) }
     ensures idle { (c : a_channel) → slot_at slots.new number ≡ Some c → c.stage ≡ Idle }
-    ensures ready { IsLoggerReady slots.new (map P.access ports.new) (F.seen files.new) }
+    ensures ready { IsLoggerReady slots.new (map P.access ports.new) (F.told files.new).seen }
     ensures others { LeavesOthers number slots.old slots.new }
     ensures count { length ports.new ≡ length ports.old }
 {
@@ -160,7 +149,7 @@ fn pull_slot<R: Wait, F: Files, P: BufferPort>(
     requires few { (c : a_channel) → slot.old ≡ Some c → files_made c.stage ≤ suc last_number }
     requires served { (c : a_channel) → slot.old ≡ Some c → c.spec.buffer < length ports.old }
     requires file { (c : a_channel) → slot.old ≡ Some c →
-        IsLastOpen (F.seen files.old) c.spec (written_run c.stage) }
+        IsLastOpen (F.told files.old).seen c.spec (written_run c.stage) }
     requires room { (c : a_channel) → (a : Access) → slot.old ≡ Some c →
         slice_get (map P.access ports.old) c.spec.buffer ≡ Some a →
         min event_limit (a.size - 24) ≤ c.event.room }
@@ -168,9 +157,8 @@ fn pull_slot<R: Wait, F: Files, P: BufferPort>(
     ensures pulls { (slots : List (Option a_channel)) →
         (number : ℕ) → slot_at slots number ≡ slot.old →
         PullsSlot dump.now slot.old number result (moment_of slots (map P.access ports.old)
-        (files_by F.seen F.faults F.clashes F.first files.old))
-        (moment_of (slice_set slots number slot.new) (map P.access ports.new)
-        (files_by F.seen F.faults F.clashes F.first files.new)) }
+        (F.told files.old))
+        (moment_of (slice_set slots number slot.new) (map P.access ports.new) (F.told files.new)) }
 {
     let Some(channel) = slot else {
         return Pulled::NoChannel;
@@ -190,15 +178,13 @@ pub fn pull_at<R: Wait, F: Files, P: BufferPort>(
     number: usize,
     dump: &[u8],
 ) -> Pulled
-    requires ready { IsLoggerReady slots.old (map P.access ports.old) (F.seen files.old) }
+    requires ready { IsLoggerReady slots.old (map P.access ports.old) (F.told files.old).seen }
     requires room { HasEventRoom number slots.old (map P.access ports.old) }
     requires small { length dump.now ≤ record_limit }
     ensures pulls { PullsNumbered dump.now number result
-        (moment_of slots.old (map P.access ports.old)
-        (files_by F.seen F.faults F.clashes F.first files.old))
-        (moment_of slots.new (map P.access ports.new)
-        (files_by F.seen F.faults F.clashes F.first files.new)) }
-    ensures ready { IsLoggerReady slots.new (map P.access ports.new) (F.seen files.new) }
+        (moment_of slots.old (map P.access ports.old) (F.told files.old))
+        (moment_of slots.new (map P.access ports.new) (F.told files.new)) }
+    ensures ready { IsLoggerReady slots.new (map P.access ports.new) (F.told files.new).seen }
 {
     channel_laws::pulls_kept();
     match slots.get_mut(number) {

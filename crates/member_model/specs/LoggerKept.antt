@@ -66,7 +66,7 @@ pub record HasWritten (port : LoggerPort) (turns : List MemberTurn) (files : See
   pub reads : HasReadRun port.own port.got channel.client channel.id channel.mask number stop.order.start begun ended events
   pub fine : All IsFileEvent events
   pub taken : Bool
-  pub beyond : IsTrue taken → IsTrue files.tells → IsSome (files.at (piece_name_by channel.pattern start.order.run made))
+  pub beyond : IsTrue taken → IsTrue files.names → IsSome (files.at (piece_name_by channel.pattern start.order.run made))
   pub stored : HasRun files (series_from channel start) made taken (stop_bytes start stop dump) events
 
 -- The channel broke off in that run, whose end was marked at this place: its closed files have a first part of the events that its

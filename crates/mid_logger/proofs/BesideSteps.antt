@@ -4,8 +4,8 @@ use Rattle.std.proofs.Common.{ap, sym, subst, ◌∙◌, inl, inr}
 use Rattle.std.proofs.lemmas.Bool.Decides.{leb_tells}
 use Rattle.daq_types.specs.declared.events.Event.{Event}
 use Rattle.daq_types.specs.declared.runs.ChannelState.{ChannelState}
-use Rattle.daq_io.specs.Seen.{Seen, Touches, KeepsNumber}
-use Rattle.daq_io.proofs.SeenLaws.{KeepsNumber-refl}
+use Rattle.daq_io.specs.Seen.{Seen, GoesOn, Touches, KeepsNumber}
+use Rattle.daq_io.proofs.SeenLaws.{KeepsNumber-refl, on_same}
 use Rattle.buffer_core.specs.declared.replies.Received.{Received}
 use Rattle.buffer_core.specs.declared.replies.Received.TheVariants.{Got, Empty, NoClient, SmallBuf}
 use Rattle.buffer_core.specs.declared.replies.RequestRefusal.{RequestRefusal}
@@ -42,23 +42,23 @@ number_left : (old new : Seen) (written : Option ChannelRun) → ((s : ChannelRu
 number_left old new None keeps = tt
 number_left old new (Some s) keeps = keeps s refl
 
-pub run_leaves : (spec : ChannelSpec) (old new : Seen) (run written : Option ChannelRun) (many : ℕ) → new.tells ≡ old.tells
-    → ((s : ChannelRun) → run ≡ Some s → IsTrue old.tells → (n : ℕ) → n < many → new.at (piece_name_by spec.pattern s.run n) ≡ old.at (piece_name_by spec.pattern s.run n))
+pub run_leaves : (spec : ChannelSpec) (old new : Seen) (run written : Option ChannelRun) (many : ℕ) → new.names ≡ old.names → GoesOn old new
+    → ((s : ChannelRun) → run ≡ Some s → IsTrue old.names → (n : ℕ) → n < many → new.at (piece_name_by spec.pattern s.run n) ≡ old.at (piece_name_by spec.pattern s.run n))
     → ((s : ChannelRun) → written ≡ Some s → KeepsNumber old new s.at.file) → LeavesRunFiles spec run written many old new
-run_leaves spec old new None written many tells at keeps = tt
-run_leaves spec old new (Some s) written many tells at keeps = record { tells = tells; at = λ told n below. at s refl told n below; number = number_left old new written keeps }
+run_leaves spec old new None written many names on at keeps = tt
+run_leaves spec old new (Some s) written many names on at keeps = record { told = names; on = on; at = λ told n below. at s refl told n below; number = number_left old new written keeps }
 
 -- at most the file of this name changed, and the number of the other run is kept
-pub changed_beside : (other : ChannelSpec) (other_client : Option ℕ) (stage : ChannelStage) (head : FileHead) (own : List BufferEntry) (got : List GotEvent) (old new : Seen) (name : List ℕ) → Touches old new name
-    → ((s : ChannelRun) → channel_run stage ≡ Some s → IsTrue old.tells → (n : ℕ) → n < files_by stage → name ≢ piece_name_by other.pattern s.run n) → ((s : ChannelRun) → written_run stage ≡ Some s → KeepsNumber old new s.at.file)
+pub changed_beside : (other : ChannelSpec) (other_client : Option ℕ) (stage : ChannelStage) (head : FileHead) (own : List BufferEntry) (got : List GotEvent) (old new : Seen) (name : List ℕ) → Touches old new name → GoesOn old new
+    → ((s : ChannelRun) → channel_run stage ≡ Some s → IsTrue old.names → (n : ℕ) → n < files_by stage → name ≢ piece_name_by other.pattern s.run n) → ((s : ChannelRun) → written_run stage ≡ Some s → KeepsNumber old new s.at.file)
     → ChannelStands other other_client stage head own got old → ChannelStands other other_client stage head own got new
-changed_beside other other_client stage head own got old new name touches names keeps stands =
+changed_beside other other_client stage head own got old new name touches on names keeps stands =
     files_beside other other_client stage head own got old new stands
-    (run_leaves other old new (channel_run stage) (written_run stage) (files_by stage) touches.tells (λ s is told n below. touches.others (piece_name_by other.pattern s.run n) (λ same. names s is told n below (sym same))) keeps)
+    (run_leaves other old new (channel_run stage) (written_run stage) (files_by stage) touches.names on (λ s is told n below. touches.others (piece_name_by other.pattern s.run n) (λ same. names s is told n below (sym same))) keeps)
 
 -- a name of the one channel is none of the other: it was made by the one before, or is new
 names_differ : (spec other : ChannelSpec) (client other_client : Option ℕ) (stage other_stage : ChannelStage) (other_head : FileHead) (own : List BufferEntry) (got : List GotEvent) (old : Seen) (now : ℕ) (r s : ChannelRun)
-    → ChannelsApart old spec client stage other other_client other_stage → ChannelStands other other_client other_stage other_head own got old → channel_run stage ≡ Some r → channel_run other_stage ≡ Some s → IsTrue old.tells
+    → ChannelsApart old spec client stage other other_client other_stage → ChannelStands other other_client other_stage other_head own got old → channel_run stage ≡ Some r → channel_run other_stage ≡ Some s → IsTrue old.names
     → ((n : ℕ) → files_by stage ≤ n → n < now → old.at (piece_name_by spec.pattern r.run n) ≡ None) → (i j : ℕ) → i < now → j < files_by other_stage → piece_name_by spec.pattern r.run i ≢ piece_name_by other.pattern s.run j
 names_differ spec other client other_client stage other_stage other_head own got old now r s apart stands is other_is told fresh i j below other_below = elim (leb_tells (files_by stage) i) as (λ w. piece_name_by spec.pattern r.run i ≢ piece_name_by other.pattern s.run j) [
   | inl least ↦ λ same. not_gone (old.at (piece_name_by other.pattern s.run j)) (made_there other other_client other_stage other_head own got old stands s other_is told j other_below)
@@ -70,11 +70,11 @@ names_differ spec other client other_client stage other_stage other_head own got
 changed_leaves : (spec other : ChannelSpec) (client other_client : Option ℕ) (stage other_stage : ChannelStage) (other_head : FileHead) (own : List BufferEntry) (got : List GotEvent) (old new : Seen) (now : ℕ) (run : Option ChannelRun) → channel_run stage ≡ run
     → ChangesRun spec run (written_run stage) (files_by stage) now old new → ChannelsApart old spec client stage other other_client other_stage → ChannelStands other other_client other_stage other_head own got old → LeavesChannelFiles other other_stage old new
 changed_leaves spec other client other_client stage other_stage other_head own got old new now None is changes apart stands =
-    run_leaves other old new (channel_run other_stage) (written_run other_stage) (files_by other_stage) (ap (λ (x : Seen). x.tells) changes)
+    run_leaves other old new (channel_run other_stage) (written_run other_stage) (files_by other_stage) (ap (λ (x : Seen). x.names) changes) (on_same (ap (λ (x : Seen). x.done) changes))
     (λ s other_is told n below. ap (λ (x : Seen). x.at (piece_name_by other.pattern s.run n)) changes)
     (λ s other_is. rw changes (KeepsNumber-refl old s.at.file))
 changed_leaves spec other client other_client stage other_stage other_head own got old new now (Some r) is changes apart stands =
-    run_leaves other old new (channel_run other_stage) (written_run other_stage) (files_by other_stage) changes.tells
+    run_leaves other old new (channel_run other_stage) (written_run other_stage) (files_by other_stage) changes.told changes.on
     (λ s other_is told n below. changes.others (piece_name_by other.pattern s.run n) (λ k lower same.
     names_differ spec other client other_client stage other_stage other_head own got old now r s apart stands is other_is told (λ m least under. changes.fresh m least under told) k n lower below (sym same)))
     (λ s other_is. changes.numbers s.at.file (last_used other other_client other_stage other_head own got old stands s other_is).writes (λ w written same. apart.numbers w s written other_is (sym same)))
@@ -163,7 +163,7 @@ stage_beside other client other_client other_stage head other_head p seen room (
 
 -- Its files, and what is apart behind it.
 
-run_fresh : (spec : ChannelSpec) (run written : Option ChannelRun) (before now : ℕ) (old new : Seen) (v : ChannelRun) → run ≡ Some v → ChangesRun spec run written before now old new → IsTrue old.tells → (n : ℕ) → before ≤ n → n < now → old.at (piece_name_by spec.pattern v.run n) ≡ None
+run_fresh : (spec : ChannelSpec) (run written : Option ChannelRun) (before now : ℕ) (old new : Seen) (v : ChannelRun) → run ≡ Some v → ChangesRun spec run written before now old new → IsTrue old.names → (n : ℕ) → before ≤ n → n < now → old.at (piece_name_by spec.pattern v.run n) ≡ None
 run_fresh spec None written before now old new v is changes told n least below = absurd (cc (is))
 run_fresh spec (Some r) written before now old new v is changes told n least below =
     let same : r ≡ v = cc (is) in
@@ -171,10 +171,10 @@ run_fresh spec (Some r) written before now old new v is changes told n least bel
 
 later_names : (p : PullOf) (other : ChannelSpec) (client other_client : Option ℕ) (other_stage : ChannelStage) (other_head : FileHead) (own : List BufferEntry) (got : List GotEvent) → ChangesRun p.spec (channel_run p.stage) (written_run p.stage) (files_by p.stage) (files_by p.later_stage) p.files p.later_files
     → KeepsRun p.files p.stage p.later_stage → ChannelsApart p.files p.spec client p.stage other other_client other_stage → ChannelStands other other_client other_stage other_head own got p.files
-    → (r s : ChannelRun) → channel_run p.later_stage ≡ Some r → channel_run other_stage ≡ Some s → IsTrue p.later_files.tells → (i j : ℕ) → i < files_by p.later_stage → j < files_by other_stage → piece_name_by p.spec.pattern r.run i ≢ piece_name_by other.pattern s.run j
+    → (r s : ChannelRun) → channel_run p.later_stage ≡ Some r → channel_run other_stage ≡ Some s → IsTrue p.later_files.names → (i j : ℕ) → i < files_by p.later_stage → j < files_by other_stage → piece_name_by p.spec.pattern r.run i ≢ piece_name_by other.pattern s.run j
 later_names p other client other_client other_stage other_head own got changes keeps apart stands r s is other_is told i j below other_below =
     let before : (v : ChannelRun) × (channel_run p.stage ≡ Some v) × (v.run ≡ r.run) = same_run (channel_run p.stage) (channel_run p.later_stage) (sym keeps.run) r is in
-    let told_before : IsTrue p.files.tells = sym (run_tells p.spec (channel_run p.stage) (written_run p.stage) _ _ p.files p.later_files changes) ∙ told in
+    let told_before : IsTrue p.files.names = sym (run_tells p.spec (channel_run p.stage) (written_run p.stage) _ _ p.files p.later_files changes) ∙ told in
     subst (λ (n : ℕ). piece_name_by p.spec.pattern n i ≢ piece_name_by other.pattern s.run j) before.2
     (names_differ p.spec other client other_client p.stage other_stage other_head own got p.files (files_by p.later_stage) before.0 s apart stands before.1 other_is told_before
     (run_fresh p.spec (channel_run p.stage) (written_run p.stage) (files_by p.stage) (files_by p.later_stage) p.files p.later_files before.0 before.1 changes told_before) i j below other_below)

@@ -4,6 +4,7 @@ use Rattle.std.proofs.Common.{arith, sym, subst, inl, inr}
 use Rattle.daq_types.specs.declared.events.Event.{Event}
 use Rattle.daq_types.specs.declared.runs.ChannelState.{ChannelState}
 use Rattle.daq_types.specs.declared.runs.ChannelState.TheVariants.{Broken as IsBroken}
+use Rattle.daq_io.specs.declared.folder.FileState.TheVariants.{Closed}
 use Rattle.daq_io.specs.Seen.{Seen, Closes}
 use Rattle.buffer_core.specs.declared.entry.BufferEntry.{BufferEntry}
 use Rattle.buffer_core.specs.declared.entry.BufferEntry.TheVariants.{Cancel}
@@ -74,7 +75,7 @@ settled spec client (Drained run) state time dump head own got old new faults la
 settled spec client (Broken run fallen) state time dump head own got old new faults later closes stands = record { port = stands.port; own_client = stands.own_client; at = stands.at.nothing }
 
 whole_left : (spec : ChannelSpec) (client : Option ℕ) (run : BegunRun) (head : FileHead) (time : ℕ) (dump : Option (List ℕ)) (own : List BufferEntry) (got : List GotEvent) (old new : Seen) → DrainedWith (FilesHold spec head old) spec client run own got
-    → Closes old new run.opened.at.file (last_bytes run.opened.run run.ended time dump) → HasClosed spec head run (run.opened.at.sub + 1) time dump own got new
+    → Closes old new run.opened.at.file Closed (last_bytes run.opened.run run.ended time dump) → HasClosed spec head run (run.opened.at.sub + 1) time dump own got new
 whole_left spec client run head time dump own got old new at closes = record {
   events = at.events;
   number = at.holds.run;

@@ -1,8 +1,9 @@
 -- Which files and numbers change where an event is written, or a call on the files fails.
 use Rattle.std.specs.Prelude.{◌≡◌, ◌≢◌, ◌⊎◌, ◌<◌, ◌≤◌, ◌+◌, ℕ, Bool, true, false, IsTrue, List, [], length, None, refl}
 use Rattle.std.proofs.Common.{arith, ap, sym, subst, ◌∙◌, inl, inr}
-use Rattle.daq_io.specs.Seen.{Seen, InUse, KeepsNumber, KeepsOthers, Touches, Same, Creates, Closes}
-use Rattle.daq_io.proofs.SeenLaws.{KeepsNumber-trans, Same-refl, Extends-name, Extends-writes}
+use Rattle.daq_io.specs.declared.folder.FileState.{FileState}
+use Rattle.daq_io.specs.Seen.{Seen, GoesOn, InUse, KeepsNumber, KeepsOthers, Touches, Same, Creates, LeavesFile}
+use Rattle.daq_io.proofs.SeenLaws.{KeepsNumber-trans, Same-refl, Extends-name, Extends-writes, on_more, on_same, on_then}
 use Rattle.sub_files.specs.declared.open_file.Fallen.{Fallen}
 use Rattle.sub_files.specs.declared.open_file.OpenFile.{OpenFile}
 use Rattle.sub_files.specs.declared.open_file.RunHead.{RunHead}
@@ -20,7 +21,8 @@ use Rattle.mid_logger.specs.Pulls.{run_series}
 -- Of these names the files of the first changed at most, so many as are made now. What was not made before had no file. Each number
 -- that was in use for writing stays, but this one.
 pub record Moved (names : ℕ → List ℕ) (first now file : ℕ) (a b : Seen) : Type 0 where
-  pub tells : b.tells ≡ a.tells
+  pub told : b.names ≡ a.names
+  pub on : GoesOn a b
   pub others : (name : List ℕ) → ((n : ℕ) → n < now → name ≢ names n) → b.at name ≡ a.at name
   pub fresh : (n : ℕ) → first ≤ n → n < now → IsGone a (names n)
   pub numbers : (number : ℕ) → IsTrue (a.writes number) → number ≢ file → KeepsNumber a b number
@@ -35,7 +37,8 @@ not_free seen used free writes none same =
 
 pub same_moved : (names : ℕ → List ℕ) (first file : ℕ) (a b : Seen) → Same a b → Moved names first first file a b
 same_moved names first file a b same = record {
-  tells = same.files.tells;
+  told = same.files.names;
+  on = on_same same.files.done;
   others = λ name apart. same.files.at name;
   fresh = λ n least below. absurd (omega (arith, least, below));
   numbers = λ number used other. same.numbers number;
@@ -43,7 +46,8 @@ same_moved names first file a b same = record {
 
 made_moved : (names : ℕ → List ℕ) (first now file made : ℕ) (a b : Seen) (bytes : List ℕ) → now ≡ first + 1 → Creates a b (names first) made bytes → Moved names first now file a b
 made_moved names first now file made a b bytes is makes = record {
-  tells = makes.touches.tells;
+  told = makes.touches.names;
+  on = on_same makes.done;
   others = λ name apart. makes.touches.others name (apart first (omega (arith, is)));
   fresh = λ n least below told. (let one : first ≡ n = omega (arith, is, least, below) in subst (λ (k : ℕ). a.at (names k) ≡ None) one (makes.fresh told));
   numbers = λ number used other. makes.others number (not_free a number made used makes.was_free.writes);
@@ -56,18 +60,19 @@ other_than a m file number used other is_new = elim is_new as (λ w. number ≢ 
 ]
 
 -- one step more, on the file of this name and number
-touched : (names : ℕ → List ℕ) (first now file k m : ℕ) (a b c : Seen) → Moved names first now file a b → k < now → Touches b c (names k) → KeepsOthers b c m → (m ≡ file) ⊎ (a.writes m ≡ false) → Moved names first now file a c
-touched names first now file k m a b c moved below touches others is_new = record {
-  tells = touches.tells ∙ moved.tells;
+touched : (names : ℕ → List ℕ) (first now file k m : ℕ) (a b c : Seen) → Moved names first now file a b → k < now → Touches b c (names k) → GoesOn b c → KeepsOthers b c m → (m ≡ file) ⊎ (a.writes m ≡ false) → Moved names first now file a c
+touched names first now file k m a b c moved below touches on others is_new = record {
+  told = touches.names ∙ moved.told;
+  on = on_then moved.on on;
   others = λ name apart. touches.others name (apart k below) ∙ moved.others name apart;
   fresh = moved.fresh;
   numbers = λ number used other. KeepsNumber-trans (moved.numbers number used other) (others number (other_than a m file number used other is_new));
 }
 
 -- the same by what a close tells
-pub closed_moved : (names : ℕ → List ℕ) (first now file k m : ℕ) (a b c : Seen) (bytes : List ℕ) → Moved names first now file a b → k < now → b.name_of m ≡ names k → Closes b c m bytes → (m ≡ file) ⊎ (a.writes m ≡ false) → Moved names first now file a c
-closed_moved names first now file k m a b c bytes moved below named closes is_new =
-    touched names first now file k m a b c moved below (subst (λ (name : List ℕ). Touches b c name) named closes.touches) closes.others is_new
+pub closed_moved : {state : FileState} (names : ℕ → List ℕ) (first now file k m : ℕ) (a b c : Seen) (bytes : List ℕ) → Moved names first now file a b → k < now → b.name_of m ≡ names k → LeavesFile b c m state bytes → (m ≡ file) ⊎ (a.writes m ≡ false) → Moved names first now file a c
+closed_moved names first now file k m a b c bytes moved below named leaves is_new =
+    touched names first now file k m a b c moved below (subst (λ (name : List ℕ). Touches b c name) named leaves.touches) (on_more _ leaves.done) leaves.others is_new
 
 -- The file, which may be the next one, is in use under its name.
 pub record ReadyAt (names : ℕ → List ℕ) (old ready : OpenFile) (a b : Seen) : Type 0 where
@@ -105,21 +110,21 @@ record OldEnded (names : ℕ → List ℕ) (old : OpenFile) (file : ℕ) (a ende
   writes : IsTrue (ended.writes file)
   is_new : a.writes file ≡ false
 
-old_ended : (names : ℕ → List ℕ) (old : OpenFile) (file : ℕ) (a made ended : Seen) (bytes : List ℕ) → BothOpen names old file a made → Closes made ended old.file bytes → OldEnded names old file a ended
-old_ended names old file a made ended bytes both closes = record {
-  moved = closed_moved names (old.sub + 1) (old.sub + 2) old.file old.sub old.file a made ended bytes both.moved (omega arith) both.old_named closes (inl refl);
-  named = (closes.others file both.apart).name (in_use made file both.writes) ∙ both.named;
-  writes = (closes.others file both.apart).writes ∙ both.writes;
+old_ended : {state : FileState} (names : ℕ → List ℕ) (old : OpenFile) (file : ℕ) (a made ended : Seen) (bytes : List ℕ) → BothOpen names old file a made → LeavesFile made ended old.file state bytes → OldEnded names old file a ended
+old_ended names old file a made ended bytes both leaves = record {
+  moved = closed_moved names (old.sub + 1) (old.sub + 2) old.file old.sub old.file a made ended bytes both.moved (omega arith) both.old_named leaves (inl refl);
+  named = (leaves.others file both.apart).name (in_use made file both.writes) ∙ both.named;
+  writes = (leaves.others file both.apart).writes ∙ both.writes;
   is_new = both.is_new;
 }
 
 rolled : (names : ℕ → List ℕ) (head : RunHead) (dump : List ℕ) (old ready : OpenFile) (a b : Seen) → IsTrue (a.writes old.file) → a.name_of old.file ≡ names old.sub → old.sub < last_number → RollsOn (names (old.sub + 1)) head dump old ready a b → ReadyAt names old ready a b
 rolled names head dump old ready a b writes named left rolls =
     let both : BothOpen names old rolls.file a rolls.made = both_open names old rolls.file a rolls.made [] writes named rolls.makes in
-    let ended : OldEnded names old rolls.file a rolls.rolls.ended = old_ended names old rolls.file a rolls.made rolls.rolls.ended (between head) both rolls.rolls.ends in
+    let ended : OldEnded names old rolls.file a rolls.rolls.ended = old_ended names old rolls.file a rolls.made rolls.rolls.ended (between head) both rolls.rolls.ends.leaves in
     let extends = rolls.rolls.begins in
     let moved : Moved names (old.sub + 1) (old.sub + 2) old.file a b =
-    touched names (old.sub + 1) (old.sub + 2) old.file (old.sub + 1) rolls.file a rolls.rolls.ended b ended.moved (omega arith) (subst (λ (name : List ℕ). Touches rolls.rolls.ended b name) ended.named extends.touches) (λ other ne. extends.numbers other) (inr ended.is_new) in
+    touched names (old.sub + 1) (old.sub + 2) old.file (old.sub + 1) rolls.file a rolls.rolls.ended b ended.moved (omega arith) (subst (λ (name : List ℕ). Touches rolls.rolls.ended b name) ended.named extends.wrote.touches) (on_same extends.wrote.done) extends.wrote.others (inr ended.is_new) in
     let two : old.sub + 2 ≡ (old.sub + 1) + 1 = omega arith in
     let now : ReadyAt names old (next_file dump old rolls.file) a b = record {
       moved = subst (λ (n : ℕ). Moved names (old.sub + 1) n old.file a b) two moved;
@@ -157,7 +162,7 @@ wrote_at spec opened dump later event a b file writes =
     moves_on names spec.sub_bytes s.head dump opened.at writes.ready (length event) a writes.middle (begins_next spec.sub_bytes (head_bytes dump) opened.at (length event)) refl file.writes file.named writes.moves in
     let extends = writes.writes in
     let moved : Moved names (opened.at.sub + 1) (writes.ready.sub + 1) opened.at.file a b =
-    touched names (opened.at.sub + 1) (writes.ready.sub + 1) opened.at.file writes.ready.sub writes.ready.file a writes.middle b at.moved (omega arith) (subst (λ (name : List ℕ). Touches writes.middle b name) at.named extends.touches) (λ other ne. extends.numbers other) at.is_new in
+    touched names (opened.at.sub + 1) (writes.ready.sub + 1) opened.at.file writes.ready.sub writes.ready.file a writes.middle b at.moved (omega arith) (subst (λ (name : List ℕ). Touches writes.middle b name) at.named extends.wrote.touches) (on_same extends.wrote.done) extends.wrote.others at.is_new in
     let now : ReadyAt names opened.at (counted_in spec.sub_bytes writes.ready (length event)) a b = record {
       moved = moved;
       writes = Extends-writes extends;
@@ -176,15 +181,15 @@ make_fell : (names : ℕ → List ℕ) (old : OpenFile) (fallen : Fallen) (a b :
 make_fell names old fallen a b writes named makes =
     let here : makes.made.name_of old.file ≡ names old.sub = (makes.same.numbers old.file).name (in_use a old.file writes) ∙ named in
     let now : FellAt names old (old.sub + 1) a b = record {
-      moved = closed_moved names (old.sub + 1) (old.sub + 1) old.file old.sub old.file a makes.made b [] (same_moved names (old.sub + 1) old.file a makes.made makes.same) (omega arith) here makes.closes (inl refl);
+      moved = closed_moved names (old.sub + 1) (old.sub + 1) old.file old.sub old.file a makes.made b [] (same_moved names (old.sub + 1) old.file a makes.made makes.same) (omega arith) here makes.closes.closes.leaves (inl refl);
       within = inl refl;
     } in
     rw makes.fallen_is now
 
 -- the new file is closed too
-both_fell : (names : ℕ → List ℕ) (old : OpenFile) (file : ℕ) (a ended b : Seen) (bytes : List ℕ) → OldEnded names old file a ended → Closes ended b file bytes → old.sub < last_number → FellAt names old (old.sub + 2) a b
-both_fell names old file a ended b bytes at closes left = record {
-  moved = closed_moved names (old.sub + 1) (old.sub + 2) old.file (old.sub + 1) file a ended b bytes at.moved (omega arith) at.named closes (inr at.is_new);
+both_fell : {state : FileState} (names : ℕ → List ℕ) (old : OpenFile) (file : ℕ) (a ended b : Seen) (bytes : List ℕ) → OldEnded names old file a ended → LeavesFile ended b file state bytes → old.sub < last_number → FellAt names old (old.sub + 2) a b
+both_fell names old file a ended b bytes at leaves left = record {
+  moved = closed_moved names (old.sub + 1) (old.sub + 2) old.file (old.sub + 1) file a ended b bytes at.moved (omega arith) at.named leaves (inr at.is_new);
   within = inr (refl, left);
 }
 
@@ -193,8 +198,8 @@ roll_fell : (names : ℕ → List ℕ) (head : RunHead) (dump : List ℕ) (old :
 roll_fell names head dump old fallen a b writes named left rolls =
     let both : BothOpen names old rolls.file a rolls.made = both_open names old rolls.file a rolls.made [] writes named rolls.makes in
     elim rolls.fails as (λ w. FellAt names old fallen.files a b) [
-      | inl ends ↦ rw ends.fallen_is (both_fell names old rolls.file a ends.ended b _ (old_ended names old rolls.file a rolls.made ends.ended _ both ends.ends.closes) ends.closes left)
-      | inr begins ↦ rw begins.fallen_is (both_fell names old rolls.file a begins.ended b _ (old_ended names old rolls.file a rolls.made begins.ended _ both begins.ends) begins.closes.closes left)
+      | inl ends ↦ rw ends.fallen_is (both_fell names old rolls.file a ends.ended b _ (old_ended names old rolls.file a rolls.made ends.ended _ both ends.ends.leaves) ends.closes.closes.leaves left)
+      | inr begins ↦ rw begins.fallen_is (both_fell names old rolls.file a begins.ended b _ (old_ended names old rolls.file a rolls.made begins.ended _ both begins.ends.leaves) begins.closes.leaves left)
     ]
 
 move_fell : (names : ℕ → List ℕ) (head : RunHead) (dump : List ℕ) (old : OpenFile) (fallen : Fallen) (a b : Seen) → IsTrue (a.writes old.file) → a.name_of old.file ≡ names old.sub → old.sub < last_number → FailsMove (names (old.sub + 1)) head dump old fallen a b
@@ -212,7 +217,7 @@ ready_within old ready steps = elim steps as (λ w. (ready.sub + 1 ≡ old.sub +
 
 append_fell : (names : ℕ → List ℕ) (old ready : OpenFile) (a middle b : Seen) (event : List ℕ) → ReadyAt names old ready a middle → ClosesPart middle b ready.file event → FellAt names old (ready.sub + 1) a b
 append_fell names old ready a middle b event at part = record {
-  moved = closed_moved names (old.sub + 1) (ready.sub + 1) old.file ready.sub ready.file a middle b _ at.moved (omega arith) at.named part.closes at.is_new;
+  moved = closed_moved names (old.sub + 1) (ready.sub + 1) old.file ready.sub ready.file a middle b _ at.moved (omega arith) at.named part.leaves at.is_new;
   within = ready_within old ready at.steps;
 }
 

@@ -9,8 +9,9 @@ use Rattle.daq_types.specs.declared.runs.Order.{Order}
 use Rattle.daq_types.specs.declared.runs.Why.{Why}
 use Rattle.daq_types.specs.declared.runs.Why.TheVariants.{NotReady, Exists, Fault, BufferRefused}
 use Rattle.event.specs.Events.{record_limit}
-use Rattle.daq_io.specs.Seen.{Seen, Stored, Closes}
-use Rattle.daq_io.proofs.SeenLaws.{KeepsNumber-trans, Same-refl, name_tells}
+use Rattle.daq_io.specs.declared.folder.FileState.{FileState}
+use Rattle.daq_io.specs.Seen.{Seen, Stored, LeavesFile}
+use Rattle.daq_io.proofs.SeenLaws.{KeepsNumber-trans, Same-refl, name_tells, on_same, on_then}
 use Rattle.buffer_core.specs.declared.entry.BufferEntry.{BufferEntry}
 use Rattle.buffer_core.specs.Ports.{GotEvent}
 use Rattle.sub_files.specs.Patterns.{piece_name_by}
@@ -26,7 +27,7 @@ use Rattle.mid_logger.specs.ChannelTurns.{ChannelAt, OpensBy, RefusesRun, draine
 use Rattle.mid_logger.specs.ChannelEnds.{DropsRun, RemovesRun, ClosesRead, ClosesFile, HasLeft, end_of, last_bytes}
 use Rattle.mid_logger.specs.Keeping.{ChangesFiles, ChangesRun, KeepsThere, KeepsRun, OpensRunFile, any_file, order_head}
 use Rattle.mid_logger.proofs.FileMoves.{Moved, same_moved, closed_moved}
-use Rattle.mid_logger.proofs.FilesStay.{run_there, fallen_there}
+use Rattle.sub_files.proofs.FilesStay.{run_there, fallen_there}
 use Rattle.mid_logger.proofs.PullSteps.{pull_kept}
 use Rattle.mid_logger.proofs.PullChanges.{none_changed, changes_of, pull_changes, pull_known}
 use Rattle.mid_logger.proofs.StageSteps.{made_there, last_used}
@@ -37,19 +38,20 @@ pub not_gone : (o : Option Stored) → IsSome o → o ≡ None → ⊥
 not_gone o some none = let never : false ≡ true = subst (λ (x : Option Stored). IsSome x) none some in cc (never)
 
 -- A file that is written is closed, with these bytes more.
-closed_changes : (spec : ChannelSpec) (opened : ChannelRun) (old new : Seen) (bytes : List ℕ) → HasLastOpen old spec opened → Closes old new opened.at.file bytes → Moved (piece_name_by spec.pattern opened.run) (opened.at.sub + 1) (opened.at.sub + 1) opened.at.file old new
-closed_changes spec opened old new bytes file closes =
+closed_changes : {state : FileState} (spec : ChannelSpec) (opened : ChannelRun) (old new : Seen) (bytes : List ℕ) → HasLastOpen old spec opened → LeavesFile old new opened.at.file state bytes → Moved (piece_name_by spec.pattern opened.run) (opened.at.sub + 1) (opened.at.sub + 1) opened.at.file old new
+closed_changes spec opened old new bytes file leaves =
     let names : ℕ → List ℕ = piece_name_by spec.pattern opened.run in
-    closed_moved names (opened.at.sub + 1) (opened.at.sub + 1) opened.at.file opened.at.sub opened.at.file old old new bytes (same_moved names (opened.at.sub + 1) opened.at.file old old (Same-refl old)) (omega arith) file.named closes (inl refl)
+    closed_moved names (opened.at.sub + 1) (opened.at.sub + 1) opened.at.file opened.at.sub opened.at.file old old new bytes (same_moved names (opened.at.sub + 1) opened.at.file old old (Same-refl old)) (omega arith) file.named leaves (inl refl)
 
 -- Calling off.
 
 drop_changes : (spec : ChannelSpec) (opened : ChannelRun) (old new : Seen) (faults later : ℕ) → HasLastOpen old spec opened → DropsRun spec (Some opened) opened.run (opened.at.sub + 1) old new faults later
     → ChangesFiles (piece_name_by spec.pattern opened.run) (opened.at.sub + 1) (opened.at.sub + 1) (Some opened) old new
 drop_changes spec opened old new faults later file drops =
-    let moved : Moved (piece_name_by spec.pattern opened.run) (opened.at.sub + 1) (opened.at.sub + 1) opened.at.file old drops.closed = closed_changes spec opened old drops.closed [] file drops.closes in
+    let moved : Moved (piece_name_by spec.pattern opened.run) (opened.at.sub + 1) (opened.at.sub + 1) opened.at.file old drops.closed = closed_changes spec opened old drops.closed [] file drops.closes.closes.leaves in
     record {
-      tells = drops.removes.tells ∙ moved.tells;
+      told = drops.removes.told ∙ moved.told;
+      on = on_then moved.on drops.removes.on;
       others = λ name apart. drops.removes.others name apart ∙ moved.others name apart;
       fresh = λ n least below. absurd (omega (arith, least, below));
       numbers = λ number used other. KeepsNumber-trans (moved.numbers number used (other opened refl)) (drops.removes.numbers number);
@@ -58,7 +60,8 @@ drop_changes spec opened old new faults later file drops =
 left_changes : (spec : ChannelSpec) (run many : ℕ) (old new : Seen) (faults later : ℕ) → DropsRun spec None run many old new faults later → ChangesFiles (piece_name_by spec.pattern run) many many None old new
 left_changes spec run many old new faults later drops =
     let here : ChangesFiles (piece_name_by spec.pattern run) many many None drops.closed new = record {
-      tells = drops.removes.tells;
+      told = drops.removes.told;
+      on = drops.removes.on;
       others = λ name apart. drops.removes.others name apart;
       fresh = λ n least below. absurd (omega (arith, least, below));
       numbers = λ number used other. drops.removes.numbers number;
@@ -78,8 +81,8 @@ abort_changes spec (Broken run fallen) old new faults later removes file = left_
 
 read_changes : (spec : ChannelSpec) (run : BegunRun) (state : ChannelState) (time : ℕ) (dump : Option (List ℕ)) (old new : Seen) (faults later : ℕ) → ClosesRead state run time dump old new faults later → HasLastOpen old spec run.opened
     → Moved (piece_name_by spec.pattern run.opened.run) (run.opened.at.sub + 1) (run.opened.at.sub + 1) run.opened.at.file old new
-read_changes spec run IsBroken time dump old new faults later closes file = closed_changes spec run.opened old new _ file closes.0.closes
-read_changes spec run state time dump old new faults later closes file = closed_changes spec run.opened old new _ file closes.1
+read_changes spec run IsBroken time dump old new faults later closes file = closed_changes spec run.opened old new _ file closes.0.leaves
+read_changes spec run state time dump old new faults later closes file = closed_changes spec run.opened old new _ file closes.1.leaves
 
 pub close_changes : (spec : ChannelSpec) (stage : ChannelStage) (state : ChannelState) (time : ℕ) (dump : Option (List ℕ)) (old new : Seen) (faults later : ℕ) → ClosesFile (drained_run stage) stage state time dump old new faults later
     → IsLastOpen old spec (written_run stage) → ChangesRun spec (channel_run stage) (written_run stage) (files_by stage) (files_by stage) old new
@@ -108,9 +111,9 @@ among names (suc k) name = elim (name_tells name (names k)) as (λ w. ((n : ℕ)
   ]
 ]
 
-there_kept : (names : ℕ → List ℕ) (before now : ℕ) (written : Option ChannelRun) (old new : Seen) → ChangesFiles names before now written old new → (IsTrue new.tells → (n : ℕ) → n < now → IsSome (new.at (names n))) → KeepsThere old new
+there_kept : (names : ℕ → List ℕ) (before now : ℕ) (written : Option ChannelRun) (old new : Seen) → ChangesFiles names before now written old new → (IsTrue new.names → (n : ℕ) → n < now → IsSome (new.at (names n))) → KeepsThere old new
 there_kept names before now written old new changes made = λ told name here. elim (among names now name) as (λ w. IsSome (new.at name)) [
-  | inl found ↦ subst (λ (m : List ℕ). IsSome (new.at m)) (sym found.2) (made (changes.tells ∙ told) found.0 found.1)
+  | inl found ↦ subst (λ (m : List ℕ). IsSome (new.at m)) (sym found.2) (made (changes.told ∙ told) found.0 found.1)
   | inr apart ↦ subst (λ (o : Option Stored). IsSome o) (sym (changes.others name apart)) here
 ]
 
@@ -139,12 +142,12 @@ last_open : (spec : ChannelSpec) (seen : Seen) (written : Option ChannelRun) →
 last_open spec seen None used = tt
 last_open spec seen (Some r) used = used r refl
 
-known_then : (spec : ChannelSpec) (stage : ChannelStage) (old new : Seen) → new.tells ≡ old.tells → KeepsThere old new → KnowsTaken old spec stage → KnowsTaken new spec stage
-known_then spec stage old new tells there known = λ o is taken told. (let before : IsTrue old.tells = sym tells ∙ told in there before _ (known o is taken before))
+known_then : (spec : ChannelSpec) (stage : ChannelStage) (old new : Seen) → new.names ≡ old.names → KeepsThere old new → KnowsTaken old spec stage → KnowsTaken new spec stage
+known_then spec stage old new tells there known = λ o is taken told. (let before : IsTrue old.names = sym tells ∙ told in there before _ (known o is taken before))
 
-pub run_tells : (spec : ChannelSpec) (run written : Option ChannelRun) (before now : ℕ) (old new : Seen) → ChangesRun spec run written before now old new → new.tells ≡ old.tells
-run_tells spec None written before now old new changes = ap (λ (s : Seen). s.tells) changes
-run_tells spec (Some opened) written before now old new changes = changes.tells
+pub run_tells : (spec : ChannelSpec) (run written : Option ChannelRun) (before now : ℕ) (old new : Seen) → ChangesRun spec run written before now old new → new.names ≡ old.names
+run_tells spec None written before now old new changes = ap (λ (s : Seen). s.names) changes
+run_tells spec (Some opened) written before now old new changes = changes.told
 
 pub pull_knows : (p : PullOf) (room : ℕ) (client : Option ℕ) (head : FileHead) → Pulls p room → head.dump ≡ p.dump → ChannelStands p.spec client p.stage head p.port.own p.port.got p.files
     → KeepsThere p.files p.later_files × (KnowsTaken p.files p.spec p.stage → KnowsTaken p.later_files p.spec p.later_stage)
@@ -155,7 +158,7 @@ pull_knows p room client head pulls is stands =
     (there, λ known. known_then p.spec p.later_stage p.files p.later_files (run_tells p.spec (channel_run p.stage) (written_run p.stage) _ _ p.files p.later_files changes.0) there (pull_known p room pulls known))
 
 -- each file of the run that was read is there
-read_there : (spec : ChannelSpec) (head : FileHead) (run : BegunRun) (state : ChannelState) (time : ℕ) (dump : Option (List ℕ)) (own : List BufferEntry) (got : List GotEvent) (seen : Seen) → HasLeft (Some run) (end_of (Drained run) state) spec head time dump own got seen → IsTrue seen.tells
+read_there : (spec : ChannelSpec) (head : FileHead) (run : BegunRun) (state : ChannelState) (time : ℕ) (dump : Option (List ℕ)) (own : List BufferEntry) (got : List GotEvent) (seen : Seen) → HasLeft (Some run) (end_of (Drained run) state) spec head time dump own got seen → IsTrue seen.names
     → (n : ℕ) → n < run.opened.at.sub + 1 → IsSome (seen.at (piece_name_by spec.pattern run.opened.run n))
 read_there spec head run IsBroken time dump own got seen has told n below =
     let there : IsSome (seen.at (piece_name_by spec.pattern head.run n)) = elim has.reads as (λ w. IsSome (seen.at (piece_name_by spec.pattern head.run n))) [
@@ -180,16 +183,18 @@ close_there spec client stage state time dump head own got old new faults later 
 refused_changes : (spec : ChannelSpec) (name : List ℕ) (why : Why) (a b : ChannelAt) → RefusesRun why spec name a b → OpensRunFile name a.files b.files
 refused_changes spec name NotReady a b refuses = absurd refuses
 refused_changes spec name (Exists channel) a b refuses = record {
-  touches = record { tells = refuses.2.files.tells; others = λ other ne. refuses.2.files.at other };
+  touches = record { names = refuses.2.files.names; others = λ other ne. refuses.2.files.at other };
+  on = on_same refuses.2.files.done;
   fresh = inr refuses.2.files.at;
   numbers = λ number used. refuses.2.numbers number;
 }
-refused_changes spec name (Fault channel) a b refuses = record { touches = refuses.2.touches; fresh = inl refuses.2.fresh; numbers = λ number used. refuses.2.numbers number }
-refused_changes spec name BufferRefused a b refuses = record { touches = refuses.1.touches; fresh = inl refuses.1.fresh; numbers = λ number used. refuses.1.numbers number }
+refused_changes spec name (Fault channel) a b refuses = record { touches = refuses.2.touches; on = refuses.2.on; fresh = inl refuses.2.fresh; numbers = λ number used. refuses.2.numbers number }
+refused_changes spec name BufferRefused a b refuses = record { touches = refuses.1.touches; on = refuses.1.on; fresh = inl refuses.1.fresh; numbers = λ number used. refuses.1.numbers number }
 
 open_file_changes : (spec : ChannelSpec) (order : Order) (dump : List ℕ) (r : Result ⊤ Why) (a b : ChannelAt) → OpensBy r spec order dump a b → OpensRunFile (file_name_by spec.pattern order.run) a.files b.files
 open_file_changes spec order dump (Ok done) a b opens = record {
   touches = opens.makes.touches;
+  on = on_same opens.makes.done;
   fresh = inl opens.makes.fresh;
   numbers = λ number used. opens.makes.others number (λ same.
       let never : true ≡ false = sym used ∙ (subst (λ (k : ℕ). a.files.writes k ≡ false) (sym same) opens.makes.was_free.writes) in cc (never));

@@ -18,7 +18,7 @@ use Rattle.sub_files.specs.Rolls.{fallen_at}
 use Rattle.mid_logger.specs.Channels.{FileHead, HasReadUntil, HasReadPart, series_at}
 use Rattle.mid_logger.specs.ChannelEnds.{HasClosed, HasBroken, HasLeftSo, HasLeftRead, last_bytes}
 use Rattle.mid_logger.specs.Beside.{LeavesFiles, LeavesRunFiles}
-use Rattle.mid_logger.proofs.FilesStay.{Stay, run_stay, fallen_stay}
+use Rattle.sub_files.proofs.FilesStay.{Stay, run_stay, fallen_stay}
 use Rattle.mid_logger.proofs.StageSteps.{on_push, cut_push, stay_by}
 
 until_more : (ended : Option ℕ) (own : List BufferEntry) (got : List GotEvent) (client id mask request start begun : ℕ) (events : List Event) (more : List BufferEntry) (gs : List GotEvent)

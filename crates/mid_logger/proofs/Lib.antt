@@ -1,7 +1,6 @@
 pub mod OwnSteps
 pub mod ReadSteps
 pub mod FileMoves
-pub mod FilesStay
 pub mod PullSteps
 pub mod StageSteps
 pub mod MarkSteps

@@ -6,6 +6,7 @@ use Rattle.daq_types.specs.declared.runs.Order.{Order}
 use Rattle.daq_types.specs.declared.runs.Why.{Why}
 use Rattle.daq_types.specs.declared.runs.Why.TheVariants.{NotReady, Exists, Fault, BufferRefused}
 use Rattle.daq_io.specs.Seen.{Seen, Creates, Same}
+use Rattle.daq_io.proofs.SeenLaws.{on_same}
 use Rattle.buffer_core.specs.declared.replies.NoSlot.{NoSlot}
 use Rattle.buffer_core.specs.declared.replies.RequestRefusal.{RequestRefusal}
 use Rattle.buffer_core.specs.declared.entry.BufferEntry.{BufferEntry}
@@ -103,7 +104,7 @@ asks_beside spec other client later request other_client other_stage other_head 
 
 -- a name that is free is none of those of the other channel's files
 names_apart : (other : ChannelSpec) (client : Option ℕ) (stage : ChannelStage) (head : FileHead) (own : List BufferEntry) (got : List GotEvent) (seen : Seen) (name : List ℕ) → IsGone seen name → ChannelStands other client stage head own got seen
-    → (s : ChannelRun) → channel_run stage ≡ Some s → IsTrue seen.tells → (n : ℕ) → n < files_by stage → name ≢ piece_name_by other.pattern s.run n
+    → (s : ChannelRun) → channel_run stage ≡ Some s → IsTrue seen.names → (n : ℕ) → n < files_by stage → name ≢ piece_name_by other.pattern s.run n
 names_apart other client stage head own got seen name gone stands s is told n below same =
     not_gone (seen.at (piece_name_by other.pattern s.run n)) (made_there other client stage head own got seen stands s is told n below) (subst (λ (m : List ℕ). seen.at m ≡ None) same (gone told))
 
@@ -117,12 +118,12 @@ numbers_apart {seen} {new} {name} {bytes} {n} other client stage head own got cr
 undone_beside : {Rises : ℕ → ℕ → Type 0} (other : ChannelSpec) (client : Option ℕ) (stage : ChannelStage) (head : FileHead) (own : List BufferEntry) (got : List GotEvent) (old new : Seen) (name : List ℕ) (faults later : ℕ) → UndoesFile Rises old new name faults later
     → ChannelStands other client stage head own got old → ChannelStands other client stage head own got new
 undone_beside other client stage head own got old new name faults later undoes stands =
-    changed_beside other client stage head own got old new name undoes.touches (names_apart other client stage head own got old name undoes.fresh stands) (λ s is. undoes.numbers s.at.file) stands
+    changed_beside other client stage head own got old new name undoes.touches undoes.on (names_apart other client stage head own got old name undoes.fresh stands) (λ s is. undoes.numbers s.at.file) stands
 
 same_beside : (other : ChannelSpec) (client : Option ℕ) (stage : ChannelStage) (head : FileHead) (own : List BufferEntry) (got : List GotEvent) (old new : Seen) → Same old new → ChannelStands other client stage head own got old → ChannelStands other client stage head own got new
 same_beside other client stage head own got old new same stands =
     files_beside other client stage head own got old new stands
-    (run_leaves other old new (channel_run stage) (written_run stage) (files_by stage) same.files.tells (λ s is told n below. same.files.at (piece_name_by other.pattern s.run n)) (λ s is. same.numbers s.at.file))
+    (run_leaves other old new (channel_run stage) (written_run stage) (files_by stage) same.files.names (on_same same.files.done) (λ s is told n below. same.files.at (piece_name_by other.pattern s.run n)) (λ s is. same.numbers s.at.file))
 
 idle_apart : (seen : Seen) (spec : ChannelSpec) (client : Option ℕ) (stage : ChannelStage) (other : ChannelSpec) (other_client : Option ℕ) (other_stage : ChannelStage) → stage ≡ Idle → Differ client other_client → ChannelsApart seen spec client stage other other_client other_stage
 idle_apart seen spec client stage other other_client other_stage idle differ = record {
@@ -158,7 +159,7 @@ opened_apart spec other order a b at bytes other_client other_stage other_head c
           let none : 0 ≡ i = omega (arith, below, first) in
           subst (λ (n : ℕ). piece_name_by spec.pattern r.run n ≢ piece_name_by other.pattern s.run j) none
           (subst (λ (k : ChannelRun). file_name_by spec.pattern k.run ≢ piece_name_by other.pattern s.run j) same
-          (names_apart other other_client other_stage other_head a.port.own a.port.got a.files (file_name_by spec.pattern order.run) creates.fresh stands s other_is (sym creates.touches.tells ∙ told) j other_below));
+          (names_apart other other_client other_stage other_head a.port.own a.port.got a.files (file_name_by spec.pattern order.run) creates.fresh stands s other_is (sym creates.touches.names ∙ told) j other_below));
       numbers = λ r s is other_is.
           let same : opened ≡ r = cc (is) in
           subst (λ (k : ChannelRun). k.at.file ≢ s.at.file) same (numbers_apart other other_client other_stage other_head a.port.own a.port.got creates stands s other_is);
@@ -170,7 +171,7 @@ pub opens_beside : (spec : ChannelSpec) (order : Order) (dump : List ℕ) (answe
     → OtherAt other other_client other_stage other_head b.port b.files × ChannelsApart b.files spec b.client b.stage other other_client other_stage
 opens_beside spec order dump (Ok done) a b head other other_client other_stage other_head opens none idle at apart stands =
     let asks = asks_beside spec other a.client b.client (Some opens.asks.request) other_client other_stage other_head a.port b.port a.files opens.asks.asks (none_in b.port.taken_back none) at.own_client apart.clients stands in (
-      changed_beside other other_client other_stage other_head b.port.own b.port.got a.files b.files (file_name_by spec.pattern order.run) opens.makes.touches
+      changed_beside other other_client other_stage other_head b.port.own b.port.got a.files b.files (file_name_by spec.pattern order.run) opens.makes.touches (on_same opens.makes.done)
           (names_apart other other_client other_stage other_head a.port.own a.port.got a.files (file_name_by spec.pattern order.run) opens.makes.fresh stands)
           (λ s is. opens.makes.others s.at.file (λ same. numbers_apart other other_client other_stage other_head a.port.own a.port.got opens.makes stands s is (sym same))) asks.0,
       opened_apart spec other order a b opens.at _ other_client other_stage other_head opens.makes (ap (λ (x : OpenFile). x.sub) opens.first) opens.asks asks.1 stands,

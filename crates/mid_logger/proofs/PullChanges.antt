@@ -5,7 +5,7 @@ use Rattle.std.proofs.Common.{arith, ap, sym, subst, ◌∙◌, inl, inr}
 use Rattle.daq_types.specs.declared.events.Event.{Event}
 use Rattle.event.specs.Events.{encoding}
 use Rattle.daq_io.specs.Seen.{Seen}
-use Rattle.daq_io.proofs.SeenLaws.{KeepsNumber-refl}
+use Rattle.daq_io.proofs.SeenLaws.{KeepsNumber-refl, on_same}
 use Rattle.buffer_core.specs.declared.replies.Received.{Received}
 use Rattle.buffer_core.specs.declared.replies.Received.TheVariants.{Got, Empty, NoClient, SmallBuf}
 use Rattle.sub_files.specs.declared.open_file.OpenFile.{OpenFile}
@@ -56,7 +56,8 @@ moved_few (Broken run fallen) at sub few = few
 pub none_changed : (names : ℕ → List ℕ) (before now : ℕ) (written : Option ChannelRun) (old new : Seen) → now ≤ before → new ≡ old → ChangesFiles names before now written old new
 none_changed names before now written old new fits same =
     let here : ChangesFiles names before now written old old = record {
-      tells = refl;
+      told = refl;
+      on = on_same refl;
       others = λ name apart. refl;
       fresh = λ n least below. absurd (omega (arith, fits, least, below));
       numbers = λ number used other. KeepsNumber-refl old number;
@@ -73,7 +74,7 @@ same_stage old stage = record { run = refl; made = omega arith; one = omega arit
 -- what is told of one open run
 pub changes_of : (names : ℕ → List ℕ) (first now before after : ℕ) (opened : ChannelRun) (a b : Seen) → before ≡ first → after ≡ now → Moved names first now opened.at.file a b → ChangesFiles names before after (Some opened) a b
 changes_of names first now before after opened a b is_first is_now moved =
-    rw (is_first, is_now) (record { tells = moved.tells; others = moved.others; fresh = moved.fresh; numbers = λ number used other. moved.numbers number used (other opened refl) })
+    rw (is_first, is_now) (record { told = moved.told; on = moved.on; others = moved.others; fresh = moved.fresh; numbers = λ number used other. moved.numbers number used (other opened refl) })
 
 -- A pull. What a reading stage has: its run, and what is written.
 
@@ -229,7 +230,7 @@ run_known p run later has is has_run known =
 
 -- the next name was found taken, or that was known before
 abbrev IsKnown : ChannelSpec → ChannelRun → OpenFile → Seen → Type 0
-IsKnown spec opened at a = IsTrue at.taken → IsTrue a.tells → IsSome (a.at (piece_name_by spec.pattern opened.run (at.sub + 1)))
+IsKnown spec opened at a = IsTrue at.taken → IsTrue a.names → IsSome (a.at (piece_name_by spec.pattern opened.run (at.sub + 1)))
 
 ready_known : (spec : ChannelSpec) (opened : ChannelRun) (head : RunHead) (dump : List ℕ) (ready : OpenFile) (a b : Seen) (begins : Bool) → IsKnown spec opened opened.at a → MovesOn begins (piece_name_by spec.pattern opened.run (opened.at.sub + 1)) head dump opened.at ready a b → IsKnown spec opened ready a
 ready_known spec opened head dump ready a b false known moves = rw moves.0 known

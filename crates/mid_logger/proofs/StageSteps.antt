@@ -24,7 +24,7 @@ use Rattle.mid_logger.specs.Channels.{FileHead, AsksNothing, FilesHold, FilesLef
 use Rattle.mid_logger.specs.Beside.{LeavesClient, LeavesRunOn, LeavesFiles, LeavesChannelFiles}
 use Rattle.mid_logger.proofs.OwnSteps.{own_push, own_client_push, nothing_push}
 use Rattle.mid_logger.proofs.ReadSteps.{leaves_receive}
-use Rattle.mid_logger.proofs.FilesStay.{Stay, holds_stay, fallen_stay, holds_there, fallen_there}
+use Rattle.sub_files.proofs.FilesStay.{Stay, holds_stay, fallen_stay, holds_there, fallen_there}
 
 -- a call that leaves the client, and gives it none of these events
 pub record GoesBeside (client : ℕ) (e : BufferEntry) (gs : List GotEvent) : Type 0 where
@@ -207,7 +207,8 @@ call_beside spec client stage head own got seen e stands none is_own leaves ends
 -- the run's files by their head
 pub stay_by : (spec : ChannelSpec) (head : FileHead) (run many : ℕ) (written : Option ChannelRun) (old new : Seen) → head.run ≡ run → LeavesFiles old new (piece_name_by spec.pattern run) many written → Stay old new (series_at spec head) many
 stay_by spec head run many written old new is leaves = record {
-  tells = leaves.tells;
+  told = leaves.told;
+  on = leaves.on;
   at = λ told n below. subst (λ (r : ℕ). new.at (piece_name_by spec.pattern r n) ≡ old.at (piece_name_by spec.pattern r n)) (sym is) (leaves.at told n below);
 }
 
@@ -252,19 +253,19 @@ files_beside spec client stage head own got old new stands leaves = record { por
 there_by : (spec : ChannelSpec) (head : FileHead) (run n : ℕ) (seen : Seen) → head.run ≡ run → IsSome (seen.at (piece_name_by spec.pattern head.run n)) → IsSome (seen.at (piece_name_by spec.pattern run n))
 there_by spec head run n seen is there = subst (λ (r : ℕ). IsSome (seen.at (piece_name_by spec.pattern r n))) is there
 
-hold_there : (spec : ChannelSpec) (head : FileHead) (seen : Seen) (opened r : ChannelRun) (events : List Event) (n : ℕ) → FilesHold spec head seen opened events → Some opened ≡ Some r → IsTrue seen.tells → n < opened.at.sub + 1 → IsSome (seen.at (piece_name_by spec.pattern r.run n))
+hold_there : (spec : ChannelSpec) (head : FileHead) (seen : Seen) (opened r : ChannelRun) (events : List Event) (n : ℕ) → FilesHold spec head seen opened events → Some opened ≡ Some r → IsTrue seen.names → n < opened.at.sub + 1 → IsSome (seen.at (piece_name_by spec.pattern r.run n))
 hold_there spec head seen opened r events n holds is told below =
     let same : opened ≡ r = cc (is) in
     subst (λ (x : ChannelRun). IsSome (seen.at (piece_name_by spec.pattern x.run n))) same (there_by spec head opened.run n seen holds.run (holds_there seen (series_at spec head) opened.at events n holds.holds told below))
 
-left_there : (spec : ChannelSpec) (head : FileHead) (seen : Seen) (opened r : ChannelRun) (fallen : Fallen) (events : List Event) (n : ℕ) → FilesLeft spec head seen opened fallen events → Some opened ≡ Some r → IsTrue seen.tells → n < fallen.files
+left_there : (spec : ChannelSpec) (head : FileHead) (seen : Seen) (opened r : ChannelRun) (fallen : Fallen) (events : List Event) (n : ℕ) → FilesLeft spec head seen opened fallen events → Some opened ≡ Some r → IsTrue seen.names → n < fallen.files
     → IsSome (seen.at (piece_name_by spec.pattern r.run n))
 left_there spec head seen opened r fallen events n left is told below =
     let same : opened ≡ r = cc (is) in
     subst (λ (x : ChannelRun). IsSome (seen.at (piece_name_by spec.pattern x.run n))) same (there_by spec head opened.run n seen left.run (fallen_there seen (series_at spec head) fallen [] events n left.part told below))
 
 pub made_there : (spec : ChannelSpec) (client : Option ℕ) (stage : ChannelStage) (head : FileHead) (own : List BufferEntry) (got : List GotEvent) (seen : Seen) → ChannelStands spec client stage head own got seen → (r : ChannelRun) → channel_run stage ≡ Some r
-    → IsTrue seen.tells → (n : ℕ) → n < files_by stage → IsSome (seen.at (piece_name_by spec.pattern r.run n))
+    → IsTrue seen.names → (n : ℕ) → n < files_by stage → IsSome (seen.at (piece_name_by spec.pattern r.run n))
 made_there spec client Idle head own got seen stands r is told n below = absurd (cc (is))
 made_there spec client (Asking opened) head own got seen stands r is told n below = hold_there spec head seen opened r _ n stands.at.holds is told below
 made_there spec client (Writing opened begun) head own got seen stands r is told n below = hold_there spec head seen opened r _ n stands.at.holds is told below

@@ -4,7 +4,7 @@ use Rattle.daq_types.specs.declared.runs.ChannelEnd.{ChannelEnd}
 use Rattle.daq_types.specs.declared.runs.ChannelState.{ChannelState}
 use Rattle.daq_types.specs.declared.runs.Order.{Order}
 use Rattle.daq_types.specs.declared.runs.Why.{Why}
-use Rattle.daq_io.specs.Seen.{Seen, KeepsNumber}
+use Rattle.daq_io.specs.Seen.{Seen, GoesOn, KeepsNumber}
 use Rattle.buffer_core.specs.declared.entry.BufferEntry.{BufferEntry}
 use Rattle.buffer_core.specs.declared.entry.BufferEntry.TheVariants.{Receive}
 use Rattle.buffer_core.specs.Ports.{Access, GotEvent, name_of, name_given}
@@ -42,8 +42,9 @@ LeavesNumber (Some opened) old new = KeepsNumber old new opened.at.file
 -- The files of the first of these names, so many, stay as they are, where they are told, and so does the number under which the
 -- last one is written, if it is.
 pub record LeavesFiles (old new : Seen) (names : ℕ → List ℕ) (many : ℕ) (written : Option ChannelRun) : Type 0 where
-  pub tells : new.tells ≡ old.tells
-  pub at : IsTrue old.tells → (n : ℕ) → n < many → new.at (names n) ≡ old.at (names n)
+  pub told : new.names ≡ old.names
+  pub on : GoesOn old new
+  pub at : IsTrue old.names → (n : ℕ) → n < many → new.at (names n) ≡ old.at (names n)
   pub number : LeavesNumber written old new
 
 abbrev pub LeavesRunFiles : ChannelSpec → (run written : Option ChannelRun) → (many : ℕ) → (old new : Seen) → Type 0
@@ -75,7 +76,7 @@ FilesBeside = (spec : ChannelSpec) → (client : Option ℕ) → (stage : Channe
 -- names, where names are told, and the last ones are under two numbers, where both are written.
 pub record ChannelsApart (seen : Seen) (spec : ChannelSpec) (client : Option ℕ) (stage : ChannelStage) (other : ChannelSpec) (other_client : Option ℕ) (other_stage : ChannelStage) : Type 0 where
   pub clients : (c d : ℕ) → client ≡ Some c → other_client ≡ Some d → c ≢ d
-  pub names : (r s : ChannelRun) → channel_run stage ≡ Some r → channel_run other_stage ≡ Some s → IsTrue seen.tells →
+  pub names : (r s : ChannelRun) → channel_run stage ≡ Some r → channel_run other_stage ≡ Some s → IsTrue seen.names →
       (i j : ℕ) → i < files_by stage → j < files_by other_stage →
       piece_name_by spec.pattern r.run i ≢ piece_name_by other.pattern s.run j
   pub numbers : (r s : ChannelRun) → written_run stage ≡ Some r → written_run other_stage ≡ Some s → r.at.file ≢ s.at.file

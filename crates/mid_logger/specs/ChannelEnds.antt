@@ -7,13 +7,14 @@ use Rattle.daq_types.specs.declared.runs.ChannelState.TheVariants.{Ended, NoEnd,
 use Rattle.event.specs.Events.{encoding}
 use Rattle.event.specs.RunFile.{end_record, IsFileEvent}
 use Rattle.daq_io.specs.Counts.{Rose, first_of}
+use Rattle.daq_io.specs.declared.folder.FileState.TheVariants.{Closed}
 use Rattle.daq_io.specs.Seen.{Seen, Closes}
 use Rattle.buffer_core.specs.declared.entry.BufferEntry.{BufferEntry}
 use Rattle.buffer_core.specs.Ports.{Access, GotEvent}
 use Rattle.sub_files.specs.declared.open_file.Fallen.{Fallen}
 use Rattle.sub_files.specs.Patterns.{piece_name_by}
 use Rattle.sub_files.specs.Pieces.{HasRun, HasPart}
-use Rattle.sub_files.specs.RecordFiles.{ClosesPart, RemovesNames, AreGone, LeavesForFaults, NamesMore, NamesOneOf}
+use Rattle.sub_files.specs.RecordFiles.{AreGone, ClosesAnyhow, ClosesPart, LeavesForFaults, NamesMore, NamesOneOf, RemovesNames}
 use Rattle.sub_files.specs.Rolls.{fallen_at}
 use Rattle.mid_logger.specs.declared.channel_spec.ChannelSpec.{ChannelSpec}
 use Rattle.mid_logger.specs.declared.stage.ChannelRun.{ChannelRun}
@@ -29,10 +30,10 @@ abbrev pub CancelsStanding : Option ChannelRun → (a b : Access) → Type 0
 CancelsStanding None a b = b ≡ a
 CancelsStanding (Some opened) a b = CancelsRequest a b opened
 
--- the last file, if it is being written, is closed
+-- the last file, if it is being written, is closed, whole or in vain
 abbrev pub ClosesOpen : Option ChannelRun → (a b : Seen) → Type 0
 ClosesOpen None a b = b ≡ a
-ClosesOpen (Some opened) a b = Closes a b opened.at.file []
+ClosesOpen (Some opened) a b = ClosesAnyhow a b opened.at.file
 
 -- the name of the last file, if it is being written
 abbrev pub name_written : Seen → Option ChannelRun → List ℕ
@@ -52,8 +53,8 @@ pub record DropsRun (spec : ChannelSpec) (written : Option ChannelRun) (run many
   pub closes : ClosesOpen written a closed
   pub counted : faults ≤ between
   pub removes : RemovesNames (piece_name_by spec.pattern run) many closed b
-  pub leaves : LeavesForFaults (piece_name_by spec.pattern run) many b between later
-  pub gone : AreGone b (piece_name_by spec.pattern run) many ⊎ Rose faults later
+  pub leaves : LeavesForFaults (piece_name_by spec.pattern run) many closed b between later
+  pub gone : AreGone closed b (piece_name_by spec.pattern run) many ⊎ Rose faults later
 
 -- All files of the channel's run are removed, so many. Where it has none, nothing is done.
 abbrev pub RemovesRun : (run written : Option ChannelRun) → ChannelSpec → (many : ℕ) → (a b : Seen) → (faults later : ℕ) → Type 0
@@ -104,7 +105,7 @@ stage_settled stage = Idle
 abbrev pub ClosesRead : ChannelState → BegunRun → (time : ℕ) → (dump : Option (List ℕ)) → (a b : Seen) → (faults later : ℕ) → Type 0
 ClosesRead IsBroken run time dump a b faults later = ClosesPart a b run.opened.at.file (last_bytes run.opened.run run.ended time dump) × Rose faults later
 ClosesRead state run time dump a b faults later =
-    (state ≡ state_ended run.ended dump) × Closes a b run.opened.at.file (last_bytes run.opened.run run.ended time dump) × (later ≡ faults)
+    (state ≡ state_ended run.ended dump) × Closes a b run.opened.at.file Closed (last_bytes run.opened.run run.ended time dump) × (later ≡ faults)
 
 -- What becomes of a channel's file: where its client has read the run, it is closed; else no call is made.
 abbrev pub ClosesFile : Option BegunRun → ChannelStage → ChannelState → (time : ℕ) → (dump : Option (List ℕ)) → (a b : Seen) → (faults later : ℕ) → Type 0

@@ -189,7 +189,7 @@ stage_at stage at = stage
 
 -- Where the channel found the name of the file behind its last one taken, there is a file of that name, where names are told.
 abbrev pub KnowsTaken : Seen → ChannelSpec → ChannelStage → Type 0
-KnowsTaken seen spec stage = (opened : ChannelRun) → channel_run stage ≡ Some opened → IsTrue opened.at.taken → IsTrue seen.tells →
+KnowsTaken seen spec stage = (opened : ChannelRun) → channel_run stage ≡ Some opened → IsTrue opened.at.taken → IsTrue seen.names →
     IsSome (seen.at (piece_name_by spec.pattern opened.run (opened.at.sub + 1)))
 
 -- the stage once the run was begun at this place

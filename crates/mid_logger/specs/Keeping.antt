@@ -5,7 +5,7 @@ use Rattle.daq_types.specs.declared.runs.ChannelState.{ChannelState}
 use Rattle.daq_types.specs.declared.runs.Order.{Order}
 use Rattle.daq_types.specs.declared.runs.Why.{Why}
 use Rattle.event.specs.Events.{record_limit}
-use Rattle.daq_io.specs.Seen.{Seen, KeepsNumber, Touches}
+use Rattle.daq_io.specs.Seen.{Seen, GoesOn, KeepsNumber, Touches}
 use Rattle.buffer_core.specs.declared.replies.MarkRefusal.{MarkRefusal}
 use Rattle.buffer_core.specs.declared.entry.BufferEntry.{BufferEntry}
 use Rattle.buffer_core.specs.declared.entry.BufferEntry.TheVariants.{Begin, End}
@@ -30,7 +30,8 @@ use Rattle.mid_logger.specs.ChannelEnds.{CancelsStanding, RemovesRun, ClosesFile
 -- had no file, where names are told. Each number that was in use for writing stays, but that of the file that was written, if there
 -- is one.
 pub record ChangesFiles (names : ℕ → List ℕ) (before now : ℕ) (written : Option ChannelRun) (old new : Seen) : Type 0 where
-  pub tells : new.tells ≡ old.tells
+  pub told : new.names ≡ old.names
+  pub on : GoesOn old new
   pub others : (name : List ℕ) → ((n : ℕ) → n < now → name ≢ names n) → new.at name ≡ old.at name
   pub fresh : (n : ℕ) → before ≤ n → n < now → IsGone old (names n)
   pub numbers : (number : ℕ) → IsTrue (old.writes number) → ((r : ChannelRun) → written ≡ Some r → number ≢ r.at.file) →
@@ -44,7 +45,7 @@ ChangesRun spec (Some opened) written before now old new =
 
 -- where names are told, each name that was there is there
 abbrev pub KeepsThere : (old new : Seen) → Type 0
-KeepsThere old new = IsTrue old.tells → (name : List ℕ) → IsSome (old.at name) → IsSome (new.at name)
+KeepsThere old new = IsTrue old.names → (name : List ℕ) → IsSome (old.at name) → IsSome (new.at name)
 
 -- A pull.
 
@@ -145,6 +146,7 @@ OpensAlone = (spec : ChannelSpec) → (order : Order) → (dump : List ℕ) → 
 -- that was in use for writing stays.
 pub record OpensRunFile (name : List ℕ) (old new : Seen) : Type 0 where
   pub touches : Touches old new name
+  pub on : GoesOn old new
   pub fresh : IsGone old name ⊎ ((other : List ℕ) → new.at other ≡ old.at other)
   pub numbers : (number : ℕ) → IsTrue (old.writes number) → KeepsNumber old new number
 
@@ -159,7 +161,7 @@ FilesThere = (spec : ChannelSpec) → (client : Option ℕ) → (stage : Channel
     (own : List BufferEntry) → (got : List GotEvent) →
     (seen : Seen) → ChannelStands spec client stage head own got seen → (opened : ChannelRun) →
     channel_run stage ≡ Some opened →
-    IsTrue seen.tells → (n : ℕ) → n < files_by stage → IsSome (seen.at (piece_name_by spec.pattern opened.run n))
+    IsTrue seen.names → (n : ℕ) → n < files_by stage → IsSome (seen.at (piece_name_by spec.pattern opened.run n))
 
 -- Marks.
 

@@ -153,7 +153,7 @@ impl Channel {
         place: u64,
         dump: &[u8],
     ) -> Pulled
-        requires file { HasLastOpen (F.seen files.old) self.old.spec run.opened }
+        requires file { HasLastOpen (F.told files.old).seen self.old.spec run.opened }
         requires small { length dump.now ≤ record_limit }
         ensures spec { self.new.spec ≡ self.old.spec }
         ensures client { self.new.client ≡ self.old.client }
@@ -166,19 +166,19 @@ impl Channel {
           later_stage = self.new.stage;
           port = P.access port.old;
           later_port = P.access port.new;
-          files = F.seen files.old;
-          later_files = F.seen files.new;
+          files = (F.told files.old).seen;
+          later_files = (F.told files.new).seen;
           answer = result;
         }) run place self.old.event.event }
         ensures few { files_by self.old.stage ≤ 10000 → files_by self.new.stage ≤ 10000 }
-        ensures faults { PullFaults result (F.faults files.old) (F.faults files.new) }
-        ensures clashes { RisesWith self.old.spec.sub_bytes (F.clashes files.old)
-            (F.clashes files.new) }
+        ensures faults { PullFaults result (F.told files.old).faults (F.told files.new).faults }
+        ensures clashes { RisesWith self.old.spec.sub_bytes (F.told files.old).clashes
+            (F.told files.new).clashes }
         ensures first { PullNames result (open_name self.old.spec (Some run.opened))
-            (name_behind self.old.spec (Some run.opened)) (F.first files.old)
-            (F.first files.new) }
+            (name_behind self.old.spec (Some run.opened)) (F.told files.old).first
+            (F.told files.new).first }
         ensures file { reading_run self.old.stage ≡ Some run →
-            IsLastOpen (F.seen files.new) self.new.spec (written_run self.new.stage) }
+            IsLastOpen (F.told files.new).seen self.new.spec (written_run self.new.stage) }
     {
         let head = RunHead {
             run: run.opened.run,
@@ -219,7 +219,7 @@ impl Channel {
         place: u64,
         dump: &[u8],
     ) -> Pulled
-        requires file { HasLastOpen (F.seen files.old) self.old.spec run.opened }
+        requires file { HasLastOpen (F.told files.old).seen self.old.spec run.opened }
         requires small { length dump.now ≤ record_limit }
         ensures spec { self.new.spec ≡ self.old.spec }
         ensures client { self.new.client ≡ self.old.client }
@@ -232,19 +232,19 @@ impl Channel {
           later_stage = self.new.stage;
           port = P.access port.old;
           later_port = P.access port.new;
-          files = F.seen files.old;
-          later_files = F.seen files.new;
+          files = (F.told files.old).seen;
+          later_files = (F.told files.new).seen;
           answer = result;
         }) run place self.old.event.event }
         ensures few { files_by self.old.stage ≤ 10000 → files_by self.new.stage ≤ 10000 }
-        ensures faults { PullFaults result (F.faults files.old) (F.faults files.new) }
-        ensures clashes { RisesWith self.old.spec.sub_bytes (F.clashes files.old)
-            (F.clashes files.new) }
+        ensures faults { PullFaults result (F.told files.old).faults (F.told files.new).faults }
+        ensures clashes { RisesWith self.old.spec.sub_bytes (F.told files.old).clashes
+            (F.told files.new).clashes }
         ensures first { PullNames result (open_name self.old.spec (Some run.opened))
-            (name_behind self.old.spec (Some run.opened)) (F.first files.old)
-            (F.first files.new) }
+            (name_behind self.old.spec (Some run.opened)) (F.told files.old).first
+            (F.told files.new).first }
         ensures file { reading_run self.old.stage ≡ Some run →
-            IsLastOpen (F.seen files.new) self.new.spec (written_run self.new.stage) }
+            IsLastOpen (F.told files.new).seen self.new.spec (written_run self.new.stage) }
     {
         if is_behind(run.ended, place) {
             self.end_reading(rt, port, run);
@@ -265,7 +265,7 @@ impl Channel {
         port: &mut P,
         dump: &[u8],
     ) -> Pulled
-        requires file { IsLastOpen (F.seen files.old) self.old.spec (written_run self.old.stage) }
+        requires file { IsLastOpen (F.told files.old).seen self.old.spec (written_run self.old.stage) }
         requires small { length dump.now ≤ record_limit }
         requires room { min event_limit ((P.access port.old).size - 24) ≤ self.old.event.room }
         ensures spec { self.new.spec ≡ self.old.spec }
@@ -279,23 +279,23 @@ impl Channel {
           later_stage = self.new.stage;
           port = P.access port.old;
           later_port = P.access port.new;
-          files = F.seen files.old;
-          later_files = F.seen files.new;
+          files = (F.told files.old).seen;
+          later_files = (F.told files.new).seen;
           answer = result;
         }) self.old.event.room }
         ensures few { files_by self.old.stage ≤ 10000 → files_by self.new.stage ≤ 10000 }
-        ensures faults { PullFaults result (F.faults files.old) (F.faults files.new) }
-        ensures clashes { RisesWith self.old.spec.sub_bytes (F.clashes files.old)
-            (F.clashes files.new) }
+        ensures faults { PullFaults result (F.told files.old).faults (F.told files.new).faults }
+        ensures clashes { RisesWith self.old.spec.sub_bytes (F.told files.old).clashes
+            (F.told files.new).clashes }
         ensures first { PullNames result (open_name self.old.spec (written_run self.old.stage))
-            (name_behind self.old.spec (written_run self.old.stage)) (F.first files.old)
-            (F.first files.new) }
-        ensures file { IsLastOpen (F.seen files.new) self.new.spec (written_run self.new.stage) }
+            (name_behind self.old.spec (written_run self.old.stage)) (F.told files.old).first
+            (F.told files.new).first }
+        ensures file { IsLastOpen (F.told files.new).seen self.new.spec (written_run self.new.stage) }
         ensures keeps { (head : FileHead) → head.dump ≡ dump.now →
             ChannelStands self.old.spec self.old.client self.old.stage head (P.access port.old).own
-            (P.access port.old).got (F.seen files.old) →
+            (P.access port.old).got (F.told files.old).seen →
             ChannelStands self.new.spec self.new.client self.new.stage head (P.access port.new).own
-            (P.access port.new).got (F.seen files.new) }
+            (P.access port.new).got (F.told files.new).seen }
     {
         self.pull_once(rt, files, port, dump)
     }
@@ -308,7 +308,7 @@ impl Channel {
         port: &mut P,
         dump: &[u8],
     ) -> Pulled
-        requires file { IsLastOpen (F.seen files.old) self.old.spec (written_run self.old.stage) }
+        requires file { IsLastOpen (F.told files.old).seen self.old.spec (written_run self.old.stage) }
         requires small { length dump.now ≤ record_limit }
         requires room { min event_limit ((P.access port.old).size - 24) ≤ self.old.event.room }
         ensures spec { self.new.spec ≡ self.old.spec }
@@ -322,18 +322,18 @@ impl Channel {
           later_stage = self.new.stage;
           port = P.access port.old;
           later_port = P.access port.new;
-          files = F.seen files.old;
-          later_files = F.seen files.new;
+          files = (F.told files.old).seen;
+          later_files = (F.told files.new).seen;
           answer = result;
         }) self.old.event.room }
         ensures few { files_by self.old.stage ≤ 10000 → files_by self.new.stage ≤ 10000 }
-        ensures faults { PullFaults result (F.faults files.old) (F.faults files.new) }
-        ensures clashes { RisesWith self.old.spec.sub_bytes (F.clashes files.old)
-            (F.clashes files.new) }
+        ensures faults { PullFaults result (F.told files.old).faults (F.told files.new).faults }
+        ensures clashes { RisesWith self.old.spec.sub_bytes (F.told files.old).clashes
+            (F.told files.new).clashes }
         ensures first { PullNames result (open_name self.old.spec (written_run self.old.stage))
-            (name_behind self.old.spec (written_run self.old.stage)) (F.first files.old)
-            (F.first files.new) }
-        ensures file { IsLastOpen (F.seen files.new) self.new.spec (written_run self.new.stage) }
+            (name_behind self.old.spec (written_run self.old.stage)) (F.told files.old).first
+            (F.told files.new).first }
+        ensures file { IsLastOpen (F.told files.new).seen self.new.spec (written_run self.new.stage) }
     {
         let Some(run) = run_read(self.stage) else {
             return Pulled::Nothing;
@@ -352,7 +352,7 @@ impl Channel {
         stopped: bool,
         dump: &[u8],
     ) -> Pulled
-        requires file { HasLastOpen (F.seen files.old) self.old.spec run.opened }
+        requires file { HasLastOpen (F.told files.old).seen self.old.spec run.opened }
         requires small { length dump.now ≤ record_limit }
         requires room { min event_limit ((P.access port.old).size - 24) ≤ self.old.event.room }
         requires stopped { stopped ≡ drains_at_none self.old.stage }
@@ -367,19 +367,19 @@ impl Channel {
           later_stage = self.new.stage;
           port = P.access port.old;
           later_port = P.access port.new;
-          files = F.seen files.old;
-          later_files = F.seen files.new;
+          files = (F.told files.old).seen;
+          later_files = (F.told files.new).seen;
           answer = result;
         }) run self.old.event.room }
         ensures few { files_by self.old.stage ≤ 10000 → files_by self.new.stage ≤ 10000 }
-        ensures faults { PullFaults result (F.faults files.old) (F.faults files.new) }
-        ensures clashes { RisesWith self.old.spec.sub_bytes (F.clashes files.old)
-            (F.clashes files.new) }
+        ensures faults { PullFaults result (F.told files.old).faults (F.told files.new).faults }
+        ensures clashes { RisesWith self.old.spec.sub_bytes (F.told files.old).clashes
+            (F.told files.new).clashes }
         ensures first { PullNames result (open_name self.old.spec (Some run.opened))
-            (name_behind self.old.spec (Some run.opened)) (F.first files.old)
-            (F.first files.new) }
+            (name_behind self.old.spec (Some run.opened)) (F.told files.old).first
+            (F.told files.new).first }
         ensures file { reading_run self.old.stage ≡ Some run →
-            IsLastOpen (F.seen files.new) self.new.spec (written_run self.new.stage) }
+            IsLastOpen (F.told files.new).seen self.new.spec (written_run self.new.stage) }
     {
         match port.receive(rt, run.opened.client, &mut self.event) {
             Received::Got { place, .. } => self.take(rt, files, port, run, place, dump),

@@ -3,6 +3,7 @@
 ghost use Rattle.std.specs.Prelude.{◌≡◌, ◌≤◌, ◌<◌, ◌^◌, ◌+◌, List, IsTrue, IsSome, IfSome, IfOk, OnOk, OnErr, Some, length};
 ghost use Rattle.event.specs.Events.{record_limit};
 ghost use Rattle.daq_io.specs.Counts.{CountsFault, NamesFirst};
+ghost use Rattle.daq_io.specs.declared.folder.FileState.TheVariants.{Closed};
 ghost use Rattle.daq_io.specs.Seen.{Closes};
 ghost use Rattle.buffer_core.specs.declared.entry.BufferEntry.{BufferEntry};
 ghost use Rattle.buffer_core.specs.Ports.{GotEvent};
@@ -152,13 +153,13 @@ fn both(first: Result<(), Failed>, second: Result<(), Failed>) -> Result<(), Fai
 /// Closes the file that is written in this stage, if there is one.
 fn close_written<F: Files>(files: &mut F, stage: ChannelStage) -> Result<(), Failed>
     requires { IfSome (written_run stage) (λ opened.
-        IsTrue ((F.seen files.old).writes opened.at.file)) }
+        IsTrue ((F.told files.old).seen.writes opened.at.file)) }
     ensures some { OnErr result (IsSome (written_run stage)) }
-    ensures closes { ClosesOpen (written_run stage) (F.seen files.old) (F.seen files.new) }
-    ensures faults { CountsFault (F.faults files.old) (F.faults files.new) result }
-    ensures clashes { F.clashes files.new ≡ F.clashes files.old }
-    ensures first { NamesFirst (name_written (F.seen files.old) (written_run stage))
-        (F.first files.old) (F.first files.new) result }
+    ensures closes { ClosesOpen (written_run stage) (F.told files.old).seen (F.told files.new).seen }
+    ensures faults { CountsFault (F.told files.old).faults (F.told files.new).faults result }
+    ensures clashes { (F.told files.new).clashes ≡ (F.told files.old).clashes }
+    ensures first { NamesFirst (name_written (F.told files.old).seen (written_run stage))
+        (F.told files.old).first (F.told files.new).first result }
 {
     match run_written(stage) {
         Some(opened) => files.close(opened.at.file),
@@ -174,17 +175,17 @@ fn close_read<F: Files>(
     time: u32,
     dump: &Option<Bytes>,
 ) -> Result<ChannelState, Failed>
-    requires writes { IsTrue ((F.seen files.old).writes run.opened.at.file) }
+    requires writes { IsTrue ((F.told files.old).seen.writes run.opened.at.file) }
     requires small { IfSome dump.now (λ bytes. length bytes ≤ record_limit) }
     ensures state { IfOk result (λ state. state ≡ state_ended run.ended dump.now) }
-    ensures whole { OnOk result (Closes (F.seen files.old) (F.seen files.new) run.opened.at.file
+    ensures whole { OnOk result (Closes (F.told files.old).seen (F.told files.new).seen run.opened.at.file Closed
         (last_bytes run.opened.run run.ended time dump.now)) }
-    ensures part { OnErr result (ClosesPart (F.seen files.old) (F.seen files.new) run.opened.at.file
+    ensures part { OnErr result (ClosesPart (F.told files.old).seen (F.told files.new).seen run.opened.at.file
         (last_bytes run.opened.run run.ended time dump.now)) }
-    ensures faults { CountsFault (F.faults files.old) (F.faults files.new) result }
-    ensures clashes { F.clashes files.new ≡ F.clashes files.old }
-    ensures first { NamesFirst ((F.seen files.old).name_of run.opened.at.file) (F.first files.old)
-        (F.first files.new) result }
+    ensures faults { CountsFault (F.told files.old).faults (F.told files.new).faults result }
+    ensures clashes { (F.told files.new).clashes ≡ (F.told files.old).clashes }
+    ensures first { NamesFirst ((F.told files.old).seen.name_of run.opened.at.file) (F.told files.old).first
+        (F.told files.new).first result }
 {
     let Some(_) = run.ended else {
         files.close(run.opened.at.file)?;
@@ -219,18 +220,18 @@ impl Channel {
     /// in mind.
     fn drop_files<F: Files>(&mut self, files: &mut F, opened: ChannelRun)
         requires run { channel_run self.old.stage ≡ Some opened }
-        requires file { IsLastOpen (F.seen files.old) self.old.spec (written_run self.old.stage) }
+        requires file { IsLastOpen (F.told files.old).seen self.old.spec (written_run self.old.stage) }
         requires few { files_by self.old.stage ≤ 10000 }
         ensures channel { self.new ≡ record self.old { failed = self.new.failed } }
         ensures drops { DropsRun self.old.spec (written_run self.old.stage) opened.run
-            (files_by self.old.stage) (F.seen files.old)
-            (F.seen files.new) (F.faults files.old) (F.faults files.new) }
-        ensures failed { NotesFault self.old.failed self.new.failed (F.faults files.old)
-            (F.faults files.new) }
-        ensures clashes { F.clashes files.new ≡ F.clashes files.old }
+            (files_by self.old.stage) (F.told files.old).seen
+            (F.told files.new).seen (F.told files.old).faults (F.told files.new).faults }
+        ensures failed { NotesFault self.old.failed self.new.failed (F.told files.old).faults
+            (F.told files.new).faults }
+        ensures clashes { (F.told files.new).clashes ≡ (F.told files.old).clashes }
         ensures first { NamesRun self.old.spec (Some opened) (written_run self.old.stage)
-            (files_by self.old.stage) (F.first files.old)
-            (F.first files.new) }
+            (files_by self.old.stage) (F.told files.old).first
+            (F.told files.new).first }
     {
         let stage = self.stage;
         let closed = close_written(files, stage);
@@ -244,19 +245,19 @@ impl Channel {
 
     /// Removes the files of the channel's run, if it has one.
     fn remove_run<F: Files>(&mut self, files: &mut F)
-        requires file { IsLastOpen (F.seen files.old) self.old.spec (written_run self.old.stage) }
+        requires file { IsLastOpen (F.told files.old).seen self.old.spec (written_run self.old.stage) }
         requires few { files_by self.old.stage ≤ 10000 }
         ensures channel { self.new ≡ record self.old { failed = self.new.failed } }
         ensures removes { RemovesRun (channel_run self.old.stage) (written_run self.old.stage)
             self.old.spec (files_by self.old.stage)
-            (F.seen files.old) (F.seen files.new) (F.faults files.old) (F.faults files.new) }
-        ensures failed { NotesFault self.old.failed self.new.failed (F.faults files.old)
-            (F.faults files.new) }
-        ensures clashes { F.clashes files.new ≡ F.clashes files.old }
+            (F.told files.old).seen (F.told files.new).seen (F.told files.old).faults (F.told files.new).faults }
+        ensures failed { NotesFault self.old.failed self.new.failed (F.told files.old).faults
+            (F.told files.new).faults }
+        ensures clashes { (F.told files.new).clashes ≡ (F.told files.old).clashes }
         ensures first { NamesRun self.old.spec (channel_run self.old.stage)
             (written_run self.old.stage)
-            (files_by self.old.stage) (F.first files.old)
-            (F.first files.new) }
+            (files_by self.old.stage) (F.told files.old).first
+            (F.told files.new).first }
     {
         let Some(opened) = run_had(self.stage) else {
             return;
@@ -267,26 +268,26 @@ impl Channel {
     /// Calls the run off, if there is one: its request is cancelled, the file that is written is closed, and all files of the
     /// run are removed, by rising number.
     pub fn abort<R: Wait, F: Files, P: BufferPort>(&mut self, rt: &R, files: &mut F, port: &mut P)
-        requires file { IsLastOpen (F.seen files.old) self.old.spec (written_run self.old.stage) }
+        requires file { IsLastOpen (F.told files.old).seen self.old.spec (written_run self.old.stage) }
         requires few { files_by self.old.stage ≤ 10000 }
         ensures channel { self.new ≡ record self.old { stage = Idle; failed = self.new.failed } }
         ensures cancels { CancelsStanding (asking_run self.old.stage) (P.access port.old)
             (P.access port.new) }
         ensures removes { RemovesRun (channel_run self.old.stage) (written_run self.old.stage)
             self.old.spec (files_by self.old.stage)
-            (F.seen files.old) (F.seen files.new) (F.faults files.old) (F.faults files.new) }
-        ensures failed { NotesFault self.old.failed self.new.failed (F.faults files.old)
-            (F.faults files.new) }
-        ensures clashes { F.clashes files.new ≡ F.clashes files.old }
+            (F.told files.old).seen (F.told files.new).seen (F.told files.old).faults (F.told files.new).faults }
+        ensures failed { NotesFault self.old.failed self.new.failed (F.told files.old).faults
+            (F.told files.new).faults }
+        ensures clashes { (F.told files.new).clashes ≡ (F.told files.old).clashes }
         ensures first { NamesRun self.old.spec (channel_run self.old.stage)
             (written_run self.old.stage)
-            (files_by self.old.stage) (F.first files.old)
-            (F.first files.new) }
+            (files_by self.old.stage) (F.told files.old).first
+            (F.told files.new).first }
         ensures keeps { (head : FileHead) →
             ChannelStands self.old.spec self.old.client self.old.stage head (P.access port.old).own
-            (P.access port.old).got (F.seen files.old) →
+            (P.access port.old).got (F.told files.old).seen →
             ChannelStands self.new.spec self.new.client self.new.stage head (P.access port.new).own
-            (P.access port.new).got (F.seen files.new) }
+            (P.access port.new).got (F.told files.new).seen }
     {
         self.cancel_standing(rt, port);
         self.remove_run(files);
@@ -296,29 +297,29 @@ impl Channel {
     /// Ends the file of a run that the channel's client has read, and answers what became of the run's files. A channel that
     /// broke off says so; one that still reads its run goes on.
     pub fn close<F: Files>(&mut self, files: &mut F, time: u32, dump: &Option<Bytes>) -> ChannelEnd
-        requires file { IsLastOpen (F.seen files.old) self.old.spec (written_run self.old.stage) }
+        requires file { IsLastOpen (F.told files.old).seen self.old.spec (written_run self.old.stage) }
         requires small { IfSome dump.now (λ bytes. length bytes ≤ record_limit) }
         ensures channel { self.new ≡ record self.old
             { stage = stage_settled self.old.stage; failed = self.new.failed } }
         ensures told { result ≡ end_of self.old.stage result.state }
         ensures closes { ClosesFile (drained_run self.old.stage) self.old.stage result.state time
-            dump.now (F.seen files.old) (F.seen files.new) (F.faults files.old)
-            (F.faults files.new) }
-        ensures failed { NotesFault self.old.failed self.new.failed (F.faults files.old)
-            (F.faults files.new) }
-        ensures clashes { F.clashes files.new ≡ F.clashes files.old }
+            dump.now (F.told files.old).seen (F.told files.new).seen (F.told files.old).faults
+            (F.told files.new).faults }
+        ensures failed { NotesFault self.old.failed self.new.failed (F.told files.old).faults
+            (F.told files.new).faults }
+        ensures clashes { (F.told files.new).clashes ≡ (F.told files.old).clashes }
         ensures first { EndNames self.old.spec (drained_run self.old.stage)
-            (F.first files.old) (F.first files.new) }
+            (F.told files.old).first (F.told files.new).first }
         ensures left { (head : FileHead) → (own : List BufferEntry) → (got : List GotEvent) →
             ChannelStands self.old.spec self.old.client self.old.stage head own got
-            (F.seen files.old) →
+            (F.told files.old).seen →
             HasLeft (left_run self.old.stage) result self.old.spec head time dump.now own got
-            (F.seen files.new) }
+            (F.told files.new).seen }
         ensures keeps { (head : FileHead) → (own : List BufferEntry) → (got : List GotEvent) →
             ChannelStands self.old.spec self.old.client self.old.stage head own got
-            (F.seen files.old) →
+            (F.told files.old).seen →
             ChannelStands self.new.spec self.new.client self.new.stage head own got
-            (F.seen files.new) }
+            (F.told files.new).seen }
     {
         let stage = self.stage;
         let state = self.close_file(files, time, dump);
@@ -332,17 +333,17 @@ impl Channel {
         time: u32,
         dump: &Option<Bytes>,
     ) -> ChannelState
-        requires file { IsLastOpen (F.seen files.old) self.old.spec (written_run self.old.stage) }
+        requires file { IsLastOpen (F.told files.old).seen self.old.spec (written_run self.old.stage) }
         requires small { IfSome dump.now (λ bytes. length bytes ≤ record_limit) }
         ensures channel { self.new ≡ record self.old
             { stage = stage_settled self.old.stage; failed = self.new.failed } }
         ensures closes { ClosesFile (drained_run self.old.stage) self.old.stage result time dump.now
-            (F.seen files.old) (F.seen files.new) (F.faults files.old) (F.faults files.new) }
-        ensures failed { NotesFault self.old.failed self.new.failed (F.faults files.old)
-            (F.faults files.new) }
-        ensures clashes { F.clashes files.new ≡ F.clashes files.old }
+            (F.told files.old).seen (F.told files.new).seen (F.told files.old).faults (F.told files.new).faults }
+        ensures failed { NotesFault self.old.failed self.new.failed (F.told files.old).faults
+            (F.told files.new).faults }
+        ensures clashes { (F.told files.new).clashes ≡ (F.told files.old).clashes }
         ensures first { EndNames self.old.spec (drained_run self.old.stage)
-            (F.first files.old) (F.first files.new) }
+            (F.told files.old).first (F.told files.new).first }
     {
         let stage = self.stage;
         self.stage = settled_stage(stage);

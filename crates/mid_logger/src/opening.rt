@@ -9,7 +9,7 @@ ghost use Rattle.mid_logger.specs.declared.stage.ChannelStage.TheVariants.{Idle}
 ghost use Rattle.mid_logger.specs.Patterns.{file_name_by};
 ghost use Rattle.mid_logger.specs.Channels.{FileHead, ChannelStands, IsLastOpen, written_run, files_by};
 ghost use Rattle.mid_logger.specs.Pulls.{NamesMore};
-ghost use Rattle.mid_logger.specs.RecordFiles.{DropsFile, IsGone};
+ghost use Rattle.mid_logger.specs.RecordFiles.{DropsFile, IsUndone};
 ghost use Rattle.mid_logger.specs.ChannelTurns.{AsksEvents, StartsAsking, HasClient, OpensBy, OpenFaults, OpenClashes, OpenFirst, NotesFault, IsRefusalOf, failed_at};
 
 use crate::channel::Channel;
@@ -98,17 +98,17 @@ impl Channel {
 
     /// Closes and removes the file of this number and name. A failure is kept in mind.
     fn drop_run<F: Files>(&mut self, files: &mut F, file: u32, name: &FileName)
-        requires writes { IsTrue ((F.seen files.old).writes file) }
-        requires named { (F.seen files.old).name_of file ≡ name.now }
+        requires writes { IsTrue ((F.told files.old).seen.writes file) }
+        requires named { (F.told files.old).seen.name_of file ≡ name.now }
         ensures channel { self.new ≡ record self.old { failed = self.new.failed } }
-        ensures drops { DropsFile (F.seen files.old) (F.seen files.new) file name.now }
-        ensures gone { IsGone (F.seen files.new) name.now
-            ⊎ Rose (F.faults files.old) (F.faults files.new) }
-        ensures failed { NotesFault self.old.failed self.new.failed (F.faults files.old)
-            (F.faults files.new) }
-        ensures faults { F.faults files.old ≤ F.faults files.new }
-        ensures clashes { F.clashes files.new ≡ F.clashes files.old }
-        ensures first { NamesMore name.now (F.first files.old) (F.first files.new) }
+        ensures drops { DropsFile (F.told files.old).seen (F.told files.new).seen file name.now }
+        ensures gone { IsUndone (F.told files.old).seen (F.told files.new).seen name.now
+            ⊎ Rose (F.told files.old).faults (F.told files.new).faults }
+        ensures failed { NotesFault self.old.failed self.new.failed (F.told files.old).faults
+            (F.told files.new).faults }
+        ensures faults { (F.told files.old).faults ≤ (F.told files.new).faults }
+        ensures clashes { (F.told files.new).clashes ≡ (F.told files.old).clashes }
+        ensures first { NamesMore name.now (F.told files.old).first (F.told files.new).first }
     {
         match drop_file(files, file, name) {
             Ok(()) => {}
@@ -125,8 +125,8 @@ impl Channel {
         order: &Order,
         at: OpenFile,
     ) -> Result<(), Why>
-        requires writes { IsTrue ((F.seen files.old).writes at.file) }
-        requires named { (F.seen files.old).name_of at.file
+        requires writes { IsTrue ((F.told files.old).seen.writes at.file) }
+        requires named { (F.told files.old).seen.name_of at.file
             ≡ file_name_by self.old.spec.pattern order.now.run }
         ensures spec { self.new.spec ≡ self.old.spec }
         ensures event { self.new.event ≡ self.old.event }
@@ -134,33 +134,33 @@ impl Channel {
           client = self.old.client;
           stage = self.old.stage;
           port = P.access port.old;
-          files = F.seen files.old;
-          faults = F.faults files.old;
+          files = (F.told files.old).seen;
+          faults = (F.told files.old).faults;
         }) (record {
           client = self.new.client;
           stage = self.new.stage;
           port = P.access port.new;
-          files = F.seen files.new;
-          faults = F.faults files.new;
+          files = (F.told files.new).seen;
+          faults = (F.told files.new).faults;
         })) }
-        ensures quiet { OnOk result (F.seen files.new ≡ F.seen files.old) }
+        ensures quiet { OnOk result ((F.told files.new).seen ≡ (F.told files.old).seen) }
         ensures why { IfErr result (λ why. why ≡ Why.BufferRefused) }
         ensures stage { OnErr result (self.new.stage ≡ self.old.stage) }
         ensures refused { OnErr result
             (AsksEvents self.old.spec self.old.client self.new.client None
             (P.access port.old) (P.access port.new)) }
         ensures drops { OnErr result
-            (DropsFile (F.seen files.old) (F.seen files.new) at.file
+            (DropsFile (F.told files.old).seen (F.told files.new).seen at.file
             (file_name_by self.old.spec.pattern order.now.run)) }
-        ensures gone { OnErr result (IsGone (F.seen files.new)
+        ensures gone { OnErr result (IsUndone (F.told files.old).seen (F.told files.new).seen
             (file_name_by self.old.spec.pattern order.now.run)
-            ⊎ Rose (F.faults files.old) (F.faults files.new)) }
-        ensures faults { OpenFaults result (F.faults files.old) (F.faults files.new) }
-        ensures failed { NotesFault self.old.failed self.new.failed (F.faults files.old)
-            (F.faults files.new) }
-        ensures clashes { F.clashes files.new ≡ F.clashes files.old }
+            ⊎ Rose (F.told files.old).faults (F.told files.new).faults) }
+        ensures faults { OpenFaults result (F.told files.old).faults (F.told files.new).faults }
+        ensures failed { NotesFault self.old.failed self.new.failed (F.told files.old).faults
+            (F.told files.new).faults }
+        ensures clashes { (F.told files.new).clashes ≡ (F.told files.old).clashes }
         ensures first { OpenFirst result (file_name_by self.old.spec.pattern order.now.run)
-            (F.first files.old) (F.first files.new) }
+            (F.told files.old).first (F.told files.new).first }
     {
         match self.ask(rt, port) {
             Some(Reader { client, request }) => {
@@ -202,39 +202,39 @@ impl Channel {
           client = self.old.client;
           stage = self.old.stage;
           port = P.access port.old;
-          files = F.seen files.old;
-          faults = F.faults files.old;
+          files = (F.told files.old).seen;
+          faults = (F.told files.old).faults;
         }) (record {
           client = self.new.client;
           stage = self.new.stage;
           port = P.access port.new;
-          files = F.seen files.new;
-          faults = F.faults files.new;
+          files = (F.told files.new).seen;
+          faults = (F.told files.new).faults;
         }) }
-        ensures exists { IsTrue (F.seen files.old).tells
+        ensures exists { IsTrue (F.told files.old).seen.names
             → (IsErrOf result (Exists self.old.spec.number)
-            ↔ IsSome ((F.seen files.old).at (file_name_by self.old.spec.pattern order.now.run))) }
-        ensures failed { NotesFault self.old.failed self.new.failed (F.faults files.old)
-            (F.faults files.new) }
-        ensures faults { OpenFaults result (F.faults files.old) (F.faults files.new) }
-        ensures clashes { OpenClashes result (F.clashes files.old) (F.clashes files.new) }
+            ↔ IsSome ((F.told files.old).seen.at (file_name_by self.old.spec.pattern order.now.run))) }
+        ensures failed { NotesFault self.old.failed self.new.failed (F.told files.old).faults
+            (F.told files.new).faults }
+        ensures faults { OpenFaults result (F.told files.old).faults (F.told files.new).faults }
+        ensures clashes { OpenClashes result (F.told files.old).clashes (F.told files.new).clashes }
         ensures first { OpenFirst result (file_name_by self.old.spec.pattern order.now.run)
-            (F.first files.old) (F.first files.new) }
-        ensures file { IsLastOpen (F.seen files.new) self.new.spec (written_run self.new.stage) }
+            (F.told files.old).first (F.told files.new).first }
+        ensures file { IsLastOpen (F.told files.new).seen self.new.spec (written_run self.new.stage) }
         ensures few { files_by self.new.stage ≤ 10000 }
         ensures asking { OnOk result ((before : FileHead) → (P.access port.new).taken_back ≡ [] →
             ChannelStands self.old.spec self.old.client self.old.stage before
-            (P.access port.old).own (P.access port.old).got (F.seen files.old) →
+            (P.access port.old).own (P.access port.old).got (F.told files.old).seen →
             ChannelStands self.new.spec self.new.client self.new.stage (record {
               run = order.now.run;
               time = order.now.time;
               dump = dump.now;
-            }) (P.access port.new).own (P.access port.new).got (F.seen files.new)) }
+            }) (P.access port.new).own (P.access port.new).got (F.told files.new).seen) }
         ensures idle { OnErr result ((head : FileHead) → (P.access port.new).taken_back ≡ [] →
             ChannelStands self.old.spec self.old.client self.old.stage head
-            (P.access port.old).own (P.access port.old).got (F.seen files.old) →
+            (P.access port.old).own (P.access port.old).got (F.told files.old).seen →
             ChannelStands self.new.spec self.new.client self.new.stage head
-            (P.access port.new).own (P.access port.new).got (F.seen files.new)) }
+            (P.access port.new).own (P.access port.new).got (F.told files.new).seen) }
     {
         self.open_run(rt, files, port, order, dump)
     }
@@ -256,24 +256,24 @@ impl Channel {
           client = self.old.client;
           stage = self.old.stage;
           port = P.access port.old;
-          files = F.seen files.old;
-          faults = F.faults files.old;
+          files = (F.told files.old).seen;
+          faults = (F.told files.old).faults;
         }) (record {
           client = self.new.client;
           stage = self.new.stage;
           port = P.access port.new;
-          files = F.seen files.new;
-          faults = F.faults files.new;
+          files = (F.told files.new).seen;
+          faults = (F.told files.new).faults;
         }) }
-        ensures exists { IsTrue (F.seen files.old).tells
+        ensures exists { IsTrue (F.told files.old).seen.names
             → (IsErrOf result (Exists self.old.spec.number)
-            ↔ IsSome ((F.seen files.old).at (file_name_by self.old.spec.pattern order.now.run))) }
-        ensures failed { NotesFault self.old.failed self.new.failed (F.faults files.old)
-            (F.faults files.new) }
-        ensures faults { OpenFaults result (F.faults files.old) (F.faults files.new) }
-        ensures clashes { OpenClashes result (F.clashes files.old) (F.clashes files.new) }
+            ↔ IsSome ((F.told files.old).seen.at (file_name_by self.old.spec.pattern order.now.run))) }
+        ensures failed { NotesFault self.old.failed self.new.failed (F.told files.old).faults
+            (F.told files.new).faults }
+        ensures faults { OpenFaults result (F.told files.old).faults (F.told files.new).faults }
+        ensures clashes { OpenClashes result (F.told files.old).clashes (F.told files.new).clashes }
         ensures first { OpenFirst result (file_name_by self.old.spec.pattern order.now.run)
-            (F.first files.old) (F.first files.new) }
+            (F.told files.old).first (F.told files.new).first }
     {
         let head = RunHead {
             run: order.run,

@@ -3,13 +3,19 @@ use Rattle.std.specs.Prelude.{◌≡◌, ℕ, length, List, [], ◌++◌, Result
 use Rattle.std.proofs.Common.{sym, subst, ◌∙◌}
 use Rattle.std.proofs.lemmas.List.{append-nil}
 use Rattle.event.specs.Events.{encoding}
-use Rattle.daq_io.specs.Seen.{Seen, Creates, Extends, ExtendsPart, Closes}
-use Rattle.daq_io.proofs.SeenLaws.{Creates-Extends}
+use Rattle.daq_io.specs.declared.folder.FileState.TheVariants.{Closed}
+use Rattle.daq_io.specs.Seen.{Seen, Creates, Extends, ExtendsPart, Closes, close_state}
+use Rattle.daq_io.proofs.SeenLaws.{Creates-Extends, Extends-trans}
 use Rattle.event.specs.declared.head.Header.{Header}
 use Rattle.event.specs.Headers.{event_of, header_encoding}
 use Rattle.event.proofs.Headers.{encoding_parts}
 use Rattle.sub_files.specs.RecordFiles.{ClosesPart}
 use Rattle.sub_files.proofs.FileParts.{part_of_more, then_part, whole_closed, all_closed}
+
+-- the header and the data are the record
+pub record_whole : {T E : Type 0} {a b : Seen} {file : ℕ} (c : Seen) (h : Header) (body : List ℕ) (r : Result T E) → h.data_size ≡ length body → Extends a b file (header_encoding h) → OnOk r (Extends b c file body) → OnOk r (Extends a c file (encoding (event_of h body)))
+record_whole {a = a} {file = file} c h body (Ok x) stated p q = subst (λ (bytes : List ℕ). Extends a c file bytes) (sym (encoding_parts h body stated)) (Extends-trans p q)
+record_whole c h body (Err why) stated p q = tt
 
 -- a part of the header is one of the record
 pub header_cut : {a b : Seen} {file : ℕ} (h : Header) (body : List ℕ) → h.data_size ≡ length body → ExtendsPart a b file (header_encoding h) → ExtendsPart a b file (encoding (event_of h body))
@@ -26,10 +32,10 @@ made_with {a} {b} {c} {name} {file} xs ys same p q = subst (λ (bytes : List ℕ
 
 -- Closing behind the last bytes, whatever it answered.
 
-pub closed_whole : {T E : Type 0} {a b c : Seen} {file : ℕ} (xs ys : List ℕ) (r : Result T E) → xs ≡ ys → Extends a b file xs → Closes b c file [] → OnOk r (Closes a c file ys)
-closed_whole {a = a} {c = c} {file = file} xs ys (Ok x) same p q = subst (λ (bytes : List ℕ). Closes a c file bytes) same (whole_closed xs p q)
+pub closed_whole : {T E : Type 0} {a b c : Seen} {file : ℕ} (xs ys : List ℕ) (r : Result T E) → xs ≡ ys → Extends a b file xs → Closes b c file (close_state r) [] → OnOk r (Closes a c file Closed ys)
+closed_whole {a = a} {c = c} {file = file} xs ys (Ok x) same p q = subst (λ (bytes : List ℕ). Closes a c file Closed bytes) same (whole_closed xs p q)
 closed_whole xs ys (Err why) same p q = tt
 
-pub closed_part : {T E : Type 0} {a b c : Seen} {file : ℕ} (xs ys : List ℕ) (r : Result T E) → xs ≡ ys → Extends a b file xs → Closes b c file [] → OnErr r (ClosesPart a c file ys)
+pub closed_part : {T E : Type 0} {a b c : Seen} {file : ℕ} (xs ys : List ℕ) (r : Result T E) → xs ≡ ys → Extends a b file xs → Closes b c file (close_state r) [] → OnErr r (ClosesPart a c file ys)
 closed_part xs ys (Ok x) same p q = tt
 closed_part {a = a} {c = c} {file = file} xs ys (Err why) same p q = subst (λ (bytes : List ℕ). ClosesPart a c file bytes) same (all_closed xs (whole_closed xs p q))

@@ -9,5 +9,7 @@ pub mod ClosedFiles
 pub mod NextFacts
 pub mod NextEvent
 pub mod RunEnds
+pub mod FilesGone
 pub mod RemoveSteps
 pub mod FilesOfRun
+pub mod FilesStay

@@ -5,15 +5,17 @@ use Rattle.std.proofs.lemmas.List.{append-nil}
 use mathlib.Core.List.{IsPrefix}
 use Rattle.daq_types.specs.declared.events.Event.{Event}
 use Rattle.event.specs.Events.{encoding, all_encoded, record_limit}
-use Rattle.daq_io.specs.Seen.{Seen, Same, Creates, Extends, Closes, IsWritten, IsStored}
-use Rattle.daq_io.proofs.SeenLaws.{Creates-IsWritten, IsWritten-Extends, IsWritten-Closes}
+use Rattle.daq_io.specs.declared.folder.FileState.{FileState}
+use Rattle.daq_io.specs.declared.folder.FileState.TheVariants.{Closed}
+use Rattle.daq_io.specs.Seen.{Seen, Same, Creates, Extends, LeavesFile, Closes, IsWritten, IsStored, IsPartStored}
+use Rattle.daq_io.proofs.SeenLaws.{Creates-IsWritten, IsWritten-Extends, IsWritten-Closes, IsWritten-Leaves}
 use Rattle.sub_files.specs.declared.open_file.Fallen.{Fallen}
 use Rattle.sub_files.specs.declared.open_file.OpenFile.{OpenFile}
 use Rattle.sub_files.specs.Cuts.{last_number, IsCut, BeginsNext, StaysIn}
-use Rattle.sub_files.specs.Pieces.{Series, piece_name, begun_piece, begin_bytes, between, head_bytes, IsPartStored, ArePiecesStored, HoldsRun, HasPart}
-use Rattle.sub_files.specs.RecordFiles.{ClosesPart}
+use Rattle.sub_files.specs.Pieces.{Series, piece_name, begun_piece, begin_bytes, between, head_bytes, ArePiecesStored, HoldsRun, HasPart}
+use Rattle.sub_files.specs.RecordFiles.{ClosesAnyhow, ClosesPart}
 use Rattle.sub_files.specs.Rolls.{begins_next, counted_in, next_file, next_name, fallen_at, MovesOn, MakesReady, WritesNext, RollsNone, FailsMove, FailsNext}
-use Rattle.sub_files.proofs.ClosedFiles.{KeepsClosed, kept_then, same_kept, open_kept, made_kept, stored_kept, pieces_kept, pieces_push, same_written, made_written, new_written}
+use Rattle.sub_files.proofs.ClosedFiles.{KeepsClosed, kept_then, same_kept, grown_kept, left_kept, made_kept, stored_kept, part_kept, pieces_kept, pieces_push, same_written, made_written, new_written}
 use Rattle.sub_files.proofs.CutLaws.{encoded-push, length-encoded-push, cut_grows, cut_next, cut_taken}
 use Rattle.sub_files.proofs.NextFacts.{ltb_tells, Begins, begins_so, stays_so, stays_in, begins_with, IsCounted}
 
@@ -71,14 +73,14 @@ record MadeNext (a made : Seen) (s : Series) (old : OpenFile) (file : ℕ) (piec
   kept : KeepsClosed a made
   old_file : IsWritten made old.file (piece_name s old.sub) (begun_piece s piece)
   new_file : IsWritten made file (next_name s old) []
-  stays : (c : Seen) (bytes : List ℕ) → Closes made c old.file bytes → IsWritten c file (next_name s old) []
+  stays : (c : Seen) (state : FileState) (bytes : List ℕ) → LeavesFile made c old.file state bytes → IsWritten c file (next_name s old) []
 
 made_next : (a made : Seen) (s : Series) (old : OpenFile) (file : ℕ) (piece : List Event) → IsWritten a old.file (piece_name s old.sub) (begun_piece s piece) → Creates a made (next_name s old) file [] → MadeNext a made s old file piece
 made_next a made s old file piece written makes = record {
   kept = made_kept makes;
   old_file = made_written written makes;
   new_file = Creates-IsWritten makes;
-  stays = λ c bytes closes. new_written written makes (Creates-IsWritten makes) closes.touches closes.others;
+  stays = λ c state bytes leaves. new_written written makes (Creates-IsWritten makes) leaves.touches leaves.others;
 }
 
 -- the events and one more, which begins a piece
@@ -99,12 +101,12 @@ old_stored b s old closed piece number stored last =
 
 -- the next file is ready
 rolled_ready : (a b made : Seen) (s : Series) (old : OpenFile) (file : ℕ) (events : List Event) (e : Event) → HoldsRun a s old events → Begins s.limit (head_bytes s.dump) old (length (encoding e)) → Creates a made (next_name s old) file []
-    → (ended : Seen) → Closes made ended old.file (between s.head) → Extends ended b file (begin_bytes s.head s.dump) → IsReady b s (next_file s.dump old file) events e
+    → (ended : Seen) → Closes made ended old.file Closed (between s.head) → Extends ended b file (begin_bytes s.head s.dump) → IsReady b s (next_file s.dump old file) events e
 rolled_ready a b made s old file events e h begins makes ended ends extends =
     let at = made_next a made s old file h.piece h.file makes in
-    let new_ended : IsWritten ended file (next_name s old) [] = at.stays ended (between s.head) ends in
-    let to_b : KeepsClosed ended b = open_kept new_ended extends.touches in
-    let from_a : KeepsClosed a b = kept_then at.kept (kept_then (open_kept at.old_file ends.touches) to_b) in
+    let new_ended : IsWritten ended file (next_name s old) [] = at.stays ended Closed (between s.head) ends.leaves in
+    let to_b : KeepsClosed ended b = grown_kept new_ended extends in
+    let from_a : KeepsClosed a b = kept_then at.kept (kept_then (left_kept at.old_file ends.leaves) to_b) in
     record {
       within = h.within;
       small = h.small;
@@ -154,7 +156,7 @@ append_holds a b s ready events e h extends = record {
   number = h.number;
   few = h.few;
   counted = λ some. counts s.limit (min (ready.bytes + length (encoding e)) (2 ^ 64 - 1)) ready.bytes some ∙ counted_more ready.bytes (head_bytes s.dump) (length (encoding e)) h.piece e refl (h.counted some);
-  stored = pieces_kept s 0 h.closed (open_kept h.file extends.touches) h.stored;
+  stored = pieces_kept s 0 h.closed (grown_kept h.file extends) h.stored;
   file = subst (λ (bytes : List ℕ). IsWritten b ready.file (piece_name s ready.sub) bytes) (piece_push s h.piece e) (IsWritten-Extends h.file extends);
 }
 
@@ -192,16 +194,13 @@ append_part a b s ready events e h part = record {
   framed = h.number;
   files = ap (λ (n : ℕ). n + 1) h.number;
   few = let few = h.few in omega (arith, few);
-  stored = pieces_kept s 0 h.closed (open_kept h.file part.closes.touches) h.stored;
-  parts = record {
-    bytes = begun_piece s h.piece ++ take part.count (encoding e);
-    stored = IsWritten-Closes h.file part.closes;
-    front = subst (λ (bytes : List ℕ). IsPrefix (begun_piece s h.piece ++ take part.count (encoding e)) (bytes ++ [])) (piece_push s h.piece e) (first_of_more (begun_piece s h.piece) (encoding e) [] part.count);
-  };
+  stored = pieces_kept s 0 h.closed (left_kept h.file part.leaves) h.stored;
+  parts = IsWritten-Leaves h.file part.leaves
+      (subst (λ (bytes : List ℕ). IsPrefix (begun_piece s h.piece ++ take part.count (encoding e)) (bytes ++ [])) (piece_push s h.piece e) (first_of_more (begun_piece s h.piece) (encoding e) [] part.count));
 }
 
 -- the making of the next file
-make_part : (a b made : Seen) (s : Series) (old : OpenFile) (events : List Event) (e : Event) → HoldsRun a s old events → Same a made → Closes made b old.file [] → HasPart b s (fallen_at (old.sub + 1) old.sub) [] (events ++ e ∷ [])
+make_part : (a b made : Seen) (s : Series) (old : OpenFile) (events : List Event) (e : Event) → HoldsRun a s old events → Same a made → ClosesAnyhow made b old.file → HasPart b s (fallen_at (old.sub + 1) old.sub) [] (events ++ e ∷ [])
 make_part a b made s old events e h same closes =
     let file : IsWritten made old.file (piece_name s old.sub) (begun_piece s h.piece) = same_written h.file same in
     record {
@@ -218,19 +217,19 @@ make_part a b made s old events e h same closes =
       framed = h.number;
       files = ap (λ (n : ℕ). n + 1) h.number;
       few = let few = h.few in omega (arith, few);
-      stored = pieces_kept s 0 h.closed (kept_then (same_kept same) (open_kept file closes.touches)) h.stored;
-      parts = record { bytes = begun_piece s h.piece ++ []; stored = IsWritten-Closes file closes; front = ([], append-nil (begun_piece s h.piece ++ [])) };
+      stored = pieces_kept s 0 h.closed (kept_then (same_kept same) (left_kept file closes.closes.leaves)) h.stored;
+      parts = IsWritten-Leaves file closes.closes.leaves ([], append-nil (begun_piece s h.piece ++ []));
     }
 
 -- the end of the old file
 end_part : (a b made ended : Seen) (s : Series) (old : OpenFile) (file : ℕ) (events : List Event) (e : Event) → HoldsRun a s old events → Begins s.limit (head_bytes s.dump) old (length (encoding e)) → Creates a made (next_name s old) file []
-    → ClosesPart made ended old.file (between s.head) → Closes ended b file [] → HasPart b s (fallen_at (old.sub + 2) old.sub) [] (events ++ e ∷ [])
+    → ClosesPart made ended old.file (between s.head) → ClosesAnyhow ended b file → HasPart b s (fallen_at (old.sub + 2) old.sub) [] (events ++ e ∷ [])
 end_part a b made ended s old file events e h begins makes part closes =
     let at = made_next a made s old file h.piece h.file makes in
-    let new_ended : IsWritten ended file (next_name s old) [] = at.stays ended (take part.count (between s.head)) part.closes in
-    let to_b : KeepsClosed ended b = open_kept new_ended closes.touches in
+    let new_ended : IsWritten ended file (next_name s old) [] = at.stays ended part.state (take part.count (between s.head)) part.leaves in
+    let to_b : KeepsClosed ended b = left_kept new_ended closes.closes.leaves in
     let next_number : old.sub + 1 ≡ suc old.sub = omega arith in
-    let new_part : IsPartStored b (next_name s old) (begun_piece s (e ∷ []) ++ []) = record { bytes = []; stored = IsWritten-Closes new_ended closes; front = (begun_piece s (e ∷ []) ++ [], refl) } in
+    let new_part : IsPartStored b (next_name s old) (begun_piece s (e ∷ []) ++ []) = IsWritten-Leaves new_ended closes.closes.leaves (begun_piece s (e ∷ []) ++ [], refl) in
     record {
       small = h.small;
       first = events ++ e ∷ [];
@@ -245,24 +244,22 @@ end_part a b made ended s old file events e h begins makes part closes =
       framed = h.number;
       files = ap (λ (n : ℕ). n + 2) h.number;
       few = let left = begins.number_left in omega (arith, left);
-      stored = pieces_kept s 0 h.closed (kept_then at.kept (kept_then (open_kept at.old_file part.closes.touches) to_b)) h.stored;
+      stored = pieces_kept s 0 h.closed (kept_then at.kept (kept_then (left_kept at.old_file part.leaves) to_b)) h.stored;
       parts = (
-        record {
-          bytes = begun_piece s h.piece ++ take part.count (between s.head);
-          stored = stored_kept to_b (IsWritten-Closes at.old_file part.closes);
-          front = (drop part.count (between s.head), append_assoc (begun_piece s h.piece) (take part.count (between s.head)) (drop part.count (between s.head)) ∙ ap (λ (bytes : List ℕ). begun_piece s h.piece ++ bytes) (take-append-drop part.count (between s.head)));
-        },
+        part_kept to_b
+            (IsWritten-Leaves at.old_file part.leaves
+            (drop part.count (between s.head), append_assoc (begun_piece s h.piece) (take part.count (between s.head)) (drop part.count (between s.head)) ∙ ap (λ (bytes : List ℕ). begun_piece s h.piece ++ bytes) (take-append-drop part.count (between s.head)))),
         subst (λ (n : ℕ). IsPartStored b (piece_name s n) (begun_piece s (e ∷ []) ++ [])) next_number new_part,
       );
     }
 
 -- the begin of the new file
 begin_part : (a b made ended : Seen) (s : Series) (old : OpenFile) (file : ℕ) (events : List Event) (e : Event) → HoldsRun a s old events → Begins s.limit (head_bytes s.dump) old (length (encoding e)) → Creates a made (next_name s old) file []
-    → Closes made ended old.file (between s.head) → ClosesPart ended b file (begin_bytes s.head s.dump) → HasPart b s (fallen_at (old.sub + 2) (old.sub + 1)) [] (events ++ e ∷ [])
+    → Closes made ended old.file Closed (between s.head) → ClosesPart ended b file (begin_bytes s.head s.dump) → HasPart b s (fallen_at (old.sub + 2) (old.sub + 1)) [] (events ++ e ∷ [])
 begin_part a b made ended s old file events e h begins makes ends part =
     let at = made_next a made s old file h.piece h.file makes in
-    let new_ended : IsWritten ended file (next_name s old) [] = at.stays ended (between s.head) ends in
-    let to_b : KeepsClosed ended b = open_kept new_ended part.closes.touches in
+    let new_ended : IsWritten ended file (next_name s old) [] = at.stays ended Closed (between s.head) ends.leaves in
+    let to_b : KeepsClosed ended b = left_kept new_ended part.leaves in
     let many : old.sub + 1 ≡ length (h.closed ++ h.piece ∷ []) = ap (λ (n : ℕ). n + 1) h.number ∙ sym (length-push h.closed h.piece) in
     record {
       small = h.small;
@@ -278,12 +275,9 @@ begin_part a b made ended s old file events e h begins makes ends part =
       framed = many;
       files = omega (arith, many);
       few = let left = begins.number_left in omega (arith, left);
-      stored = old_stored b s old h.closed h.piece h.number (pieces_kept s 0 h.closed (kept_then at.kept (kept_then (open_kept at.old_file ends.touches) to_b)) h.stored) (stored_kept to_b (IsWritten-Closes at.old_file ends));
-      parts = record {
-        bytes = take part.count (begin_bytes s.head s.dump);
-        stored = IsWritten-Closes new_ended part.closes;
-        front = subst (λ (bytes : List ℕ). IsPrefix (take part.count (begin_bytes s.head s.dump)) bytes) (sym (append-nil (begun_piece s (e ∷ [])))) (first_of_more [] (begin_bytes s.head s.dump) (all_encoded (e ∷ [])) part.count);
-      };
+      stored = old_stored b s old h.closed h.piece h.number (pieces_kept s 0 h.closed (kept_then at.kept (kept_then (left_kept at.old_file ends.leaves) to_b)) h.stored) (stored_kept to_b (IsWritten-Closes at.old_file ends));
+      parts = IsWritten-Leaves new_ended part.leaves
+          (subst (λ (bytes : List ℕ). IsPrefix (take part.count (begin_bytes s.head s.dump)) bytes) (sym (append-nil (begun_piece s (e ∷ [])))) (first_of_more [] (begin_bytes s.head s.dump) (all_encoded (e ∷ [])) part.count));
     }
 
 roll_part : (a b : Seen) (s : Series) (old : OpenFile) (fallen : Fallen) (events : List Event) (e : Event) → HoldsRun a s old events → Begins s.limit (head_bytes s.dump) old (length (encoding e)) → RollsNone (next_name s old) s.head s.dump old fallen a b

@@ -5,15 +5,16 @@ use Rattle.std.proofs.lemmas.List.{append-nil}
 use Rattle.daq_types.specs.declared.events.Event.{Event}
 use Rattle.event.specs.Events.{record_limit}
 use Rattle.event.specs.RunFile.{begun_file}
+use Rattle.daq_io.specs.declared.folder.FileState.TheVariants.{Closed}
 use Rattle.daq_io.specs.Seen.{Seen, Creates, Closes, IsStored}
-use Rattle.daq_io.proofs.SeenLaws.{Creates-IsWritten, IsWritten-Closes}
+use Rattle.daq_io.proofs.SeenLaws.{Creates-IsWritten, IsWritten-Closes, IsWritten-Leaves}
 use Rattle.sub_files.specs.declared.open_file.OpenFile.{OpenFile}
 use Rattle.sub_files.specs.declared.open_file.RunHead.{RunHead}
 use Rattle.sub_files.specs.Patterns.{NamePattern, piece_name_by}
 use Rattle.sub_files.specs.Pieces.{Series, series_of, piece_name, begun_piece, head_bytes, ArePiecesStored, AreFilesStored, HoldsRun, HasRun, HasPart}
 use Rattle.sub_files.specs.RecordFiles.{ClosesPart}
 use Rattle.sub_files.specs.Rolls.{first_file, fallen_at}
-use Rattle.sub_files.proofs.ClosedFiles.{open_kept, pieces_kept}
+use Rattle.sub_files.proofs.ClosedFiles.{left_kept, pieces_kept}
 use Rattle.sub_files.proofs.CutLaws.{first_cut, length-push}
 
 pub begun_holds : (a b : Seen) (pattern : NamePattern) (limit : ℕ) (head : RunHead) (dump : List ℕ) (file : ℕ) → limit < 2 ^ 32 → length dump ≤ record_limit
@@ -44,14 +45,14 @@ files_push seen s last number (p ∷ (q ∷ closed)) piece stored file =
     let count : number + length (p ∷ (q ∷ closed)) ≡ suc number + length (q ∷ closed) = omega arith in
     (stored.0, files_push seen s last (suc number) (q ∷ closed) piece stored.1 (subst (λ (n : ℕ). IsStored seen (piece_name s n) (begun_piece s piece ++ last)) count file))
 
-pub closed_run : (a b : Seen) (s : Series) (open_file : OpenFile) (last : List ℕ) (events : List Event) → HoldsRun a s open_file events → Closes a b open_file.file last → HasRun b s (open_file.sub + 1) open_file.taken last events
+pub closed_run : (a b : Seen) (s : Series) (open_file : OpenFile) (last : List ℕ) (events : List Event) → HoldsRun a s open_file events → Closes a b open_file.file Closed last → HasRun b s (open_file.sub + 1) open_file.taken last events
 closed_run a b s open_file last events h closes = record {
   small = h.small;
   pieces = h.closed ++ h.piece ∷ [];
   cut = h.cut;
   many = ap (λ (n : ℕ). n + 1) h.number ∙ (omega (arith, length-push h.closed h.piece));
   few = let few = h.few in omega (arith, few);
-  stored = files_push b s last 0 h.closed h.piece (pieces_kept s 0 h.closed (open_kept h.file closes.touches) h.stored)
+  stored = files_push b s last 0 h.closed h.piece (pieces_kept s 0 h.closed (left_kept h.file closes.leaves) h.stored)
       (subst (λ (n : ℕ). IsStored b (piece_name s n) (begun_piece s h.piece ++ last)) (h.number ∙ (omega arith)) (IsWritten-Closes h.file closes));
 }
 
@@ -70,10 +71,7 @@ closed_part a b s open_file last events h part = record {
   framed = h.number;
   files = ap (λ (n : ℕ). n + 1) h.number;
   few = let few = h.few in omega (arith, few);
-  stored = pieces_kept s 0 h.closed (open_kept h.file part.closes.touches) h.stored;
-  parts = record {
-    bytes = begun_piece s h.piece ++ take part.count last;
-    stored = IsWritten-Closes h.file part.closes;
-    front = (drop part.count last, append_assoc (begun_piece s h.piece) (take part.count last) (drop part.count last) ∙ ap (λ (bytes : List ℕ). begun_piece s h.piece ++ bytes) (take-append-drop part.count last));
-  };
+  stored = pieces_kept s 0 h.closed (left_kept h.file part.leaves) h.stored;
+  parts = IsWritten-Leaves h.file part.leaves
+      (drop part.count last, append_assoc (begun_piece s h.piece) (take part.count last) (drop part.count last) ∙ ap (λ (bytes : List ℕ). begun_piece s h.piece ++ bytes) (take-append-drop part.count last));
 }

@@ -5,7 +5,7 @@ use mathlib.Core.List.{IsPrefix}
 use Rattle.daq_types.specs.declared.events.Event.{Event}
 use Rattle.event.specs.Events.{encoding, all_encoded, record_limit}
 use Rattle.event.specs.RunFile.{begin_record, begun_file, end_record}
-use Rattle.daq_io.specs.Seen.{Seen, IsWritten, IsStored}
+use Rattle.daq_io.specs.Seen.{Seen, IsWritten, IsStored, IsPartStored}
 use Rattle.sub_files.specs.declared.open_file.Fallen.{Fallen}
 use Rattle.sub_files.specs.declared.open_file.OpenFile.{OpenFile}
 use Rattle.sub_files.specs.declared.open_file.RunHead.{RunHead}
@@ -42,12 +42,6 @@ head_bytes dump = 16 + length dump
 -- a file that is begun and has these events
 abbrev pub begun_piece : Series → List Event → List ℕ
 begun_piece s piece = begun_file s.head.run s.head.time s.dump piece
-
--- The file of this name is closed and begins as these bytes do.
-pub record IsPartStored (seen : Seen) (name whole : List ℕ) : Type 0 where
-  pub bytes : List ℕ
-  pub stored : IsStored seen name bytes
-  pub front : IsPrefix bytes whole
 
 -- The files of these pieces, of which the first has this number, are closed, each between its two records.
 abbrev pub ArePiecesStored : Seen → Series → (number : ℕ) → List (List Event) → Type 0

@@ -1,13 +1,14 @@
 -- What is done to the files of a run at an event: perhaps the next file is begun, and the event is appended.
 use Rattle.std.specs.Prelude.{◌≡◌, ◌⊎◌, ◌<◌, ◌+◌, ◌-◌, ◌^◌, ℕ, min, Bool, true, false, not, nat_lt, ◌&&◌, IsTrue, IsSome, List, [], length, Option, if◌then◌else◌}
 use Rattle.daq_io.specs.Counts.{Rose, first_of}
+use Rattle.daq_io.specs.declared.folder.FileState.TheVariants.{Closed}
 use Rattle.daq_io.specs.Seen.{Seen, Same, Creates, Extends, Closes}
 use Rattle.sub_files.specs.declared.open_file.Fallen.{Fallen}
 use Rattle.sub_files.specs.declared.open_file.OpenFile.{OpenFile}
 use Rattle.sub_files.specs.declared.open_file.RunHead.{RunHead}
 use Rattle.sub_files.specs.Cuts.{last_number}
 use Rattle.sub_files.specs.Pieces.{Series, piece_name, begin_bytes, between, head_bytes}
-use Rattle.sub_files.specs.RecordFiles.{ClosesPart}
+use Rattle.sub_files.specs.RecordFiles.{ClosesAnyhow, ClosesPart}
 
 -- Whether the next file is begun before so many bytes are written: where the file has an event, and with these its bytes would be
 -- above the limit; unless it has the greatest number, or the next name was found taken.
@@ -31,12 +32,12 @@ next_file dump old file = record { file = file; sub = old.sub + 1; bytes = head_
 pub record FindsTaken (next : List ℕ) (old ready : OpenFile) (a b : Seen) : Type 0 where
   pub ready_is : ready ≡ record old { taken = true }
   pub same : Same a b
-  pub there : IsTrue a.tells → IsSome (a.at next)
+  pub there : IsTrue a.names → IsSome (a.at next)
 
 -- The old file is ended, and the new one, which was made, gets its begin record.
 pub record RollsAt (head : RunHead) (dump : List ℕ) (old ready : OpenFile) (file : ℕ) (made b : Seen) : Type 0 where
   pub ended : Seen
-  pub ends : Closes made ended old.file (between head)
+  pub ends : Closes made ended old.file Closed (between head)
   pub begins : Extends ended b file (begin_bytes head dump)
   pub ready_is : ready ≡ next_file dump old file
 
@@ -77,20 +78,20 @@ fallen_at files framed = record { files = files; framed = framed }
 pub record MakesNone (old : OpenFile) (fallen : Fallen) (a b : Seen) : Type 0 where
   pub made : Seen
   pub same : Same a made
-  pub closes : Closes made b old.file []
+  pub closes : ClosesAnyhow made b old.file
   pub fallen_is : fallen ≡ fallen_at (old.sub + 1) old.sub
 
 -- the old file could not be ended, or not be closed, behind the making of this one
 pub record EndsNone (head : RunHead) (old : OpenFile) (file : ℕ) (fallen : Fallen) (made b : Seen) : Type 0 where
   pub ended : Seen
   pub ends : ClosesPart made ended old.file (between head)
-  pub closes : Closes ended b file []
+  pub closes : ClosesAnyhow ended b file
   pub fallen_is : fallen ≡ fallen_at (old.sub + 2) old.sub
 
 -- the old file was ended, and the begin record of this one could not be written
 pub record BeginsNone (head : RunHead) (dump : List ℕ) (old : OpenFile) (file : ℕ) (fallen : Fallen) (made b : Seen) : Type 0 where
   pub ended : Seen
-  pub ends : Closes made ended old.file (between head)
+  pub ends : Closes made ended old.file Closed (between head)
   pub closes : ClosesPart ended b file (begin_bytes head dump)
   pub fallen_is : fallen ≡ fallen_at (old.sub + 2) (old.sub + 1)
 

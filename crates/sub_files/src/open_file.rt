@@ -5,8 +5,9 @@ ghost use Rattle.daq_types.specs.declared.events.Event.{Event};
 ghost use Rattle.event.specs.Events.{encoding, record_limit};
 ghost use Rattle.event.specs.RunFile.{begun_file, end_record as end_event};
 ghost use Rattle.daq_io.specs.Counts.{CountsFault, CountsNamed, CountsClash, NamesFirst, NamesFirstOf, Rose, first_of};
+ghost use Rattle.daq_io.specs.declared.folder.FileState.TheVariants.{Closed};
 ghost use Rattle.daq_io.specs.Seen.{Same, Creates, Extends, Closes};
-ghost use Rattle.sub_files.specs.RecordFiles.{ClosesPart, NamesMore, UndoesFile, RoseTwice, RemovesNames, AreGone, LeavesForFaults, NamesOneOf};
+ghost use Rattle.sub_files.specs.RecordFiles.{ClosesAnyhow, ClosesPart, NamesMore, UndoesFile, RoseTwice, RemovesNames, AreGone, LeavesForFaults, NamesOneOf};
 ghost use Rattle.sub_files.specs.Patterns.{piece_name_by};
 ghost use Rattle.sub_files.specs.Pieces.{Series, IsOpenPiece, HoldsRun, HasRun, HasPart, HoldsMore, HasPartOfMore, series_of, begin_bytes};
 ghost use Rattle.sub_files.specs.Rolls.{begins_next, counted_in, first_file, next_file, FindsTaken, RollsAt, RollsOn, MakesReady, WritesNext, FailsRoll, FailsMove, FailsNext, AppendsNone, ClashesBy, RisesWith, NamesOne, fallen_at};
@@ -52,12 +53,12 @@ pub struct Fallen {
 
 /// Closes a file behind a call that failed, whatever that is answered.
 fn close_behind<F: Files>(files: &mut F, file: u32)
-    requires writes { IsTrue ((F.seen files.old).writes file) }
-    ensures closes { Closes (F.seen files.old) (F.seen files.new) file [] }
-    ensures faults { F.faults files.old ≤ F.faults files.new }
-    ensures clashes { F.clashes files.new ≡ F.clashes files.old }
-    ensures first { NamesMore ((F.seen files.old).name_of file) (F.first files.old)
-        (F.first files.new) }
+    requires writes { IsTrue ((F.told files.old).seen.writes file) }
+    ensures closes { ClosesAnyhow (F.told files.old).seen (F.told files.new).seen file }
+    ensures faults { (F.told files.old).faults ≤ (F.told files.new).faults }
+    ensures clashes { (F.told files.new).clashes ≡ (F.told files.old).clashes }
+    ensures first { NamesMore ((F.told files.old).seen.name_of file) (F.told files.old).first
+        (F.told files.new).first }
 {
     let _ = files.close(file);
 }
@@ -99,21 +100,21 @@ impl OpenFile {
         head: RunHead,
         dump: &[u8],
     ) -> Result<OpenFile, Fallen>
-        requires writes { IsTrue ((F.seen files.old).writes file) }
+        requires writes { IsTrue ((F.told files.old).seen.writes file) }
         requires small { length dump.now ≤ record_limit }
         requires few { self.sub < 9999 }
-        ensures begins { OnOk result (Extends (F.seen files.old) (F.seen files.new) file
+        ensures begins { OnOk result (Extends (F.told files.old).seen (F.told files.new).seen file
             (begin_bytes head dump.now)) }
         ensures ready { IfOk result (λ ready. ready ≡ next_file dump.now self file) }
-        ensures fails { OnErr result (ClosesPart (F.seen files.old) (F.seen files.new) file
+        ensures fails { OnErr result (ClosesPart (F.told files.old).seen (F.told files.new).seen file
             (begin_bytes head dump.now)) }
         ensures fallen { IfErr result (λ fallen. fallen
             ≡ fallen_at (self.sub + 2) (self.sub + 1)) }
         ensures many { IfErr result (λ fallen. fallen.files ≤ 10000) }
-        ensures faults { CountsFault (F.faults files.old) (F.faults files.new) result }
-        ensures clashes { F.clashes files.new ≡ F.clashes files.old }
-        ensures first { NamesFirst ((F.seen files.old).name_of file) (F.first files.old)
-            (F.first files.new) result }
+        ensures faults { CountsFault (F.told files.old).faults (F.told files.new).faults result }
+        ensures clashes { (F.told files.new).clashes ≡ (F.told files.old).clashes }
+        ensures first { NamesFirst ((F.told files.old).seen.name_of file) (F.told files.old).first
+            (F.told files.new).first result }
     {
         let header = begin_record(head.run, head.time, dump.len() as u32);
         match append_record(files, file, &header, dump) {
@@ -141,21 +142,21 @@ impl OpenFile {
         head: RunHead,
         dump: &[u8],
     ) -> Result<OpenFile, Fallen>
-        requires old { IsTrue ((F.seen files.old).writes self.file) }
-        requires writes { IsTrue ((F.seen files.old).writes file) }
+        requires old { IsTrue ((F.told files.old).seen.writes self.file) }
+        requires writes { IsTrue ((F.told files.old).seen.writes file) }
         requires apart { self.file ≢ file }
         requires small { length dump.now ≤ record_limit }
         requires few { self.sub < 9999 }
         ensures rolls { IfOk result (λ ready. RollsAt head dump.now self ready file
-            (F.seen files.old) (F.seen files.new)) }
+            (F.told files.old).seen (F.told files.new).seen) }
         ensures fails { IfErr result (λ fallen. FailsRoll head dump.now self file fallen
-            (F.seen files.old) (F.seen files.new)) }
+            (F.told files.old).seen (F.told files.new).seen) }
         ensures many { IfErr result (λ fallen. fallen.files ≤ 10000) }
-        ensures faults { CountsFault (F.faults files.old) (F.faults files.new) result }
-        ensures clashes { F.clashes files.new ≡ F.clashes files.old }
-        ensures quiet { OnOk result (F.first files.new ≡ F.first files.old) }
-        ensures first { OnErr result (NamesOne ((F.seen files.old).name_of self.file)
-            ((F.seen files.old).name_of file) (F.first files.old) (F.first files.new)) }
+        ensures faults { CountsFault (F.told files.old).faults (F.told files.new).faults result }
+        ensures clashes { (F.told files.new).clashes ≡ (F.told files.old).clashes }
+        ensures quiet { OnOk result ((F.told files.new).first ≡ (F.told files.old).first) }
+        ensures first { OnErr result (NamesOne ((F.told files.old).seen.name_of self.file)
+            ((F.told files.old).seen.name_of file) (F.told files.old).first (F.told files.new).first) }
     {
         match end_file(files, self.file, head.run, head.time, &[]) {
             Ok(()) => self.begin_next(files, file, head, dump),
@@ -177,26 +178,26 @@ impl OpenFile {
         head: RunHead,
         dump: &[u8],
     ) -> Result<OpenFile, Fallen>
-        requires old { IsTrue ((F.seen files.old).writes self.file) }
+        requires old { IsTrue ((F.told files.old).seen.writes self.file) }
         requires small { length dump.now ≤ record_limit }
         requires few { self.sub < 9999 }
         ensures moves { IfOk result (λ ready.
             FindsTaken (piece_name_by pattern.now head.run (self.sub + 1)) self ready
-            (F.seen files.old) (F.seen files.new)
+            (F.told files.old).seen (F.told files.new).seen
             ⊎ RollsOn (piece_name_by pattern.now head.run (self.sub + 1)) head dump.now self ready
-            (F.seen files.old) (F.seen files.new)) }
+            (F.told files.old).seen (F.told files.new).seen) }
         ensures fails { IfErr result (λ fallen.
             FailsMove (piece_name_by pattern.now head.run (self.sub + 1)) head dump.now self fallen
-            (F.seen files.old) (F.seen files.new)) }
+            (F.told files.old).seen (F.told files.new).seen) }
         ensures many { IfErr result (λ fallen. fallen.files ≤ 10000) }
-        ensures faults { CountsFault (F.faults files.old) (F.faults files.new) result }
+        ensures faults { CountsFault (F.told files.old).faults (F.told files.new).faults result }
         ensures taken { IfOk result (λ ready.
-            ClashesBy false ready.taken (F.clashes files.old) (F.clashes files.new)) }
-        ensures clashes { OnErr result (F.clashes files.new ≡ F.clashes files.old) }
-        ensures quiet { OnOk result (F.first files.new ≡ F.first files.old) }
-        ensures first { OnErr result (NamesOne ((F.seen files.old).name_of self.file)
-            (piece_name_by pattern.now head.run (self.sub + 1)) (F.first files.old)
-            (F.first files.new)) }
+            ClashesBy false ready.taken (F.told files.old).clashes (F.told files.new).clashes) }
+        ensures clashes { OnErr result ((F.told files.new).clashes ≡ (F.told files.old).clashes) }
+        ensures quiet { OnOk result ((F.told files.new).first ≡ (F.told files.old).first) }
+        ensures first { OnErr result (NamesOne ((F.told files.old).seen.name_of self.file)
+            (piece_name_by pattern.now head.run (self.sub + 1)) (F.told files.old).first
+            (F.told files.new).first) }
     {
         let next = pattern.name(head.run, self.sub + 1);
         match files.create(&next) {
@@ -220,19 +221,19 @@ impl OpenFile {
 
     /// Appends an event. Where that fails the file is closed.
     fn append<F: Files>(self, files: &mut F, limit: u32, event: &[u8]) -> Result<OpenFile, Fallen>
-        requires writes { IsTrue ((F.seen files.old).writes self.file) }
+        requires writes { IsTrue ((F.told files.old).seen.writes self.file) }
         requires few { self.sub ≤ 9999 }
-        ensures writes { OnOk result (Extends (F.seen files.old) (F.seen files.new) self.file
+        ensures writes { OnOk result (Extends (F.told files.old).seen (F.told files.new).seen self.file
             event.now) }
         ensures later { IfOk result (λ later. later
             ≡ counted_in limit self (length event.now)) }
         ensures fails { IfErr result (λ fallen. AppendsNone self event.now fallen
-            (F.seen files.old) (F.seen files.new)) }
+            (F.told files.old).seen (F.told files.new).seen) }
         ensures many { IfErr result (λ fallen. fallen.files ≤ 10000) }
-        ensures faults { CountsFault (F.faults files.old) (F.faults files.new) result }
-        ensures clashes { F.clashes files.new ≡ F.clashes files.old }
-        ensures first { NamesFirst ((F.seen files.old).name_of self.file) (F.first files.old)
-            (F.first files.new) result }
+        ensures faults { CountsFault (F.told files.old).faults (F.told files.new).faults result }
+        ensures clashes { (F.told files.new).clashes ≡ (F.told files.old).clashes }
+        ensures first { NamesFirst ((F.told files.old).seen.name_of self.file) (F.told files.old).first
+            (F.told files.new).first result }
     {
         match files.append(self.file, event) {
             Ok(()) => Ok(self.counted(limit, event.len())),
@@ -256,28 +257,28 @@ impl OpenFile {
         dump: &[u8],
         size: usize,
     ) -> Result<OpenFile, Fallen>
-        requires file { IsOpenPiece (F.seen files.old)
+        requires file { IsOpenPiece (F.told files.old).seen
             (series_of pattern.now limit head dump.now) self }
         requires small { length dump.now ≤ record_limit }
         ensures moves { IfOk result (λ ready.
             MakesReady (series_of pattern.now limit head dump.now) self ready size
-            (F.seen files.old) (F.seen files.new)) }
+            (F.told files.old).seen (F.told files.new).seen) }
         ensures begins { OnErr result
             (IsTrue (begins_next limit (16 + length dump.now) self size)) }
         ensures fails { IfErr result (λ fallen.
             FailsMove (piece_name_by pattern.now head.run (self.sub + 1)) head dump.now self fallen
-            (F.seen files.old) (F.seen files.new)) }
-        ensures file { IfOk result (λ ready. IsOpenPiece (F.seen files.new)
+            (F.told files.old).seen (F.told files.new).seen) }
+        ensures file { IfOk result (λ ready. IsOpenPiece (F.told files.new).seen
             (series_of pattern.now limit head dump.now) ready) }
         ensures many { IfErr result (λ fallen. fallen.files ≤ 10000) }
-        ensures faults { CountsFault (F.faults files.old) (F.faults files.new) result }
+        ensures faults { CountsFault (F.told files.old).faults (F.told files.new).faults result }
         ensures taken { IfOk result (λ ready.
-            ClashesBy self.taken ready.taken (F.clashes files.old) (F.clashes files.new)) }
-        ensures clashes { OnErr result (F.clashes files.new ≡ F.clashes files.old) }
-        ensures quiet { OnOk result (F.first files.new ≡ F.first files.old) }
+            ClashesBy self.taken ready.taken (F.told files.old).clashes (F.told files.new).clashes) }
+        ensures clashes { OnErr result ((F.told files.new).clashes ≡ (F.told files.old).clashes) }
+        ensures quiet { OnOk result ((F.told files.new).first ≡ (F.told files.old).first) }
         ensures first { OnErr result (NamesOne (piece_name_by pattern.now head.run self.sub)
-            (piece_name_by pattern.now head.run (self.sub + 1)) (F.first files.old)
-            (F.first files.new)) }
+            (piece_name_by pattern.now head.run (self.sub + 1)) (F.told files.old).first
+            (F.told files.new).first) }
         ensures unlimited { limit ≡ 0 → IfOk result (λ ready. ready ≡ self) }
     {
         if self.begins_next(limit, dump.len(), size) {
@@ -297,28 +298,28 @@ impl OpenFile {
         dump: &[u8],
         event: &[u8],
     ) -> Result<(), Fallen>
-        requires file { IsOpenPiece (F.seen files.old)
+        requires file { IsOpenPiece (F.told files.old).seen
             (series_of pattern.now limit head dump.now) self.old }
         requires small { length dump.now ≤ record_limit }
         ensures wrote { OnOk result
             (WritesNext (series_of pattern.now limit head dump.now) self.old self.new event.now
-            (F.seen files.old) (F.seen files.new)) }
+            (F.told files.old).seen (F.told files.new).seen) }
         ensures fails { IfErr result (λ fallen.
             FailsNext (series_of pattern.now limit head dump.now) self.old event.now fallen
-            (F.seen files.old) (F.seen files.new)) }
-        ensures file { OnOk result (IsOpenPiece (F.seen files.new)
+            (F.told files.old).seen (F.told files.new).seen) }
+        ensures file { OnOk result (IsOpenPiece (F.told files.new).seen
             (series_of pattern.now limit head dump.now) self.new) }
         ensures many { IfErr result (λ fallen. fallen.files ≤ 10000) }
-        ensures faults { CountsFault (F.faults files.old) (F.faults files.new) result }
+        ensures faults { CountsFault (F.told files.old).faults (F.told files.new).faults result }
         ensures taken { OnOk result
-            (ClashesBy self.old.taken self.new.taken (F.clashes files.old) (F.clashes files.new)) }
-        ensures clashes { RisesWith limit (F.clashes files.old) (F.clashes files.new) }
-        ensures quiet { OnOk result (F.first files.new ≡ F.first files.old) }
+            (ClashesBy self.old.taken self.new.taken (F.told files.old).clashes (F.told files.new).clashes) }
+        ensures clashes { RisesWith limit (F.told files.old).clashes (F.told files.new).clashes }
+        ensures quiet { OnOk result ((F.told files.new).first ≡ (F.told files.old).first) }
         ensures first { OnErr result (NamesOne (piece_name_by pattern.now head.run self.old.sub)
-            (piece_name_by pattern.now head.run (self.old.sub + 1)) (F.first files.old)
-            (F.first files.new)) }
-        ensures own_first { limit ≡ 0 → OnErr result (F.first files.new
-            ≡ first_of (F.first files.old) (piece_name_by pattern.now head.run self.old.sub)) }
+            (piece_name_by pattern.now head.run (self.old.sub + 1)) (F.told files.old).first
+            (F.told files.new).first) }
+        ensures own_first { limit ≡ 0 → OnErr result ((F.told files.new).first
+            ≡ first_of (F.told files.old).first (piece_name_by pattern.now head.run self.old.sub)) }
     {
         match self.make_ready(files, pattern, limit, head, dump, event.len()) {
             Ok(ready) => match ready.append(files, limit, event) {
@@ -345,34 +346,34 @@ impl OpenFile {
         dump: &[u8],
         event: &[u8],
     ) -> Result<(), Fallen>
-        requires file { IsOpenPiece (F.seen files.old)
+        requires file { IsOpenPiece (F.told files.old).seen
             (series_of pattern.now limit head dump.now) self.old }
         requires small { length dump.now ≤ record_limit }
         ensures wrote { OnOk result
             (WritesNext (series_of pattern.now limit head dump.now) self.old self.new event.now
-            (F.seen files.old) (F.seen files.new)) }
+            (F.told files.old).seen (F.told files.new).seen) }
         ensures fails { IfErr result (λ fallen.
             FailsNext (series_of pattern.now limit head dump.now) self.old event.now fallen
-            (F.seen files.old) (F.seen files.new)) }
-        ensures file { OnOk result (IsOpenPiece (F.seen files.new)
+            (F.told files.old).seen (F.told files.new).seen) }
+        ensures file { OnOk result (IsOpenPiece (F.told files.new).seen
             (series_of pattern.now limit head dump.now) self.new) }
         ensures many { IfErr result (λ fallen. fallen.files ≤ 10000) }
-        ensures faults { CountsFault (F.faults files.old) (F.faults files.new) result }
+        ensures faults { CountsFault (F.told files.old).faults (F.told files.new).faults result }
         ensures taken { OnOk result
-            (ClashesBy self.old.taken self.new.taken (F.clashes files.old) (F.clashes files.new)) }
-        ensures clashes { RisesWith limit (F.clashes files.old) (F.clashes files.new) }
-        ensures quiet { OnOk result (F.first files.new ≡ F.first files.old) }
+            (ClashesBy self.old.taken self.new.taken (F.told files.old).clashes (F.told files.new).clashes) }
+        ensures clashes { RisesWith limit (F.told files.old).clashes (F.told files.new).clashes }
+        ensures quiet { OnOk result ((F.told files.new).first ≡ (F.told files.old).first) }
         ensures first { OnErr result (NamesOne (piece_name_by pattern.now head.run self.old.sub)
-            (piece_name_by pattern.now head.run (self.old.sub + 1)) (F.first files.old)
-            (F.first files.new)) }
-        ensures own_first { limit ≡ 0 → OnErr result (F.first files.new
-            ≡ first_of (F.first files.old) (piece_name_by pattern.now head.run self.old.sub)) }
+            (piece_name_by pattern.now head.run (self.old.sub + 1)) (F.told files.old).first
+            (F.told files.new).first) }
+        ensures own_first { limit ≡ 0 → OnErr result ((F.told files.new).first
+            ≡ first_of (F.told files.old).first (piece_name_by pattern.now head.run self.old.sub)) }
         ensures holds { OnOk result
             (HoldsMore (series_of pattern.now limit head dump.now) self.old self.new event.now
-            (F.seen files.old) (F.seen files.new)) }
+            (F.told files.old).seen (F.told files.new).seen) }
         ensures part { IfErr result (λ fallen.
             HasPartOfMore (series_of pattern.now limit head dump.now) self.old fallen event.now
-            (F.seen files.old) (F.seen files.new)) }
+            (F.told files.old).seen (F.told files.new).seen) }
     {
         self.write_bytes(files, pattern, limit, head, dump, event)
     }
@@ -386,24 +387,24 @@ impl OpenFile {
         dump: &[u8],
     ) -> Result<OpenFile, NameRefused>
         requires small { length dump.now ≤ record_limit }
-        ensures begun { IfOk result (λ begun. Creates (F.seen files.old) (F.seen files.new)
+        ensures begun { IfOk result (λ begun. Creates (F.told files.old).seen (F.told files.new).seen
             (piece_name_by pattern.now head.run 0) begun.file
             (begun_file head.run head.time dump.now [])) }
         ensures number { IfOk result (λ begun. begun ≡ first_file dump.now begun.file) }
-        ensures exists { IsTrue (F.seen files.old).tells → (IsErrOf result NameRefused.Exists
-            ↔ IsSome ((F.seen files.old).at (piece_name_by pattern.now head.run 0))) }
+        ensures exists { IsTrue (F.told files.old).seen.names → (IsErrOf result NameRefused.Exists
+            ↔ IsSome ((F.told files.old).seen.at (piece_name_by pattern.now head.run 0))) }
         ensures not_missing { ¬ IsErrOf result NameRefused.Missing }
         ensures kept { IsErrOf result NameRefused.Exists
-            → Same (F.seen files.old) (F.seen files.new) }
+            → Same (F.told files.old).seen (F.told files.new).seen }
         ensures undone { IsErrOf result NameRefused.Failed → UndoesFile RoseTwice
-            (F.seen files.old) (F.seen files.new) (piece_name_by pattern.now head.run 0)
-            (F.faults files.old) (F.faults files.new) }
-        ensures faults { CountsNamed (F.faults files.old) (F.faults files.new) result }
-        ensures clashes { CountsClash (F.clashes files.old) (F.clashes files.new) result }
-        ensures first { NamesFirstOf (piece_name_by pattern.now head.run 0) (F.first files.old)
-            (F.first files.new) result }
+            (F.told files.old).seen (F.told files.new).seen (piece_name_by pattern.now head.run 0)
+            (F.told files.old).faults (F.told files.new).faults }
+        ensures faults { CountsNamed (F.told files.old).faults (F.told files.new).faults result }
+        ensures clashes { CountsClash (F.told files.old).clashes (F.told files.new).clashes result }
+        ensures first { NamesFirstOf (piece_name_by pattern.now head.run 0) (F.told files.old).first
+            (F.told files.new).first result }
         ensures holds { IfOk result (λ begun. (limit : ℕ) → limit < 2 ^ 32 →
-            HoldsRun (F.seen files.new) (series_of pattern.now limit head dump.now) begun []) }
+            HoldsRun (F.told files.new).seen (series_of pattern.now limit head dump.now) begun []) }
     {
         let name = pattern.name(head.run, 0);
         match begin_file(files, &name, head.run, head.time, dump) {
@@ -425,25 +426,25 @@ impl OpenFile {
         time: u32,
         dump: &[u8],
     ) -> Result<(), Fallen>
-        requires writes { IsTrue ((F.seen files.old).writes self.file) }
+        requires writes { IsTrue ((F.told files.old).seen.writes self.file) }
         requires small { length dump.now ≤ record_limit }
         requires few { self.sub ≤ 9999 }
-        ensures whole { OnOk result (Closes (F.seen files.old) (F.seen files.new) self.file
+        ensures whole { OnOk result (Closes (F.told files.old).seen (F.told files.new).seen self.file Closed
             (encoding (end_event head.run time dump.now))) }
-        ensures part { OnErr result (ClosesPart (F.seen files.old) (F.seen files.new) self.file
+        ensures part { OnErr result (ClosesPart (F.told files.old).seen (F.told files.new).seen self.file
             (encoding (end_event head.run time dump.now))) }
         ensures fallen { IfErr result (λ fallen. fallen ≡ fallen_at (self.sub + 1) self.sub) }
-        ensures faults { CountsFault (F.faults files.old) (F.faults files.new) result }
-        ensures clashes { F.clashes files.new ≡ F.clashes files.old }
-        ensures first { NamesFirst ((F.seen files.old).name_of self.file) (F.first files.old)
-            (F.first files.new) result }
+        ensures faults { CountsFault (F.told files.old).faults (F.told files.new).faults result }
+        ensures clashes { (F.told files.new).clashes ≡ (F.told files.old).clashes }
+        ensures first { NamesFirst ((F.told files.old).seen.name_of self.file) (F.told files.old).first
+            (F.told files.new).first result }
         ensures run { OnOk result ((s : Series) → (events : List Event) →
-            HoldsRun (F.seen files.old) s self events →
-            HasRun (F.seen files.new) s (self.sub + 1) self.taken
+            HoldsRun (F.told files.old).seen s self events →
+            HasRun (F.told files.new).seen s (self.sub + 1) self.taken
             (encoding (end_event head.run time dump.now)) events) }
         ensures broken { IfErr result (λ fallen. (s : Series) → (events : List Event) →
-            HoldsRun (F.seen files.old) s self events →
-            HasPart (F.seen files.new) s fallen (encoding (end_event head.run time dump.now))
+            HoldsRun (F.told files.old).seen s self events →
+            HasPart (F.told files.new).seen s fallen (encoding (end_event head.run time dump.now))
             events) }
     {
         match end_file(files, self.file, head.run, time, dump) {
@@ -465,16 +466,16 @@ pub fn remove_files<F: Files>(
 ) -> Result<(), Failed>
     requires few { many ≤ 10000 }
     ensures removes { RemovesNames (piece_name_by pattern.now run) many
-        (F.seen files.old) (F.seen files.new) }
+        (F.told files.old).seen (F.told files.new).seen }
     ensures gone { OnOk result
-        (AreGone (F.seen files.new) (piece_name_by pattern.now run) many) }
-    ensures leaves { LeavesForFaults (piece_name_by pattern.now run) many (F.seen files.new)
-        (F.faults files.old) (F.faults files.new) }
-    ensures faults { CountsFault (F.faults files.old) (F.faults files.new) result }
-    ensures clashes { F.clashes files.new ≡ F.clashes files.old }
-    ensures quiet { OnOk result (F.first files.new ≡ F.first files.old) }
+        (AreGone (F.told files.old).seen (F.told files.new).seen (piece_name_by pattern.now run) many) }
+    ensures leaves { LeavesForFaults (piece_name_by pattern.now run) many (F.told files.old).seen
+        (F.told files.new).seen (F.told files.old).faults (F.told files.new).faults }
+    ensures faults { CountsFault (F.told files.old).faults (F.told files.new).faults result }
+    ensures clashes { (F.told files.new).clashes ≡ (F.told files.old).clashes }
+    ensures quiet { OnOk result ((F.told files.new).first ≡ (F.told files.old).first) }
     ensures first { OnErr result (NamesOneOf (piece_name_by pattern.now run) many
-        (F.first files.old) (F.first files.new)) }
+        (F.told files.old).first (F.told files.new).first) }
 {
     let mut answer = Ok(());
     for sub in 0..many {

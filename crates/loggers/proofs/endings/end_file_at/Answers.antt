@@ -7,6 +7,6 @@ pub returns-in-Some-clause-files : goal.returns-in-Some-clause-files
 returns-in-Some-clause-files g c =
     let there : slot_at c.args.slots.now c.args.number ≡ c.in-Some.slot.now = sym (c.in-Some.ensures.entry.4 (omega arith) None) in
     ended_at c.closes_kept.ensures.change c.args.time c.args.dump.now c.args.number c.in-Some.slot.now c.end_slot.new.slot c.args.slots.now
-    (record { seen = g.F.Files.seen c.args.files.now; faults = g.F.Files.faults c.args.files.now; clashes = g.F.Files.clashes c.args.files.now; first = g.F.Files.first c.args.files.now })
-    (record { seen = g.F.Files.seen c.end_slot.new.files; faults = g.F.Files.faults c.end_slot.new.files; clashes = g.F.Files.clashes c.end_slot.new.files; first = g.F.Files.first c.end_slot.new.files })
+    (g.F.Files.told c.args.files.now)
+    (g.F.Files.told c.end_slot.new.files)
     c.args.ends.now c.end_slot.new.ends there (c.end_slot.ensures.ends c.args.slots.now there) c.requires.files

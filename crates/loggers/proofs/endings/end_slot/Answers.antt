@@ -1,6 +1,6 @@
 use Rattle.std.specs.Prelude.{Some, slice_set}
 use Rattle.std.proofs.Common.{refl}
-use Rattle.loggers.specs.Moments.{RunFiles}
+use Rattle.daq_io.specs.Told.{FilesTold}
 use Rattle.loggers.specs.Finishing.{EndingMoment, EndsNumbered, ending_of}
 use Rattle.loggers.proofs.StepEntries.{slot_ends}
 use Rattle.loggers.proofs.endings.end_slot.Goals as goal
@@ -11,8 +11,8 @@ close-requires-clause-file g c = c.requires.file c.in-Some.channel c.in-Some.is
 pub returns-in-Some : goal.returns-in-Some
 returns-in-Some g c = record {
   ends = λ slots at.
-      let old : RunFiles = record { seen = g.F.Files.seen c.args.files.now; faults = g.F.Files.faults c.args.files.now; clashes = g.F.Files.clashes c.args.files.now; first = g.F.Files.first c.args.files.now } in
-      let new : RunFiles = record { seen = g.F.Files.seen c.close.new.files; faults = g.F.Files.faults c.close.new.files; clashes = g.F.Files.clashes c.close.new.files; first = g.F.Files.first c.close.new.files } in
+      let old : FilesTold = g.F.Files.told c.args.files.now in
+      let new : FilesTold = g.F.Files.told c.close.new.files in
       let before : EndingMoment = ending_of slots old c.args.ends.now in
       let behind : EndingMoment = ending_of (slice_set slots c.args.number (Some c.close.new.self)) new (slice_set c.args.ends.now c.args.number c.close.result) in
       let ends : EndsNumbered c.args.time c.args.dump.now c.args.number c.in-Some.channel before behind = record {

@@ -1,13 +1,14 @@
 -- So far the run is to be ended in the buffers with lower numbers.
 use Rattle.std.proofs.Common.{◌≡◌, length, map}
 use Rattle.daq_io.specs.Seen.{Seen}
-use Rattle.loggers.specs.Moments.{RunFiles, InTurn, IsLoggerReady}
+use Rattle.daq_io.specs.Told.{FilesTold}
+use Rattle.loggers.specs.Moments.{InTurn, IsLoggerReady}
 use Rattle.loggers.specs.Turning.{EndsBuffer}
 use Rattle.loggers.proofs.marks.end_first.Given as goal
 
 abbrev pub invariant-loop-buffer : goal.invariant-loop-buffer
 invariant-loop-buffer g l = record {
-  ends : (files : RunFiles) → InTurn (λ buffer. EndsBuffer l.start buffer) l.buffer (record { slots = l.fn.slots; ports = map g.P.BufferPort.access l.fn.ports; files = files }) (record { slots = l.slots; ports = map g.P.BufferPort.access l.ports; files = files });
+  ends : (files : FilesTold) → InTurn (λ buffer. EndsBuffer l.start buffer) l.buffer (record { slots = l.fn.slots; ports = map g.P.BufferPort.access l.fn.ports; files = files }) (record { slots = l.slots; ports = map g.P.BufferPort.access l.ports; files = files });
   ready : (seen : Seen) → IsLoggerReady l.fn.slots (map g.P.BufferPort.access l.fn.ports) seen → IsLoggerReady l.slots (map g.P.BufferPort.access l.ports) seen;
   count : length l.ports ≡ length l.fn.ports;
 }

@@ -12,8 +12,8 @@ pub returns-clause-aborts : goal.returns-clause-aborts
 returns-clause-aborts g c = λ slots number at.
     slot_steps AbortsChannel number c.args.slot.now c.in-Some.channel _ _ c.in-Some.is
     (stepped AbortsChannel g.P.BufferPort.access number c.in-Some.channel c.abort.new.self slots c.args.ports.now c.in-Some-get_mut.port.now c.abort.new.port
-    (record { seen = g.F.Files.seen c.args.files.now; faults = g.F.Files.faults c.args.files.now; clashes = g.F.Files.clashes c.args.files.now; first = g.F.Files.first c.args.files.now })
-    (record { seen = g.F.Files.seen c.abort.new.files; faults = g.F.Files.faults c.abort.new.files; clashes = g.F.Files.clashes c.abort.new.files; first = g.F.Files.first c.abort.new.files })
+    (g.F.Files.told c.args.files.now)
+    (g.F.Files.told c.abort.new.files)
     (lent_at c.args.ports.now c.in-Some.channel.spec.buffer c.in-Some-get_mut.port.now (c.requires.served c.in-Some.channel c.in-Some.is) c.in-Some-get_mut.ensures.entry.1)
     (record {
       channel = c.abort.ensures.channel;

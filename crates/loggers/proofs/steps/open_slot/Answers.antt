@@ -4,8 +4,8 @@ use Rattle.loggers.proofs.steps.open_slot.Goals as goal
 pub returns-clause-opens : goal.returns-clause-opens
 returns-clause-opens g c =
     slot_opens g.P.BufferPort.access c.args.order.now c.args.dump.now c.open.result c.args.slot.now c.in-Some.channel c.open.new.self c.args.ports.now c.in-Some-get_mut.port.now c.open.new.port
-    (record { seen = g.F.Files.seen c.args.files.now; faults = g.F.Files.faults c.args.files.now; clashes = g.F.Files.clashes c.args.files.now; first = g.F.Files.first c.args.files.now })
-    (record { seen = g.F.Files.seen c.open.new.files; faults = g.F.Files.faults c.open.new.files; clashes = g.F.Files.clashes c.open.new.files; first = g.F.Files.first c.open.new.files })
+    (g.F.Files.told c.args.files.now)
+    (g.F.Files.told c.open.new.files)
     c.in-Some.is
     (lent_at c.args.ports.now c.in-Some.channel.spec.buffer c.in-Some-get_mut.port.now (c.requires.served c.in-Some.channel c.in-Some.is) c.in-Some-get_mut.ensures.entry.1)
     (record {
@@ -22,8 +22,8 @@ returns-clause-opens g c =
 pub returns-clause-refuses : goal.returns-clause-refuses
 returns-clause-refuses g c =
     slot_refuses g.P.BufferPort.access c.args.order.now c.args.dump.now c.open.result c.args.slot.now c.in-Some.channel c.open.new.self c.args.ports.now c.in-Some-get_mut.port.now c.open.new.port
-    (record { seen = g.F.Files.seen c.args.files.now; faults = g.F.Files.faults c.args.files.now; clashes = g.F.Files.clashes c.args.files.now; first = g.F.Files.first c.args.files.now })
-    (record { seen = g.F.Files.seen c.open.new.files; faults = g.F.Files.faults c.open.new.files; clashes = g.F.Files.clashes c.open.new.files; first = g.F.Files.first c.open.new.files })
+    (g.F.Files.told c.args.files.now)
+    (g.F.Files.told c.open.new.files)
     c.in-Some.is
     (lent_at c.args.ports.now c.in-Some.channel.spec.buffer c.in-Some-get_mut.port.now (c.requires.served c.in-Some.channel c.in-Some.is) c.in-Some-get_mut.ensures.entry.1)
     (record {

@@ -13,8 +13,8 @@ returns g c = record {
   pulls = λ slots number at.
       slot_pulls c.args.dump.now c.pull.result number c.args.slot.now c.in-Some.channel _ _ c.in-Some.is
       (stepped (PullsChannel c.args.dump.now c.pull.result) g.P.BufferPort.access number c.in-Some.channel c.pull.new.self slots c.args.ports.now c.in-Some-get_mut.port.now c.pull.new.port
-      (record { seen = g.F.Files.seen c.args.files.now; faults = g.F.Files.faults c.args.files.now; clashes = g.F.Files.clashes c.args.files.now; first = g.F.Files.first c.args.files.now })
-      (record { seen = g.F.Files.seen c.pull.new.files; faults = g.F.Files.faults c.pull.new.files; clashes = g.F.Files.clashes c.pull.new.files; first = g.F.Files.first c.pull.new.files })
+      (g.F.Files.told c.args.files.now)
+      (g.F.Files.told c.pull.new.files)
       (lent_at c.args.ports.now c.in-Some.channel.spec.buffer c.in-Some-get_mut.port.now (c.requires.served c.in-Some.channel c.in-Some.is) c.in-Some-get_mut.ensures.entry.1)
       (record {
         spec = c.pull.ensures.spec;

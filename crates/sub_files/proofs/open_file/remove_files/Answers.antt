@@ -10,9 +10,9 @@ pub loop-sub-preserved : goal.loop-sub-preserved
 loop-sub-preserved g c =
     let names = piece_name_by c.args.pattern.now c.args.run in
     let many = c.loop-sub.sub in
-    let a = g.F.Files.seen c.args.files.now in let b = g.F.Files.seen c.loop-sub.files in let d = g.F.Files.seen c.remove.new.self in
-    let fa = g.F.Files.faults c.args.files.now in let fb = g.F.Files.faults c.loop-sub.files in let fd = g.F.Files.faults c.remove.new.self in
-    let oa = g.F.Files.first c.args.files.now in let ob = g.F.Files.first c.loop-sub.files in let od = g.F.Files.first c.remove.new.self in
+    let a = (g.F.Files.told c.args.files.now).seen in let b = (g.F.Files.told c.loop-sub.files).seen in let d = (g.F.Files.told c.remove.new.self).seen in
+    let fa = (g.F.Files.told c.args.files.now).faults in let fb = (g.F.Files.told c.loop-sub.files).faults in let fd = (g.F.Files.told c.remove.new.self).faults in
+    let oa = (g.F.Files.told c.args.files.now).first in let ob = (g.F.Files.told c.loop-sub.files).first in let od = (g.F.Files.told c.remove.new.self).first in
     let before = c.loop-sub.invariant.removed in
     record {
       removed = elim c.match-remove.branch as (λ w. HasRemoved names (many + 1) a d fa fd oa od c.match-remove.answer) [

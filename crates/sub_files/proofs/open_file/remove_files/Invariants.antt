@@ -6,6 +6,6 @@ use Rattle.sub_files.proofs.open_file.remove_files.Given as goal
 
 abbrev pub invariant-loop-sub : goal.invariant-loop-sub
 invariant-loop-sub g l = record {
-  removed : HasRemoved (piece_name_by l.pattern l.run) l.sub (g.F.Files.seen l.fn.files) (g.F.Files.seen l.files) (g.F.Files.faults l.fn.files) (g.F.Files.faults l.files) (g.F.Files.first l.fn.files) (g.F.Files.first l.files) l.answer;
-  clashes : g.F.Files.clashes l.files ≡ g.F.Files.clashes l.fn.files;
+  removed : HasRemoved (piece_name_by l.pattern l.run) l.sub (g.F.Files.told l.fn.files).seen (g.F.Files.told l.files).seen (g.F.Files.told l.fn.files).faults (g.F.Files.told l.files).faults (g.F.Files.told l.fn.files).first (g.F.Files.told l.files).first l.answer;
+  clashes : (g.F.Files.told l.files).clashes ≡ (g.F.Files.told l.fn.files).clashes;
 }

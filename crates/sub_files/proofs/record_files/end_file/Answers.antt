@@ -1,6 +1,7 @@
 use Rattle.std.proofs.Common.{ℕ, List, ap, subst}
 use Rattle.event.specs.Events.{encoding}
-use Rattle.daq_io.proofs.SeenLaws.{Extends-writes}
+use Rattle.daq_io.specs.Seen.{close_state}
+use Rattle.daq_io.proofs.SeenLaws.{Extends-writes, Writes-writes}
 use Rattle.event.specs.declared.head.Header.{Header}
 use Rattle.event.specs.Headers.{event_of}
 use Rattle.sub_files.specs.RecordFiles.{ClosesPart}
@@ -18,6 +19,6 @@ returns-in-Ok-clause-part g c =
 
 pub returns-in-Err-clause-part : goal.returns-in-Err-clause-part
 returns-in-Err-clause-part g c =
-    subst (λ (bytes : List ℕ). ClosesPart (g.F.Files.seen c.args.files.now) (g.F.Files.seen c.close-in-Err.new.self) c.args.file bytes)
+    subst (λ (bytes : List ℕ). ClosesPart (g.F.Files.told c.args.files.now).seen (g.F.Files.told c.close-in-Err.new.self).seen c.args.file bytes)
     (ap (λ (h : Header). encoding (event_of h c.args.dump.now)) c.end_record-header.ensures)
-    (part_closed _ c.in-Err.ensures.part (c.close-in-Err.ensures.written (Extends-writes c.in-Err.ensures.part.extends)))
+    (part_closed _ c.in-Err.ensures.part (record { state = close_state c.close-in-Err.result; closes = c.close-in-Err.ensures.written (Writes-writes c.in-Err.ensures.part.wrote) }))

@@ -13,8 +13,8 @@ returns g c =
       later_dumps = c.end_run.new.self.dumps;
       slots = c.args.self.now.channels;
       later_slots = c.end_run.new.self.channels;
-      files = record { seen = g.F.Files.seen c.args.files.now; faults = g.F.Files.faults c.args.files.now; clashes = g.F.Files.clashes c.args.files.now; first = g.F.Files.first c.args.files.now };
-      later_files = record { seen = g.F.Files.seen c.end_run.new.files; faults = g.F.Files.faults c.end_run.new.files; clashes = g.F.Files.clashes c.end_run.new.files; first = g.F.Files.first c.end_run.new.files };
+      files = g.F.Files.told c.args.files.now;
+      later_files = g.F.Files.told c.end_run.new.files;
       answer = c.end_run.result;
     } in
     record {

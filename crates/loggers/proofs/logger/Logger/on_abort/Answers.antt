@@ -12,10 +12,10 @@ returns-clause-takes g c = λ dump.
       ended = record {
         slots = c.end_first.new.slots;
         ports = map g.P.BufferPort.access c.end_first.new.ports;
-        files = record { seen = g.F.Files.seen c.args.files.now; faults = g.F.Files.faults c.args.files.now; clashes = g.F.Files.clashes c.args.files.now; first = g.F.Files.first c.args.files.now };
+        files = g.F.Files.told c.args.files.now;
       };
       ends = turns_as_many _ _ _ _ _ (found_is (is_of_start c.args.self.now.run c.args.order.now.start) (buffers_begun c.args.self.now.run) c.in-Some.begun c.in-Some.ensures)
-          (c.end_first.ensures.ends (record { seen = g.F.Files.seen c.args.files.now; faults = g.F.Files.faults c.args.files.now; clashes = g.F.Files.clashes c.args.files.now; first = g.F.Files.first c.args.files.now }));
+          (c.end_first.ensures.ends (g.F.Files.told c.args.files.now));
       aborts = c.abort_all.ensures.aborts;
       run = refl;
       dumps = c.without_dumps.ensures;

@@ -10,7 +10,7 @@ returns-clause-takes g c = λ dump.
     mark_taken _ _ _ c.if-not-goes_on.ensures (record {
       answer_is = ap (λ (a : Answer). Some a) c.plain-2.ensures;
       marks = turns_as_many _ _ _ _ _ (sym (length-map c.args.ports.now g.P.BufferPort.access))
-          (c.pause_all.ensures.pauses c.args.self.now.channels (record { seen = g.F.Files.seen c.args.files.now; faults = g.F.Files.faults c.args.files.now; clashes = g.F.Files.clashes c.args.files.now; first = g.F.Files.first c.args.files.now }));
+          (c.pause_all.ensures.pauses c.args.self.now.channels (g.F.Files.told c.args.files.now));
       run = refl;
       dumps = refl;
     })

@@ -9,7 +9,7 @@ returns-clause-takes g c =
     stop_taken _ _ c.if-not-goes_on.ensures (record {
       answer_is = refl;
       ends = turns_as_many _ _ _ _ _ (c.len-count.ensures ∙ sym (length-map c.args.ports.now g.P.BufferPort.access))
-          (c.end_first.ensures.ends (record { seen = g.F.Files.seen c.args.files.now; faults = g.F.Files.faults c.args.files.now; clashes = g.F.Files.clashes c.args.files.now; first = g.F.Files.first c.args.files.now }));
+          (c.end_first.ensures.ends (g.F.Files.told c.args.files.now));
       run = refl;
       dumps = refl;
     })

@@ -1,7 +1,7 @@
 use Rattle.std.specs.Prelude.{◌≤◌, ℕ, IfSome, List, [], length, unwrap_or, Option, Some, None}
 use Rattle.std.proofs.Common.{arith, map}
 use Rattle.event.specs.Events.{record_limit}
-use Rattle.loggers.specs.Moments.{files_by, moment_of}
+use Rattle.loggers.specs.Moments.{moment_of}
 use Rattle.loggers.specs.Turning.{LoggerTurn}
 use Rattle.loggers.proofs.SameShape.{turn_ports, turn_room}
 use Rattle.loggers.proofs.TurnsOwn.{turn_own}
@@ -24,8 +24,8 @@ returns g c =
       later_run = c.take_turn.new.self.run;
       dumps = c.args.self.now.dumps;
       later_dumps = c.take_turn.new.self.dumps;
-      before = moment_of c.args.self.now.channels (map g.P.BufferPort.access c.args.ports.now) (files_by g.F.Files.seen g.F.Files.faults g.F.Files.clashes g.F.Files.first c.args.files.now);
-      after = moment_of c.take_turn.new.self.channels (map g.P.BufferPort.access c.take_turn.new.ports) (files_by g.F.Files.seen g.F.Files.faults g.F.Files.clashes g.F.Files.first c.take_turn.new.files);
+      before = moment_of c.args.self.now.channels (map g.P.BufferPort.access c.args.ports.now) (g.F.Files.told c.args.files.now);
+      after = moment_of c.take_turn.new.self.channels (map g.P.BufferPort.access c.take_turn.new.ports) (g.F.Files.told c.take_turn.new.files);
     } in
     record {
       takes = c.take_turn.ensures.takes;

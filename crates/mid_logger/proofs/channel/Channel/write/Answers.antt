@@ -12,7 +12,7 @@ returns-in-Err-clause-takes g c = inr (record {
   answer_is = refl;
   stage = ap (λ (x : Channel). x.stage) c.break_off.ensures.stage;
   port = c.break_off.ensures.cancelled;
-  files = subst (λ (bytes : List ℕ). FailsNext (run_series c.args.self.now.spec c.args.run.opened c.args.dump.now) c.args.run.opened.at bytes c.in-Err.fallen (g.F.Files.seen c.args.files.now) (g.F.Files.seen c.write.new.files))
+  files = subst (λ (bytes : List ℕ). FailsNext (run_series c.args.self.now.spec c.args.run.opened c.args.dump.now) c.args.run.opened.at bytes c.in-Err.fallen (g.F.Files.told c.args.files.now).seen (g.F.Files.told c.write.new.files).seen)
       c.bytes-event.ensures c.in-Err.ensures.fails;
 })
 

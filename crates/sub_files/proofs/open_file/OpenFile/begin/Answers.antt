@@ -7,5 +7,5 @@ use Rattle.sub_files.proofs.open_file.OpenFile.begin.Goals as goal
 
 pub returns-in-Ok-clause-holds : goal.returns-in-Ok-clause-holds
 returns-in-Ok-clause-holds g c = λ limit within.
-    begun_holds (g.F.Files.seen c.args.files.now) (g.F.Files.seen c.begin_file.new.files) c.args.pattern.now limit c.args.head c.args.dump.now c.in-Ok.file within c.requires.small
-    (subst (λ (name : List ℕ). Creates (g.F.Files.seen c.args.files.now) (g.F.Files.seen c.begin_file.new.files) name c.in-Ok.file (begun_file c.args.head.run c.args.head.time c.args.dump.now [])) c.name-name.ensures c.in-Ok.ensures.begun)
+    begun_holds (g.F.Files.told c.args.files.now).seen (g.F.Files.told c.begin_file.new.files).seen c.args.pattern.now limit c.args.head c.args.dump.now c.in-Ok.file within c.requires.small
+    (subst (λ (name : List ℕ). Creates (g.F.Files.told c.args.files.now).seen (g.F.Files.told c.begin_file.new.files).seen name c.in-Ok.file (begun_file c.args.head.run c.args.head.time c.args.dump.now [])) c.name-name.ensures c.in-Ok.ensures.begun)

@@ -9,6 +9,6 @@ use Rattle.sub_files.proofs.open_file.OpenFile.begin_next.Goals as goal
 
 pub returns-in-Err-clause-fails : goal.returns-in-Err-clause-fails
 returns-in-Err-clause-fails g c =
-    subst (λ (bytes : List ℕ). ClosesPart (g.F.Files.seen c.args.files.now) (g.F.Files.seen c.close_behind.new.files) c.args.file bytes)
+    subst (λ (bytes : List ℕ). ClosesPart (g.F.Files.told c.args.files.now).seen (g.F.Files.told c.close_behind.new.files).seen c.args.file bytes)
     (ap (λ (h : Header). encoding (event_of h c.args.dump.now)) c.begin_record-header.ensures)
     (part_closed _ c.in-Err.ensures.part c.close_behind.ensures.closes)

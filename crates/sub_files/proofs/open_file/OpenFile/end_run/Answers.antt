@@ -5,8 +5,8 @@ use Rattle.sub_files.proofs.open_file.OpenFile.end_run.Goals as goal
 
 pub returns-in-Ok-clause-run : goal.returns-in-Ok-clause-run
 returns-in-Ok-clause-run g c = λ s events h.
-    closed_run (g.F.Files.seen c.args.files.now) (g.F.Files.seen c.end_file.new.files) s c.args.self (encoding (end_record c.args.head.run c.args.time c.args.dump.now)) events h c.in-Ok.ensures.whole
+    closed_run (g.F.Files.told c.args.files.now).seen (g.F.Files.told c.end_file.new.files).seen s c.args.self (encoding (end_record c.args.head.run c.args.time c.args.dump.now)) events h c.in-Ok.ensures.whole
 
 pub returns-in-Err-clause-broken : goal.returns-in-Err-clause-broken
 returns-in-Err-clause-broken g c = λ s events h.
-    closed_part (g.F.Files.seen c.args.files.now) (g.F.Files.seen c.end_file.new.files) s c.args.self (encoding (end_record c.args.head.run c.args.time c.args.dump.now)) events h c.in-Err.ensures.part
+    closed_part (g.F.Files.told c.args.files.now).seen (g.F.Files.told c.end_file.new.files).seen s c.args.self (encoding (end_record c.args.head.run c.args.time c.args.dump.now)) events h c.in-Err.ensures.part
