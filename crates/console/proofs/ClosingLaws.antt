@@ -8,6 +8,7 @@ use Rattle.std.proofs.lemmas.Bool.{cases_lt}
 use Rattle.std.specs.Io.KnownBytes.{Appends, Keeps}
 use Rattle.daq_io.specs.Counts.{Rose}
 use Rattle.daq_io.specs.Streams.{AppendsPart}
+use Rattle.daq_io.specs.Told.{SourceTold}
 use Rattle.daq_io.proofs.StreamsLaws.{Appends-nil, Appends-trans, Appends-kept}
 use Rattle.odb_script.specs.declared.commands.Command.{Command}
 use Rattle.odb_script.specs.Forms.{Read}
@@ -152,7 +153,7 @@ may_print ending SinkFault printing = printing
 module _ {St : Type 0} (does : (number : ℕ) → Read Command → St → Reply → St → Type 0) (breaks : (number : ℕ) → Read Command → St → St → Type 0)
     (closes : St → Option Reply → St → Type 0) (gives_up : St → St → Type 0) where
   -- the lines were played, and behind them this was done and written
-  pub finished : (first : St) (ending : Ending) (closing : Option Halt) (source left told_first told_old told_new : Option (List ℕ)) (old new : St) (refusals : Refusals) (behind : List Reply)
+  pub finished : (first : St) (ending : Ending) (closing : Option Halt) (source left : SourceTold) (told_first told_old told_new : Option (List ℕ)) (old new : St) (refusals : Refusals) (behind : List Reply)
       → Played does breaks first ending source left told_first told_old old refusals → ClosesBy closes gives_up closing behind old new → WroteBehind ending closing told_old told_new behind
       → Finished does breaks closes gives_up first ending closing source left told_first told_new new refusals
   finished first ending closing source left told_first told_old told_new old new refusals behind played closed wrote = record {
@@ -166,6 +167,7 @@ module _ {St : Type 0} (does : (number : ℕ) → Read Command → St → Reply 
     closed = closed;
     counts = played.counts;
     are_lines = played.are_lines;
+    given = played.given;
     numbered = played.numbered;
     told_lines = told_old;
     wrote_lines = played.wrote;

@@ -1,6 +1,7 @@
 -- What a whole script keeps, where each of its lines does.
 use Rattle.std.proofs.Common.{◌≡◌, ℕ, ◌+◌, List, [], ◌∷◌, Option, Some, None, length, sym, subst, inl, inr}
 use Rattle.std.proofs.Math.Logic.{⊎_elim}
+use Rattle.daq_io.specs.Told.{SourceTold}
 use Rattle.odb_script.specs.declared.commands.Command.{Command}
 use Rattle.odb_script.specs.Forms.{Read, command_of}
 use Rattle.console.specs.declared.endings.Ending.{Ending}
@@ -23,14 +24,14 @@ module _ {St : Type 0} (does : (number : ℕ) → Read Command → St → Reply 
       plays_keep each (number + 1) lines replies plays.0 new plays.2 (each number (command_of l) old plays.0 r plays.1 kept)
 
   pub cut_keeps : ((number : ℕ) → (line : Read Command) → (old new : St) → breaks number line old new → Kept old → Kept new)
-      → (ending : Ending) (source : Option (List ℕ)) (lines : List (List ℕ)) (old new : St) → CutBy does breaks ending source lines old new → Kept old → Kept new
-  cut_keeps each End source lines old new same kept = subst Kept (sym same) kept
-  cut_keeps each TooLong source lines old new same kept = subst Kept (sym same) kept
-  cut_keeps each SourceFault source lines old new same kept = subst Kept (sym same) kept
-  cut_keeps each (Halted SinkFault) source lines old new same kept = subst Kept (sym same) kept
-  cut_keeps each (Halted NoMemory) source lines old new cut kept = ⊎_elim
+      → (ending : Ending) (source left : SourceTold) (lines : List (List ℕ)) (old new : St) → CutBy does breaks ending source left lines old new → Kept old → Kept new
+  cut_keeps each End source left lines old new same kept = subst Kept (sym same) kept
+  cut_keeps each TooLong source left lines old new same kept = subst Kept (sym same) kept
+  cut_keeps each SourceFault source left lines old new same kept = subst Kept (sym same) kept
+  cut_keeps each (Halted SinkFault) source left lines old new same kept = subst Kept (sym same) kept
+  cut_keeps each (Halted NoMemory) source left lines old new cut kept = ⊎_elim
       (λ (same : new ≡ old). subst Kept (sym same) kept)
-      (λ (at : BreaksAt does breaks source lines old new). each (1 + length lines) (command_of at.line) old new at.broke kept)
+      (λ (at : BreaksAt does breaks source left lines old new). each (1 + length lines) (command_of at.line) old new at.broke kept)
       cut
 
   pub closing_keeps : ((old new : St) → (reply : Option Reply) → closes old reply new → Kept old → Kept new)

@@ -4,12 +4,15 @@ use Rattle.std.specs.Prelude.{Result, Ok, Err, ◌⊎◌}
 use Rattle.std.proofs.Math.Logic.{⊎_elim}
 use Rattle.std.specs.Io.KnownBytes.{Appends, Keeps}
 use Rattle.daq_io.specs.Streams.{AppendsPart}
+use Rattle.daq_io.specs.Told.{SourceTold}
 use Rattle.daq_io.proofs.StreamsLaws.{Appends-kept}
 use Rattle.odb_script.specs.declared.commands.Command.{Command}
 use Rattle.odb_script.specs.Forms.{Read, command_of}
-use Rattle.odb_script.specs.Lines.{Reading, kept, ReadsLine, ReadsLast, ReadsNone, ReadsTooMuch, ReadsPart}
+use Rattle.odb_script.specs.Lines.{Gives, Reading, kept, ReadsLine, ReadsLast, ReadsNone, ReadsTooMuch, ReadsPart}
 use Rattle.odb_script.specs.ReadLines.{HasReadLines}
 use Rattle.odb_script.proofs.ReadLines.{lines_at_fault, text_within_end, text_within_last}
+use Rattle.odb_script.proofs.LinesSoFar.{Gives-trans}
+use Rattle.odb_script.proofs.Knowing.{HasReadLines-knowing, ReadsLast-knowing, ReadsLine-knowing, ReadsNone-knowing, ReadsPart-knowing, ReadsTooMuch-knowing, knowing}
 use Rattle.odb_script.proofs.KeptForms.{command_of-kept}
 use Rattle.odb_script.specs.Exits.{GoOn, ends_script, is_exit}
 use Rattle.odb_script.proofs.Exits.{ends_script-kept, stop_at_exit, lines_first, lines_first_line, lines_first_last, lines_at_exit, lines_until_end, lines_until_last, lines_until_limit}
@@ -24,122 +27,211 @@ use Rattle.console.specs.declared.refusals.Refusals.{Refusals}
 use Rattle.console.specs.Console.{text_of, console_text}
 use Rattle.console.proofs.Refused.{counts_noted}
 use Rattle.console.specs.Reading.{ReadsNext, ReadsLineOrEnd}
-use Rattle.console.specs.Playing.{AreFirst, AreLines, CutBy, DoesLine, HasLine, IsBetween, OpensAt, Played, PlaysFrom, Replied, Unanswered, Wrote}
+use Rattle.console.specs.Playing.{AreFirst, AreLines, AreOfGiven, CutBy, DoesLine, HasLine, IsBetween, IsNext, OpensAt, Played, PlaysFrom, Replied, Unanswered, Wrote}
 use Rattle.console.proofs.PlayingLaws.{answered_more, between_more, keeps_same, wrote_more}
-
--- what was read of a source that told this text
-told_read : (first now : Option (List ℕ)) (reading : Reading) (lines : List (List ℕ)) (text : List ℕ) → first ≡ Some text → HasReadLines first now reading lines → HasReadLines (Some text) now reading lines
-told_read first now reading lines text told read = subst (λ (f : Option (List ℕ)). HasReadLines f now reading lines) told read
 
 -- of a line as it is kept, whether the script ends with it
 stops : (line : List ℕ) → is_exit (command_of (kept line)) ≡ true → ends_script line ≡ true
 stops line exit = sym (ends_script-kept line) ∙ exit
 
 -- the line that was read, as it is kept
-pub shown_next : (last : Bool) (old new : Reading) (before after : Option (List ℕ)) (line : List ℕ) → ReadsNext last old new before after line → new.line ≡ kept line
+pub shown_next : (last : Bool) (old new : Reading) (before after : SourceTold) (line : List ℕ) → ReadsNext last old new before after line → new.line ≡ kept line
 shown_next true old new before after line reads = reads.keeps
 shown_next false old new before after line reads = reads.keeps
 
 -- a line more takes a byte at least
-pub taken_next : (last : Bool) (old new : Reading) (before after : Option (List ℕ)) (line : List ℕ) → ReadsNext last old new before after line → (more : ℕ) × (new.taken ≡ old.taken + (more + 1))
+pub taken_next : (last : Bool) (old new : Reading) (before after : SourceTold) (line : List ℕ) → ReadsNext last old new before after line → (more : ℕ) × (new.taken ≡ old.taken + (more + 1))
 taken_next true old new before after [] reads = absurd (omega (arith, reads.some))
 taken_next true old new before after (b ∷ bs) reads = (length bs, omega (arith, reads.taken))
 taken_next false old new before after line reads = (length reads.part, omega (arith, reads.taken))
 
+-- The lines that were read, of a text that the source told.
+
+-- no line was read, and the lines ended so
+ended_lines : (ending : Ending) (last : Bool) (first now after : SourceTold) (old new : Reading) (lines : List (List ℕ)) → HasReadLines first now old lines → GoOn lines → ReadsLineOrEnd (Some ending) last old new now after
+    → (text : List ℕ) → first.left ≡ Some text → AreLines ending text after.left lines
+ended_lines End last first now after old new lines read on reads text told =
+    record { lines_are = lines_until_end text first now after old new lines told read on reads; ends = inr (text_within_end text first now after old new lines told read reads) }
+ended_lines TooLong last first now after old new lines read on reads text told =
+    let limit = lines_until_limit text first now after old new lines told read on reads in
+    record { lines_are = limit.0; go_on = on; longer = limit.1 }
+ended_lines SourceFault last first now after old new lines read on reads text told = record { given = lines_at_fault text first now after old new lines told read reads; go_on = on }
+ended_lines (Halted halt) last first now after old new lines read on reads text told = absurd reads
+
+-- an `exit` or the last line was read
+stop_lines : (last : Bool) (first now after : SourceTold) (old new : Reading) (lines : List (List ℕ)) (line : List ℕ) → HasReadLines first now old lines → GoOn lines → ReadsNext last old new now after line
+    → (is_exit (command_of (kept line)) ≡ true) ⊎ (last ≡ true) → (text : List ℕ) → first.left ≡ Some text → AreLines End text after.left (lines ++ line ∷ [])
+stop_lines true first now after old new lines line read on reads stop text told = record {
+  lines_are = lines_until_last text first now after old new lines line told read on reads;
+  ends = inr (text_within_last text first now after old new lines line told read reads);
+}
+stop_lines false first now after old new lines line read on reads stop text told =
+    let exit : is_exit (command_of (kept line)) ≡ true = ⊎_elim (λ (e : is_exit (command_of (kept line)) ≡ true). e) (λ (clash : false ≡ true). absurd cc) stop in
+    record {
+      lines_are = lines_at_exit text first now after old new lines line told read on reads (stops line exit);
+      ends = inl (stop_at_exit lines line on (stops line exit));
+    }
+
+-- the lines with the one that was just read are the first of the text
+first_next : (last : Bool) (first now after : SourceTold) (old new : Reading) (lines : List (List ℕ)) (line : List ℕ) → HasReadLines first now old lines → GoOn lines → ReadsNext last old new now after line
+    → (text : List ℕ) → first.left ≡ Some text → AreFirst text (lines ++ line ∷ [])
+first_next true first now after old new lines line read on reads text told = lines_first_last text first now after old new lines line told read on reads
+first_next false first now after old new lines line read on reads text told = lines_first_line text first now after old new lines line told read on reads
+
+-- The same of the bytes that came, which the source gave.
+
+-- what the last step took, with that step as of a source that told it
+next_known : (last : Bool) (old new : Reading) (before after : SourceTold) (line : List ℕ) → ReadsNext last old new before after line
+    → (more : List ℕ) × Gives before after more × ReadsNext last old new (knowing more before) (knowing [] after) line
+next_known true old new before after line reads = (reads.takes.more, reads.takes.gives, ReadsLast-knowing old new before after line reads)
+next_known false old new before after line reads = (reads.takes.more, reads.takes.gives, ReadsLine-knowing old new before after line reads)
+
+end_known : (ending : Ending) (last : Bool) (old new : Reading) (before after : SourceTold) → ReadsLineOrEnd (Some ending) last old new before after
+    → (more : List ℕ) × Gives before after more × ReadsLineOrEnd (Some ending) last old new (knowing more before) (knowing [] after)
+end_known End last old new before after reads = (reads.takes.more, reads.takes.gives, ReadsNone-knowing old new before after reads)
+end_known TooLong last old new before after reads = (reads.takes.more, reads.takes.gives, ReadsTooMuch-knowing old new before after reads)
+end_known SourceFault last old new before after reads = (reads.takes.more, reads.takes.gives, ReadsPart-knowing old new before after reads)
+end_known (Halted halt) last old new before after reads = absurd reads
+
+-- all that came up to the last step
+came_with : (first now : SourceTold) (reading : Reading) (lines : List (List ℕ)) → HasReadLines first now reading lines → (more : List ℕ) → List ℕ
+came_with first now reading lines read more = (read.done ++ reading.pending) ++ more
+
+gave_with : (first now after : SourceTold) (reading : Reading) (lines : List (List ℕ)) (read : HasReadLines first now reading lines) (more : List ℕ) → Gives now after more
+    → after.gave ≡ first.gave ++ came_with first now reading lines read more
+unfolding came_with
+gave_with first now after reading lines read more gives = (Gives-trans first now after (read.done ++ reading.pending) more read.gives gives).gave
+
+ended_given : (ending : Ending) (last : Bool) (first now after : SourceTold) (old new : Reading) (lines : List (List ℕ)) → HasReadLines first now old lines → GoOn lines → ReadsLineOrEnd (Some ending) last old new now after
+    → AreOfGiven ending first after lines
+unfolding came_with
+ended_given ending last first now after old new lines read on reads =
+    let known = end_known ending last old new now after reads in
+    let came : List ℕ = came_with first now old lines read known.0 in
+    record {
+      came = came;
+      gave = gave_with first now after old lines read known.0 known.1;
+      are = ended_lines ending last (knowing came first) (knowing known.0 now) (knowing [] after) old new lines (HasReadLines-knowing first now old lines known.0 read) on known.2 came refl;
+    }
+
+stop_given : (last : Bool) (first now after : SourceTold) (old new : Reading) (lines : List (List ℕ)) (line : List ℕ) → HasReadLines first now old lines → GoOn lines → ReadsNext last old new now after line
+    → (is_exit (command_of (kept line)) ≡ true) ⊎ (last ≡ true) → AreOfGiven End first after (lines ++ line ∷ [])
+unfolding came_with
+stop_given last first now after old new lines line read on reads stop =
+    let known = next_known last old new now after line reads in
+    let came : List ℕ = came_with first now old lines read known.0 in
+    record {
+      came = came;
+      gave = gave_with first now after old lines read known.0 known.1;
+      are = stop_lines last (knowing came first) (knowing known.0 now) (knowing [] after) old new lines line (HasReadLines-knowing first now old lines known.0 read) on known.2 stop came refl;
+    }
+
+halted_given : (halt : Halt) (last : Bool) (first now after : SourceTold) (old new : Reading) (lines : List (List ℕ)) (line : List ℕ) → HasReadLines first now old lines → GoOn lines → ReadsNext last old new now after line
+    → AreOfGiven (Halted halt) first after (lines ++ line ∷ [])
+unfolding came_with
+halted_given halt last first now after old new lines line read on reads =
+    let known = next_known last old new now after line reads in
+    let came : List ℕ = came_with first now old lines read known.0 in
+    record {
+      came = came;
+      gave = gave_with first now after old lines read known.0 known.1;
+      are = first_next last (knowing came first) (knowing known.0 now) (knowing [] after) old new lines line (HasReadLines-knowing first now old lines known.0 read) on known.2 came refl;
+    }
+
+-- the line that was read is not one of those that were answered
+cut_given : (halt : Halt) (last : Bool) (first now after : SourceTold) (old new : Reading) (lines : List (List ℕ)) (line : List ℕ) → HasReadLines first now old lines → GoOn lines → ReadsNext last old new now after line
+    → AreOfGiven (Halted halt) first after lines
+unfolding came_with
+cut_given halt last first now after old new lines line read on reads =
+    let known = next_known last old new now after line reads in
+    let came : List ℕ = came_with first now old lines read known.0 in
+    record {
+      came = came;
+      gave = gave_with first now after old lines read known.0 known.1;
+      are = lines_first came (knowing came first) (knowing known.0 now) old lines refl (HasReadLines-knowing first now old lines known.0 read) on;
+    }
+
+is_next : (last : Bool) (first now after : SourceTold) (old new : Reading) (lines : List (List ℕ)) (line : List ℕ) → HasReadLines first now old lines → GoOn lines → ReadsNext last old new now after line → IsNext first after lines line
+is_next last first now after old new lines line read on reads =
+    let given : AreOfGiven (Halted NoMemory) first after (lines ++ line ∷ []) = halted_given NoMemory last first now after old new lines line read on reads in
+    record { of_text = first_next last first now after old new lines line read on reads; came = given.came; gave = given.gave; of_came = given.are }
+
 module _ {St : Type 0} (does : ℕ → Read Command → St → Reply → St → Type 0) (breaks : ℕ → Read Command → St → St → Type 0) where
   -- nothing was cut off
-  cut_none : (ending : Ending) (source : Option (List ℕ)) (lines : List (List ℕ)) (s : St) → CutBy does breaks ending source lines s s
-  cut_none End source lines s = refl
-  cut_none TooLong source lines s = refl
-  cut_none SourceFault source lines s = refl
-  cut_none (Halted NoMemory) source lines s = inl refl
-  cut_none (Halted SinkFault) source lines s = refl
+  cut_none : (ending : Ending) (source left : SourceTold) (lines : List (List ℕ)) (s : St) → CutBy does breaks ending source left lines s s
+  cut_none End source left lines s = refl
+  cut_none TooLong source left lines s = refl
+  cut_none SourceFault source left lines s = refl
+  cut_none (Halted NoMemory) source left lines s = inl refl
+  cut_none (Halted SinkFault) source left lines s = refl
 
   -- the lines were answered, and nothing else was done
-  between_played : (ending : Ending) (first : St) (source_first source_old left told_first told_now : Option (List ℕ)) (reading : Reading) (now : St) (refusals : Refusals) (number : ℕ)
-      → (between : IsBetween does first source_first source_old told_first told_now reading now refusals number) → ((text : List ℕ) → source_first ≡ Some text → AreLines ending text left between.lines) → Wrote ending told_first told_now between.replies
+  between_played : (ending : Ending) (first : St) (source_first source_old left : SourceTold) (told_first told_now : Option (List ℕ)) (reading : Reading) (now : St) (refusals : Refusals) (number : ℕ)
+      → (between : IsBetween does first source_first source_old told_first told_now reading now refusals number) → ((text : List ℕ) → source_first.left ≡ Some text → AreLines ending text left.left between.lines) → AreOfGiven ending source_first left between.lines → Wrote ending told_first told_now between.replies
       → Played does breaks first ending source_first left told_first told_now now refusals
-  between_played ending first source_first source_old left told_first told_now reading now refusals number between are wrote = record {
+  between_played ending first source_first source_old left told_first told_now reading now refusals number between are given wrote = record {
     lines = between.lines;
     replies = between.replies;
     behind = now;
     plays = between.plays;
-    cut = cut_none ending source_first between.lines now;
+    cut = cut_none ending source_first left between.lines now;
     counts = between.counts;
     are_lines = are;
+    given = given;
     wrote = wrote;
     numbered = between.numbered;
   }
 
+  -- where they ended without a line more, all that the others print was written
+  all_written : (ending : Ending) (last : Bool) (before after : SourceTold) (told_first told_now : Option (List ℕ)) (old new : Reading) (replies : List Reply) → ReadsLineOrEnd (Some ending) last old new before after
+      → Appends told_first told_now (console_text 1 replies) → Wrote ending told_first told_now replies
+  all_written End last before after told_first told_now old new replies reads wrote = wrote
+  all_written TooLong last before after told_first told_now old new replies reads wrote = wrote
+  all_written SourceFault last before after told_first told_now old new replies reads wrote = wrote
+  all_written (Halted halt) last before after told_first told_now old new replies reads wrote = absurd reads
+
   -- no line was read, and the lines ended so
-  pub ended_played : (ending : Ending) (last : Bool) (first : St) (source_first source_old source_new told_first told_now : Option (List ℕ)) (old new : Reading) (now : St) (refusals : Refusals) (number : ℕ)
+  pub ended_played : (ending : Ending) (last : Bool) (first : St) (source_first source_old source_new : SourceTold) (told_first told_now : Option (List ℕ)) (old new : Reading) (now : St) (refusals : Refusals) (number : ℕ)
       → IsBetween does first source_first source_old told_first told_now old now refusals number → ReadsLineOrEnd (Some ending) last old new source_old source_new → Played does breaks first ending source_first source_new told_first told_now now refusals
-  ended_played End last first source_first source_old source_new told_first told_now old new now refusals number between reads =
-      between_played End first source_first source_old source_new told_first told_now old now refusals number between
-      (λ text told. let read = told_read source_first source_old old between.lines text told between.read in
-      record { lines_are = lines_until_end text source_old source_new old new between.lines read between.go_on reads; ends = inr (text_within_end text source_old source_new old new between.lines read reads) })
-      between.wrote
-  ended_played TooLong last first source_first source_old source_new told_first told_now old new now refusals number between reads =
-      between_played TooLong first source_first source_old source_new told_first told_now old now refusals number between
-      (λ text told. let limit = lines_until_limit text source_old source_new old new between.lines (told_read source_first source_old old between.lines text told between.read) between.go_on reads in
-      record { lines_are = limit.0; go_on = between.go_on; longer = limit.1 })
-      between.wrote
-  ended_played SourceFault last first source_first source_old source_new told_first told_now old new now refusals number between reads =
-      between_played SourceFault first source_first source_old source_new told_first told_now old now refusals number between
-      (λ text told. record { given = lines_at_fault text source_old source_new old new between.lines (told_read source_first source_old old between.lines text told between.read) reads; go_on = between.go_on })
-      between.wrote
-  ended_played (Halted halt) last first source_first source_old source_new told_first told_now old new now refusals number between reads = absurd reads
+  ended_played ending last first source_first source_old source_new told_first told_now old new now refusals number between reads =
+      between_played ending first source_first source_old source_new told_first told_now old now refusals number between
+      (ended_lines ending last source_first source_old source_new old new between.lines between.read between.go_on reads)
+      (ended_given ending last source_first source_old source_new old new between.lines between.read between.go_on reads)
+      (all_written ending last source_old source_new told_first told_now old new between.replies reads between.wrote)
 
   -- one line more was answered, and it was the last that was played
-  behind_played : (ending : Ending) (first : St) (source_first source_old left told_first told_old told_new : Option (List ℕ)) (reading : Reading) (old new : St) (was now : Refusals) (number place : ℕ) (line : List ℕ) (reply : Reply)
+  behind_played : (ending : Ending) (first : St) (source_first source_old left : SourceTold) (told_first told_old told_new : Option (List ℕ)) (reading : Reading) (old new : St) (was now : Refusals) (number place : ℕ) (line : List ℕ) (reply : Reply)
       → place ≡ number + 1 → (between : IsBetween does first source_first source_old told_first told_old reading old was number) → Replied does (kept line) place reply old new was now
-      → ((text : List ℕ) → source_first ≡ Some text → AreLines ending text left (between.lines ++ line ∷ [])) → Wrote ending told_first told_new (between.replies ++ reply ∷ [])
+      → ((text : List ℕ) → source_first.left ≡ Some text → AreLines ending text left.left (between.lines ++ line ∷ [])) → AreOfGiven ending source_first left (between.lines ++ line ∷ []) → Wrote ending told_first told_new (between.replies ++ reply ∷ [])
       → Played does breaks first ending source_first left told_first told_new new now
-  behind_played ending first source_first source_old left told_first told_old told_new reading old new was now number place line reply is between replied are wrote =
+  behind_played ending first source_first source_old left told_first told_old told_new reading old new was now number place line reply is between replied are given wrote =
       let behind : place ≡ 1 + length between.replies = omega (arith, is, between.is_number, between.numbered) in
       record {
         lines = between.lines ++ line ∷ [];
         replies = between.replies ++ reply ∷ [];
         behind = new;
         plays = answered_more does first source_first source_old told_first told_old reading old new was now number place line reply is between replied;
-        cut = cut_none ending source_first (between.lines ++ line ∷ []) new;
+        cut = cut_none ending source_first left (between.lines ++ line ∷ []) new;
         counts = rw (replied.is_noted, behind) (counts_noted between.replies reply was between.counts);
         are_lines = are;
+        given = given;
         wrote = wrote;
         numbered = omega (arith, between.numbered, length-append between.replies (reply ∷ []), length-append between.lines (line ∷ []));
       }
 
   -- an `exit` or the last line was answered
-  pub stop_played : (last : Bool) (first : St) (source_first source_old source_new told_first told_old told_new : Option (List ℕ)) (reading_old reading_new : Reading) (old new : St) (was now : Refusals) (number place : ℕ) (line : List ℕ) (reply : Reply)
+  pub stop_played : (last : Bool) (first : St) (source_first source_old source_new : SourceTold) (told_first told_old told_new : Option (List ℕ)) (reading_old reading_new : Reading) (old new : St) (was now : Refusals) (number place : ℕ) (line : List ℕ) (reply : Reply)
       → place ≡ number + 1 → IsBetween does first source_first source_old told_first told_old reading_old old was number → ReadsNext last reading_old reading_new source_old source_new line
       → Replied does (kept line) place reply old new was now → Appends told_old told_new (text_of place reply) → (is_exit (command_of (kept line)) ≡ true) ⊎ (last ≡ true)
       → Played does breaks first End source_first source_new told_first told_new new now
-  stop_played true first source_first source_old source_new told_first told_old told_new reading_old reading_new old new was now number place line reply is between reads replied here stop =
+  stop_played last first source_first source_old source_new told_first told_old told_new reading_old reading_new old new was now number place line reply is between reads replied here stop =
       behind_played End first source_first source_old source_new told_first told_old told_new reading_old old new was now number place line reply is between replied
-      (λ text told. let read = told_read source_first source_old reading_old between.lines text told between.read in
-      record {
-        lines_are = lines_until_last text source_old source_new reading_old reading_new between.lines line read between.go_on reads;
-        ends = inr (text_within_last text source_old source_new reading_old reading_new between.lines line read reads);
-      })
+      (stop_lines last source_first source_old source_new reading_old reading_new between.lines line between.read between.go_on reads stop)
+      (stop_given last source_first source_old source_new reading_old reading_new between.lines line between.read between.go_on reads stop)
       (wrote_more told_first told_old told_new between.replies reply place (omega (arith, is, between.is_number, between.numbered)) between.wrote here)
-  stop_played false first source_first source_old source_new told_first told_old told_new reading_old reading_new old new was now number place line reply is between reads replied here stop =
-      let exit : is_exit (command_of (kept line)) ≡ true = ⊎_elim (λ (e : is_exit (command_of (kept line)) ≡ true). e) (λ (clash : false ≡ true). absurd cc) stop in
-      behind_played End first source_first source_old source_new told_first told_old told_new reading_old old new was now number place line reply is between replied
-      (λ text told. let read = told_read source_first source_old reading_old between.lines text told between.read in
-      record {
-        lines_are = lines_at_exit text source_old source_new reading_old reading_new between.lines line read between.go_on reads (stops line exit);
-        ends = inl (stop_at_exit between.lines line between.go_on (stops line exit));
-      })
-      (wrote_more told_first told_old told_new between.replies reply place (omega (arith, is, between.is_number, between.numbered)) between.wrote here)
-
-  -- the lines with the one that was just read are the first of the text
-  first_next : (last : Bool) (source_first source_old source_new : Option (List ℕ)) (old new : Reading) (lines : List (List ℕ)) (line : List ℕ) → HasReadLines source_first source_old old lines → GoOn lines → ReadsNext last old new source_old source_new line
-      → (text : List ℕ) → source_first ≡ Some text → AreFirst text (lines ++ line ∷ [])
-  first_next true source_first source_old source_new old new lines line read on reads text told = lines_first_last text source_old source_new old new lines line (told_read source_first source_old old lines text told read) on reads
-  first_next false source_first source_old source_new old new lines line read on reads text told = lines_first_line text source_old source_new old new lines line (told_read source_first source_old old lines text told read) on reads
 
   -- a line was not answered
-  broken_played : (last : Bool) (first : St) (source_first source_old left told_first told_old told_new : Option (List ℕ)) (reading_old reading_new : Reading) (old new : St) (was now : Refusals) (number place : ℕ) (line : List ℕ)
+  broken_played : (last : Bool) (first : St) (source_first source_old left : SourceTold) (told_first told_old told_new : Option (List ℕ)) (reading_old reading_new : Reading) (old new : St) (was now : Refusals) (number place : ℕ) (line : List ℕ)
       → place ≡ number + 1 → IsBetween does first source_first source_old told_first told_old reading_old old was number → ReadsNext last reading_old reading_new source_old left line
       → Unanswered does breaks (kept line) place old new told_old told_new was now → Played does breaks first (Halted NoMemory) source_first left told_first told_new new now
   broken_played last first source_first source_old left told_first told_old told_new reading_old reading_new old new was now number place line is between reads unanswered = record {
@@ -149,23 +241,25 @@ module _ {St : Type 0} (does : ℕ → Read Command → St → Reply → St → 
     plays = between.plays;
     cut = inr (record {
       line = line;
-      next = first_next last source_first source_old left reading_old reading_new between.lines line between.read between.go_on reads;
+      next = is_next last source_first source_old left reading_old reading_new between.lines line between.read between.go_on reads;
       broke = let at : place ≡ 1 + length between.lines = omega (arith, is, between.is_number) in
           subst (λ (n : ℕ). breaks n (command_of line) old new) at (subst (λ (c : Read Command). breaks place c old new) (command_of-kept line) unanswered.broke);
     });
     counts = rw unanswered.same between.counts;
-    are_lines = λ text told. lines_first text source_old reading_old between.lines (told_read source_first source_old reading_old between.lines text told between.read) between.go_on;
+    are_lines = λ text told. lines_first text source_first source_old reading_old between.lines told between.read between.go_on;
+    given = cut_given NoMemory last source_first source_old left reading_old reading_new between.lines line between.read between.go_on reads;
     wrote = inl (Appends-kept told_first told_old told_new (console_text 1 between.replies) between.wrote unanswered.kept);
     numbered = between.numbered;
   }
 
   -- the lines could not go on
-  pub halted_played : (leaves : Read Command → Bool) (halt : Halt) (last : Bool) (first : St) (source_first source_old left told_first told_old told_new : Option (List ℕ)) (reading_old reading_new : Reading) (old new : St) (was now : Refusals) (number place : ℕ) (line : List ℕ)
+  pub halted_played : (leaves : Read Command → Bool) (halt : Halt) (last : Bool) (first : St) (source_first source_old left : SourceTold) (told_first told_old told_new : Option (List ℕ)) (reading_old reading_new : Reading) (old new : St) (was now : Refusals) (number place : ℕ) (line : List ℕ)
       → place ≡ number + 1 → IsBetween does first source_first source_old told_first told_old reading_old old was number → ReadsNext last reading_old reading_new source_old left line
       → DoesLine does breaks leaves (kept line) place last old new told_old told_new was now (Err halt) → Played does breaks first (Halted halt) source_first left told_first told_new new now
   halted_played leaves SinkFault last first source_first source_old left told_first told_old told_new reading_old reading_new old new was now number place line is between reads line_does =
       behind_played (Halted SinkFault) first source_first source_old left told_first told_old told_new reading_old old new was now number place line line_does.0 is between line_does.1
       (first_next last source_first source_old left reading_old reading_new between.lines line between.read between.go_on reads)
+      (halted_given SinkFault last source_first source_old left reading_old reading_new between.lines line between.read between.go_on reads)
       (record {
         before = between.replies;
         last = line_does.0;
@@ -178,13 +272,14 @@ module _ {St : Type 0} (does : ℕ → Read Command → St → Reply → St → 
   halted_played leaves NoMemory last first source_first source_old left told_first told_old told_new reading_old reading_new old new was now number place line is between reads line_does = ⊎_elim
       (λ answered. behind_played (Halted NoMemory) first source_first source_old left told_first told_old told_new reading_old old new was now number place line answered.0 is between answered.1
       (first_next last source_first source_old left reading_old reading_new between.lines line between.read between.go_on reads)
+      (halted_given NoMemory last source_first source_old left reading_old reading_new between.lines line between.read between.go_on reads)
       (inr (record { before = between.replies; last = answered.0; replies_are = refl; whole = Appends-kept told_first told_old told_new (console_text 1 between.replies) between.wrote answered.2 })))
       (λ unanswered. broken_played last first source_first source_old left told_first told_old told_new reading_old reading_new old new was now number place line is between reads unanswered)
       line_does
 
   -- The line that was read was handled: what it did as things stood it does as the lines before it left them.
 
-  stood_replied : (first : St) (source_first left told_first told_old : Option (List ℕ)) (reading : Reading) (last : Bool) (old new : St) (was now : Refusals) (number : ℕ) (reply : Reply)
+  stood_replied : (first : St) (source_first left : SourceTold) (told_first told_old : Option (List ℕ)) (reading : Reading) (last : Bool) (old new : St) (was now : Refusals) (number : ℕ) (reply : Reply)
       → (has : HasLine does breaks first source_first left told_first told_old reading last old was number) → Replied does reading.line (number + 1) reply old new was now → Replied does (kept has.line) (number + 1) reply has.stood new was now
   stood_replied first source_first left told_first told_old reading last old new was now number reply has replied =
       let same : command_of reading.line ≡ command_of has.line =
@@ -195,7 +290,7 @@ module _ {St : Type 0} (does : ℕ → Read Command → St → Reply → St → 
         is_noted = replied.is_noted;
       }
 
-  stood_unanswered : (first : St) (source_first left told_first told_old told_new : Option (List ℕ)) (reading : Reading) (last : Bool) (old new : St) (was now : Refusals) (number : ℕ)
+  stood_unanswered : (first : St) (source_first left : SourceTold) (told_first told_old told_new : Option (List ℕ)) (reading : Reading) (last : Bool) (old new : St) (was now : Refusals) (number : ℕ)
       → (has : HasLine does breaks first source_first left told_first told_old reading last old was number) → Unanswered does breaks reading.line (number + 1) old new told_old told_new was now
       → Unanswered does breaks (kept has.line) (number + 1) has.stood new told_old told_new was now
   stood_unanswered first source_first left told_first told_old told_new reading last old new was now number has unanswered =
@@ -209,12 +304,12 @@ module _ {St : Type 0} (does : ℕ → Read Command → St → Reply → St → 
       }
 
   -- the command of the line as it is kept
-  shown_command : (first : St) (source_first left told_first told_old : Option (List ℕ)) (reading : Reading) (last : Bool) (old : St) (was : Refusals) (number : ℕ)
+  shown_command : (first : St) (source_first left : SourceTold) (told_first told_old : Option (List ℕ)) (reading : Reading) (last : Bool) (old : St) (was : Refusals) (number : ℕ)
       → (has : HasLine does breaks first source_first left told_first told_old reading last old was number) → command_of reading.line ≡ command_of (kept has.line)
   shown_command first source_first left told_first told_old reading last old was number has =
       ap command_of (shown_next last has.reading_old reading has.source_old left has.line has.next)
 
-  pub halted_at : (leaves : Read Command → Bool) (halt : Halt) (last : Bool) (first : St) (source_first left told_first told_old told_new : Option (List ℕ)) (reading : Reading) (old new : St) (was now : Refusals) (number : ℕ)
+  pub halted_at : (leaves : Read Command → Bool) (halt : Halt) (last : Bool) (first : St) (source_first left : SourceTold) (told_first told_old told_new : Option (List ℕ)) (reading : Reading) (old new : St) (was now : Refusals) (number : ℕ)
       → HasLine does breaks first source_first left told_first told_old reading last old was number
       → DoesLine does breaks leaves reading.line (number + 1) last old new told_old told_new was now (Err halt) → Played does breaks first (Halted halt) source_first left told_first told_new new now
   halted_at leaves SinkFault last first source_first left told_first told_old told_new reading old new was now number has line_does =
@@ -227,7 +322,7 @@ module _ {St : Type 0} (does : ℕ → Read Command → St → Reply → St → 
       (λ unanswered. inr (stood_unanswered first source_first left told_first told_old told_new reading last old new was now number has unanswered))
       line_does)
 
-  pub stopped_at : (leaves : Read Command → Bool) (last : Bool) (first : St) (source_first left told_first told_old told_new : Option (List ℕ)) (reading : Reading) (old new : St) (was now : Refusals) (number : ℕ)
+  pub stopped_at : (leaves : Read Command → Bool) (last : Bool) (first : St) (source_first left : SourceTold) (told_first told_old told_new : Option (List ℕ)) (reading : Reading) (old new : St) (was now : Refusals) (number : ℕ)
       → HasLine does breaks first source_first left told_first told_old reading last old was number
       → DoesLine does breaks leaves reading.line (number + 1) last old new told_old told_new was now (Ok going.End) → Played does breaks first End source_first left told_first told_new new now
   stopped_at leaves last first source_first left told_first told_old told_new reading old new was now number has line_does =
@@ -236,7 +331,7 @@ module _ {St : Type 0} (does : ℕ → Read Command → St → Reply → St → 
       (subst (λ (c : Read Command). (is_exit c ≡ true) ⊎ (last ≡ true)) (shown_command first source_first left told_first told_old reading last old was number has) line_does.3)
 
   -- it goes on behind it
-  pub goes_on_at : (leaves : Read Command → Bool) (last : Bool) (first : St) (source_first left told_first told_old told_new : Option (List ℕ)) (reading : Reading) (old new : St) (was now : Refusals) (number : ℕ)
+  pub goes_on_at : (leaves : Read Command → Bool) (last : Bool) (first : St) (source_first left : SourceTold) (told_first told_old told_new : Option (List ℕ)) (reading : Reading) (old new : St) (was now : Refusals) (number : ℕ)
       → HasLine does breaks first source_first left told_first told_old reading last old was number
       → DoesLine does breaks leaves reading.line (number + 1) last old new told_old told_new was now (Ok going.On) → IsBetween does first source_first left told_first told_new reading new now (number + 1)
   goes_on_at leaves last first source_first left told_first told_old told_new reading old new was now number has line_does =
@@ -246,7 +341,7 @@ module _ {St : Type 0} (does : ℕ → Read Command → St → Reply → St → 
       (ap is_exit (sym (shown_command first source_first left told_first told_old reading last old was number has)) ∙ line_does.3.0)
 
   -- it is left to another
-  pub left_at : (leaves : Read Command → Bool) (last : Bool) (first : St) (source_first left told_first told_old told_new : Option (List ℕ)) (reading : Reading) (old new : St) (was now : Refusals) (number : ℕ)
+  pub left_at : (leaves : Read Command → Bool) (last : Bool) (first : St) (source_first left : SourceTold) (told_first told_old told_new : Option (List ℕ)) (reading : Reading) (old new : St) (was now : Refusals) (number : ℕ)
       → HasLine does breaks first source_first left told_first told_old reading last old was number
       → DoesLine does breaks leaves reading.line (number + 1) last old new told_old told_new was now (Ok going.Opens) → OpensAt does breaks leaves first source_first left told_first told_new reading last new now number
   left_at leaves last first source_first left told_first told_old told_new reading old new was now number has line_does =
@@ -256,7 +351,7 @@ module _ {St : Type 0} (does : ℕ → Read Command → St → Reply → St → 
       } in rw (line_does.stage, line_does.told, line_does.same) here
 
   -- the next line was read behind those that were answered
-  pub line_behind : (last : Bool) (first : St) (source_first source_old source_new told_first told_now : Option (List ℕ)) (old new : Reading) (now : St) (refusals : Refusals) (number : ℕ)
+  pub line_behind : (last : Bool) (first : St) (source_first source_old source_new : SourceTold) (told_first told_now : Option (List ℕ)) (old new : Reading) (now : St) (refusals : Refusals) (number : ℕ)
       → IsBetween does first source_first source_old told_first told_now old now refusals number → ReadsLineOrEnd None last old new source_old source_new → HasLine does breaks first source_first source_new told_first told_now new last now refusals number
   line_behind last first source_first source_old source_new told_first told_now old new now refusals number between reads =
       record {
@@ -272,7 +367,7 @@ module _ {St : Type 0} (does : ℕ → Read Command → St → Reply → St → 
 
   -- So of a desk, behind which the reader, the count of lines and the refusals are these.
 
-  pub goes_next : (leaves : Read Command → Bool) (last last_new : Bool) (first : St) (source_first source_old source_new told_first told_old told_new : Option (List ℕ)) (reading_old reading_mid reading_new : Reading) (old new : St) (was mid now : Refusals) (number_old number_mid number_new : ℕ)
+  pub goes_next : (leaves : Read Command → Bool) (last last_new : Bool) (first : St) (source_first source_old source_new : SourceTold) (told_first told_old told_new : Option (List ℕ)) (reading_old reading_mid reading_new : Reading) (old new : St) (was mid now : Refusals) (number_old number_mid number_new : ℕ)
       → HasLine does breaks first source_first source_old told_first told_old reading_old last old was number_old
       → DoesLine does breaks leaves reading_old.line (number_old + 1) last old new told_old told_new was mid (Ok going.On) → reading_mid ≡ reading_old → number_mid ≡ number_old + 1
       → ReadsLineOrEnd None last_new reading_mid reading_new source_old source_new → number_new ≡ number_mid → now ≡ mid
@@ -283,7 +378,7 @@ module _ {St : Type 0} (does : ℕ → Read Command → St → Reply → St → 
       let moved : IsBetween does first source_first source_old told_first told_new reading_mid new now number_new = rw (same_reading, is_refusals, is_number, is_mid) between in
       line_behind last_new first source_first source_old source_new told_first told_new reading_mid reading_new new now number_new moved reads
 
-  pub ends_next : (leaves : Read Command → Bool) (ending : Ending) (last last_new : Bool) (first : St) (source_first source_old source_new told_first told_old told_new : Option (List ℕ)) (reading_old reading_mid reading_new : Reading) (old new : St) (was mid now : Refusals) (number_old : ℕ)
+  pub ends_next : (leaves : Read Command → Bool) (ending : Ending) (last last_new : Bool) (first : St) (source_first source_old source_new : SourceTold) (told_first told_old told_new : Option (List ℕ)) (reading_old reading_mid reading_new : Reading) (old new : St) (was mid now : Refusals) (number_old : ℕ)
       → HasLine does breaks first source_first source_old told_first told_old reading_old last old was number_old
       → DoesLine does breaks leaves reading_old.line (number_old + 1) last old new told_old told_new was mid (Ok going.On) → reading_mid ≡ reading_old
       → ReadsLineOrEnd (Some ending) last_new reading_mid reading_new source_old source_new → now ≡ mid
@@ -294,7 +389,7 @@ module _ {St : Type 0} (does : ℕ → Read Command → St → Reply → St → 
       let moved : IsBetween does first source_first source_old told_first told_new reading_mid new now (number_old + 1) = rw (same_reading, is_refusals) between in
       ended_played ending last_new first source_first source_old source_new told_first told_new reading_mid reading_new new now (number_old + 1) moved reads
 
-  pub left_next : (leaves : Read Command → Bool) (last last_new : Bool) (first : St) (source_first left told_first told_old told_new : Option (List ℕ)) (reading reading_new : Reading) (old new : St) (was now : Refusals) (number number_new : ℕ)
+  pub left_next : (leaves : Read Command → Bool) (last last_new : Bool) (first : St) (source_first left : SourceTold) (told_first told_old told_new : Option (List ℕ)) (reading reading_new : Reading) (old new : St) (was now : Refusals) (number number_new : ℕ)
       → HasLine does breaks first source_first left told_first told_old reading last old was number
       → DoesLine does breaks leaves reading.line (number + 1) last old new told_old told_new was now (Ok going.Opens) → reading_new ≡ reading → last_new ≡ last → number_new ≡ number
       → OpensAt does breaks leaves first source_first left told_first told_new reading_new last_new new now number_new
@@ -302,7 +397,7 @@ module _ {St : Type 0} (does : ℕ → Read Command → St → Reply → St → 
       rw (same_reading, same_last, same_number) (left_at leaves last first source_first left told_first told_old told_new reading old new was now number has line_does)
 
   -- the line that was read found no memory, and nothing was written of it
-  pub broken_at : (first now new : St) (source left told_first told : Option (List ℕ)) (reading : Reading) (last : Bool) (refusals : Refusals) (number : ℕ)
+  pub broken_at : (first now new : St) (source left : SourceTold) (told_first told : Option (List ℕ)) (reading : Reading) (last : Bool) (refusals : Refusals) (number : ℕ)
       → (has : HasLine does breaks first source left told_first told reading last now refusals number) → breaks (number + 1) (command_of has.line) now new
       → Played does breaks first (Halted NoMemory) source left told_first told new refusals
   broken_at first now new source left told_first told reading last refusals number has broke =

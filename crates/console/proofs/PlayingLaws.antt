@@ -4,6 +4,7 @@ use Rattle.std.specs.Prelude.{Result, Ok, Err, ◌⊎◌}
 use Rattle.std.proofs.lemmas.List.{take_all}
 use Rattle.std.specs.Io.KnownBytes.{Appends, Keeps}
 use Rattle.daq_io.specs.Streams.{AppendsPart}
+use Rattle.daq_io.specs.Told.{SourceTold}
 use Rattle.daq_io.proofs.StreamsLaws.{Appends-nil, Appends-trans}
 use Rattle.odb_script.specs.declared.commands.Command.{Command}
 use Rattle.odb_script.specs.Forms.{Read, command_of}
@@ -35,7 +36,7 @@ plays_more does number place (l ∷ lines) (r ∷ replies) line reply old betwee
     (plays.0, plays.1, plays_more does (number + 1) place lines replies line reply plays.0 between new (omega (arith, is)) plays.2 here)
 
 -- before the first line
-pub between_new : {St : Type 0} (does : ℕ → Read Command → St → Reply → St → Type 0) (first : St) (source told : Option (List ℕ)) (reading : Reading) (refusals : Refusals) (number : ℕ)
+pub between_new : {St : Type 0} (does : ℕ → Read Command → St → Reply → St → Type 0) (first : St) (source : SourceTold) (told : Option (List ℕ)) (reading : Reading) (refusals : Refusals) (number : ℕ)
     → reading ≡ no_line_read → refusals ≡ record { count = 0; first = 0 } → number ≡ 0 → IsBetween does first source source told told reading first refusals number
 between_new does first source told reading refusals number unread none zero = record {
   lines = [];
@@ -65,7 +66,7 @@ pub wrote_whole : (first now : Option (List ℕ)) (text : List ℕ) → Appends 
 wrote_whole first now text all = record { count = length text; appends = subst (Appends first now) (sym (take_all (length text) text (omega arith))) all }
 
 -- what the lines did with one more that was answered
-pub answered_more : {St : Type 0} (does : ℕ → Read Command → St → Reply → St → Type 0) (first : St) (source_first source_old told_first told_old : Option (List ℕ)) (reading : Reading) (old new : St) (was now : Refusals) (number place : ℕ) (line : List ℕ) (reply : Reply)
+pub answered_more : {St : Type 0} (does : ℕ → Read Command → St → Reply → St → Type 0) (first : St) (source_first source_old : SourceTold) (told_first told_old : Option (List ℕ)) (reading : Reading) (old new : St) (was now : Refusals) (number place : ℕ) (line : List ℕ) (reply : Reply)
     → place ≡ number + 1 → (between : IsBetween does first source_first source_old told_first told_old reading old was number) → Replied does (kept line) place reply old new was now
     → PlaysFrom does 1 (between.lines ++ line ∷ []) (between.replies ++ reply ∷ []) first new
 answered_more does first source_first source_old told_first told_old reading old new was now number place line reply is between replied =
@@ -73,7 +74,7 @@ answered_more does first source_first source_old told_first told_old reading old
     (subst (λ (c : Read Command). does place c old reply new) (command_of-kept line) replied.answers)
 
 -- one line more
-pub between_more : {St : Type 0} (does : ℕ → Read Command → St → Reply → St → Type 0) (first : St) (source_first source_old source_new told_first told_old told_new : Option (List ℕ)) (reading_old reading_new : Reading) (old new : St) (was now : Refusals) (number place : ℕ) (line : List ℕ) (reply : Reply)
+pub between_more : {St : Type 0} (does : ℕ → Read Command → St → Reply → St → Type 0) (first : St) (source_first source_old source_new : SourceTold) (told_first told_old told_new : Option (List ℕ)) (reading_old reading_new : Reading) (old new : St) (was now : Refusals) (number place : ℕ) (line : List ℕ) (reply : Reply)
     → place ≡ number + 1 → IsBetween does first source_first source_old told_first told_old reading_old old was number → ReadsLine reading_old reading_new source_old source_new line
     → Replied does (kept line) place reply old new was now → Appends told_old told_new (text_of place reply) → is_exit (command_of (kept line)) ≡ false
     → IsBetween does first source_first source_new told_first told_new reading_new new now place

@@ -2,6 +2,7 @@
 use Rattle.std.specs.Prelude.{◌≡◌, ℕ, Bool, true, false, List, [], ◌∷◌, ◌++◌, length, Option, Some, None, ⊤, ◌⊎◌}
 use Rattle.std.specs.Io.KnownBytes.{Appends, Keeps}
 use Rattle.daq_io.specs.Streams.{AppendsPart}
+use Rattle.daq_io.specs.Told.{SourceTold}
 use Rattle.odb_script.specs.declared.commands.Command.{Command}
 use Rattle.odb_script.specs.Forms.{Read}
 use Rattle.console.specs.declared.halts.Halt.{Halt}
@@ -10,7 +11,7 @@ use Rattle.console.specs.declared.endings.Ending.{Ending}
 use Rattle.console.specs.declared.endings.Ending.TheVariants.{End, TooLong, SourceFault, Halted}
 use Rattle.console.specs.Endings.{SinkByEnding, SourceByEnding}
 use Rattle.console.specs.Halts.{SinkBy}
-use Rattle.console.specs.Playing.{AreLines, CutBy, Played, PlaysFrom, Wrote}
+use Rattle.console.specs.Playing.{AreLines, AreOfGiven, CutBy, Played, PlaysFrom, Wrote}
 use Rattle.console.specs.declared.replies.Reply.{Reply}
 use Rattle.console.specs.declared.refusals.Refusals.{Refusals}
 use Rattle.console.specs.Console.{console_text, refused_lines}
@@ -99,17 +100,18 @@ module _ {St : Type 0} (closes : St → Option Reply → St → Type 0) (gives_u
 module _ {St : Type 0} (does : (number : ℕ) → Read Command → St → Reply → St → Type 0) (breaks : (number : ℕ) → Read Command → St → St → Type 0)
     (closes : St → Option Reply → St → Type 0) (gives_up : St → St → Type 0) where
   -- A script was played to its end: the replies to its lines, and behind them that of what was done then.
-  pub record Finished (first : St) (ending : Ending) (closing : Option Halt) (source left told_first told_now : Option (List ℕ)) (final : St) (refusals : Refusals) : Type 0 where
+  pub record Finished (first : St) (ending : Ending) (closing : Option Halt) (source left : SourceTold) (told_first told_now : Option (List ℕ)) (final : St) (refusals : Refusals) : Type 0 where
     pub lines : List (List ℕ)
     pub replies : List Reply
     pub between : St
     pub plays : PlaysFrom does 1 lines replies first between
     pub cut : St
-    pub is_cut : CutBy does breaks ending source lines between cut
+    pub is_cut : CutBy does breaks ending source left lines between cut
     pub behind : List Reply
     pub closed : ClosesBy closes gives_up closing behind cut final
     pub counts : CountsRefusals (refused_lines 1 replies) refusals
-    pub are_lines : (text : List ℕ) → source ≡ Some text → AreLines ending text left lines
+    pub are_lines : (text : List ℕ) → source.left ≡ Some text → AreLines ending text left.left lines
+    pub given : AreOfGiven ending source left lines
     pub numbered : length replies ≡ length lines
     pub told_lines : Option (List ℕ)
     pub wrote_lines : Wrote ending told_first told_lines replies
@@ -118,5 +120,5 @@ module _ {St : Type 0} (does : (number : ℕ) → Read Command → St → Reply 
   -- Whatever was played before, the script is finished so.
   abbrev pub Finishes : (ending : Ending) (closing : Option Halt) (told_old told_new : Option (List ℕ)) (old new : St) (refusals : Refusals) → Type 0
   Finishes ending closing told_old told_new old new refusals =
-      (first : St) (source left told_first : Option (List ℕ)) → Played does breaks first ending source left told_first told_old old refusals
+      (first : St) (source left : SourceTold) (told_first : Option (List ℕ)) → Played does breaks first ending source left told_first told_old old refusals
       → Finished first ending closing source left told_first told_new new refusals

@@ -3,6 +3,7 @@
 use Rattle.std.specs.Prelude.{◌≡◌, ℕ, ◌+◌, ◌<◌, ◌≤◌, Bool, true, false, List, [], ◌∷◌, ◌++◌, length, take, Option, Some, None, Result, Ok, Err, ◌⊎◌, ⊤}
 use Rattle.std.specs.Io.KnownBytes.{Appends, Keeps}
 use Rattle.daq_io.specs.Streams.{AppendsPart}
+use Rattle.daq_io.specs.Told.{SourceTold}
 use Rattle.odb_script.specs.declared.commands.Command.{Command}
 use Rattle.odb_script.specs.Forms.{Read, command_of}
 use Rattle.odb_script.specs.Lines.{Reading, lines_of, script_limit}
@@ -64,7 +65,7 @@ module _ {St : Type 0} (does : (number : ℕ) → Read Command → St → Reply 
       (between : St) × does number (command_of line) old reply between × PlaysFrom (number + 1) lines replies between new
 
   -- Between two lines: the first so many were answered, none of them an `exit`, and their text was written.
-  pub record IsBetween (first : St) (source_first source_now told_first told_now : Option (List ℕ)) (reading : Reading) (now : St) (refusals : Refusals) (number : ℕ) : Type 0 where
+  pub record IsBetween (first : St) (source_first source_now : SourceTold) (told_first told_now : Option (List ℕ)) (reading : Reading) (now : St) (refusals : Refusals) (number : ℕ) : Type 0 where
     pub lines : List (List ℕ)
     pub replies : List Reply
     pub plays : PlaysFrom 1 lines replies first now
@@ -104,9 +105,19 @@ AreLines TooLong text left lines = AreTooMany text lines
 AreLines SourceFault text left lines = AreGiven text left lines
 AreLines (Halted halt) text left lines = AreFirst text lines
 
--- this is the next line of the script's text behind these
-abbrev pub IsNext : (source : Option (List ℕ)) → (lines : List (List ℕ)) → (line : List ℕ) → Type 0
-IsNext source lines line = (text : List ℕ) → source ≡ Some text → AreFirst text (lines ++ line ∷ [])
+-- The lines that were answered, of the bytes that came of the script, of which nothing is left: those that the source gave
+-- meanwhile.
+pub record AreOfGiven (ending : Ending) (source left : SourceTold) (lines : List (List ℕ)) : Type 0 where
+  pub came : List ℕ
+  pub gave : left.gave ≡ source.gave ++ came
+  pub are : AreLines ending came (Some []) lines
+
+-- This is the next line behind these, of the script's text and of what came of it.
+pub record IsNext (source left : SourceTold) (lines : List (List ℕ)) (line : List ℕ) : Type 0 where
+  pub of_text : (text : List ℕ) → source.left ≡ Some text → AreFirst text (lines ++ line ∷ [])
+  pub came : List ℕ
+  pub gave : left.gave ≡ source.gave ++ came
+  pub of_came : AreFirst came (lines ++ line ∷ [])
 
 -- The replies but for the last were written whole, and of the last a first part.
 pub record WroteUpTo (told_first told_now : Option (List ℕ)) (replies : List Reply) : Type 0 where
@@ -136,8 +147,8 @@ Wrote (Halted NoMemory) told_first told_now replies = Appends told_first told_no
 module _ {St : Type 0} (does : (number : ℕ) → Read Command → St → Reply → St → Type 0) (breaks : (number : ℕ) → Read Command → St → St → Type 0) where
   -- Behind the lines that were answered one more was read, which is not answered yet. What it does as things stand now it does
   -- as those lines left them.
-  pub record HasLine (first : St) (source_first source_now told_first told_now : Option (List ℕ)) (reading : Reading) (last : Bool) (now : St) (refusals : Refusals) (number : ℕ) : Type 0 where
-    pub source_old : Option (List ℕ)
+  pub record HasLine (first : St) (source_first source_now : SourceTold) (told_first told_now : Option (List ℕ)) (reading : Reading) (last : Bool) (now : St) (refusals : Refusals) (number : ℕ) : Type 0 where
+    pub source_old : SourceTold
     pub reading_old : Reading
     pub stood : St
     pub between : IsBetween does first source_first source_old told_first told_now reading_old stood refusals number
@@ -163,47 +174,48 @@ module _ {St : Type 0} (does : (number : ℕ) → Read Command → St → Reply 
       ((reply : Reply) × Replied does line number reply old new was now × Keeps told_old told_new) ⊎ Unanswered line number old new told_old told_new was now
 
   -- the next line found no memory, and so much was done of it
-  pub record BreaksAt (source : Option (List ℕ)) (lines : List (List ℕ)) (old new : St) : Type 0 where
+  pub record BreaksAt (source left : SourceTold) (lines : List (List ℕ)) (old new : St) : Type 0 where
     pub line : List ℕ
-    pub next : IsNext source lines line
+    pub next : IsNext source left lines line
     pub broke : breaks (1 + length lines) (command_of line) old new
 
   -- Behind the last line that was answered the next one may have found no memory.
-  abbrev pub CutBy : Ending → (source : Option (List ℕ)) → (lines : List (List ℕ)) → (old new : St) → Type 0
-  CutBy End source lines old new = new ≡ old
-  CutBy TooLong source lines old new = new ≡ old
-  CutBy SourceFault source lines old new = new ≡ old
-  CutBy (Halted NoMemory) source lines old new = (new ≡ old) ⊎ BreaksAt source lines old new
-  CutBy (Halted SinkFault) source lines old new = new ≡ old
+  abbrev pub CutBy : Ending → (source left : SourceTold) → (lines : List (List ℕ)) → (old new : St) → Type 0
+  CutBy End source left lines old new = new ≡ old
+  CutBy TooLong source left lines old new = new ≡ old
+  CutBy SourceFault source left lines old new = new ≡ old
+  CutBy (Halted NoMemory) source left lines old new = (new ≡ old) ⊎ BreaksAt source left lines old new
+  CutBy (Halted SinkFault) source left lines old new = new ≡ old
 
   -- A script was played up to this ending, and this is left in the source.
-  pub record Played (first : St) (ending : Ending) (source left told_first told_now : Option (List ℕ)) (now : St) (refusals : Refusals) : Type 0 where
+  pub record Played (first : St) (ending : Ending) (source left : SourceTold) (told_first told_now : Option (List ℕ)) (now : St) (refusals : Refusals) : Type 0 where
     pub lines : List (List ℕ)
     pub replies : List Reply
     pub behind : St
     pub plays : PlaysFrom does 1 lines replies first behind
-    pub cut : CutBy ending source lines behind now
+    pub cut : CutBy ending source left lines behind now
     pub counts : CountsRefusals (refused_lines 1 replies) refusals
-    pub are_lines : (text : List ℕ) → source ≡ Some text → AreLines ending text left lines
+    pub are_lines : (text : List ℕ) → source.left ≡ Some text → AreLines ending text left.left lines
+    pub given : AreOfGiven ending source left lines
     pub wrote : Wrote ending told_first told_now replies
     pub numbered : length replies ≡ length lines
 
   -- A line was read that is left to another.
-  pub record OpensAt (leaves : Read Command → Bool) (first : St) (source_first source_now told_first told_now : Option (List ℕ)) (reading : Reading) (last : Bool) (now : St) (refusals : Refusals) (number : ℕ) : Type 0 where
+  pub record OpensAt (leaves : Read Command → Bool) (first : St) (source_first source_now : SourceTold) (told_first told_now : Option (List ℕ)) (reading : Reading) (last : Bool) (now : St) (refusals : Refusals) (number : ℕ) : Type 0 where
     pub has : HasLine first source_first source_now told_first told_now reading last now refusals number
     pub left : leaves (command_of has.line) ≡ true
 
   -- where the lines of a script stand that are not answered on
-  abbrev pub PlaysTo : (leaves : Read Command → Bool) (first : St) (source_first told_first : Option (List ℕ)) → PlayEnd → (source_now told_now : Option (List ℕ)) (reading : Reading) (last : Bool) (now : St) (refusals : Refusals) (number : ℕ) → Type 0
+  abbrev pub PlaysTo : (leaves : Read Command → Bool) (first : St) (source_first : SourceTold) (told_first : Option (List ℕ)) → PlayEnd → (source_now : SourceTold) (told_now : Option (List ℕ)) (reading : Reading) (last : Bool) (now : St) (refusals : Refusals) (number : ℕ) → Type 0
   PlaysTo leaves first source_first told_first (ends.Ended ending) source_now told_now reading last now refusals number =
       Played first ending source_first source_now told_first told_now now refusals
   PlaysTo leaves first source_first told_first ends.Opens source_now told_now reading last now refusals number =
       OpensAt leaves first source_first source_now told_first told_now reading last now refusals number
 
   -- The lines are answered on from the one that was read, wherever the script began.
-  abbrev pub PlaysOn : (leaves : Read Command → Bool) → PlayEnd → (source_old source_new told_old told_new : Option (List ℕ)) (reading_old reading_new : Reading) (last_old last_new : Bool) (old new : St) (was now : Refusals) (number_old number_new : ℕ) → Type 0
+  abbrev pub PlaysOn : (leaves : Read Command → Bool) → PlayEnd → (source_old source_new : SourceTold) (told_old told_new : Option (List ℕ)) (reading_old reading_new : Reading) (last_old last_new : Bool) (old new : St) (was now : Refusals) (number_old number_new : ℕ) → Type 0
   PlaysOn leaves end source_old source_new told_old told_new reading_old reading_new last_old last_new old new was now number_old number_new =
-      (first : St) (source_first told_first : Option (List ℕ)) → HasLine first source_first source_old told_first told_old reading_old last_old old was number_old
+      (first : St) (source_first : SourceTold) (told_first : Option (List ℕ)) → HasLine first source_first source_old told_first told_old reading_old last_old old was number_old
       → PlaysTo leaves first source_first told_first end source_new told_new reading_new last_new new now number_new
 
 -- a line that is left to another is counted among the bytes that were read

@@ -1,4 +1,5 @@
 ghost use Rattle.std.specs.Prelude.{◌≡◌, ◌≤◌, ◌+◌, ℕ, List, Option, false};
+ghost use Rattle.daq_io.specs.Told.{SourceTold};
 ghost use Rattle.odb_script.specs.declared.commands.Command.{Command};
 ghost use Rattle.odb_script.specs.Forms.{Read};
 ghost use Rattle.console.specs.Playing.{HasLine};
@@ -17,20 +18,20 @@ use std::sync::Wait;
 
 /// Ends what is still on behind lines that ended so, and writes what that prints, unless the sink failed or there was no memory.
 /// Answers what failed in that.
-pub fn close_lines<R: Wait, A: Answerer, K: Sink>(
+pub fn close_lines<R: Wait, A: Answerer, O: Sink>(
     rt: &R,
     alloc: Global,
     line_loop: &mut LineLoop,
     ending: Ending,
     answerer: &mut A,
-    out: &mut K,
+    out: &mut O,
 ) -> Option<Halt>
     ensures finishes { Finishes A.does A.breaks A.closes A.gives_up ending result
-        (K.written out.old) (K.written out.new) (A.stage answerer.old) (A.stage answerer.new)
+        (O.told out.old).written (O.told out.new).written (A.stage answerer.old) (A.stage answerer.new)
         line_loop.old.refusals }
     ensures refusals { line_loop.new.refusals ≡ line_loop.old.refusals }
     ensures may { MayFail ending result }
-    ensures sink { SinkBehind result (K.faults out.old) (K.faults out.new) }
+    ensures sink { SinkBehind result (O.told out.old).faults (O.told out.new).faults }
     ensures stays { A.stays answerer.old answerer.new }
 {
     match answerer.close(rt, alloc) {
@@ -50,25 +51,25 @@ pub fn close_lines<R: Wait, A: Answerer, K: Sink>(
 
 /// Answers the line that was read and all lines behind it, and ends then what is still on. Answers how the lines ended, and what
 /// failed behind them.
-pub fn play_out<R: Wait, A: Answerer, S: Source, K: Sink>(
+pub fn play_out<R: Wait, A: Answerer, S: Source, O: Sink>(
     rt: &R,
     alloc: Global,
     line_loop: &mut LineLoop,
     answerer: &mut A,
     source: &mut S,
-    out: &mut K,
+    out: &mut O,
 ) -> (Ending, Option<Halt>)
     requires fits { line_loop.old.number + 1 ≤ line_loop.old.reader.taken }
     requires own { (line : Read Command) → A.leaves line ≡ false }
-    ensures finished { (first : A.Stage) (source_first told_first : Option (List ℕ))
-        → HasLine A.does A.breaks first source_first (S.left source.old) told_first
-        (K.written out.old) line_loop.old.reader line_loop.old.last (A.stage answerer.old)
+    ensures finished { (first : A.Stage) (source_first : SourceTold) (told_first : Option (List ℕ))
+        → HasLine A.does A.breaks first source_first (S.told source.old) told_first
+        (O.told out.old).written line_loop.old.reader line_loop.old.last (A.stage answerer.old)
         line_loop.old.refusals line_loop.old.number
         → Finished A.does A.breaks A.closes A.gives_up first result.0 result.1 source_first
-        (S.left source.new) told_first (K.written out.new) (A.stage answerer.new)
+        (S.told source.new) told_first (O.told out.new).written (A.stage answerer.new)
         line_loop.new.refusals }
-    ensures counts { EndCounts result.0 result.1 (S.faults source.old) (S.faults source.new)
-        (K.faults out.old) (K.faults out.new) }
+    ensures counts { EndCounts result.0 result.1 (S.told source.old).faults (S.told source.new).faults
+        (O.told out.old).faults (O.told out.new).faults }
     ensures stays { A.stays answerer.old answerer.new }
 {
     match play_on(rt, alloc, line_loop, answerer, source, out) {

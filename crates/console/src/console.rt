@@ -8,14 +8,14 @@ use daq_io::{Sink, write_all};
 use daq_text::TextBuffer;
 
 /// Writes what the script's line of this number prints for this reply.
-pub fn print_reply<K: Sink>(
+pub fn print_reply<O: Sink>(
     text: &mut TextBuffer,
     line: u64,
     reply: &Reply,
-    out: &mut K,
+    out: &mut O,
 ) -> Result<(), Halt>
-    ensures wrote { Prints (K.written out.old) (K.written out.new) (text_of line reply.now) result }
-    ensures sink { CountsSink (K.faults out.old) (K.faults out.new) result }
+    ensures wrote { Prints (O.told out.old).written (O.told out.new).written (text_of line reply.now) result }
+    ensures sink { CountsSink (O.told out.old).faults (O.told out.new).faults result }
 {
     text.clear();
     if reply.print(line, text).is_err() {

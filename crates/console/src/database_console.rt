@@ -37,19 +37,15 @@ impl<D: WatchPort, E: Files> DatabaseConsole<D, E> {
         command: &DatabaseCommand<'_>,
     ) -> Result<Reply, NoMemory>
         ensures did { IfOk result (λ reply. DoesDatabase number command.now
-            (database_stage (D.access self.old.access) (E.seen self.old.files)
-            (E.faults self.old.files) (E.clashes self.old.files) (E.first self.old.files)
+            (database_stage (D.access self.old.access) (E.told self.old.files)
             self.old.replies.replies)
             reply
-            (database_stage (D.access self.new.access) (E.seen self.new.files)
-            (E.faults self.new.files) (E.clashes self.new.files) (E.first self.new.files)
+            (database_stage (D.access self.new.access) (E.told self.new.files)
             self.new.replies.replies)) }
         ensures broke { OnErr result (BreaksDatabase command.now
-            (database_stage (D.access self.old.access) (E.seen self.old.files)
-            (E.faults self.old.files) (E.clashes self.old.files) (E.first self.old.files)
+            (database_stage (D.access self.old.access) (E.told self.old.files)
             self.old.replies.replies)
-            (database_stage (D.access self.new.access) (E.seen self.new.files)
-            (E.faults self.new.files) (E.clashes self.new.files) (E.first self.new.files)
+            (database_stage (D.access self.new.access) (E.told self.new.files)
             self.new.replies.replies)) }
         ensures same { IsSamePort (D.access self.old.access)
             (D.access self.new.access) }

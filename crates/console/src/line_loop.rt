@@ -68,11 +68,11 @@ impl LineLoop {
     /// Reads the next line. None where there is one; else how the lines ended.
     pub fn next_line<S: Source>(&mut self, source: &mut S) -> Option<Ending>
         ensures read { ReadsLineOrEnd result self.new.last self.old.reader self.new.reader
-            (S.left source.old) (S.left source.new) }
+            (S.told source.old) (S.told source.new) }
         ensures number { self.new.number ≡ self.old.number }
         ensures refusals { self.new.refusals ≡ self.old.refusals }
         ensures fits { IfNone result (self.new.number + 1 ≤ self.new.reader.taken) }
-        ensures faults { SourceBy result (S.faults source.old) (S.faults source.new) }
+        ensures faults { SourceBy result (S.told source.old).faults (S.told source.new).faults }
     {
         let next = self.reader.advance(source);
         match next {
@@ -91,22 +91,22 @@ impl LineLoop {
     }
 
     /// Answers the line that was read, and writes what it prints.
-    pub fn handle<R: Wait, A: Answerer, K: Sink>(
+    pub fn handle<R: Wait, A: Answerer, O: Sink>(
         &mut self,
         rt: &R,
         alloc: Global,
         answerer: &mut A,
-        out: &mut K,
+        out: &mut O,
     ) -> Result<Going, Halt>
         requires fits { self.old.number + 1 ≤ self.old.reader.taken }
         ensures did { DoesLine A.does A.breaks A.leaves self.old.reader.line (self.old.number + 1)
-            self.old.last (A.stage answerer.old) (A.stage answerer.new) (K.written out.old)
-            (K.written out.new) self.old.refusals self.new.refusals result }
+            self.old.last (A.stage answerer.old) (A.stage answerer.new) (O.told out.old).written
+            (O.told out.new).written self.old.refusals self.new.refusals result }
         ensures reader { self.new.reader ≡ self.old.reader }
         ensures last { self.new.last ≡ self.old.last }
         ensures number { IfOk result (λ going. self.new.number
             ≡ number_behind going self.old.number) }
-        ensures sink { CountsSink (K.faults out.old) (K.faults out.new) result }
+        ensures sink { CountsSink (O.told out.old).faults (O.told out.new).faults result }
         ensures stays { A.stays answerer.old answerer.new }
     {
         let command = Command::read(self.reader.line());

@@ -16,23 +16,23 @@ use std::sync::Wait;
 const SCRIPT_LINES: u32 = 16_777_217;
 
 /// Answers the line that was read and the lines behind it, as they come.
-pub fn play_on<R: Wait, A: Answerer, S: Source, K: Sink>(
+pub fn play_on<R: Wait, A: Answerer, S: Source, O: Sink>(
     rt: &R,
     alloc: Global,
     line_loop: &mut LineLoop,
     answerer: &mut A,
     source: &mut S,
-    out: &mut K,
+    out: &mut O,
 ) -> PlayEnd
     requires fits { line_loop.old.number + 1 ≤ line_loop.old.reader.taken }
-    ensures did { PlaysOn A.does A.breaks A.leaves result (S.left source.old) (S.left source.new)
-        (K.written out.old) (K.written out.new) line_loop.old.reader line_loop.new.reader line_loop.old.last
+    ensures did { PlaysOn A.does A.breaks A.leaves result (S.told source.old) (S.told source.new)
+        (O.told out.old).written (O.told out.new).written line_loop.old.reader line_loop.new.reader line_loop.old.last
         line_loop.new.last (A.stage answerer.old) (A.stage answerer.new) line_loop.old.refusals
         line_loop.new.refusals line_loop.old.number line_loop.new.number }
     ensures fits { FitsOn result line_loop.new.number line_loop.new.reader.taken }
     ensures left { LeftLine A.leaves result }
-    ensures source { SourceCounts result (S.faults source.old) (S.faults source.new) }
-    ensures sink { SinkCounts result (K.faults out.old) (K.faults out.new) }
+    ensures source { SourceCounts result (S.told source.old).faults (S.told source.new).faults }
+    ensures sink { SinkCounts result (O.told out.old).faults (O.told out.new).faults }
     ensures stays { A.stays answerer.old answerer.new }
 {
     for line in 0..SCRIPT_LINES {
@@ -58,23 +58,23 @@ pub fn play_on<R: Wait, A: Answerer, S: Source, K: Sink>(
 }
 
 /// Answers the lines of a script, from the first one on, as they come.
-pub fn play_script<R: Wait, A: Answerer, S: Source, K: Sink>(
+pub fn play_script<R: Wait, A: Answerer, S: Source, O: Sink>(
     rt: &R,
     alloc: Global,
     line_loop: &mut LineLoop,
     answerer: &mut A,
     source: &mut S,
-    out: &mut K,
+    out: &mut O,
 ) -> PlayEnd
     requires unread { line_loop.old.reader ≡ no_line_read }
     requires none { line_loop.old.refusals ≡ record { count = 0; first = 0 } }
     requires zero { line_loop.old.number ≡ 0 }
-    ensures did { PlaysTo A.does A.breaks A.leaves (A.stage answerer.old) (S.left source.old)
-        (K.written out.old) result (S.left source.new) (K.written out.new) line_loop.new.reader
+    ensures did { PlaysTo A.does A.breaks A.leaves (A.stage answerer.old) (S.told source.old)
+        (O.told out.old).written result (S.told source.new) (O.told out.new).written line_loop.new.reader
         line_loop.new.last (A.stage answerer.new) line_loop.new.refusals line_loop.new.number }
     ensures fits { FitsOn result line_loop.new.number line_loop.new.reader.taken }
-    ensures source { SourceCounts result (S.faults source.old) (S.faults source.new) }
-    ensures sink { SinkCounts result (K.faults out.old) (K.faults out.new) }
+    ensures source { SourceCounts result (S.told source.old).faults (S.told source.new).faults }
+    ensures sink { SinkCounts result (O.told out.old).faults (O.told out.new).faults }
     ensures stays { A.stays answerer.old answerer.new }
 {
     match line_loop.next_line(source) {

@@ -3,6 +3,7 @@ ghost use Rattle.std.specs.Prelude.{◌≡◌, ◌≢◌, ℕ, ◌+◌, Bool, Li
 ghost use Rattle.std.specs.Io.KnownBytes.{Appends};
 ghost use Rattle.daq_io.specs.Counts.{Rose};
 ghost use Rattle.daq_io.specs.Streams.{AppendsPart};
+ghost use Rattle.daq_io.specs.Told.{SourceTold};
 ghost use Rattle.odb_script.specs.Forms.{command_of};
 ghost use Rattle.odb_script.specs.Lines.{Reading};
 ghost use Rattle.console.specs.declared.replies.Reply.{Reply};
@@ -20,13 +21,13 @@ use crate::answerer::Answerer;
 /// Where the line that was read finds no memory, and so much was done of it, the lines ended there. And lines behind which nothing
 /// is done that prints are a whole script.
 pub fn lines_end<A: Answerer>()
-    ensures broken { (first now new : A.Stage) (source left told_first told : Option (List ℕ))
+    ensures broken { (first now new : A.Stage) (source left : SourceTold) (told_first told : Option (List ℕ))
         (reading : Reading) (last : Bool) (refusals : Refused) (number : ℕ)
         → (has : HasLine A.does A.breaks first source left told_first told reading last now
         refusals number) → A.breaks (number + 1) (command_of has.line) now new
         → Played A.does A.breaks first (Halted no_memory) source left told_first told new refusals }
     ensures quiet { (first now new : A.Stage) (ending : Ending)
-        (source left told_first told : Option (List ℕ)) (refusals : Refused)
+        (source left : SourceTold) (told_first told : Option (List ℕ)) (refusals : Refused)
         → Played A.does A.breaks first ending source left told_first told now refusals
         → A.closes now None new
         → Finished A.does A.breaks A.closes A.gives_up first ending None source left told_first

@@ -1,4 +1,5 @@
 -- A crew behind the turns of a round, and behind rounds.
+use Rattle.daq_io.specs.Told.{AheadTold}
 use Rattle.std.specs.Prelude.{◌≡◌, ◌≢◌, ℕ, zero, suc, ◌+◌, ◌-◌, ◌<◌, ◌≤◌, ◌%◌, Bool, IsTrue, List, [], ◌∷◌, slice_get, slice_set, length, Some, refl}
 use Rattle.std.specs.List.{AllZip}
 use Rattle.std.proofs.Common.{◌⊎◌, ap, sym, subst, ◌∙◌, arith, inl, inr, add-one}
@@ -159,27 +160,27 @@ module _ {M : Type 0} (turns : M → M → Turned → Type 0) where
 
 -- Rounds.
 
-module _ {K : Type 0} (tells : K → Bool) (ahead : K → ℕ → ℕ) where
-  none_read : (before after : K) → after ≡ before → ReadsPick tells ahead 0 before after
+module _ {K : Type 0} (tell : K → AheadTold) where
+  none_read : (before after : K) → after ≡ before → ReadsPick tell 0 before after
   none_read before after same = record {
-    still = ap tells same;
-    later = λ told n. ap (λ (k : K). ahead k n) same ∙ ap (λ (m : ℕ). ahead before m) (omega arith);
+    still = ap (λ (k : K). (tell k).tells) same;
+    later = λ told n. ap (λ (k : K). (tell k).ahead n) same ∙ ap (λ (m : ℕ). (tell before).ahead m) (omega arith);
   }
 
-  more_read : (count : ℕ) (before between after : K) → ReadsPick tells ahead count before between → ReadsPick tells ahead 1 between after → ReadsPick tells ahead (suc count) before after
+  more_read : (count : ℕ) (before between after : K) → ReadsPick tell count before between → ReadsPick tell 1 between after → ReadsPick tell (suc count) before after
   more_read count before between after first then_ = record {
     still = then_.still ∙ first.still;
     later = λ told n.
-        let still : IsTrue (tells between) = subst (λ (b : Bool). IsTrue b) (sym first.still) told in
+        let still : IsTrue (tell between).tells = subst (λ (b : Bool). IsTrue b) (sym first.still) told in
         let there : (n + 1) + count ≡ n + suc count = omega arith in
-        then_.later still n ∙ (first.later told (n + 1) ∙ ap (λ (m : ℕ). ahead before m) there);
+        then_.later still n ∙ (first.later told (n + 1) ∙ ap (λ (m : ℕ). (tell before).ahead m) there);
   }
 
-module _ {M K : Type 0} (turns : M → M → Turned → Type 0) (tells : K → Bool) (ahead : K → ℕ → ℕ) where
-  pub rounds_kept : (count : ℕ) (before after : CrewInRounds M K) → HadRounds (TakesRound turns tells ahead) count before after → KeptByRounds turns tells ahead count before after
+module _ {M K : Type 0} (turns : M → M → Turned → Type 0) (tell : K → AheadTold) where
+  pub rounds_kept : (count : ℕ) (before after : CrewInRounds M K) → HadRounds (TakesRound turns tell) count before after → KeptByRounds turns tell count before after
   rounds_kept zero before after same = record {
     had = subst (λ (crew : CrewInRounds M K). AllZip (HadSoMany turns 0) before.members crew.members) (sym same) (zip_stays (HadSoMany turns 0) (λ m. refl) before.members);
-    pick = none_read tells ahead before.pick after.pick (ap (λ (crew : CrewInRounds M K). crew.pick) same);
+    pick = none_read tell before.pick after.pick (ap (λ (crew : CrewInRounds M K). crew.pick) same);
   }
   rounds_kept (suc n) before after all =
       let so_far = rounds_kept n before all.0 all.1 in
@@ -187,5 +188,5 @@ module _ {M K : Type 0} (turns : M → M → Turned → Type 0) (tells : K → B
       let turned = round_turned turns round.first all.0.members after.members round.picks.within round.turned in
       record {
         had = zip_follows (HadSoMany turns n) (OneTurn turns) (HadSoMany turns (suc n)) (λ x y z had one. (y, one.0, had, one.1)) before.members all.0.members after.members so_far.had turned;
-        pick = more_read tells ahead n before.pick all.0.pick after.pick so_far.pick round.picks.reads;
+        pick = more_read tell n before.pick all.0.pick after.pick so_far.pick round.picks.reads;
       }

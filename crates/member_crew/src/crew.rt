@@ -78,7 +78,7 @@ impl<'a, M: TakesTurns, K: Pick, G: Gate> Crew<'a, M, K, G> {
 
     /// The number of the member that has the first turn of a round.
     fn choose(&mut self) -> u32
-        ensures pick { PicksMember K.tells K.ahead (length self.old.members) result self.old.pick
+        ensures pick { PicksMember K.told (length self.old.members) result self.old.pick
             self.new.pick }
         ensures members { self.new.members ≡ self.old.members }
     {
@@ -118,7 +118,7 @@ impl<'a, M: TakesTurns, K: Pick, G: Gate> Crew<'a, M, K, G> {
 impl<'a, M: TakesTurns, K: Pick, G: Gate> Rounds for Crew<'a, M, K, G> {
     ghost use Rattle.member_crew.specs.Crews.{TakesRound};
 
-    ghost round = { TakesRound M.turns K.tells K.ahead };
+    ghost round = { TakesRound M.turns K.told };
 
     /// One turn of each member, the picked one first, and the others behind it in cyclic order.
     fn round<R: Wait>(&mut self, rt: &R) {

@@ -47,7 +47,7 @@ pub fn play_in_turns<'a, R: Wait, M: TakesTurns, K: Pick, G: Gate, B: Playing>(
 ) -> (B::Played, CrewParts<M, K>)
     ensures played { B.plays main result.0 }
     ensures back { CameBack M.turns crew.entry.members result.1.members }
-    ensures pick { (rounds : ℕ) × ReadsPick K.tells K.ahead rounds crew.entry.pick result.1.pick }
+    ensures pick { (rounds : ℕ) × ReadsPick K.told rounds crew.entry.pick result.1.pick }
 {
     let (played, crew) = main.play(rt, crew);
     let context = TurnContext::new(crew.gate());

@@ -10,6 +10,6 @@ use daq_io::Pick;
 /// were read.
 pub fn rounds_keep<M: TakesTurns, K: Pick>()
     ensures { (count : ℕ) (before after : CrewInRounds M K)
-        → HadRounds (TakesRound M.turns K.tells K.ahead) count before after
-        → KeptByRounds M.turns K.tells K.ahead count before after }
+        → HadRounds (TakesRound M.turns K.told) count before after
+        → KeptByRounds M.turns K.told count before after }
 {}

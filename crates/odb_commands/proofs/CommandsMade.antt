@@ -91,25 +91,25 @@ pub load_none : (name : List ℕ) (old new : Seen) (calls : List WatchEntry) (an
 load_none name old new calls answer (inl refused) is = refused.0
 load_none name old new calls answer (inr loads) is = let l : LoadsFile old new name calls answer = loads.1 in λ good. never_none answer (reply_of l.0) is (loads_came l.0 calls answer l.3)
 
-clash_read : (read : FileRead) (name : List ℕ) (old : Seen) → ReadsFile old name read → reply_of read ≡ file.Clash → IsTrue old.tells → old.at name ≡ None
+clash_read : (read : FileRead) (name : List ℕ) (old : Seen) → ReadsFile old name read → reply_of read ≡ file.Clash → IsTrue old.names → old.at name ≡ None
 clash_read (was.Whole text) name old reads is = absurd (cc)
 clash_read was.Missing name old reads is = reads
 clash_read was.Fault name old reads is = absurd (cc)
 clash_read was.TooLong name old reads is = absurd (cc)
 
-pub load_clash : (name : List ℕ) (old new : Seen) (calls : List WatchEntry) (answer : WatchAnswer) → PerformsWatch (command.Load name) old new calls answer → answer.file ≡ Some file.Clash → IsTrue old.tells → old.at name ≡ None
+pub load_clash : (name : List ℕ) (old new : Seen) (calls : List WatchEntry) (answer : WatchAnswer) → PerformsWatch (command.Load name) old new calls answer → answer.file ≡ Some file.Clash → IsTrue old.names → old.at name ≡ None
 load_clash name old new calls answer (inl refused) is = absurd (never_none answer file.Clash (ap (λ (x : WatchAnswer). x.file) refused.2.1) is)
 load_clash name old new calls answer (inr loads) is =
     let l : LoadsFile old new name calls answer = loads.1 in
     clash_read l.0 name old l.2 (same_came answer (reply_of l.0) file.Clash (loads_came l.0 calls answer l.3) is)
 
-long_read : (read : FileRead) (name : List ℕ) (old : Seen) → ReadsFile old name read → reply_of read ≡ file.TooLong → IsTrue old.tells → (stored : Stored) × (old.at name ≡ Some stored) × (file_limit < length stored.bytes)
+long_read : (read : FileRead) (name : List ℕ) (old : Seen) → ReadsFile old name read → reply_of read ≡ file.TooLong → IsTrue old.names → (stored : Stored) × (old.at name ≡ Some stored) × (file_limit < length stored.bytes)
 long_read (was.Whole text) name old reads is = absurd (cc)
 long_read was.Missing name old reads is = absurd (cc)
 long_read was.Fault name old reads is = absurd (cc)
 long_read was.TooLong name old reads is = reads
 
-pub load_long : (name : List ℕ) (old new : Seen) (calls : List WatchEntry) (answer : WatchAnswer) → PerformsWatch (command.Load name) old new calls answer → answer.file ≡ Some file.TooLong → IsTrue old.tells
+pub load_long : (name : List ℕ) (old new : Seen) (calls : List WatchEntry) (answer : WatchAnswer) → PerformsWatch (command.Load name) old new calls answer → answer.file ≡ Some file.TooLong → IsTrue old.names
     → (stored : Stored) × (old.at name ≡ Some stored) × (file_limit < length stored.bytes)
 load_long name old new calls answer (inl refused) is = absurd (never_none answer file.TooLong (ap (λ (x : WatchAnswer). x.file) refused.2.1) is)
 load_long name old new calls answer (inr loads) is =
@@ -128,10 +128,10 @@ save_done name old new calls answer (inr saves) is =
     let s : SavesFile old new name calls answer = saves.1 in
     (s.0, s.2, done_written s.1 old new name s.0 s.3 (same_came answer s.1 file.Done (saves_came old new name calls answer s) is))
 
-clash_written : (came : FileReply) (old new : Seen) (name text : List ℕ) → WritesFile old new name text came → came ≡ file.Clash → Same old new × (IsTrue old.tells → IsSome (old.at name))
+clash_written : (came : FileReply) (old new : Seen) (name text : List ℕ) → WritesFile old new name text came → came ≡ file.Clash → Same old new × (IsTrue old.names → IsSome (old.at name))
 clash_written came old new name text writes is = let clash : WritesFile old new name text file.Clash = subst (λ (r : FileReply). WritesFile old new name text r) is writes in clash
 
-pub save_clash : (name : List ℕ) (old new : Seen) (calls : List WatchEntry) (answer : WatchAnswer) → PerformsWatch (command.Save name) old new calls answer → answer.file ≡ Some file.Clash → Same old new × (IsTrue old.tells → IsSome (old.at name))
+pub save_clash : (name : List ℕ) (old new : Seen) (calls : List WatchEntry) (answer : WatchAnswer) → PerformsWatch (command.Save name) old new calls answer → answer.file ≡ Some file.Clash → Same old new × (IsTrue old.names → IsSome (old.at name))
 save_clash name old new calls answer (inl refused) is = absurd (never_none answer file.Clash (ap (λ (x : WatchAnswer). x.file) refused.2.1) is)
 save_clash name old new calls answer (inr saves) is =
     let s : SavesFile old new name calls answer = saves.1 in

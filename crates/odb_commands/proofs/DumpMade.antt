@@ -57,16 +57,16 @@ pub file_loaded : (old new : Seen) (name : List ℕ) (read : FileRead) (result :
 file_loaded old new name read result a b same reads ends = ends_so a b (LoadsRead read) (LoadsFile old new name) result (λ calls answer does. (read, same, reads, does)) ends
 
 -- what a file may be read as, whatever is told
-some_read : (seen : Seen) (name : List ℕ) (tells : Bool) (at : Option Stored) → seen.tells ≡ tells → seen.at name ≡ at → (read : FileRead) × ReadsFile seen name read × Some_does (LoadsRead read)
+some_read : (seen : Seen) (name : List ℕ) (tells : Bool) (at : Option Stored) → seen.names ≡ tells → seen.at name ≡ at → (read : FileRead) × ReadsFile seen name read × Some_does (LoadsRead read)
 some_read seen name false at told is =
-    (was.Missing, λ (h : IsTrue seen.tells). (let wrong : false ≡ true = sym told ∙ h in absurd (cc)), ([], said_with file.Clash (Refused Missing), (refl, refl)))
+    (was.Missing, λ (h : IsTrue seen.names). (let wrong : false ≡ true = sym told ∙ h in absurd (cc)), ([], said_with file.Clash (Refused Missing), (refl, refl)))
 some_read seen name true None told is = (was.Missing, λ h. is, ([], said_with file.Clash (Refused Missing), (refl, refl)))
 some_read seen name true (Some found) told is =
     (was.Fault, λ h. subst (λ (o : Option Stored). IsSome o) (sym is) refl, ([], said_with file.Fault (Refused FileFault), (refl, refl)))
 
 pub some_loads : (old new : Seen) (name : List ℕ) → Same old new → Some_does (LoadsFile old new name)
 some_loads old new name same =
-    let read : (read : FileRead) × ReadsFile old name read × Some_does (LoadsRead read) = some_read old name old.tells (old.at name) refl refl in
+    let read : (read : FileRead) × ReadsFile old name read × Some_does (LoadsRead read) = some_read old name old.names (old.at name) refl refl in
     (read.2.0, read.2.1, (read.0, same, read.1, read.2.2))
 
 -- Memory ended while a file was read, which is there: its text would have been loaded, or it is too long.
@@ -83,15 +83,15 @@ long_or_not zero limit = inr (omega arith)
 long_or_not (suc n) zero = inl (omega arith)
 long_or_not (suc n) (suc limit) = elim (long_or_not n limit) as (λ _. (suc limit < suc n) ⊎ (suc n ≤ suc limit)) [ inl h ↦ inl (omega (arith, h)) | inr h ↦ inr (omega (arith, h)) ]
 
-read_begun : (seen : Seen) (name : List ℕ) (tells : Bool) (at : Option Stored) → seen.tells ≡ tells → seen.at name ≡ at → (IsTrue seen.tells → IsSome (seen.at name)) → (read : FileRead) × ReadsFile seen name read × Some_cut (LoadsRead read)
+read_begun : (seen : Seen) (name : List ℕ) (tells : Bool) (at : Option Stored) → seen.names ≡ tells → seen.at name ≡ at → (IsTrue seen.names → IsSome (seen.at name)) → (read : FileRead) × ReadsFile seen name read × Some_cut (LoadsRead read)
 read_begun seen name false at told is there =
-    (was.Whole [], record { there = λ (h : IsTrue seen.tells). (let wrong : false ≡ true = sym told ∙ h in absurd (cc)); fits = omega arith }, whole_begun [])
+    (was.Whole [], record { there = λ (h : IsTrue seen.names). (let wrong : false ≡ true = sym told ∙ h in absurd (cc)); fits = omega arith }, whole_begun [])
 read_begun seen name true None told is there = absurd (false≢true (subst (λ (o : Option Stored). IsSome o) is (there told)))
 read_begun seen name true (Some found) told is there = read_by_length seen name found is (long_or_not (length found.bytes) file_limit)
 
-pub cut_loads : (old new : Seen) (name : List ℕ) → Same old new → (IsTrue old.tells → IsSome (old.at name)) → Some_cut (LoadsFile old new name)
+pub cut_loads : (old new : Seen) (name : List ℕ) → Same old new → (IsTrue old.names → IsSome (old.at name)) → Some_cut (LoadsFile old new name)
 cut_loads old new name same there =
-    let read : (read : FileRead) × ReadsFile old name read × Some_cut (LoadsRead read) = read_begun old name old.tells (old.at name) refl refl there in
+    let read : (read : FileRead) × ReadsFile old name read × Some_cut (LoadsRead read) = read_begun old name old.names (old.at name) refl refl there in
     ((read.2.0.0, read.2.0.1, (read.0, same, read.1, read.2.0.2)), read.2.1)
 
 -- The text of the database is saved to a file.
@@ -104,20 +104,20 @@ file_saved old new name a b given text slice bytes came answer called is same wr
   does = (text, came, refl, subst (λ (t : List ℕ). WritesFile old new name t came) same writes, said ∙ ap (λ (n : ℕ). saved_or n came) (size ∙ ap (λ (t : List ℕ). length t) same));
 }
 
-some_written : (seen : Seen) (name : List ℕ) (tells : Bool) (at : Option Stored) → seen.tells ≡ tells → seen.at name ≡ at → (came : FileReply) × WritesFile seen seen name [] came
+some_written : (seen : Seen) (name : List ℕ) (tells : Bool) (at : Option Stored) → seen.names ≡ tells → seen.at name ≡ at → (came : FileReply) × WritesFile seen seen name [] came
 some_written seen name false at told is =
-    (file.Clash, (Same-refl seen, λ (h : IsTrue seen.tells). (let wrong : false ≡ true = sym told ∙ h in absurd (cc))))
+    (file.Clash, (Same-refl seen, λ (h : IsTrue seen.names). (let wrong : false ≡ true = sym told ∙ h in absurd (cc))))
 some_written seen name true None told is = (file.Fault, inl (Same-refl seen, λ h. is))
 some_written seen name true (Some found) told is = (file.Clash, (Same-refl seen, λ h. subst (λ (o : Option Stored). IsSome o) (sym is) refl))
 
 pub some_saves : (seen : Seen) (name : List ℕ) → Some_does (SavesFile seen seen name)
 some_saves seen name =
-    let some : (came : FileReply) × WritesFile seen seen name [] came = some_written seen name seen.tells (seen.at name) refl refl in
+    let some : (came : FileReply) × WritesFile seen seen name [] came = some_written seen name seen.names (seen.at name) refl refl in
     (call.Save (Ok []) ∷ [], saved_or 0 some.0, ([], some.0, refl, some.1, refl))
 
 pub save_cut : (seen : Seen) (name : List ℕ) (a b : DatabaseAccess) (got : Result (List ℕ) NoMemory) (memory : NoMemory) → AddsEntry a b (call.Save got) → got ≡ Err memory → CutsWatch a b (SavesFile seen seen name)
 save_cut seen name a b got memory called wanting =
-    let some : (came : FileReply) × WritesFile seen seen name [] came = some_written seen name seen.tells (seen.at name) refl refl in
+    let some : (came : FileReply) × WritesFile seen seen name [] came = some_written seen name seen.names (seen.at name) refl refl in
     cut_at_first a b (SavesFile seen seen name) (call.Save got) (call.Save (Ok [])) (saved_or 0 some.0) ([], some.0, refl, some.1, refl)
     (ap (λ (r : Result (List ℕ) NoMemory). call.Save r) wanting) (λ same. cc) called
 

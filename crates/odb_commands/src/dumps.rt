@@ -108,18 +108,18 @@ fn load_at<R: Wait, P: WatchPort, E: Files>(
 ) -> Result<WatchAnswer, NoMemory>
     requires { (P.access port.old).caller ≡ main_caller }
     ensures ends { EndsWatchCommand (P.access port.old) (P.access port.new)
-        (LoadsFile (E.seen files.old) (E.seen files.new) name.now) result }
-    ensures kept { Same (E.seen files.old) (E.seen files.new) }
-    ensures faults { IfOk result (λ answer. FaultsIf answer.file (E.faults files.old)
-        (E.faults files.new)) }
-    ensures clashes { IfOk result (λ answer. ClashesIf answer.file (E.clashes files.old)
-        (E.clashes files.new)) }
-    ensures first { IfOk result (λ answer. NamesFaultIf answer.file name.now (E.first files.old)
-        (E.first files.new)) }
-    ensures later { E.faults files.old ≤ E.faults files.new }
-    ensures faultless { OnErr result (E.faults files.new ≡ E.faults files.old) }
-    ensures nameless { OnErr result (E.first files.new ≡ E.first files.old) }
-    ensures unclashed { OnErr result (E.clashes files.new ≡ E.clashes files.old) }
+        (LoadsFile (E.told files.old).seen (E.told files.new).seen name.now) result }
+    ensures kept { Same (E.told files.old).seen (E.told files.new).seen }
+    ensures faults { IfOk result (λ answer. FaultsIf answer.file (E.told files.old).faults
+        (E.told files.new).faults) }
+    ensures clashes { IfOk result (λ answer. ClashesIf answer.file (E.told files.old).clashes
+        (E.told files.new).clashes) }
+    ensures first { IfOk result (λ answer. NamesFaultIf answer.file name.now (E.told files.old).first
+        (E.told files.new).first) }
+    ensures later { (E.told files.old).faults ≤ (E.told files.new).faults }
+    ensures faultless { OnErr result ((E.told files.new).faults ≡ (E.told files.old).faults) }
+    ensures nameless { OnErr result ((E.told files.new).first ≡ (E.told files.old).first) }
+    ensures unclashed { OnErr result ((E.told files.new).clashes ≡ (E.told files.old).clashes) }
 {
     let read = read_file(alloc, files, name)?;
     load_read(rt, alloc, port, read)
@@ -135,19 +135,19 @@ pub(crate) fn load<R: Wait, P: WatchPort, E: Files>(
 ) -> Result<WatchAnswer, NoMemory>
     requires { (P.access port.old).caller ≡ main_caller }
     ensures ends { EndsWatchCommand (P.access port.old) (P.access port.new)
-        (OnFileName file.now (E.seen files.old) (E.seen files.new)
-        (LoadsFile (E.seen files.old) (E.seen files.new))) result }
-    ensures kept { Same (E.seen files.old) (E.seen files.new) }
-    ensures faults { IfOk result (λ answer. FaultsIf answer.file (E.faults files.old)
-        (E.faults files.new)) }
-    ensures clashes { IfOk result (λ answer. ClashesIf answer.file (E.clashes files.old)
-        (E.clashes files.new)) }
-    ensures first { IfOk result (λ answer. NamesFaultIf answer.file file.now (E.first files.old)
-        (E.first files.new)) }
-    ensures later { E.faults files.old ≤ E.faults files.new }
-    ensures faultless { OnErr result (E.faults files.new ≡ E.faults files.old) }
-    ensures nameless { OnErr result (E.first files.new ≡ E.first files.old) }
-    ensures unclashed { OnErr result (E.clashes files.new ≡ E.clashes files.old) }
+        (OnFileName file.now (E.told files.old).seen (E.told files.new).seen
+        (LoadsFile (E.told files.old).seen (E.told files.new).seen)) result }
+    ensures kept { Same (E.told files.old).seen (E.told files.new).seen }
+    ensures faults { IfOk result (λ answer. FaultsIf answer.file (E.told files.old).faults
+        (E.told files.new).faults) }
+    ensures clashes { IfOk result (λ answer. ClashesIf answer.file (E.told files.old).clashes
+        (E.told files.new).clashes) }
+    ensures first { IfOk result (λ answer. NamesFaultIf answer.file file.now (E.told files.old).first
+        (E.told files.new).first) }
+    ensures later { (E.told files.old).faults ≤ (E.told files.new).faults }
+    ensures faultless { OnErr result ((E.told files.new).faults ≡ (E.told files.old).faults) }
+    ensures nameless { OnErr result ((E.told files.new).first ≡ (E.told files.old).first) }
+    ensures unclashed { OnErr result ((E.told files.new).clashes ≡ (E.told files.old).clashes) }
 {
     match FileName::from_bytes(file) {
         Err(_) => Ok(refused_for(WatchCommandRefusal::BadFileName)),
@@ -177,18 +177,18 @@ fn save_at<R: Wait, P: WatchPort, E: Files>(
     name: &FileName,
 ) -> Result<WatchAnswer, NoMemory>
     ensures ends { EndsWatchCommand (P.access port.old) (P.access port.new)
-        (SavesFile (E.seen files.old) (E.seen files.new) name.now) result }
-    ensures kept { OnErr result (Same (E.seen files.old) (E.seen files.new)) }
-    ensures faults { IfOk result (λ answer. FaultsIf answer.file (E.faults files.old)
-        (E.faults files.new)) }
-    ensures clashes { IfOk result (λ answer. ClashesIf answer.file (E.clashes files.old)
-        (E.clashes files.new)) }
-    ensures first { IfOk result (λ answer. NamesFaultIf answer.file name.now (E.first files.old)
-        (E.first files.new)) }
-    ensures later { E.faults files.old ≤ E.faults files.new }
-    ensures faultless { OnErr result (E.faults files.new ≡ E.faults files.old) }
-    ensures nameless { OnErr result (E.first files.new ≡ E.first files.old) }
-    ensures unclashed { OnErr result (E.clashes files.new ≡ E.clashes files.old) }
+        (SavesFile (E.told files.old).seen (E.told files.new).seen name.now) result }
+    ensures kept { OnErr result (Same (E.told files.old).seen (E.told files.new).seen) }
+    ensures faults { IfOk result (λ answer. FaultsIf answer.file (E.told files.old).faults
+        (E.told files.new).faults) }
+    ensures clashes { IfOk result (λ answer. ClashesIf answer.file (E.told files.old).clashes
+        (E.told files.new).clashes) }
+    ensures first { IfOk result (λ answer. NamesFaultIf answer.file name.now (E.told files.old).first
+        (E.told files.new).first) }
+    ensures later { (E.told files.old).faults ≤ (E.told files.new).faults }
+    ensures faultless { OnErr result ((E.told files.new).faults ≡ (E.told files.old).faults) }
+    ensures nameless { OnErr result ((E.told files.new).first ≡ (E.told files.old).first) }
+    ensures unclashed { OnErr result ((E.told files.new).clashes ≡ (E.told files.old).clashes) }
 {
     let dump = port.save(rt, alloc)?;
     let text = dump.as_slice();
@@ -206,19 +206,19 @@ pub(crate) fn save<R: Wait, P: WatchPort, E: Files>(
     file: &[u8],
 ) -> Result<WatchAnswer, NoMemory>
     ensures ends { EndsWatchCommand (P.access port.old) (P.access port.new)
-        (OnFileName file.now (E.seen files.old) (E.seen files.new)
-        (SavesFile (E.seen files.old) (E.seen files.new))) result }
-    ensures kept { OnErr result (Same (E.seen files.old) (E.seen files.new)) }
-    ensures faults { IfOk result (λ answer. FaultsIf answer.file (E.faults files.old)
-        (E.faults files.new)) }
-    ensures clashes { IfOk result (λ answer. ClashesIf answer.file (E.clashes files.old)
-        (E.clashes files.new)) }
-    ensures first { IfOk result (λ answer. NamesFaultIf answer.file file.now (E.first files.old)
-        (E.first files.new)) }
-    ensures later { E.faults files.old ≤ E.faults files.new }
-    ensures faultless { OnErr result (E.faults files.new ≡ E.faults files.old) }
-    ensures nameless { OnErr result (E.first files.new ≡ E.first files.old) }
-    ensures unclashed { OnErr result (E.clashes files.new ≡ E.clashes files.old) }
+        (OnFileName file.now (E.told files.old).seen (E.told files.new).seen
+        (SavesFile (E.told files.old).seen (E.told files.new).seen)) result }
+    ensures kept { OnErr result (Same (E.told files.old).seen (E.told files.new).seen) }
+    ensures faults { IfOk result (λ answer. FaultsIf answer.file (E.told files.old).faults
+        (E.told files.new).faults) }
+    ensures clashes { IfOk result (λ answer. ClashesIf answer.file (E.told files.old).clashes
+        (E.told files.new).clashes) }
+    ensures first { IfOk result (λ answer. NamesFaultIf answer.file file.now (E.told files.old).first
+        (E.told files.new).first) }
+    ensures later { (E.told files.old).faults ≤ (E.told files.new).faults }
+    ensures faultless { OnErr result ((E.told files.new).faults ≡ (E.told files.old).faults) }
+    ensures nameless { OnErr result ((E.told files.new).first ≡ (E.told files.old).first) }
+    ensures unclashed { OnErr result ((E.told files.new).clashes ≡ (E.told files.old).clashes) }
 {
     match FileName::from_bytes(file) {
         Err(_) => Ok(refused_for(WatchCommandRefusal::BadFileName)),

@@ -60,16 +60,16 @@ fn read_on<E: Files>(
     block: &mut [u8],
     text: &mut Vec<u8>,
 ) -> Result<ReadEnd, Failed>
-    requires reads { IsTrue ((E.seen files.old).reads file) }
+    requires reads { IsTrue ((E.told files.old).seen.reads file) }
     requires room { 0 < length block.old }
     requires empty { text.old.items ≡ [] }
-    ensures read { IfOk result (GaveBytes (E.seen files.old) (E.seen files.new) file
+    ensures read { IfOk result (GaveBytes (E.told files.old).seen (E.told files.new).seen file
         text.new.items) }
-    ensures part { OnErr result (SomeRead (E.seen files.old) (E.seen files.new) file) }
-    ensures faults { CountsFault (E.faults files.old) (E.faults files.new) result }
-    ensures clashes { E.clashes files.new ≡ E.clashes files.old }
-    ensures first { NamesFirst ((E.seen files.old).name_of file) (E.first files.old)
-        (E.first files.new) result }
+    ensures part { OnErr result (SomeRead (E.told files.old).seen (E.told files.new).seen file) }
+    ensures faults { CountsFault (E.told files.old).faults (E.told files.new).faults result }
+    ensures clashes { (E.told files.new).clashes ≡ (E.told files.old).clashes }
+    ensures first { NamesFirst ((E.told files.old).seen.name_of file) (E.told files.old).first
+        (E.told files.new).first result }
 {
     while text.as_slice().len() <= FILE_BYTES {
         let count = files.read(file, block)?;
@@ -86,13 +86,13 @@ fn read_on<E: Files>(
 
 /// Reads what is left of the file of this number.
 fn read_body<E: Files>(alloc: Global, files: &mut E, file: u32) -> Result<Body, Failed>
-    requires { IsTrue ((E.seen files.old).reads file) }
-    ensures read { IfOk result (GivesBody (E.seen files.old) (E.seen files.new) file) }
-    ensures part { OnErr result (SomeRead (E.seen files.old) (E.seen files.new) file) }
-    ensures faults { CountsFault (E.faults files.old) (E.faults files.new) result }
-    ensures clashes { E.clashes files.new ≡ E.clashes files.old }
-    ensures first { NamesFirst ((E.seen files.old).name_of file) (E.first files.old)
-        (E.first files.new) result }
+    requires { IsTrue ((E.told files.old).seen.reads file) }
+    ensures read { IfOk result (GivesBody (E.told files.old).seen (E.told files.new).seen file) }
+    ensures part { OnErr result (SomeRead (E.told files.old).seen (E.told files.new).seen file) }
+    ensures faults { CountsFault (E.told files.old).faults (E.told files.new).faults result }
+    ensures clashes { (E.told files.new).clashes ≡ (E.told files.old).clashes }
+    ensures first { NamesFirst ((E.told files.old).seen.name_of file) (E.told files.old).first
+        (E.told files.new).first result }
 {
     let Ok(mut block) = new_block(alloc) else {
         return Ok(Body::NoMemory);
@@ -121,17 +121,17 @@ fn closed_behind(body: Body, closed: Result<(), Failed>) -> Result<FileRead, NoM
 
 /// Reads what is left of the file of this number, and closes it. A close that fails is told before want of memory.
 fn read_and_close<E: Files>(alloc: Global, files: &mut E, file: u32) -> Result<FileRead, NoMemory>
-    requires { IsTrue ((E.seen files.old).reads file) }
-    ensures read { IfOk result (GivesRead (E.seen files.old) file) }
-    ensures ended { Ends (E.seen files.old) (E.seen files.new) file }
-    ensures faults { IfOk result (λ read. FaultsOf (reply_of read) (E.faults files.old)
-        (E.faults files.new)) }
-    ensures faultless { OnErr result (E.faults files.new ≡ E.faults files.old) }
-    ensures later { E.faults files.old ≤ E.faults files.new }
-    ensures clashes { E.clashes files.new ≡ E.clashes files.old }
+    requires { IsTrue ((E.told files.old).seen.reads file) }
+    ensures read { IfOk result (GivesRead (E.told files.old).seen file) }
+    ensures ended { Ends (E.told files.old).seen (E.told files.new).seen file }
+    ensures faults { IfOk result (λ read. FaultsOf (reply_of read) (E.told files.old).faults
+        (E.told files.new).faults) }
+    ensures faultless { OnErr result ((E.told files.new).faults ≡ (E.told files.old).faults) }
+    ensures later { (E.told files.old).faults ≤ (E.told files.new).faults }
+    ensures clashes { (E.told files.new).clashes ≡ (E.told files.old).clashes }
     ensures first { IfOk result (λ read. NamesFault (reply_of read)
-        ((E.seen files.old).name_of file) (E.first files.old) (E.first files.new)) }
-    ensures nameless { OnErr result (E.first files.new ≡ E.first files.old) }
+        ((E.told files.old).seen.name_of file) (E.told files.old).first (E.told files.new).first) }
+    ensures nameless { OnErr result ((E.told files.new).first ≡ (E.told files.old).first) }
 {
     let body = read_body(alloc, files, file);
     let closed = files.close(file);
@@ -148,20 +148,20 @@ pub fn read_file<E: Files>(
     files: &mut E,
     name: &FileName,
 ) -> Result<FileRead, NoMemory>
-    ensures read { IfOk result (ReadsFile (E.seen files.old) name.now) }
-    ensures same { Same (E.seen files.old) (E.seen files.new) }
-    ensures faults { IfOk result (λ read. FaultsOf (reply_of read) (E.faults files.old)
-        (E.faults files.new)) }
-    ensures clashes { IfOk result (λ read. ClashesOf (reply_of read) (E.clashes files.old)
-        (E.clashes files.new)) }
-    ensures first { IfOk result (λ read. NamesFault (reply_of read) name.now (E.first files.old)
-        (E.first files.new)) }
-    ensures later { E.faults files.old ≤ E.faults files.new }
-    ensures faultless { OnErr result (E.faults files.new ≡ E.faults files.old) }
-    ensures nameless { OnErr result (E.first files.new ≡ E.first files.old) }
-    ensures unclashed { OnErr result (E.clashes files.new ≡ E.clashes files.old) }
-    ensures there { OnErr result (IsTrue (E.seen files.old).tells
-        → IsSome ((E.seen files.old).at name.now)) }
+    ensures read { IfOk result (ReadsFile (E.told files.old).seen name.now) }
+    ensures same { Same (E.told files.old).seen (E.told files.new).seen }
+    ensures faults { IfOk result (λ read. FaultsOf (reply_of read) (E.told files.old).faults
+        (E.told files.new).faults) }
+    ensures clashes { IfOk result (λ read. ClashesOf (reply_of read) (E.told files.old).clashes
+        (E.told files.new).clashes) }
+    ensures first { IfOk result (λ read. NamesFault (reply_of read) name.now (E.told files.old).first
+        (E.told files.new).first) }
+    ensures later { (E.told files.old).faults ≤ (E.told files.new).faults }
+    ensures faultless { OnErr result ((E.told files.new).faults ≡ (E.told files.old).faults) }
+    ensures nameless { OnErr result ((E.told files.new).first ≡ (E.told files.old).first) }
+    ensures unclashed { OnErr result ((E.told files.new).clashes ≡ (E.told files.old).clashes) }
+    ensures there { OnErr result (IsTrue (E.told files.old).seen.names
+        → IsSome ((E.told files.old).seen.at name.now)) }
 {
     match files.open_read(name) {
         Ok(file) => read_and_close(alloc, files, file),

@@ -29,18 +29,18 @@ pub fn run_watch_command<R: Wait, P: WatchPort, E: Files>(
 ) -> Result<WatchAnswer, NoMemory>
     requires main { (P.access port.old).caller ≡ main_caller }
     ensures ends { EndsWatchCommand (P.access port.old) (P.access port.new)
-        (PerformsWatch command.now (E.seen files.old) (E.seen files.new)) result }
-    ensures kept { OnErr result (Same (E.seen files.old) (E.seen files.new)) }
-    ensures faults { IfOk result (λ answer. FaultsIf answer.file (E.faults files.old)
-        (E.faults files.new)) }
-    ensures clashes { IfOk result (λ answer. ClashesIf answer.file (E.clashes files.old)
-        (E.clashes files.new)) }
+        (PerformsWatch command.now (E.told files.old).seen (E.told files.new).seen) result }
+    ensures kept { OnErr result (Same (E.told files.old).seen (E.told files.new).seen) }
+    ensures faults { IfOk result (λ answer. FaultsIf answer.file (E.told files.old).faults
+        (E.told files.new).faults) }
+    ensures clashes { IfOk result (λ answer. ClashesIf answer.file (E.told files.old).clashes
+        (E.told files.new).clashes) }
     ensures first { IfOk result (λ answer. NamesFaultIf answer.file (file_word command.now)
-        (E.first files.old) (E.first files.new)) }
-    ensures later { E.faults files.old ≤ E.faults files.new }
-    ensures faultless { OnErr result (E.faults files.new ≡ E.faults files.old) }
-    ensures nameless { OnErr result (E.first files.new ≡ E.first files.old) }
-    ensures unclashed { OnErr result (E.clashes files.new ≡ E.clashes files.old) }
+        (E.told files.old).first (E.told files.new).first) }
+    ensures later { (E.told files.old).faults ≤ (E.told files.new).faults }
+    ensures faultless { OnErr result ((E.told files.new).faults ≡ (E.told files.old).faults) }
+    ensures nameless { OnErr result ((E.told files.new).first ≡ (E.told files.old).first) }
+    ensures unclashed { OnErr result ((E.told files.new).clashes ≡ (E.told files.old).clashes) }
     ensures same { IsSamePort (P.access port.old) (P.access port.new) }
 {
     entries_add_up();

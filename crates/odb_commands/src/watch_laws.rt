@@ -40,10 +40,10 @@ pub fn loads_by_file_reply()
         → answer.file ≡ None → ¬ IsFileName name }
     ensures clash { (name : List ℕ) (old new : Seen) (calls : List WatchEntry)
         (answer : WatchAnswer) → PerformsWatch (Load name) old new calls answer
-        → answer.file ≡ Some Clash → IsTrue old.tells → old.at name ≡ None }
+        → answer.file ≡ Some Clash → IsTrue old.names → old.at name ≡ None }
     ensures long { (name : List ℕ) (old new : Seen) (calls : List WatchEntry)
         (answer : WatchAnswer) → PerformsWatch (Load name) old new calls answer
-        → answer.file ≡ Some TooLong → IsTrue old.tells → (stored : Stored)
+        → answer.file ≡ Some TooLong → IsTrue old.names → (stored : Stored)
         × (old.at name ≡ Some stored) × (file_limit < length stored.bytes) }
 {}
 
@@ -55,7 +55,7 @@ pub fn saves_by_file_reply()
         → (text : List ℕ) × (calls ≡ save_of (Ok text) ∷ []) × Stores old new name text }
     ensures clash { (name : List ℕ) (old new : Seen) (calls : List WatchEntry)
         (answer : WatchAnswer) → PerformsWatch (Save name) old new calls answer
-        → answer.file ≡ Some Clash → Same old new × (IsTrue old.tells → IsSome (old.at name)) }
+        → answer.file ≡ Some Clash → Same old new × (IsTrue old.names → IsSome (old.at name)) }
     ensures short { (name : List ℕ) (old new : Seen) (calls : List WatchEntry)
         (answer : WatchAnswer) → PerformsWatch (Save name) old new calls answer
         → answer.file ≢ Some TooLong }

@@ -1,9 +1,10 @@
 -- The lines of a script up to its `exit`.
-use Rattle.std.specs.Prelude.{◌≡◌, ℕ, ◌<◌, true, false, if◌then◌else◌, List, [], ◌∷◌, ◌++◌, length, take, Option, Some, refl}
+use Rattle.std.specs.Prelude.{◌≡◌, ℕ, ◌<◌, true, false, if◌then◌else◌, List, [], ◌∷◌, ◌++◌, length, take, Some, refl}
 use Rattle.std.proofs.Common.{ap, sym, ◌∙◌, arith, append_assoc, drop}
 use Rattle.std.proofs.lemmas.List.{take-append-drop, take_all, append-nil}
 use Rattle.std.proofs.lemmas.List.Elements.{All-nil, All-head, All-tail, All-push}
 use Rattle.std.proofs.Math.Seq.{take-append_seam}
+use Rattle.daq_io.specs.Told.{SourceTold}
 use Rattle.odb_script.specs.Lines.{Reading, lines_of, kept, script_limit, ReadsLine, ReadsLast, ReadsNone, ReadsTooMuch}
 use Rattle.odb_script.specs.ReadLines.{HasReadLines}
 use Rattle.odb_script.proofs.ReadLines.{has_read_line, lines_so_far, lines_at_end, lines_at_last, lines_at_limit}
@@ -88,41 +89,41 @@ stopped_until_exit front line all first h ends =
 -- What was read of a source that told its bytes, up to the `exit`.
 
 -- so far there was none
-pub lines_first : (text : List ℕ) (now : Option (List ℕ)) (reading : Reading) (lines : List (List ℕ))
-    → HasReadLines (Some text) now reading lines → GoOn lines → lines ≡ take (length lines) (until_exit (lines_of text))
-lines_first text now reading lines read h = first_until_exit lines (lines_of text) (lines_so_far text now reading lines read) h
+pub lines_first : (text : List ℕ) (first now : SourceTold) (reading : Reading) (lines : List (List ℕ))
+    → first.left ≡ Some text → HasReadLines first now reading lines → GoOn lines → lines ≡ take (length lines) (until_exit (lines_of text))
+lines_first text first now reading lines told read h = first_until_exit lines (lines_of text) (lines_so_far text first now reading lines told read) h
 
 -- there was none in front of the line that was just read, which has an end
-pub lines_first_line : (text : List ℕ) (now after : Option (List ℕ)) (old new : Reading) (lines : List (List ℕ)) (line : List ℕ)
-    → HasReadLines (Some text) now old lines → GoOn lines → ReadsLine old new now after line → lines ++ line ∷ [] ≡ take (length (lines ++ line ∷ [])) (until_exit (lines_of text))
-lines_first_line text now after old new lines line read h reads =
-    first_until_exit-last lines line (lines_of text) (lines_so_far text after new (lines ++ line ∷ []) (has_read_line (Some text) now after old new lines line read reads)) h
+pub lines_first_line : (text : List ℕ) (first now after : SourceTold) (old new : Reading) (lines : List (List ℕ)) (line : List ℕ)
+    → first.left ≡ Some text → HasReadLines first now old lines → GoOn lines → ReadsLine old new now after line → lines ++ line ∷ [] ≡ take (length (lines ++ line ∷ [])) (until_exit (lines_of text))
+lines_first_line text first now after old new lines line told read h reads =
+    first_until_exit-last lines line (lines_of text) (lines_so_far text first after new (lines ++ line ∷ []) told (has_read_line first now after old new lines line read reads)) h
 
 -- that line is an `exit`
-pub lines_at_exit : (text : List ℕ) (now after : Option (List ℕ)) (old new : Reading) (lines : List (List ℕ)) (line : List ℕ)
-    → HasReadLines (Some text) now old lines → GoOn lines → ReadsLine old new now after line → ends_script line ≡ true → lines ++ line ∷ [] ≡ until_exit (lines_of text)
-lines_at_exit text now after old new lines line read h reads ends =
-    stopped_until_exit lines line (lines_of text) (lines_so_far text after new (lines ++ line ∷ []) (has_read_line (Some text) now after old new lines line read reads)) h ends
+pub lines_at_exit : (text : List ℕ) (first now after : SourceTold) (old new : Reading) (lines : List (List ℕ)) (line : List ℕ)
+    → first.left ≡ Some text → HasReadLines first now old lines → GoOn lines → ReadsLine old new now after line → ends_script line ≡ true → lines ++ line ∷ [] ≡ until_exit (lines_of text)
+lines_at_exit text first now after old new lines line told read h reads ends =
+    stopped_until_exit lines line (lines_of text) (lines_so_far text first after new (lines ++ line ∷ []) told (has_read_line first now after old new lines line read reads)) h ends
 
 -- the source ended behind a line's end
-pub lines_until_end : (text : List ℕ) (now after : Option (List ℕ)) (old new : Reading) (lines : List (List ℕ))
-    → HasReadLines (Some text) now old lines → GoOn lines → ReadsNone old new now after → lines ≡ until_exit (lines_of text)
-lines_until_end text now after old new lines read h reads = sym (until_exit-none lines h) ∙ ap until_exit (lines_at_end text now after old new lines read reads)
+pub lines_until_end : (text : List ℕ) (first now after : SourceTold) (old new : Reading) (lines : List (List ℕ))
+    → first.left ≡ Some text → HasReadLines first now old lines → GoOn lines → ReadsNone old new now after → lines ≡ until_exit (lines_of text)
+lines_until_end text first now after old new lines told read h reads = sym (until_exit-none lines h) ∙ ap until_exit (lines_at_end text first now after old new lines told read reads)
 
 -- or behind a last line without one, an `exit` or not
-pub lines_until_last : (text : List ℕ) (now after : Option (List ℕ)) (old new : Reading) (lines : List (List ℕ)) (line : List ℕ)
-    → HasReadLines (Some text) now old lines → GoOn lines → ReadsLast old new now after line → lines ++ line ∷ [] ≡ until_exit (lines_of text)
-lines_until_last text now after old new lines line read h reads =
-    sym (until_exit-last lines line h) ∙ ap until_exit (lines_at_last text now after old new lines line read reads)
+pub lines_until_last : (text : List ℕ) (first now after : SourceTold) (old new : Reading) (lines : List (List ℕ)) (line : List ℕ)
+    → first.left ≡ Some text → HasReadLines first now old lines → GoOn lines → ReadsLast old new now after line → lines ++ line ∷ [] ≡ until_exit (lines_of text)
+lines_until_last text first now after old new lines line told read h reads =
+    sym (until_exit-last lines line h) ∙ ap until_exit (lines_at_last text first now after old new lines line told read reads)
 
-pub lines_first_last : (text : List ℕ) (now after : Option (List ℕ)) (old new : Reading) (lines : List (List ℕ)) (line : List ℕ)
-    → HasReadLines (Some text) now old lines → GoOn lines → ReadsLast old new now after line → lines ++ line ∷ [] ≡ take (length (lines ++ line ∷ [])) (until_exit (lines_of text))
-lines_first_last text now after old new lines line read h reads =
-    all_first (lines ++ line ∷ []) (until_exit (lines_of text)) (lines_until_last text now after old new lines line read h reads)
+pub lines_first_last : (text : List ℕ) (first now after : SourceTold) (old new : Reading) (lines : List (List ℕ)) (line : List ℕ)
+    → first.left ≡ Some text → HasReadLines first now old lines → GoOn lines → ReadsLast old new now after line → lines ++ line ∷ [] ≡ take (length (lines ++ line ∷ [])) (until_exit (lines_of text))
+lines_first_last text first now after old new lines line told read h reads =
+    all_first (lines ++ line ∷ []) (until_exit (lines_of text)) (lines_until_last text first now after old new lines line told read h reads)
 
 -- the script is too long
-pub lines_until_limit : (text : List ℕ) (now after : Option (List ℕ)) (old new : Reading) (lines : List (List ℕ))
-    → HasReadLines (Some text) now old lines → GoOn lines → ReadsTooMuch old new now after → lines ≡ until_exit (lines_of text) × (script_limit < length text)
-lines_until_limit text now after old new lines read h reads =
-    let limit : lines ≡ lines_of text × (script_limit < length text) = lines_at_limit text now after old new lines read reads in
+pub lines_until_limit : (text : List ℕ) (first now after : SourceTold) (old new : Reading) (lines : List (List ℕ))
+    → first.left ≡ Some text → HasReadLines first now old lines → GoOn lines → ReadsTooMuch old new now after → lines ≡ until_exit (lines_of text) × (script_limit < length text)
+lines_until_limit text first now after old new lines told read h reads =
+    let limit : lines ≡ lines_of text × (script_limit < length text) = lines_at_limit text first now after old new lines told read reads in
     (sym (until_exit-none lines h) ∙ ap until_exit limit.0, limit.1)

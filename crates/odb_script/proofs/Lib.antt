@@ -1,6 +1,6 @@
 mod KeptLines
 mod Scanning
-mod LinesSoFar
+pub mod LinesSoFar
 mod TypeLaws
 mod WordLaws
 mod TableLaws
@@ -8,3 +8,4 @@ mod SpelledLaws
 pub mod Exits
 pub mod KeptForms
 pub mod ReadLines
+pub mod Knowing

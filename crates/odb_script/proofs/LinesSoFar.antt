@@ -6,11 +6,12 @@ use Rattle.std.proofs.lemmas.Bool.{cases_lt}
 use Rattle.std.proofs.Math.Logic.{⊎_elim}
 use Rattle.std.specs.Str.Lines.{strip_carriage_return}
 use Rattle.std.specs.Io.KnownBytes.{Consumes, IsAtEnd, Keeps}
-use Rattle.odb_script.specs.Lines.{Reading, Takes, ReadsLine, ReadsLast, ReadsNone, ReadsTooMuch, ReadsPart, script_limit}
+use Rattle.daq_io.specs.Told.{SourceTold}
+use Rattle.odb_script.specs.Lines.{Gives, Reading, Takes, ReadsLine, ReadsLast, ReadsNone, ReadsTooMuch, ReadsPart, script_limit}
 use Rattle.odb_script.specs.Advances.{Refills, Scans}
 
 -- a part of the line was passed, and no end
-pub record SoFar (old now : Reading) (before after : Option (List ℕ)) : Type 0 where
+pub record SoFar (old now : Reading) (before after : SourceTold) : Type 0 where
   pub part : List ℕ
   pub takes : Takes old before after part now.pending
   pub line : now.line ≡ take 4098 part
@@ -33,23 +34,37 @@ Consumes-kept (Some x) None c xs p q = absurd p
 Consumes-kept (Some x) (Some y) None xs p q = absurd q
 Consumes-kept (Some x) (Some y) (Some z) xs p q = p ∙ ap (λ rest. xs ++ rest) (sym q)
 
+-- The same of the bytes that a source gave.
+
+pub Gives-nil : (a : SourceTold) → Gives a a []
+Gives-nil a = record { gave = sym (append-nil a.gave); consumed = Consumes-nil a.left }
+
+pub Gives-trans : (a b c : SourceTold) (xs ys : List ℕ) → Gives a b xs → Gives b c ys → Gives a c (xs ++ ys)
+Gives-trans a b c xs ys p q = record {
+  gave = q.gave ∙ ap (λ (l : List ℕ). l ++ ys) p.gave ∙ append_assoc a.gave xs ys;
+  consumed = Consumes-trans a.left b.left c.left xs ys p.consumed q.consumed;
+}
+
+Gives-kept : (a b c : SourceTold) (xs : List ℕ) → Gives a b xs → Keeps b.left c.left → c.gave ≡ b.gave → Gives a c xs
+Gives-kept a b c xs p kept same = record { gave = same ∙ p.gave; consumed = Consumes-kept a.left b.left c.left xs p.consumed kept }
+
 -- nothing was passed yet
-pub so_far_first : (old now : Reading) (before : Option (List ℕ)) → now.pending ≡ old.pending → now.line ≡ [] → now.taken ≡ old.taken → old.taken ≤ script_limit → SoFar old now before before
+pub so_far_first : (old now : Reading) (before : SourceTold) → now.pending ≡ old.pending → now.line ≡ [] → now.taken ≡ old.taken → old.taken ≤ script_limit → SoFar old now before before
 so_far_first old now before p l t w = record {
   part = [];
-  takes = record { more = []; consumed = Consumes-nil before; bytes = append-nil old.pending ∙ sym p; plain = All-nil (λ b. b ≢ 10) };
+  takes = record { more = []; gives = Gives-nil before; bytes = append-nil old.pending ∙ sym p; plain = All-nil (λ b. b ≢ 10) };
   line = l;
   taken = omega (arith, t);
   within = omega (arith, t, w);
 }
 
 -- more is pending
-pub so_far_refilled : (old now new : Reading) (before mid after : Option (List ℕ)) → SoFar old now before mid → Refills now new mid after → SoFar old new before after
+pub so_far_refilled : (old now new : Reading) (before mid after : SourceTold) → SoFar old now before mid → Refills now new mid after → SoFar old new before after
 so_far_refilled old now new before mid after s f = record {
   part = s.part;
   takes = record {
     more = s.takes.more ++ f.more;
-    consumed = Consumes-trans before mid after s.takes.more f.more s.takes.consumed f.consumed;
+    gives = Gives-trans before mid after s.takes.more f.more s.takes.gives f.gives;
     bytes = sym (append_assoc old.pending s.takes.more f.more) ∙ ap (λ xs. xs ++ f.more) s.takes.bytes
         ∙ append_assoc s.part now.pending f.more ∙ ap (λ xs. s.part ++ xs) f.pending;
     plain = s.takes.plain;
@@ -65,12 +80,12 @@ take-take-append zero front part = refl
 take-take-append (suc n) [] part = refl
 take-take-append (suc n) (x ∷ front) part = ap (λ xs. x ∷ xs) (take-take-append n front part)
 
-pub so_far_more : (old now new : Reading) (before after : Option (List ℕ)) (part : List ℕ) → (s : SoFar old now before after) → Scans now new part new.pending 0 → SoFar old new before after
+pub so_far_more : (old now new : Reading) (before after : SourceTold) (part : List ℕ) → (s : SoFar old now before after) → Scans now new part new.pending 0 → SoFar old new before after
 so_far_more old now new before after part s m = record {
   part = s.part ++ part;
   takes = record {
     more = s.takes.more;
-    consumed = s.takes.consumed;
+    gives = s.takes.gives;
     bytes = s.takes.bytes ∙ ap (λ xs. s.part ++ xs) m.bytes ∙ sym (append_assoc s.part part new.pending);
     plain = All-append (λ b. b ≢ 10) s.part part s.takes.plain m.plain;
   };
@@ -97,7 +112,7 @@ kept_strip n part = ⊎_elim
 
 -- The answers.
 
-pub reads_line : (old now mid : Reading) (before after : Option (List ℕ)) (part : List ℕ) → SoFar old now before after → Scans now mid part (10 ∷ mid.pending) 1
+pub reads_line : (old now mid : Reading) (before after : SourceTold) (part : List ℕ) → SoFar old now before after → Scans now mid part (10 ∷ mid.pending) 1
     → (line : List ℕ) × ReadsLine old (record mid { line = take 4097 (strip_carriage_return mid.line) }) before after line
 reads_line old now mid before after part s m = (
   strip_carriage_return (s.part ++ part),
@@ -105,7 +120,7 @@ reads_line old now mid before after part s m = (
     part = s.part ++ part;
     takes = record {
       more = s.takes.more;
-      consumed = s.takes.consumed;
+      gives = s.takes.gives;
       bytes = s.takes.bytes ∙ ap (λ xs. s.part ++ xs) m.bytes ∙ sym (append_assoc s.part part (10 ∷ mid.pending));
       plain = All-append (λ b. b ≢ 10) s.part part s.takes.plain m.plain;
     };
@@ -116,13 +131,13 @@ reads_line old now mid before after part s m = (
   },
 )
 
-pub reads_last : (old now new : Reading) (before mid after : Option (List ℕ)) → SoFar old now before mid → Refills now new mid after → new.pending ≡ [] → IsAtEnd after → 0 < length new.line
+pub reads_last : (old now new : Reading) (before mid after : SourceTold) → SoFar old now before mid → Refills now new mid after → new.pending ≡ [] → IsAtEnd after.left → 0 < length new.line
     → (line : List ℕ) × ReadsLast old (record new { line = take 4097 new.line }) before after line
 reads_last old now new before mid after s f p e some =
     let t : SoFar old new before after = so_far_refilled old now new before mid after s f in (
       t.part,
       record {
-        takes = record { more = t.takes.more; consumed = t.takes.consumed; bytes = t.takes.bytes ∙ ap (λ xs. t.part ++ xs) p; plain = t.takes.plain };
+        takes = record { more = t.takes.more; gives = t.takes.gives; bytes = t.takes.bytes ∙ ap (λ xs. t.part ++ xs) p; plain = t.takes.plain };
         some = omega (arith, some, ap (length {A = ℕ}) t.line, length-take 4098 t.part);
         at_end = e;
         none_pending = p;
@@ -132,30 +147,30 @@ reads_last old now new before mid after s f p e some =
       },
     )
 
-pub reads_too_much : (old now : Reading) (before after : Option (List ℕ)) → SoFar old now before after → 0 < length now.pending → now.taken ≡ script_limit → ReadsTooMuch old now before after
+pub reads_too_much : (old now : Reading) (before after : SourceTold) → SoFar old now before after → 0 < length now.pending → now.taken ≡ script_limit → ReadsTooMuch old now before after
 reads_too_much old now before after s some full = record { part = s.part; takes = s.takes; more = some; taken = s.taken; limit = full }
 
 take-none : (n : ℕ) (xs : List ℕ) → take (suc n) xs ≡ [] → xs ≡ []
 take-none n [] e = refl
 take-none n (x ∷ xs) e = cc
 
-pub reads_none : (old now new : Reading) (before mid after : Option (List ℕ)) → SoFar old now before mid → Refills now new mid after → new.pending ≡ [] → IsAtEnd after → new.line ≡ []
+pub reads_none : (old now new : Reading) (before mid after : SourceTold) → SoFar old now before mid → Refills now new mid after → new.pending ≡ [] → IsAtEnd after.left → new.line ≡ []
     → ReadsNone old (record new { line = take 4097 new.line }) before after
 reads_none old now new before mid after s f p e none =
     let t : SoFar old new before after = so_far_refilled old now new before mid after s f in
     let part : t.part ≡ [] = take-none 4097 t.part (sym t.line ∙ none) in record {
-      takes = record { more = t.takes.more; consumed = t.takes.consumed; bytes = t.takes.bytes ∙ ap (λ xs. xs ++ new.pending) part ∙ p; plain = All-nil (λ b. b ≢ 10) };
+      takes = record { more = t.takes.more; gives = t.takes.gives; bytes = t.takes.bytes ∙ ap (λ xs. xs ++ new.pending) part ∙ p; plain = All-nil (λ b. b ≢ 10) };
       at_end = e;
       none_pending = p;
       taken = omega (arith, t.taken, ap (length {A = ℕ}) part);
     }
 
-pub reads_part : (old now new : Reading) (before mid after : Option (List ℕ)) → SoFar old now before mid → new ≡ now → now.pending ≡ [] → Keeps mid after → ReadsPart old new before after
-reads_part old now new before mid after s same p kept = record {
+pub reads_part : (old now new : Reading) (before mid after : SourceTold) → SoFar old now before mid → new ≡ now → now.pending ≡ [] → Keeps mid.left after.left → after.gave ≡ mid.gave → ReadsPart old new before after
+reads_part old now new before mid after s same p kept gave = record {
   part = s.part;
   takes = record {
     more = s.takes.more;
-    consumed = Consumes-kept before mid after s.takes.more s.takes.consumed kept;
+    gives = Gives-kept before mid after s.takes.more s.takes.gives kept gave;
     bytes = s.takes.bytes ∙ ap (λ (r : Reading). s.part ++ r.pending) (sym same);
     plain = s.takes.plain;
   };

@@ -7,7 +7,9 @@ use Rattle.std.proofs.lemmas.Bool.{cases_lt, lt-leb}
 use Rattle.std.proofs.Math.Logic.{⊎_elim}
 use Rattle.std.specs.Str.Lines.{strip_carriage_return}
 use Rattle.std.specs.Io.KnownBytes.{Consumes, IsAtEnd}
-use Rattle.odb_script.specs.Lines.{Reading, no_line_read, ended_lines, behind_lines, whole_lines, last_line, script_lines, lines_of, script_limit, ReadsLine, ReadsLast, ReadsNone, ReadsTooMuch, ReadsPart}
+use Rattle.daq_io.specs.Told.{SourceTold}
+use Rattle.odb_script.proofs.LinesSoFar.{Gives-nil, Gives-trans}
+use Rattle.odb_script.specs.Lines.{Gives, Reading, no_line_read, ended_lines, behind_lines, whole_lines, last_line, script_lines, lines_of, script_limit, ReadsLine, ReadsLast, ReadsNone, ReadsTooMuch, ReadsPart}
 use Rattle.odb_script.specs.ReadLines.{AreGivenLines, AreWholeLines, HasReadLines}
 
 -- Lines of texts behind one another.
@@ -69,30 +71,31 @@ AreWholeLines-line done part h =
 -- What was read.
 
 -- nothing yet
-pub has_read_none : (first : Option (List ℕ)) → HasReadLines first first no_line_read []
-has_read_none None = record { done = []; consumed = tt; whole = refl; lines = refl; taken = refl; within = omega arith }
-has_read_none (Some text) = record { done = []; consumed = refl; whole = refl; lines = refl; taken = refl; within = omega arith }
+pub has_read_none : (first : SourceTold) → HasReadLines first first no_line_read []
+has_read_none first = record { done = []; gives = Gives-nil first; whole = refl; lines = refl; taken = refl; within = omega arith }
 
--- what a source has left behind what was passed
-passed : (first now after : Option (List ℕ)) (done pending more part rest : List ℕ) → Consumes first now (done ++ pending) → Consumes now after more
-    → pending ++ more ≡ part ++ rest → Consumes first after ((done ++ part) ++ rest)
-passed None now after done pending more part rest p q e = tt
-passed (Some x) None after done pending more part rest p q e = absurd p
-passed (Some x) (Some y) None done pending more part rest p q e = absurd q
-passed (Some x) (Some y) (Some z) done pending more part rest p q e =
-    p ∙ ap (λ ys. (done ++ pending) ++ ys) q ∙ append_assoc done pending (more ++ z) ∙ ap (λ ys. done ++ ys) (sym (append_assoc pending more z) ∙ ap (λ ys. ys ++ z) e)
-    ∙ ap (λ ys. done ++ ys) (append_assoc part rest z) ∙ sym (append_assoc done part (rest ++ z)) ∙ sym (append_assoc (done ++ part) rest z)
+-- what a source gave of what was passed and of what is pending
+passed : (first now after : SourceTold) (done pending more part rest : List ℕ) → Gives first now (done ++ pending) → Gives now after more
+    → pending ++ more ≡ part ++ rest → Gives first after ((done ++ part) ++ rest)
+passed first now after done pending more part rest p q e =
+    subst (λ (bytes : List ℕ). Gives first after bytes)
+    (append_assoc done pending more ∙ ap (λ ys. done ++ ys) e ∙ sym (append_assoc done part rest))
+    (Gives-trans first now after (done ++ pending) more p q)
+
+-- it told that they were the first of those left
+of_text : (text : List ℕ) (first after : SourceTold) (bytes : List ℕ) → first.left ≡ Some text → Gives first after bytes → Consumes (Some text) after.left bytes
+of_text text first after bytes told p = subst (λ (left : Option (List ℕ)). Consumes left after.left bytes) told p.consumed
 
 regrouped : (done part rest : List ℕ) → (done ++ part) ++ 10 ∷ rest ≡ (done ++ (part ++ 10 ∷ [])) ++ rest
 regrouped done part rest = append_assoc done part (10 ∷ rest) ∙ sym (append_assoc done (part ++ 10 ∷ []) rest ∙ ap (λ ys. done ++ ys) (append_assoc part (10 ∷ []) rest))
 
 -- a line more
-pub has_read_line : (first now after : Option (List ℕ)) (old new : Reading) (lines : List (List ℕ)) (line : List ℕ)
+pub has_read_line : (first now after : SourceTold) (old new : Reading) (lines : List (List ℕ)) (line : List ℕ)
     → HasReadLines first now old lines → ReadsLine old new now after line → HasReadLines first after new (lines ++ line ∷ [])
 has_read_line first now after old new lines line h r = record {
   done = h.done ++ (r.part ++ 10 ∷ []);
-  consumed = subst (λ bytes. Consumes first after bytes) (regrouped h.done r.part new.pending)
-      (passed first now after h.done old.pending r.takes.more r.part (10 ∷ new.pending) h.consumed r.takes.consumed r.takes.bytes);
+  gives = subst (λ (bytes : List ℕ). Gives first after bytes) (regrouped h.done r.part new.pending)
+      (passed first now after h.done old.pending r.takes.more r.part (10 ∷ new.pending) h.gives r.takes.gives r.takes.bytes);
   whole = AreWholeLines-line h.done r.part h.whole;
   lines = ap (λ ls. ls ++ line ∷ []) h.lines ∙ ap (λ l. whole_lines h.done ++ l ∷ []) r.stripped ∙ sym (whole_lines-line h.done r.part h.whole r.takes.plain);
   taken = omega (arith, r.taken, h.taken, length-append h.done (r.part ++ 10 ∷ []), length-append r.part (10 ∷ []));
@@ -108,11 +111,11 @@ text_is text done rest (Some left) c e n = c ∙ ap (λ l. (done ++ rest) ++ l) 
 lines_within : (text : List ℕ) → length text ≤ script_limit → lines_of text ≡ script_lines text
 lines_within text h = rw (le-leb (length text) script_limit h) refl
 
-pub lines_at_end : (text : List ℕ) (now after : Option (List ℕ)) (old new : Reading) (lines : List (List ℕ))
-    → HasReadLines (Some text) now old lines → ReadsNone old new now after → lines ≡ lines_of text
-lines_at_end text now after old new lines h r =
-    let is_text : text ≡ h.done = text_is text h.done [] after
-    (subst (λ bytes. Consumes (Some text) after (bytes ++ [])) (append-nil h.done) (passed (Some text) now after h.done old.pending r.takes.more [] [] h.consumed r.takes.consumed r.takes.bytes)) r.at_end refl in
+pub lines_at_end : (text : List ℕ) (first now after : SourceTold) (old new : Reading) (lines : List (List ℕ))
+    → first.left ≡ Some text → HasReadLines first now old lines → ReadsNone old new now after → lines ≡ lines_of text
+lines_at_end text first now after old new lines told h r =
+    let is_text : text ≡ h.done = text_is text h.done [] after.left
+    (of_text text first after (h.done ++ []) told (subst (λ (bytes : List ℕ). Gives first after (bytes ++ [])) (append-nil h.done) (passed first now after h.done old.pending r.takes.more [] [] h.gives r.takes.gives r.takes.bytes))) r.at_end refl in
     let whole : script_lines h.done ≡ whole_lines h.done = ap (λ l. whole_lines h.done ++ last_line l) h.whole ∙ append-nil (whole_lines h.done) in
     h.lines ∙ sym whole ∙ sym (lines_within h.done h.within) ∙ ap lines_of (sym is_text)
 
@@ -120,11 +123,11 @@ last_line-some : (line : List ℕ) → 0 < length line → last_line line ≡ li
 last_line-some [] h = absurd (omega (arith, h))
 last_line-some (x ∷ xs) h = refl
 
-pub lines_at_last : (text : List ℕ) (now after : Option (List ℕ)) (old new : Reading) (lines : List (List ℕ)) (line : List ℕ)
-    → HasReadLines (Some text) now old lines → ReadsLast old new now after line → lines ++ line ∷ [] ≡ lines_of text
-lines_at_last text now after old new lines line h r =
-    let is_text : text ≡ h.done ++ line = text_is text (h.done ++ line) [] after
-    (passed (Some text) now after h.done old.pending r.takes.more line [] h.consumed r.takes.consumed r.takes.bytes) r.at_end refl in
+pub lines_at_last : (text : List ℕ) (first now after : SourceTold) (old new : Reading) (lines : List (List ℕ)) (line : List ℕ)
+    → first.left ≡ Some text → HasReadLines first now old lines → ReadsLast old new now after line → lines ++ line ∷ [] ≡ lines_of text
+lines_at_last text first now after old new lines line told h r =
+    let is_text : text ≡ h.done ++ line = text_is text (h.done ++ line) [] after.left
+    (of_text text first after ((h.done ++ line) ++ []) told (passed first now after h.done old.pending r.takes.more line [] h.gives r.takes.gives r.takes.bytes)) r.at_end refl in
     let behind : behind_lines [] (h.done ++ line) ≡ line =
     behind_lines-append [] h.done line ∙ ap (λ s. behind_lines s line) h.whole ∙ behind_lines-plain [] line r.takes.plain in
     let all : script_lines (h.done ++ line) ≡ whole_lines h.done ++ line ∷ [] =
@@ -143,11 +146,11 @@ lines_beyond text front rest e n some =
     let cut : take script_limit text ≡ front = ap (take script_limit) e ∙ ap (λ k. take k (front ++ rest)) (sym n) ∙ take-append_seam front rest in
     rw (longer, cut) refl
 
-pub lines_at_limit : (text : List ℕ) (now after : Option (List ℕ)) (old new : Reading) (lines : List (List ℕ))
-    → HasReadLines (Some text) now old lines → ReadsTooMuch old new now after → lines ≡ lines_of text × (script_limit < length text)
-lines_at_limit text now after old new lines h r =
-    let split : (rest : List ℕ) × (text ≡ ((h.done ++ r.part) ++ new.pending) ++ rest) = split_text text ((h.done ++ r.part) ++ new.pending) after
-    (passed (Some text) now after h.done old.pending r.takes.more r.part new.pending h.consumed r.takes.consumed r.takes.bytes) in
+pub lines_at_limit : (text : List ℕ) (first now after : SourceTold) (old new : Reading) (lines : List (List ℕ))
+    → first.left ≡ Some text → HasReadLines first now old lines → ReadsTooMuch old new now after → lines ≡ lines_of text × (script_limit < length text)
+lines_at_limit text first now after old new lines told h r =
+    let split : (rest : List ℕ) × (text ≡ ((h.done ++ r.part) ++ new.pending) ++ rest) = split_text text ((h.done ++ r.part) ++ new.pending) after.left
+    (of_text text first after ((h.done ++ r.part) ++ new.pending) told (passed first now after h.done old.pending r.takes.more r.part new.pending h.gives r.takes.gives r.takes.bytes)) in
     let is_text : text ≡ (h.done ++ r.part) ++ (new.pending ++ split.0) = split.1 ∙ append_assoc (h.done ++ r.part) new.pending split.0 in
     let full : length (h.done ++ r.part) ≡ script_limit = omega (arith, length-append h.done r.part, r.taken, r.limit, h.taken) in
     let some : 0 < length (new.pending ++ split.0) = omega (arith, length-append new.pending split.0, r.more) in (
@@ -173,10 +176,10 @@ lines_begin text done rest e h within = ⊎_elim
     (cases_lt script_limit (length text))
 
 -- At any moment the lines are the first of the text.
-pub lines_so_far : (text : List ℕ) (now : Option (List ℕ)) (reading : Reading) (lines : List (List ℕ))
-    → HasReadLines (Some text) now reading lines → lines ≡ take (length lines) (lines_of text)
-lines_so_far text now reading lines h =
-    let split : (rest : List ℕ) × (text ≡ (h.done ++ reading.pending) ++ rest) = split_text text (h.done ++ reading.pending) now h.consumed in
+pub lines_so_far : (text : List ℕ) (first now : SourceTold) (reading : Reading) (lines : List (List ℕ))
+    → first.left ≡ Some text → HasReadLines first now reading lines → lines ≡ take (length lines) (lines_of text)
+lines_so_far text first now reading lines told h =
+    let split : (rest : List ℕ) × (text ≡ (h.done ++ reading.pending) ++ rest) = split_text text (h.done ++ reading.pending) now.left (of_text text first now (h.done ++ reading.pending) told h.gives) in
     let is_text : text ≡ h.done ++ (reading.pending ++ split.0) = split.1 ∙ append_assoc h.done reading.pending split.0 in
     let begins : (more : List (List ℕ)) × (lines_of text ≡ whole_lines h.done ++ more) = lines_begin text h.done (reading.pending ++ split.0) is_text h.whole h.within in
     h.lines ∙ sym (take-append_seam (whole_lines h.done) begins.0) ∙ ap (take (length (whole_lines h.done))) (sym begins.1)
@@ -184,18 +187,18 @@ lines_so_far text now reading lines h =
 
 -- A script that was read to its end has no more than it may.
 
-pub text_within_end : (text : List ℕ) (now after : Option (List ℕ)) (old new : Reading) (lines : List (List ℕ))
-    → HasReadLines (Some text) now old lines → ReadsNone old new now after → length text ≤ script_limit
-text_within_end text now after old new lines h r =
-    let is_text : text ≡ h.done = text_is text h.done [] after
-    (subst (λ bytes. Consumes (Some text) after (bytes ++ [])) (append-nil h.done) (passed (Some text) now after h.done old.pending r.takes.more [] [] h.consumed r.takes.consumed r.takes.bytes)) r.at_end refl in
+pub text_within_end : (text : List ℕ) (first now after : SourceTold) (old new : Reading) (lines : List (List ℕ))
+    → first.left ≡ Some text → HasReadLines first now old lines → ReadsNone old new now after → length text ≤ script_limit
+text_within_end text first now after old new lines told h r =
+    let is_text : text ≡ h.done = text_is text h.done [] after.left
+    (of_text text first after (h.done ++ []) told (subst (λ (bytes : List ℕ). Gives first after (bytes ++ [])) (append-nil h.done) (passed first now after h.done old.pending r.takes.more [] [] h.gives r.takes.gives r.takes.bytes))) r.at_end refl in
     omega (arith, ap (length {A = ℕ}) is_text, h.within)
 
-pub text_within_last : (text : List ℕ) (now after : Option (List ℕ)) (old new : Reading) (lines : List (List ℕ)) (line : List ℕ)
-    → HasReadLines (Some text) now old lines → ReadsLast old new now after line → length text ≤ script_limit
-text_within_last text now after old new lines line h r =
-    let is_text : text ≡ h.done ++ line = text_is text (h.done ++ line) [] after
-    (passed (Some text) now after h.done old.pending r.takes.more line [] h.consumed r.takes.consumed r.takes.bytes) r.at_end refl in
+pub text_within_last : (text : List ℕ) (first now after : SourceTold) (old new : Reading) (lines : List (List ℕ)) (line : List ℕ)
+    → first.left ≡ Some text → HasReadLines first now old lines → ReadsLast old new now after line → length text ≤ script_limit
+text_within_last text first now after old new lines line told h r =
+    let is_text : text ≡ h.done ++ line = text_is text (h.done ++ line) [] after.left
+    (of_text text first after ((h.done ++ line) ++ []) told (passed first now after h.done old.pending r.takes.more line [] h.gives r.takes.gives r.takes.bytes)) r.at_end refl in
     omega (arith, ap (length {A = ℕ}) is_text, length-append h.done line, r.taken, r.within, h.taken)
 
 given_lines : (text given : List ℕ) (left : Option (List ℕ)) (lines : List (List ℕ)) → Consumes (Some text) left given → lines ≡ whole_lines given → length given ≤ script_limit
@@ -203,11 +206,11 @@ given_lines : (text given : List ℕ) (left : Option (List ℕ)) (lines : List (
 given_lines text given None lines c e w = absurd c
 given_lines text given (Some rest) lines c e w = record { given = given; rest = rest; left_is = refl; text_is = c; lines_are = e; within = w }
 
-pub lines_at_fault : (text : List ℕ) (now after : Option (List ℕ)) (old new : Reading) (lines : List (List ℕ))
-    → HasReadLines (Some text) now old lines → ReadsPart old new now after → AreGivenLines text after lines
-lines_at_fault text now after old new lines h r =
-    let consumed : Consumes (Some text) after (h.done ++ r.part) =
-    subst (λ bytes. Consumes (Some text) after bytes) (ap (λ rest. (h.done ++ r.part) ++ rest) r.none_pending ∙ append-nil (h.done ++ r.part))
-    (passed (Some text) now after h.done old.pending r.takes.more r.part new.pending h.consumed r.takes.consumed r.takes.bytes) in
-    given_lines text (h.done ++ r.part) after lines consumed (h.lines ∙ sym (whole_lines-plain h.done r.part h.whole r.takes.plain))
+pub lines_at_fault : (text : List ℕ) (first now after : SourceTold) (old new : Reading) (lines : List (List ℕ))
+    → first.left ≡ Some text → HasReadLines first now old lines → ReadsPart old new now after → AreGivenLines text after.left lines
+lines_at_fault text first now after old new lines told h r =
+    let consumed : Consumes (Some text) after.left (h.done ++ r.part) = of_text text first after (h.done ++ r.part) told
+    (subst (λ (bytes : List ℕ). Gives first after bytes) (ap (λ rest. (h.done ++ r.part) ++ rest) r.none_pending ∙ append-nil (h.done ++ r.part))
+    (passed first now after h.done old.pending r.takes.more r.part new.pending h.gives r.takes.gives r.takes.bytes)) in
+    given_lines text (h.done ++ r.part) after.left lines consumed (h.lines ∙ sym (whole_lines-plain h.done r.part h.whole r.takes.plain))
     (omega (arith, length-append h.done r.part, h.taken, r.taken, r.within))

@@ -1,13 +1,14 @@
 -- What one step of a reader of lines does, by its answer.
-use Rattle.std.specs.Prelude.{◌≡◌, ◌≢◌, ℕ, ◌+◌, ◌<◌, ◌≤◌, List, [], ◌∷◌, ◌++◌, length, take, slice_index, All, Option, Bool, true, false}
-use Rattle.std.specs.Io.KnownBytes.{Consumes, IsAtEnd}
+use Rattle.std.specs.Prelude.{◌≡◌, ◌≢◌, ℕ, ◌+◌, ◌<◌, ◌≤◌, List, [], ◌∷◌, ◌++◌, length, take, slice_index, All, Bool, true, false}
+use Rattle.std.specs.Io.KnownBytes.{IsAtEnd}
 use Rattle.daq_io.specs.Counts.{Rose}
-use Rattle.odb_script.specs.Lines.{Reading, ReadsLine, ReadsLast, ReadsNone, ReadsTooMuch, ReadsPart, script_limit}
+use Rattle.daq_io.specs.Told.{SourceTold}
+use Rattle.odb_script.specs.Lines.{Gives, Reading, ReadsLine, ReadsLast, ReadsNone, ReadsTooMuch, ReadsPart, script_limit}
 use Rattle.odb_script.specs.declared.reading.NextLine.{NextLine}
 use Rattle.odb_script.specs.declared.reading.NextLine.TheVariants.{Line, Last, End, TooLong, Fault}
 
 -- the step that this answer tells: for a line, there is a line that was read
-abbrev pub Advances : NextLine → Reading → Reading → Option (List ℕ) → Option (List ℕ) → Type 0
+abbrev pub Advances : NextLine → Reading → Reading → SourceTold → SourceTold → Type 0
 Advances Line old new before after = (line : List ℕ) × ReadsLine old new before after line
 Advances Last old new before after = (line : List ℕ) × ReadsLast old new before after line
 Advances End old new before after = ReadsNone old new before after
@@ -23,24 +24,24 @@ IsFaultBy TooLong old new = new ≡ old
 IsFaultBy Fault old new = Rose old new
 
 -- bytes were taken from the source where none were pending; no byte only at its end
-pub record IsFilledAgain (old new : Reading) (before after : Option (List ℕ)) (count : ℕ) : Type 0 where
-  pub consumed : Consumes before after new.pending
+pub record IsFilledAgain (old new : Reading) (before after : SourceTold) (count : ℕ) : Type 0 where
+  pub gives : Gives before after new.pending
   pub counted : length new.pending ≡ count
-  pub ended : count ≡ 0 → IsAtEnd after
+  pub ended : count ≡ 0 → IsAtEnd after.left
   pub line : new.line ≡ old.line
   pub taken : new.taken ≡ old.taken
 
 -- bytes are pending, behind those that were, or none are and the source is at its end
-pub record Refills (old new : Reading) (before after : Option (List ℕ)) : Type 0 where
+pub record Refills (old new : Reading) (before after : SourceTold) : Type 0 where
   pub more : List ℕ
-  pub consumed : Consumes before after more
+  pub gives : Gives before after more
   pub pending : old.pending ++ more ≡ new.pending
   pub line : new.line ≡ old.line
   pub taken : new.taken ≡ old.taken
 
-abbrev pub IsRefilled : Option (List ℕ) → Option (List ℕ) → Reading → Reading → Bool → Type 0
+abbrev pub IsRefilled : SourceTold → SourceTold → Reading → Reading → Bool → Type 0
 IsRefilled before after old new true = Refills old new before after × (0 < length new.pending)
-IsRefilled before after old new false = Refills old new before after × (new.pending ≡ []) × IsAtEnd after
+IsRefilled before after old new false = Refills old new before after × (new.pending ≡ []) × IsAtEnd after.left
 
 -- So many bytes stand before the end of a line, which is there or not, and so many with that end.
 pub record IsLinePart (bytes : List ℕ) (len passed : ℕ) (ended : Bool) : Type 0 where

@@ -1,7 +1,8 @@
 -- The lines of a script, and how they are read one at a time.
-use Rattle.std.specs.Prelude.{◌≡◌, ◌≢◌, ℕ, ◌+◌, ◌<◌, ◌≤◌, ◌==◌, nat_le, if◌then◌else◌, List, [], ◌∷◌, ◌++◌, length, take, map, All, Option}
+use Rattle.std.specs.Prelude.{◌≡◌, ◌≢◌, ℕ, ◌+◌, ◌<◌, ◌≤◌, ◌==◌, nat_le, if◌then◌else◌, List, [], ◌∷◌, ◌++◌, length, take, map, All}
 use Rattle.std.specs.Str.Lines.{strip_carriage_return}
 use Rattle.std.specs.Io.KnownBytes.{Consumes, IsAtEnd}
+use Rattle.daq_io.specs.Told.{SourceTold}
 
 -- The lines that have an end, each without it, behind a line so far.
 abbrev pub ended_lines : List ℕ → List ℕ → List (List ℕ)
@@ -53,15 +54,20 @@ pub record Reading : Type 0 where
 abbrev pub no_line_read : Reading
 no_line_read = record { line = []; pending = []; taken = 0 }
 
+-- The source gave these bytes: behind all that it gave before; and they were the first of those left, where it tells these.
+pub record Gives (before after : SourceTold) (bytes : List ℕ) : Type 0 where
+  pub gave : after.gave ≡ before.gave ++ bytes
+  pub consumed : Consumes before.left after.left bytes
+
 -- Some bytes are taken from the source, and those that are there then begin with a part of a line.
-pub record Takes (old : Reading) (before after : Option (List ℕ)) (part rest : List ℕ) : Type 0 where
+pub record Takes (old : Reading) (before after : SourceTold) (part rest : List ℕ) : Type 0 where
   pub more : List ℕ
-  pub consumed : Consumes before after more
+  pub gives : Gives before after more
   pub bytes : old.pending ++ more ≡ part ++ rest
   pub plain : All (λ b. b ≢ 10) part
 
 -- The next line was read, with its end.
-pub record ReadsLine (old new : Reading) (before after : Option (List ℕ)) (line : List ℕ) : Type 0 where
+pub record ReadsLine (old new : Reading) (before after : SourceTold) (line : List ℕ) : Type 0 where
   pub part : List ℕ
   pub takes : Takes old before after part (10 ∷ new.pending)
   pub stripped : line ≡ strip_carriage_return part
@@ -70,24 +76,24 @@ pub record ReadsLine (old new : Reading) (before after : Option (List ℕ)) (lin
   pub within : new.taken ≤ script_limit
 
 -- The last line was read, which has no end. Nothing is left.
-pub record ReadsLast (old new : Reading) (before after : Option (List ℕ)) (line : List ℕ) : Type 0 where
+pub record ReadsLast (old new : Reading) (before after : SourceTold) (line : List ℕ) : Type 0 where
   pub takes : Takes old before after line []
   pub some : 0 < length line
-  pub at_end : IsAtEnd after
+  pub at_end : IsAtEnd after.left
   pub none_pending : new.pending ≡ []
   pub keeps : new.line ≡ kept line
   pub taken : new.taken ≡ old.taken + length line
   pub within : new.taken ≤ script_limit
 
 -- Nothing was left to read.
-pub record ReadsNone (old new : Reading) (before after : Option (List ℕ)) : Type 0 where
+pub record ReadsNone (old new : Reading) (before after : SourceTold) : Type 0 where
   pub takes : Takes old before after [] []
-  pub at_end : IsAtEnd after
+  pub at_end : IsAtEnd after.left
   pub none_pending : new.pending ≡ []
   pub taken : new.taken ≡ old.taken
 
 -- The limit was reached within a line, and more bytes follow.
-pub record ReadsTooMuch (old new : Reading) (before after : Option (List ℕ)) : Type 0 where
+pub record ReadsTooMuch (old new : Reading) (before after : SourceTold) : Type 0 where
   pub part : List ℕ
   pub takes : Takes old before after part new.pending
   pub more : 0 < length new.pending
@@ -95,7 +101,7 @@ pub record ReadsTooMuch (old new : Reading) (before after : Option (List ℕ)) :
   pub limit : new.taken ≡ script_limit
 
 -- The source failed within a line: each byte that it gave was passed, and no line ended among those behind the last line.
-pub record ReadsPart (old new : Reading) (before after : Option (List ℕ)) : Type 0 where
+pub record ReadsPart (old new : Reading) (before after : SourceTold) : Type 0 where
   pub part : List ℕ
   pub takes : Takes old before after part new.pending
   pub none_pending : new.pending ≡ []

@@ -124,11 +124,12 @@ impl LineReader {
     /// Takes a block from the source, where none is left of the last.
     fn fill<S: Source>(&mut self, source: &mut S) -> Result<usize, Failed>
         requires { self.old.pending ≡ [] }
-        ensures filled { IfOk result (IsFilledAgain self.old self.new (S.left source.old)
-            (S.left source.new)) }
+        ensures filled { IfOk result (IsFilledAgain self.old self.new (S.told source.old)
+            (S.told source.new)) }
         ensures same { OnErr result (self.new ≡ self.old) }
-        ensures kept { OnErr result (Keeps (S.left source.old) (S.left source.new)) }
-        ensures faults { CountsFault (S.faults source.old) (S.faults source.new) result }
+        ensures kept { OnErr result (Keeps (S.told source.old).left (S.told source.new).left) }
+        ensures gave { OnErr result ((S.told source.new).gave ≡ (S.told source.old).gave) }
+        ensures faults { CountsFault (S.told source.old).faults (S.told source.new).faults result }
     {
         self.at = 0;
         self.filled = 0;
@@ -147,12 +148,13 @@ impl LineReader {
 
     /// Sees to it that bytes are pending, and tells whether there are any.
     fn refill<S: Source>(&mut self, source: &mut S) -> Result<bool, Failed>
-        ensures refilled { IfOk result (IsRefilled (S.left source.old) (S.left source.new)
+        ensures refilled { IfOk result (IsRefilled (S.told source.old) (S.told source.new)
             self.old self.new) }
         ensures same { OnErr result (self.new ≡ self.old) }
         ensures drained { OnErr result (self.old.pending ≡ []) }
-        ensures kept { OnErr result (Keeps (S.left source.old) (S.left source.new)) }
-        ensures faults { CountsFault (S.faults source.old) (S.faults source.new) result }
+        ensures kept { OnErr result (Keeps (S.told source.old).left (S.told source.new).left) }
+        ensures gave { OnErr result ((S.told source.new).gave ≡ (S.told source.old).gave) }
+        ensures faults { CountsFault (S.told source.old).faults (S.told source.new).faults result }
     {
         if !self.is_drained() {
             return Ok(true);
@@ -216,10 +218,9 @@ impl LineReader {
 
     /// Reads the next line.
     pub fn advance<S: Source>(&mut self, source: &mut S) -> NextLine
-        ensures advances { Advances result self.old self.new (S.left source.old)
-            (S.left source.new) }
+        ensures advances { Advances result self.old self.new (S.told source.old) (S.told source.new) }
         // Only `Fault` is a failure of the source, which counts it.
-        ensures faults { IsFaultBy result (S.faults source.old) (S.faults source.new) }
+        ensures faults { IsFaultBy result (S.told source.old).faults (S.told source.new).faults }
     {
         self.begin_line();
         'line: loop {

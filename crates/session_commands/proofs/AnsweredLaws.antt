@@ -1,6 +1,7 @@
 -- A script for which memory was not wanting: each of its lines was answered, and so was what is done behind them.
 use Rattle.std.proofs.Common.{◌≡◌, ◌≢◌, ℕ, List, Option, Some, None, refl, ap, sym, ◌∙◌, subst}
 use Rattle.std.proofs.Math.Logic.{⊎_elim}
+use Rattle.daq_io.specs.Told.{SourceTold}
 use Rattle.odb_script.specs.declared.commands.Command.{Command}
 use Rattle.odb_script.specs.Forms.{Read}
 use Rattle.console.specs.declared.replies.Reply.{Reply}
@@ -15,13 +16,13 @@ use Rattle.console.specs.Playing.{CutBy}
 use Rattle.console.specs.Closing.{ClosesBy, Finished, GaveUp, IsClosed, ended_by}
 use Rattle.console.proofs.KeepingLaws.{plays_keep}
 
-not_cut : (ending : Ending) (closing : Option Halt) (source : Option (List ℕ)) (lines : List (List ℕ)) (old new : SessionStage) → ended_by ending closing ≢ Halted NoMemory → CutBy DoesScriptLine BreaksScriptLine ending source lines old new → new ≡ old
-not_cut End closing source lines old new found cut = cut
-not_cut TooLong closing source lines old new found cut = cut
-not_cut SourceFault closing source lines old new found cut = cut
-not_cut (Halted SinkFault) closing source lines old new found cut = cut
-not_cut (Halted NoMemory) None source lines old new found cut = absurd (found refl)
-not_cut (Halted NoMemory) (Some halt) source lines old new found cut = absurd (found refl)
+not_cut : (ending : Ending) (closing : Option Halt) (source left : SourceTold) (lines : List (List ℕ)) (old new : SessionStage) → ended_by ending closing ≢ Halted NoMemory → CutBy DoesScriptLine BreaksScriptLine ending source left lines old new → new ≡ old
+not_cut End closing source left lines old new found cut = cut
+not_cut TooLong closing source left lines old new found cut = cut
+not_cut SourceFault closing source left lines old new found cut = cut
+not_cut (Halted SinkFault) closing source left lines old new found cut = cut
+not_cut (Halted NoMemory) None source left lines old new found cut = absurd (found refl)
+not_cut (Halted NoMemory) (Some halt) source left lines old new found cut = absurd (found refl)
 
 -- a script behind whose lines memory was wanting ends for want of it
 wanting_behind : (ending : Ending) → ended_by ending (Some NoMemory) ≡ Halted NoMemory
@@ -41,11 +42,11 @@ is_closed ending closing behind old new found by = ⊎_elim
 pub answered_keeps : (Kept : SessionStage → Type 0)
     → ((number : ℕ) → (line : Read Command) → (old new : SessionStage) → (reply : Reply) → DoesScriptLine number line old reply new → Kept old → Kept new)
     → ((old new : SessionStage) → (reply : Option Reply) → ClosesScript old reply new → Kept old → Kept new)
-    → (first final : SessionStage) (ending : Ending) (closing : Option Halt) (source left told_first told : Option (List ℕ)) (refusals : Refusals)
+    → (first final : SessionStage) (ending : Ending) (closing : Option Halt) (source left : SourceTold) (told_first told : Option (List ℕ)) (refusals : Refusals)
     → Finished DoesScriptLine BreaksScriptLine ClosesScript GivesUp first ending closing source left told_first told final refusals
     → ended_by ending closing ≢ Halted NoMemory → Kept first → Kept final
 answered_keeps Kept each behind first final ending closing source left told_first told refusals finished found kept =
     let closed = is_closed ending closing finished.behind finished.cut final found finished.closed in
     behind finished.cut final closed.reply closed.closed
-    (subst Kept (sym (not_cut ending closing source finished.lines finished.between finished.cut found finished.is_cut))
+    (subst Kept (sym (not_cut ending closing source left finished.lines finished.between finished.cut found finished.is_cut))
     (plays_keep DoesScriptLine BreaksScriptLine ClosesScript GivesUp Kept each 1 finished.lines finished.replies first finished.between finished.plays kept))

@@ -1,4 +1,5 @@
 -- Each fault and each clash of the files of the dumps that came of a line was counted.
+use Rattle.daq_io.specs.Told.{FilesTold, SourceTold}
 use Rattle.std.proofs.Common.{◌≡◌, ℕ, List, [], Option, Some, None, refl, sym, subst, arith}
 use Rattle.std.specs.Prelude.{◌++◌, Bool, cond, count_by}
 use Rattle.std.proofs.lemmas.List.Sums.{sum_by-append}
@@ -7,7 +8,6 @@ use Rattle.daq_io.proofs.Counts.{RoseBy-then}
 use Rattle.odb_commands.specs.declared.dump_replies.FileReply.{FileReply}
 use Rattle.odb_commands.specs.declared.dump_replies.FileReply.TheVariants as file
 use Rattle.odb_commands.specs.WatchCalls.{ClashesIf, FaultsIf}
-use Rattle.console.specs.DatabaseStages.{DumpFiles}
 use Rattle.console.specs.DatabaseLines.{file_replied}
 use Rattle.session_lines.specs.Stages.{SessionStage}
 use Rattle.session_lines.specs.ScriptLines.{BreaksScriptLine, ClosesScript, DoesScriptLine, GivesUp}
@@ -44,32 +44,32 @@ counted_more passes replies came first old new before rose =
     (RoseBy-then (count_by passes replies) (count_by passes came) first old new before rose)
 
 -- what came of the lines so far, where the files were so at first
-abbrev Counted : (first : DumpFiles) → List (ℕ × FileReply) → DumpFiles → Type 0
+abbrev Counted : (first : FilesTold) → List (ℕ × FileReply) → FilesTold → Type 0
 Counted first replies files = OneReply replies first files
 
-line_counts : (first : DumpFiles) → KeptByLine (Counted first)
+line_counts : (first : FilesTold) → KeptByLine (Counted first)
 line_counts first came number replies old new faults clashes kept = record {
   faults = counted_more is_fault replies (file_replied number came) first.faults old.faults new.faults kept.faults (fault_counted came number old.faults new.faults faults);
   clashes = counted_more is_clash replies (file_replied number came) first.clashes old.clashes new.clashes kept.clashes (clash_counted came number old.clashes new.clashes clashes);
 }
 
-cut_counts : (first : DumpFiles) → KeptByCut (Counted first)
+cut_counts : (first : FilesTold) → KeptByCut (Counted first)
 cut_counts first replies old new still same kept = record {
   faults = subst (λ (n : ℕ). RoseBy (count_by is_fault replies) first.faults n) (sym still) kept.faults;
   clashes = subst (λ (n : ℕ). RoseBy (count_by is_clash replies) first.clashes n) (sym same) kept.clashes;
 }
 
 -- nothing came of no line
-pub none_counted : (files : DumpFiles) → OneReply [] files files
+pub none_counted : (files : FilesTold) → OneReply [] files files
 none_counted files = record { faults = same_rose files.faults files.faults refl; clashes = same_rose files.clashes files.clashes refl }
 
 -- So it is behind a whole script, however it ended.
-pub script_counted : (first final : SessionStage) (ending : Ending) (closing : Option Halt) (source left told_first told : Option (List ℕ)) (refusals : Refusals)
+pub script_counted : (first final : SessionStage) (ending : Ending) (closing : Option Halt) (source left : SourceTold) (told_first told : Option (List ℕ)) (refusals : Refusals)
     → Finished DoesScriptLine BreaksScriptLine ClosesScript GivesUp first ending closing source left told_first told final refusals
     → first.database.replies ≡ [] → OneReply final.database.replies first.database.files final.database.files
 script_counted first final ending closing source left told_first told refusals finished none =
-    let files : DumpFiles = first.database.files in
+    let files : FilesTold = first.database.files in
     let began : FilesKept (Counted files) first = subst (λ (came : List (ℕ × FileReply)). OneReply came files files) (sym none) (none_counted files) in
     closing_keeps DoesScriptLine BreaksScriptLine ClosesScript GivesUp (FilesKept (Counted files)) (closed_kept (Counted files)) (given_up_kept (Counted files)) closing finished.behind finished.cut final finished.closed
-    (cut_keeps DoesScriptLine BreaksScriptLine ClosesScript GivesUp (FilesKept (Counted files)) (break_kept (Counted files) (cut_counts files)) ending source finished.lines finished.between finished.cut finished.is_cut
+    (cut_keeps DoesScriptLine BreaksScriptLine ClosesScript GivesUp (FilesKept (Counted files)) (break_kept (Counted files) (cut_counts files)) ending source left finished.lines finished.between finished.cut finished.is_cut
     (plays_keep DoesScriptLine BreaksScriptLine ClosesScript GivesUp (FilesKept (Counted files)) (line_kept (Counted files) (line_counts files)) 1 finished.lines finished.replies first finished.between finished.plays began))

@@ -1,4 +1,5 @@
 -- The faults of the files of the dumps against what came of the lines that called them.
+use Rattle.daq_io.specs.Told.{FilesTold, SourceTold}
 use Rattle.std.proofs.Common.{◌≡◌, ◌≢◌, ℕ, List, [], Option, Some, None, true, false, refl, ap, sym, ◌∙◌, subst, arith}
 use Rattle.std.specs.Prelude.{Bool, ◌||◌}
 use Rattle.std.specs.List.{list_any}
@@ -8,7 +9,6 @@ use Rattle.odb_commands.specs.declared.dump_replies.FileReply.{FileReply}
 use Rattle.odb_commands.specs.declared.dump_replies.FileReply.TheVariants as file
 use Rattle.odb_commands.specs.WatchCalls.{FaultsIf}
 use Rattle.console.specs.declared.refusals.Refusals.{Refusals}
-use Rattle.console.specs.DatabaseStages.{DumpFiles}
 use Rattle.console.specs.DatabaseLines.{file_replied}
 use Rattle.session_lines.specs.Stages.{SessionStage}
 use Rattle.session_lines.specs.ScriptLines.{BreaksScriptLine, ClosesScript, DoesScriptLine, GivesUp}
@@ -27,7 +27,7 @@ Tells true old new = Rose old new
 Tells false old new = new ≡ old
 
 -- So it is of what came of the lines so far.
-abbrev Told : (first : ℕ) → List (ℕ × FileReply) → DumpFiles → Type 0
+abbrev Told : (first : ℕ) → List (ℕ × FileReply) → FilesTold → Type 0
 Told first came files = Tells (list_any is_fault came) first files.faults
 
 stays_told : (any : Bool) (first old new : ℕ) → new ≡ old → Tells any first old → Tells any first new
@@ -63,7 +63,7 @@ notes_told true old new rose = rose
 notes_told false old new same = omega (arith, same)
 
 -- Where the files are asked behind a whole script, what came of its lines tells whether their count rose.
-pub script_told : (first final : SessionStage) (ending : Ending) (closing : Option Halt) (source left told_first told : Option (List ℕ)) (refusals : Refusals)
+pub script_told : (first final : SessionStage) (ending : Ending) (closing : Option Halt) (source left : SourceTold) (told_first told : Option (List ℕ)) (refusals : Refusals)
     → Finished DoesScriptLine BreaksScriptLine ClosesScript GivesUp first ending closing source left told_first told final refusals
     → first.database.replies ≡ [] → asks_files (ended_by ending closing) ≡ true
     → NotesFailed (list_any is_fault final.database.replies) first.database.files.faults final.database.files.faults

@@ -1,5 +1,6 @@
 -- What the lines of a script keep of the files of the dumps and of what came of the lines that called them, by one walk over the
 -- lines: it is kept by a line that called the files or did not, and maybe where memory ended in one.
+use Rattle.daq_io.specs.Told.{FilesTold}
 use Rattle.std.proofs.Common.{◌≡◌, ℕ, List, Option, Some, None, ap, sym, ◌∙◌, subst}
 use Rattle.std.specs.Prelude.{◌++◌}
 use Rattle.std.proofs.Math.Logic.{⊎_elim}
@@ -12,29 +13,29 @@ use Rattle.odb_script.specs.Forms.{Read}
 use Rattle.console.specs.declared.replies.Reply.{Reply}
 use Rattle.session_runs.specs.declared.replies.RunReply.{RunReply}
 use Rattle.session_runs.specs.KeptRuns.{RunsSeen}
-use Rattle.console.specs.DatabaseStages.{DatabaseStage, DumpFiles}
+use Rattle.console.specs.DatabaseStages.{DatabaseStage}
 use Rattle.console.specs.DatabaseLines.{BreaksDatabase, CutsDump, DoesDatabase, file_replied}
 use Rattle.session_lines.specs.Stages.{SessionStage}
 use Rattle.session_lines.specs.RunLines.{BreaksStart, BreaksStop, ClosesRun, CutsOpening, DoesPause, DoesResume, DoesStart, DoesStop, PausesBy, ResumesBy, RunsCommand, StartsBy, StopsBy}
 use Rattle.session_lines.specs.ScriptLines.{BreaksScriptLine, ClosesScript, DoesScriptLine, GivesUp}
 use Rattle.session_commands.proofs.LineKinds.{LineCut, CutsCalls, CutsStartLine, CutsStopLine, LineKind, CallsRows, Declares, IsPause, IsResume, IsStart, IsStill, IsStop, SetsQuota, line_cut, line_kind}
 
-module _ (Kept : List (ℕ × FileReply) → DumpFiles → Type 0) where
+module _ (Kept : List (ℕ × FileReply) → FilesTold → Type 0) where
   -- what came so far of the lines, and what the files count
   abbrev pub FilesKept : SessionStage → Type 0
   FilesKept s = Kept s.database.replies s.database.files
 
   -- a line keeps it that called the files, with what came of that, or did not
   abbrev pub KeptByLine : Type 0
-  KeptByLine = (came : Option FileReply) → (number : ℕ) → (replies : List (ℕ × FileReply)) → (old new : DumpFiles) → FaultsIf came old.faults new.faults → ClashesIf came old.clashes new.clashes → Kept replies old
+  KeptByLine = (came : Option FileReply) → (number : ℕ) → (replies : List (ℕ × FileReply)) → (old new : FilesTold) → FaultsIf came old.faults new.faults → ClashesIf came old.clashes new.clashes → Kept replies old
       → Kept (replies ++ file_replied number came) new
 
   -- and it is kept where memory ended in one
   abbrev pub KeptByCut : Type 0
-  KeptByCut = (replies : List (ℕ × FileReply)) → (old new : DumpFiles) → new.faults ≡ old.faults → new.clashes ≡ old.clashes → Kept replies old → Kept replies new
+  KeptByCut = (replies : List (ℕ × FileReply)) → (old new : FilesTold) → new.faults ≡ old.faults → new.clashes ≡ old.clashes → Kept replies old → Kept replies new
 
   same_kept : (old new : DatabaseStage) → new.files ≡ old.files → new.replies ≡ old.replies → Kept old.replies old.files → Kept new.replies new.files
-  same_kept old new files replies kept = subst (λ (came : List (ℕ × FileReply)). Kept came new.files) (sym replies) (subst (λ (f : DumpFiles). Kept old.replies f) (sym files) kept)
+  same_kept old new files replies kept = subst (λ (came : List (ℕ × FileReply)). Kept came new.files) (sym replies) (subst (λ (f : FilesTold). Kept old.replies f) (sym files) kept)
 
   -- Commands of runs, which call no file.
 

@@ -7,6 +7,7 @@ pub mod AnsweredLaws
 pub mod SpareLines
 pub mod StageLaws
 pub mod DumpLaws
+pub mod WholeSaves
 pub mod FilesWalk
 pub mod FaultLaws
 pub mod CountLaws

@@ -1,4 +1,5 @@
 -- The lines of an open session, by what its commands of runs do.
+use Rattle.daq_io.specs.Told.{AheadTold}
 use Rattle.std.proofs.Common.{◌≡◌, ℕ, Option, Some, None, true, refl, sym, subst, ap, ◌∙◌}
 use Rattle.std.specs.Prelude.{Result, Ok, Err, ◌⊎◌, IfOk, OnErr, is_some}
 use Rattle.std.proofs.Math.Logic.{⊎_elim}
@@ -15,7 +16,7 @@ use Rattle.session_runs.specs.declared.on.CurrentRun.{CurrentRun}
 use Rattle.session_runs.specs.declared.replies.RunReply.{RunReply}
 use Rattle.session_runs.specs.declared.replies.RunReply.TheVariants as answer
 use Rattle.session_runs.specs.KeptRuns.{RunsSeen}
-use Rattle.session_runs.specs.RunAnswers.{AnswersPause, AnswersResume, AnswersStart, AnswersStop, ClockTold, CommandPoint, CutsStart, StopsUnsaved}
+use Rattle.session_runs.specs.RunAnswers.{AnswersPause, AnswersResume, AnswersStart, AnswersStop, CommandPoint, CutsStart, StopsUnsaved}
 use Rattle.console.specs.DatabaseStages.{DatabaseStage}
 use Rattle.session_lines.specs.NothingSaid.{NothingSaid, own_point}
 use Rattle.session_lines.specs.Keeping.{KeptByCommand}
@@ -37,10 +38,10 @@ pub some_on : (on : Option CurrentRun) → is_some on ≡ true → (run : Curren
 some_on (Some run) is = (run, refl)
 some_on None is = absurd (cc is)
 
-pub cut_runs : {M : Type 0} (before after : ClockTold) (old new : CommandPoint M) → CutsStart before after old new → new.runs ≡ old.runs
+pub cut_runs : {M : Type 0} (before after : AheadTold) (old new : CommandPoint M) → CutsStart before after old new → new.runs ≡ old.runs
 cut_runs before after old new c = ⊎_elim (λ cut. cut.1.runs) (λ cut. cut.3.runs ∙ cut.2.runs) c.cut
 
-module _ (d : Declared) (db : DatabaseStage) (a : DatabaseAccess) (k l : ClockTold) (runs later : RunsSeen) where
+module _ (d : Declared) (db : DatabaseStage) (a : DatabaseAccess) (k l : AheadTold) (runs later : RunsSeen) where
   abbrev old_stage : SessionStage
   old_stage = open_stage d db k runs
 
@@ -78,7 +79,7 @@ module _ (d : Declared) (db : DatabaseStage) (a : DatabaseAccess) (k l : ClockTo
       → BreaksScriptLine number line (open_stage d db k runs) (open_stage d (record db { access = a }) l later)
   stop_cut number line at cut quota = subst (λ (x : Read Command). BreaksScriptLine number x old_stage new_stage) (sym at) (stop_broken cut quota)
 
-module _ (d : Declared) (db : DatabaseStage) (a : DatabaseAccess) (k : ClockTold) (runs later : RunsSeen) where
+module _ (d : Declared) (db : DatabaseStage) (a : DatabaseAccess) (k : AheadTold) (runs later : RunsSeen) where
   pub pause_line : (number : ℕ) (line : Read Command) → line ≡ Ok (Run Pause) → (reply : Reply) (said : RunReply) → AnswersPause NothingSaid said (own_point runs db.access) (own_point later a) → reply ≡ reply_for later said → later.quota ≡ runs.quota
       → DoesScriptLine number line (open_stage d db k runs) reply (open_stage d (record db { access = a }) k later)
   pause_line number line at reply said does is quota = subst (λ (x : Read Command). DoesScriptLine number x (open_stage d db k runs) reply (open_stage d (record db { access = a }) k later)) (sym at)

@@ -1,4 +1,5 @@
 -- Behind a script no run is on.
+use Rattle.daq_io.specs.Told.{AheadTold, SourceTold}
 use Rattle.std.proofs.Common.{◌≡◌, ◌≢◌, ℕ, List, Option, Some, None, refl, ap, sym, ◌∙◌, subst}
 use Rattle.std.specs.Prelude.{Bool, true, false, if◌then◌else◌, Result, Ok, Err}
 use Rattle.std.proofs.Math.Logic.{⊎_elim}
@@ -15,7 +16,7 @@ use Rattle.session_runs.specs.declared.on.CurrentRun.{CurrentRun}
 use Rattle.session_runs.specs.declared.replies.RunReply.{RunReply}
 use Rattle.session_runs.specs.declared.replies.RunReply.TheVariants as answer
 use Rattle.session_runs.specs.KeptRuns.{IsInStep, RunsSeen}
-use Rattle.session_runs.specs.RunAnswers.{AnswersStop, ClockTold, CommandPoint, MakesStop}
+use Rattle.session_runs.specs.RunAnswers.{AnswersStop, CommandPoint, MakesStop}
 use Rattle.console.specs.declared.replies.Reply.{Reply}
 use Rattle.console.specs.declared.refusals.Refusals.{Refusals}
 use Rattle.session_lines.specs.declared.passed_over.PassedOver.{PassedOver}
@@ -31,7 +32,7 @@ use Rattle.session_commands.specs.Keeping.{EndsOver, KnowsRuns}
 same_some : (x y : RunsSeen) → Some x ≡ Some y → x ≡ y
 same_some x y is = cc is
 
-stopped_over : (r : CurrentRun) (saved : Result (List ℕ) NoMemory) (before after : ClockTold) (old new : CommandPoint PassedOver) → MakesStop NothingSaid r saved before after old new → new.runs.on ≡ None
+stopped_over : (r : CurrentRun) (saved : Result (List ℕ) NoMemory) (before after : AheadTold) (old new : CommandPoint PassedOver) → MakesStop NothingSaid r saved before after old new → new.runs.on ≡ None
 stopped_over r saved before after old new m = ap (λ (s : RunsSeen). s.on) m.kept
 
 -- where the state is not stopped a stop begins
@@ -60,7 +61,7 @@ never_refused why runs later run on same knows refused =
     let begins = stop_begins (known_from runs.main.own) here.free.open_yet here.free.none_going step.0 in
     cc (sym begins ∙ refused)
 
-answered_over : (reply : RunReply) (before after : ClockTold) (old new : CommandPoint PassedOver) (run : CurrentRun) → old.runs.on ≡ Some run → KnowsRuns new.runs
+answered_over : (reply : RunReply) (before after : AheadTold) (old new : CommandPoint PassedOver) (run : CurrentRun) → old.runs.on ≡ Some run → KnowsRuns new.runs
     → AnswersStop NothingSaid reply before after old new → new.runs.on ≡ None
 answered_over (answer.Stopped number) before after old new run on knows a = stopped_over a.0 (Ok a.2) before after old new a.3
 answered_over (answer.WrongState state) before after old new run on knows a = absurd (never_refused _ old.runs new.runs run on (ap (λ (p : CommandPoint PassedOver). p.runs) a.1) knows a.0)
@@ -95,7 +96,7 @@ gave_over (Some runs) old new broke = λ last is knows.
     broke.2
 
 -- A whole script.
-pub script_over : (first final : SessionStage) (ending : Ending) (closing : Option Halt) (source left told_first told : Option (List ℕ)) (refusals : Refusals)
+pub script_over : (first final : SessionStage) (ending : Ending) (closing : Option Halt) (source left : SourceTold) (told_first told : Option (List ℕ)) (refusals : Refusals)
     → Finished DoesScriptLine BreaksScriptLine ClosesScript GivesUp first ending closing source left told_first told final refusals → EndsOver final
 script_over first final ending closing source left told_first told refusals finished = ⊎_elim
     (λ (is : IsClosed ClosesScript GivesUp finished.behind finished.cut final). closed_over finished.cut.runs finished.cut is.reply final refl is.closed)

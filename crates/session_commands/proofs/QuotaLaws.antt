@@ -1,4 +1,5 @@
 -- The starts of a script are begun with the quotas that its lines ask for.
+use Rattle.daq_io.specs.Told.{AheadTold, SourceTold}
 use Rattle.std.proofs.Common.{◌≡◌, ℕ, zero, suc, ◌+◌, List, [], ◌∷◌, ◌++◌, Option, Some, None, refl, ap, sym, ◌∙◌, subst, append_assoc}
 use Rattle.std.specs.Prelude.{Bool, true, false, Result, Ok, Err, ⊤}
 use Rattle.std.specs.Option.{option_map}
@@ -33,7 +34,7 @@ use Rattle.session_runs.specs.declared.on.CurrentRun.{CurrentRun}
 use Rattle.session_runs.specs.declared.replies.RunReply.{RunReply}
 use Rattle.session_runs.specs.declared.replies.RunReply.TheVariants as answer
 use Rattle.session_runs.specs.KeptRuns.{RunsSeen, behind_start}
-use Rattle.session_runs.specs.RunAnswers.{AnswersPause, AnswersResume, AnswersStart, AnswersStop, BeginsRun, ClockTold, CommandPoint, MakesChange, MakesStart, MakesStop}
+use Rattle.session_runs.specs.RunAnswers.{AnswersPause, AnswersResume, AnswersStart, AnswersStop, BeginsRun, CommandPoint, MakesChange, MakesStart, MakesStop}
 use Rattle.console.specs.DatabaseLines.{DoesDatabase}
 use Rattle.session_lines.specs.declared.passed_over.PassedOver.{PassedOver}
 use Rattle.session_lines.specs.NothingSaid.{NothingSaid, own_point}
@@ -96,17 +97,17 @@ start_quota : (s : RunsSeen) (r : CurrentRun) (outcome : StartOutcome) → (behi
 start_quota s r Completed = refl
 start_quota s r (Refused client why) = refl
 
-begins_asks : (run : ℕ) (outcome : StartOutcome) (before after : ClockTold) (old new : CommandPoint PassedOver) → BeginsRun NothingSaid run outcome before after old new → Asks old.runs new.runs (old.runs.quota ∷ [])
+begins_asks : (run : ℕ) (outcome : StartOutcome) (before after : AheadTold) (old new : CommandPoint PassedOver) → BeginsRun NothingSaid run outcome before after old new → Asks old.runs new.runs (old.runs.quota ∷ [])
 begins_asks run outcome before after old new b = record {
   quota = ap (λ (s : RunsSeen). s.quota) b.kept ∙ start_quota old.runs _ outcome;
   begun = made_quotas start_of_run _ b.start outcome b.tallies b.drives.rounds old.runs.main.own new.runs.main.own b.drives.calls;
 }
 
-makes_asks : (run : ℕ) (outcome : StartOutcome) (before after : ClockTold) (old new : CommandPoint PassedOver) → MakesStart NothingSaid run outcome before after old new → Asks old.runs new.runs (old.runs.quota ∷ [])
+makes_asks : (run : ℕ) (outcome : StartOutcome) (before after : AheadTold) (old new : CommandPoint PassedOver) → MakesStart NothingSaid run outcome before after old new → Asks old.runs new.runs (old.runs.quota ∷ [])
 makes_asks run outcome before after old new m =
     subst (λ (s : RunsSeen). Asks s new.runs (s.quota ∷ [])) m.1.runs (begins_asks run outcome before after m.0 new m.2)
 
-start_asks : (said : RunReply) (before after : ClockTold) (old new : CommandPoint PassedOver) → AnswersStart NothingSaid said before after old new → Asks old.runs new.runs (asked_by said old.runs.quota)
+start_asks : (said : RunReply) (before after : AheadTold) (old new : CommandPoint PassedOver) → AnswersStart NothingSaid said before after old new → Asks old.runs new.runs (asked_by said old.runs.quota)
 start_asks (answer.Started run) before after old new a = makes_asks run Completed before after old new a
 start_asks (answer.StartRefused client why) before after old new a = makes_asks a.0 (Refused client why) before after old new a.1
 start_asks (answer.RunNumber have) before after old new a = same_asks old.runs new.runs a.0.runs
@@ -116,13 +117,13 @@ start_asks (answer.Paused run) before after old new a = absurd a.0
 start_asks (answer.Resumed run) before after old new a = absurd a.0
 start_asks (answer.Stopped run) before after old new a = absurd a.0
 
-stopped_asks : (r : CurrentRun) (saved : Result (List ℕ) NoMemory) (before after : ClockTold) (old new : CommandPoint PassedOver) → MakesStop NothingSaid r saved before after old new → Asks old.runs new.runs []
+stopped_asks : (r : CurrentRun) (saved : Result (List ℕ) NoMemory) (before after : AheadTold) (old new : CommandPoint PassedOver) → MakesStop NothingSaid r saved before after old new → Asks old.runs new.runs []
 stopped_asks r saved before after old new m = record {
   quota = ap (λ (s : RunsSeen). s.quota) m.kept;
   begun = made_quotas stop_of_run _ r.start Completed m.tallies m.drives.rounds old.runs.main.own new.runs.main.own m.drives.calls;
 }
 
-stop_asks : (said : RunReply) (before after : ClockTold) (old new : CommandPoint PassedOver) → AnswersStop NothingSaid said before after old new → Asks old.runs new.runs (asked_by said old.runs.quota)
+stop_asks : (said : RunReply) (before after : AheadTold) (old new : CommandPoint PassedOver) → AnswersStop NothingSaid said before after old new → Asks old.runs new.runs (asked_by said old.runs.quota)
 stop_asks (answer.Stopped run) before after old new a = stopped_asks a.0 (Ok a.2) before after old new a.3
 stop_asks (answer.WrongState state) before after old new a = same_asks old.runs new.runs (ap (λ (p : CommandPoint PassedOver). p.runs) a.1)
 stop_asks answer.LastStart before after old new a = same_asks old.runs new.runs (ap (λ (p : CommandPoint PassedOver). p.runs) a.1)
@@ -367,7 +368,7 @@ cut_same old new (CutsStopLine broke) = stop_cut old.runs old new refl broke
 cut_same old new (CutsCalls command broke same) = ap (λ (s : SessionStage). quotas_so_far s.runs) same
 
 -- a stop begins no start
-stop_answers : (said : RunReply) (before after : ClockTold) (old new : CommandPoint PassedOver) → AnswersStop NothingSaid said before after old new → asked_by said old.runs.quota ≡ []
+stop_answers : (said : RunReply) (before after : AheadTold) (old new : CommandPoint PassedOver) → AnswersStop NothingSaid said before after old new → asked_by said old.runs.quota ≡ []
 stop_answers (answer.Stopped run) before after old new a = refl
 stop_answers (answer.WrongState state) before after old new a = refl
 stop_answers answer.LastStart before after old new a = refl
@@ -391,7 +392,7 @@ abbrev HaveBegun : (asked : List ℕ) → SessionStage → Type 0
 HaveBegun asked s = quotas_so_far s.runs ≡ asked
 
 -- A whole script, however it ended.
-pub script_asks : (first final : SessionStage) (ending : Ending) (closing : Option Halt) (source left told_first told : Option (List ℕ)) (refusals : Refusals)
+pub script_asks : (first final : SessionStage) (ending : Ending) (closing : Option Halt) (source left : SourceTold) (told_first told : Option (List ℕ)) (refusals : Refusals)
     → (finished : Finished DoesScriptLine BreaksScriptLine ClosesScript GivesUp first ending closing source left told_first told final refusals)
     → first.runs ≡ None → quotas_so_far final.runs ≡ quotas_asked first.quota finished.lines finished.replies
 script_asks first final ending closing source left told_first told refusals finished none =
@@ -404,4 +405,4 @@ script_asks first final ending closing source left told_first told refusals fini
     (λ old new gave kept. stop_cut old.runs old new refl gave.1 ∙ kept)
     closing finished.behind finished.cut final finished.closed
     (cut_keeps DoesScriptLine BreaksScriptLine ClosesScript GivesUp (HaveBegun asked) (λ number line old new broke kept. cut_same old new (line_cut number line old new broke) ∙ kept)
-    ending source finished.lines finished.between finished.cut finished.is_cut played)
+    ending source left finished.lines finished.between finished.cut finished.is_cut played)

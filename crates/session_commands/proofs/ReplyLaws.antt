@@ -1,4 +1,5 @@
 -- The replies to the commands of runs.
+use Rattle.daq_io.specs.Told.{AheadTold}
 use Rattle.std.proofs.Common.{◌≡◌, ◌≢◌, ◌<◌, ◌≤◌, ◌-◌, ℕ, ◌+◌, List, ◌∷◌, ◌++◌, length, get_or, arith, ap, sym, subst, ◌∙◌}
 use Rattle.std.specs.Prelude.{slice_get}
 use Rattle.std.specs.Option.{unwrap_or}
@@ -8,7 +9,7 @@ use Rattle.mid_logger.specs.ChannelTurns.{logger_name}
 use Rattle.session_lines.specs.RunLines.{member_name}
 use Rattle.session_runs.specs.declared.replies.RunReply.{RunReply}
 use Rattle.session_runs.specs.declared.replies.RunReply.TheVariants.{Stopped}
-use Rattle.session_runs.specs.RunAnswers.{AnswersPause, AnswersResume, AnswersStart, ClockTold, CommandPoint}
+use Rattle.session_runs.specs.RunAnswers.{AnswersPause, AnswersResume, AnswersStart, CommandPoint}
 
 -- The name of a front-end, and of a client behind them.
 
@@ -30,7 +31,7 @@ later_name fronts analyzers client most =
 -- No command but a stop stops a run.
 
 module _ {M : Type 0} (round : M → M → Type 0) where
-  pub start_plain : (answer : RunReply) (before after : ClockTold) (old new : CommandPoint M) → AnswersStart round answer before after old new → (run : ℕ) → answer ≢ Stopped run
+  pub start_plain : (answer : RunReply) (before after : AheadTold) (old new : CommandPoint M) → AnswersStart round answer before after old new → (run : ℕ) → answer ≢ Stopped run
   start_plain answer before after old new does run is = (subst (λ (a : RunReply). AnswersStart round a before after old new) is does).0
 
   pub pause_plain : (answer : RunReply) (old new : CommandPoint M) → AnswersPause round answer old new → (run : ℕ) → answer ≢ Stopped run

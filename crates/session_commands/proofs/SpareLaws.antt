@@ -1,4 +1,5 @@
 -- Calls that remove nothing of `/Runinfo`, so that the run number is always there.
+use Rattle.daq_io.specs.Told.{AheadTold}
 use Rattle.std.proofs.Common.{◌≡◌, ℕ, List, [], ◌∷◌, ◌++◌, refl, ap, sym, subst}
 use Rattle.std.specs.Prelude.{Result, Ok, Err}
 use Rattle.std.proofs.Math.Logic.{⊎_elim}
@@ -26,7 +27,7 @@ use Rattle.odb_commands.specs.WatchCalls.{BreaksOffCalls, without_memory}
 use Rattle.odb_commands.specs.WatchPerforms.{PerformsWatch}
 use Rattle.odb_commands.specs.WatchSpares.{SparesWatched}
 use Rattle.console.specs.declared.replies.Reply.{Reply}
-use Rattle.session_runs.specs.RunAnswers.{ClockTold, CommandPoint, CutsBegin, CutsStart}
+use Rattle.session_runs.specs.RunAnswers.{CommandPoint, CutsBegin, CutsStart}
 use Rattle.session_runs.specs.RunEntries.{BeginCalls, StopCalls, outcome_sets}
 use Rattle.console.specs.DatabaseStages.{DatabaseStage}
 use Rattle.console.specs.DatabaseLines.{BreaksDatabase, CutsDump, DoesDatabase}
@@ -144,13 +145,13 @@ stop_spares laws state time saved entries s = subst AllSpare (sym s.are)
     (all_both SparesWatched s.first (row_calls s.sets) (saved_behind laws (stop_sets state time) s.announces.sets saved s.first s.announces.are_sets s.announces.are)
     (sets_spare laws (state_set Stopped) s.sets s.are_sets))
 
-begun_on : SpareLaws → (run : ℕ) (before after : ClockTold) (old new : CommandPoint PassedOver) → CutsBegin run before after old new → SparesOn old.database new.database
+begun_on : SpareLaws → (run : ℕ) (before after : AheadTold) (old new : CommandPoint PassedOver) → CutsBegin run before after old new → SparesOn old.database new.database
 begun_on laws run before after old new cut = ⊎_elim
     (λ same. same_on old.database new.database same.1)
     (λ made. entries_on laws old.database new.database made.1 made.4 (saved_behind laws (start_sets run made.0) made.3.sets (Err (record {})) made.1 made.3.are_sets made.3.are))
     cut.calls
 
-pub cut_on : SpareLaws → (before after : ClockTold) (old new : CommandPoint PassedOver) → CutsStart before after old new → SparesOn old.database new.database
+pub cut_on : SpareLaws → (before after : AheadTold) (old new : CommandPoint PassedOver) → CutsStart before after old new → SparesOn old.database new.database
 cut_on laws before after old new c = ⊎_elim
     (λ cut. may_on laws old.database new.database _ cut.1.called tt)
     (λ cut. later_on old.database cut.1.database new.database

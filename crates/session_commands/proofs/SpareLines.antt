@@ -1,6 +1,7 @@
 -- No line of a script removes anything of `/Runinfo`, and each that is answered gets the text of the database where it asks for it.
 use Rattle.std.proofs.Common.{◌≡◌, ◌≢◌, ℕ, List, Option, Some, None, ap}
 use Rattle.std.proofs.Math.Logic.{⊎_elim}
+use Rattle.daq_io.specs.Told.{SourceTold}
 use Rattle.odb_script.specs.declared.commands.Command.{Command}
 use Rattle.odb_script.specs.declared.commands.DatabaseCommand.{DatabaseCommand}
 use Rattle.odb_script.specs.Forms.{Read}
@@ -74,7 +75,7 @@ kind_answered laws number line old reply new (IsPause does) = pause_line laws ol
 kind_answered laws number line old reply new (IsResume does) = resume_line laws old.runs old reply new does
 kind_answered laws number line old reply new (CallsRows command is does) = calls_line laws number command old reply new does
 
-line_answered : SpareLaws → (number : ℕ) (line : Read Command) (old new : SessionStage) (reply : Reply) → DoesScriptLine number line old reply new → AnsweredOn old.database.access new.database.access
+pub line_answered : SpareLaws → (number : ℕ) (line : Read Command) (old new : SessionStage) (reply : Reply) → DoesScriptLine number line old reply new → AnsweredOn old.database.access new.database.access
 line_answered laws number line old new reply does = kind_answered laws number line old reply new (line_kind number line old reply new does)
 
 -- Where memory ended.
@@ -89,41 +90,41 @@ start_breaks laws None old new broke = ⊎_elim
     broke
 start_breaks laws (Some runs) old new broke = cut_run_on laws runs old new broke
 
-stop_breaks : SpareLaws → (runs : Option RunsSeen) (old new : SessionStage) → BreaksStop runs old new → SparesOn old.database.access new.database.access
+pub stop_breaks : SpareLaws → (runs : Option RunsSeen) (old new : SessionStage) → BreaksStop runs old new → SparesOn old.database.access new.database.access
 stop_breaks laws None old new broke = absurd broke
 stop_breaks laws (Some runs) old new broke = ⊎_elim
     (λ stopped. (stop_moves laws NothingSaid (answer.Stopped stopped.0) old.clock new.clock (own_point runs old.database.access) (own_point broke.0 new.database.access) stopped.1).database.spares)
     (λ unsaved. (unsaved_moves laws NothingSaid old.clock new.clock (own_point runs old.database.access) (own_point broke.0 new.database.access) unsaved).spares)
     broke.2
 
-cut_spares : SpareLaws → (old new : SessionStage) → LineCut old new → StageSpares old → StageSpares new
-cut_spares laws old new (CutsStartLine broke) spares = moved old new (start_breaks laws old.runs old new broke) spares
-cut_spares laws old new (CutsStopLine broke) spares = moved old new (stop_breaks laws old.runs old new broke) spares
-cut_spares laws old new (CutsCalls command broke same) spares = moved old new (broken_on laws command old.database new.database broke) spares
+cut_spares : SpareLaws → (old new : SessionStage) → LineCut old new → SparesOn old.database.access new.database.access
+cut_spares laws old new (CutsStartLine broke) = start_breaks laws old.runs old new broke
+cut_spares laws old new (CutsStopLine broke) = stop_breaks laws old.runs old new broke
+cut_spares laws old new (CutsCalls command broke same) = broken_on laws command old.database new.database broke
 
-line_breaks : SpareLaws → (number : ℕ) (line : Read Command) (old new : SessionStage) → BreaksScriptLine number line old new → StageSpares old → StageSpares new
-line_breaks laws number line old new broke spares = cut_spares laws old new (line_cut number line old new broke) spares
+pub line_breaks : SpareLaws → (number : ℕ) (line : Read Command) (old new : SessionStage) → BreaksScriptLine number line old new → SparesOn old.database.access new.database.access
+line_breaks laws number line old new broke = cut_spares laws old new (line_cut number line old new broke)
 
 -- Behind all lines.
 
-run_closes : SpareLaws → (runs : Option RunsSeen) (old : SessionStage) (reply : Option Reply) (new : SessionStage) → ClosesRun runs old reply new → AnsweredOn old.database.access new.database.access
+pub run_closes : SpareLaws → (runs : Option RunsSeen) (old : SessionStage) (reply : Option Reply) (new : SessionStage) → ClosesRun runs old reply new → AnsweredOn old.database.access new.database.access
 run_closes laws None old reply new closed = same_stage old new closed.1
 run_closes laws (Some runs) old None new closed = same_stage old new closed.1
 run_closes laws (Some runs) old (Some reply) new closed = stop_line laws (Some runs) old reply new closed.1
 
 -- A whole script.
-pub script_spares : SpareLaws → (first final : SessionStage) (ending : Ending) (closing : Option Halt) (source left told_first told : Option (List ℕ)) (refusals : Refusals)
+pub script_spares : SpareLaws → (first final : SessionStage) (ending : Ending) (closing : Option Halt) (source left : SourceTold) (told_first told : Option (List ℕ)) (refusals : Refusals)
     → Finished DoesScriptLine BreaksScriptLine ClosesScript GivesUp first ending closing source left told_first told final refusals → StageSpares first → StageSpares final
 script_spares laws first final ending closing source left told_first told refusals finished spares =
     closing_keeps DoesScriptLine BreaksScriptLine ClosesScript GivesUp StageSpares
     (λ old new reply closed kept. moved old new (run_closes laws old.runs old reply new closed).spares kept)
     (λ old new gave kept. moved old new (stop_breaks laws old.runs old new gave.1) kept)
     closing finished.behind finished.cut final finished.closed
-    (cut_keeps DoesScriptLine BreaksScriptLine ClosesScript GivesUp StageSpares (line_breaks laws) ending source finished.lines finished.between finished.cut finished.is_cut
+    (cut_keeps DoesScriptLine BreaksScriptLine ClosesScript GivesUp StageSpares (λ number line old new broke kept. moved old new (line_breaks laws number line old new broke) kept) ending source left finished.lines finished.between finished.cut finished.is_cut
     (plays_keep DoesScriptLine BreaksScriptLine ClosesScript GivesUp StageSpares (λ number line old new reply does kept. moved old new (line_answered laws number line old new reply does).spares kept) 1 finished.lines finished.replies first finished.between finished.plays spares))
 
 -- One for which memory was not wanting.
-pub script_saved : SpareLaws → (first final : SessionStage) (ending : Ending) (closing : Option Halt) (source left told_first told : Option (List ℕ)) (refusals : Refusals)
+pub script_saved : SpareLaws → (first final : SessionStage) (ending : Ending) (closing : Option Halt) (source left : SourceTold) (told_first told : Option (List ℕ)) (refusals : Refusals)
     → Finished DoesScriptLine BreaksScriptLine ClosesScript GivesUp first ending closing source left told_first told final refusals
     → ended_by ending closing ≢ Halted NoMemory → StageSaved first → StageSaved final
 script_saved laws first final ending closing source left told_first told refusals finished found saved = answered_keeps StageSaved

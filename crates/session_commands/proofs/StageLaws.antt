@@ -1,4 +1,5 @@
 -- Each line of a script keeps what is kept of an open session.
+use Rattle.daq_io.specs.Told.{AheadTold}
 use Rattle.std.proofs.Common.{◌≡◌, ℕ, true, List, [], ◌++◌, Option, Some, None, refl, ap, sym, ◌∙◌, subst, append_assoc}
 use Rattle.std.specs.Option.{option_map}
 use Rattle.std.proofs.lemmas.List.{append-nil}
@@ -16,7 +17,7 @@ use Rattle.session_runs.specs.KeptRuns.{RunsSeen}
 use Rattle.session_runs.specs.RunsFit.{RunsFit, starts_begun}
 use Rattle.session_runs.specs.declared.opening.MemberName.{MemberName}
 use Rattle.session_runs.specs.Members.{registrations}
-use Rattle.session_runs.specs.RunAnswers.{AnswersPause, AnswersResume, AnswersStart, AnswersStop, ClockTold, CommandPoint, StopsUnsaved}
+use Rattle.session_runs.specs.RunAnswers.{AnswersPause, AnswersResume, AnswersStart, AnswersStop, CommandPoint, StopsUnsaved}
 use Rattle.console.specs.DatabaseLines.{BreaksDatabase}
 use Rattle.session_lines.specs.declared.passed_over.PassedOver.{PassedOver}
 use Rattle.session_lines.specs.NothingSaid.{NothingSaid, own_point}
@@ -30,9 +31,9 @@ use Rattle.session_commands.proofs.SteeringLaws.{SteersOn, all_steer, pause_move
 
 -- What the run commands say of the records, and the calls of a port of its caller's own calls.
 pub record FitLaws : Type 0 where
-  pub start : (reply : RunReply) → (before after : ClockTold) → (old new : CommandPoint PassedOver) → AnswersStart NothingSaid reply before after old new → RunsFit old.runs (own_watched old.database) → RunsFit new.runs (own_watched new.database)
-  pub stop : (reply : RunReply) → (before after : ClockTold) → (old new : CommandPoint PassedOver) → AnswersStop NothingSaid reply before after old new → RunsFit old.runs (own_watched old.database) → RunsFit new.runs (own_watched new.database)
-  pub unsaved : (before after : ClockTold) → (old new : CommandPoint PassedOver) → StopsUnsaved NothingSaid before after old new → RunsFit old.runs (own_watched old.database) → RunsFit new.runs (own_watched new.database)
+  pub start : (reply : RunReply) → (before after : AheadTold) → (old new : CommandPoint PassedOver) → AnswersStart NothingSaid reply before after old new → RunsFit old.runs (own_watched old.database) → RunsFit new.runs (own_watched new.database)
+  pub stop : (reply : RunReply) → (before after : AheadTold) → (old new : CommandPoint PassedOver) → AnswersStop NothingSaid reply before after old new → RunsFit old.runs (own_watched old.database) → RunsFit new.runs (own_watched new.database)
+  pub unsaved : (before after : AheadTold) → (old new : CommandPoint PassedOver) → StopsUnsaved NothingSaid before after old new → RunsFit old.runs (own_watched old.database) → RunsFit new.runs (own_watched new.database)
   pub pause : (reply : RunReply) → (old new : CommandPoint PassedOver) → AnswersPause NothingSaid reply old new → RunsFit old.runs (own_watched old.database) → RunsFit new.runs (own_watched new.database)
   pub resume : (reply : RunReply) → (old new : CommandPoint PassedOver) → AnswersResume NothingSaid reply old new → RunsFit old.runs (own_watched old.database) → RunsFit new.runs (own_watched new.database)
   pub opening : (s : RunsSeen) → (own : List WatchEntry) → s.runs ≡ [] → s.on ≡ None → starts_begun s.main.own ≡ [] → RunsFit s own

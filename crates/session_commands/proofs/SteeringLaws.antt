@@ -1,4 +1,5 @@
 -- What the commands of runs add to the main thread's calls on the engine and on the database.
+use Rattle.daq_io.specs.Told.{AheadTold}
 use Rattle.std.proofs.Common.{◌≡◌, ℕ, zero, suc, List, [], ◌∷◌, ◌++◌, refl, ap, sym, ◌∙◌, subst}
 use Rattle.std.specs.Prelude.{Result, Ok, Err}
 use Rattle.std.specs.List.{AllByRecursion}
@@ -17,7 +18,7 @@ use Rattle.session_runs.specs.declared.on.CurrentRun.{CurrentRun}
 use Rattle.session_runs.specs.declared.replies.RunReply.{RunReply}
 use Rattle.session_runs.specs.declared.replies.RunReply.TheVariants as answer
 use Rattle.session_runs.specs.KeptRuns.{RunsSeen, behind_start}
-use Rattle.session_runs.specs.RunAnswers.{AnswersPause, AnswersResume, AnswersStart, AnswersStop, BeginsRun, ClockTold, CommandPoint, MakesChange, MakesStart, MakesStop, StopsUnsaved, known_at_point}
+use Rattle.session_runs.specs.RunAnswers.{AnswersPause, AnswersResume, AnswersStart, AnswersStop, BeginsRun, CommandPoint, MakesChange, MakesStart, MakesStop, StopsUnsaved, known_at_point}
 use Rattle.session_runs.specs.RunsFit.{SteersEngine}
 use Rattle.session_commands.specs.Keeping.{SavesDump}
 use Rattle.session_commands.proofs.CallsOn.{both_on, none_on}
@@ -91,7 +92,7 @@ module _ {M : Type 0} (laws : SpareLaws) (round : M → M → Type 0) where
     database = same_answered old.database new.database (ap (λ (p : CommandPoint M). p.database) same);
   }
 
-  begins_steers : (run : ℕ) (outcome : StartOutcome) (before after : ClockTold) (old new : CommandPoint M) → BeginsRun round run outcome before after old new → SteersOn old.runs new.runs
+  begins_steers : (run : ℕ) (outcome : StartOutcome) (before after : AheadTold) (old new : CommandPoint M) → BeginsRun round run outcome before after old new → SteersOn old.runs new.runs
   begins_steers run outcome before after old new b = record {
     fronts = ap (λ (s : RunsSeen). s.fronts) b.kept ∙ start_fronts old.runs _ outcome;
     channels = ap (λ (s : RunsSeen). s.channels) b.kept ∙ start_channels old.runs _ outcome;
@@ -101,7 +102,7 @@ module _ {M : Type 0} (laws : SpareLaws) (round : M → M → Type 0) where
     steers = (tt, going_steer b.drives.rounds outcome b.tallies);
   }
 
-  makes_moves : (run : ℕ) (outcome : StartOutcome) (before after : ClockTold) (old new : CommandPoint M) → MakesStart round run outcome before after old new → MovesOn old new
+  makes_moves : (run : ℕ) (outcome : StartOutcome) (before after : AheadTold) (old new : CommandPoint M) → MakesStart round run outcome before after old new → MovesOn old new
   makes_moves run outcome before after old new m = record {
     steers = subst (λ (s : RunsSeen). SteersOn s new.runs) m.1.runs (begins_steers run outcome before after m.0 new m.2);
     database = later_answered old.database m.0.database new.database
@@ -112,7 +113,7 @@ module _ {M : Type 0} (laws : SpareLaws) (round : M → M → Type 0) where
         });
   }
 
-  pub start_moves : (reply : RunReply) (before after : ClockTold) (old new : CommandPoint M) → AnswersStart round reply before after old new → MovesOn old new
+  pub start_moves : (reply : RunReply) (before after : AheadTold) (old new : CommandPoint M) → AnswersStart round reply before after old new → MovesOn old new
   start_moves (answer.Started run) before after old new a = makes_moves run Completed before after old new a
   start_moves (answer.StartRefused client why) before after old new a = makes_moves a.0 (Refused client why) before after old new a.1
   start_moves (answer.RunNumber have) before after old new a = record {
@@ -125,7 +126,7 @@ module _ {M : Type 0} (laws : SpareLaws) (round : M → M → Type 0) where
   start_moves (answer.Resumed run) before after old new a = absurd a.0
   start_moves (answer.Stopped run) before after old new a = absurd a.0
 
-  stopped_moves : (r : CurrentRun) (saved : Result (List ℕ) NoMemory) (before after : ClockTold) (old new : CommandPoint M) → MakesStop round r saved before after old new → MovesUnsaved old new
+  stopped_moves : (r : CurrentRun) (saved : Result (List ℕ) NoMemory) (before after : AheadTold) (old new : CommandPoint M) → MakesStop round r saved before after old new → MovesUnsaved old new
   stopped_moves r saved before after old new m = record {
     steers = record {
       fronts = ap (λ (s : RunsSeen). s.fronts) m.kept;
@@ -138,7 +139,7 @@ module _ {M : Type 0} (laws : SpareLaws) (round : M → M → Type 0) where
     spares = entries_on laws old.database new.database m.entries m.adds (stop_spares laws (known_at_point old).state m.time saved m.entries m.calls);
   }
 
-  saved_moves : (r : CurrentRun) (dump : List ℕ) (before after : ClockTold) (old new : CommandPoint M) → MakesStop round r (Ok dump) before after old new → MovesOn old new
+  saved_moves : (r : CurrentRun) (dump : List ℕ) (before after : AheadTold) (old new : CommandPoint M) → MakesStop round r (Ok dump) before after old new → MovesOn old new
   saved_moves r dump before after old new m =
       let moves = stopped_moves r (Ok dump) before after old new m in
       record {
@@ -165,7 +166,7 @@ module _ {M : Type 0} (laws : SpareLaws) (round : M → M → Type 0) where
     };
   }
 
-  pub stop_moves : (reply : RunReply) (before after : ClockTold) (old new : CommandPoint M) → AnswersStop round reply before after old new → MovesOn old new
+  pub stop_moves : (reply : RunReply) (before after : AheadTold) (old new : CommandPoint M) → AnswersStop round reply before after old new → MovesOn old new
   stop_moves (answer.Stopped run) before after old new a = saved_moves a.0 a.2 before after old new a.3
   stop_moves (answer.WrongState state) before after old new a = same_moves old new a.1
   stop_moves answer.LastStart before after old new a = same_moves old new a.1
@@ -175,7 +176,7 @@ module _ {M : Type 0} (laws : SpareLaws) (round : M → M → Type 0) where
   stop_moves (answer.Paused run) before after old new a = absurd a.0
   stop_moves (answer.Resumed run) before after old new a = absurd a.0
 
-  pub unsaved_moves : (before after : ClockTold) (old new : CommandPoint M) → StopsUnsaved round before after old new → MovesUnsaved old new
+  pub unsaved_moves : (before after : AheadTold) (old new : CommandPoint M) → StopsUnsaved round before after old new → MovesUnsaved old new
   unsaved_moves before after old new a = stopped_moves a.0 (Err (record {})) before after old new a.1
 
   pub pause_moves : (reply : RunReply) (old new : CommandPoint M) → AnswersPause round reply old new → MovesOn old new

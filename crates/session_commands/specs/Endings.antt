@@ -1,11 +1,11 @@
 -- What a script leaves to be asked at its end.
+use Rattle.daq_io.specs.Told.{FilesTold}
 use Rattle.std.specs.Prelude.{◌≤◌, ◌++◌, ◌∷◌, [], Ok, ℕ, Bool, true, false, count_by, List}
 use Rattle.daq_io.specs.Counts.{Rose, RoseBy}
 use Rattle.member_model.specs.RunEngines.{EngineEntry}
 use Rattle.transitions.specs.declared.entry.EngineEntry.TheVariants.{Close}
 use Rattle.odb_commands.specs.declared.dump_replies.FileReply.{FileReply}
 use Rattle.odb_commands.specs.declared.dump_replies.FileReply.TheVariants as file
-use Rattle.console.specs.DatabaseStages.{DumpFiles}
 use Rattle.console.specs.declared.endings.Ending.{Ending}
 use Rattle.console.specs.declared.endings.Ending.TheVariants.{End, TooLong, SourceFault, Halted}
 
@@ -25,7 +25,7 @@ is_clash (number, file.TooLong) = false
 
 -- One fault gives one reply: the files of the dumps counted a fault for each of these that is one, and a clash of names for each
 -- that is one.
-pub record OneReply (replies : List (ℕ × FileReply)) (first final : DumpFiles) : Type 0 where
+pub record OneReply (replies : List (ℕ × FileReply)) (first final : FilesTold) : Type 0 where
   pub faults : RoseBy (count_by is_fault replies) first.faults final.faults
   pub clashes : RoseBy (count_by is_clash replies) first.clashes final.clashes
 

@@ -1,4 +1,5 @@
 -- How the lines of a session's script are played, by where they stand, and by what the main thread has besides its runs.
+use Rattle.daq_io.specs.Told.{AheadTold, FilesTold, SinkTold, SourceTold}
 use Rattle.std.specs.Prelude.{◌≡◌, ℕ, Bool, List, Option, None}
 use Rattle.daq_io.specs.Seen.{Seen}
 use Rattle.member_model.specs.RunEngines.{EngineEntry}
@@ -8,9 +9,8 @@ use Rattle.session_runs.specs.declared.records.RunRecord.{RunRecord}
 use Rattle.session_setup.specs.declared.declared.DeclaredLists.{DeclaredLists}
 use Rattle.session_setup.specs.Setup.{Declared, declared_by}
 use Rattle.session_runs.specs.KeptRuns.{RunsSeen}
-use Rattle.session_runs.specs.RunAnswers.{ClockTold, clock_of}
 use Rattle.console.specs.declared.refusals.Refusals.{Refusals}
-use Rattle.console.specs.DatabaseStages.{DatabaseStage, DumpFiles, dump_files}
+use Rattle.console.specs.DatabaseStages.{DatabaseStage}
 use Rattle.session_lines.specs.Stages.{SessionStage, open_stage, unopened_stage}
 use Rattle.session_lines.specs.ScriptLines.{BreaksScriptLine, ClosesScript, DoesScriptLine, GivesUp, opens_session}
 use Rattle.console.specs.declared.endings.Ending.{Ending}
@@ -27,17 +27,12 @@ use Rattle.session_commands.specs.Keeping.{KnowsRuns}
 -- What a port to the database, the files of the dumps and a clock tell of themselves.
 pub record SideTold (D E C : Type 0) : Type 0 where
   pub access : D → DatabaseAccess
-  pub files : E → DumpFiles
-  pub clock : C → ClockTold
+  pub files : E → FilesTold
+  pub clock : C → AheadTold
 
--- the same, of what is told in this order
-abbrev pub side_told : {D E C : Type 0} → (access : D → DatabaseAccess) → (seen : E → Seen) → (faults clashes : E → ℕ) →
-    (first : E → Option (List ℕ)) → (tells : C → Bool) → (ahead : C → ℕ → ℕ) → SideTold D E C
-side_told access seen faults clashes first tells ahead = record {
-  access = access;
-  files = λ files. dump_files (seen files) (faults files) (clashes files) (first files);
-  clock = λ clock. clock_of (tells clock) (ahead clock);
-}
+abbrev pub side_told : {D E C : Type 0} → (access : D → DatabaseAccess) → (files : E → FilesTold) → (clock : C → AheadTold) →
+    SideTold D E C
+side_told access files clock = record { access = access; files = files; clock = clock }
 
 module _ {D E C : Type 0} {d : _} {e : _} (told : SideTold D E C) where
   -- the online database, by what the main thread has
@@ -57,10 +52,10 @@ module _ {D E C : Type 0} {d : _} {e : _} (told : SideTold D E C) where
 
 -- Lines.
 
--- Where the lines of a script stand: what is left of the script, what was written so far, what its reader has, whether the line
+-- Where the lines of a script stand: what its source tells, what was written so far, what its reader has, whether the line
 -- that was read is the last, which lines were refused, and how many were answered.
 pub record ScriptAt : Type 0 where
-  pub left : Option (List ℕ)
+  pub source : SourceTold
   pub written : Option (List ℕ)
   pub reading : Reading
   pub last : Bool
@@ -68,40 +63,42 @@ pub record ScriptAt : Type 0 where
   pub number : ℕ
 
 -- the same, in this order
-abbrev pub script_at : (left written : Option (List ℕ)) → Reading → (last : Bool) → Refusals → (number : ℕ) → ScriptAt
-script_at left written reading last refusals number =
-    record { left = left; written = written; reading = reading; last = last; refusals = refusals; number = number }
+abbrev pub script_at : (source : SourceTold) → (written : Option (List ℕ)) → Reading → (last : Bool) → Refusals → (number : ℕ) → ScriptAt
+script_at source written reading last refusals number =
+    record { source = source; written = written; reading = reading; last = last; refusals = refusals; number = number }
 
--- where the lines of a script stand, by what is left of its source, and by its text
-abbrev pub script_point : {S O : Type 0} → (left : S → Option (List ℕ)) → (written : O → Option (List ℕ)) → Script S O → ScriptAt
-script_point left written script = script_at (left script.src) (written script.out) script.line_loop.reader script.line_loop.last
-    script.line_loop.refusals script.line_loop.number
+-- where the lines of a script stand, by what its source and its sink tell
+abbrev pub script_point : {S O : Type 0} → (source : S → SourceTold) → (sink : O → SinkTold) → Script S O → ScriptAt
+script_point source sink script =
+    script_at (source script.src) (sink script.out).written script.line_loop.reader script.line_loop.last script.line_loop.refusals
+    script.line_loop.number
 
 -- A script that began so was played to its end.
-abbrev pub FinishedAt : (first : SessionStage) (source written : Option (List ℕ)) (ending : Ending) (closing : Option Halt)
+abbrev pub FinishedAt : (first : SessionStage) (source : SourceTold) (written : Option (List ℕ)) (ending : Ending) (closing : Option Halt)
     (behind : ScriptAt) (final : SessionStage) → Type 0
 FinishedAt first source written ending closing behind final =
-    Finished DoesScriptLine BreaksScriptLine ClosesScript GivesUp first ending closing source behind.left written behind.written
+    Finished DoesScriptLine BreaksScriptLine ClosesScript GivesUp first ending closing source behind.source written behind.written
     final behind.refusals
 
 -- From the line that was read on, a script is played to its end, however it began.
 abbrev pub FinishesLine : (at behind : ScriptAt) (now final : SessionStage) (ending : Ending) (closing : Option Halt) → Type 0
 FinishesLine at behind now final ending closing =
-    (first : SessionStage) (source written : Option (List ℕ)) →
-    HasLine DoesScriptLine BreaksScriptLine first source at.left written at.written at.reading at.last now at.refusals at.number →
+    (first : SessionStage) (source : SourceTold) (written : Option (List ℕ)) →
+    HasLine DoesScriptLine BreaksScriptLine first source at.source written at.written at.reading at.last now at.refusals at.number →
     FinishedAt first source written ending closing behind final
 
 -- The same of the first start, which opens the session.
 abbrev pub FinishesOpening : (at behind : ScriptAt) (now final : SessionStage) (ending : Ending) (closing : Option Halt) → Type 0
 FinishesOpening at behind now final ending closing =
-    (first : SessionStage) (source written : Option (List ℕ)) →
-    OpensAt DoesScriptLine BreaksScriptLine opens_session first source at.left written at.written at.reading at.last now
+    (first : SessionStage) (source : SourceTold) (written : Option (List ℕ)) →
+    OpensAt DoesScriptLine BreaksScriptLine opens_session first source at.source written at.written at.reading at.last now
     at.refusals at.number →
     FinishedAt first source written ending closing behind final
 
 -- Where the lines of a script opened no session, it was played to its end with the last of them.
 abbrev pub UnopenedFinish : Type 0
-UnopenedFinish = (first now : SessionStage) (ending : Ending) (source left told_first told : Option (List ℕ)) (refusals : Refusals) →
+UnopenedFinish = (first now : SessionStage) (ending : Ending) (source left : SourceTold) (told_first told : Option (List ℕ))
+    (refusals : Refusals) →
     Played DoesScriptLine BreaksScriptLine first ending source left told_first told now refusals → now.runs ≡ None →
     Finished DoesScriptLine BreaksScriptLine ClosesScript GivesUp first ending None source left told_first told now refusals
 

@@ -1,5 +1,6 @@
 -- The lines of a script up to its first start.
-use Rattle.std.specs.Prelude.{◌≡◌, ℕ, List, Option}
+use Rattle.std.specs.Prelude.{◌≡◌, ℕ}
+use Rattle.daq_io.specs.Told.{SinkTold, SourceTold}
 use Rattle.odb_script.specs.Lines.{no_line_read}
 use Rattle.session_lines.specs.ScriptLines.{BreaksScriptLine, DoesScriptLine, opens_session}
 use Rattle.console.specs.declared.line_loop.LineLoop.{LineLoop}
@@ -17,10 +18,11 @@ pub record IsUnreadScript (line_loop : LineLoop) : Type 0 where
 
 -- The lines up to the first start were played, or all of them, of a session that is not open: `now` is the session and `before` the
 -- script in front of these lines, `later` and `after` are they behind them.
-abbrev pub PlaysFirst : {D E C S O : Type 0} {d : _} {e : _} {c : _} (told : SideTold D E C) (left : S → Option (List ℕ))
-    (written : O → Option (List ℕ)) (now : Unopened D E C d e c) (before : Script S O) → PlayEnd → (later : Unopened D E C d e c) →
+abbrev pub PlaysFirst : {D E C S O : Type 0} {d : _} {e : _} {c : _} (told : SideTold D E C) (source : S → SourceTold)
+    (sink : O → SinkTold) (now : Unopened D E C d e c) (before : Script S O) → PlayEnd → (later : Unopened D E C d e c) →
     (after : Script S O) → Type 0
-PlaysFirst told left written now before end later after =
+PlaysFirst told source sink now before end later after =
     PlaysTo DoesScriptLine BreaksScriptLine opens_session (stage_unopened told now.quota now.declarations now.side)
-    (left before.src) (written before.out) end (left after.src) (written after.out) after.line_loop.reader after.line_loop.last
-    (stage_unopened told later.quota later.declarations later.side) after.line_loop.refusals after.line_loop.number
+    (source before.src) (sink before.out).written end (source after.src) (sink after.out).written
+    after.line_loop.reader after.line_loop.last (stage_unopened told later.quota later.declarations later.side)
+    after.line_loop.refusals after.line_loop.number

@@ -1,6 +1,6 @@
 // The commands of runs in an open session, with their replies.
 ghost use Rattle.std.specs.Prelude.{IfOk, OnErr};
-ghost use Rattle.session_runs.specs.RunAnswers.{AnswersPause, AnswersResume, AnswersStart, AnswersStop, CutsStart, clock_of, point_of};
+ghost use Rattle.session_runs.specs.RunAnswers.{AnswersPause, AnswersResume, AnswersStart, AnswersStop, CutsStart, point_of};
 ghost use Rattle.session_commands.specs.RunReplies.{RepliesBy, StopsUnanswered};
 
 use crate::replying::{plain_reply, reply_for};
@@ -23,13 +23,13 @@ pub fn answer_start<R: Wait, D: WatchPort, M: Rounds, C: Clock>(
     clock: &mut C,
 ) -> Result<Reply, NoMemory>
     ensures did { IfOk result (λ reply. RepliesBy (λ answer. AnswersStart M.round answer
-        (clock_of (C.tells clock.old) (C.ahead clock.old))
-        (clock_of (C.tells clock.new) (C.ahead clock.new))) reply
+        (C.told clock.old)
+        (C.told clock.new)) reply
         (point_of runs.old (D.access access.old) members.old)
         (point_of runs.new (D.access access.new) members.new)) }
     ensures cut { OnErr result (CutsStart
-        (clock_of (C.tells clock.old) (C.ahead clock.old))
-        (clock_of (C.tells clock.new) (C.ahead clock.new))
+        (C.told clock.old)
+        (C.told clock.new)
         (point_of runs.old (D.access access.old) members.old)
         (point_of runs.new (D.access access.new) members.new)) }
 {
@@ -47,13 +47,13 @@ pub fn answer_stop<R: Wait, D: WatchPort, M: Rounds, C: Clock>(
     clock: &mut C,
 ) -> Result<Reply, NoMemory>
     ensures did { IfOk result (λ reply. RepliesBy (λ answer. AnswersStop M.round answer
-        (clock_of (C.tells clock.old) (C.ahead clock.old))
-        (clock_of (C.tells clock.new) (C.ahead clock.new))) reply
+        (C.told clock.old)
+        (C.told clock.new)) reply
         (point_of runs.old (D.access access.old) members.old)
         (point_of runs.new (D.access access.new) members.new)) }
     ensures cut { OnErr result (StopsUnanswered M.round
-        (clock_of (C.tells clock.old) (C.ahead clock.old))
-        (clock_of (C.tells clock.new) (C.ahead clock.new))
+        (C.told clock.old)
+        (C.told clock.new)
         (point_of runs.old (D.access access.old) members.old)
         (point_of runs.new (D.access access.new) members.new)) }
 {

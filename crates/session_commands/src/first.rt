@@ -25,11 +25,11 @@ pub fn play_first<R: Wait, D: WatchPort, S: Source, O: Sink, E: Files, C: Clock>
     requires caller { (D.access unopened.old.side.database.access).caller ≡ main_caller }
     requires unread { IsUnreadScript script.old.line_loop }
     ensures played { PlaysFirst
-        (side_told D.access E.seen E.faults E.clashes E.first C.tells C.ahead) S.left O.written
+        (side_told D.access E.told C.told) S.told O.told
         unopened.old script.old result unopened.new script.new }
     ensures fits { FitsOn result script.new.line_loop.number script.new.line_loop.reader.taken }
-    ensures source { SourceCounts result (S.faults script.old.src) (S.faults script.new.src) }
-    ensures sink { SinkCounts result (O.faults script.old.out) (O.faults script.new.out) }
+    ensures source { SourceCounts result (S.told script.old.src).faults (S.told script.new.src).faults }
+    ensures sink { SinkCounts result (O.told script.old.out).faults (O.told script.new.out).faults }
     ensures same { IsSamePort (D.access unopened.old.side.database.access)
         (D.access unopened.new.side.database.access) }
 {

@@ -49,12 +49,12 @@ impl<'a, S: Source, O: Sink, D: WatchPort, E: Files, C: Clock> Playing
     type Played = MainEnd<S, O, D, E, C>;
 
     ghost plays = { λ main end. MainEnds
-        (side_told D.access E.seen E.faults E.clashes E.first C.tells C.ahead)
+        (side_told D.access E.told C.told)
         main.lists.now main.runs main.side end.side
-        (script_point S.left O.written main.script) (script_point S.left O.written end.script)
+        (script_point S.told O.told main.script) (script_point S.told O.told end.script)
         end.ending end.closing end.records end.main
-        × EndCounts end.ending end.closing (S.faults main.script.src) (S.faults end.script.src)
-        (O.faults main.script.out) (O.faults end.script.out) };
+        × EndCounts end.ending end.closing (S.told main.script.src).faults (S.told end.script.src).faults
+        (O.told main.script.out).faults (O.told end.script.out).faults };
 
     /// From the line that was read to the end of the script. The engine is closed behind that.
     fn play<R: Wait, M: Rounds>(self, rt: &R, members: M) -> (MainEnd<S, O, D, E, C>, M) {

@@ -46,17 +46,15 @@ impl<'a, D: WatchPort, M: Rounds, E: Files, C: Clock> Answerer for Opened<'a, D,
     ghost use Rattle.session_setup.specs.Setup.{declared_by};
     ghost use Rattle.session_lines.specs.ScriptLines.{BreaksScriptLine, ClosesScript, DoesScriptLine, GivesUp};
     ghost use Rattle.console.specs.DatabaseStages.{database_stage};
-    ghost use Rattle.session_runs.specs.RunAnswers.{clock_of};
     ghost use Rattle.session_lines.specs.Staying.{StaysOpen};
     ghost use Rattle.session_lines.proofs.StayingLaws.{stays_open, stays_open_on};
 
     ghost Stage = { SessionStage };
 
     ghost stage = { λ s. open_stage (declared_by s.lists.now)
-        (database_stage (D.access s.side.database.access) (E.seen s.side.database.files)
-        (E.faults s.side.database.files) (E.clashes s.side.database.files) (E.first s.side.database.files)
+        (database_stage (D.access s.side.database.access) (E.told s.side.database.files)
         s.side.database.replies.replies)
-        (clock_of (C.tells s.side.clock) (C.ahead s.side.clock)) s.runs };
+        (C.told s.side.clock) s.runs };
 
     ghost leaves = { λ line. false };
 

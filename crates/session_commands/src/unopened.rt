@@ -26,17 +26,15 @@ impl<D: WatchPort, E: Files, C: Clock> Answerer for Unopened<D, E, C> {
     ghost use Rattle.session_lines.specs.Stages.{SessionStage, unopened_stage};
     ghost use Rattle.session_lines.specs.ScriptLines.{BreaksScriptLine, ClosesScript, DoesScriptLine, GivesUp, opens_session};
     ghost use Rattle.console.specs.DatabaseStages.{database_stage};
-    ghost use Rattle.session_runs.specs.RunAnswers.{clock_of};
     ghost use Rattle.odb_watch.specs.DatabasePorts.{IsSamePort};
     ghost use Rattle.std.proofs.Common.{refl, ◌∙◌};
 
     ghost Stage = { SessionStage };
 
     ghost stage = { λ s. unopened_stage s.quota s.declarations
-        (database_stage (D.access s.side.database.access) (E.seen s.side.database.files)
-        (E.faults s.side.database.files) (E.clashes s.side.database.files) (E.first s.side.database.files)
+        (database_stage (D.access s.side.database.access) (E.told s.side.database.files)
         s.side.database.replies.replies)
-        (clock_of (C.tells s.side.clock) (C.ahead s.side.clock)) };
+        (C.told s.side.clock) };
 
     ghost leaves = { opens_session };
 

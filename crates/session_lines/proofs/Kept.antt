@@ -1,4 +1,5 @@
 -- What the commands of runs keep.
+use Rattle.daq_io.specs.Told.{AheadTold}
 use Rattle.std.proofs.Common.{◌≡◌, ℕ, List, [], ◌∷◌, refl, ap, sym, ◌∙◌, subst}
 use Rattle.std.specs.Prelude.{Result, Ok, Err}
 use Rattle.std.proofs.Math.Logic.{⊎_elim}
@@ -15,7 +16,7 @@ use Rattle.session_runs.specs.declared.on.CurrentRun.{CurrentRun}
 use Rattle.session_runs.specs.declared.replies.RunReply.{RunReply}
 use Rattle.session_runs.specs.declared.replies.RunReply.TheVariants as answer
 use Rattle.session_runs.specs.KeptRuns.{RunsSeen, behind_start}
-use Rattle.session_runs.specs.RunAnswers.{AnswersPause, AnswersResume, AnswersStart, AnswersStop, BeginsRun, ClockTold, CommandPoint, CutsBegin, CutsStart, GotNumber, MakesChange, MakesStart, MakesStop, StopsUnsaved}
+use Rattle.session_runs.specs.RunAnswers.{AnswersPause, AnswersResume, AnswersStart, AnswersStop, BeginsRun, CommandPoint, CutsBegin, CutsStart, GotNumber, MakesChange, MakesStart, MakesStop, StopsUnsaved}
 use Rattle.session_lines.specs.Keeping.{KeptByCommand}
 
 port_same : (a : DatabaseAccess) → IsSamePort a a
@@ -55,7 +56,7 @@ module _ {M : Type 0} (round : M → M → Type 0) where
   number_port : (run : ℕ) (old new : CommandPoint M) → GotNumber run old new → IsSamePort old.database new.database
   number_port run old new got = got.number.called.same
 
-  begins_kept : (run : ℕ) (outcome : StartOutcome) (before after : ClockTold) (old new : CommandPoint M) → BeginsRun round run outcome before after old new → KeptByCommand round old new
+  begins_kept : (run : ℕ) (outcome : StartOutcome) (before after : AheadTold) (old new : CommandPoint M) → BeginsRun round run outcome before after old new → KeptByCommand round old new
   begins_kept run outcome before after old new b = record {
     quota = ap (λ (s : RunsSeen). s.quota) b.kept ∙ start_quota old.runs _ outcome;
     engine = ap (λ (s : RunsSeen). s.main.engine) b.kept ∙ start_engine old.runs _ outcome;
@@ -64,7 +65,7 @@ module _ {M : Type 0} (round : M → M → Type 0) where
     port = entries_port b.entries old.database new.database b.adds;
   }
 
-  makes_kept : (run : ℕ) (outcome : StartOutcome) (before after : ClockTold) (old new : CommandPoint M) → MakesStart round run outcome before after old new → KeptByCommand round old new
+  makes_kept : (run : ℕ) (outcome : StartOutcome) (before after : AheadTold) (old new : CommandPoint M) → MakesStart round run outcome before after old new → KeptByCommand round old new
   makes_kept run outcome before after old new m =
       let begun : KeptByCommand round m.0 new = begins_kept run outcome before after m.0 new m.2 in
       record {
@@ -75,7 +76,7 @@ module _ {M : Type 0} (round : M → M → Type 0) where
         port = port_on old.database m.0.database new.database (number_port run old m.0 m.1) begun.port;
       }
 
-  pub start_kept : (reply : RunReply) (before after : ClockTold) (old new : CommandPoint M) → AnswersStart round reply before after old new → KeptByCommand round old new
+  pub start_kept : (reply : RunReply) (before after : AheadTold) (old new : CommandPoint M) → AnswersStart round reply before after old new → KeptByCommand round old new
   start_kept (answer.Started run) before after old new a = makes_kept run Completed before after old new a
   start_kept (answer.StartRefused client why) before after old new a = makes_kept a.0 (Refused client why) before after old new a.1
   start_kept (answer.RunNumber have) before after old new a = record {
@@ -91,7 +92,7 @@ module _ {M : Type 0} (round : M → M → Type 0) where
   start_kept (answer.Resumed run) before after old new a = absurd a.0
   start_kept (answer.Stopped run) before after old new a = absurd a.0
 
-  stop_kept : (r : CurrentRun) (saved : Result (List ℕ) NoMemory) (before after : ClockTold) (old new : CommandPoint M) → MakesStop round r saved before after old new → KeptByCommand round old new
+  stop_kept : (r : CurrentRun) (saved : Result (List ℕ) NoMemory) (before after : AheadTold) (old new : CommandPoint M) → MakesStop round r saved before after old new → KeptByCommand round old new
   stop_kept r saved before after old new m = record {
     quota = ap (λ (s : RunsSeen). s.quota) m.kept;
     engine = ap (λ (s : RunsSeen). s.main.engine) m.kept;
@@ -109,7 +110,7 @@ module _ {M : Type 0} (round : M → M → Type 0) where
     port = entries_port _ old.database new.database m.adds;
   }
 
-  pub stops_kept : (reply : RunReply) (before after : ClockTold) (old new : CommandPoint M) → AnswersStop round reply before after old new → KeptByCommand round old new
+  pub stops_kept : (reply : RunReply) (before after : AheadTold) (old new : CommandPoint M) → AnswersStop round reply before after old new → KeptByCommand round old new
   stops_kept (answer.Stopped run) before after old new a = stop_kept a.0 (Ok a.2) before after old new a.3
   stops_kept (answer.WrongState state) before after old new a = same_kept old new a.1
   stops_kept answer.LastStart before after old new a = same_kept old new a.1
@@ -119,7 +120,7 @@ module _ {M : Type 0} (round : M → M → Type 0) where
   stops_kept (answer.Paused run) before after old new a = absurd a.0
   stops_kept (answer.Resumed run) before after old new a = absurd a.0
 
-  pub unsaved_kept : (before after : ClockTold) (old new : CommandPoint M) → StopsUnsaved round before after old new → KeptByCommand round old new
+  pub unsaved_kept : (before after : AheadTold) (old new : CommandPoint M) → StopsUnsaved round before after old new → KeptByCommand round old new
   unsaved_kept before after old new a = stop_kept a.0 (Err (record {})) before after old new a.1
 
   pub pause_kept : (reply : RunReply) (old new : CommandPoint M) → AnswersPause round reply old new → KeptByCommand round old new
@@ -142,7 +143,7 @@ module _ {M : Type 0} (round : M → M → Type 0) where
   resume_kept (answer.Paused run) old new a = absurd a.0
   resume_kept (answer.Stopped run) old new a = absurd a.0
 
-  begin_kept : (run : ℕ) (before after : ClockTold) (old new : CommandPoint M) → CutsBegin run before after old new → KeptByCommand round old new
+  begin_kept : (run : ℕ) (before after : AheadTold) (old new : CommandPoint M) → CutsBegin run before after old new → KeptByCommand round old new
   begin_kept run before after old new c = record {
     quota = ap (λ (s : RunsSeen). s.quota) c.runs;
     engine = ap (λ (s : RunsSeen). s.main.engine) c.runs;
@@ -163,7 +164,7 @@ module _ {M : Type 0} (round : M → M → Type 0) where
     port = port_on a.database b.database c.database port k.port;
   }
 
-  pub cut_kept : (before after : ClockTold) (old new : CommandPoint M) → CutsStart before after old new → KeptByCommand round old new
+  pub cut_kept : (before after : AheadTold) (old new : CommandPoint M) → CutsStart before after old new → KeptByCommand round old new
   cut_kept before after old new c = ⊎_elim
       (λ cut. record {
         quota = ap (λ (s : RunsSeen). s.quota) cut.1.runs;

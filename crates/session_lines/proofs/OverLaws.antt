@@ -1,4 +1,5 @@
 -- What is done with members is done where they are passed over.
+use Rattle.daq_io.specs.Told.{AheadTold}
 use Rattle.std.proofs.Common.{◌≡◌, ℕ, zero, suc, List, ◌++◌, ◌∷◌, refl, inl, inr, ap}
 use Rattle.std.specs.Prelude.{Result, Ok, Err, Option}
 use Rattle.std.proofs.Math.Logic.{⊎_elim}
@@ -13,7 +14,7 @@ use Rattle.member_crew.specs.Rounds.{HadRounds}
 use Rattle.session_runs.specs.declared.on.CurrentRun.{CurrentRun}
 use Rattle.session_runs.specs.declared.replies.RunReply.{RunReply}
 use Rattle.session_runs.specs.declared.replies.RunReply.TheVariants as answer
-use Rattle.session_runs.specs.RunAnswers.{AnswersPause, AnswersResume, AnswersStart, AnswersStop, BeginsRun, ChangesRun, ClockTold, CommandPoint, CutsBegin, CutsNumber, CutsStart, GotNumber, LacksNumber, MakesChange, MakesStart, MakesStop, StopsUnsaved}
+use Rattle.session_runs.specs.RunAnswers.{AnswersPause, AnswersResume, AnswersStart, AnswersStop, BeginsRun, ChangesRun, CommandPoint, CutsBegin, CutsNumber, CutsStart, GotNumber, LacksNumber, MakesChange, MakesStart, MakesStop, StopsUnsaved}
 use Rattle.session_lines.specs.declared.passed_over.PassedOver.{PassedOver}
 use Rattle.session_lines.specs.NothingSaid.{NothingSaid, nobody, own_point}
 
@@ -37,7 +38,7 @@ module _ {M : Type 0} (round : M → M → Type 0) where
   got_over : (run : ℕ) (old new : CommandPoint M) → GotNumber run old new → GotNumber run (over old) (over new)
   got_over run old new got = record { number = got.number; runs = got.runs; members = refl }
 
-  begins_over : (run : ℕ) (outcome : StartOutcome) (before after : ClockTold) (old new : CommandPoint M) → BeginsRun round run outcome before after old new → BeginsRun NothingSaid run outcome before after (over old) (over new)
+  begins_over : (run : ℕ) (outcome : StartOutcome) (before after : AheadTold) (old new : CommandPoint M) → BeginsRun round run outcome before after old new → BeginsRun NothingSaid run outcome before after (over old) (over new)
   begins_over run outcome before after old new b = record {
     start = b.start;
     begins = b.begins;
@@ -53,10 +54,10 @@ module _ {M : Type 0} (round : M → M → Type 0) where
     kept = b.kept;
   }
 
-  makes_over : (run : ℕ) (outcome : StartOutcome) (before after : ClockTold) (old new : CommandPoint M) → MakesStart round run outcome before after old new → MakesStart NothingSaid run outcome before after (over old) (over new)
+  makes_over : (run : ℕ) (outcome : StartOutcome) (before after : AheadTold) (old new : CommandPoint M) → MakesStart round run outcome before after old new → MakesStart NothingSaid run outcome before after (over old) (over new)
   makes_over run outcome before after old new m = (over m.0, got_over run old m.0 m.1, begins_over run outcome before after m.0 new m.2)
 
-  stop_over : (r : CurrentRun) (saved : Result (List ℕ) NoMemory) (before after : ClockTold) (old new : CommandPoint M) → MakesStop round r saved before after old new → MakesStop NothingSaid r saved before after (over old) (over new)
+  stop_over : (r : CurrentRun) (saved : Result (List ℕ) NoMemory) (before after : AheadTold) (old new : CommandPoint M) → MakesStop round r saved before after old new → MakesStop NothingSaid r saved before after (over old) (over new)
   stop_over r saved before after old new m = record {
     on = m.on;
     begins = m.begins;
@@ -82,7 +83,7 @@ module _ {M : Type 0} (round : M → M → Type 0) where
     kept = m.kept;
   }
 
-  pub start_over : (reply : RunReply) (before after : ClockTold) (old new : CommandPoint M) → AnswersStart round reply before after old new → AnswersStart NothingSaid reply before after (over old) (over new)
+  pub start_over : (reply : RunReply) (before after : AheadTold) (old new : CommandPoint M) → AnswersStart round reply before after old new → AnswersStart NothingSaid reply before after (over old) (over new)
   start_over (answer.Started run) before after old new a = makes_over run Completed before after old new a
   start_over (answer.StartRefused client why) before after old new a = (a.0, makes_over a.0 (Refused client why) before after old new a.1)
   start_over (answer.RunNumber have) before after old new a =
@@ -93,7 +94,7 @@ module _ {M : Type 0} (round : M → M → Type 0) where
   start_over (answer.Resumed run) before after old new a = absurd a.0
   start_over (answer.Stopped run) before after old new a = absurd a.0
 
-  pub stops_over : (reply : RunReply) (before after : ClockTold) (old new : CommandPoint M) → AnswersStop round reply before after old new → AnswersStop NothingSaid reply before after (over old) (over new)
+  pub stops_over : (reply : RunReply) (before after : AheadTold) (old new : CommandPoint M) → AnswersStop round reply before after old new → AnswersStop NothingSaid reply before after (over old) (over new)
   stops_over (answer.Stopped run) before after old new a = (a.0, a.1, a.2, stop_over a.0 (Ok a.2) before after old new a.3)
   stops_over (answer.WrongState state) before after old new a = (a.0, over_same old new a.1, a.2)
   stops_over answer.LastStart before after old new a = (a.0, over_same old new a.1, a.2)
@@ -103,7 +104,7 @@ module _ {M : Type 0} (round : M → M → Type 0) where
   stops_over (answer.Paused run) before after old new a = absurd a.0
   stops_over (answer.Resumed run) before after old new a = absurd a.0
 
-  pub unsaved_over : (before after : ClockTold) (old new : CommandPoint M) → StopsUnsaved round before after old new → StopsUnsaved NothingSaid before after (over old) (over new)
+  pub unsaved_over : (before after : AheadTold) (old new : CommandPoint M) → StopsUnsaved round before after old new → StopsUnsaved NothingSaid before after (over old) (over new)
   unsaved_over before after old new a = (a.0, stop_over a.0 (Err (record {})) before after old new a.1)
 
   pub pause_over : (reply : RunReply) (old new : CommandPoint M) → AnswersPause round reply old new → AnswersPause NothingSaid reply (over old) (over new)
@@ -131,10 +132,10 @@ module _ {M : Type 0} (round : M → M → Type 0) where
 number_over : {M : Type 0} (old new : CommandPoint M) → CutsNumber old new → CutsNumber (over old) (over new)
 number_over old new c = record { called = c.called; runs = c.runs; members = refl }
 
-begin_over : {M : Type 0} (run : ℕ) (before after : ClockTold) (old new : CommandPoint M) → CutsBegin run before after old new → CutsBegin run before after (over old) (over new)
+begin_over : {M : Type 0} (run : ℕ) (before after : AheadTold) (old new : CommandPoint M) → CutsBegin run before after old new → CutsBegin run before after (over old) (over new)
 begin_over run before after old new c = record { runs = c.runs; members = refl; calls = c.calls }
 
-pub cut_over : {M : Type 0} (before after : ClockTold) (old new : CommandPoint M) → CutsStart before after old new → CutsStart before after (over old) (over new)
+pub cut_over : {M : Type 0} (before after : AheadTold) (old new : CommandPoint M) → CutsStart before after old new → CutsStart before after (over old) (over new)
 cut_over before after old new c = record {
   begins = c.begins;
   cut = ⊎_elim

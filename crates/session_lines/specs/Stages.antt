@@ -1,16 +1,16 @@
 -- Where a session stands between two lines of its script, by what its main thread did.
+use Rattle.daq_io.specs.Told.{AheadTold, FilesTold}
 use Rattle.std.specs.Prelude.{ℕ, List, [], map, Option, Some, None}
 use Rattle.std.specs.Option.{option_map}
 use Rattle.mid_logger.specs.ChannelTurns.{logger_name}
 use Rattle.transition_lock.specs.declared.shared.SharedEngine.{SharedEngine}
 use Rattle.odb_watch.specs.DatabasePorts.{DatabaseAccess}
-use Rattle.console.specs.DatabaseStages.{DatabaseStage, DumpFiles}
+use Rattle.console.specs.DatabaseStages.{DatabaseStage}
 use Rattle.session_runs.specs.declared.opening.MemberName.{MemberName}
 use Rattle.session_runs.specs.Members.{members_named, registrations}
 use Rattle.session_runs.specs.MainSeats.{MainSeen}
 use Rattle.session_setup.specs.Setup.{Declared, nothing_declared}
 use Rattle.session_runs.specs.KeptRuns.{RunsSeen, channels_of}
-use Rattle.session_runs.specs.RunAnswers.{ClockTold}
 
 -- Where a session stands.
 pub record SessionStage : Type 0 where
@@ -21,12 +21,12 @@ pub record SessionStage : Type 0 where
   -- the online database
   pub database : DatabaseStage
   -- the clock
-  pub clock : ClockTold
+  pub clock : AheadTold
   -- what the main thread keeps of the runs of an open session, with its own calls on the engine
   pub runs : Option RunsSeen
 
 -- a session before its first line
-abbrev pub first_stage : DatabaseAccess → DumpFiles → ClockTold → SessionStage
+abbrev pub first_stage : DatabaseAccess → FilesTold → AheadTold → SessionStage
 first_stage access files clock = record {
   quota = 0;
   declared = nothing_declared;
@@ -36,7 +36,7 @@ first_stage access files clock = record {
 }
 
 -- the stage of a session that is not open
-abbrev pub unopened_stage : (quota : ℕ) → Declared → DatabaseStage → ClockTold → SessionStage
+abbrev pub unopened_stage : (quota : ℕ) → Declared → DatabaseStage → AheadTold → SessionStage
 unopened_stage quota declared database clock = record {
   quota = quota;
   declared = declared;
@@ -46,7 +46,7 @@ unopened_stage quota declared database clock = record {
 }
 
 -- the stage of an open session
-abbrev pub open_stage : Declared → DatabaseStage → ClockTold → RunsSeen → SessionStage
+abbrev pub open_stage : Declared → DatabaseStage → AheadTold → RunsSeen → SessionStage
 open_stage declared database clock runs = record {
   quota = runs.quota;
   declared = declared;

@@ -1,4 +1,5 @@
 -- Records of runs go on fitting where calls come behind, and a run command's calls fit its record.
+use Rattle.daq_io.specs.Told.{AheadTold}
 use Rattle.std.specs.Prelude.{◌≡◌, ℕ, zero, suc, List, [], ◌∷◌, ◌++◌, length, map, Option, Some, None, Result, Ok, refl}
 use Rattle.std.specs.List.{AllByRecursion}
 use Rattle.std.specs.Option.{option_map, option_to_list}
@@ -15,7 +16,7 @@ use Rattle.odb_watch.specs.DatabasePorts.{DatabaseAccess, AddsEntries, own_watch
 use Rattle.odb_runinfo.specs.RunSets.{number_asked}
 use Rattle.member_model.specs.RunEngines.{Sheet, ClientTally, EngineEntry}
 use Rattle.transitions.specs.declared.entry.EngineEntry.TheVariants.{Begin}
-use Rattle.engine_laws.specs.BegunTurns.{AreUnmarked}
+use Rattle.history_laws.specs.BegunTurns.{AreUnmarked}
 use Rattle.session_runs.specs.declared.records.RunRecord.{RunRecord}
 use Rattle.session_runs.specs.MainKnowledge.{known_from}
 use Rattle.session_runs.specs.MadeTransitions.{TransitionIn, going_checks, done_check, DrivesTransition}
@@ -25,7 +26,7 @@ use Rattle.session_runs.specs.declared.on.CurrentRun.{CurrentRun}
 use Rattle.session_runs.specs.declared.replies.RunReply.{RunReply}
 use Rattle.session_runs.specs.declared.replies.RunReply.TheVariants.{WrongState, LastStart, RunNumber, StartRefused, Started as run_started, Paused as run_paused, Resumed as run_resumed, Stopped as run_stopped}
 use Rattle.session_runs.specs.KeptRuns.{RunsSeen, record_of, refused_start, behind_start, with_calls}
-use Rattle.session_runs.specs.RunAnswers.{ClockTold, CommandPoint, GotNumber, LacksNumber, BeginsRun, MakesStop, MakesChange, AnswersStart, AnswersStop, AnswersPause, AnswersResume, run_by_start}
+use Rattle.session_runs.specs.RunAnswers.{CommandPoint, GotNumber, LacksNumber, BeginsRun, MakesStop, MakesChange, AnswersStart, AnswersStop, AnswersPause, AnswersResume, run_by_start}
 use Rattle.session_runs.specs.RunEntries.{StartCalls, StopCalls, start_sheet, later_sheet, dump_saved}
 use Rattle.session_runs.specs.RunsFit.{RunClients, run_clients, MainOwn, RecordsFit, calls_joined, StandCalls, FitsStart, FitsStop, FitsWhole, FitsOutcome, FitsRun, FitsCurrent, RunsFit, run_of, start_begun, start_of, start_on, starts_begun}
 
@@ -248,7 +249,7 @@ module _ {M : Type 0} (round : M → M → Type 0) where
   got_fits : OwnGrows → (run : ℕ) (old ready : CommandPoint M) → GotNumber run old ready → RunsFit old.runs (own_watched old.database) → RunsFit ready.runs (own_watched old.database)
   got_fits grows run old ready got fits = subst (λ (s : RunsSeen). RunsFit s (own_watched old.database)) (sym got.runs) fits
 
-  begun_fits : OwnGrows → (run : ℕ) (outcome : StartOutcome) (before after : ClockTold) (old ready new : CommandPoint M) → GotNumber run old ready → BeginsRun round run outcome before after ready new
+  begun_fits : OwnGrows → (run : ℕ) (outcome : StartOutcome) (before after : AheadTold) (old ready new : CommandPoint M) → GotNumber run old ready → BeginsRun round run outcome before after ready new
       → RunsFit old.runs (own_watched old.database) → RunsFit new.runs (own_watched new.database)
   begun_fits grows run outcome before after old ready new got begins fits =
       let s : RunsSeen = ready.runs in
@@ -275,7 +276,7 @@ module _ {M : Type 0} (round : M → M → Type 0) where
   same_fits : (old new : CommandPoint M) → new ≡ old → RunsFit old.runs (own_watched old.database) → RunsFit new.runs (own_watched new.database)
   same_fits old new is fits = subst (λ (p : CommandPoint M). RunsFit p.runs (own_watched p.database)) (sym is) fits
 
-  pub answered_start : OwnGrows → (reply : RunReply) (before after : ClockTold) (old new : CommandPoint M) → AnswersStart round reply before after old new → RunsFit old.runs (own_watched old.database)
+  pub answered_start : OwnGrows → (reply : RunReply) (before after : AheadTold) (old new : CommandPoint M) → AnswersStart round reply before after old new → RunsFit old.runs (own_watched old.database)
       → RunsFit new.runs (own_watched new.database)
   answered_start grows (run_started run) before after old new does fits = begun_fits grows run Completed before after old does.0 new does.1 does.2 fits
   answered_start grows (StartRefused client why) before after old new does fits = begun_fits grows does.0 (Refused client why) before after old does.1.0 new does.1.1 does.1.2 fits
@@ -305,7 +306,7 @@ module _ {M : Type 0} (round : M → M → Type 0) where
     tells = record { sent = refl; files = refl; reports = refl };
   }
 
-  pub stopped_fits : OwnGrows → (r : CurrentRun) (saved : Result (List ℕ) NoMemory) (before after : ClockTold) (old new : CommandPoint M) → MakesStop round r saved before after old new
+  pub stopped_fits : OwnGrows → (r : CurrentRun) (saved : Result (List ℕ) NoMemory) (before after : AheadTold) (old new : CommandPoint M) → MakesStop round r saved before after old new
       → RunsFit old.runs (own_watched old.database) → RunsFit new.runs (own_watched new.database)
   stopped_fits grows r saved before after old new stops fits =
       let s : RunsSeen = old.runs in
@@ -336,7 +337,7 @@ module _ {M : Type 0} (round : M → M → Type 0) where
         on = tt;
       })
 
-  pub answered_stop : OwnGrows → (reply : RunReply) (before after : ClockTold) (old new : CommandPoint M) → AnswersStop round reply before after old new → RunsFit old.runs (own_watched old.database)
+  pub answered_stop : OwnGrows → (reply : RunReply) (before after : AheadTold) (old new : CommandPoint M) → AnswersStop round reply before after old new → RunsFit old.runs (own_watched old.database)
       → RunsFit new.runs (own_watched new.database)
   answered_stop grows (run_stopped run) before after old new does fits = stopped_fits grows does.0 (Ok does.2) before after old new does.3 fits
   answered_stop grows (WrongState state) before after old new does fits = same_fits old new does.1 fits

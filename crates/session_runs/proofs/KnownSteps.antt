@@ -25,8 +25,8 @@ use Rattle.transitions.specs.TurnOrder.{number_with}
 use Rattle.member_model.specs.RunEngines.{Answer as ClientAnswer, EngineEntry, Underway, EngineState}
 use Rattle.daq_types.specs.Callers.{main_caller}
 use Rattle.daq_types.specs.declared.runs.Order.{Order}
-use Rattle.engine_laws.proofs.Standing.{next_called, open_polled, open_called, first_open}
-use Rattle.engine_laws.proofs.Replies.{given_case, GivesTurn, gives_turn, answered_case}
+use Rattle.history_laws.proofs.Standing.{next_called, open_polled, open_called, first_open}
+use Rattle.history_laws.proofs.Replies.{given_case, GivesTurn, gives_turn, answered_case}
 use Rattle.session_runs.specs.MainKnowledge.{MainKnows, state_behind, state_told_at, known_at, begin_known, begin_known_in}
 
 -- the transition in progress, and the state: while all have not answered it is that before

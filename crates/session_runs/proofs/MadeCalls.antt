@@ -1,4 +1,5 @@
 -- A start and a stop, put together.
+use Rattle.daq_io.specs.Told.{AheadTold}
 use Rattle.std.specs.Prelude.{◌≡◌, ◌≢◌, ℕ, Bool, true, false, List, [], ◌∷◌, ◌++◌, length, Option, Some, None, Result, Ok, Err, is_err, IsOk, IfOk, OnErr, refl}
 use Rattle.std.proofs.Common.{ap, sym, subst, ◌∙◌, inr}
 use Rattle.daq_types.specs.declared.memory.NoMemory.{NoMemory}
@@ -24,7 +25,7 @@ use Rattle.session_runs.specs.declared.replies.RunReply.{RunReply}
 use Rattle.session_runs.specs.declared.replies.RunReply.TheVariants.{WrongState, LastStart, RunNumber, StartRefused, Started as run_started, Paused as run_paused, Resumed as run_resumed, Stopped as run_stopped}
 use Rattle.session_runs.specs.KeptRuns.{RunsSeen, IsInStep, behind_start, behind_stop, record_of, refused_start, with_calls}
 use Rattle.session_runs.specs.RunEntries.{AnnounceCalls, AnnouncesStop, BeginCalls, StopCalls, blank_reports, dump_saved, later_sheet, outcome_sets, start_sheet}
-use Rattle.session_runs.specs.RunAnswers.{AnnouncesRun, ClockTold, CommandPoint, CutsAnnouncing, ReadsClock, AnswersBegin, AnswersStart, AnswersStop, BeginsRun, CutsBegin, CutsStart, DrivesStop, GotNumber, MakesStart, MakesStop, StopsUnsaved, point_of, run_by_start}
+use Rattle.session_runs.specs.RunAnswers.{AnnouncesRun, CommandPoint, CutsAnnouncing, ReadsClock, AnswersBegin, AnswersStart, AnswersStop, BeginsRun, CutsBegin, CutsStart, DrivesStop, GotNumber, MakesStart, MakesStop, StopsUnsaved, point_of, run_by_start}
 use Rattle.session_runs.proofs.Calls.{CallsAreEntries, begin_calls, stop_calls}
 use Rattle.session_runs.proofs.Steps.{stop_begins}
 
@@ -90,13 +91,13 @@ not_saved (Ok dump) none = absurd (none dump refl)
 not_saved (Err wanting) none = refl
 
 -- the run was announced, and there was no memory for the text
-pub cut_announced : (run time : ℕ) (saved : Result (List ℕ) NoMemory) (before after : ClockTold) (a b : DatabaseAccess) → ReadsClock before after time
+pub cut_announced : (run time : ℕ) (saved : Result (List ℕ) NoMemory) (before after : AheadTold) (a b : DatabaseAccess) → ReadsClock before after time
     → ((entries : List WatchEntry) × AnnounceCalls run time saved entries × AddsEntries a b entries) → saved ≡ Err (record {}) → CutsAnnouncing run before after a b
 cut_announced run time saved before after a b reading announced is =
     inr (time, announced.0, reading, subst (λ (r : Result (List ℕ) NoMemory). AnnounceCalls run time r announced.0) is announced.1, announced.2)
 
 -- the run was announced, and this text saved
-pub run_announced : (run time quota count : ℕ) (saved : Result (List ℕ) NoMemory) (dump : List ℕ) (blanks : List Totals) (sheet : Sheet) (before after : ClockTold) (a b : DatabaseAccess) → ReadsClock before after time
+pub run_announced : (run time quota count : ℕ) (saved : Result (List ℕ) NoMemory) (dump : List ℕ) (blanks : List Totals) (sheet : Sheet) (before after : AheadTold) (a b : DatabaseAccess) → ReadsClock before after time
     → ((entries : List WatchEntry) × AnnounceCalls run time saved entries × AddsEntries a b entries) → saved ≡ Ok dump → sheet ≡ record { run = run; time = time; quota = quota; dump = Some dump; blanks = blanks } → blanks ≡ blank_reports count
     → AnnouncesRun run quota count before after a b sheet
 run_announced run time quota count saved dump blanks sheet before after a b reading announced is sheet_is made =
@@ -123,7 +124,7 @@ pub on_begins : (r : CurrentRun) (on : Option CurrentRun) (own : List EngineEntr
 on_begins r on own is step between = stop_begins r (known_from own) between.open_yet between.none_going (subst (λ (o : Option CurrentRun). IsInStep o (known_from own)) is step)
 
 module _ {M : Type 0} (round : M → M → Type 0) where
-  pub begins_run : CallsAreEntries → (run start : ℕ) (outcome ended : StartOutcome) (sheet : Sheet) (before after : ClockTold) (s later : RunsSeen)
+  pub begins_run : CallsAreEntries → (run start : ℕ) (outcome ended : StartOutcome) (sheet : Sheet) (before after : AheadTold) (s later : RunsSeen)
       (a b c : DatabaseAccess) (members turned : M) → s.on ≡ None → begin_known (known_from s.main.own) Start ≡ Ok start → AnnouncesRun run s.quota (length s.analyzers) before after a b sheet
       → SetsNumbers b c (outcome_sets run ended) → ended ≡ outcome
       → ((told : List ClientTally) × DrivesTransition round Start sheet start ended told s.main.own later.main.own members turned)
@@ -152,7 +153,7 @@ module _ {M : Type 0} (round : M → M → Type 0) where
       }
 
   -- once the number was got, a start is answered so
-  pub start_answered : (run : ℕ) (reply : RunReply) (before after : ClockTold) (old ready new : CommandPoint M) → GotNumber run old ready → AnswersBegin round run reply before after ready new
+  pub start_answered : (run : ℕ) (reply : RunReply) (before after : AheadTold) (old ready new : CommandPoint M) → GotNumber run old ready → AnswersBegin round run reply before after ready new
       → AnswersStart round reply before after old new
   start_answered run (run_started number) before after old ready new got begins =
       subst (λ (n : ℕ). MakesStart round n Completed before after old new) (sym begins.0) (ready, got, begins.1)
@@ -164,17 +165,17 @@ module _ {M : Type 0} (round : M → M → Type 0) where
   start_answered run (run_resumed number) before after old ready new got begins = absurd begins
   start_answered run (run_stopped number) before after old ready new got begins = absurd begins
 
-  pub start_answers : (result : Result RunReply NoMemory) (run : ℕ) (before after : ClockTold) (old ready new : CommandPoint M) → GotNumber run old ready
+  pub start_answers : (result : Result RunReply NoMemory) (run : ℕ) (before after : AheadTold) (old ready new : CommandPoint M) → GotNumber run old ready
       → IfOk result (λ reply. AnswersBegin round run reply before after ready new) → IfOk result (λ reply. AnswersStart round reply before after old new)
   start_answers (Ok reply) run before after old ready new got begins = start_answered run reply before after old ready new got begins
   start_answers (Err wanting) run before after old ready new got begins = tt
 
-  pub start_cut : (result : Result RunReply NoMemory) (run : ℕ) (before after : ClockTold) (old ready new : CommandPoint M) → IsOk (begin_known (known_from old.runs.main.own) Start) → GotNumber run old ready
+  pub start_cut : (result : Result RunReply NoMemory) (run : ℕ) (before after : AheadTold) (old ready new : CommandPoint M) → IsOk (begin_known (known_from old.runs.main.own) Start) → GotNumber run old ready
       → OnErr result (CutsBegin run before after ready new) → OnErr result (CutsStart before after old new)
   start_cut (Ok reply) run before after old ready new begins got cut = tt
   start_cut (Err wanting) run before after old ready new begins got cut = record { begins = begins; cut = inr (run, ready, got, cut) }
 
-  pub drives_stop : CallsAreEntries → (r : CurrentRun) (start time : ℕ) (outcome : StartOutcome) (state : RunState) (saved : Result (List ℕ) NoMemory) (lacking : Bool) (sheet : Sheet) (tallies : List ClientTally) (before after : ClockTold)
+  pub drives_stop : CallsAreEntries → (r : CurrentRun) (start time : ℕ) (outcome : StartOutcome) (state : RunState) (saved : Result (List ℕ) NoMemory) (lacking : Bool) (sheet : Sheet) (tallies : List ClientTally) (before after : AheadTold)
       (own later : List EngineEntry) (a b c : DatabaseAccess) (members turned : M) → state ≡ (known_from own).state
       → begin_known (known_from own) Stop ≡ Ok start → ReadsClock before after time → ((entries : List WatchEntry) × AnnouncesStop state time saved entries × AddsEntries a b entries)
       → SetsNumbers b c (state_set Stopped) → sheet ≡ later_sheet r time (dump_saved saved) → DrivesTransition round Stop sheet start outcome tallies own later members turned
@@ -198,7 +199,7 @@ module _ {M : Type 0} (round : M → M → Type 0) where
         drives = subst (λ (o : StartOutcome). DrivesTransition round Stop (later_sheet r time (dump_saved saved)) start o tallies own later members turned) completed by_sheet;
       }
 
-  pub stops_run : (r : CurrentRun) (time : ℕ) (lacking : Bool) (tallies : List ClientTally) (before after : ClockTold) (s later : RunsSeen) (a c : DatabaseAccess) (members turned : M)
+  pub stops_run : (r : CurrentRun) (time : ℕ) (lacking : Bool) (tallies : List ClientTally) (before after : AheadTold) (s later : RunsSeen) (a c : DatabaseAccess) (members turned : M)
       → (d : DrivesStop round r time lacking tallies before after s.main.own later.main.own a c members turned)
       → s.on ≡ Some r → begin_known (known_from s.main.own) Stop ≡ Ok r.start → later ≡ with_calls (behind_stop s r time tallies) later.main.own
       → MakesStop round r d.saved before after (point_of s a members) (point_of later c turned)
@@ -217,11 +218,11 @@ module _ {M : Type 0} (round : M → M → Type 0) where
   }
 
   -- the same, where the text was saved or not
-  pub stop_unsaved : (r : CurrentRun) (saved : Result (List ℕ) NoMemory) (before after : ClockTold) (old new : CommandPoint M) → is_err saved ≡ true → MakesStop round r saved before after old new
+  pub stop_unsaved : (r : CurrentRun) (saved : Result (List ℕ) NoMemory) (before after : AheadTold) (old new : CommandPoint M) → is_err saved ≡ true → MakesStop round r saved before after old new
       → StopsUnsaved round before after old new
   stop_unsaved r saved before after old new is makes = (r, subst (λ (x : Result (List ℕ) NoMemory). MakesStop round r x before after old new) (saved_none saved is) makes)
 
-  pub stop_answered : (r : CurrentRun) (saved : Result (List ℕ) NoMemory) (before after : ClockTold) (old new : CommandPoint M) → is_err saved ≡ false → MakesStop round r saved before after old new
+  pub stop_answered : (r : CurrentRun) (saved : Result (List ℕ) NoMemory) (before after : AheadTold) (old new : CommandPoint M) → is_err saved ≡ false → MakesStop round r saved before after old new
       → AnswersStop round (run_stopped r.run) before after old new
   stop_answered r saved before after old new is makes =
       let dump : (text : List ℕ) × (saved ≡ Ok text) = saved_some saved is in

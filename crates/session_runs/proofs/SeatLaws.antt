@@ -9,8 +9,8 @@ use Rattle.daq_types.specs.declared.runs.StartOutcome.TheVariants.{Completed}
 use Rattle.transitions.specs.declared.entry.EngineEntry.TheVariants.{Begin}
 use Rattle.transitions.specs.Engines.{engine_opening}
 use Rattle.member_model.specs.RunEngines.{Sheet, ClientTally, EngineEntry, EngineState, EngineHistory, IsLegalEngine}
-use Rattle.engine_laws.specs.BegunTurns.{AreUnmarked}
-use Rattle.engine_laws.specs.EngineLaws.{MainHasTransition, OthersComplete}
+use Rattle.history_laws.specs.BegunTurns.{AreUnmarked}
+use Rattle.history_laws.specs.EngineLaws.{MainHasTransition, OthersComplete}
 use Rattle.session_runs.specs.declared.opening.MemberName.{MemberName}
 use Rattle.session_runs.specs.MainKnowledge.{MainKnows, known_from}
 use Rattle.session_runs.specs.MadeTransitions.{going_checks, done_check, DrivesTransition}

@@ -5,7 +5,7 @@ use Rattle.daq_types.specs.declared.runs.StartOutcome.{StartOutcome}
 use Rattle.transitions.specs.declared.replies.Progress.TheVariants.{Going, Done}
 use Rattle.member_model.specs.RunEngines.{Sheet, ClientTally, EngineEntry}
 use Rattle.transitions.specs.declared.entry.EngineEntry.TheVariants.{Begin, Check}
-use Rattle.engine_laws.specs.BegunTurns.{AreUnmarked}
+use Rattle.history_laws.specs.BegunTurns.{AreUnmarked}
 use Rattle.member_crew.specs.Rounds.{HadRounds}
 
 -- so many checks, each of which tells that the transition is going on

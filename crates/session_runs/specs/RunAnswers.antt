@@ -1,4 +1,5 @@
 -- What the main thread's run commands do, by their replies.
+use Rattle.daq_io.specs.Told.{AheadTold}
 use Rattle.std.specs.Prelude.{◌≡◌, ◌⊎◌, ℕ, ◌+◌, ℤ, Bool, IsTrue, length, List, Some, None, Result, Ok, Err, is_err, IsOk}
 use Rattle.daq_types.specs.declared.memory.NoMemory.{NoMemory}
 use Rattle.daq_types.specs.declared.runs.StartOutcome.{StartOutcome}
@@ -35,16 +36,8 @@ point_of runs database members = record { runs = runs; database = database; memb
 abbrev pub known_at_point : {M : Type 0} → CommandPoint M → MainKnows
 known_at_point p = known_from p.runs.main.own
 
--- What a clock tells: whether it tells its readings, and those that lie ahead.
-pub record ClockTold : Type 0 where
-  pub tells : Bool
-  pub ahead : ℕ → ℕ
-
-abbrev pub clock_of : (tells : Bool) → (ahead : ℕ → ℕ) → ClockTold
-clock_of tells ahead = record { tells = tells; ahead = ahead }
-
 -- the clock was read once, and gave this time
-pub record ReadsClock (before after : ClockTold) (time : ℕ) : Type 0 where
+pub record ReadsClock (before after : AheadTold) (time : ℕ) : Type 0 where
   pub tells : after.tells ≡ before.tells
   pub value : IsTrue before.tells → time ≡ before.ahead 0
   pub later : IsTrue before.tells → (n : ℕ) → after.ahead n ≡ before.ahead (n + 1)
@@ -75,7 +68,7 @@ pub record GotNumber {M : Type 0} (run : ℕ) (old new : CommandPoint M) : Type 
 
 -- The run of this number was announced in the database, and is begun with this sheet: with a blank report for each of so many
 -- analyzers, the quota, the time that the clock gave, and the database's text.
-pub record AnnouncesRun (run quota analyzers : ℕ) (before after : ClockTold) (old new : DatabaseAccess) (sheet : Sheet) : Type 0 where
+pub record AnnouncesRun (run quota analyzers : ℕ) (before after : AheadTold) (old new : DatabaseAccess) (sheet : Sheet) : Type 0 where
   pub reading : ReadsClock before after sheet.time
   pub dump : List ℕ
   pub entries : List WatchEntry
@@ -85,13 +78,13 @@ pub record AnnouncesRun (run quota analyzers : ℕ) (before after : ClockTold) (
 
 -- Memory ended before the run of this number could be begun. The clock was not read, and the database not called; or the run
 -- was announced there at the time that the clock gave, and there was no memory for the database's text.
-abbrev pub CutsAnnouncing : (run : ℕ) → (before after : ClockTold) → (old new : DatabaseAccess) → Type 0
+abbrev pub CutsAnnouncing : (run : ℕ) → (before after : AheadTold) → (old new : DatabaseAccess) → Type 0
 CutsAnnouncing run before after old new = ((after ≡ before) × (new ≡ old))
     ⊎ ((time : ℕ) × (entries : List WatchEntry) × ReadsClock before after time
     × AnnounceCalls run time (Err (record {})) entries × AddsEntries old new entries)
 
 -- Memory ended before the run of this number was begun, and the main thread keeps what it kept.
-pub record CutsBegin {M : Type 0} (run : ℕ) (before after : ClockTold) (old new : CommandPoint M) : Type 0 where
+pub record CutsBegin {M : Type 0} (run : ℕ) (before after : AheadTold) (old new : CommandPoint M) : Type 0 where
   pub runs : new.runs ≡ old.runs
   pub members : new.members ≡ old.members
   pub calls : CutsAnnouncing run before after old.database new.database
@@ -103,7 +96,7 @@ pub record CutsNumber {M : Type 0} (old new : CommandPoint M) : Type 0 where
   pub members : new.members ≡ old.members
 
 -- Memory ended before a start had begun its run: as it got the number, or behind that.
-pub record CutsStart {M : Type 0} (before after : ClockTold) (old new : CommandPoint M) : Type 0 where
+pub record CutsStart {M : Type 0} (before after : AheadTold) (old new : CommandPoint M) : Type 0 where
   pub begins : IsOk (begin_known (known_at_point old) Start)
   pub cut : ((after ≡ before) × CutsNumber old new)
       ⊎ ((run : ℕ) × (ready : CommandPoint M) × GotNumber run old ready × CutsBegin run before after ready new)
@@ -111,7 +104,7 @@ pub record CutsStart {M : Type 0} (before after : ClockTold) (old new : CommandP
 module _ {M : Type 0} (round : M → M → Type 0) where
   -- The run of this number was begun where none was on, and its start ended so. It is begun with the number, the time that the clock gave, the
   -- quota, and the text of the database behind the first sets; and the last sets come behind its end.
-  pub record BeginsRun (run : ℕ) (outcome : StartOutcome) (before after : ClockTold) (old new : CommandPoint M) : Type 0 where
+  pub record BeginsRun (run : ℕ) (outcome : StartOutcome) (before after : AheadTold) (old new : CommandPoint M) : Type 0 where
     pub idle : old.runs.on ≡ None
     pub start : ℕ
     pub begins : begin_known (known_at_point old) Start ≡ Ok start
@@ -127,12 +120,12 @@ module _ {M : Type 0} (round : M → M → Type 0) where
     pub kept : new.runs ≡ with_calls (behind_start old.runs (run_by_start old.runs run start time) outcome) new.runs.main.own
 
   -- a whole start: the run number is got, and then the run of the next is begun
-  abbrev pub MakesStart : (run : ℕ) → StartOutcome → (before after : ClockTold) → (old new : CommandPoint M) → Type 0
+  abbrev pub MakesStart : (run : ℕ) → StartOutcome → (before after : AheadTold) → (old new : CommandPoint M) → Type 0
   MakesStart run outcome before after old new =
       (ready : CommandPoint M) × GotNumber run old ready × BeginsRun run outcome before after ready new
 
   -- what a start is answered once its number was got
-  abbrev pub AnswersBegin : (run : ℕ) → RunReply → (before after : ClockTold) → (old new : CommandPoint M) → Type 0
+  abbrev pub AnswersBegin : (run : ℕ) → RunReply → (before after : AheadTold) → (old new : CommandPoint M) → Type 0
   AnswersBegin run (run_started number) before after old new =
       (number ≡ run) × BeginsRun run Completed before after old new
   AnswersBegin run (StartRefused client why) before after old new = BeginsRun run (Refused client why) before after old new
@@ -140,7 +133,7 @@ module _ {M : Type 0} (round : M → M → Type 0) where
 
   -- The calls of a stop of this run at this time, on the database, the clock and the engine, and whether there was no memory
   -- for the text of the database.
-  pub record DrivesStop (r : CurrentRun) (time : ℕ) (lacking : Bool) (tallies : List ClientTally) (before after : ClockTold)
+  pub record DrivesStop (r : CurrentRun) (time : ℕ) (lacking : Bool) (tallies : List ClientTally) (before after : AheadTold)
       (own later : List EngineEntry) (old new : DatabaseAccess) (members turned : M) : Type 0 where
     pub saved : Result (List ℕ) NoMemory
     pub lacks : lacking ≡ is_err saved
@@ -154,7 +147,7 @@ module _ {M : Type 0} (round : M → M → Type 0) where
 
   -- The stop of the run that is on. It is begun with the text of the database behind the first sets, if there was memory
   -- for it; the last set comes behind its end; and the record is kept of what the clients told then.
-  pub record MakesStop (r : CurrentRun) (saved : Result (List ℕ) NoMemory) (before after : ClockTold) (old new : CommandPoint M) : Type 0 where
+  pub record MakesStop (r : CurrentRun) (saved : Result (List ℕ) NoMemory) (before after : AheadTold) (old new : CommandPoint M) : Type 0 where
     pub on : old.runs.on ≡ Some r
     pub begins : begin_known (known_at_point old) Stop ≡ Ok r.start
     pub time : ℕ
@@ -181,7 +174,7 @@ module _ {M : Type 0} (round : M → M → Type 0) where
     pub kept : new.runs ≡ with_calls old.runs new.runs.main.own
 
   -- what a start is answered
-  abbrev pub AnswersStart : RunReply → (before after : ClockTold) → (old new : CommandPoint M) → Type 0
+  abbrev pub AnswersStart : RunReply → (before after : AheadTold) → (old new : CommandPoint M) → Type 0
   AnswersStart (run_started run) before after old new = MakesStart run Completed before after old new
   AnswersStart (StartRefused client why) before after old new =
       (run : ℕ) × MakesStart run (Refused client why) before after old new
@@ -190,14 +183,14 @@ module _ {M : Type 0} (round : M → M → Type 0) where
       RefusesKnown reply (known_at_point old) Start × (new ≡ old) × (after ≡ before)
 
   -- a stop
-  abbrev pub AnswersStop : RunReply → (before after : ClockTold) → (old new : CommandPoint M) → Type 0
+  abbrev pub AnswersStop : RunReply → (before after : AheadTold) → (old new : CommandPoint M) → Type 0
   AnswersStop (run_stopped run) before after old new = (r : CurrentRun) × (r.run ≡ run) × (dump : List ℕ)
       × MakesStop r (Ok dump) before after old new
   AnswersStop reply before after old new =
       RefusesKnown reply (known_at_point old) Stop × (new ≡ old) × (after ≡ before)
 
   -- A stop whose text found no memory went on without it.
-  abbrev pub StopsUnsaved : (before after : ClockTold) → (old new : CommandPoint M) → Type 0
+  abbrev pub StopsUnsaved : (before after : AheadTold) → (old new : CommandPoint M) → Type 0
   StopsUnsaved before after old new = (r : CurrentRun) × MakesStop r (Err (record {})) before after old new
 
   -- a pause or a resume of the run of this number, which is on

@@ -11,7 +11,7 @@ ghost use Rattle.session_runs.specs.MainKnowledge.{known_from, begin_known, know
 ghost use Rattle.session_runs.specs.MadeTransitions.{WaitsForEnd, DrivesTransition};
 
 use daq_types::{StartOutcome, Transition};
-use engine_laws::laws::{main_has_transition, tallies_answered};
+use history_laws::engines::{main_has_transition, tallies_answered};
 use member_crew::Rounds;
 use member_model::{Sheet, Tallies};
 use std::sync::Wait;

@@ -1,4 +1,5 @@
 //! How the records of runs stand to the main thread's own calls: each function does nothing, and its contract is the law.
+ghost use Rattle.daq_io.specs.Told.{AheadTold};
 ghost use Rattle.std.specs.Prelude.{◌≡◌, ◌++◌, [], ℕ, List, None};
 ghost use Rattle.odb_watch.specs.DatabasePorts.{own_watched};
 ghost use Rattle.odb_watch.specs.declared.entry.WatchEntry.{WatchEntry};
@@ -7,7 +8,7 @@ ghost use Rattle.session_runs.specs.Members.{registrations};
 ghost use Rattle.session_runs.specs.declared.replies.RunReply.{RunReply};
 ghost use Rattle.session_runs.specs.FileRows.{ChannelsEnd};
 ghost use Rattle.session_runs.specs.KeptRuns.{RunsSeen};
-ghost use Rattle.session_runs.specs.RunAnswers.{AnswersPause, AnswersResume, AnswersStart, AnswersStop, ClockTold, CommandPoint, CutsStart, StopsUnsaved};
+ghost use Rattle.session_runs.specs.RunAnswers.{AnswersPause, AnswersResume, AnswersStart, AnswersStop, CommandPoint, CutsStart, StopsUnsaved};
 ghost use Rattle.session_runs.specs.RunsFit.{run_clients, RecordsFit, RunsFit, starts_begun};
 
 use member_crew::Rounds;
@@ -16,15 +17,15 @@ use odb_watch::port_laws::{calls_add_up, entries_add_up};
 /// Each run command keeps it that the records and the run that is on fit the main thread's own calls on the engine and on
 /// the database.
 pub fn commands_fit<M: Rounds>()
-    ensures start { (reply : RunReply) (before after : ClockTold) (old new : CommandPoint M)
+    ensures start { (reply : RunReply) (before after : AheadTold) (old new : CommandPoint M)
         → AnswersStart M.round reply before after old new
         → RunsFit old.runs (own_watched old.database)
         → RunsFit new.runs (own_watched new.database) }
-    ensures stop { (reply : RunReply) (before after : ClockTold) (old new : CommandPoint M)
+    ensures stop { (reply : RunReply) (before after : AheadTold) (old new : CommandPoint M)
         → AnswersStop M.round reply before after old new
         → RunsFit old.runs (own_watched old.database)
         → RunsFit new.runs (own_watched new.database) }
-    ensures unsaved { (before after : ClockTold) (old new : CommandPoint M)
+    ensures unsaved { (before after : AheadTold) (old new : CommandPoint M)
         → StopsUnsaved M.round before after old new
         → RunsFit old.runs (own_watched old.database)
         → RunsFit new.runs (own_watched new.database) }

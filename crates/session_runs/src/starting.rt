@@ -10,7 +10,7 @@ ghost use Rattle.session_runs.specs.MainKnowledge.{known_from, begin_known};
 ghost use Rattle.member_model.specs.RunEngines.{IsSheet};
 ghost use Rattle.session_runs.specs.KeptRuns.{refused_start};
 ghost use Rattle.session_runs.specs.RunEntries.{AnnounceCalls, outcome_sets};
-ghost use Rattle.session_runs.specs.RunAnswers.{AnnouncesRun, AnswersStart, CutsAnnouncing, CutsStart, AnswersBegin, CutsBegin, ReadsClock, clock_of, point_of};
+ghost use Rattle.session_runs.specs.RunAnswers.{AnnouncesRun, AnswersStart, CutsAnnouncing, CutsStart, AnswersBegin, CutsBegin, ReadsClock, point_of};
 
 use crate::RunRecord;
 use crate::making::{blank_reports, make_untold, start_sheet};
@@ -39,8 +39,8 @@ fn announce<R: Wait, D: WatchPort, C: Clock>(
     run: u32,
 ) -> (u32, Result<Bytes, NoMemory>)
     requires small { run < 2 ^ 31 }
-    ensures reading { ReadsClock (clock_of (C.tells clock.old) (C.ahead clock.old))
-        (clock_of (C.tells clock.new) (C.ahead clock.new)) result.0 }
+    ensures reading { ReadsClock (C.told clock.old)
+        (C.told clock.new) result.0 }
     ensures calls { (entries : List WatchEntry) × AnnounceCalls run result.0 result.1 entries
         × AddsEntries (D.access database.old) (D.access database.new) entries }
     ensures dump { IfOk result.1 (λ dump. length dump ≤ dump_limit) }
@@ -64,13 +64,13 @@ fn announce_run<R: Wait, D: WatchPort, C: Clock>(
 ) -> Result<(RunRooms, Sheet), NoMemory>
     requires small { run < 2 ^ 31 }
     ensures announced { IfOk result (λ made. AnnouncesRun run quota count
-        (clock_of (C.tells clock.old) (C.ahead clock.old))
-        (clock_of (C.tells clock.new) (C.ahead clock.new))
+        (C.told clock.old)
+        (C.told clock.new)
         (D.access database.old) (D.access database.new) made.1) }
     ensures sheet { IfOk result (λ made. IsSheet made.1) }
     ensures interrupted { OnErr result (CutsAnnouncing run
-        (clock_of (C.tells clock.old) (C.ahead clock.old))
-        (clock_of (C.tells clock.new) (C.ahead clock.new))
+        (C.told clock.old)
+        (C.told clock.new)
         (D.access database.old) (D.access database.new)) }
 {
     let rooms = RunRooms::new(alloc)?;
@@ -147,13 +147,13 @@ impl<'a> Runs<'a> {
         requires first { 1 ≤ run }
         requires small { run < 2 ^ 31 }
         ensures did { IfOk result (λ reply. AnswersBegin M.round run reply
-            (clock_of (C.tells clock.old) (C.ahead clock.old))
-            (clock_of (C.tells clock.new) (C.ahead clock.new))
+            (C.told clock.old)
+            (C.told clock.new)
             (point_of self.old (D.access database.old) members.old)
             (point_of self.new (D.access database.new) members.new)) }
         ensures interrupted { OnErr result (CutsBegin run
-            (clock_of (C.tells clock.old) (C.ahead clock.old))
-            (clock_of (C.tells clock.new) (C.ahead clock.new))
+            (C.told clock.old)
+            (C.told clock.new)
             (point_of self.old (D.access database.old) members.old)
             (point_of self.new (D.access database.new) members.new)) }
     {
@@ -205,13 +205,13 @@ impl<'a> Runs<'a> {
         clock: &mut C,
     ) -> Result<RunReply, NoMemory>
         ensures did { IfOk result (λ reply. AnswersStart M.round reply
-            (clock_of (C.tells clock.old) (C.ahead clock.old))
-            (clock_of (C.tells clock.new) (C.ahead clock.new))
+            (C.told clock.old)
+            (C.told clock.new)
             (point_of self.old (D.access database.old) members.old)
             (point_of self.new (D.access database.new) members.new)) }
         ensures interrupted { OnErr result (CutsStart
-            (clock_of (C.tells clock.old) (C.ahead clock.old))
-            (clock_of (C.tells clock.new) (C.ahead clock.new))
+            (C.told clock.old)
+            (C.told clock.new)
             (point_of self.old (D.access database.old) members.old)
             (point_of self.new (D.access database.new) members.new)) }
     {

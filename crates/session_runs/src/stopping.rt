@@ -8,7 +8,7 @@ ghost use Rattle.daq_types.specs.declared.runs.Transition.TheVariants.{Stop};
 ghost use Rattle.session_runs.specs.MainKnowledge.{known_from, begin_known, known_behind};
 ghost use Rattle.session_runs.specs.KeptRuns.{record_of};
 ghost use Rattle.session_runs.specs.RunEntries.{AnnouncesStop, dump_saved};
-ghost use Rattle.session_runs.specs.RunAnswers.{AnswersStop, DrivesStop, StopsUnsaved, ReadsClock, clock_of, point_of};
+ghost use Rattle.session_runs.specs.RunAnswers.{AnswersStop, DrivesStop, StopsUnsaved, ReadsClock, point_of};
 
 use crate::channels::RunChannel;
 use crate::making::sheet_for;
@@ -37,8 +37,8 @@ fn announce_stop<R: Wait, D: WatchPort, C: Clock>(
     clock: &mut C,
     state: RunState,
 ) -> (u32, Result<Bytes, NoMemory>)
-    ensures reading { ReadsClock (clock_of (C.tells clock.old) (C.ahead clock.old))
-        (clock_of (C.tells clock.new) (C.ahead clock.new)) result.0 }
+    ensures reading { ReadsClock (C.told clock.old)
+        (C.told clock.new) result.0 }
     ensures calls { (entries : List WatchEntry) × AnnouncesStop state result.0 result.1 entries
         × AddsEntries (D.access database.old) (D.access database.new) entries }
     ensures dump { IfOk result.1 (λ dump. length dump ≤ dump_limit) }
@@ -129,8 +129,8 @@ fn make_stop<R: Wait, D: WatchPort, M: Rounds, C: Clock>(
     requires begins { IsOk (begin_known (known_from seat.old.own) Stop) }
     requires empty { tallies.old ≡ [] }
     ensures drives { DrivesStop M.round on.now.run result.0 result.1 tallies.new
-        (clock_of (C.tells clock.old) (C.ahead clock.old))
-        (clock_of (C.tells clock.new) (C.ahead clock.new)) seat.old.own seat.new.own
+        (C.told clock.old)
+        (C.told clock.new) seat.old.own seat.new.own
         (D.access database.old) (D.access database.new) members.old members.new }
     ensures known { known_from seat.new.own
         ≡ known_behind Stop Completed (known_from seat.old.own) }
@@ -161,13 +161,13 @@ impl<'a> Runs<'a> {
         clock: &mut C,
     ) -> Result<RunReply, NoMemory>
         ensures did { IfOk result (λ reply. AnswersStop M.round reply
-            (clock_of (C.tells clock.old) (C.ahead clock.old))
-            (clock_of (C.tells clock.new) (C.ahead clock.new))
+            (C.told clock.old)
+            (C.told clock.new)
             (point_of self.old (D.access database.old) members.old)
             (point_of self.new (D.access database.new) members.new)) }
         ensures unsaved { OnErr result (StopsUnsaved M.round
-            (clock_of (C.tells clock.old) (C.ahead clock.old))
-            (clock_of (C.tells clock.new) (C.ahead clock.new))
+            (C.told clock.old)
+            (C.told clock.new)
             (point_of self.old (D.access database.old) members.old)
             (point_of self.new (D.access database.new) members.new)) }
     {

@@ -12,11 +12,11 @@ returns-clause-back g c =
     let before = c.args.crew.members in
     let between = c.play-played.result.1.members in
     let after = c.end_all.new.members in
-    let kept = rounds_kept turns g.K.Pick.tells g.K.Pick.ahead rounds.0 c.args.crew c.play-played.result.1 rounds.1 in
+    let kept = rounds_kept turns g.K.Pick.told rounds.0 c.args.crew c.play-played.result.1 rounds.1 in
     back_behind turns before between after (so_many_had turns rounds.0 before between kept.had) (subst (λ members. CameBack turns members after) c.into_parts-members.ensures.members c.end_all.ensures)
 
 pub returns-clause-pick : goal.returns-clause-pick
 returns-clause-pick g c =
     let rounds = c.play-played.ensures.rounds in
-    let kept = rounds_kept g.M.TakesTurns.turns g.K.Pick.tells g.K.Pick.ahead rounds.0 c.args.crew c.play-played.result.1 rounds.1 in
-    (rounds.0, subst (λ pick. ReadsPick g.K.Pick.tells g.K.Pick.ahead rounds.0 c.args.crew.pick pick) (sym c.into_parts-members.ensures.pick) kept.pick)
+    let kept = rounds_kept g.M.TakesTurns.turns g.K.Pick.told rounds.0 c.args.crew c.play-played.result.1 rounds.1 in
+    (rounds.0, subst (λ pick. ReadsPick g.K.Pick.told rounds.0 c.args.crew.pick pick) (sym c.into_parts-members.ensures.pick) kept.pick)

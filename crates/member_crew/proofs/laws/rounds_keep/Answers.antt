@@ -2,4 +2,4 @@ use Rattle.member_crew.proofs.CrewLaws.{rounds_kept}
 use Rattle.member_crew.proofs.laws.rounds_keep.Goals as goal
 
 pub returns : goal.returns
-returns g c = rounds_kept g.M.TakesTurns.turns g.K.Pick.tells g.K.Pick.ahead
+returns g c = rounds_kept g.M.TakesTurns.turns g.K.Pick.told

@@ -5,11 +5,11 @@ use Rattle.odb_commands.proofs.file_reading.read_on.Given as goal
 
 abbrev pub invariant-loop-files : goal.invariant-loop-files
 invariant-loop-files g l = record {
-  reads : Reads (g.E.Files.seen l.fn.files) (g.E.Files.seen l.files) l.file l.text.items;
+  reads : Reads (g.E.Files.told l.fn.files).seen (g.E.Files.told l.files).seen l.file l.text.items;
   room : 0 < length l.block;
-  faults : g.E.Files.faults l.files ≡ g.E.Files.faults l.fn.files;
-  clashes : g.E.Files.clashes l.files ≡ g.E.Files.clashes l.fn.files;
-  first : g.E.Files.first l.files ≡ g.E.Files.first l.fn.files;
+  faults : (g.E.Files.told l.files).faults ≡ (g.E.Files.told l.fn.files).faults;
+  clashes : (g.E.Files.told l.files).clashes ≡ (g.E.Files.told l.fn.files).clashes;
+  first : (g.E.Files.told l.files).first ≡ (g.E.Files.told l.fn.files).first;
 }
 
 abbrev pub decreases-loop-files : goal.decreases-loop-files

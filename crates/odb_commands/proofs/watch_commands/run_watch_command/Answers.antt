@@ -5,7 +5,7 @@ use Rattle.odb_commands.proofs.watch_commands.run_watch_command.Goals as goal
 
 pub returns-in-Save-clause-ends : goal.returns-in-Save-clause-ends
 returns-in-Save-clause-ends g c =
-    rw c.in-Save.is (named_as _ _ _ _ (SavesFile (g.E.Files.seen c.args.files.now) (g.E.Files.seen c.save.new.files)) _ _ _ c.as_slice-in-Save.ensures c.save.ensures.ends)
+    rw c.in-Save.is (named_as _ _ _ _ (SavesFile (g.E.Files.told c.args.files.now).seen (g.E.Files.told c.save.new.files).seen) _ _ _ c.as_slice-in-Save.ensures c.save.ensures.ends)
 
 pub returns-in-Load-clause-same : goal.returns-in-Load-clause-same
 returns-in-Load-clause-same g c = port_stays c.entries_add_up.ensures.same _ _ _ _ c.load.ensures.ends

@@ -9,6 +9,7 @@ use Rattle.session_commands.proofs.QuotaLaws.{script_asks}
 use Rattle.session_commands.proofs.SpareLaws.{SpareLaws}
 use Rattle.session_commands.proofs.SpareLines.{script_saved, script_spares}
 use Rattle.session_commands.proofs.StageLaws.{FitLaws, line_breaks, line_keeps, script_closes, script_gives_up}
+use Rattle.session_commands.proofs.WholeSaves.{script_saves}
 use Rattle.session_commands.proofs.laws.scripts_keep.Goals as goal
 
 pub returns : goal.returns
@@ -35,13 +36,14 @@ returns c = λ first final ending closing source left told_first told refusals f
       kept = λ kept.
           closing_keeps DoesScriptLine BreaksScriptLine ClosesScript GivesUp StageKept (λ old new reply. script_closes fits old new reply) (script_gives_up fits)
           closing finished.behind finished.cut final finished.closed
-          (cut_keeps DoesScriptLine BreaksScriptLine ClosesScript GivesUp StageKept (line_breaks fits) ending source finished.lines finished.between finished.cut finished.is_cut
+          (cut_keeps DoesScriptLine BreaksScriptLine ClosesScript GivesUp StageKept (line_breaks fits) ending source left finished.lines finished.between finished.cut finished.is_cut
           (plays_keep DoesScriptLine BreaksScriptLine ClosesScript GivesUp StageKept (line_keeps fits) 1 finished.lines finished.replies first finished.between finished.plays kept));
       over = script_over first final ending closing source left told_first told refusals finished;
       spares = script_spares spares first final ending closing source left told_first told refusals finished;
       saved = script_saved spares first final ending closing source left told_first told refusals finished;
       quotas = script_asks first final ending closing source left told_first told refusals finished;
       dumps = script_keeps first final ending closing source left told_first told refusals finished;
+      saves = script_saves spares first final ending closing source left told_first told refusals finished;
       faults = script_told first final ending closing source left told_first told refusals finished;
       one_reply = script_counted first final ending closing source left told_first told refusals finished;
     }

@@ -18,8 +18,8 @@ returns-clause-ready g c = λ at behind now ready final ending closing opens fin
 
 pub returns-clause-cut : goal.returns-clause-cut
 returns-clause-cut g c = λ at now new cut first source written opening.
-    c.lines_end.ensures.quiet first new new _ source at.left written at.written at.refusals
-    (c.lines_end.ensures.broken first now new source at.left written at.written at.reading at.last at.refusals at.number opening.has (cut_breaks (at.number + 1) _ opening.left now new cut))
+    c.lines_end.ensures.quiet first new new _ source at.source written at.written at.refusals
+    (c.lines_end.ensures.broken first now new source at.source written at.written at.reading at.last at.refusals at.number opening.has (cut_breaks (at.number + 1) _ opening.left now new cut))
     (closes_nothing new (still_closed now new cut))
 
 pub returns-clause-unopened : goal.returns-clause-unopened

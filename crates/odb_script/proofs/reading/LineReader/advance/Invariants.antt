@@ -5,8 +5,8 @@ use Rattle.odb_script.proofs.reading.LineReader.advance.Given as goal
 
 abbrev pub invariant-line : goal.invariant-line
 invariant-line g l = record {
-  so_far : SoFar l.fn.self l.self (g.S.Source.left l.fn.source) (g.S.Source.left l.source);
-  faults : g.S.Source.faults l.source ≡ g.S.Source.faults l.fn.source;
+  so_far : SoFar l.fn.self l.self (g.S.Source.told l.fn.source) (g.S.Source.told l.source);
+  faults : (g.S.Source.told l.source).faults ≡ (g.S.Source.told l.fn.source).faults;
 }
 
 abbrev pub decreases-line : goal.decreases-line

@@ -4,7 +4,7 @@ use Rattle.std.proofs.Common.{ap, subst, ◌∙◌}
 use Rattle.daq_types.specs.declared.runs.StartOutcome.TheVariants.{Completed, Refused}
 use Rattle.session_runs.specs.declared.on.CurrentRun.{CurrentRun}
 use Rattle.session_runs.specs.KeptRuns.{RunsSeen}
-use Rattle.session_runs.specs.RunAnswers.{AnnouncesRun, BeginsRun, clock_of, point_of}
+use Rattle.session_runs.specs.RunAnswers.{AnnouncesRun, BeginsRun, point_of}
 use Rattle.session_runs.proofs.MadeCalls.{begins_run, kept_on, kept_refused, seen_of}
 use Rattle.session_runs.proofs.runs.Runs.start_run.Goals as goal
 
@@ -16,8 +16,8 @@ returns-in-Completed-clause-did g c =
     let sheet = c.in_ok-rooms.sheet in
     let time = sheet.time in
     let access = g.D.DatabasePort.access in
-    let before = clock_of (g.C.Clock.tells c.args.clock.now) (g.C.Clock.ahead c.args.clock.now) in
-    let after = clock_of (g.C.Clock.tells c.announce_run.new.clock) (g.C.Clock.ahead c.announce_run.new.clock) in
+    let before = g.C.Clock.told c.args.clock.now in
+    let after = g.C.Clock.told c.announce_run.new.clock in
     let announced : AnnouncesRun c.args.run inside.quota (length inside.analyzers) before after (access c.args.database.now) (access c.announce_run.new.database) sheet =
     subst (λ (n : ℕ). AnnouncesRun c.args.run inside.quota n before after (access c.args.database.now) (access c.announce_run.new.database) sheet) c.len-count.ensures c.in_ok-rooms.ensures.announced in
     let current : CurrentRun = record { run = c.args.run; start = c.make_untold-made.result.start; time = time; quota = inside.quota } in
@@ -43,8 +43,8 @@ returns-in-Refused-clause-did g c =
     let time = sheet.time in
     let outcome = c.make_untold-made.result.outcome in
     let access = g.D.DatabasePort.access in
-    let before = clock_of (g.C.Clock.tells c.args.clock.now) (g.C.Clock.ahead c.args.clock.now) in
-    let after = clock_of (g.C.Clock.tells c.announce_run.new.clock) (g.C.Clock.ahead c.announce_run.new.clock) in
+    let before = g.C.Clock.told c.args.clock.now in
+    let after = g.C.Clock.told c.announce_run.new.clock in
     let announced : AnnouncesRun c.args.run inside.quota (length inside.analyzers) before after (access c.args.database.now) (access c.announce_run.new.database) sheet =
     subst (λ (n : ℕ). AnnouncesRun c.args.run inside.quota n before after (access c.args.database.now) (access c.announce_run.new.database) sheet) c.len-count.ensures c.in_ok-rooms.ensures.announced in
     let current : CurrentRun = record { run = c.args.run; start = c.make_untold-made.result.start; time = time; quota = inside.quota } in

@@ -3,7 +3,7 @@ use Rattle.std.specs.Option.{option_map}
 use Rattle.std.proofs.Common.{ap, sym, subst, ◌∙◌}
 use Rattle.session_runs.specs.declared.on.CurrentRun.{CurrentRun}
 use Rattle.session_runs.specs.KeptRuns.{RunsSeen}
-use Rattle.session_runs.specs.RunAnswers.{MakesStop, clock_of, point_of}
+use Rattle.session_runs.specs.RunAnswers.{MakesStop, point_of}
 use Rattle.session_runs.proofs.MadeCalls.{kept_stopped, on_begins, recorded, seen_of, stop_answered, stop_unsaved, stops_run}
 use Rattle.session_runs.proofs.runs.Runs.stop.Goals as goal
 
@@ -21,8 +21,8 @@ returns-then-lacking-clause-unsaved g c =
     let time = c.make_stop-time.result.0 in
     let tallies = c.make_stop-time.new.tallies in
     let access = g.D.DatabasePort.access in
-    let before = clock_of (g.C.Clock.tells c.args.clock.now) (g.C.Clock.ahead c.args.clock.now) in
-    let after = clock_of (g.C.Clock.tells c.make_stop-time.new.clock) (g.C.Clock.ahead c.make_stop-time.new.clock) in
+    let before = g.C.Clock.told c.args.clock.now in
+    let after = g.C.Clock.told c.make_stop-time.new.clock in
     let drives = c.make_stop-time.ensures.drives in
     let was_on : Option CurrentRun = option_map (λ o. o.run) inside.on in
     let is_on : Option CurrentRun = option_map (λ o. o.run) c.take.new.self in
@@ -47,8 +47,8 @@ returns-clause-did g c =
     let time = c.make_stop-time.result.0 in
     let tallies = c.make_stop-time.new.tallies in
     let access = g.D.DatabasePort.access in
-    let before = clock_of (g.C.Clock.tells c.args.clock.now) (g.C.Clock.ahead c.args.clock.now) in
-    let after = clock_of (g.C.Clock.tells c.make_stop-time.new.clock) (g.C.Clock.ahead c.make_stop-time.new.clock) in
+    let before = g.C.Clock.told c.args.clock.now in
+    let after = g.C.Clock.told c.make_stop-time.new.clock in
     let drives = c.make_stop-time.ensures.drives in
     let was_on : Option CurrentRun = option_map (λ o. o.run) inside.on in
     let is_on : Option CurrentRun = option_map (λ o. o.run) c.take.new.self in
