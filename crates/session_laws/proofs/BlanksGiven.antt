@@ -9,7 +9,7 @@ use Rattle.daq_types.specs.declared.runs.Transition.TheVariants.{Start}
 use Rattle.daq_types.specs.declared.runs.Why.TheVariants.{NotReady}
 use Rattle.member_model.specs.RunEngines.{Sheet, ClientTally, EngineEntry}
 use Rattle.transitions.specs.declared.entry.EngineEntry.TheVariants.{Register, Begin, Poll, Answer, Check, Close}
-use Rattle.engine_laws.specs.BegunTurns.{HasTransition}
+use Rattle.history_laws.specs.BegunTurns.{HasTransition}
 use Rattle.daq_members.specs.OwnTurns.{is_call_for}
 use Rattle.session_runs.specs.Members.{registrations}
 use Rattle.session_runs.specs.RunsFit.{SteersEngine}

@@ -12,6 +12,7 @@ use Rattle.daq_types.specs.declared.runs.Transition.TheVariants.{Start, Stop}
 use Rattle.daq_types.specs.declared.runs.Why.{Why}
 use Rattle.daq_types.specs.declared.runs.Why.TheVariants.{NotReady, Exists, Fault, BufferRefused}
 use Rattle.daq_io.specs.Counts.{Rose}
+use Rattle.daq_io.specs.Told.{FilesTold}
 use Rattle.transitions.specs.declared.answers.Answer.TheVariants.{Yes, No}
 use Rattle.transitions.specs.declared.answers.Tally.TheVariants.{Channels}
 use Rattle.transitions.specs.EngineCalls.{order_for}
@@ -20,15 +21,14 @@ use Rattle.member_model.specs.RunEngines.{Sheet, Answer, ClientTally, EngineEntr
 use Rattle.member_model.specs.Turns.{MemberTurn, HasTurn}
 use Rattle.member_model.specs.TurnCalls.{member_turns}
 use Rattle.member_model.specs.LoggerKept.{LoggerChannel, IsStateSo}
-use Rattle.loggers.specs.Moments.{RunFiles}
 use Rattle.loggers.specs.LoggerStands.{logger_channels}
 use Rattle.loggers.specs.OtherFiles.{specs_in}
 use Rattle.loggers.specs.Reasons.{AreEndsSo, AreAnswersSo, NamesRefuser, AnswerFits, ReasonsTell}
 use Rattle.loggers.specs.LeftNames.{NoneRose}
 use Rattle.analyzers.specs.AnalyzerKept.{IsAnalyzerReason}
 use Rattle.session_laws.specs.BlankLaws.{BlanksSuffice}
-use Rattle.engine_laws.specs.BegunTurns.{HasTransition, IsRefusedTurn, IsTallyOfTurn}
-use Rattle.engine_laws.specs.EngineLaws.{MainHasTransition, RefusalsAreAnswers, TalliesAreAnswers, RunsAreOver}
+use Rattle.history_laws.specs.BegunTurns.{HasTransition, IsRefusedTurn, IsTallyOfTurn}
+use Rattle.history_laws.specs.EngineLaws.{MainHasTransition, RefusalsAreAnswers, TalliesAreAnswers, RunsAreOver}
 use Rattle.composition.specs.Sessions.{Session, buffer_calls}
 use Rattle.composition.specs.SessionRuns.{SessionRun, IsStoppedRun, ToldChannel}
 use Rattle.composition.specs.CompositionLaws.{IsComposed}
@@ -73,15 +73,15 @@ refused_turn laws c ends sheet start client why tallies has =
     laws.refusals (caller_of_client client) client c.engine ends.engine (speaks client c.engine (names_own c ends)) sheet start why tallies has
 
 -- who refuses has calls on the engine: it is a front-end, or the logger
-abbrev RefusesBy : (c : ClosedSession) → (first now : RunFiles) → (sheet : Sheet) → (start : ℕ) → (why : Why) → (tallies : List ClientTally) → (by : ℕ) → Type 0
+abbrev RefusesBy : (c : ClosedSession) → (first now : FilesTold) → (sheet : Sheet) → (start : ℕ) → (why : Why) → (tallies : List ClientTally) → (by : ℕ) → Type 0
 RefusesBy c first now sheet start why tallies by =
     (client : ℕ) → by ≡ caller_of_client client → (turn : MemberTurn) → HasTurn (member_turns client (engine_calls c by)) turn → turn.transition ≡ Start → turn.answer ≡ Some (No why) → HasTransition c.engine Start sheet start (Refused client why) tallies
     → IsRefusedSo c first now sheet start client why
 
-main_refuses : (c : ClosedSession) (first now : RunFiles) (sheet : Sheet) (start : ℕ) (why : Why) (tallies : List ClientTally) → RefusesBy c first now sheet start why tallies main_caller
+main_refuses : (c : ClosedSession) (first now : FilesTold) (sheet : Sheet) (start : ℕ) (why : Why) (tallies : List ClientTally) → RefusesBy c first now sheet start why tallies main_caller
 main_refuses c first now sheet start why tallies client is turn stands starts answered has = absurd (omega (arith, is))
 
-front_refuses : CountLaws → (c : ClosedSession) → MembersAtEnd c → (first now : RunFiles) (sheet : Sheet) (start : ℕ) (why : Why) (tallies : List ClientTally) (n : ℕ) (f : ClosedFront) → slice_get c.fronts n ≡ Some f → RefusesBy c first now sheet start why tallies (caller_of_client n)
+front_refuses : CountLaws → (c : ClosedSession) → MembersAtEnd c → (first now : FilesTold) (sheet : Sheet) (start : ℕ) (why : Why) (tallies : List ClientTally) (n : ℕ) (f : ClosedFront) → slice_get c.fronts n ≡ Some f → RefusesBy c first now sheet start why tallies (caller_of_client n)
 front_refuses laws c ends first now sheet start why tallies n f at client is turn stands starts answered has =
     let same : client ≡ n = omega (arith, is) in
     let mine : HasTransition c.engine Start sheet start (Refused n why) tallies = subst (λ (k : ℕ). HasTransition c.engine Start sheet start (Refused k why) tallies) same has in
@@ -90,16 +90,16 @@ front_refuses laws c ends first now sheet start why tallies n f at client is tur
     inl (record { front = f; stands = subst (λ (k : ℕ). slice_get c.fronts k ≡ Some f) (sym same) at; why_is = so.0; no_part = so.1 })
 
 -- each answer of the logger rests on what was counted
-answers_so : CountLaws → (c : ClosedSession) (ends : MembersAtEnd c) (first now : RunFiles) → LoggerReasons c ends first now → AreAnswersSo (member_turns (logger_client c) (engine_calls c (logger_caller c))) first now
+answers_so : CountLaws → (c : ClosedSession) (ends : MembersAtEnd c) (first now : FilesTold) → LoggerReasons c ends first now → AreAnswersSo (member_turns (logger_client c) (engine_calls c (logger_caller c))) first now
 answers_so laws c ends first now reasons = laws.tell c.slots ends.logger.ports first now (member_turns (logger_client c) (engine_calls c (logger_caller c))) reasons
 
 -- the channel for whose file the logger refused a start is one of its own
-refuser_so : (c : ClosedSession) (ends : MembersAtEnd c) (first now : RunFiles) → LoggerReasons c ends first now → (why : Why) (turn : MemberTurn) → HasTurn (member_turns (logger_client c) (engine_calls c (logger_caller c))) turn → turn.answer ≡ Some (No why) → NamesRefuser why (specs_in c.slots)
+refuser_so : (c : ClosedSession) (ends : MembersAtEnd c) (first now : FilesTold) → LoggerReasons c ends first now → (why : Why) (turn : MemberTurn) → HasTurn (member_turns (logger_client c) (engine_calls c (logger_caller c))) turn → turn.answer ≡ Some (No why) → NamesRefuser why (specs_in c.slots)
 refuser_so c ends first now reasons why turn stands answered =
     (subst (λ (answer : Option Answer). AnswerFits (specs_in c.slots) turn.transition answer) answered (reasons.fits turn stands)).channels
 
 -- why the logger answered so
-logger_reason : CountLaws → (c : ClosedSession) (ends : MembersAtEnd c) (first now : RunFiles) → LoggerReasons c ends first now → (why : Why) (turn : MemberTurn) → HasTurn (member_turns (logger_client c) (engine_calls c (logger_caller c))) turn → turn.transition ≡ Start → turn.answer ≡ Some (No why)
+logger_reason : CountLaws → (c : ClosedSession) (ends : MembersAtEnd c) (first now : FilesTold) → LoggerReasons c ends first now → (why : Why) (turn : MemberTurn) → HasTurn (member_turns (logger_client c) (engine_calls c (logger_caller c))) turn → turn.transition ≡ Start → turn.answer ≡ Some (No why)
     → IsLoggerReason c why first now
 logger_reason laws c ends first now reasons NotReady turn stands starts answered = absurd (never_unready laws.turns laws.over c ends turn stands starts answered)
 logger_reason laws c ends first now reasons (Exists channel) turn stands starts answered =
@@ -108,7 +108,7 @@ logger_reason laws c ends first now reasons (Fault channel) turn stands starts a
     (refuser_so c ends first now reasons (Fault channel) turn stands answered, answers_so laws c ends first now reasons turn (No (Fault channel)) stands answered)
 logger_reason laws c ends first now reasons BufferRefused turn stands starts answered = absurd (logger_granted laws.turns laws.asking c ends laws.over (reasons.buffers turn stands answered))
 
-logger_refuses : CountLaws → (c : ClosedSession) (ends : MembersAtEnd c) (first now : RunFiles) → LoggerReasons c ends first now → (sheet : Sheet) (start : ℕ) (why : Why) (tallies : List ClientTally) → RefusesBy c first now sheet start why tallies (logger_caller c)
+logger_refuses : CountLaws → (c : ClosedSession) (ends : MembersAtEnd c) (first now : FilesTold) → LoggerReasons c ends first now → (sheet : Sheet) (start : ℕ) (why : Why) (tallies : List ClientTally) → RefusesBy c first now sheet start why tallies (logger_caller c)
 logger_refuses laws c ends first now reasons sheet start why tallies client is turn stands starts answered has =
     let same : client ≡ logger_client c = omega (arith, is) in
     let mine : HasTurn (member_turns (logger_client c) (engine_calls c (logger_caller c))) turn = subst (λ (k : ℕ). HasTurn (member_turns k (engine_calls c (logger_caller c))) turn) same stands in
@@ -123,7 +123,7 @@ analyzer_reason laws c ends place a at sheet start tallies (Exists channel) has 
 analyzer_reason laws c ends place a at sheet start tallies (Fault channel) has so = absurd so
 analyzer_reason laws c ends place a at sheet start tallies BufferRefused has so = absurd (analyzer_granted laws.turns laws.asking c ends place a at so)
 
-analyzer_refuses : CountLaws → (c : ClosedSession) → MembersAtEnd c → (first now : RunFiles) (sheet : Sheet) (start : ℕ) (why : Why) (tallies : List ClientTally) (place : ℕ) (a : ClosedAnalyzer) → slice_get c.analyzers place ≡ Some a → RefusesBy c first now sheet start why tallies (caller_of_client (analyzer_client c place))
+analyzer_refuses : CountLaws → (c : ClosedSession) → MembersAtEnd c → (first now : FilesTold) (sheet : Sheet) (start : ℕ) (why : Why) (tallies : List ClientTally) (place : ℕ) (a : ClosedAnalyzer) → slice_get c.analyzers place ≡ Some a → RefusesBy c first now sheet start why tallies (caller_of_client (analyzer_client c place))
 analyzer_refuses laws c ends first now sheet start why tallies place a at client is turn stands starts answered has =
     let n : ℕ = analyzer_client c place in
     let same : client ≡ n = omega (arith, is) in
@@ -131,11 +131,11 @@ analyzer_refuses laws c ends first now sheet start why tallies place a at client
     let of : HasTransition c.engine Start sheet start (Refused n why) tallies = subst (λ (k : ℕ). HasTransition c.engine Start sheet start (Refused k why) tallies) same has in
     inr (inr (subst (λ (k : ℕ). IsAnalyzerRefusal c sheet k why) (sym same) (analyzer_reason laws c ends place a at sheet start tallies why of ((ends.analyzers place a at).stands.stands.asks.refusals turn why mine answered))))
 
-other_refuses : (c : ClosedSession) (first now : RunFiles) (sheet : Sheet) (start : ℕ) (why : Why) (tallies : List ClientTally) (by : ℕ) → engine_calls c by ≡ [] → RefusesBy c first now sheet start why tallies by
+other_refuses : (c : ClosedSession) (first now : FilesTold) (sheet : Sheet) (start : ℕ) (why : Why) (tallies : List ClientTally) (by : ℕ) → engine_calls c by ≡ [] → RefusesBy c first now sheet start why tallies by
 other_refuses c first now sheet start why tallies by none client is turn stands starts answered has =
     absurd (subst (λ (calls : List EngineEntry). HasTurn (member_turns client calls) turn) none stands)
 
-refused_so : CountLaws → (c : ClosedSession) (ends : MembersAtEnd c) (first now : RunFiles) → LoggerReasons c ends first now → (sheet : Sheet) (start client : ℕ) (why : Why) (tallies : List ClientTally) → TransitionIn (engine_calls c main_caller) Start sheet start (Refused client why) tallies
+refused_so : CountLaws → (c : ClosedSession) (ends : MembersAtEnd c) (first now : FilesTold) → LoggerReasons c ends first now → (sheet : Sheet) (start client : ℕ) (why : Why) (tallies : List ClientTally) → TransitionIn (engine_calls c main_caller) Start sheet start (Refused client why) tallies
     → IsRefusedSo c first now sheet start client why
 refused_so laws c ends first now reasons sheet start client why tallies made =
     let has : HasTransition c.engine Start sheet start (Refused client why) tallies = has_made laws.main c.engine Start sheet start (Refused client why) tallies ends.engine made in
@@ -156,7 +156,7 @@ started_so laws c ends sheet start tallies made client f at =
 
 -- Channels.
 
-broken_so : CountLaws → (c : ClosedSession) (ends : MembersAtEnd c) (first now : RunFiles) → LoggerReasons c ends first now → (moments : (client : ℕ) → List ℕ) (r : SessionRun) → RunIn (engine_calls c main_caller) r → (channel : LoggerChannel) (told : ChannelEnd) → ToldChannel (session_of c moments) r channel told
+broken_so : CountLaws → (c : ClosedSession) (ends : MembersAtEnd c) (first now : FilesTold) → LoggerReasons c ends first now → (moments : (client : ℕ) → List ℕ) (r : SessionRun) → RunIn (engine_calls c main_caller) r → (channel : LoggerChannel) (told : ChannelEnd) → ToldChannel (session_of c moments) r channel told
     → told.state ≡ Broken → Rose first.faults now.faults
 broken_so laws c ends first now reasons moments r made channel told tells broken =
     let n : ℕ = logger_client c in
@@ -180,7 +180,7 @@ state_is s composed r run index channel at told tells none Ended is so = with_du
 state_is s composed r run index channel at told tells none NoEnd is so = ap state_by_dump (sym so.0)
 state_is s composed r run index channel at told tells none NoMark is so = absurd (composed.no_end_refused r run index channel at told tells is)
 
-ended_so : CountLaws → (c : ClosedSession) (ends : MembersAtEnd c) (first now : RunFiles) → LoggerReasons c ends first now → (Rose first.faults now.faults → ⊥) → (moments : (client : ℕ) → List ℕ) (r : SessionRun) → RunIn (engine_calls c main_caller) r → (index : ℕ) (channel : LoggerChannel)
+ended_so : CountLaws → (c : ClosedSession) (ends : MembersAtEnd c) (first now : FilesTold) → LoggerReasons c ends first now → (Rose first.faults now.faults → ⊥) → (moments : (client : ℕ) → List ℕ) (r : SessionRun) → RunIn (engine_calls c main_caller) r → (index : ℕ) (channel : LoggerChannel)
     → slice_get (logger_channels (λ number. 0) c.slots) index ≡ Some channel → (told : ChannelEnd) → ToldChannel (session_of c moments) r channel told → told.state ≡ state_by_dump r.last.dump
 ended_so laws c ends first now reasons stays moments r made index channel at told tells =
     let composed = laws.composed c ends in
@@ -191,7 +191,7 @@ ended_so laws c ends first now reasons stays moments r made index channel at tol
 
 -- Names that were taken.
 
-taken_so : CountLaws → (c : ClosedSession) (ends : MembersAtEnd c) (first now : RunFiles) → LoggerReasons c ends first now → LoggerNames c ends first now → IsTrue first.seen.tells → NoneRose first now → AreStartsOver (engine_calls c main_caller)
+taken_so : CountLaws → (c : ClosedSession) (ends : MembersAtEnd c) (first now : FilesTold) → LoggerReasons c ends first now → LoggerNames c ends first now → IsTrue first.seen.names → NoneRose first now → AreStartsOver (engine_calls c main_caller)
     → (sheet : Sheet) (start number : ℕ) (tallies : List ClientTally) → TransitionIn (engine_calls c main_caller) Start sheet start (Refused (logger_client c) (Exists number)) tallies → IsTakenName c first.seen sheet.run start number
 taken_so laws c ends first now reasons names tells none over sheet start number tallies made =
     let n : ℕ = logger_client c in

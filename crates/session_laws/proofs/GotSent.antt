@@ -4,8 +4,8 @@ use Rattle.std.specs.List.{AllByRecursion}
 use Rattle.buffer_core.specs.Window.{opening}
 use Rattle.buffer_core.specs.Histories.{History, IsLegal}
 use Rattle.buffer_core.specs.CallersView.{given_in}
-use Rattle.caller_laws.specs.OneCaller.{WasSentAt}
-use Rattle.caller_laws.specs.CallerLaws.{PortTells}
+use Rattle.history_laws.specs.OneCaller.{WasSentAt}
+use Rattle.history_laws.specs.CallerLaws.{PortTells}
 use Rattle.session_laws.specs.ClosedSessions.{ClosedBuffer, ClosedSession, size_in, history_in, size_of_buffer, history_of_buffer}
 use Rattle.session_laws.specs.MembersAtEnd.{MembersAtEnd}
 

@@ -1,6 +1,6 @@
 -- How many blank reports a start has left: at each point of a history, as many as its sheet had, or no fewer less than clients
 -- that want one were given their turn.
-use Rattle.std.specs.Prelude.{◌≡◌, ℕ, zero, suc, ◌+◌, ◌≤◌, ◌&&◌, not, nat_lt, Bool, true, false, if◌then◌else◌, drop, length, slice_get, List, [], ◌∷◌, ◌++◌, Option, Some, None, Ok, Err, refl, ⊤}
+use Rattle.std.specs.Prelude.{◌≡◌, ℕ, zero, suc, ◌+◌, ◌≤◌, ◌&&◌, nat_lt, Bool, true, false, if◌then◌else◌, drop, length, slice_get, List, [], ◌∷◌, ◌++◌, Option, Some, None, Ok, Err, refl, ⊤}
 use Rattle.std.specs.Option.{option_map}
 use Rattle.std.specs.List.{AllByRecursion}
 use Rattle.std.proofs.Common.{ap, sym, ◌∙◌, subst, arith, append_assoc, append-nil}
@@ -21,8 +21,8 @@ use Rattle.transitions.specs.Engines.{engine_opening}
 use Rattle.transitions.specs.EngineCalls.{is_start, is_next, turn_of, without, begun, first_polled, polled_by, told, refused_by, answered_by, after_poll_by, after_answer_in, register_reply, register_reply_in, IsEngineReply, engine_after}
 use Rattle.transitions.specs.EngineHistories.{engine_replay}
 use Rattle.member_model.specs.RunEngines.{Sheet, Answer as ClientAnswer, EngineEntry, Underway, EngineState, EngineHistory, IsEngineCaller, IsLegalEngine}
-use Rattle.engine_laws.proofs.Standing.{next_called}
-use Rattle.engine_laws.proofs.Replies.{IsGiven, given_case, GivesTurn, gives_turn, Owes, owes, answered_case}
+use Rattle.history_laws.proofs.Standing.{next_called}
+use Rattle.history_laws.proofs.Replies.{IsGiven, given_case, GivesTurn, gives_turn, Owes, owes, answered_case}
 use Rattle.session_laws.specs.BlankLaws.{asked_by, reports_asked, AsksReports}
 use Rattle.session_laws.proofs.Wanted.{one_if, wanted, total, total_without, wanted_push, called_few}
 

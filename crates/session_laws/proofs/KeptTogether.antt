@@ -18,10 +18,10 @@ use Rattle.member_model.specs.TurnCalls.{member_turns}
 use Rattle.analyzers.specs.declared.analyzer_run.EventRequest.{EventRequest}
 use Rattle.analyzers.specs.AnalyzerKept.{KeepsAnalyzer}
 use Rattle.daq_members.specs.AnalyzerTaken.{MemberAnalyzersKeep}
-use Rattle.caller_laws.specs.CallerLaws.{PortTells}
+use Rattle.history_laws.specs.CallerLaws.{PortTells}
 use Rattle.transitions.specs.declared.client.Registered.{Registered}
 use Rattle.member_model.specs.RunEngines.{EngineEntry}
-use Rattle.engine_laws.specs.BegunTurns.{IsAlone, OneWantsDump, OneHasNumber}
+use Rattle.history_laws.specs.BegunTurns.{IsAlone, OneWantsDump, OneHasNumber}
 use Rattle.composition.specs.Sessions.{Session, SessionAnalyzer, SessionFront, HasAnalyzer, HasFront, NamesOwnClient, IsMemberCaller, IsRegistered, MembersKeep}
 use Rattle.daq_members.specs.OwnTurns.{is_call_for}
 use Rattle.daq_members.specs.FrontTaken.{FrontKeeps}

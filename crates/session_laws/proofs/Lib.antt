@@ -27,3 +27,5 @@ pub mod ChannelsSame
 pub mod OneEach
 pub mod StartsRefused
 pub mod RisesTold
+pub mod EndsMet
+pub mod RecordsMet

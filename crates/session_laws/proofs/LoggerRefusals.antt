@@ -11,8 +11,8 @@ use Rattle.transitions.specs.declared.answers.Answer.TheVariants.{No}
 use Rattle.member_model.specs.Turns.{MemberTurn, HasTurn, AreEngineTurns}
 use Rattle.member_model.specs.TurnCalls.{member_turns}
 use Rattle.loggers.specs.LoggerStands.{HasRunOn, AreUnreadyInRuns}
-use Rattle.engine_laws.specs.BegunTurns.{IsOver, StartsComeLast, IsAlwaysCalled}
-use Rattle.engine_laws.specs.EngineLaws.{RunsAreOver}
+use Rattle.history_laws.specs.BegunTurns.{IsOver, StartsComeLast, IsAlwaysCalled}
+use Rattle.history_laws.specs.EngineLaws.{RunsAreOver}
 use Rattle.composition.proofs.SessionTurns.{speaks}
 use Rattle.session_laws.specs.ClosedSessions.{ClosedBuffer, ClosedSession, logger_client, logger_caller, history_in, engine_calls, calls_on_buffer}
 use Rattle.session_laws.specs.MembersAtEnd.{IsAccessTo, MembersAtEnd}

@@ -8,7 +8,7 @@ use Rattle.transitions.specs.declared.entry.EngineEntry.TheVariants.{Begin}
 use Rattle.transitions.specs.Engines.{engine_opening}
 use Rattle.transitions.specs.EngineCalls.{engine_after}
 use Rattle.member_model.specs.RunEngines.{Sheet, EngineEntry, EngineState, EngineHistory, IsEngineCaller, IsLegalEngine}
-use Rattle.engine_laws.proofs.MainCalls.{OwnAt, own_at}
+use Rattle.history_laws.proofs.MainCalls.{OwnAt, own_at}
 use Rattle.session_runs.specs.declared.opening.MemberName.{MemberName}
 use Rattle.session_runs.specs.Members.{gets_dumps, gets_reports, registration, registrations}
 use Rattle.composition.specs.Sessions.{IsRegistered}

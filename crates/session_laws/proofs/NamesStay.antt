@@ -20,8 +20,8 @@ use Rattle.sub_files.specs.Patterns.{piece_name_by}
 use Rattle.mid_logger.specs.declared.channel.Channel.{Channel}
 use Rattle.mid_logger.specs.declared.channel_spec.ChannelSpec.{ChannelSpec}
 use Rattle.loggers.specs.OtherFiles.{specs_in, IsRunName, KeepsOtherFiles}
-use Rattle.engine_laws.specs.BegunTurns.{WasBegun}
-use Rattle.engine_laws.specs.EngineLaws.{TurnsWereBegun}
+use Rattle.history_laws.specs.BegunTurns.{WasBegun}
+use Rattle.history_laws.specs.EngineLaws.{TurnsWereBegun}
 use Rattle.composition.proofs.SessionTurns.{speaks}
 use Rattle.daq_members.specs.StartedRuns.{runs_with, started_runs}
 use Rattle.session_laws.specs.ClosedSessions.{ClosedSession, logger_client, logger_caller, engine_calls}

@@ -23,11 +23,11 @@ use Rattle.loggers.specs.FairAsks.{one_client, channel_clients, StartsBehind, Ha
 use Rattle.loggers.specs.LoggerStands.{LoggerStands}
 use Rattle.loggers.specs.Reasons.{HasRefusedAsk}
 use Rattle.analyzers.specs.AnalyzerKept.{IsAnalyzerCall, HasRefusedCall, one_attached}
-use Rattle.caller_laws.specs.OneCaller.{HaveOwnClients}
-use Rattle.caller_laws.specs.CallerLaws.{MembersFit, SenderMakesNoMark}
-use Rattle.caller_laws.specs.RefusedCalls.{AttachesRefused, AttachesAdd, RequestsRefused, BeginsRefused}
-use Rattle.engine_laws.specs.BegunTurns.{ComesLast, StartsComeLast}
-use Rattle.engine_laws.specs.EngineLaws.{RunsAreOver}
+use Rattle.history_laws.specs.OneCaller.{HaveOwnClients}
+use Rattle.history_laws.specs.CallerLaws.{MembersFit, SenderMakesNoMark}
+use Rattle.history_laws.specs.RefusedCalls.{AttachesRefused, AttachesAdd, RequestsRefused, BeginsRefused}
+use Rattle.history_laws.specs.BegunTurns.{ComesLast, StartsComeLast}
+use Rattle.history_laws.specs.EngineLaws.{RunsAreOver}
 use Rattle.composition.proofs.FilesTogether.{logger_marks_alone}
 use Rattle.composition.proofs.SentTogether.{each_reads_or_sends}
 use Rattle.composition.proofs.SessionTurns.{speaks}

@@ -17,6 +17,7 @@ use Rattle.daq_types.specs.declared.runs.Transition.TheVariants.{Start, Stop, Pa
 use Rattle.daq_types.specs.declared.runs.Why.{Why}
 use Rattle.daq_types.specs.declared.runs.Why.TheVariants.{NotReady, Exists, Fault, BufferRefused}
 use Rattle.daq_io.proofs.Counts.{RoseBy-fewer}
+use Rattle.daq_io.specs.Told.{FilesTold}
 use Rattle.buffer_core.specs.Slots.{slot_at}
 use Rattle.transitions.specs.declared.answers.Answer.TheVariants.{Yes, No}
 use Rattle.transitions.specs.declared.answers.Tally.TheVariants.{Channels}
@@ -28,12 +29,11 @@ use Rattle.member_model.specs.RunEngines.{Sheet, Answer, ClientTally, EngineEntr
 use Rattle.member_model.specs.Turns.{MemberTurn, HasTurn}
 use Rattle.member_model.specs.TurnCalls.{member_turns}
 use Rattle.mid_logger.specs.declared.channel.Channel.{Channel}
-use Rattle.loggers.specs.Moments.{RunFiles}
 use Rattle.loggers.specs.ToldCounts.{faults_of_state, faults_of_refusal, faults_of_answer, clashes_of_answer, count_in_answer, faults_told, clashes_told, broken_off}
 use Rattle.loggers.proofs.ManyRose.{has_counts}
-use Rattle.engine_laws.specs.BegunTurns.{HasTransition, IsRefusedTurn, IsTallyOfTurn}
-use Rattle.engine_laws.specs.EngineLaws.{MainHasTransition, RefusalsAreAnswers, TalliesAreAnswers}
-use Rattle.engine_laws.proofs.MainCalls.{OwnAt, own_at}
+use Rattle.history_laws.specs.BegunTurns.{HasTransition, IsRefusedTurn, IsTallyOfTurn}
+use Rattle.history_laws.specs.EngineLaws.{MainHasTransition, RefusalsAreAnswers, TalliesAreAnswers}
+use Rattle.history_laws.proofs.MainCalls.{OwnAt, own_at}
 use Rattle.session_runs.specs.declared.records.ChannelFiles.{ChannelFiles}
 use Rattle.session_runs.specs.declared.records.RunRecord.{RunRecord}
 use Rattle.session_runs.specs.MadeTransitions.{TransitionIn}
@@ -325,7 +325,7 @@ clashes_refused client (Fault channel) = refl
 clashes_refused client BufferRefused = refl
 
 -- who refuses for another reason than being not ready is the logger
-refused_alone : (c : ClosedSession) (first now : RunFiles) (sheet : Sheet) (start client : ℕ) (why : Why) → (why ≡ NotReady → ⊥) → IsRefusedSo c first now sheet start client why → client ≡ logger_client c
+refused_alone : (c : ClosedSession) (first now : FilesTold) (sheet : Sheet) (start client : ℕ) (why : Why) → (why ≡ NotReady → ⊥) → IsRefusedSo c first now sheet start client why → client ≡ logger_client c
 refused_alone c first now sheet start client why other so = elim so as (λ w. client ≡ logger_client c) [
   | inl front ↦ absurd (other front.why_is)
   | inr later ↦ elim later as (λ w. client ≡ logger_client c) [
@@ -346,7 +346,7 @@ pub record OneLaws : Type 0 where
 abbrev turns : ClosedSession → List MemberTurn
 turns c = member_turns (logger_client c) (engine_calls c (logger_caller c))
 
-module _ (laws : OneLaws) (c : ClosedSession) (ends : MembersAtEnd c) (first now : RunFiles) (reasons : LoggerReasons c ends first now) (names : LoggerNames c ends first now) where
+module _ (laws : OneLaws) (c : ClosedSession) (ends : MembersAtEnd c) (first now : FilesTold) (reasons : LoggerReasons c ends first now) (names : LoggerNames c ends first now) where
   abbrev ts : List MemberTurn
   ts = turns c
 

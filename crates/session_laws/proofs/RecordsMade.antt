@@ -179,7 +179,7 @@ ends_so client [] told is = absurd (cc (is))
 ends_so client (x ∷ xs) told is = first_ends client x xs told (ends_by client x) refl is (λ later. ends_so client xs told later)
 
 -- the files are those of a channel of these, of which this was told
-pub record FilesTold (told : List ChannelEnd) (channels : List RunChannel) (files : ChannelFiles) : Type 0 where
+pub record ToldFiles (told : List ChannelEnd) (channels : List RunChannel) (files : ChannelFiles) : Type 0 where
   pub place : ℕ
   pub channel : RunChannel
   pub at : slice_get channels place ≡ Some channel
@@ -187,15 +187,15 @@ pub record FilesTold (told : List ChannelEnd) (channels : List RunChannel) (file
   pub is : files ≡ ended_files channel files.told
 
 files_here : (told : List ChannelEnd) (ch : RunChannel) (chs : List RunChannel) (o : Option ChannelEnd) (place : ℕ) (files : ChannelFiles) → slice_get told ch.number ≡ o → slice_get (option_to_list (option_map (ended_files ch) o) ++ files_told told chs) place ≡ Some files
-    → ((k : ℕ) → slice_get (files_told told chs) k ≡ Some files → FilesTold told chs files) → FilesTold told (ch ∷ chs) files
-files_here told ch chs None place files by at later = (let found : FilesTold told chs files = later place at in record { place = suc found.place; channel = found.channel; at = found.at; end_at = found.end_at; is = found.is })
+    → ((k : ℕ) → slice_get (files_told told chs) k ≡ Some files → ToldFiles told chs files) → ToldFiles told (ch ∷ chs) files
+files_here told ch chs None place files by at later = (let found : ToldFiles told chs files = later place at in record { place = suc found.place; channel = found.channel; at = found.at; end_at = found.end_at; is = found.is })
 files_here told ch chs (Some e) zero files by at later =
     let same : ended_files ch e ≡ files = cc (at) in
     let end_is : e ≡ files.told = ap (λ (f : ChannelFiles). f.told) same in
     record { place = 0; channel = ch; at = refl; end_at = by ∙ ap Some end_is; is = sym same ∙ ap (ended_files ch) end_is }
-files_here told ch chs (Some e) (suc place) files by at later = (let found : FilesTold told chs files = later place at in record { place = suc found.place; channel = found.channel; at = found.at; end_at = found.end_at; is = found.is })
+files_here told ch chs (Some e) (suc place) files by at later = (let found : ToldFiles told chs files = later place at in record { place = suc found.place; channel = found.channel; at = found.at; end_at = found.end_at; is = found.is })
 
-files_so_told : (told : List ChannelEnd) (channels : List RunChannel) (place : ℕ) (files : ChannelFiles) → slice_get (files_told told channels) place ≡ Some files → FilesTold told channels files
+files_so_told : (told : List ChannelEnd) (channels : List RunChannel) (place : ℕ) (files : ChannelFiles) → slice_get (files_told told channels) place ≡ Some files → ToldFiles told channels files
 files_so_told told [] place files at = absurd (cc (at))
 files_so_told told (ch ∷ chs) place files at = files_here told ch chs (slice_get told ch.number) place files refl at (λ k there. files_so_told told chs k files there)
 
@@ -273,7 +273,7 @@ channel_files : (c : ClosedSession) (holds : SessionHolds c) (run : SessionRun) 
 channel_files c holds run stopped None told place files at = absurd (cc (at))
 channel_files c holds run stopped (Some told) is place files at =
     let s : Session = session_of c holds.moments in
-    let found : FilesTold told (run_channels c.slots) files = files_so_told told (run_channels c.slots) place files at in
+    let found : ToldFiles told (run_channels c.slots) files = files_so_told told (run_channels c.slots) place files at in
     let ch : IsLoggerChannel c.slots found.place found.channel = logger_channel_at c.slots found.place found.channel found.at in
     let says : ToldEnds (logger_client c) run.last_tallies told = ends_so (logger_client c) run.last_tallies told is in
     let tells : ToldChannel s run ch.logger files.told = record {

@@ -8,7 +8,7 @@ use Rattle.daq_types.specs.declared.runs.Transition.TheVariants.{Start}
 use Rattle.transitions.specs.Sequences.{sequence_for, sequences_of}
 use Rattle.transitions.specs.declared.client.Registered.{Registered}
 use Rattle.member_model.specs.RunEngines.{EngineEntry}
-use Rattle.engine_laws.specs.BegunTurns.{IsAlone}
+use Rattle.history_laws.specs.BegunTurns.{IsAlone}
 use Rattle.session_runs.specs.declared.opening.MemberName.{MemberName}
 use Rattle.session_runs.specs.Members.{gets_dumps, gets_reports, member_in, registration, registrations}
 use Rattle.mid_logger.specs.ChannelTurns.{logger_name}

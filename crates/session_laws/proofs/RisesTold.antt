@@ -13,6 +13,7 @@ use Rattle.daq_types.specs.declared.runs.Transition.{Transition}
 use Rattle.daq_types.specs.declared.runs.Transition.TheVariants.{Start, Stop, Pause, Resume, StartAbort}
 use Rattle.daq_types.specs.declared.runs.Why.{Why}
 use Rattle.daq_types.specs.declared.runs.Why.TheVariants.{NotReady, Exists, Fault, BufferRefused}
+use Rattle.daq_io.specs.Told.{FilesTold}
 use Rattle.buffer_core.specs.Ports.{Access}
 use Rattle.buffer_core.specs.Slots.{slot_at, passes}
 use Rattle.transitions.specs.declared.answers.Answer.TheVariants.{Yes, No}
@@ -27,15 +28,14 @@ use Rattle.mid_logger.specs.declared.stage.ChannelStage.{ChannelStage}
 use Rattle.mid_logger.specs.declared.stage.ChannelStage.TheVariants.{Idle, Asking, Writing, Draining, Drained, Broken}
 use Rattle.mid_logger.specs.Channels.{channel_run}
 use Rattle.mid_logger.specs.ChannelTurns.{broken_run}
-use Rattle.loggers.specs.Moments.{RunFiles}
 use Rattle.loggers.specs.LoggerStands.{LoggerStands, ToldSo}
 use Rattle.loggers.specs.LeftNames.{IsStartedRun}
 use Rattle.loggers.specs.OtherFiles.{specs_in}
 use Rattle.loggers.specs.Reasons.{AnswerFits, ClashesAreTold, HaveNoLimit}
 use Rattle.loggers.specs.ToldCounts.{faults_of_state, faults_of_answer, clashes_of_answer, undone_of_answer, undone_by, count_in_answer, faults_told, starts_undone, broken_off}
 use Rattle.loggers.proofs.ManyRose.{member_counts, off_of}
-use Rattle.engine_laws.specs.BegunTurns.{HasTransition}
-use Rattle.engine_laws.specs.EngineLaws.{LoneNosAreRefusals}
+use Rattle.history_laws.specs.BegunTurns.{HasTransition}
+use Rattle.history_laws.specs.EngineLaws.{LoneNosAreRefusals}
 use Rattle.session_runs.specs.declared.records.ChannelFiles.{ChannelFiles}
 use Rattle.session_runs.specs.declared.records.RunRecord.{RunRecord}
 use Rattle.session_runs.specs.MadeTransitions.{TransitionIn}
@@ -199,7 +199,7 @@ module _ (laws : RiseLaws) (c : ClosedSession) (ends : MembersAtEnd c) where
       let same : found.0 ≡ told = cc (both) in
       came.files ∙ (ap (λ (o : Option (List ChannelEnd)). files_of o (run_channels c.slots)) found.1 ∙ ap (λ (l : List ChannelEnd). files_told l (run_channels c.slots)) same)
 
-  module _ (first now : RunFiles) (reasons : LoggerReasons c ends first now) (own : MainOwn) (more : List EngineEntry) (calls : engine_calls c main_caller ≡ own.engine ++ more) (none_more : starts_begun more ≡ [])
+  module _ (first now : FilesTold) (reasons : LoggerReasons c ends first now) (own : MainOwn) (more : List EngineEntry) (calls : engine_calls c main_caller ≡ own.engine ++ more) (none_more : starts_begun more ≡ [])
       (runs : List RunRecord) (fits : RecordsFit (clients_in c) own runs) where
     -- the record of a start
     record OfStart (start : ℕ) : Type 0 where

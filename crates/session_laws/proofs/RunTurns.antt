@@ -24,8 +24,8 @@ use Rattle.loggers.specs.declared.logged_run.RunPart.TheVariants.{Refused, Start
 use Rattle.loggers.specs.LoggerStands.{HasEndTurn, IsStageOf, IsStagePart, IsStartedStage, IsStoppingStage, IsRunTold, IsPartTold, IsStillGoing}
 use Rattle.loggers.specs.LeftNames.{StandingHasStarted}
 use Rattle.loggers.proofs.TurnsKnown.{no_end_turn}
-use Rattle.engine_laws.specs.BegunTurns.{HasTally}
-use Rattle.engine_laws.specs.EngineLaws.{MainHasTransition, RefusedAreCalledOff}
+use Rattle.history_laws.specs.BegunTurns.{HasTally}
+use Rattle.history_laws.specs.EngineLaws.{MainHasTransition, RefusedAreCalledOff}
 use Rattle.composition.specs.Sessions.{Session}
 use Rattle.composition.specs.SessionRuns.{SessionRun, IsStoppedRun}
 use Rattle.composition.proofs.FilesTogether.{yes_channels}

@@ -11,8 +11,8 @@ use Rattle.daq_types.specs.declared.runs.Transition.TheVariants.{Start, Stop}
 use Rattle.transitions.specs.Engines.{engine_opening}
 use Rattle.member_model.specs.RunEngines.{Sheet, ClientTally, EngineHistory, IsLegalEngine}
 use Rattle.member_model.specs.LoggerKept.{LoggerChannel}
-use Rattle.engine_laws.specs.BegunTurns.{HasTransition}
-use Rattle.engine_laws.specs.EngineLaws.{MainHasTransition}
+use Rattle.history_laws.specs.BegunTurns.{HasTransition}
+use Rattle.history_laws.specs.EngineLaws.{MainHasTransition}
 use Rattle.event_report.specs.Reports.{Totals}
 use Rattle.composition.specs.Sessions.{Session, SessionAnalyzer, SessionFront, HasAnalyzer, HasFront}
 use Rattle.composition.specs.SessionRuns.{SessionRun, IsStoppedRun, TellsTotals, ToldChannel}

@@ -1,5 +1,5 @@
 -- A start is refused as not ready by a client that asks for reports only where its sheet has too few blank reports.
-use Rattle.std.specs.Prelude.{◌≡◌, ℕ, ◌+◌, ◌<◌, ◌≤◌, ◌&&◌, not, Bool, true, false, if◌then◌else◌, length, slice_get, List, [], ◌∷◌, ◌++◌, Option, Some, None, Ok, refl}
+use Rattle.std.specs.Prelude.{◌≡◌, ℕ, ◌<◌, ◌&&◌, Bool, true, if◌then◌else◌, length, slice_get, List, [], ◌∷◌, ◌++◌, Option, Some, None, Ok, refl}
 use Rattle.std.specs.List.{AllByRecursion}
 use Rattle.std.proofs.Common.{ap, sym, ◌∙◌, subst, arith, append_assoc, inl, inr}
 use Rattle.daq_types.specs.Callers.{entries_by, main_caller}
@@ -21,10 +21,10 @@ use Rattle.transitions.specs.GivenTurns.{SpeaksFor}
 use Rattle.member_model.specs.RunEngines.{Sheet, EngineEntry, Underway, EngineState, EngineHistory, IsLegalEngine}
 use Rattle.member_model.specs.Turns.{MemberTurn}
 use Rattle.member_model.specs.TurnCalls.{member_turns}
-use Rattle.engine_laws.specs.EngineLaws.{RefusalsAreAnswers}
-use Rattle.engine_laws.proofs.Standing.{next_called}
-use Rattle.engine_laws.proofs.Replies.{GivesFirst, IsGiven, GivesTurn, gives_turn}
-use Rattle.engine_laws.proofs.Gave.{OpenFor, RunsOn, StandsAt, Gave, gave_all, opening_gave}
+use Rattle.history_laws.specs.EngineLaws.{RefusalsAreAnswers}
+use Rattle.history_laws.proofs.Standing.{next_called}
+use Rattle.history_laws.proofs.Replies.{GivesFirst, IsGiven, GivesTurn, gives_turn}
+use Rattle.history_laws.proofs.Gave.{OpenFor, RunsOn, StandsAt, Gave, gave_all, opening_gave}
 use Rattle.daq_members.specs.OwnTurns.{start_owed, open_start}
 use Rattle.daq_members.specs.BareTurns.{IsBareTurn}
 use Rattle.composition.proofs.SessionTurns.{StartsRise, one_begin}

@@ -6,6 +6,7 @@ use Rattle.daq_types.specs.declared.runs.Order.{Order}
 use Rattle.daq_types.specs.declared.runs.Transition.TheVariants.{Start, Stop}
 use Rattle.daq_types.specs.declared.runs.Why.TheVariants.{Exists}
 use Rattle.daq_io.specs.Seen.{Seen}
+use Rattle.daq_io.specs.Told.{FilesTold}
 use Rattle.transitions.specs.declared.answers.Answer.TheVariants.{No}
 use Rattle.member_model.specs.RunEngines.{EngineEntry}
 use Rattle.member_model.specs.Turns.{MemberTurn, HasTurn}
@@ -14,11 +15,10 @@ use Rattle.sub_files.specs.Patterns.{piece_name_by}
 use Rattle.mid_logger.specs.declared.channel.Channel.{Channel}
 use Rattle.mid_logger.specs.declared.channel_spec.ChannelSpec.{ChannelSpec}
 use Rattle.mid_logger.specs.Patterns.{file_name_by}
-use Rattle.loggers.specs.Moments.{RunFiles}
 use Rattle.loggers.specs.OtherFiles.{specs_in}
 use Rattle.loggers.specs.LeftNames.{NoneRose, IsStoppedName, IsGivenBefore, IsNameTaken, AreTaken, KeepsNames}
-use Rattle.engine_laws.specs.BegunTurns.{StartsComeLast}
-use Rattle.engine_laws.specs.EngineLaws.{RunsAreOver}
+use Rattle.history_laws.specs.BegunTurns.{StartsComeLast}
+use Rattle.history_laws.specs.EngineLaws.{RunsAreOver}
 use Rattle.session_runs.specs.RunsFit.{starts_begun}
 use Rattle.composition.specs.SessionRuns.{SessionRun, IsStoppedRun}
 use Rattle.composition.proofs.SessionTurns.{IsStartTurn, start_turn, speaks}
@@ -127,7 +127,7 @@ module _ (laws : TurnLaws) (over_law : RunsAreOver) (c : ClosedSession) (ends : 
             ]);
       }
 
-  pub taken_name : (first now : RunFiles) → LoggerNames c ends first now → IsTrue first.seen.tells → NoneRose first now → AreStartsOver (engine_calls c main_caller) → (turn : MemberTurn) → HasTurn turns turn → turn.transition ≡ Start → (number : ℕ) → turn.answer ≡ Some (No (Exists number))
+  pub taken_name : (first now : FilesTold) → LoggerNames c ends first now → IsTrue first.seen.names → NoneRose first now → AreStartsOver (engine_calls c main_caller) → (turn : MemberTurn) → HasTurn turns turn → turn.transition ≡ Start → (number : ℕ) → turn.answer ≡ Some (No (Exists number))
       → (run start : ℕ) → turn.order.run ≡ run → turn.order.start ≡ start → IsTakenName c first.seen run start number
   taken_name first now names tells none over turn has starts number answered run start run_is start_is =
       let kept : KeepsNames c.slots first now turns = names (none_taken_back c ends) in

@@ -8,6 +8,7 @@ use Rattle.daq_types.specs.declared.runs.Order.{Order}
 use Rattle.daq_types.specs.declared.runs.StartOutcome.TheVariants.{Refused}
 use Rattle.daq_types.specs.declared.runs.Transition.TheVariants.{Start, Stop, StartAbort}
 use Rattle.daq_io.specs.Seen.{Stored}
+use Rattle.daq_io.specs.Told.{FilesTold}
 use Rattle.transitions.specs.declared.answers.Answer.TheVariants.{Yes}
 use Rattle.transitions.specs.declared.answers.Tally.TheVariants.{Channels}
 use Rattle.transitions.specs.declared.sequences.Role.{Role}
@@ -21,11 +22,10 @@ use Rattle.member_model.specs.TurnCalls.{member_turns}
 use Rattle.sub_files.specs.Patterns.{piece_name_by}
 use Rattle.mid_logger.specs.declared.channel.Channel.{Channel}
 use Rattle.mid_logger.specs.declared.channel_spec.ChannelSpec.{ChannelSpec}
-use Rattle.loggers.specs.Moments.{RunFiles}
 use Rattle.loggers.specs.LoggerStands.{LoggerStands}
 use Rattle.loggers.specs.OtherFiles.{specs_in}
 use Rattle.loggers.specs.LeftNames.{NoneRose, NamesLeft, IsOpenName, IsStoppedName, IsNameLeft, IsStartedRun, KeepsNames}
-use Rattle.engine_laws.specs.BegunTurns.{HasTransition, IsCalledOff, IsRegisteredIn}
+use Rattle.history_laws.specs.BegunTurns.{HasTransition, IsCalledOff, IsRegisteredIn}
 use Rattle.session_runs.specs.RunsFit.{start_begun as begun_number, starts_begun}
 use Rattle.composition.specs.Sessions.{Session}
 use Rattle.composition.specs.SessionRuns.{SessionRun, IsStoppedRun}
@@ -121,7 +121,7 @@ module _ (laws : TurnLaws) (c : ClosedSession) (ends : MembersAtEnd c) where
       let went : CameWithout name started.begin = came_without name unmade started.begin first.stands first.is (λ off. started.on off.turn off.stands off.is (off.of ∙ first.of)) in
       never_open laws c ends went.run went.came o.number o.channel o.opened o.there o.of (sym first.of ∙ sym went.of)
 
-  pub undone_stay : (first now : RunFiles) → LoggerNames c ends first now → IsTrue first.seen.tells → NoneRose first now → (name : List ℕ) → IsUnmadeName c name → now.seen.at name ≡ first.seen.at name
+  pub undone_stay : (first now : FilesTold) → LoggerNames c ends first now → IsTrue first.seen.names → NoneRose first now → (name : List ℕ) → IsUnmadeName c name → now.seen.at name ≡ first.seen.at name
   undone_stay first now names tells none name unmade =
       let kept : KeepsNames c.slots first now turns = names (none_taken_back c ends) in
       let left : NamesLeft (IsNameLeft (specs_in c.slots) turns first.seen) c.slots now.seen = kept.names tells none in
@@ -134,7 +134,7 @@ module _ (laws : TurnLaws) (c : ClosedSession) (ends : MembersAtEnd c) where
       ]
 
   -- a file that was there at first is there, with the same bytes
-  pub firsts_stay : (first now : RunFiles) → LoggerNames c ends first now → IsTrue first.seen.tells → NoneRose first now → (name : List ℕ) (file : Stored) → first.seen.at name ≡ Some file → now.seen.at name ≡ Some file
+  pub firsts_stay : (first now : FilesTold) → LoggerNames c ends first now → IsTrue first.seen.names → NoneRose first now → (name : List ℕ) (file : Stored) → first.seen.at name ≡ Some file → now.seen.at name ≡ Some file
   firsts_stay first now names tells none name file there =
       let kept : KeepsNames c.slots first now turns = names (none_taken_back c ends) in
       let left : NamesLeft (IsNameLeft (specs_in c.slots) turns first.seen) c.slots now.seen = kept.names tells none in

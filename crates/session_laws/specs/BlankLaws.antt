@@ -9,7 +9,7 @@ use Rattle.transitions.specs.declared.entry.EngineEntry.TheVariants.{Register}
 use Rattle.transitions.specs.Engines.{engine_opening}
 use Rattle.transitions.specs.GivenTurns.{SpeaksFor}
 use Rattle.member_model.specs.RunEngines.{Sheet, ClientTally, EngineEntry, EngineHistory, IsLegalEngine}
-use Rattle.engine_laws.specs.BegunTurns.{HasTransition}
+use Rattle.history_laws.specs.BegunTurns.{HasTransition}
 use Rattle.daq_members.specs.BareTurns.{AreBare}
 
 -- one, where the call registered a client that asks for reports

@@ -12,11 +12,11 @@ use Rattle.daq_types.specs.declared.runs.Why.{Why}
 use Rattle.daq_types.specs.declared.runs.Why.TheVariants.{NotReady, Exists, Fault, BufferRefused}
 use Rattle.daq_io.specs.Counts.{Rose}
 use Rattle.daq_io.specs.Seen.{Stored}
+use Rattle.daq_io.specs.Told.{FilesTold}
 use Rattle.transitions.specs.EngineCalls.{order_for}
 use Rattle.member_model.specs.RunEngines.{Sheet, ClientTally}
 use Rattle.member_model.specs.TurnCalls.{member_turns}
 use Rattle.member_model.specs.LoggerKept.{LoggerChannel}
-use Rattle.loggers.specs.Moments.{RunFiles}
 use Rattle.loggers.specs.LoggerStands.{logger_channels}
 use Rattle.loggers.specs.NewLoggers.{NoneTakenBack}
 use Rattle.loggers.specs.OtherFiles.{specs_in}
@@ -31,13 +31,13 @@ use Rattle.session_laws.specs.OtherNames.{AreStartsOver, IsTakenName, IsUnmadeNa
 
 -- What the logger of a closed session answered rests on the counts of the run files, which were so as it took its seat, and
 -- are so now, and on its calls on the buffers.
-abbrev pub LoggerReasons : (c : ClosedSession) → MembersAtEnd c → (first now : RunFiles) → Type 0
+abbrev pub LoggerReasons : (c : ClosedSession) → MembersAtEnd c → (first now : FilesTold) → Type 0
 LoggerReasons c ends first now =
     GivesReasons c.slots ends.logger.ports first now (member_turns (logger_client c) (engine_calls c (logger_caller c)))
 
 -- Which names of run files it left as they were as it took its seat, where names are told, no fault was counted, and no client
 -- of it is known to be detached by another.
-abbrev pub LoggerNames : (c : ClosedSession) → MembersAtEnd c → (first now : RunFiles) → Type 0
+abbrev pub LoggerNames : (c : ClosedSession) → MembersAtEnd c → (first now : FilesTold) → Type 0
 LoggerNames c ends first now = NoneTakenBack ends.logger.ports →
     KeepsNames c.slots first now (member_turns (logger_client c) (engine_calls c (logger_caller c)))
 
@@ -50,7 +50,7 @@ pub record IsFrontRefusal (c : ClosedSession) (order : Order) (client : ℕ) (wh
 
 -- Why the logger refuses a start: for the name of the first file of one of its channels, where a clash of names was counted, or for a
 -- fault of it, where one was.
-abbrev pub IsLoggerReason : ClosedSession → Why → (first now : RunFiles) → Type 0
+abbrev pub IsLoggerReason : ClosedSession → Why → (first now : FilesTold) → Type 0
 IsLoggerReason c NotReady first now = ⊥
 IsLoggerReason c (Exists channel) first now = IsChannelNumber (specs_in c.slots) channel × Rose first.clashes now.clashes
 IsLoggerReason c (Fault channel) first now = IsChannelNumber (specs_in c.slots) channel × Rose first.faults now.faults
@@ -68,7 +68,7 @@ pub record IsAnalyzerRefusal (c : ClosedSession) (sheet : Sheet) (client : ℕ) 
 
 -- A start with this sheet and this number was refused by this client for this reason: by a front-end, by the logger, or by an
 -- analyzer. No buffer is a reason.
-abbrev pub IsRefusedSo : ClosedSession → (first now : RunFiles) → Sheet → (start client : ℕ) → Why → Type 0
+abbrev pub IsRefusedSo : ClosedSession → (first now : FilesTold) → Sheet → (start client : ℕ) → Why → Type 0
 IsRefusedSo c first now sheet start client why =
     IsFrontRefusal c (order_for sheet start Stopped) client why
     ⊎ (((client ≡ logger_client c) × IsLoggerReason c why first now) ⊎ IsAnalyzerRefusal c sheet client why)
@@ -84,7 +84,7 @@ state_by_dump (Some dump) = Ended
 -- stop's sheet had no dump. And where none was, each name is there where it was there, with the same bytes, that no file of a run
 -- has that came about, once each start is over: a start that was refused leaves no file. Nor is any file written over that was
 -- there at first; and the logger refuses a start for a name only where that is taken.
-pub record CountsHold (c : ClosedSession) (first now : RunFiles) : Type 0 where
+pub record CountsHold (c : ClosedSession) (first now : FilesTold) : Type 0 where
   pub refused : (sheet : Sheet) → (start client : ℕ) → (why : Why) → (tallies : List ClientTally) →
       TransitionIn (engine_calls c main_caller) Start sheet start (Refused client why) tallies →
       IsRefusedSo c first now sheet start client why
@@ -99,16 +99,16 @@ pub record CountsHold (c : ClosedSession) (first now : RunFiles) : Type 0 where
       (moments : (client : ℕ) → List ℕ) → (r : SessionRun) → RunIn (engine_calls c main_caller) r →
       (index : ℕ) → (channel : LoggerChannel) → slice_get (logger_channels (λ number. 0) c.slots) index ≡ Some channel →
       (told : ChannelEnd) → ToldChannel (session_of c moments) r channel told → told.state ≡ state_by_dump r.last.dump
-  pub names : IsTrue first.seen.tells → NoneRose first now → (name : List ℕ) → IsUnmadeName c name →
+  pub names : IsTrue first.seen.names → NoneRose first now → (name : List ℕ) → IsUnmadeName c name →
       now.seen.at name ≡ first.seen.at name
-  pub kept : IsTrue first.seen.tells → NoneRose first now → (name : List ℕ) → (file : Stored) →
+  pub kept : IsTrue first.seen.names → NoneRose first now → (name : List ℕ) → (file : Stored) →
       first.seen.at name ≡ Some file → now.seen.at name ≡ Some file
-  pub taken : IsTrue first.seen.tells → NoneRose first now → AreStartsOver (engine_calls c main_caller) →
+  pub taken : IsTrue first.seen.names → NoneRose first now → AreStartsOver (engine_calls c main_caller) →
       (sheet : Sheet) → (start number : ℕ) → (tallies : List ClientTally) →
       TransitionIn (engine_calls c main_caller) Start sheet start (Refused (logger_client c) (Exists number)) tallies →
       IsTakenName c first.seen sheet.run start number
 
 -- So it is with a closed session, by what the logger's answers rest on and by the names that it left.
 abbrev pub CountsTell : Type 0
-CountsTell = (c : ClosedSession) → (ends : MembersAtEnd c) → (first now : RunFiles) → LoggerReasons c ends first now →
+CountsTell = (c : ClosedSession) → (ends : MembersAtEnd c) → (first now : FilesTold) → LoggerReasons c ends first now →
     LoggerNames c ends first now → CountsHold c first now

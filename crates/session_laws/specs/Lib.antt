@@ -8,3 +8,5 @@ pub mod CountedFaults
 pub mod RecordedRuns
 pub mod OneAnswer
 pub mod RefusedRecords
+pub mod EndedSessions
+pub mod EndedRecords

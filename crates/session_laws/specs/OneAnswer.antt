@@ -6,9 +6,9 @@ use Rattle.daq_types.specs.declared.runs.StartOutcome.{StartOutcome}
 use Rattle.daq_types.specs.declared.runs.StartOutcome.TheVariants.{Completed, Refused}
 use Rattle.daq_types.specs.declared.runs.Why.TheVariants.{Exists}
 use Rattle.daq_io.specs.Counts.{RoseBy}
+use Rattle.daq_io.specs.Told.{FilesTold}
 use Rattle.member_model.specs.RunEngines.{EngineEntry}
 use Rattle.mid_logger.specs.declared.channel_spec.ChannelSpec.{ChannelSpec}
-use Rattle.loggers.specs.Moments.{RunFiles}
 use Rattle.loggers.specs.OtherFiles.{specs_in}
 use Rattle.loggers.specs.Reasons.{HaveNoLimit}
 use Rattle.loggers.specs.ToldCounts.{faults_of_state, faults_of_refusal}
@@ -39,13 +39,13 @@ clashes_recorded r = clashes_of_outcome r.outcome
 
 -- Where the run files were so at first, and are so now: the count of faults rose by at least as many as these records tell, and
 -- so did that of clashes.
-pub record OneAnswer (runs : List RunRecord) (first now : RunFiles) : Type 0 where
+pub record OneAnswer (runs : List RunRecord) (first now : FilesTold) : Type 0 where
   pub faults : RoseBy (sum_by faults_recorded runs) first.faults now.faults
   pub clashes : RoseBy (sum_by clashes_recorded runs) first.clashes now.clashes
 
 -- So it is with a closed session, where the records fit the main thread's own calls up to some point.
 abbrev pub OneAnswerEach : Type 0
-OneAnswerEach = (c : ClosedSession) → (ends : MembersAtEnd c) → (first now : RunFiles) → LoggerReasons c ends first now →
+OneAnswerEach = (c : ClosedSession) → (ends : MembersAtEnd c) → (first now : FilesTold) → LoggerReasons c ends first now →
     LoggerNames c ends first now → (own : MainOwn) → (more : List EngineEntry) →
     engine_calls c main_caller ≡ own.engine ++ more → (runs : List RunRecord) → RecordsFit (clients_in c) own runs →
     OneAnswer runs first now
@@ -58,12 +58,12 @@ NoneRefused runs = (number : ℕ) → (r : RunRecord) → slice_get runs number 
 -- counted where no record tells of one, and no channel has a limit: one with a limit may find the name of a next file taken. And no
 -- fault was counted where no start was refused, and no channel broke off: a start that is refused is undone, and what fails then is
 -- not told.
-pub record RisesTold (specs : List (Option ChannelSpec)) (runs : List RunRecord) (first now : RunFiles) : Type 0 where
+pub record RisesTold (specs : List (Option ChannelSpec)) (runs : List RunRecord) (first now : FilesTold) : Type 0 where
   pub clashes : HaveNoLimit specs → sum_by clashes_recorded runs ≡ 0 → now.clashes ≡ first.clashes
   pub faults : NoneRefused runs → sum_by faults_recorded runs ≡ 0 → now.faults ≡ first.faults
 
 -- So it is with a closed session, where there is one record for each start that the main thread began, and they fit its calls.
 abbrev pub RisesToldEach : Type 0
-RisesToldEach = (c : ClosedSession) → (ends : MembersAtEnd c) → (first now : RunFiles) → LoggerReasons c ends first now →
+RisesToldEach = (c : ClosedSession) → (ends : MembersAtEnd c) → (first now : FilesTold) → LoggerReasons c ends first now →
     (own : MainOwn) → (more : List EngineEntry) → engine_calls c main_caller ≡ own.engine ++ more → starts_begun more ≡ [] →
     (runs : List RunRecord) → RecordsFit (clients_in c) own runs → RisesTold (specs_in c.slots) runs first now

@@ -2,8 +2,8 @@
 
 ghost use Rattle.session_laws.specs.BlankLaws.{BlanksSuffice};
 
-use engine_laws::laws as turns;
 use event_report::Report;
+use history_laws::engines as turns;
 use transitions::laws;
 
 /// Where a client that asks for reports refuses a start as not ready only at a turn that came without a blank report, a start

@@ -8,11 +8,10 @@ ghost use Rattle.session_laws.specs.EndLaws.{EndsKeep, EndsComposed, MembersList
 
 use crate::blank_laws as blanks;
 use buffer_lock::laws as buffers;
-use caller_laws::laws as callers;
 use composition::laws as sessions;
 use daq_members::{analyzer_laws as seats, laws as members};
-use engine_laws::laws as turns;
 use event_report::Report;
+use history_laws::{callers, engines as turns};
 use loggers::laws as loggers_laws;
 use transitions::laws as engine;
 

@@ -1,5 +1,0 @@
-use Rattle.caller_laws.proofs.Sending.{sender_has_own, sender_sends_in_runs, silent_sends_in_runs, members_fit}
-use Rattle.caller_laws.proofs.laws.fits_members.Goals as goal
-
-pub returns : goal.returns
-returns c = record { own = sender_has_own; sends = sender_sends_in_runs; silent = silent_sends_in_runs; all = members_fit }

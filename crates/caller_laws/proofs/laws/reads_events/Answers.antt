@@ -1,5 +1,0 @@
-use Rattle.caller_laws.proofs.RunsRead.{read_events}
-use Rattle.caller_laws.proofs.laws.reads_events.Goals as goal
-
-pub returns : goal.returns
-returns c = read_events c.of_buffers.ensures

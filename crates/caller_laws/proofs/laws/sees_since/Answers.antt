@@ -1,5 +1,0 @@
-use Rattle.caller_laws.proofs.RunsSince.{seen_since}
-use Rattle.caller_laws.proofs.laws.sees_since.Goals as goal
-
-pub returns : goal.returns
-returns c = seen_since c.of_buffers.ensures

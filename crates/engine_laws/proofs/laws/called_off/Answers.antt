@@ -1,5 +1,0 @@
-use Rattle.engine_laws.proofs.CalledOff.{refused_are_called_off}
-use Rattle.engine_laws.proofs.laws.called_off.Goals as goal
-
-pub returns : goal.returns
-returns c = refused_are_called_off c.called_in_order.ensures

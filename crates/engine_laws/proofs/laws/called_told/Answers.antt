@@ -1,5 +1,0 @@
-use Rattle.engine_laws.proofs.Completed.{called_are_told}
-use Rattle.engine_laws.proofs.laws.called_told.Goals as goal
-
-pub returns : goal.returns
-returns c = called_are_told c.called_in_order.ensures

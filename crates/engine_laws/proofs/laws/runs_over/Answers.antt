@@ -1,5 +1,0 @@
-use Rattle.engine_laws.proofs.RunsOver.{runs_are_over}
-use Rattle.engine_laws.proofs.laws.runs_over.Goals as goal
-
-pub returns : goal.returns
-returns c = runs_are_over c.called_in_order.ensures

@@ -1,2 +1,0 @@
-pub mod BegunTurns
-pub mod EngineLaws

@@ -1,2 +1,0 @@
-pub mod EndsMet
-pub mod RecordsMet

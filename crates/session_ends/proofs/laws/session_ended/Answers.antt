@@ -1,4 +1,0 @@
-use Rattle.session_ends.proofs.laws.session_ended.Goals as goal
-
-pub returns : goal.returns
-returns g c = λ fronts analyzers logger ended. c.session_holds.ensures _ (c.members_end.ensures fronts analyzers logger ended)

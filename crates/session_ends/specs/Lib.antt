@@ -1,2 +1,0 @@
-pub mod EndedSessions
-pub mod EndedRecords
