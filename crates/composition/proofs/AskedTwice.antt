@@ -22,7 +22,7 @@ use Rattle.member_model.specs.OwnCalls.{calls_after, AreOwnCalls, SendsNone, Are
 use Rattle.front_ends.specs.FrontKept.{KeepsFront, KeepsMoments}
 use Rattle.analyzers.specs.CountedRuns.{requests_by, requests_made}
 use Rattle.analyzers.specs.AnalyzerKept.{HasTurnBehind}
-use Rattle.caller_laws.specs.OneCaller.{WasSentAt}
+use Rattle.history_laws.specs.OneCaller.{WasSentAt}
 use Rattle.composition.specs.SentSets.{AreTurnSets}
 use Rattle.composition.specs.Sessions.{SessionFront, SessionAnalyzer, IsMemberCaller, turns_of, buffer_calls, database_calls, IsRegistered}
 use Rattle.composition.specs.SessionRuns.{IsStoppedRun, ReportsRun}

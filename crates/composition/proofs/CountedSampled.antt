@@ -36,11 +36,11 @@ use Rattle.member_model.specs.LoggerKept.{LoggerPort, IsStartAnswer, KeepsLogger
 use Rattle.front_ends.specs.FrontKept.{KeepsFront, KeepsMoments}
 use Rattle.analyzers.specs.CountedRuns.{IsWhollyCounted}
 use Rattle.analyzers.specs.AnalyzerKept.{count_request, IsReportOfRun, KeepsAnalyzer}
-use Rattle.caller_laws.specs.OneCaller.{WasSentAt}
-use Rattle.caller_laws.specs.CallerSamples.{got_first}
-use Rattle.engine_laws.specs.BegunTurns.{IsRegisteredIn}
+use Rattle.history_laws.specs.OneCaller.{WasSentAt}
+use Rattle.history_laws.specs.CallerSamples.{got_first}
+use Rattle.history_laws.specs.BegunTurns.{IsRegisteredIn}
 use Rattle.composition.specs.SentSets.{AreTurnSets}
-use Rattle.caller_laws.specs.SeenRuns.{SeesRun}
+use Rattle.history_laws.specs.SeenRuns.{SeesRun}
 use Rattle.composition.specs.Sessions.{SessionFront, SessionAnalyzer, HasAnalyzer, IsMemberCaller, turns_of, buffer_calls, database_calls, IsRegistered, MembersKeep}
 use Rattle.composition.specs.SessionRuns.{IsStoppedRun, ReportsRun, SawThrough, analyzer_events}
 use Rattle.composition.specs.CompositionLaws.{ReportsWhole, GotWhole}

@@ -14,11 +14,11 @@ use Rattle.daq_types.specs.declared.runs.Transition.{Transition}
 use Rattle.daq_types.specs.declared.runs.Transition.TheVariants.{Start, Stop}
 use Rattle.event.specs.Events.{encoding, record_limit}
 use Rattle.event.specs.RunFile.{end_record, IsFileEvent}
-use Rattle.daq_io.specs.Seen.{Seen}
 use Rattle.sub_files.specs.declared.open_file.Fallen.{Fallen}
 use Rattle.sub_files.specs.Patterns.{piece_name_by}
 use Rattle.sub_files.specs.Pieces.{Series, HasRun, HasPart, IsFileOf, FilesOfRun, series_of}
 use Rattle.sub_files.specs.Rolls.{fallen_at}
+use Rattle.sub_files.proofs.FilesStay.{part_of_more}
 use Rattle.buffer_core.specs.declared.entry.BufferEntry.{BufferEntry}
 use Rattle.buffer_core.specs.declared.entry.BufferEntry.TheVariants.{Begin as BufferBegin, Pause, Resume, End}
 use Rattle.buffer_core.specs.Histories.{History}
@@ -40,10 +40,9 @@ use Rattle.member_model.specs.CutRuns.{MarksEnd, HasCutRun}
 use Rattle.member_model.specs.EndedRuns.{EndsBegun, MakesNoMark}
 use Rattle.member_model.specs.LoggerKept.{LoggerChannel, HasWritten, HasWrittenPart, TellsChannel, IsStartAnswer, IsStateSo, IsEndSo, series_from, stop_bytes}
 use Rattle.analyzers.specs.AnalyzerKept.{IsAnalyzerCall}
-use Rattle.caller_laws.specs.OneCaller.{IsCallersPart, HaveOwnClients, MarksAlone}
-use Rattle.caller_laws.proofs.FirstParts.{as_prefix, of_prefix, part_of_part}
-use Rattle.caller_laws.specs.CallerLaws.{ReadPlaces, ReadEvents, CutEvents, RunFileFits, MembersFit, BegunIsEnded, SenderMakesNoMark}
-use Rattle.engine_laws.specs.BegunTurns.{HasTransition, HasTally}
+use Rattle.history_laws.specs.OneCaller.{IsCallersPart, HaveOwnClients, MarksAlone}
+use Rattle.history_laws.specs.CallerLaws.{ReadPlaces, ReadEvents, CutEvents, RunFileFits, MembersFit, BegunIsEnded, SenderMakesNoMark}
+use Rattle.history_laws.specs.BegunTurns.{HasTransition, HasTally}
 use Rattle.composition.specs.Sessions.{Session, turns_of, buffer_calls, MembersKeep}
 use Rattle.composition.specs.SessionRuns.{SessionRun, IsStoppedRun, run_order, ToldChannel, channel_events, begin_dump, series_in, last_record, end_time, end_dump, HoldsFileParts}
 use Rattle.composition.specs.CompositionLaws.{ChannelsTold, EndsTold, EndsSo, FilesHoldRuns, FilesHoldParts, RunsAreEnded, NoEndRefused}
@@ -183,7 +182,7 @@ files_hold_runs laws callers files s keep r run index channel at told is ended =
       each = sym stored.many;
       few = stored.few;
       taken = w.taken;
-      beyond = subst (λ (o : Order). IsTrue w.taken → IsTrue s.files.tells → IsSome (s.files.at (piece_name_by channel.pattern o.run told.files))) (l.first w.start of).0 w.beyond;
+      beyond = subst (λ (o : Order). IsTrue w.taken → IsTrue s.files.names → IsSome (s.files.at (piece_name_by channel.pattern o.run told.files))) (l.first w.start of).0 w.beyond;
       cut = stored.cut;
       files = λ number piece there.
           holds_piece s r channel w.dump told.files (channel_events s r channel) stored.pieces stored.cut.joins
@@ -343,25 +342,6 @@ no_end_refused laws callers s keep r run index channel at told is no_mark =
     so.2 marks.0 marks.1
 
 -- A channel that broke off.
-
-part_of_more : (seen : Seen) (s : Series) (fallen : Fallen) (events more : List Event) → IsPrefix events more → HasPart seen s fallen [] events → HasPart seen s fallen [] more
-part_of_more seen s fallen events more part h = record {
-  small = h.small;
-  first = h.first;
-  front = as_prefix h.first more (part_of_part h.first events more (of_prefix h.first events h.front) (of_prefix events more part));
-  ends = inl refl;
-  taken = h.taken;
-  whole = h.whole;
-  rest = h.rest;
-  some = h.some;
-  two = h.two;
-  cut = h.cut;
-  framed = h.framed;
-  files = h.files;
-  few = h.few;
-  stored = h.stored;
-  parts = h.parts;
-}
 
 pub files_hold_parts : EngineFacts → CallerFacts → (s : Session) → MembersKeep s → FilesHoldParts s
 files_hold_parts laws callers s keep r run index channel at told is broken last_dump has_last =

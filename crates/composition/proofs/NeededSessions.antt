@@ -1,5 +1,5 @@
 -- The sessions of `NeededSamples` are as is said of them.
-use Rattle.std.specs.Prelude.{◌≡◌, ◌≢◌, ℕ, zero, suc, ◌==◌, Bool, true, false, List, [], ◌∷◌, ◌++◌, length, take, drop, slice_get, Option, Some, None, Ok, refl, ◌⊎◌}
+use Rattle.std.specs.Prelude.{◌≡◌, ◌≢◌, ℕ, zero, suc, ◌==◌, Bool, true, false, List, [], ◌∷◌, ◌++◌, length, take, drop, slice_get, Contains, Option, Some, None, Ok, refl, ◌⊎◌}
 use Rattle.std.specs.List.{AllByRecursion}
 use Rattle.std.proofs.Common.{ap, sym, ◌∙◌, subst, arith, inl, inr, ne_eqb, append-nil}
 use Rattle.std.proofs.lemmas.Bool.{eqb-true, eqb-false}
@@ -47,9 +47,9 @@ use Rattle.member_model.specs.OwnCalls.{calls_after, AreOwnCalls, SendsNone, Are
 use Rattle.member_model.specs.LoggerKept.{LoggerChannel, LoggerPort, HasWritten, KeepsLogger, TellsChannel, IsStateSo, IsEndSo, IsStartAnswer, series_from, stop_bytes}
 use Rattle.front_ends.specs.FrontKept.{KeepsFront, KeepsMoments}
 use Rattle.analyzers.specs.AnalyzerKept.{KeepsAnalyzer}
-use Rattle.caller_laws.specs.OneCaller.{WasSentAt}
-use Rattle.caller_laws.specs.CallerSamples.{reading_history}
-use Rattle.engine_laws.specs.BegunTurns.{IsRegisteredIn, HasTransition}
+use Rattle.history_laws.specs.OneCaller.{WasSentAt}
+use Rattle.history_laws.specs.CallerSamples.{reading_history}
+use Rattle.history_laws.specs.BegunTurns.{IsRegisteredIn, HasTransition}
 use Rattle.composition.specs.SentSets.{AreTurnSets}
 use Rattle.composition.specs.Sessions.{Session, SessionFront, SessionAnalyzer, HasFront, IsMemberCaller, turns_of, buffer_calls, database_calls, IsRegistered}
 use Rattle.composition.specs.SessionRuns.{SessionRun, IsStoppedRun, ToldChannel, HoldsPiece, HoldsRunFiles, file_name, channel_events}
@@ -341,8 +341,8 @@ others_of_unstored AnalyzersThere ne = λ a has. absurd (no_analyzer a has)
 others_of_unstored LoggerThere ne = sample_keeps.logger_registered
 others_of_unstored OneDump ne = sample_keeps.one_dump
 
-not_stored : {X : Type 0} {x : X} → None ≡ Some x → ⊥
-not_stored {X} {x} e = cc (e)
+none_made : {X : Type 0} {x : X} → Contains [] x → ⊥
+none_made {X} {x} made = omega (arith, made.1)
 
 -- one file was told, so there is one piece
 one_piece : (pieces : List (List Event)) → length pieces ≡ 1 → (piece : List Event) × (pieces ≡ piece ∷ [])
@@ -359,7 +359,7 @@ first_held s r channel held =
 none_held : (s : Session) (r : SessionRun) (channel : LoggerChannel) → s.files ≡ no_files → HoldsRunFiles s r channel 1 → ⊥
 none_held s r channel none held =
     let file = (first_held s r channel held).2 in
-    not_stored ((subst (λ (seen : Seen). IsStored seen (file_name r channel 0) file.bytes) none file.stored).holds refl)
+    none_made (subst (λ (seen : Seen). IsStored seen (file_name r channel 0) file.bytes) none file.stored).written
 
 ended_told_in : (s : Session) → s.logger ≡ 0 → ToldChannel s sample_run sample_channel whole_file
 ended_told_in s is = record { index = 0; ends = whole_file ∷ []; tells = ap (λ (n : ℕ). Some (record { client = n; tally = Channels (whole_file ∷ []) })) (sym is); at = refl }
@@ -389,7 +389,7 @@ other_written = record {
   fine = All-cons IsFileEvent longer_event [] (record { begins_none = λ e. omega (arith, e); ends_none = λ e. omega (arith, e); small = omega arith }) (All-nil IsFileEvent);
   taken = false;
   beyond = λ (never : false ≡ true). absurd (cc (never));
-  stored = one_file other_files (series_from sample_channel logger_start) (stop_bytes logger_start logger_stop (8 ∷ [])) longer_event (omega arith) (record { holds = λ tells. refl });
+  stored = one_file other_files (series_from sample_channel logger_start) (stop_bytes logger_start logger_stop (8 ∷ [])) longer_event (omega arith) (record { written = (0, omega arith, refl); holds = λ told. refl });
 }
 
 other_logger : KeepsLogger (sample_channel ∷ []) other_port logger_turns other_files

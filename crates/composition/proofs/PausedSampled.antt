@@ -1,5 +1,5 @@
 -- The longer session meets what the laws of sessions ask.
-use Rattle.std.specs.Prelude.{◌≡◌, ℕ, zero, suc, ◌≤◌, ◌==◌, nat_le, Bool, true, false, if◌then◌else◌, List, [], ◌∷◌, ◌++◌, length, take, drop, codes, slice_get, Some, None, Ok, refl, ◌⊎◌}
+use Rattle.std.specs.Prelude.{◌≡◌, ℕ, zero, suc, ◌≤◌, ◌==◌, nat_le, Bool, true, false, if◌then◌else◌, List, [], ◌∷◌, ◌++◌, length, take, drop, codes, slice_get, Contains, Some, None, Ok, refl, ◌⊎◌}
 use Rattle.std.specs.List.{AllByRecursion}
 use Rattle.std.proofs.Common.{ap, sym, ◌∙◌, subst, arith, inl, inr, ne_eqb}
 use Rattle.std.proofs.lemmas.Bool.{eqb-true, eqb-false}
@@ -44,13 +44,13 @@ use Rattle.member_model.specs.ReadRuns.{HasReadRun}
 use Rattle.member_model.specs.LoggerKept.{LoggerChannel, LoggerPort, HasWritten, TellsChannel, IsStartAnswer, IsEndSo, KeepsLogger, series_from, stop_bytes}
 use Rattle.front_ends.specs.Spans.{HasSpan}
 use Rattle.front_ends.specs.FrontKept.{IsMade, AreNextSends, IsFrontTally, KeepsFront, KeepsMoments}
-use Rattle.caller_laws.specs.OneCaller.{WasSentAt}
-use Rattle.caller_laws.specs.CallerSamples.{got_first}
-use Rattle.engine_laws.specs.BegunTurns.{IsRegisteredIn}
+use Rattle.history_laws.specs.OneCaller.{WasSentAt}
+use Rattle.history_laws.specs.CallerSamples.{got_first}
+use Rattle.history_laws.specs.BegunTurns.{IsRegisteredIn}
 use Rattle.composition.specs.SentSets.{AreTurnSets}
 use Rattle.composition.specs.Sessions.{Session, SessionFront, SessionAnalyzer, HasFront, HasAnalyzer, IsMemberCaller, turns_of, buffer_calls, database_calls, IsRegistered, MembersKeep}
 use Rattle.composition.specs.SessionRuns.{IsStoppedRun, ToldChannel}
-use Rattle.composition.specs.SessionSamples.{whole_file, first_sheet}
+use Rattle.composition.specs.SessionSamples.{whole_file, first_sheet, sample_bytes, made_whole}
 use Rattle.composition.specs.PausedSamples.{at_each, pause_sheet, paused_stop_sheet, refused_sheet, paused_engine, buffer_of_sender, paused_history, paused_got, first_front, second_front, paused_channel, paused_files, paused_session, pausing_run}
 use Rattle.composition.proofs.Sampled.{first_fair, sample_fine, one_file, whole_not_broken}
 
@@ -311,8 +311,8 @@ logger_begun_is : HasTurnOf paused_logger_turns Start 1 logger_begun
 logger_begun_is = record { stands = inr (inr (inl refl)); is = refl; of = refl }
 
 -- each channel has written its run in one file
-run_written : (number : ℕ) → buffer_calls paused_session number 2 ≡ logger_calls → paused_got number ≡ got_first sample_event ∷ [] → HasWritten (paused_port number) paused_logger_turns paused_files (paused_channel number) logger_stopped 1
-run_written number calls got = record {
+run_written : (number : ℕ) → buffer_calls paused_session number 2 ≡ logger_calls → paused_got number ≡ got_first sample_event ∷ [] → Contains paused_files.done (made_whole (paused_channel number) (sample_bytes sample_event)) → HasWritten (paused_port number) paused_logger_turns paused_files (paused_channel number) logger_stopped 1
+run_written number calls got made = record {
   start = logger_begun;
   is_start = record { is_start = logger_begun_is; accepted = refl };
   dump = 8 ∷ [];
@@ -325,7 +325,7 @@ run_written number calls got = record {
   fine = All-cons IsFileEvent sample_event [] sample_fine (All-nil IsFileEvent);
   taken = false;
   beyond = λ (never : false ≡ true). absurd (cc (never));
-  stored = one_file paused_files (series_from (paused_channel number) logger_begun) (stop_bytes logger_begun logger_stopped (8 ∷ [])) sample_event (omega arith) (record { holds = λ tells. refl });
+  stored = one_file paused_files (series_from (paused_channel number) logger_begun) (stop_bytes logger_begun logger_stopped (8 ∷ [])) sample_event (omega arith) (record { written = made; holds = λ told. refl });
 }
 
 abbrev TellsOf : LoggerChannel → MemberTurn → Type 0
@@ -364,7 +364,7 @@ paused_logger = record {
   ended = λ are stop index channel told at tells is.
       subst (λ (x : ChannelEnd). HasWritten (paused_port channel.buffer) paused_logger_turns paused_files channel stop x.files) (told_of_each index channel stop told at tells)
       (subst (λ (t : MemberTurn). HasWritten (paused_port channel.buffer) paused_logger_turns paused_files channel t 1) (the_stop stop tells.stands tells.is)
-      (each_channel (λ (c : LoggerChannel). HasWritten (paused_port c.buffer) paused_logger_turns paused_files c logger_stopped 1) (run_written 0 refl refl) (run_written 1 refl refl) index channel at));
+      (each_channel (λ (c : LoggerChannel). HasWritten (paused_port c.buffer) paused_logger_turns paused_files c logger_stopped 1) (run_written 0 refl refl (0, omega arith, refl)) (run_written 1 refl refl (1, omega arith, refl)) index channel at));
   broken = λ are stop index channel told at tells is. absurd (whole_not_broken told (told_of_each index channel stop told at tells) is);
 }
   where

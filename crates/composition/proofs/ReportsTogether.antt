@@ -18,11 +18,11 @@ use Rattle.member_model.specs.RunEngines.{Answer, Tally}
 use Rattle.member_model.specs.Turns.{MemberTurn, IsAcceptedStart, AreEngineTurns}
 use Rattle.analyzers.specs.CountedRuns.{counted_calls}
 use Rattle.analyzers.specs.AnalyzerKept.{IsReportOfRun, KeepsAnalyzer}
-use Rattle.caller_laws.specs.OneCaller.{WasSentAt, HaveOwnClients, HaveRunSends, events_in}
+use Rattle.history_laws.specs.OneCaller.{WasSentAt, HaveOwnClients, HaveRunSends, events_in}
 use Rattle.member_model.specs.GotRuns.{events_of_start}
-use Rattle.caller_laws.specs.CallerLaws.{SeenEvents, SeenSince, MembersFit}
-use Rattle.caller_laws.specs.SeenRuns.{SeesRun}
-use Rattle.engine_laws.specs.BegunTurns.{HasTally}
+use Rattle.history_laws.specs.CallerLaws.{SeenEvents, SeenSince, MembersFit}
+use Rattle.history_laws.specs.SeenRuns.{SeesRun}
+use Rattle.history_laws.specs.BegunTurns.{HasTally}
 use Rattle.composition.specs.Sessions.{Session, SessionAnalyzer, HasAnalyzer, MembersKeep, turns_of, buffer_calls}
 use Rattle.composition.specs.SessionRuns.{SessionRun, ReportsRun, analyzer_events}
 use Rattle.composition.specs.CompositionLaws.{ReportsTold, ReportsSo, ReportsWhole, GotWhole}

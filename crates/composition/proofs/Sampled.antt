@@ -45,9 +45,9 @@ use Rattle.member_model.specs.ReadRuns.{HasReadRun}
 use Rattle.member_model.specs.LoggerKept.{LoggerChannel, LoggerPort, HasWritten, TellsChannel, IsStartAnswer, IsEndSo, KeepsLogger, series_from, stop_bytes}
 use Rattle.front_ends.specs.Spans.{HasSpan}
 use Rattle.front_ends.specs.FrontKept.{IsMade, IsFrontTally, KeepsFront, KeepsMoments}
-use Rattle.caller_laws.specs.OneCaller.{WasSentAt}
-use Rattle.caller_laws.specs.CallerSamples.{reading_history, reading_calls, with_own_run, got_first}
-use Rattle.engine_laws.specs.BegunTurns.{IsRegisteredIn}
+use Rattle.history_laws.specs.OneCaller.{WasSentAt}
+use Rattle.history_laws.specs.CallerSamples.{reading_history, reading_calls, with_own_run, got_first}
+use Rattle.history_laws.specs.BegunTurns.{IsRegisteredIn}
 use Rattle.composition.specs.SentSets.{AreTurnSets}
 use Rattle.composition.specs.Sessions.{SessionFront, SessionAnalyzer, HasFront, HasAnalyzer, IsMemberCaller, turns_of, buffer_calls, database_calls, IsRegistered, MembersKeep}
 use Rattle.composition.specs.SessionRuns.{IsStoppedRun, ToldChannel}
@@ -234,7 +234,7 @@ run_written = record {
   fine = All-cons IsFileEvent sample_event [] sample_fine (All-nil IsFileEvent);
   taken = false;
   beyond = λ (never : false ≡ true). absurd (cc (never));
-  stored = one_file sample_files (series_from sample_channel logger_start) (stop_bytes logger_start logger_stop (8 ∷ [])) sample_event (omega arith) (record { holds = λ tells. refl });
+  stored = one_file sample_files (series_from sample_channel logger_start) (stop_bytes logger_start logger_stop (8 ∷ [])) sample_event (omega arith) (record { written = (0, omega arith, refl); holds = λ told. refl });
 }
 
 pub only_channel : (index : ℕ) (channel : LoggerChannel) → slice_get (sample_channel ∷ []) index ≡ Some channel → sample_channel ≡ channel

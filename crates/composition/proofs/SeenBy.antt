@@ -17,7 +17,7 @@ use Rattle.member_model.specs.SentCalls.{EachCall}
 use Rattle.member_model.specs.OwnCalls.{calls_after, asks, KeepsAsking}
 use Rattle.analyzers.specs.CountedRuns.{IsWhollyCounted, counted_calls}
 use Rattle.analyzers.specs.AnalyzerKept.{count_request}
-use Rattle.caller_laws.specs.SeenRuns.{SeesRun}
+use Rattle.history_laws.specs.SeenRuns.{SeesRun}
 use Rattle.composition.specs.Sessions.{Session, SessionAnalyzer, buffer_calls}
 use Rattle.composition.specs.SessionRuns.{SessionRun, ReportsRun, CancelsNot, SawThrough}
 

@@ -23,9 +23,9 @@ use Rattle.member_model.specs.SentCalls.{own_sent, EachCall, WasSpent}
 use Rattle.member_model.specs.OwnCalls.{SendsNone}
 use Rattle.front_ends.specs.FrontKept.{made_events, EndedSo, IsFrontTally, KeepsFront}
 use Rattle.analyzers.specs.AnalyzerKept.{IsAnalyzerCall}
-use Rattle.caller_laws.specs.OneCaller.{HaveRunSends}
-use Rattle.caller_laws.specs.CallerLaws.{IsSendOf, SendsStandInOrder, SentByCaller, SendIsAmong, SendsOrReads, MembersFit}
-use Rattle.engine_laws.specs.BegunTurns.{HasTally}
+use Rattle.history_laws.specs.OneCaller.{HaveRunSends}
+use Rattle.history_laws.specs.CallerLaws.{IsSendOf, SendsStandInOrder, SentByCaller, SendIsAmong, SendsOrReads, MembersFit}
+use Rattle.history_laws.specs.BegunTurns.{HasTally}
 use Rattle.composition.specs.Sessions.{Session, SessionFront, turns_of, buffer_calls, MembersKeep}
 use Rattle.composition.specs.SessionRuns.{SessionRun, IsStoppedRun, run_order, TellsFront, EndedIn, IsOfFront}
 use Rattle.composition.specs.CompositionLaws.{FrontsTell, FrontsSent, FrontsStand, OnlyFrontsSent, SegmentsAreMade}

@@ -19,8 +19,8 @@ use Rattle.transitions.specs.EnginePoints.{engine_past, state_at}
 use Rattle.transitions.specs.GivenTurns.{is_of_client, SpeaksFor}
 use Rattle.member_model.specs.RunEngines.{Sheet, Tally, EngineEntry, EngineHistory, IsLegalEngine}
 use Rattle.member_model.specs.Turns.{MemberTurn, HasTurn, HasTurnOf, IsNewStart, IsNextTurn, AreEngineTurns}
-use Rattle.engine_laws.specs.BegunTurns.{IsOfBegin, WasBegun, HasTally, IsTallyOfTurn}
-use Rattle.engine_laws.specs.EngineLaws.{GivesEngineTurns, TurnsWereBegun, StartsFromStopped, TalliesAreAnswers, CalledAreTold}
+use Rattle.history_laws.specs.BegunTurns.{IsOfBegin, WasBegun, HasTally, IsTallyOfTurn}
+use Rattle.history_laws.specs.EngineLaws.{GivesEngineTurns, TurnsWereBegun, StartsFromStopped, TalliesAreAnswers, CalledAreTold}
 use Rattle.composition.specs.Sessions.{Session, NamesOwnClient, turns_of, IsRegistered, MembersKeep}
 use Rattle.composition.specs.SessionRuns.{SessionRun, IsStoppedRun, run_order}
 

@@ -18,8 +18,8 @@ use Rattle.transitions.specs.EnginePoints.{engine_past, state_at}
 use Rattle.transitions.specs.GivenTurns.{SpeaksFor}
 use Rattle.member_model.specs.RunEngines.{Sheet, Answer, Tally, EngineHistory}
 use Rattle.member_model.specs.Turns.{MemberTurn, HasTurn}
-use Rattle.engine_laws.specs.BegunTurns.{IsOfBegin, IsRefusedTurn, IsTallyOfTurn, HasTally}
-use Rattle.engine_laws.specs.EngineLaws.{StartsFromStopped, TalliesAreAnswers, RefusalsAreAnswers, CalledAreTold}
+use Rattle.history_laws.specs.BegunTurns.{IsOfBegin, IsRefusedTurn, IsTallyOfTurn, HasTally}
+use Rattle.history_laws.specs.EngineLaws.{StartsFromStopped, TalliesAreAnswers, RefusalsAreAnswers, CalledAreTold}
 use Rattle.composition.specs.Sessions.{Session, turns_of, MembersKeep}
 use Rattle.composition.specs.CompositionLaws.{FrontsRefuse, FrontsTakePart}
 use Rattle.composition.proofs.SessionTurns.{speaks}

@@ -14,7 +14,7 @@ use Rattle.daq_types.specs.declared.runs.Why.TheVariants.{NotReady}
 use Rattle.transitions.specs.EngineCalls.{order_for}
 use Rattle.member_model.specs.RunEngines.{Sheet, ClientTally}
 use Rattle.transitions.specs.declared.answers.Tally.TheVariants.{Channels}
-use Rattle.engine_laws.specs.BegunTurns.{HasTransition}
+use Rattle.history_laws.specs.BegunTurns.{HasTransition}
 use Rattle.buffer_core.specs.declared.entry.BufferEntry.{BufferEntry}
 use Rattle.buffer_core.specs.Window.{Sent}
 use Rattle.event_report.specs.Reports.{Totals}
@@ -25,9 +25,9 @@ use Rattle.member_model.specs.GotRuns.{events_of_start}
 use Rattle.member_model.specs.LoggerKept.{LoggerChannel, IsEndSo}
 use Rattle.front_ends.specs.Spans.{HasSpan}
 use Rattle.front_ends.specs.FrontKept.{made_events}
-use Rattle.caller_laws.specs.OneCaller.{events_in}
-use Rattle.caller_laws.specs.SeenRuns.{SeesRun}
-use Rattle.caller_laws.specs.SentRuns.{places_sent, events_at_places}
+use Rattle.history_laws.specs.OneCaller.{events_in}
+use Rattle.history_laws.specs.SeenRuns.{SeesRun}
+use Rattle.history_laws.specs.SentRuns.{places_sent, events_at_places}
 use Rattle.composition.specs.SentSets.{AreTurnSets}
 use Rattle.composition.specs.Sessions.{Session, SessionFront, SessionAnalyzer, HasFront, HasAnalyzer, turns_of, buffer_calls, database_calls}
 use Rattle.composition.specs.SessionRuns.{SessionRun, IsStoppedRun, run_order, TellsFront, FrontSent, SetAtStop, SetAtPause, IsOfFront, IsMadeInRun, ToldChannel, HoldsRunFiles, HoldsFileParts, TellsTotals, ReportsRun, analyzer_events, SawThrough, CountsAll}

@@ -21,7 +21,7 @@ use Rattle.transitions.specs.declared.entry.EngineEntry.TheVariants.{Register, B
 use Rattle.transitions.specs.EngineCalls.{order_for}
 use Rattle.transitions.specs.EngineSamples.{at_all}
 use Rattle.member_model.specs.RunEngines.{Sheet, ClientTally, EngineHistory}
-use Rattle.caller_laws.specs.CallerSamples.{got_first}
+use Rattle.history_laws.specs.CallerSamples.{got_first}
 use Rattle.composition.specs.Sessions.{Session, SessionAnalyzer}
 use Rattle.composition.specs.SessionRuns.{SessionRun}
 use Rattle.composition.specs.SessionSamples.{last_sheet, plain_by_three, sample_database, sample_front, sample_files}

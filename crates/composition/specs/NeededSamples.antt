@@ -6,7 +6,6 @@ use Rattle.daq_types.specs.declared.runs.Kind.TheVariants.{All}
 use Rattle.daq_types.specs.declared.runs.RunState.TheVariants.{Stopped, Running}
 use Rattle.daq_types.specs.declared.runs.StartOutcome.TheVariants.{Completed}
 use Rattle.daq_types.specs.declared.runs.Transition.TheVariants.{Start, Stop}
-use Rattle.event.specs.RunFile.{run_file}
 use Rattle.daq_io.specs.Seen.{Seen, stored_closed}
 use Rattle.buffer_core.specs.declared.entry.BufferEntry.TheVariants.{SendInRun, Begin as BufferBegin, End as BufferEnd}
 use Rattle.buffer_core.specs.Window.{any}
@@ -25,10 +24,10 @@ use Rattle.transitions.specs.declared.entry.EngineEntry.TheVariants.{Register, B
 use Rattle.transitions.specs.EngineCalls.{order_for}
 use Rattle.transitions.specs.EngineSamples.{at_all}
 use Rattle.member_model.specs.RunEngines.{ClientTally, EngineHistory}
-use Rattle.caller_laws.specs.CallerSamples.{got_first}
+use Rattle.history_laws.specs.CallerSamples.{got_first}
 use Rattle.composition.specs.Sessions.{Session, SessionFront, SessionAnalyzer, BuffersLegal, EngineLegal, NameOwnClients, MembersCall, FrontsKeep, FrontsHaveMoments, FrontsSetNumbers, LoggerKeeps, LoggerGotSent, AnalyzersKeep, AnalyzersGotSent, FrontsRegistered, AnalyzersRegistered, LoggerRegistered, LoggerWantsDump}
 use Rattle.composition.specs.SessionRuns.{SessionRun}
-use Rattle.composition.specs.SessionSamples.{whole_file, first_sheet, last_sheet, sample_name, sample_front, sample_channel, sample_files, sample_database, sample_session}
+use Rattle.composition.specs.SessionSamples.{whole_file, first_sheet, last_sheet, sample_name, sample_front, sample_channel, sample_bytes, made_whole, sample_files, sample_database, sample_session}
 
 -- what the laws ask
 pub data SessionPremise : Type 0 where
@@ -111,15 +110,17 @@ nothing_set = record sample_session { database = [] }
 abbrev pub watching_front : Session
 watching_front = record sample_session { database = (2, Watch 1 (Ok 0)) ∷ sample_database }
 
--- there is no file
+-- there is no file, and none was made
 abbrev pub no_files : Seen
 no_files = record {
-  tells = true;
+  names = true;
   at = λ name. None;
   writes = λ number. false;
   reads = λ number. false;
   name_of = λ number. [];
   left = λ number. [];
+  given = λ number. [];
+  done = [];
 }
 
 abbrev pub nothing_stored : Session
@@ -132,7 +133,8 @@ other_got (suc n) = []
 
 abbrev pub other_files : Seen
 other_files = record sample_files {
-  at = λ name. Some (stored_closed (run_file 1 1000 (7 ∷ []) (longer_event ∷ []) 2000 (8 ∷ [])));
+  at = λ name. Some (stored_closed (sample_bytes longer_event));
+  done = made_whole sample_channel (sample_bytes longer_event) ∷ [];
 }
 
 abbrev pub other_told : Session

@@ -7,7 +7,6 @@ use Rattle.daq_types.specs.declared.runs.RunState.TheVariants.{Stopped, Paused, 
 use Rattle.daq_types.specs.declared.runs.StartOutcome.TheVariants.{Completed, Refused}
 use Rattle.daq_types.specs.declared.runs.Transition.TheVariants.{Start, Stop, Pause}
 use Rattle.daq_types.specs.declared.runs.Why.TheVariants.{NotReady}
-use Rattle.event.specs.RunFile.{run_file}
 use Rattle.daq_io.specs.Seen.{Seen, stored_closed}
 use Rattle.transitions.specs.declared.sequences.Sequences.{Sequences}
 use Rattle.buffer_core.specs.declared.gate.RunGate.TheVariants.{Shut}
@@ -31,10 +30,10 @@ use Rattle.transitions.specs.declared.entry.EngineEntry.TheVariants.{Register, B
 use Rattle.transitions.specs.EngineCalls.{order_for}
 use Rattle.member_model.specs.RunEngines.{Sheet, ClientTally, EngineHistory}
 use Rattle.member_model.specs.LoggerKept.{LoggerChannel}
-use Rattle.caller_laws.specs.CallerSamples.{got_first}
+use Rattle.history_laws.specs.CallerSamples.{got_first}
 use Rattle.composition.specs.Sessions.{Session, SessionFront}
 use Rattle.composition.specs.SessionRuns.{SessionRun}
-use Rattle.composition.specs.SessionSamples.{whole_file, first_sheet, plain_by_three}
+use Rattle.composition.specs.SessionSamples.{whole_file, first_sheet, plain_by_three, sample_bytes, made_whole}
 
 -- called at this place for each transition but start-abort
 abbrev pub at_each : ℕ → Sequences
@@ -139,15 +138,19 @@ paused_channel number = record {
   mask = any;
 }
 
--- each file is that of the run
+-- each file is that of the run, and those of both channels were made so
 abbrev pub paused_files : Seen
 paused_files = record {
-  tells = true;
-  at = λ name. Some (stored_closed (run_file 1 1000 (7 ∷ []) (sample_event ∷ []) 2000 (8 ∷ [])));
+  names = true;
+  at = λ name. Some (stored_closed (sample_bytes sample_event));
   writes = λ number. false;
   reads = λ number. false;
   name_of = λ number. [];
   left = λ number. [];
+  given = λ number. [];
+  done =
+      made_whole (paused_channel 0) (sample_bytes sample_event)
+      ∷ made_whole (paused_channel 1) (sample_bytes sample_event) ∷ [];
 }
 
 abbrev pub paused_session : Session

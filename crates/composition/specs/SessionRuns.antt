@@ -39,11 +39,11 @@ use Rattle.member_model.specs.SentCalls.{own_sent, EachCall, WasSpent}
 use Rattle.member_model.specs.GotRuns.{events_of_start}
 use Rattle.member_model.specs.LoggerKept.{LoggerChannel}
 use Rattle.front_ends.specs.FrontKept.{made_events}
-use Rattle.caller_laws.specs.OneCaller.{events_in}
+use Rattle.history_laws.specs.OneCaller.{events_in}
 use Rattle.analyzers.specs.declared.analyzer_run.EventRequest.{EventRequest}
 use Rattle.analyzers.specs.AnalyzerKept.{IsReportOfRun}
-use Rattle.caller_laws.specs.CallerLaws.{IsSendOf}
-use Rattle.engine_laws.specs.BegunTurns.{HasTransition}
+use Rattle.history_laws.specs.CallerLaws.{IsSendOf}
+use Rattle.history_laws.specs.BegunTurns.{HasTransition}
 use Rattle.composition.specs.SentSets.{sent_by_moment, HasTurnSet}
 use Rattle.composition.specs.Sessions.{Session, SessionFront, SessionAnalyzer, HasFront, turns_of, buffer_calls, database_calls}
 
@@ -168,8 +168,8 @@ end_time r many number = if is_last many number then r.last.time else r.first.ti
 abbrev pub end_dump : (last_dump : List ℕ) → (many number : ℕ) → List ℕ
 end_dump last_dump many number = if is_last many number then last_dump else []
 
--- The channel's file of this number, of so many, is closed, and is the run file of the events of this piece: its dumps and events
--- are not too large, and it has at most 2^62 bytes.
+-- The channel's file of this number, of so many, was made and closed whole, and is the run file of the events of this piece: its
+-- dumps and events are not too large, and it has at most 2^62 bytes.
 pub record HoldsPiece (s : Session) (r : SessionRun) (channel : LoggerChannel) (last_dump : List ℕ) (many number : ℕ) (piece : List Event) : Type 0 where
   pub bytes : List ℕ
   pub is : IsRunFile bytes r.first.run r.first.time (begin_dump r) piece (end_time r many number) (end_dump last_dump many number)
@@ -186,7 +186,7 @@ pub record HoldsRunFiles (s : Session) (r : SessionRun) (channel : LoggerChannel
   pub each : length pieces ≡ many
   pub few : many ≤ suc last_number
   pub taken : Bool
-  pub beyond : IsTrue taken → IsTrue s.files.tells → IsSome (s.files.at (file_name r channel many))
+  pub beyond : IsTrue taken → IsTrue s.files.names → IsSome (s.files.at (file_name r channel many))
   pub cut : IsCut channel.limit (16 + length (begin_dump r)) (channel_events s r channel) taken pieces
   pub files : (number : ℕ) → (piece : List Event) → slice_get pieces number ≡ Some piece →
       HoldsPiece s r channel last_dump many number piece
@@ -197,8 +197,8 @@ pub record HoldsRunFiles (s : Session) (r : SessionRun) (channel : LoggerChannel
 abbrev pub last_record : SessionRun → (last_dump : List ℕ) → List ℕ
 last_record r last_dump = encoding (end_record r.first.run r.last.time last_dump)
 
--- The files of a channel that broke off in the run are closed, and hold a first part of those events, cut into pieces: those that are
--- told to be framed are whole, and the others have first parts of such files. Something of the record of the stop is there only
+-- The files of a channel that broke off in the run are written no more, and hold a first part of those events, cut into pieces: those
+-- that are told to be framed are whole, and the others have first parts of such files. Something of the record of the stop is there only
 -- behind all events.
 pub record HoldsFileParts (s : Session) (r : SessionRun) (channel : LoggerChannel) (last_dump : List ℕ) (told : ChannelEnd) : Type 0 where
   pub last : List ℕ

@@ -1,5 +1,6 @@
 -- A session that meets all that the laws ask: a front-end that sends one event, a logger of one channel, and a run.
 use Rattle.std.specs.Prelude.{ℕ, zero, suc, codes, true, false, List, [], ◌∷◌, Some, None, Ok}
+use Rattle.daq_types.specs.declared.events.Event.{Event}
 use Rattle.daq_types.specs.declared.runs.ChannelEnd.{ChannelEnd}
 use Rattle.daq_types.specs.declared.runs.ChannelState.TheVariants.{Ended}
 use Rattle.daq_types.specs.declared.runs.FrontEnded.TheVariants.{Quota}
@@ -7,8 +8,8 @@ use Rattle.daq_types.specs.declared.runs.RunState.TheVariants.{Stopped, Running}
 use Rattle.daq_types.specs.declared.runs.StartOutcome.TheVariants.{Completed}
 use Rattle.daq_types.specs.declared.runs.Transition.TheVariants.{Start, Stop}
 use Rattle.event.specs.RunFile.{run_file}
-use Rattle.daq_io.specs.Seen.{Seen, stored_closed}
-use Rattle.sub_files.specs.Patterns.{plain_parts}
+use Rattle.daq_io.specs.Seen.{Seen, FileDone, stored_closed, was_left}
+use Rattle.sub_files.specs.Patterns.{plain_parts, piece_name_by}
 use Rattle.buffer_core.specs.Window.{any}
 use Rattle.buffer_core.specs.Histories.{History}
 use Rattle.buffer_core.specs.Ports.{GotEvent}
@@ -27,7 +28,7 @@ use Rattle.transitions.specs.EngineCalls.{order_for}
 use Rattle.transitions.specs.EngineSamples.{at_all}
 use Rattle.member_model.specs.RunEngines.{Sheet, ClientTally, EngineHistory}
 use Rattle.member_model.specs.LoggerKept.{LoggerChannel}
-use Rattle.caller_laws.specs.CallerSamples.{reading_history, got_first}
+use Rattle.history_laws.specs.CallerSamples.{reading_history, got_first}
 use Rattle.composition.specs.Sessions.{Session, SessionFront}
 use Rattle.composition.specs.SessionRuns.{SessionRun}
 
@@ -99,15 +100,25 @@ sample_front = record {
 abbrev pub sample_channel : LoggerChannel
 sample_channel = record { number = 0; pattern = plain_parts [] []; limit = 0; buffer = 0; client = 0; id = any; mask = any }
 
--- the file of every name is that of the run
+-- the run file of this event
+abbrev pub sample_bytes : Event → List ℕ
+sample_bytes event = run_file 1 1000 (7 ∷ []) (event ∷ []) 2000 (8 ∷ [])
+
+-- the first file of the channel in run 1 was made, and closed whole with these bytes
+abbrev pub made_whole : LoggerChannel → (bytes : List ℕ) → FileDone
+made_whole channel bytes = was_left (piece_name_by channel.pattern 1 0) (stored_closed bytes)
+
+-- the file of every name is that of the run, and the channel's was made so
 abbrev pub sample_files : Seen
 sample_files = record {
-  tells = true;
-  at = λ name. Some (stored_closed (run_file 1 1000 (7 ∷ []) (sample_event ∷ []) 2000 (8 ∷ [])));
+  names = true;
+  at = λ name. Some (stored_closed (sample_bytes sample_event));
   writes = λ number. false;
   reads = λ number. false;
   name_of = λ number. [];
   left = λ number. [];
+  given = λ number. [];
+  done = made_whole sample_channel (sample_bytes sample_event) ∷ [];
 }
 
 abbrev pub sample_session : Session

@@ -23,8 +23,8 @@ use Rattle.member_model.specs.LoggerKept.{LoggerChannel, KeepsLogger}
 use Rattle.front_ends.specs.FrontKept.{KeepsFront, KeepsMoments}
 use Rattle.analyzers.specs.declared.analyzer_run.EventRequest.{EventRequest}
 use Rattle.analyzers.specs.AnalyzerKept.{KeepsAnalyzer}
-use Rattle.caller_laws.specs.OneCaller.{WasSentAt}
-use Rattle.engine_laws.specs.BegunTurns.{IsRegisteredIn, OneWantsDump}
+use Rattle.history_laws.specs.OneCaller.{WasSentAt}
+use Rattle.history_laws.specs.BegunTurns.{IsRegisteredIn, OneWantsDump}
 use Rattle.composition.specs.SentSets.{AreTurnSets}
 
 -- a front-end: its name, its client number, the number of its buffer, what its equipment does, and the moments of its

@@ -9,10 +9,9 @@ ghost use Rattle.composition.specs.CountedSamples.{counted_history, counted_sess
 ghost use Rattle.buffer_core.specs.Samples.{sample_event, longer_event};
 ghost use Rattle.composition.specs.NeededSamples.{SessionPremise, LegalBuffers, LegalEngine, OwnNames, MemberCalls, KeptFronts, FrontMoments, FrontNumbers, KeptLogger, LoggerEvents, KeptAnalyzers, AnalyzerEvents, FrontsThere, AnalyzersThere, LoggerThere, OneDump, MeetsSession, FailsSession, unmarked_session, made_up, spoken_for, unknown_sender, other_made, early_session, nothing_set, watching_front, nothing_stored, other_told, front_for_analyzer, unknown_front, unknown_analyzer, unknown_logger, no_dump};
 
-use caller_laws::laws as callers;
-use engine_laws::laws as turns;
 use event_report::Report;
 use front_ends::laws as fronts_keep;
+use history_laws::{callers, engines as turns};
 use sub_files::laws::files_of_run;
 use transitions::laws as engine;
 

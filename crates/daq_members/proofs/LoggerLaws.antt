@@ -8,7 +8,7 @@ use Rattle.buffer_core.specs.Ports.{Access}
 use Rattle.buffer_core.specs.Slots.{slot_at}
 use Rattle.loggers.specs.Moments.{LoggerMoment, AreSamePorts}
 use Rattle.loggers.specs.SlotPulls.{PullsSlot, PullsNumbered}
-use Rattle.daq_io.specs.Seen.{Seen}
+use Rattle.daq_io.specs.Told.{FilesTold}
 use Rattle.daq_members.specs.LoggerTaken.{PullsBelow, has_pulled}
 use Rattle.daq_members.specs.ConnectedLoggers.{ConnectedSeen, StaysAtPulls}
 
@@ -38,11 +38,11 @@ pub pulls_more : (dump : List ℕ) (n : ℕ) (got later : Bool) (answer : Pulled
 pulls_more dump n got later answer a m b below pulls is = subst (λ (k : ℕ). PullsBelow dump k later a b) (sym (add-one n)) (m, got, answer, below, pulls, is)
 
 -- what no pull leaves as it is, and what pulls behind pulls do
-module _ {F : Type 0} (seen : F → Seen) where
-  pub stays_at_none : (logger : ConnectedSeen F) → StaysAtPulls seen logger logger
+module _ {F : Type 0} (read : F → FilesTold) where
+  pub stays_at_none : (logger : ConnectedSeen F) → StaysAtPulls read logger logger
   stays_at_none logger = record { run = refl; dumps = refl; same = same_ports logger.ports; keeps = λ turns stands. stands }
 
-  pub stays_then : (a b c : ConnectedSeen F) → StaysAtPulls seen a b → StaysAtPulls seen b c → StaysAtPulls seen a c
+  pub stays_then : (a b c : ConnectedSeen F) → StaysAtPulls read a b → StaysAtPulls read b c → StaysAtPulls read a c
   stays_then a b c first then_ = record {
     run = then_.run ∙ first.run;
     dumps = then_.dumps ∙ first.dumps;

@@ -5,6 +5,7 @@ use Rattle.std.proofs.lemmas.List.Elements.{Contains-append_left, Contains-appen
 use Rattle.daq_types.specs.declared.runs.Transition.{Transition}
 use Rattle.daq_types.specs.declared.runs.Transition.TheVariants.{Start, Stop, Pause, Resume, StartAbort}
 use Rattle.daq_io.specs.Seen.{Seen}
+use Rattle.daq_io.proofs.SeenLaws.{on_same, on_then}
 use Rattle.buffer_core.specs.declared.entry.BufferEntry.{BufferEntry}
 use Rattle.buffer_core.specs.Ports.{Access, GotEvent}
 use Rattle.member_model.specs.RunEngines.{Answer, Polled}
@@ -95,14 +96,15 @@ Leaves runs a b = LeavesOtherFiles runs a.slots b.slots a.files.seen b.files.see
 
 same_leaves : (runs : List ℕ) (a b : LoggerMoment) → b ≡ a → HaveRunsAmong runs a.slots → Leaves runs a b
 same_leaves runs a b same held =
-    subst (λ (m : LoggerMoment). Leaves runs a m) (sym same) (record { specs = refl; held = held; files = record { tells = refl; others = λ name other. refl } })
+    subst (λ (m : LoggerMoment). Leaves runs a m) (sym same) (record { specs = refl; held = held; files = record { told = refl; on = on_same refl; others = λ name other. refl } })
 
 leaves_then : (runs : List ℕ) (slots between later : List (Option Channel)) (old middle new : Seen) → LeavesOtherFiles runs slots between old middle → LeavesOtherFiles runs between later middle new → LeavesOtherFiles runs slots later old new
 leaves_then runs slots between later old middle new first second = record {
   specs = second.specs ∙ first.specs;
   held = second.held;
   files = record {
-    tells = second.files.tells ∙ first.files.tells;
+    told = second.files.told ∙ first.files.told;
+    on = on_then first.files.on second.files.on;
     others = λ name other.
         second.files.others name (λ is. other (subst (λ (specs : List (Option ChannelSpec)). IsRunName specs runs name) first.specs is)) ∙ first.files.others name other;
   };
@@ -206,7 +208,8 @@ others_kept laws t first takes ready stands kept =
     let held : HaveRunsAmong early t.before.slots = runs_held t.run t.dumps t.before.slots t.before.ports (member_turns t.client t.calls) t.before.files.seen stands in
     let left : Leaves runs t.before t.after = takes_leave laws runs t takes ready (λ n c opened at is. covers opened.run (held n c opened at is)) (λ n has. has) in
     record {
-      tells = left.files.tells ∙ kept.tells;
+      told = left.files.told ∙ kept.told;
+      on = on_then kept.on left.files.on;
       others = λ name other.
           let before_name : IsRunName (specs_in t.before.slots) runs name → ⊥ = λ is. other (subst (λ (specs : List (Option ChannelSpec)). IsRunName specs runs name) (sym left.specs) is) in
           left.files.others name before_name ∙ kept.others name (λ is. before_name (more_runs (specs_in t.before.slots) early runs name covers is));

@@ -53,7 +53,7 @@ module _ {E F : Type 0} (told : MemberTold E F) where
   pub record KeepContracts (crew : CrewSeen E F) : Type 0 where
     pub fronts : (number : ℕ) → (front : FrontSeen E) → slice_get crew.fronts number ≡ Some front →
         IsSeated told.takes told.makes front
-    pub logger : IsLoggerSeated told.seen crew.logger
+    pub logger : IsLoggerSeated told.read crew.logger
     pub reasons : HasLoggerReasons told.read crew.logger
     pub names : KeepsLoggerNames told.read crew.logger
     pub analyzers : (place : ℕ) → (analyzer : AnalyzerSeen) → slice_get crew.analyzers place ≡ Some analyzer →

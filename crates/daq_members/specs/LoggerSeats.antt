@@ -1,7 +1,7 @@
 -- The logger in a session, with its own ports to the buffers and the run files.
 use Rattle.std.specs.Prelude.{◌≡◌, ◌≤◌, ℕ, true, List, [], length, Option}
 use Rattle.daq_types.specs.Callers.{caller_of_client}
-use Rattle.daq_io.specs.Seen.{Seen}
+use Rattle.daq_io.specs.Told.{FilesTold}
 use Rattle.buffer_core.specs.Ports.{Access}
 use Rattle.member_model.specs.RunEngines.{EngineEntry}
 use Rattle.transition_lock.specs.declared.shared.SharedEngine.{SharedEngine}
@@ -10,7 +10,7 @@ use Rattle.mid_logger.specs.declared.channel.Channel.{Channel}
 use Rattle.loggers.specs.declared.logged_run.LoggedRun.{LoggedRun}
 use Rattle.loggers.specs.declared.logged_run.RunDumps.{RunDumps}
 use Rattle.loggers.specs.declared.logger.Logger.{Logger}
-use Rattle.loggers.specs.Moments.{RunFiles, IsLoggerReady, AreSamePorts, AreIdleChannels}
+use Rattle.loggers.specs.Moments.{IsLoggerReady, AreSamePorts, AreIdleChannels}
 use Rattle.loggers.specs.NewLoggers.{NoneTakenBack}
 use Rattle.loggers.specs.SlotPulls.{HasEventRoom}
 use Rattle.loggers.specs.Turning.{IsIdleOutside, DumpsFit, buffers_begun}
@@ -65,60 +65,60 @@ logger_seen engine logger ports files first =
 -- each turn. Where no client of it is known to be detached by another, it keeps its contract over its own calls on engine,
 -- buffers and files; and all files but those of its channels in the runs that it was told to start are as they were when
 -- it took its seat.
-pub record IsLoggerSeated {F : Type 0} (seen : F → Seen) (logger : LoggerSeen F) : Type 0 where
+pub record IsLoggerSeated {F : Type 0} (read : F → FilesTold) (logger : LoggerSeen F) : Type 0 where
   pub speaks : are_calls_for logger.client logger.calls ≡ true
   pub caller : HaveCaller (caller_of_client logger.client) logger.ports
-  pub ready : IsLoggerReady logger.slots logger.ports (seen logger.files)
+  pub ready : IsLoggerReady logger.slots logger.ports (read logger.files).seen
   pub room : (number : ℕ) → HasEventRoom number logger.slots logger.ports
   pub idle : IsIdleOutside logger.run logger.slots
   pub begun : buffers_begun logger.run ≤ length logger.ports
   pub small : DumpsFit logger.dumps
   pub stands : NoneTakenBack logger.ports →
       LoggerStands logger.run logger.dumps logger.slots logger.ports (member_turns logger.client logger.calls)
-      (seen logger.files)
+      (read logger.files).seen
   pub others : NoneTakenBack logger.ports →
       KeepsOtherFiles (specs_in logger.slots) (started_runs (member_turns logger.client logger.calls))
-      (seen logger.first) (seen logger.files)
+      (read logger.first).seen (read logger.files).seen
 
 -- Each answer of the logger rests on the counts of the run files, as they were when it took its seat and as they are: a
 -- start was refused for a name only where a clash was counted, for a fault only where one was, and for a buffer only where that
 -- refused a call; and a channel broke off only where a fault was counted. And each clash that was counted is told, and so is each
 -- fault, by an answer or by a channel that broke off, or else a start was undone.
-abbrev pub HasLoggerReasons : {F : Type 0} → (read : F → RunFiles) → LoggerSeen F → Type 0
+abbrev pub HasLoggerReasons : {F : Type 0} → (read : F → FilesTold) → LoggerSeen F → Type 0
 HasLoggerReasons read logger =
     GivesReasons logger.slots logger.ports (read logger.first) (read logger.files) (member_turns logger.client logger.calls)
 
 -- Where names are told, and no fault was counted since the logger took its seat, it left all names of run files as they were
 -- then, but those of its channels in the runs that were started and stopped in its turns, and in the run that it has. So it is
 -- where no client of it is known to be detached by another.
-abbrev pub KeepsLoggerNames : {F : Type 0} → (read : F → RunFiles) → LoggerSeen F → Type 0
+abbrev pub KeepsLoggerNames : {F : Type 0} → (read : F → FilesTold) → LoggerSeen F → Type 0
 KeepsLoggerNames read logger = NoneTakenBack logger.ports →
     KeepsNames logger.slots (read logger.first) (read logger.files) (member_turns logger.client logger.calls)
 
 -- All that.
-pub record IsLoggerAtSeat {F : Type 0} (seen : F → Seen) (read : F → RunFiles) (logger : LoggerSeen F) : Type 0 where
-  pub seated : IsLoggerSeated seen logger
+pub record IsLoggerAtSeat {F : Type 0} (read : F → FilesTold) (logger : LoggerSeen F) : Type 0 where
+  pub seated : IsLoggerSeated read logger
   pub reasons : HasLoggerReasons read logger
   pub names : KeepsLoggerNames read logger
 
 -- A logger that made no call on the engine yet, and whose channels are idle, is ready for its seat: the ports are its client's own,
 -- it is ready for each turn and keeps its contract over its calls, and its answers rest on the counts of any run files.
-pub record IsFirstLogger {F : Type 0} (seen : F → Seen) (logger : LoggerSeen F) : Type 0 where
+pub record IsFirstLogger {F : Type 0} (read : F → FilesTold) (logger : LoggerSeen F) : Type 0 where
   pub stands : NoneTakenBack logger.ports →
       LoggerStands logger.run logger.dumps logger.slots logger.ports (member_turns logger.client logger.calls)
-      (seen logger.files)
+      (read logger.files).seen
   pub caller : HaveCaller (caller_of_client logger.client) logger.ports
-  pub ready : IsLoggerReady logger.slots logger.ports (seen logger.files)
+  pub ready : IsLoggerReady logger.slots logger.ports (read logger.files).seen
   pub room : (number : ℕ) → HasEventRoom number logger.slots logger.ports
   pub fresh : logger.calls ≡ []
   pub idle : AreIdleChannels logger.slots
   pub begun : buffers_begun logger.run ≤ length logger.ports
   pub small : DumpsFit logger.dumps
-  pub reasons : (told : RunFiles) →
+  pub reasons : (told : FilesTold) →
       GivesReasons logger.slots logger.ports told told (member_turns logger.client logger.calls)
 
 -- a turn of the logger, by what is seen of it before and behind
-abbrev pub logger_taken : {F : Type 0} → (read : F → RunFiles) → (before after : LoggerSeen F) → Turned → LoggerTaken
+abbrev pub logger_taken : {F : Type 0} → (read : F → FilesTold) → (before after : LoggerSeen F) → Turned → LoggerTaken
 logger_taken read before after turned = record {
   client = before.client;
   calls = before.calls;

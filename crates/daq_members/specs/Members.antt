@@ -1,12 +1,11 @@
 -- A member of a session, of whatever kind it is: what is seen of it, what it keeps, and its turns.
-use Rattle.std.specs.Prelude.{ℕ, Bool, List, Option}
+use Rattle.std.specs.Prelude.{ℕ, Bool, List}
 use Rattle.daq_types.specs.declared.events.Event.{Event}
 use Rattle.daq_types.specs.declared.runs.Order.{Order}
-use Rattle.daq_io.specs.Seen.{Seen}
+use Rattle.daq_io.specs.Told.{FilesTold}
 use Rattle.member_model.specs.RunEngines.{EngineEntry}
 use Rattle.transition_lock.specs.declared.shared.SharedEngine.{SharedEngine}
 use Rattle.loggers.specs.LoggerFaults.{NotesFaults}
-use Rattle.loggers.specs.Moments.{RunFiles, files_by}
 use Rattle.member_crew.specs.declared.turned.Turned.{Turned}
 use Rattle.daq_members.specs.FrontTaken.{TakesFront}
 use Rattle.daq_members.specs.LoggerTaken.{TakesLogger}
@@ -44,23 +43,17 @@ calls_of (Analyzer analyzer) = analyzer.calls
 pub record MemberTold (E F : Type 0) : Type 0 where
   pub takes : E → Order → Bool
   pub makes : E → Order → ℕ → Event
-  pub seen : F → Seen
-  pub read : F → RunFiles
+  pub read : F → FilesTold
 
 abbrev pub member_told : {E F : Type 0} → (takes : E → Order → Bool) → (makes : E → Order → ℕ → Event) →
-    (seen : F → Seen) → (faults clashes : F → ℕ) → (first : F → Option (List ℕ)) → MemberTold E F
-member_told takes makes seen faults clashes first = record {
-  takes = takes;
-  makes = makes;
-  seen = seen;
-  read = files_by seen faults clashes first;
-}
+    (read : F → FilesTold) → MemberTold E F
+member_told takes makes read = record { takes = takes; makes = makes; read = read }
 
 module _ {E F : Type 0} (told : MemberTold E F) where
   -- A member keeps the contract of its kind over its own calls.
   abbrev pub KeepsContract : MemberSeen E F → Type 0
   KeepsContract (FrontEnd front) = IsSeated told.takes told.makes front
-  KeepsContract (Logger logger) = IsLoggerAtSeat told.seen told.read logger
+  KeepsContract (Logger logger) = IsLoggerAtSeat told.read logger
   KeepsContract (Analyzer analyzer) = IsAnalyzerSeated analyzer
 
   -- A member takes one turn, as those of its kind do, and is the same one behind it.

@@ -3,7 +3,7 @@ ghost use Rattle.std.specs.Prelude.{◌≡◌, ◌≤◌, ◌<◌, ◌+◌, ◌|
 ghost use Rattle.std.specs.Option.{option_copied};
 ghost use Rattle.event.specs.Events.{record_limit};
 ghost use Rattle.buffer_core.specs.Slots.{slot_at, some_slot};
-ghost use Rattle.loggers.specs.Moments.{files_by, AreSamePorts};
+ghost use Rattle.loggers.specs.Moments.{AreSamePorts};
 ghost use Rattle.loggers.specs.SlotPulls.{PullsNumbered};
 ghost use Rattle.loggers.specs.Turning.{TakesTurn};
 ghost use Rattle.loggers.specs.Finishing.{FinishesLogger};
@@ -44,7 +44,7 @@ impl<P: BufferPort, F: Files> Model for ConnectedLogger<P, F> {
 
     ghost view = { λ c. connected c.logger (map P.access c.ports) c.files };
 
-    ghost invariant = { λ c. IsConnected F.seen
+    ghost invariant = { λ c. IsConnected F.told
         (connected c.logger (map P.access c.ports) c.files) × (c.bound ≤ pulled_channels)
         × ((n : ℕ) → c.bound ≤ n → slot_at c.logger.channels n ≡ None) };
 }
@@ -108,7 +108,7 @@ fn channel_bound(logger: &Logger) -> u32
 impl<P: BufferPort, F: Files> ConnectedLogger<P, F> {
     /// This logger with these ports and files.
     pub(crate) fn new(logger: Logger, ports: Ports<P>, files: F) -> ConnectedLogger<P, F>
-        requires { IsConnected F.seen (connected logger (map P.access ports) files) }
+        requires { IsConnected F.told (connected logger (map P.access ports) files) }
         ensures { result ≡ connected logger (map P.access ports) files }
     {
         let bound = channel_bound(&logger);
@@ -122,7 +122,7 @@ impl<P: BufferPort, F: Files> ConnectedLogger<P, F> {
 
     /// Learns that it is ready for its turns.
     pub(crate) fn is_ready(&self)
-        ensures { IsConnected F.seen self.now }
+        ensures { IsConnected F.told self.now }
     {
         let _logger = &self.logger;
     }
@@ -138,9 +138,8 @@ impl<P: BufferPort, F: Files> ConnectedLogger<P, F> {
     /// Pulls the channel of this number once, if there is one, between the two points of the gate.
     fn pull_one<R: Wait, G: Gate>(&mut self, rt: &R, gate: &G, client: u32, channel: u32) -> Pulled
         ensures pulls { PullsNumbered (unwrap_or self.old.dumps.start []) channel result
-            (moment_at (files_by F.seen F.faults F.clashes F.first) self.old)
-            (moment_at (files_by F.seen F.faults F.clashes F.first) self.new) }
-        ensures stays { StaysAtPulls F.seen self.old self.new }
+            (moment_at F.told self.old) (moment_at F.told self.new) }
+        ensures stays { StaysAtPulls F.told self.old self.new }
     {
         if !has_channel(&self.logger, channel) {
             return Pulled::NoChannel;
@@ -155,10 +154,9 @@ impl<P: BufferPort, F: Files> ConnectedLogger<P, F> {
 
     /// Pulls each channel of the logger with this client number once, in order of number. Whether one of the pulls got an event.
     pub(crate) fn pull_all<R: Wait, G: Gate>(&mut self, rt: &R, gate: &G, client: u32) -> bool
-        ensures pulls { PullsAll self.old.dumps result
-            (moment_at (files_by F.seen F.faults F.clashes F.first) self.old)
-            (moment_at (files_by F.seen F.faults F.clashes F.first) self.new) }
-        ensures stays { StaysAtPulls F.seen self.old self.new }
+        ensures pulls { PullsAll self.old.dumps result (moment_at F.told self.old)
+            (moment_at F.told self.new) }
+        ensures stays { StaysAtPulls F.told self.old self.new }
     {
         let bound = self.bound();
         let mut got = false;
@@ -178,13 +176,11 @@ impl<P: BufferPort, F: Files> ConnectedLogger<P, F> {
         dump: Option<Bytes>,
     ) -> Option<Answer>
         requires { IfSome dump (λ bytes. length bytes ≤ record_limit) }
-        ensures takes { TakesTurn (connected_turned
-            (files_by F.seen F.faults F.clashes F.first) transition order.now dump result self.old
-            self.new) }
+        ensures takes { TakesTurn (connected_turned F.told transition order.now dump result
+            self.old self.new) }
         ensures same { AreSamePorts self.old.ports self.new.ports }
-        ensures keeps { StandsAfterTurn (connected_turned
-            (files_by F.seen F.faults F.clashes F.first) transition order.now dump result self.old
-            self.new) }
+        ensures keeps { StandsAfterTurn (connected_turned F.told transition order.now dump result
+            self.old self.new) }
     {
         logger_laws::other_files();
         self.logger.on_turn(
@@ -199,11 +195,9 @@ impl<P: BufferPort, F: Files> ConnectedLogger<P, F> {
 
     /// The answer to the stop that waits, if it can be given.
     pub(crate) fn finish(&mut self) -> Option<Answer>
-        ensures finishes { FinishesLogger (connected_finish
-            (files_by F.seen F.faults F.clashes F.first) result self.old self.new) }
+        ensures finishes { FinishesLogger (connected_finish F.told result self.old self.new) }
         ensures ports { self.new.ports ≡ self.old.ports }
-        ensures keeps { StandsAfterFinish (connected_finish
-            (files_by F.seen F.faults F.clashes F.first) result self.old self.new) }
+        ensures keeps { StandsAfterFinish (connected_finish F.told result self.old self.new) }
     {
         logger_laws::other_files();
         self.logger.finish(&mut self.files)

@@ -10,10 +10,10 @@ use front_ends::Equipment;
 use odb_watch::WatchPort;
 
 /// The members of a session that came back behind turns of their own are the same ones, in the same order.
-pub fn crews_stay<'a, E: Equipment, P: BufferPort, D: WatchPort, F: Files>(
-    _members: &[Member<'a, E, P, D, F>],
+pub fn crews_stay<'a, X: Equipment, P: BufferPort, D: WatchPort, F: Files>(
+    _members: &[Member<'a, X, P, D, F>],
 )
-    ensures { CrewsStay (member_told E.takes E.makes F.seen F.faults F.clashes F.first) }
+    ensures { CrewsStay (member_told X.takes X.makes F.told) }
 {
     members_stay(_members);
 }

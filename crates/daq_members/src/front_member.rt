@@ -34,23 +34,23 @@ pub struct FrontParts<P, D> {
 /// A front-end as a member of a session: its client at the engine, the key in which it says how many events it sent, the
 /// front-end, its own port to its buffer, and its own access to the database. Its turns take no memory.
 #[derive(Drop)]
-pub struct FrontMember<'a, E: Equipment, P: BufferPort, D: WatchPort> {
+pub struct FrontMember<'a, X: Equipment, P: BufferPort, D: WatchPort> {
     engine: MemberClient<'a, D>,
     key: SentKey,
-    front: FrontEnd<E>,
+    front: FrontEnd<X>,
     port: P,
     database: D,
 }
 
-impl<'a, E: Equipment, P: BufferPort, D: WatchPort> Model for FrontMember<'a, E, P, D> {
+impl<'a, X: Equipment, P: BufferPort, D: WatchPort> Model for FrontMember<'a, X, P, D> {
     ghost use Rattle.daq_members.specs.FrontSeats.{FrontSeen, IsSeated, front_by};
 
-    ghost Value = { FrontSeen E };
+    ghost Value = { FrontSeen X };
 
     ghost view = { λ m. front_by D.access m.engine m.key.name m.front (P.access m.port)
         m.database };
 
-    ghost invariant = { λ m. IsSeated E.takes E.makes
+    ghost invariant = { λ m. IsSeated X.takes X.makes
         (front_by D.access m.engine m.key.name m.front (P.access m.port) m.database) };
 }
 
@@ -95,20 +95,20 @@ fn number_finished(answered: bool, sent: u64) -> Option<u64>
 }
 
 /// Sends the next event of the front-end with this client number, if one is to be sent, between the two points of the gate.
-fn step_between<R: Wait, E: Equipment, P: BufferPort, G: Gate>(
+fn step_between<R: Wait, X: Equipment, P: BufferPort, G: Gate>(
     rt: &R,
     gate: &G,
     client: u32,
-    front: &mut FrontEnd<E>,
+    front: &mut FrontEnd<X>,
     port: &mut P,
 ) -> FrontStep
     requires size { 104 ≤ (P.access port.old).size }
-    ensures steps { StepsOnce E.makes front.old front.new (P.access port.old) (P.access port.new)
+    ensures steps { StepsOnce X.makes front.old front.new (P.access port.old) (P.access port.new)
         result }
-    ensures takes_as { E.takes front.new.equipment ≡ E.takes front.old.equipment }
-    ensures makes_as { E.makes front.new.equipment ≡ E.makes front.old.equipment }
+    ensures takes_as { X.takes front.new.equipment ≡ X.takes front.old.equipment }
+    ensures makes_as { X.makes front.new.equipment ≡ X.makes front.old.equipment }
     ensures same_port { IsSameAccess (P.access port.old) (P.access port.new) }
-    ensures keeps { KeepsAtStep E.takes E.makes front.old front.new (P.access port.old)
+    ensures keeps { KeepsAtStep X.takes X.makes front.old front.new (P.access port.old)
         (P.access port.new) }
 {
     gate.at(client, Point::BeforeSend);
@@ -117,7 +117,7 @@ fn step_between<R: Wait, E: Equipment, P: BufferPort, G: Gate>(
     step
 }
 
-impl<'a, E: Equipment, P: BufferPort, D: WatchPort> FrontMember<'a, E, P, D> {
+impl<'a, X: Equipment, P: BufferPort, D: WatchPort> FrontMember<'a, X, P, D> {
     ghost use Rattle.daq_members.specs.FrontSeats.{IsSeated, IsSameFront, front_seen, front_taken};
 
     /// A front-end that is ready for its turns, with its client at the engine, its own port to its buffer and its own access to
@@ -125,11 +125,11 @@ impl<'a, E: Equipment, P: BufferPort, D: WatchPort> FrontMember<'a, E, P, D> {
     pub fn new(
         engine: EngineClient<'a>,
         key: SentKey,
-        front: FrontEnd<E>,
+        front: FrontEnd<X>,
         port: P,
         database: D,
-    ) -> FrontMember<'a, E, P, D>
-        requires { IsSeated E.takes E.makes
+    ) -> FrontMember<'a, X, P, D>
+        requires { IsSeated X.takes X.makes
             (front_seen engine key.name front (P.access port) (D.access database)) }
         ensures { result
             ≡ front_seen engine.entry key.name front (P.access port) (D.access database) }
@@ -149,9 +149,9 @@ impl<'a, E: Equipment, P: BufferPort, D: WatchPort> FrontMember<'a, E, P, D> {
     /// was given, one was answered, or an event was sent; Ended exactly where the engine is closed. The calls are
     /// those of the member's own number. What the turn sets in the database, it sets before it answers. Takes no memory.
     pub fn turn<R: Wait, G: Gate>(&mut self, rt: &R, gate: &G) -> Turned
-        ensures takes { TakesFront (front_taken E.takes E.makes self.old self.new result) }
-        ensures same { IsSameFront E.takes E.makes self.old self.new }
-        ensures keeps { IsSeated E.takes E.makes self.new }
+        ensures takes { TakesFront (front_taken X.takes X.makes self.old self.new result) }
+        ensures same { IsSameFront X.takes X.makes self.old self.new }
+        ensures keeps { IsSeated X.takes X.makes self.new }
     {
         let client = self.engine.number();
         let owed = self.engine.owed();
@@ -192,7 +192,7 @@ impl<'a, E: Equipment, P: BufferPort, D: WatchPort> FrontMember<'a, E, P, D> {
     /// The front-end's client number. It keeps its contract at every moment.
     pub fn client(&self) -> u32
         ensures number { result ≡ self.now.client }
-        ensures seated { IsSeated E.takes E.makes self.now }
+        ensures seated { IsSeated X.takes X.makes self.now }
     {
         self.engine.number()
     }
@@ -207,7 +207,7 @@ impl<'a, E: Equipment, P: BufferPort, D: WatchPort> FrontMember<'a, E, P, D> {
         ensures idle { held_by result.pass ≡ None }
         ensures port { P.access result.port ≡ self.entry.port }
         ensures database { D.access result.database ≡ self.entry.database }
-        ensures seated { IsSeated E.takes E.makes self.entry }
+        ensures seated { IsSeated X.takes X.makes self.entry }
     {
         let FrontMember {
             engine,

@@ -3,7 +3,7 @@ ghost use Rattle.daq_types.specs.Callers.{caller_of_client};
 ghost use Rattle.buffer_core.specs.Slots.{some_slot};
 ghost use Rattle.turn_lock.specs.Passes.{number_of, held_by, own_entries, IsOf};
 ghost use Rattle.transition_lock.specs.SharedEngines.{engine_lock_of};
-ghost use Rattle.loggers.specs.Moments.{files_by, AreSamePorts};
+ghost use Rattle.loggers.specs.Moments.{AreSamePorts};
 ghost use Rattle.daq_members.specs.OwnTurns.{are_calls_for};
 ghost use Rattle.daq_members.specs.FrontTaken.{turned_by};
 ghost use Rattle.daq_members.specs.LoggerTaken.{TakesLogger, KeepsLoggerMember};
@@ -42,14 +42,13 @@ pub struct LoggerMember<'a, P: BufferPort, F: Files> {
 }
 
 impl<'a, P: BufferPort, F: Files> Model for LoggerMember<'a, P, F> {
-    ghost use Rattle.loggers.specs.Moments.{files_by};
     ghost use Rattle.daq_members.specs.LoggerSeats.{LoggerSeen, IsLoggerAtSeat, logger_by};
 
     ghost Value = { LoggerSeen F };
 
     ghost view = { λ m. logger_by m.engine m.logger m.first.value };
 
-    ghost invariant = { λ m. IsLoggerAtSeat F.seen (files_by F.seen F.faults F.clashes F.first)
+    ghost invariant = { λ m. IsLoggerAtSeat F.told
         (logger_by m.engine m.logger m.first.value) };
 }
 
@@ -67,15 +66,14 @@ fn take_turn<'a, R: Wait, P: BufferPort, F: Files, G: Gate>(
     engine: &mut MemberClient<'a, ConnectedLogger<P, F>>,
     logger: &mut ConnectedLogger<P, F>,
 ) -> Turned
-    ensures takes { TakesLogger (connected_taken (files_by F.seen F.faults F.clashes F.first)
+    ensures takes { TakesLogger (connected_taken F.told
         engine.old engine.new logger.old logger.new result) }
     ensures client { engine.new.client ≡ engine.old.client }
     ensures engine { engine.new.engine ≡ engine.old.engine }
     ensures speaks { are_calls_for engine.new.client engine.new.calls ≡ true }
     ensures same { AreSamePorts logger.old.ports logger.new.ports }
-    ensures keeps { KeepsLoggerMember (connected_taken
-        (files_by F.seen F.faults F.clashes F.first) engine.old engine.new logger.old logger.new
-        result) }
+    ensures keeps { KeepsLoggerMember (connected_taken F.told engine.old engine.new logger.old
+        logger.new result) }
 {
     let client = engine.number();
     let owed = engine.owed();
@@ -116,7 +114,7 @@ impl<'a, P: BufferPort, F: Files> LoggerMember<'a, P, F> {
         ports: Ports<P>,
         files: F,
     ) -> LoggerMember<'a, P, F>
-        requires { IsFirstLogger F.seen
+        requires { IsFirstLogger F.told
             (logger_seen engine logger (map P.access ports) files files) }
         ensures { result ≡ logger_seen engine.entry logger (map P.access ports) files files }
     {
@@ -136,11 +134,9 @@ impl<'a, P: BufferPort, F: Files> LoggerMember<'a, P, F> {
     /// calls are those of the member's own number. What the turn does on buffers and files, it does before it answers. Takes no
     /// memory.
     pub fn turn<R: Wait, G: Gate>(&mut self, rt: &R, gate: &G) -> Turned
-        ensures takes { TakesLogger (logger_taken (files_by F.seen F.faults F.clashes F.first)
-            self.old self.new result) }
+        ensures takes { TakesLogger (logger_taken F.told self.old self.new result) }
         ensures same { IsSameLogger self.old self.new }
-        ensures keeps { IsLoggerAtSeat F.seen (files_by F.seen F.faults F.clashes F.first)
-            self.new }
+        ensures keeps { IsLoggerAtSeat F.told self.new }
     {
         logger_laws::still_known();
         logger_laws::other_files();
@@ -154,8 +150,7 @@ impl<'a, P: BufferPort, F: Files> LoggerMember<'a, P, F> {
     /// The logger's client number. It keeps its contract at every moment.
     pub fn client(&self) -> u32
         ensures number { result ≡ self.now.client }
-        ensures seated { IsLoggerAtSeat F.seen (files_by F.seen F.faults F.clashes F.first)
-            self.now }
+        ensures seated { IsLoggerAtSeat F.told self.now }
     {
         self.engine.number()
     }
@@ -176,8 +171,7 @@ impl<'a, P: BufferPort, F: Files> LoggerMember<'a, P, F> {
         ensures idle { held_by result.pass ≡ None }
         ensures ports { map P.access result.ports ≡ self.entry.ports }
         ensures files { result.files ≡ self.entry.files }
-        ensures seated { IsLoggerAtSeat F.seen (files_by F.seen F.faults F.clashes F.first)
-            self.entry }
+        ensures seated { IsLoggerAtSeat F.told self.entry }
     {
         let LoggerMember { engine, logger, .. } = self;
         let (ports, files) = logger.into_parts();

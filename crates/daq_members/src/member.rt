@@ -13,22 +13,22 @@ use std::sync::Wait;
 
 /// The kinds of members.
 #[derive(Drop)]
-pub enum MemberKind<'a, E: Equipment, P: BufferPort, D: WatchPort, F: Files> {
-    FrontEnd(FrontMember<'a, E, P, D>),
+pub enum MemberKind<'a, X: Equipment, P: BufferPort, D: WatchPort, F: Files> {
+    FrontEnd(FrontMember<'a, X, P, D>),
     Logger(LoggerMember<'a, P, F>),
     Analyzer(AnalyzerMember<'a, P>),
 }
 
 /// A member of a session: a front-end, the logger or an analyzer. It keeps its contract at every moment.
 #[derive(Drop)]
-pub struct Member<'a, E: Equipment, P: BufferPort, D: WatchPort, F: Files> {
-    kind: MemberKind<'a, E, P, D, F>,
+pub struct Member<'a, X: Equipment, P: BufferPort, D: WatchPort, F: Files> {
+    kind: MemberKind<'a, X, P, D, F>,
 }
 
-impl<'a, E: Equipment, P: BufferPort, D: WatchPort, F: Files> Model for Member<'a, E, P, D, F> {
+impl<'a, X: Equipment, P: BufferPort, D: WatchPort, F: Files> Model for Member<'a, X, P, D, F> {
     ghost use Rattle.daq_members.specs.Members.{MemberSeen};
 
-    ghost Value = { MemberSeen E F };
+    ghost Value = { MemberSeen X F };
 
     ghost use Rattle.daq_members.specs.Members.{KeepsContract, member_told};
     ghost use Rattle.daq_members.specs.Kinds.{seen_of};
@@ -36,17 +36,16 @@ impl<'a, E: Equipment, P: BufferPort, D: WatchPort, F: Files> Model for Member<'
     ghost view = { λ m. seen_of m.kind };
 
     ghost invariant = { λ m. KeepsContract
-        (member_told E.takes E.makes F.seen F.faults F.clashes F.first) (seen_of m.kind) };
+        (member_told X.takes X.makes F.told) (seen_of m.kind) };
 }
 
-impl<'a, E: Equipment, P: BufferPort, D: WatchPort, F: Files> MemberKind<'a, E, P, D, F> {
+impl<'a, X: Equipment, P: BufferPort, D: WatchPort, F: Files> MemberKind<'a, X, P, D, F> {
     ghost use Rattle.daq_members.specs.Kinds.{seen_of};
 
     /// The member's client number. It keeps its contract at every moment.
     pub fn client(&self) -> u32
         ensures number { result ≡ client_of (seen_of self.now) }
-        ensures keeps { KeepsContract
-            (member_told E.takes E.makes F.seen F.faults F.clashes F.first) (seen_of self.now) }
+        ensures keeps { KeepsContract (member_told X.takes X.makes F.told) (seen_of self.now) }
     {
         match self {
             MemberKind::FrontEnd(front) => front.client(),
@@ -56,11 +55,11 @@ impl<'a, E: Equipment, P: BufferPort, D: WatchPort, F: Files> MemberKind<'a, E, 
     }
 }
 
-impl<'a, E: Equipment, P: BufferPort, D: WatchPort, F: Files> Member<'a, E, P, D, F> {
+impl<'a, X: Equipment, P: BufferPort, D: WatchPort, F: Files> Member<'a, X, P, D, F> {
     ghost use Rattle.daq_members.specs.Kinds.{seen_of};
 
     /// The member of this kind.
-    pub fn new(kind: MemberKind<'a, E, P, D, F>) -> Member<'a, E, P, D, F>
+    pub fn new(kind: MemberKind<'a, X, P, D, F>) -> Member<'a, X, P, D, F>
         ensures { result ≡ seen_of kind.entry }
     {
         kind.client();
@@ -70,18 +69,15 @@ impl<'a, E: Equipment, P: BufferPort, D: WatchPort, F: Files> Member<'a, E, P, D
     /// The member's client number. It keeps its contract at every moment.
     pub fn client(&self) -> u32
         ensures number { result ≡ client_of self.now }
-        ensures keeps { KeepsContract
-            (member_told E.takes E.makes F.seen F.faults F.clashes F.first) self.now }
+        ensures keeps { KeepsContract (member_told X.takes X.makes F.told) self.now }
     {
         self.kind.client()
     }
 
     /// One turn, by the member's kind.
     pub fn turn<R: Wait, G: Gate>(&mut self, rt: &R, gate: &G) -> Turned
-        ensures turns { TurnsMember
-            (member_told E.takes E.makes F.seen F.faults F.clashes F.first) self.old self.new result }
-        ensures keeps { KeepsContract
-            (member_told E.takes E.makes F.seen F.faults F.clashes F.first) self.new }
+        ensures turns { TurnsMember (member_told X.takes X.makes F.told) self.old self.new result }
+        ensures keeps { KeepsContract (member_told X.takes X.makes F.told) self.new }
     {
         match &mut self.kind {
             MemberKind::FrontEnd(front) => front.turn(rt, gate),
@@ -91,20 +87,19 @@ impl<'a, E: Equipment, P: BufferPort, D: WatchPort, F: Files> Member<'a, E, P, D
     }
 
     /// The member by its kind, given back.
-    pub fn into_kind(self) -> MemberKind<'a, E, P, D, F>
+    pub fn into_kind(self) -> MemberKind<'a, X, P, D, F>
         ensures kind { seen_of result ≡ self.entry }
-        ensures keeps { KeepsContract
-            (member_told E.takes E.makes F.seen F.faults F.clashes F.first) self.entry }
+        ensures keeps { KeepsContract (member_told X.takes X.makes F.told) self.entry }
     {
         self.kind
     }
 }
 
-impl<'a, E: Equipment, P: BufferPort, D: WatchPort, F: Files> TakesTurns
-    for Member<'a, E, P, D, F> {
+impl<'a, X: Equipment, P: BufferPort, D: WatchPort, F: Files> TakesTurns
+    for Member<'a, X, P, D, F> {
     ghost use Rattle.daq_members.specs.Members.{TurnsMember, member_told};
 
-    ghost turns = { TurnsMember (member_told E.takes E.makes F.seen F.faults F.clashes F.first) };
+    ghost turns = { TurnsMember (member_told X.takes X.makes F.told) };
 
     fn turn<R: Wait, G: Gate>(&mut self, rt: &R, gate: &G) -> Turned {
         self.turn(rt, gate)
@@ -112,11 +107,10 @@ impl<'a, E: Equipment, P: BufferPort, D: WatchPort, F: Files> TakesTurns
 }
 
 /// Learns what each of these members keeps.
-pub fn ask_all<'a, E: Equipment, P: BufferPort, D: WatchPort, F: Files>(
-    members: &[Member<'a, E, P, D, F>],
+pub fn ask_all<'a, X: Equipment, P: BufferPort, D: WatchPort, F: Files>(
+    members: &[Member<'a, X, P, D, F>],
 )
-    ensures { All (KeepsContract (member_told E.takes E.makes F.seen F.faults F.clashes F.first))
-        members.now }
+    ensures { All (KeepsContract (member_told X.takes X.makes F.told)) members.now }
 {
     for member in members {
         member.client();

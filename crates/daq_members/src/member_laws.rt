@@ -10,10 +10,10 @@ use loggers::laws as logger_laws;
 use odb_watch::WatchPort;
 
 /// Each member stays the same one, however many turns it has, and the logger notes each fault of the run files in its turns.
-pub fn members_stay<'a, E: Equipment, P: BufferPort, D: WatchPort, F: Files>(
-    _members: &[Member<'a, E, P, D, F>],
+pub fn members_stay<'a, X: Equipment, P: BufferPort, D: WatchPort, F: Files>(
+    _members: &[Member<'a, X, P, D, F>],
 )
-    ensures { MembersStay (member_told E.takes E.makes F.seen F.faults F.clashes F.first) }
+    ensures { MembersStay (member_told X.takes X.makes F.told) }
 {
     logger_laws::faults_noted();
 }

@@ -15,23 +15,23 @@ use std::sync::Wait;
 use std::thread::Threads;
 
 /// The members of a session, each by its client number: the front-ends, the logger and the analyzers. There is room for 64.
-pub type Members<'a, E, P, D, F> = MemberList<Member<'a, E, P, D, F>>;
+pub type Members<'a, X, P, D, F> = MemberList<Member<'a, X, P, D, F>>;
 
 /// Room for the threads of a session's members, where they are to have threads of their own.
 #[derive(Drop)]
-pub struct MemberRoom<'a, E: Equipment, P: BufferPort, D: WatchPort, F: Files> {
-    pub threads: Option<ThreadRoom<Member<'a, E, P, D, F>>>,
+pub struct MemberRoom<'a, X: Equipment, P: BufferPort, D: WatchPort, F: Files> {
+    pub threads: Option<ThreadRoom<Member<'a, X, P, D, F>>>,
 }
 
 impl<
     'a,
-    E: Equipment + Drop,
+    X: Equipment + Drop,
     P: BufferPort + Drop,
     D: WatchPort + Drop,
     F: Files + Drop,
-> MemberRoom<'a, E, P, D, F> {
+> MemberRoom<'a, X, P, D, F> {
     /// Room for the threads of as many members as an engine has clients, but where the main thread gives them their turns.
-    pub fn new(alloc: Global, cooperative: bool) -> Result<MemberRoom<'a, E, P, D, F>, NoMemory> {
+    pub fn new(alloc: Global, cooperative: bool) -> Result<MemberRoom<'a, X, P, D, F>, NoMemory> {
         let threads = thread_room(alloc, cooperative)?;
         Ok(MemberRoom { threads })
     }
@@ -55,7 +55,7 @@ fn thread_room<M: TakesTurns + Drop>(
 pub fn play_members<
     'a,
     R: Threads + Wait + Sync,
-    E: Equipment + Drop + Send,
+    X: Equipment + Drop + Send,
     P: BufferPort + Drop + Send,
     D: WatchPort + Drop + Send,
     F: Files + Drop + Send,
@@ -64,19 +64,18 @@ pub fn play_members<
     Y: Playing + Drop,
 >(
     rt: &R,
-    room: MemberRoom<'a, E, P, D, F>,
-    members: Members<'a, E, P, D, F>,
+    room: MemberRoom<'a, X, P, D, F>,
+    members: Members<'a, X, P, D, F>,
     pick: K,
     gate: &'a G,
     main: Y,
-) -> (Y::Played, Members<'a, E, P, D, F>, K)
+) -> (Y::Played, Members<'a, X, P, D, F>, K)
     requires some { 0 < length members }
     requires few { length members ≤ 64 }
     ensures played { Y.plays main result.0 }
     ensures back { CameBack (TurnsMember
-        (member_told E.takes E.makes F.seen F.faults F.clashes F.first)) members.entry result.1 }
-    ensures keep { All (KeepsContract
-        (member_told E.takes E.makes F.seen F.faults F.clashes F.first)) result.1 }
+        (member_told X.takes X.makes F.told)) members.entry result.1 }
+    ensures keep { All (KeepsContract (member_told X.takes X.makes F.told)) result.1 }
 {
     let crew = Crew::new(members, pick, gate);
     let (played, parts) = play(rt, room.threads, crew, main);

@@ -29,22 +29,22 @@ use std::sync::Wait;
 /// A front-end: it takes part in runs by its turns, and sends the events of its equipment into a buffer, one a step. Only
 /// `new` takes memory.
 #[derive(Drop)]
-pub struct FrontEnd<E: Equipment> {
-    equipment: E,
+pub struct FrontEnd<X: Equipment> {
+    equipment: X,
     event: EventBuf,
     run: Option<FrontRun>,
 }
 
-impl<E: Equipment> Model for FrontEnd<E> {
+impl<X: Equipment> Model for FrontEnd<X> {
     ghost use Rattle.std.specs.Prelude.{◌≤◌};
     ghost use Rattle.front_ends.specs.FrontIds.{event_room};
     ghost use Rattle.front_ends.specs.Fronts.{FrontState, IsWithinQuota};
 
-    ghost Value = { FrontState E };
+    ghost Value = { FrontState X };
 
     ghost view = { λ f. record { equipment = f.equipment; run = f.run } };
 
-    ghost invariant = { λ f. E.fit f.equipment × (event_room ≤ f.event.room)
+    ghost invariant = { λ f. X.fit f.equipment × (event_room ≤ f.event.room)
         × IsWithinQuota f.run };
 }
 
@@ -219,13 +219,13 @@ fn run_behind_send(run: FrontRun, reply: Result<u64, SendRefusal>) -> FrontRun
     }
 }
 
-impl<E: Equipment> FrontEnd<E> {
+impl<X: Equipment> FrontEnd<X> {
     /// A front-end with this equipment, in no run.
-    pub fn new(alloc: Global, equipment: E) -> Result<FrontEnd<E>, NoMemory>
-        requires { E.fit equipment }
+    pub fn new(alloc: Global, equipment: X) -> Result<FrontEnd<X>, NoMemory>
+        requires { X.fit equipment }
         ensures made { IfOk result (λ front. front ≡ record { equipment = equipment; run = None }) }
         ensures stands { IfOk result
-            (λ front. FrontStands (E.takes equipment) (E.makes equipment) front.run [] []) }
+            (λ front. FrontStands (X.takes equipment) (X.makes equipment) front.run [] []) }
         ensures moments { KeepsMoments [] [] [] }
     {
         let event = EventBuf::new(alloc, EVENT_ROOM)?;
@@ -240,17 +240,17 @@ impl<E: Equipment> FrontEnd<E> {
     /// paused, its quota is not sent, and the buffer is not spent; `finish` gives the answer then. A start is refused
     /// exactly where the equipment does not take part in such a run. Between two turns the answer to the first was given.
     pub fn on_turn(&mut self, transition: Transition, order: &Order) -> Option<Answer>
-        ensures answer { result ≡ front_answer (E.takes self.old.equipment order.now)
+        ensures answer { result ≡ front_answer (X.takes self.old.equipment order.now)
             self.old.run transition order.now }
         ensures after { self.new ≡ record self.old {
           run = run_after
-              (E.takes self.old.equipment order.now) self.old.run transition order.now;
+              (X.takes self.old.equipment order.now) self.old.run transition order.now;
         } }
         ensures keeps { (own : List BufferEntry) → (dump : Option (List ℕ)) →
             (turns : List MemberTurn) → NoneOpen turns →
-            FrontStands (E.takes self.old.equipment) (E.makes self.old.equipment)
+            FrontStands (X.takes self.old.equipment) (X.makes self.old.equipment)
             self.old.run own turns →
-            FrontStands (E.takes self.new.equipment) (E.makes self.new.equipment)
+            FrontStands (X.takes self.new.equipment) (X.makes self.new.equipment)
             self.new.run own (front_turn dump transition order.now result ∷ turns) }
         ensures moments { (own : List BufferEntry) → (dump : Option (List ℕ)) →
             (turns : List MemberTurn) → (moments : List ℕ) →
@@ -271,18 +271,18 @@ impl<E: Equipment> FrontEnd<E> {
         ensures nothing { result ≡ NoWork ↔ (is_at_work self.old.run ≡ false) }
         ensures idle { is_at_work self.old.run ≡ false → self.new ≡ self.old }
         ensures quiet { is_at_work self.old.run ≡ false → P.access port.new ≡ P.access port.old }
-        ensures sends { is_at_work self.old.run ≡ true → SendsNext (E.makes self.old.equipment)
+        ensures sends { is_at_work self.old.run ≡ true → SendsNext (X.makes self.old.equipment)
             self.old.run self.new.run (P.access port.old) (P.access port.new) result }
         ensures size { (P.access port.new).size ≡ (P.access port.old).size }
-        ensures makes { E.makes self.new.equipment ≡ E.makes self.old.equipment }
-        ensures takes { E.takes self.new.equipment ≡ E.takes self.old.equipment }
+        ensures makes { X.makes self.new.equipment ≡ X.makes self.old.equipment }
+        ensures takes { X.takes self.new.equipment ≡ X.takes self.old.equipment }
         ensures keeps { (turns : List MemberTurn) →
-            FrontStands (E.takes self.old.equipment) (E.makes self.old.equipment)
+            FrontStands (X.takes self.old.equipment) (X.makes self.old.equipment)
             self.old.run (P.access port.old).own turns →
-            FrontStands (E.takes self.new.equipment) (E.makes self.new.equipment)
+            FrontStands (X.takes self.new.equipment) (X.makes self.new.equipment)
             self.new.run (P.access port.new).own turns }
         ensures moments { (turns : List MemberTurn) → (moments : List ℕ) →
-            FrontStands (E.takes self.old.equipment) (E.makes self.old.equipment)
+            FrontStands (X.takes self.old.equipment) (X.makes self.old.equipment)
             self.old.run (P.access port.old).own turns →
             KeepsMoments (P.access port.old).own turns moments →
             KeepsMoments (P.access port.new).own turns moments }
@@ -309,11 +309,11 @@ impl<E: Equipment> FrontEnd<E> {
         requires size { 104 ≤ (P.access port.old).size }
         ensures step { HasStep result }
         ensures run { self.new.run ≡ self.old.run }
-        ensures sent { let event : Event = E.makes self.old.equipment run.order (suc run.sent) in
+        ensures sent { let event : Event = X.makes self.old.equipment run.order (suc run.sent) in
             Calls (P.access port.old) (P.access port.new)
             (SendInRun run.order.start (length event.body) event result) }
-        ensures makes { E.makes self.new.equipment ≡ E.makes self.old.equipment }
-        ensures takes { E.takes self.new.equipment ≡ E.takes self.old.equipment }
+        ensures makes { X.makes self.new.equipment ≡ X.makes self.old.equipment }
+        ensures takes { X.takes self.new.equipment ≡ X.takes self.old.equipment }
     {
         self.equipment
             .event(&run.order, run.sent + 1, &mut self.event);
@@ -326,12 +326,12 @@ impl<E: Equipment> FrontEnd<E> {
     pub fn sent_in(&self, start: u32) -> u64
         ensures number { result ≡ events_sent self.now.run start }
         ensures in_run { (own : List BufferEntry) → (turns : List MemberTurn) →
-            FrontStands (E.takes self.now.equipment) (E.makes self.now.equipment)
+            FrontStands (X.takes self.now.equipment) (X.makes self.now.equipment)
             self.now.run own turns →
             AreEngineTurns turns → IsInRun self.now.run start →
             length (own_sent own start) ≡ result }
         ensures of_run { (own : List BufferEntry) → (turns : List MemberTurn) →
-            FrontStands (E.takes self.now.equipment) (E.makes self.now.equipment)
+            FrontStands (X.takes self.now.equipment) (X.makes self.now.equipment)
             self.now.run own turns →
             AreEngineTurns turns → IsOfRun start turns →
             length (own_sent own start) ≡ result }
@@ -345,13 +345,13 @@ impl<E: Equipment> FrontEnd<E> {
         ensures answer { result ≡ finish_answer self.old.run }
         ensures after { self.new ≡ record self.old { run = run_finished self.old.run result } }
         ensures keeps { (own : List BufferEntry) → (turns : List MemberTurn) →
-            FrontStands (E.takes self.old.equipment) (E.makes self.old.equipment)
+            FrontStands (X.takes self.old.equipment) (X.makes self.old.equipment)
             self.old.run own turns →
-            FrontStands (E.takes self.new.equipment) (E.makes self.new.equipment)
+            FrontStands (X.takes self.new.equipment) (X.makes self.new.equipment)
             self.new.run own (latest_answered turns result) }
         ensures moments { (own : List BufferEntry) → (turns : List MemberTurn)
             → (moments : List ℕ) →
-            FrontStands (E.takes self.old.equipment) (E.makes self.old.equipment)
+            FrontStands (X.takes self.old.equipment) (X.makes self.old.equipment)
             self.old.run own turns →
             KeepsMoments own turns moments →
             KeepsMoments own (latest_answered turns result)

@@ -39,25 +39,25 @@ fn begin<R: Wait, P: BufferPort>(rt: &R, port: &mut P)
 }
 
 /// Starts run 1 with this quota. Says whether that was refused since the equipment does not take part.
-fn is_refused<E: Equipment>(front: &mut FrontEnd<E>, quota: u32) -> bool {
+fn is_refused<X: Equipment>(front: &mut FrontEnd<X>, quota: u32) -> bool {
     let answer = front.on_turn(Transition::Start, &order(RunState::Stopped, quota));
     matches!(answer, Some(Answer::No(Why::NotReady)))
 }
 
 /// Starts run 1 with this quota. Says whether the front-end agrees, and has no events to tell of.
-fn is_accepted<E: Equipment>(front: &mut FrontEnd<E>, quota: u32) -> bool {
+fn is_accepted<X: Equipment>(front: &mut FrontEnd<X>, quota: u32) -> bool {
     let answer = front.on_turn(Transition::Start, &order(RunState::Stopped, quota));
     matches!(answer, Some(Answer::Yes(Tally::Plain)))
 }
 
 /// Stops run 1. Says whether the answer has to wait.
-fn stop_waits<E: Equipment>(front: &mut FrontEnd<E>) -> bool {
+fn stop_waits<X: Equipment>(front: &mut FrontEnd<X>) -> bool {
     let answer = front.on_turn(Transition::Stop, &order(RunState::Running, 0));
     answer.is_none()
 }
 
 /// Finishes run 1. Says how many events were sent, where the front-end answers that they are its quota.
-fn quota_told<E: Equipment>(front: &mut FrontEnd<E>) -> Option<u64> {
+fn quota_told<X: Equipment>(front: &mut FrontEnd<X>) -> Option<u64> {
     match front.finish() {
         Some(
             Answer::Yes(
@@ -83,9 +83,9 @@ struct QuotaRun {
 }
 
 /// Starts run 1 with the larger quota and then with a quota of one event, and makes two steps.
-fn start_twice<R: Wait, E: Equipment, P: BufferPort>(
+fn start_twice<R: Wait, X: Equipment, P: BufferPort>(
     rt: &R,
-    front: &mut FrontEnd<E>,
+    front: &mut FrontEnd<X>,
     port: &mut P,
     larger: u32,
 ) -> QuotaRun
@@ -104,13 +104,13 @@ fn start_twice<R: Wait, E: Equipment, P: BufferPort>(
 
 /// The same with a new front-end and a new buffer. These end here, so that the test holds neither while it looks at what
 /// came of the run: each place where a function may end is proved with all that it holds there.
-fn quota_run<R: Wait, E: Equipment>(
+fn quota_run<R: Wait, X: Equipment>(
     rt: &R,
     alloc: Global,
-    equipment: E,
+    equipment: X,
     larger: u32,
 ) -> Result<QuotaRun, NoMemory>
-    requires { E.fit equipment }
+    requires { X.fit equipment }
 {
     let mut front = FrontEnd::new(alloc, equipment)?;
     let mut port = new_port(alloc)?;
@@ -129,9 +129,9 @@ struct StoppedRun {
 }
 
 /// Starts run 1 with a quota of two events, and stops it after the first.
-fn stop_after_one<R: Wait, E: Equipment, P: BufferPort>(
+fn stop_after_one<R: Wait, X: Equipment, P: BufferPort>(
     rt: &R,
-    front: &mut FrontEnd<E>,
+    front: &mut FrontEnd<X>,
     port: &mut P,
 ) -> StoppedRun
     requires { 104 ≤ (P.access port.old).size }
@@ -147,12 +147,12 @@ fn stop_after_one<R: Wait, E: Equipment, P: BufferPort>(
 }
 
 /// The same with a new front-end and a new buffer.
-fn stopped_run<R: Wait, E: Equipment>(
+fn stopped_run<R: Wait, X: Equipment>(
     rt: &R,
     alloc: Global,
-    equipment: E,
+    equipment: X,
 ) -> Result<StoppedRun, NoMemory>
-    requires { E.fit equipment }
+    requires { X.fit equipment }
 {
     let mut front = FrontEnd::new(alloc, equipment)?;
     let mut port = new_port(alloc)?;

@@ -3,6 +3,7 @@ use Rattle.std.proofs.Common.{◌≡◌, ◌∙◌, ℕ, ◌≤◌, List, [], le
 use Rattle.std.specs.Prelude.{slice_get, Option, None}
 use Rattle.daq_types.specs.Callers.{caller_of_client}
 use Rattle.daq_io.specs.Seen.{Seen}
+use Rattle.daq_io.specs.Told.{FilesTold}
 use Rattle.buffer_core.specs.Ports.{Access}
 use Rattle.member_model.specs.RunEngines.{EngineEntry}
 use Rattle.member_model.specs.Turns.{MemberTurn}
@@ -11,7 +12,7 @@ use Rattle.mid_logger.specs.declared.channel_spec.ChannelSpec.{ChannelSpec}
 use Rattle.loggers.specs.declared.logged_run.LoggedRun.{LoggedRun}
 use Rattle.loggers.specs.declared.logged_run.RunDumps.{RunDumps}
 use Rattle.loggers.specs.declared.logger.Logger.{Logger}
-use Rattle.loggers.specs.Moments.{RunFiles, IsLoggerReady}
+use Rattle.loggers.specs.Moments.{IsLoggerReady}
 use Rattle.loggers.specs.SlotPulls.{HasEventRoom}
 use Rattle.loggers.specs.Turning.{DumpsFit, buffers_begun}
 use Rattle.loggers.specs.LoggerStands.{LoggerStands}
@@ -56,15 +57,15 @@ module _ (channels : List ChannelSpec) (objects : SessionObjects) (client : ℕ)
   small_bare : DumpsFit kept.dumps
   small_bare = let P : RunDumps → Type 0 = λ dumps. DumpsFit dumps in subst P (sym made.dumps) (record { start = tt; stop = tt })
 
-  reasons_bare : (told : RunFiles) → GivesReasons kept.channels accesses told told (member_turns asking.client asking.calls)
+  reasons_bare : (told : FilesTold) → GivesReasons kept.channels accesses told told (member_turns asking.client asking.calls)
   reasons_bare told = let P : List MemberTurn → Type 0 = λ ts. GivesReasons kept.channels accesses told told ts in subst P (sym no_turns) (made.reasons accesses told)
 
   -- So it is ready for its seat, with these run files.
-  pub first_bare : {F : Type 0} (seen : F → Seen) (files : F) → buffers_begun kept.run ≤ length accesses → IsFirstLogger seen (logger_seen asking kept accesses files files)
-  first_bare seen files begun = record {
-    stands = λ taken. stands_bare (seen files);
+  pub first_bare : {F : Type 0} (read : F → FilesTold) (files : F) → buffers_begun kept.run ≤ length accesses → IsFirstLogger read (logger_seen asking kept accesses files files)
+  first_bare read files begun = record {
+    stands = λ taken. stands_bare (read files).seen;
     caller = caller_bare;
-    ready = ready_bare (seen files);
+    ready = ready_bare (read files).seen;
     room = room_bare;
     fresh = none;
     idle = made.idle;

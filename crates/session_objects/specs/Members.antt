@@ -7,7 +7,7 @@ use Rattle.event.specs.Events.{event_limit}
 use Rattle.event.specs.Generator.{generated_event}
 use Rattle.mid_logger.specs.declared.channel_spec.ChannelSpec.{ChannelSpec}
 use Rattle.loggers.specs.NewLoggers.{HasNewChannels}
-use Rattle.loggers.specs.Moments.{RunFiles, AreIdleChannels, IsLoggerReady}
+use Rattle.loggers.specs.Moments.{AreIdleChannels, IsLoggerReady}
 use Rattle.loggers.specs.LoggerFaults.{HasFailed}
 use Rattle.loggers.specs.OtherFiles.{AreDeclared}
 use Rattle.loggers.specs.Turning.{no_dumps}
@@ -16,6 +16,7 @@ use Rattle.loggers.specs.declared.logger.Logger.{Logger as LoggerState}
 use Rattle.loggers.specs.SlotPulls.{HasEventRoom}
 use Rattle.loggers.specs.LoggerStands.{LoggerStands}
 use Rattle.daq_io.specs.Seen.{Seen}
+use Rattle.daq_io.specs.Told.{FilesTold}
 use Rattle.buffer_core.specs.Window.{Window}
 use Rattle.buffer_core.specs.Ports.{Access, BufferIdentity}
 use Rattle.ring_buffer.specs.CountedWindows.{CountedWindow}
@@ -333,7 +334,7 @@ pub record IsMadeLogger (buffers : List SessionBuffer) (declared : List ChannelS
   pub slots : HasNewChannels declared (event_rooms buffers declared) logger.channels
   pub idle : AreIdleChannels logger.channels
   pub failed : HasFailed logger.channels → ⊥
-  pub reasons : (ports : List Access) → (files : RunFiles) → GivesReasons logger.channels ports files files []
+  pub reasons : (ports : List Access) → (files : FilesTold) → GivesReasons logger.channels ports files files []
   pub ready : (caller : ℕ) → (seen : Seen) → IsLoggerReady logger.channels (new_ports buffers caller) seen
   pub stands : (caller : ℕ) → (seen : Seen) →
       LoggerStands None no_dumps logger.channels (new_ports buffers caller) [] seen

@@ -30,12 +30,10 @@ pub fn members_suit<D: Database>(
 
 /// The members of a session stay those of its declarations and objects, whatever turns they take.
 pub fn members_stay<'a, D: Database, F: Files>(_members: &[SessionMember<'a, D, F>])
-    ensures { KeepsMembers D (member_told generator_takes generator_makes F.seen F.faults F.clashes
-        F.first) }
+    ensures { KeepsMembers D (member_told generator_takes generator_makes F.told) }
 {}
 
 /// The logger of a session keeps the channels that were declared, whatever turns the members take.
 pub fn channels_stay<'a, D: Database, F: Files>(_members: &[SessionMember<'a, D, F>])
-    ensures { KeepsChannels (member_told generator_takes generator_makes F.seen F.faults F.clashes
-        F.first) }
+    ensures { KeepsChannels (member_told generator_takes generator_makes F.told) }
 {}

@@ -4,7 +4,6 @@ use Rattle.transitions.specs.declared.replies.Polled.TheVariants.{Idle, Closed, 
 use Rattle.member_model.specs.Turns.{MemberTurn}
 use Rattle.member_model.specs.TurnCalls.{member_turns}
 use Rattle.daq_members.specs.FrontTaken.{turned_by}
-use Rattle.loggers.specs.Moments.{files_by}
 use Rattle.daq_members.specs.ConnectedLoggers.{StandsOver, moment_at}
 use Rattle.daq_members.proofs.OwnTurnLaws.{none_open, idle_turns, closed_turns, unknown_turns, taken_turns, finished_turns, last_seen}
 use Rattle.daq_members.proofs.TakenLaws.{logger_taken, logger_finished}
@@ -43,7 +42,7 @@ returns-in-None-clause-takes g c =
       answer = c.on_turn-answer.result;
       gives = rw (c.poll.ensures.client, rw c.in-Turn.is at c.poll.ensures.asked) at c.give.ensures.gives;
       takes = c.on_turn-answer.ensures.takes;
-      last = last_seen (moment_at (files_by g.F.Files.seen g.F.Files.faults g.F.Files.clashes g.F.Files.first)) _ _ _ c.give.ensures.last;
+      last = last_seen (moment_at g.F.Files.told) _ _ _ c.give.ensures.last;
       turned_is = refl;
     })
 
@@ -57,7 +56,7 @@ returns-clause-takes g c =
       gives = rw (c.poll.ensures.client, rw c.in-Turn.is at c.poll.ensures.asked) at c.give-in-Some.ensures.gives;
       ports = c.finish-answer.ensures.ports;
       finishes = rw (c.pull_all-got.ensures.stays.run, c.pull_all-got.ensures.stays.dumps) at c.finish-answer.ensures.finishes;
-      last = last_seen (moment_at (files_by g.F.Files.seen g.F.Files.faults g.F.Files.clashes g.F.Files.first)) _ _ _ c.give-in-Some.ensures.last;
+      last = last_seen (moment_at g.F.Files.told) _ _ _ c.give-in-Some.ensures.last;
       turned_is = c.turned_by_pulls.ensures ∙ ap (λ (b : Bool). turned_by (c.pull_all-got.result || b)) c.is_some-answered.ensures;
     })
 
@@ -66,18 +65,18 @@ returns-clause-takes g c =
 pub returns-in-Closed-clause-keeps : goal.returns-in-Closed-clause-keeps
 returns-in-Closed-clause-keeps g c = λ none stands.
     let turns = ap (member_turns c.args.engine.now.client) (rw c.in-Closed.is at c.poll.ensures.asked) ∙ closed_turns c.args.engine.now.client c.args.engine.now.calls in
-    subst (λ (ts : List MemberTurn). StandsOver g.F.Files.seen ts c.args.logger.now) (sym turns) stands
+    subst (λ (ts : List MemberTurn). StandsOver g.F.Files.told ts c.args.logger.now) (sym turns) stands
 
 pub returns-in-NoClient-clause-keeps : goal.returns-in-NoClient-clause-keeps
 returns-in-NoClient-clause-keeps g c = λ none stands.
     let turns = ap (member_turns c.args.engine.now.client) (rw c.in-NoClient.is at c.poll.ensures.asked) ∙ unknown_turns c.args.engine.now.client c.args.engine.now.calls in
-    subst (λ (ts : List MemberTurn). StandsOver g.F.Files.seen ts c.args.logger.now) (sym turns) stands
+    subst (λ (ts : List MemberTurn). StandsOver g.F.Files.told ts c.args.logger.now) (sym turns) stands
 
 pub returns-in-Idle-clause-keeps : goal.returns-in-Idle-clause-keeps
 returns-in-Idle-clause-keeps g c = λ none stands.
     let client = c.args.engine.now.client in
     let turns = ap (member_turns client) (rw c.in-Idle.is at c.poll.ensures.asked) ∙ idle_turns client c.args.engine.now.calls c.in-Idle.state in
-    subst (λ (ts : List MemberTurn). StandsOver g.F.Files.seen ts c.pull_all.new.self) (sym turns)
+    subst (λ (ts : List MemberTurn). StandsOver g.F.Files.told ts c.pull_all.new.self) (sym turns)
     (c.pull_all.ensures.stays.keeps (member_turns client c.args.engine.now.calls) stands)
 
 pub returns-in-None-clause-keeps : goal.returns-in-None-clause-keeps
@@ -87,7 +86,7 @@ returns-in-None-clause-keeps g c = λ none stands.
     let owed = sym c.owed-owed.ensures ∙ c.in-None.is in
     let turns = taken_turns client calls c.poll.new.self.calls c.give.new.self.calls c.in-Turn.transition c.in-Turn.order c.in-Turn.dump c.in-Turn.blank c.on_turn-answer.result owed
     (rw c.in-Turn.is at c.poll.ensures.asked) (rw c.poll.ensures.client at c.give.ensures.gives) in
-    subst (λ (ts : List MemberTurn). StandsOver g.F.Files.seen ts c.on_turn-answer.new.self) (sym turns)
+    subst (λ (ts : List MemberTurn). StandsOver g.F.Files.told ts c.on_turn-answer.new.self) (sym turns)
     (c.on_turn-answer.ensures.keeps (member_turns client calls) (none_open (member_turns client calls) owed) none stands)
 
 pub returns-clause-keeps : goal.returns-clause-keeps
@@ -97,7 +96,7 @@ returns-clause-keeps g c = λ none stands.
     let ended = c.finish-answer in
     let turns = finished_turns client calls c.poll.new.self.calls c.give-in-Some.new.self.calls c.in-Turn.transition c.in-Turn.order c.in-Turn.dump c.in-Turn.blank _ ended.result
     (sym c.owed-owed.ensures ∙ c.in-Some.is) (rw c.in-Turn.is at c.poll.ensures.asked) (rw c.poll.ensures.client at c.give-in-Some.ensures.gives) in
-    subst (λ (ts : List MemberTurn). StandsOver g.F.Files.seen ts ended.new.self) (sym turns)
+    subst (λ (ts : List MemberTurn). StandsOver g.F.Files.told ts ended.new.self) (sym turns)
     (ended.ensures.keeps ended.new.self.ports (member_turns client calls) (rw ended.ensures.ports (c.pull_all-got.ensures.stays.keeps (member_turns client calls) stands)))
 
 -- The ports.

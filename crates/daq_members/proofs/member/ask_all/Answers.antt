@@ -6,11 +6,11 @@ use Rattle.daq_members.specs.Members.{MemberSeen, KeepsContract, member_told}
 use Rattle.daq_members.proofs.member.ask_all.Goals as goal
 
 pub loop-member-init : goal.loop-member-init
-loop-member-init g c = All-nil (KeepsContract (member_told g.E.Equipment.takes g.E.Equipment.makes g.F.Files.seen g.F.Files.faults g.F.Files.clashes g.F.Files.first))
+loop-member-init g c = All-nil (KeepsContract (member_told g.X.Equipment.takes g.X.Equipment.makes g.F.Files.told))
 
 pub loop-member-preserved : goal.loop-member-preserved
 loop-member-preserved g c =
-    let told = member_told g.E.Equipment.takes g.E.Equipment.makes g.F.Files.seen g.F.Files.faults g.F.Files.clashes g.F.Files.first in
+    let told = member_told g.X.Equipment.takes g.X.Equipment.makes g.F.Files.told in
     let all : List (MemberSeen _ _) = c.args.members.now in
     let i = c.loop-member.member-index in
     let more = take_more all i c.member-item.result c.loop-member-test.true ∙ ap (λ (m : MemberSeen _ _). take i all ++ m ∷ []) (sym c.member-item.is) in
@@ -18,6 +18,6 @@ loop-member-preserved g c =
 
 pub returns : goal.returns
 returns g c =
-    let told = member_told g.E.Equipment.takes g.E.Equipment.makes g.F.Files.seen g.F.Files.faults g.F.Files.clashes g.F.Files.first in
+    let told = member_told g.X.Equipment.takes g.X.Equipment.makes g.F.Files.told in
     let all : List (MemberSeen _ _) = c.args.members.now in
     subst (λ (l : List (MemberSeen _ _)). All (KeepsContract told) l) (take_all c.loop-member.member-index all (omega arith)) c.loop-member.invariant

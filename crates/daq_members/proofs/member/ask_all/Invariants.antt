@@ -5,4 +5,4 @@ use Rattle.daq_members.proofs.member.ask_all.Given as goal
 
 abbrev pub invariant-loop-member : goal.invariant-loop-member
 invariant-loop-member g l =
-    All (KeepsContract (member_told g.E.Equipment.takes g.E.Equipment.makes g.F.Files.seen g.F.Files.faults g.F.Files.clashes g.F.Files.first)) (take l.member-index l.members)
+    All (KeepsContract (member_told g.X.Equipment.takes g.X.Equipment.makes g.F.Files.told)) (take l.member-index l.members)

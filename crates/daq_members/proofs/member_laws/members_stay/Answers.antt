@@ -7,4 +7,4 @@ pub returns : goal.returns
 returns g c =
     let noted = c.faults_noted.ensures in
     let laws : NotedLaws = record { turns = noted.turns; pulls = noted.pulls; finishes = noted.finishes; follow = noted.follow } in
-    members_stay_so (member_told g.E.Equipment.takes g.E.Equipment.makes g.F.Files.seen g.F.Files.faults g.F.Files.clashes g.F.Files.first) laws
+    members_stay_so (member_told g.X.Equipment.takes g.X.Equipment.makes g.F.Files.told) laws

@@ -11,12 +11,12 @@ play-played-requires-send-M g c κs within = search (sendable, member_send)
 
 pub returns-clause-back : goal.returns-clause-back
 returns-clause-back g c =
-    let told = member_told g.E.Equipment.takes g.E.Equipment.makes g.F.Files.seen g.F.Files.faults g.F.Files.clashes g.F.Files.first in
+    let told = member_told g.X.Equipment.takes g.X.Equipment.makes g.F.Files.told in
     let P : List (MemberSeen _ _) → Type 0 = λ before. CameBack (TurnsMember told) before c.play-played.result.1.members in
     subst P c.new-crew.ensures.members c.play-played.ensures.back
 
 pub returns-clause-keep : goal.returns-clause-keep
 returns-clause-keep g c =
-    let told = member_told g.E.Equipment.takes g.E.Equipment.makes g.F.Files.seen g.F.Files.faults g.F.Files.clashes g.F.Files.first in
+    let told = member_told g.X.Equipment.takes g.X.Equipment.makes g.F.Files.told in
     let P : List (MemberSeen _ _) → Type 0 = λ members. All (KeepsContract told) members in
     subst P c.as_slice.ensures c.ask_all.ensures

@@ -1,6 +1,5 @@
 use Rattle.std.specs.Prelude.{map}
 use Rattle.std.proofs.Common.{ap, arith}
-use Rattle.loggers.specs.Moments.{files_by}
 use Rattle.daq_members.specs.ConnectedLoggers.{ConnectedSeen, connected, connected_finish}
 use Rattle.daq_members.proofs.OtherFilesKept.{finish_specs}
 use Rattle.daq_members.proofs.ChannelBounds.{none_kept}
@@ -11,7 +10,7 @@ invariant_of-self g c =
     let did = c.finish.ensures in
     let was = c.self.invariant in
     let accesses = map g.P.BufferPort.access c.self.inside.ports in
-    let read = files_by g.F.Files.seen g.F.Files.faults g.F.Files.clashes g.F.Files.first in
+    let read = g.F.Files.told in
     let call = connected_finish read c.finish.result (connected c.self.inside.logger accesses c.self.inside.files) (connected c.finish.new.self accesses c.finish.new.files) in (
       record {
         ready = did.ready accesses was.0.ready;

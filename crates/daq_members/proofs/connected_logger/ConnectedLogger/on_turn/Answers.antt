@@ -1,5 +1,4 @@
 use Rattle.std.specs.Prelude.{map}
-use Rattle.loggers.specs.Moments.{files_by}
 use Rattle.daq_members.specs.ConnectedLoggers.{connected, connected_turned}
 use Rattle.daq_members.proofs.LoggerSeatLaws.{begun_mapped, begun_read}
 use Rattle.daq_members.proofs.OtherFilesKept.{turn_specs}
@@ -15,7 +14,7 @@ invariant_of-self g c =
     let was = c.self.invariant in
     let now = c.self.inside in
     let new = c.on_turn.new in
-    let read = files_by g.F.Files.seen g.F.Files.faults g.F.Files.clashes g.F.Files.first in
+    let read = g.F.Files.told in
     let before = connected now.logger (map g.P.BufferPort.access now.ports) now.files in
     let after = connected new.self (map g.P.BufferPort.access new.ports) new.files in
     let call = connected_turned read c.args.transition c.args.order.now c.args.dump c.on_turn.result before after in (

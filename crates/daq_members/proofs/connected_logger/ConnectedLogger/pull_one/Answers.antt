@@ -1,6 +1,5 @@
 use Rattle.std.specs.Prelude.{map}
 use Rattle.std.proofs.Common.{sym, ◌∙◌}
-use Rattle.loggers.specs.Moments.{files_by}
 use Rattle.daq_members.specs.ConnectedLoggers.{connected, moment_at}
 use Rattle.daq_members.proofs.LoggerLaws.{pulls_nothing, stays_at_none}
 use Rattle.daq_members.proofs.ChannelBounds.{none_pulled}
@@ -10,13 +9,13 @@ pub returns-then-not-has_channel-clause-pulls : goal.returns-then-not-has_channe
 returns-then-not-has_channel-clause-pulls g c = rw (← c.self.view_is) (pulls_nothing _ c.args.channel _ (sym c.has_channel.ensures ∙ c.if-not-has_channel.true))
 
 pub returns-then-not-has_channel-clause-stays : goal.returns-then-not-has_channel-clause-stays
-returns-then-not-has_channel-clause-stays g c = stays_at_none g.F.Files.seen _
+returns-then-not-has_channel-clause-stays g c = stays_at_none g.F.Files.told _
 
 pub invariant_of-self : goal.invariant_of-self
 invariant_of-self g c =
     let did = c.pull-pulled.ensures in
     let was = c.self.invariant in
-    let read = files_by g.F.Files.seen g.F.Files.faults g.F.Files.clashes g.F.Files.first in
+    let read = g.F.Files.told in
     let now = c.self.inside in
     let new = c.pull-pulled.new in
     let before = moment_at read (connected now.logger (map g.P.BufferPort.access now.ports) now.files) in

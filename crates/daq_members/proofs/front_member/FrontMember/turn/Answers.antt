@@ -17,7 +17,7 @@ use Rattle.daq_members.proofs.front_member.FrontMember.turn.Goals as goal
 pub invariant_of-self : goal.invariant_of-self
 invariant_of-self g c =
     let was = c.self.inside.engine in
-    seated_asked g.E.Equipment.takes g.E.Equipment.makes _ _ c.self.invariant
+    seated_asked g.X.Equipment.takes g.X.Equipment.makes _ _ c.self.invariant
     (record { engine = c.poll.ensures.engine; client = c.poll.ensures.client; name = refl; takes_as = refl; makes_as = refl; port = (refl, refl, refl); database = record { database = refl; caller = refl } })
     c.poll.ensures.speaks Closed (rw c.in-Closed.is at c.poll.ensures.asked) (closed_turns was.client was.calls) c.self.invariant.stands
 
@@ -33,7 +33,7 @@ returns-in-Closed-clause-takes g c = rw (← c.self.view_is) (record {
 pub invariant_of-self-in-NoClient : goal.invariant_of-self-in-NoClient
 invariant_of-self-in-NoClient g c =
     let was = c.self.inside.engine in
-    seated_asked g.E.Equipment.takes g.E.Equipment.makes _ _ c.self.invariant
+    seated_asked g.X.Equipment.takes g.X.Equipment.makes _ _ c.self.invariant
     (record { engine = c.poll.ensures.engine; client = c.poll.ensures.client; name = refl; takes_as = refl; makes_as = refl; port = (refl, refl, refl); database = record { database = refl; caller = refl } })
     c.poll.ensures.speaks NoClient (rw c.in-NoClient.is at c.poll.ensures.asked) (unknown_turns was.client was.calls) c.self.invariant.stands
 
@@ -52,7 +52,7 @@ pub invariant_of-self-in-Idle : goal.invariant_of-self-in-Idle
 invariant_of-self-in-Idle g c =
     let was = c.self.inside in
     let stepped = c.step_between-step.ensures in
-    seated_asked g.E.Equipment.takes g.E.Equipment.makes _ _ c.self.invariant
+    seated_asked g.X.Equipment.takes g.X.Equipment.makes _ _ c.self.invariant
     (record { engine = c.poll.ensures.engine; client = c.poll.ensures.client; name = refl; takes_as = stepped.takes_as; makes_as = stepped.makes_as; port = stepped.same_port; database = record { database = refl; caller = refl } })
     c.poll.ensures.speaks (Idle c.in-Idle.state) (rw c.in-Idle.is at c.poll.ensures.asked) (idle_turns was.engine.client was.engine.calls c.in-Idle.state)
     (stepped.keeps was.engine.client was.key.name was.engine.calls (own_watched (g.D.DatabasePort.access was.database)) c.self.invariant.stands)
@@ -87,13 +87,13 @@ invariant_of-self-in-None g c =
     let did = c.on_turn-answer.ensures in
     let stands = c.self.invariant.stands in
     let owed = sym c.owed-owed.ensures ∙ c.in-None.is in
-    seated_taken g.E.Equipment.takes g.E.Equipment.makes _ _ c.self.invariant
+    seated_taken g.X.Equipment.takes g.X.Equipment.makes _ _ c.self.invariant
     (record {
       engine = c.give.ensures.engine ∙ c.poll.ensures.engine;
       client = c.give.ensures.client ∙ c.poll.ensures.client;
       name = refl;
-      takes_as = ap (λ (f : FrontState _). g.E.Equipment.takes f.equipment) did.after;
-      makes_as = ap (λ (f : FrontState _). g.E.Equipment.makes f.equipment) did.after;
+      takes_as = ap (λ (f : FrontState _). g.X.Equipment.takes f.equipment) did.after;
+      makes_as = ap (λ (f : FrontState _). g.X.Equipment.makes f.equipment) did.after;
       port = (refl, refl, refl);
       database = c.set.ensures.same;
     })
@@ -112,8 +112,8 @@ returns-in-None-clause-same g c = rw (← c.self.view_is) (record {
   engine = c.give.ensures.engine ∙ c.poll.ensures.engine;
   client = c.give.ensures.client ∙ c.poll.ensures.client;
   name = refl;
-  takes_as = ap (λ (f : FrontState _). g.E.Equipment.takes f.equipment) c.on_turn-answer.ensures.after;
-  makes_as = ap (λ (f : FrontState _). g.E.Equipment.makes f.equipment) c.on_turn-answer.ensures.after;
+  takes_as = ap (λ (f : FrontState _). g.X.Equipment.takes f.equipment) c.on_turn-answer.ensures.after;
+  makes_as = ap (λ (f : FrontState _). g.X.Equipment.makes f.equipment) c.on_turn-answer.ensures.after;
   port = (refl, refl, refl);
   database = c.set.ensures.same;
 })
@@ -142,13 +142,13 @@ invariant_of-self-in-Some g c =
     let ends = c.finish-answer.ensures in
     let stepped = step.ensures.keeps was.engine.client was.key.name was.engine.calls (own_watched (g.D.DatabasePort.access was.database)) c.self.invariant.stands in
     let stands = rw (← step.ensures.takes_as, ← step.ensures.makes_as) at stepped.stands in
-    seated_finished g.E.Equipment.takes g.E.Equipment.makes _ _ c.self.invariant
+    seated_finished g.X.Equipment.takes g.X.Equipment.makes _ _ c.self.invariant
     (record {
       engine = c.give-in-Some.ensures.engine ∙ c.poll.ensures.engine;
       client = c.give-in-Some.ensures.client ∙ c.poll.ensures.client;
       name = refl;
-      takes_as = ap (λ (f : FrontState _). g.E.Equipment.takes f.equipment) ends.after ∙ step.ensures.takes_as;
-      makes_as = ap (λ (f : FrontState _). g.E.Equipment.makes f.equipment) ends.after ∙ step.ensures.makes_as;
+      takes_as = ap (λ (f : FrontState _). g.X.Equipment.takes f.equipment) ends.after ∙ step.ensures.takes_as;
+      makes_as = ap (λ (f : FrontState _). g.X.Equipment.makes f.equipment) ends.after ∙ step.ensures.makes_as;
       port = step.ensures.same_port;
       database = c.set-in-Some.ensures.same;
     })
@@ -166,8 +166,8 @@ returns-clause-same g c =
       engine = c.give-in-Some.ensures.engine ∙ c.poll.ensures.engine;
       client = c.give-in-Some.ensures.client ∙ c.poll.ensures.client;
       name = refl;
-      takes_as = ap (λ (f : FrontState _). g.E.Equipment.takes f.equipment) c.finish-answer.ensures.after ∙ step.takes_as;
-      makes_as = ap (λ (f : FrontState _). g.E.Equipment.makes f.equipment) c.finish-answer.ensures.after ∙ step.makes_as;
+      takes_as = ap (λ (f : FrontState _). g.X.Equipment.takes f.equipment) c.finish-answer.ensures.after ∙ step.takes_as;
+      makes_as = ap (λ (f : FrontState _). g.X.Equipment.makes f.equipment) c.finish-answer.ensures.after ∙ step.makes_as;
       port = step.same_port;
       database = c.set-in-Some.ensures.same;
     })
@@ -196,13 +196,13 @@ returns-clause-keeps g c =
     let ends = c.finish-answer.ensures in
     let stepped = step.ensures.keeps was.engine.client was.key.name was.engine.calls (own_watched (g.D.DatabasePort.access was.database)) c.self.invariant.stands in
     let stands = rw (← step.ensures.takes_as, ← step.ensures.makes_as) at stepped.stands in
-    seated_finished g.E.Equipment.takes g.E.Equipment.makes _ _ c.self.invariant
+    seated_finished g.X.Equipment.takes g.X.Equipment.makes _ _ c.self.invariant
     (record {
       engine = c.give-in-Some.ensures.engine ∙ c.poll.ensures.engine;
       client = c.give-in-Some.ensures.client ∙ c.poll.ensures.client;
       name = refl;
-      takes_as = ap (λ (f : FrontState _). g.E.Equipment.takes f.equipment) ends.after ∙ step.ensures.takes_as;
-      makes_as = ap (λ (f : FrontState _). g.E.Equipment.makes f.equipment) ends.after ∙ step.ensures.makes_as;
+      takes_as = ap (λ (f : FrontState _). g.X.Equipment.takes f.equipment) ends.after ∙ step.ensures.takes_as;
+      makes_as = ap (λ (f : FrontState _). g.X.Equipment.makes f.equipment) ends.after ∙ step.ensures.makes_as;
       port = step.ensures.same_port;
       database = c.set-in-Some.ensures.same;
     })

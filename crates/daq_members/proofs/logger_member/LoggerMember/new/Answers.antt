@@ -1,5 +1,6 @@
 use Rattle.std.specs.Prelude.{refl, List}
 use Rattle.std.proofs.Common.{ap}
+use Rattle.daq_io.proofs.SeenLaws.{on_same}
 use Rattle.member_model.specs.RunEngines.{EngineEntry}
 use Rattle.member_model.specs.TurnCalls.{member_turns}
 use Rattle.daq_members.specs.OwnTurns.{are_calls_for}
@@ -27,7 +28,7 @@ invariant_of-result g c =
         begun = c.requires.begun;
         small = c.requires.small;
         stands = c.requires.stands;
-        others = λ none. rw c.of-first.ensures (record { tells = refl; others = λ name other. refl });
+        others = λ none. rw c.of-first.ensures (record { told = refl; on = on_same refl; others = λ name other. refl });
       };
       reasons = rw c.of-first.ensures (c.requires.reasons _);
       names = λ none. rw c.of-first.ensures (idle_names _ _ _ c.requires.idle (ap (λ (es : List EngineEntry). member_turns client es) c.requires.fresh));

@@ -15,7 +15,7 @@ turned_as told kind before after later turned came was is comes turn =
 
 pub returns-clause-turns : goal.returns-clause-turns
 returns-clause-turns g c =
-    let told = member_told g.E.Equipment.takes g.E.Equipment.makes g.F.Files.seen g.F.Files.faults g.F.Files.clashes g.F.Files.first in
+    let told = member_told g.X.Equipment.takes g.X.Equipment.makes g.F.Files.told in
     elim c.match-self.branch [
       | in-FrontEnd w ↦ turned_as told _ _ _ _ _ _ (sym (ap seen_of w.in-FrontEnd.is) ∙ c.self.view_is) (ap (λ i. seen_of i.kind) w.self-inside-is) w.result-is
           (FrontTurn w.turn.ensures.takes w.turn.ensures.same)

@@ -11,10 +11,10 @@ use Rattle.front_ends.proofs.front_end.FrontEnd.finish.Goals as goal
 pub returns-clause-keeps : goal.returns-clause-keeps
 returns-clause-keeps g c = λ own turns stands.
     let told : finish_answer c.self.inside.run ≡ Some c.told_of.result = search rules in
-    subst (λ (a : Option Answer). FrontStands (g.E.Equipment.takes c.self.inside.equipment) (g.E.Equipment.makes c.self.inside.equipment) (run_finished c.self.inside.run a) own (latest_answered turns a)) told
-    (finish_kept (g.E.Equipment.takes c.self.inside.equipment) (g.E.Equipment.makes c.self.inside.equipment) c.self.inside.run own turns (rw (← c.self.view_is) at stands))
+    subst (λ (a : Option Answer). FrontStands (g.X.Equipment.takes c.self.inside.equipment) (g.X.Equipment.makes c.self.inside.equipment) (run_finished c.self.inside.run a) own (latest_answered turns a)) told
+    (finish_kept (g.X.Equipment.takes c.self.inside.equipment) (g.X.Equipment.makes c.self.inside.equipment) c.self.inside.run own turns (rw (← c.self.view_is) at stands))
 
 pub returns-clause-moments : goal.returns-clause-moments
 returns-clause-moments g c = λ own turns moments stands keeps.
     let told : finish_answer c.self.inside.run ≡ Some c.told_of.result = search rules in
-    finish_moments (g.E.Equipment.takes c.self.inside.equipment) (g.E.Equipment.makes c.self.inside.equipment) c.self.inside.run own turns moments c.told_of.result told (rw (← c.self.view_is) at stands) keeps
+    finish_moments (g.X.Equipment.takes c.self.inside.equipment) (g.X.Equipment.makes c.self.inside.equipment) c.self.inside.run own turns moments c.told_of.result told (rw (← c.self.view_is) at stands) keeps

@@ -19,7 +19,7 @@ returns-clause-after g c = rw (← c.self.view_is, ← c.check-takes.ensures, c.
 pub returns-clause-keeps : goal.returns-clause-keeps
 returns-clause-keeps g c = λ own dump turns none stands.
     rw (c.run_behind_turn-self-inside.ensures, c.answer_of_turn-answer.ensures)
-    (turn_kept dump (g.E.Equipment.takes c.self.inside.equipment) (g.E.Equipment.makes c.self.inside.equipment) c.check-takes.result c.self.inside.run own turns c.args.transition c.args.order.now c.check-takes.ensures none
+    (turn_kept dump (g.X.Equipment.takes c.self.inside.equipment) (g.X.Equipment.makes c.self.inside.equipment) c.check-takes.result c.self.inside.run own turns c.args.transition c.args.order.now c.check-takes.ensures none
     (rw (← c.self.view_is) at stands))
 
 pub returns-clause-moments : goal.returns-clause-moments

@@ -14,9 +14,9 @@ returns-clause-step g c =
       arith,
       ap (λ (l : List ℕ). length l) c.body.ensures,
       ap (λ (e : Event). length e.body) c.event.ensures.event,
-      g.met.E.Equipment.small c.self.inside.equipment c.self.invariant.0 c.args.run.order (c.args.run.sent + 1),
+      g.met.X.Equipment.small c.self.inside.equipment c.self.invariant.0 c.args.run.order (c.args.run.sent + 1),
     ))
     (ap (λ (h : Header). is_reserved h.event_id) c.header-header.ensures
     ∙ (ap (λ (e : Event). is_reserved e.id) c.event.ensures.event
-    ∙ g.met.E.Equipment.free c.self.inside.equipment c.self.invariant.0 c.args.run.order (c.args.run.sent + 1)))
+    ∙ g.met.X.Equipment.free c.self.inside.equipment c.self.invariant.0 c.args.run.order (c.args.run.sent + 1)))
     c.requires.size

@@ -13,7 +13,7 @@ returns-clause-keeps g c = λ turns stands.
     let later_takes = rw (← c.self-2.view_is) at c.send_next-reply.ensures.takes in
     let takes = rw (← c.self.view_is) at later_takes in
     let own = rw (← c.self.view_is) at c.send_next-reply.ensures.sent.own in
-    let kept = step_kept (g.E.Equipment.takes c.self.inside.equipment) (g.E.Equipment.makes c.self.inside.equipment) (g.P.BufferPort.access c.args.port.now).own turns c.in-Some.run' c.send_next-reply.result
+    let kept = step_kept (g.X.Equipment.takes c.self.inside.equipment) (g.X.Equipment.makes c.self.inside.equipment) (g.P.BufferPort.access c.args.port.now).own turns c.in-Some.run' c.send_next-reply.result
     (work_left c.in-Some.run' (sym c.has_done.ensures ∙ c.if-has_done.false)) work (rw (← c.self.view_is, c.in-Some.is) at stands) in
     rw (makes, takes, c.run_behind_send.ensures, own) kept
 
@@ -22,8 +22,8 @@ returns-clause-moments g c = λ turns moments stands keeps.
     let work = at_work c.in-Some.run' c.if-run.false (sym c.has_done.ensures ∙ c.if-has_done.false) in
     let own = rw (← c.self.view_is) at c.send_next-reply.ensures.sent.own in
     rw own
-    (step_moments (g.E.Equipment.takes c.self.inside.equipment) (g.E.Equipment.makes c.self.inside.equipment) (g.P.BufferPort.access c.args.port.now).own turns moments c.in-Some.run'
-    (length (g.E.Equipment.makes c.self.inside.equipment c.in-Some.run'.order (suc c.in-Some.run'.sent)).body) (g.E.Equipment.makes c.self.inside.equipment c.in-Some.run'.order (suc c.in-Some.run'.sent)) c.send_next-reply.result work
+    (step_moments (g.X.Equipment.takes c.self.inside.equipment) (g.X.Equipment.makes c.self.inside.equipment) (g.P.BufferPort.access c.args.port.now).own turns moments c.in-Some.run'
+    (length (g.X.Equipment.makes c.self.inside.equipment c.in-Some.run'.order (suc c.in-Some.run'.sent)).body) (g.X.Equipment.makes c.self.inside.equipment c.in-Some.run'.order (suc c.in-Some.run'.sent)) c.send_next-reply.result work
     (rw (← c.self.view_is, c.in-Some.is) at stands) keeps)
 
 pub invariant_of-self : goal.invariant_of-self

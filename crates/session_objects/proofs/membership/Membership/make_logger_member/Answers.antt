@@ -57,7 +57,7 @@ new-requires g c =
     let made : IsMadeLogger m.objects.now.buffers.items m.lists.now.channels c.in_ok-logger.logger = subst A bs (subst B (c.in_ok-channels.ensures ∙ c.as_slice.ensures) c.in_ok-logger.ensures) in
     let P : Option LoggedRun → Type 0 = λ run. buffers_begun run ≤ length (map (access_by ring_window) c.in_ok-ports.ports) in
     first_bare m.lists.now.channels m.objects.now c.args.client c.take_engine-engine.result c.in_ok-logger.logger (map (access_by ring_window) c.in_ok-ports.ports)
-    made asks.engine asks.client asks.calls c.in_ok-ports.ensures.ports g.F.Files.seen c.in-Some.files (subst P (sym made.run) (search rules))
+    made asks.engine asks.client asks.calls c.in_ok-ports.ensures.ports g.F.Files.told c.in-Some.files (subst P (sym made.run) (search rules))
 
 pub returns-clause-out : goal.returns-clause-out
 returns-clause-out g c =
