@@ -16,7 +16,7 @@ use Rattle.session_runs.specs.RunsFit.{MainOwn, StandCalls}
 use Rattle.session_lines.specs.Stages.{SessionStage}
 use Rattle.session_laws.specs.ClosedSessions.{ClosedSession}
 use Rattle.session_laws.specs.CountedFaults.{state_by_dump}
-use Rattle.session_ends.specs.EndedRecords.{RecordSo}
+use Rattle.session_laws.specs.EndedRecords.{RecordSo}
 use Rattle.session_commands.specs.Keeping.{AllSaved, SavesDump, StageSaved}
 use Rattle.daq_session.specs.declared.ends.ScriptEnd.{ScriptEnd}
 use Rattle.daq_session.specs.Sessions.{KeepsSession, KeptRunsEnded, RunsEnded, SessionKept}

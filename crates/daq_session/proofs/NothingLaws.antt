@@ -1,16 +1,16 @@
 -- A script that was not read, for want of memory.
+use Rattle.daq_io.specs.Told.{AheadTold, FilesTold, SourceTold}
 use Rattle.std.proofs.Common.{◌≡◌, ℕ, List, [], Option, Some, None, refl, sym, subst, inl, arith}
 use Rattle.std.proofs.lemmas.List.{append-nil}
 use Rattle.std.specs.Io.KnownBytes.{Appends, Keeps}
 use Rattle.daq_types.specs.Callers.{main_caller}
+use Rattle.daq_io.proofs.SeenLaws.{on_same}
 use Rattle.daq_io.specs.declared.objects.Outside.{Outside}
 use Rattle.odb_commands.specs.declared.dump_replies.FileReply.{FileReply}
 use Rattle.daq_session.specs.SessionRows.{session_rows}
 use Rattle.odb_watch.specs.Steps.{unwatched}
 use Rattle.odb_watch.specs.DatabasePorts.{DatabaseAccess}
 use Rattle.odb_lock.specs.SharedAccesses.{shared_access}
-use Rattle.console.specs.DatabaseStages.{DumpFiles}
-use Rattle.session_runs.specs.RunAnswers.{ClockTold}
 use Rattle.console.specs.declared.refusals.Refusals.{Refusals}
 use Rattle.session_lines.specs.Stages.{first_stage}
 use Rattle.session_lines.specs.ScriptLines.{BreaksScriptLine, ClosesScript, DoesScriptLine, GivesUp}
@@ -37,7 +37,7 @@ access = shared_access (record { opened = unwatched session_rows; ports = 0; num
 abbrev none_refused : Refusals
 none_refused = record { count = 0; first = 0 }
 
-nothing_played : (files : DumpFiles) (clock : ClockTold) (source told : Option (List ℕ))
+nothing_played : (files : FilesTold) (clock : AheadTold) (source : SourceTold) (told : Option (List ℕ))
     → Finished DoesScriptLine BreaksScriptLine ClosesScript GivesUp (first_stage access files clock) (Halted no_memory) None source source told told (first_stage access files clock) none_refused
 nothing_played files clock source told = record {
   lines = [];
@@ -50,6 +50,7 @@ nothing_played files clock source told = record {
   closed = inl (record { reply = None; closed = (refl, refl); is = refl });
   counts = record { count = refl; first = refl };
   are_lines = λ text is. refl;
+  given = record { came = []; gave = sym (append-nil source.gave); are = refl };
   numbered = refl;
   told_lines = told;
   wrote_lines = inl (appends_nothing told);
@@ -73,8 +74,8 @@ nothing_ran told outside replies none =
         closing = None;
         refusals = none_refused;
         lines = record {
-          finished = nothing_played before.odb_files before.clock before.source before.written;
-          counts = record { may = tt; source_counts = refl; lines = before.sink_faults; sink_counts = refl; behind = refl };
+          finished = nothing_played before.odb_files before.clock before.source before.sink.written;
+          counts = record { may = tt; source_counts = refl; lines = before.sink.faults; sink_counts = refl; behind = refl };
           odb_files = refl;
           clock = refl;
         };
@@ -84,7 +85,13 @@ nothing_ran told outside replies none =
         replies_are = sym none;
         saved = λ other. absurd (other refl);
         quotas = refl;
-        dumps = record { tells = refl; stay = λ tells name file at. at; added = λ tells name file at. inl at };
+        dumps = record {
+          names = refl;
+          on = on_same refl;
+          stay = λ names name file at. at;
+          added = λ names name file at. inl at;
+        };
+        saves = tt;
         fault_replies = λ asks. absurd (cc asks);
         one_reply = subst (λ (came : List (ℕ × FileReply)). OneReply came before.odb_files before.odb_files) (sym none) (record { faults = omega arith; clashes = omega arith });
       };

@@ -28,7 +28,7 @@ use Rattle.odb_runinfo.specs.RunNumberKept.{AllSpareRuninfo, HasRunNumber}
 use Rattle.odb_runinfo.specs.RunSets.{AreSets, Assignment, number_asked}
 use Rattle.odb_commands.specs.WatchSpares.{AllSpareWatched, SparesWatched}
 use Rattle.member_model.specs.Turns.{MemberTurn}
-use Rattle.caller_laws.specs.CallerLaws.{SendIsAmong}
+use Rattle.history_laws.specs.CallerLaws.{SendIsAmong}
 use Rattle.composition.specs.SentSets.{AreSetsAlone, AreTurnSets}
 use Rattle.composition.specs.Sessions.{SessionFront}
 use Rattle.session_laws.specs.ClosedSessions.{ClosedSession, session_front}

@@ -1,4 +1,5 @@
 -- The end of a session that was open, or that was to open.
+use Rattle.daq_io.specs.Told.{AheadTold}
 use Rattle.std.proofs.Common.{◌≡◌, ℕ, List, length, refl, sym, ap, subst, inl, arith}
 use Rattle.std.specs.Prelude.{Some, None, false}
 use Rattle.std.proofs.lemmas.List.{take_all}
@@ -25,7 +26,6 @@ use Rattle.session_objects.specs.declared.passes.SessionPasses.{SessionPasses}
 use Rattle.session_objects.specs.Members.{session_calls}
 use Rattle.session_objects.specs.Records.{HasCalls}
 use Rattle.session_runs.specs.KeptRuns.{RunsSeen}
-use Rattle.session_runs.specs.RunAnswers.{ClockTold}
 use Rattle.session_lines.specs.Stages.{SessionStage, front_names, open_stage, opened_runs, unopened_stage}
 use Rattle.session_lines.specs.RunLines.{CutsKeys, CutsOpening, KeysMade, MakesKeys, OpensSession}
 use Rattle.console.specs.declared.endings.Ending.TheVariants.{Halted}
@@ -46,7 +46,7 @@ keys_cut fronts old new made = record {
   next = inl refl;
 }
 
-module _ (quota : ℕ) (declared : Declared) (lists : DeclaredLists) (database : DatabaseStage) (access : DatabaseAccess) (clock : ClockTold) (opened : opened_with_defaults declared ≡ declared_by lists) where
+module _ (quota : ℕ) (declared : Declared) (lists : DeclaredLists) (database : DatabaseStage) (access : DatabaseAccess) (clock : AheadTold) (opened : opened_with_defaults declared ≡ declared_by lists) where
   -- The session was to open, and there was no memory for it.
   pub opening_cut : CutsKeys (names_of lists.fronts) database.access access
       → CutsOpening (unopened_stage quota declared database clock) (unopened_stage quota declared (record database { access = access }) clock)
@@ -77,7 +77,7 @@ pub cut_tells : {S O F E C K : Type 0} (told : OutsideTold S O F E C) (script : 
     → final.database.files ≡ told.dumps odb_files → final.database.replies ≡ replies.replies → final.clock ≡ told.clock clock
     → TellsEnd told script run_files (record { ending = Halted no_memory; closing = None; failed = false; replies = replies; odb_files = odb_files; clock = clock; run_files = run_files; pick = pick; script = script }) final
 cut_tells told script run_files pick replies odb_files clock final files_are replies_are clock_is = record {
-  counts = record { may = tt; source_counts = refl; lines = told.sink_faults script.out; sink_counts = refl; behind = refl };
+  counts = record { may = tt; source_counts = refl; lines = (told.sink script.out).faults; sink_counts = refl; behind = refl };
   failed = omega arith;
   files_are = files_are;
   replies_are = replies_are;

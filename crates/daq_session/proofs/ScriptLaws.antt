@@ -1,4 +1,5 @@
 -- A whole script, from the parts that play it.
+use Rattle.daq_io.specs.Told.{AheadTold}
 use Rattle.std.proofs.Common.{◌≡◌, ℕ, ◌<◌, List, [], refl, sym, ap, subst, ◌∙◌, inl, arith, true, length}
 use Rattle.std.specs.Prelude.{Option, Some, None}
 use Rattle.frontend_kit.specs.declared.generator.Generator.{Generator}
@@ -17,7 +18,6 @@ use Rattle.session_setup.specs.declared.declared.FrontDeclared.{FrontDeclared}
 use Rattle.session_objects.specs.declared.objects.SessionObjects.{SessionObjects}
 use Rattle.session_objects.specs.declared.passes.SessionPasses.{SessionPasses}
 use Rattle.session_objects.specs.Objects.{AreObjectsOf, HaveCallers}
-use Rattle.session_runs.specs.RunAnswers.{ClockTold}
 use Rattle.console.specs.DatabaseStages.{DatabaseStage}
 use Rattle.session_lines.specs.Stages.{SessionStage, unopened_stage}
 use Rattle.session_lines.specs.RunLines.{CutsOpening}
@@ -62,7 +62,7 @@ pub few_fronts : {D : Type 0} (shared : SharedOdb D) (lists : DeclaredLists) →
 few_fronts shared lists many sound = omega (arith, many, sound.few_fronts)
 
 -- A session was to open, and there was no memory for its objects.
-pub nothing_opened : (quota : ℕ) (declared : Declared) (database : DatabaseStage) (clock : ClockTold) → CutsOpening (unopened_stage quota declared database clock) (unopened_stage quota declared database clock)
+pub nothing_opened : (quota : ℕ) (declared : Declared) (database : DatabaseStage) (clock : AheadTold) → CutsOpening (unopened_stage quota declared database clock) (unopened_stage quota declared database clock)
 nothing_opened quota declared database clock = record {
   closed = refl;
   keys = record {

@@ -1,4 +1,5 @@
 -- What is kept of a session is what the laws of ended sessions ask for, so all that they say holds of it.
+use Rattle.daq_io.specs.Told.{FilesTold}
 use Rattle.std.specs.Prelude.{◌≡◌, ℕ, ◌<◌, ◌≤◌, Bool, IsTrue, List, [], ◌∷◌, ◌++◌, Ok, length, map, slice_get, Option, Some, refl}
 use Rattle.std.specs.List.{AllByRecursion}
 use Rattle.std.specs.Option.{option_map, option_to_list}
@@ -27,7 +28,6 @@ use Rattle.mid_logger.specs.declared.channel_spec.ChannelSpec.{ChannelSpec}
 use Rattle.session_runs.specs.declared.opening.MemberName.{MemberName}
 use Rattle.session_runs.specs.Members.{registrations}
 use Rattle.loggers.specs.LeftNames.{NoneRose}
-use Rattle.loggers.specs.Moments.{RunFiles}
 use Rattle.loggers.specs.OtherFiles.{AreDeclared, specs_in}
 use Rattle.session_runs.specs.declared.records.RunRecord.{RunRecord}
 use Rattle.session_runs.specs.declared.channels.RunChannel.{RunChannel}
@@ -47,8 +47,8 @@ use Rattle.session_laws.specs.EndLaws.{SessionHolds}
 use Rattle.session_laws.specs.MembersAtEnd.{MembersAtEnd}
 use Rattle.session_laws.specs.OneAnswer.{OneAnswer, RisesTold}
 use Rattle.session_laws.specs.OtherNames.{AreStartsOver}
-use Rattle.session_ends.specs.EndedSessions.{EndsSo, SessionEnded, HoldsSo, closed_session}
-use Rattle.session_ends.specs.EndedRecords.{CountsSo, IsInNoRecord, NamesSo, OneAnswerSo, RecordSo, RecordsSo, RefusalSo, RefusalsSo, RisesToldSo, StartsOverSo, clients_declared}
+use Rattle.session_laws.specs.EndedSessions.{EndsSo, SessionEnded, HoldsSo, closed_session}
+use Rattle.session_laws.specs.EndedRecords.{CountsSo, IsInNoRecord, NamesSo, OneAnswerSo, RecordSo, RecordsSo, RefusalSo, RefusalsSo, RisesToldSo, StartsOverSo, clients_declared}
 use Rattle.session_commands.specs.Endings.{closing_calls}
 use Rattle.daq_session.specs.Played.{IsSessionRecord}
 use Rattle.daq_session.specs.Sessions.{KeepsSession, main_own}
@@ -62,14 +62,14 @@ all_joined P [] ys first second = second
 all_joined P (x ∷ xs) ys first second = (first.0, all_joined P xs ys first.1 second)
 
 -- What the laws say of a closed session with these runs.
-record LawsHold (c : ClosedSession) (first now : RunFiles) (own : MainOwn) (runs : List RunRecord) : Type 0 where
+record LawsHold (c : ClosedSession) (first now : FilesTold) (own : MainOwn) (runs : List RunRecord) : Type 0 where
   members : MembersAtEnd c
   holds : SessionHolds c
   over : AreStartsOver (engine_calls c main_caller)
   counts : CountsHold c first now
   one : OneAnswer runs first now
   rises : RisesTold (specs_in c.slots) runs first now
-  left : IsTrue first.seen.tells → NoneRose first now → (name : List ℕ) → IsInNoRecord runs name → now.seen.at name ≡ first.seen.at name
+  left : IsTrue first.seen.names → NoneRose first now → (name : List ℕ) → IsInNoRecord runs name → now.seen.at name ≡ first.seen.at name
   so : (number : ℕ) → (run : RunRecord) → slice_get runs number ≡ Some run → run.outcome ≡ Completed → RecordSo c holds.moments own run
   refused : (number : ℕ) → (run : RunRecord) → slice_get runs number ≡ Some run → (client : ℕ) → (why : Why) → run.outcome ≡ Refused client why → RefusalSo c first now own run client why
 
@@ -93,7 +93,7 @@ module _ {D F : Type 0} {g : _} (told : MemberTold Generator F) (takes : told.ta
   few_analyzers : length kept.lists.analyzers ≤ 8
   few_analyzers = subst (λ (d : Declared). length d.analyzers ≤ 8) (sym kept.declared) kept.sound.few_analyzers
 
-  abbrev ended : SessionEnded told.seen kept.lists.fronts kept.lists.analyzers kept.crew.logger r
+  abbrev ended : SessionEnded told.read kept.lists.fronts kept.lists.analyzers kept.crew.logger r
   ended = record {
     objects = kept.objects;
     shared = kept.shared;
@@ -165,12 +165,12 @@ module _ {D F : Type 0} {g : _} (told : MemberTold Generator F) (takes : told.ta
   -- By the objects and seats of the session, and then by what a reader of the record knows of it.
 
   abbrev closed_by : (opened : Watched) (fronts : List FrontDeclared) (analyzers : List AnalyzerDeclared) (first now : F) → ClosedSession
-  closed_by opened fronts analyzers first now = closed_session opened fronts analyzers kept.crew.logger.slots (told.seen first) (told.seen now) r
+  closed_by opened fronts analyzers first now = closed_session opened fronts analyzers kept.crew.logger.slots (told.read first).seen (told.read now).seen r
 
   abbrev Laws : (opened : Watched) (fronts : List FrontDeclared) (analyzers : List AnalyzerDeclared) (first now : F) → Type 0
   Laws opened fronts analyzers first now = LawsHold (closed_by opened fronts analyzers first now) (told.read first) (told.read now) own r.runs
 
-  laws_first : EndsSo told.seen r → HoldsSo told.seen r → StartsOverSo told.seen r → CountsSo told.seen told.read r → OneAnswerSo told.seen told.read r → RisesToldSo told.seen told.read r → NamesSo told.seen told.read r → RecordsSo told.seen r → RefusalsSo told.seen told.read r
+  laws_first : EndsSo told.read r → HoldsSo told.read r → StartsOverSo told.read r → CountsSo told.read r → OneAnswerSo told.read r → RisesToldSo told.read r → NamesSo told.read r → RecordsSo told.read r → RefusalsSo told.read r
       → Laws (first_database kept.shared) kept.lists.fronts kept.lists.analyzers kept.crew.logger.first kept.crew.logger.files
   laws_first ends hold starts counts one rises names_so records refusals =
       let holds = hold kept.lists.fronts kept.lists.analyzers kept.crew.logger ended in
@@ -186,7 +186,7 @@ module _ {D F : Type 0} {g : _} (told : MemberTold Generator F) (takes : told.ta
         refused = refusals kept.lists.fronts kept.lists.analyzers kept.crew.logger ended kept.keep.reasons kept.keep.names kept.lists.channels kept.channels own (Close (Ok tt) ∷ []) refl fit;
       }
 
-  laws_read : EndsSo told.seen r → HoldsSo told.seen r → StartsOverSo told.seen r → CountsSo told.seen told.read r → OneAnswerSo told.seen told.read r → RisesToldSo told.seen told.read r → NamesSo told.seen told.read r → RecordsSo told.seen r → RefusalsSo told.seen told.read r
+  laws_read : EndsSo told.read r → HoldsSo told.read r → StartsOverSo told.read r → CountsSo told.read r → OneAnswerSo told.read r → RisesToldSo told.read r → NamesSo told.read r → RecordsSo told.read r → RefusalsSo told.read r
       → Laws (unwatched session_rows) final.declared.fronts final.declared.analyzers first_files run_files
   laws_read ends hold starts counts one rises names_so records refusals =
       subst (λ (now : F). Laws (unwatched session_rows) final.declared.fronts final.declared.analyzers first_files now) kept.files
@@ -262,7 +262,7 @@ module _ {D F : Type 0} {g : _} (told : MemberTold Generator F) (takes : told.ta
   channels : AreDeclared final.declared.channels kept.crew.logger.slots
   channels = subst (λ (l : List ChannelSpec). AreDeclared l kept.crew.logger.slots) (ap (λ (d : Declared). d.channels) kept.declared) kept.channels
 
-  pub keeps : RunLaws → EndsSo told.seen r → HoldsSo told.seen r → StartsOverSo told.seen r → CountsSo told.seen told.read r → OneAnswerSo told.seen told.read r → RisesToldSo told.seen told.read r → NamesSo told.seen told.read r → RecordsSo told.seen r → RefusalsSo told.seen told.read r → KeepsSession told first_files final run_files r
+  pub keeps : RunLaws → EndsSo told.read r → HoldsSo told.read r → StartsOverSo told.read r → CountsSo told.read r → OneAnswerSo told.read r → RisesToldSo told.read r → NamesSo told.read r → RecordsSo told.read r → RefusalsSo told.read r → KeepsSession told first_files final run_files r
   keeps number_laws ends hold starts counts one rises names_so records refusals =
       let laws = laws_read ends hold starts counts one rises names_so records refusals in
       let given : AllByRecursion GivesNumber own.database = numbers number_laws laws.holds in

@@ -1,4 +1,5 @@
 -- What the record of a run tells of its files, its front-ends and its analyzers.
+use Rattle.daq_io.specs.Told.{FilesTold}
 use Rattle.std.specs.Prelude.{◌≡◌, ℕ, zero, suc, ◌+◌, ◌-◌, ◌<◌, ◌==◌, ◌⊎◌, ℤ, pos, negsuc, Bool, true, false, if◌then◌else◌, nat_lt, List, [], ◌∷◌, ◌++◌, length, map, slice_get, unwrap_or, IsTrue, IsSome, Contains, Option, Some, None, Result, Ok, Err, refl}
 use Rattle.std.specs.List.{AllByRecursion}
 use Rattle.std.specs.Option.{option_map}
@@ -27,9 +28,9 @@ use Rattle.buffer_core.specs.Readers.{wanted}
 use Rattle.buffer_core.specs.Runs.{segment}
 use Rattle.buffer_core.specs.Slots.{slot_at}
 use Rattle.buffer_core.specs.CallersView.{given_in}
-use Rattle.caller_laws.specs.CallerLaws.{IsSendOf, SendIsAmong}
-use Rattle.caller_laws.specs.OneCaller.{events_in}
-use Rattle.caller_laws.specs.SentRuns.{events_at_places, places_sent}
+use Rattle.history_laws.specs.CallerLaws.{IsSendOf, SendIsAmong}
+use Rattle.history_laws.specs.OneCaller.{events_in}
+use Rattle.history_laws.specs.SentRuns.{events_at_places, places_sent}
 use Rattle.transitions.specs.EngineCalls.{order_for}
 use Rattle.member_model.specs.RunEngines.{Sheet}
 use Rattle.odb_value.specs.Values.{HeldValue}
@@ -48,7 +49,6 @@ use Rattle.front_ends.specs.FrontKept.{made_events}
 use Rattle.mid_logger.specs.declared.channel.Channel.{Channel}
 use Rattle.mid_logger.specs.declared.channel_spec.ChannelSpec.{ChannelSpec}
 use Rattle.loggers.specs.LeftNames.{NoneRose}
-use Rattle.loggers.specs.Moments.{RunFiles}
 use Rattle.loggers.specs.LoggerStands.{logger_channel, logger_channels}
 use Rattle.loggers.specs.OtherFiles.{AreDeclared, specs_in}
 use Rattle.session_runs.specs.declared.records.ChannelFiles.{ChannelFiles}
@@ -70,8 +70,8 @@ use Rattle.session_laws.specs.CountedFaults.{CountsHold, state_by_dump}
 use Rattle.session_laws.specs.EndLaws.{MembersListed}
 use Rattle.session_laws.specs.MadeRuns.{AreFilesSo, ReportHolds}
 use Rattle.session_laws.specs.RecordedRuns.{ChannelFilesHold, FrontRecordHolds, ReportRecordHolds}
-use Rattle.session_ends.specs.EndedRecords.{RecordSo}
-use Rattle.session_ends.specs.EndedSessions.{closed_analyzer, closed_buffer, closed_front}
+use Rattle.session_laws.specs.EndedRecords.{RecordSo}
+use Rattle.session_laws.specs.EndedSessions.{closed_analyzer, closed_buffer, closed_front}
 use Rattle.daq_session.specs.RunNumbers.{GivesNumber, IsNumberBefore}
 use Rattle.daq_session.specs.ToldRecords.{IsCountedInRun, AreOfChannel, ArePartsOfRun, AreFilesOfRun, IsFileOfPiece, IsFrontEvent, IsSentInRun, RunTells, events_of_front, events_of_run}
 
@@ -141,7 +141,7 @@ before_next (negsuc n) run is = absurd (cc is)
 
 module _ (c : ClosedSession) (declared : Declared) (buffers : List BufferRecord) (sound : AreSound declared) (many : length buffers ≡ length declared.buffers)
     (same_buffers : c.buffers ≡ map closed_buffer buffers) (same_fronts : c.fronts ≡ map closed_front declared.fronts) (same_analyzers : c.analyzers ≡ map closed_analyzer declared.analyzers) (channels : AreDeclared declared.channels c.slots)
-    (moments : (client : ℕ) → List ℕ) (own : MainOwn) (given : AllByRecursion GivesNumber own.database) (first now : RunFiles) (counts : CountsHold c first now) (composed : IsComposed (session_of c moments)) (listed : MembersListed) (among : SendIsAmong) (run : RunRecord) (so : RecordSo c moments own run) where
+    (moments : (client : ℕ) → List ℕ) (own : MainOwn) (given : AllByRecursion GivesNumber own.database) (first now : FilesTold) (counts : CountsHold c first now) (composed : IsComposed (session_of c moments)) (listed : MembersListed) (among : SendIsAmong) (run : RunRecord) (so : RecordSo c moments own run) where
   abbrev session : Session
   session = session_of c moments
 
@@ -234,7 +234,7 @@ module _ (c : ClosedSession) (declared : Declared) (buffers : List BufferRecord)
           few = holds.few;
           framed = subst (λ (state : ChannelState). AreFramedSo state many written.told.framed) ended f.so.framed;
           taken = holds.taken;
-          beyond = subst (λ (n : List ℕ). IsTrue holds.taken → IsTrue c.files.tells → IsSome (c.files.at n)) (its_name written f a many) holds.beyond;
+          beyond = subst (λ (n : List ℕ). IsTrue holds.taken → IsTrue c.files.names → IsSome (c.files.at n)) (its_name written f a many) holds.beyond;
           cut = read_so
               (λ first last start h. IsCut spec.sub_bytes (16 + length (unwrap_or first.dump [])) (events_in (wanted spec.id spec.mask (segment h start))) holds.taken holds.pieces)
               spec.buffer a.buffer a.there holds.cut;

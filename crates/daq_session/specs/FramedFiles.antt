@@ -57,7 +57,7 @@ pub record HoldsFramedFiles {D F : Type 0} {g : _} (told : MemberTold Generator 
   pub are : (number : ℕ) → (run : RunRecord) → (at : slice_get r.runs number ≡ Some run) → (whole : run.outcome ≡ Completed) →
       (place : ℕ) → (written : ChannelFiles) → slice_get run.files place ≡ Some written → written.told.state ≡ Ended →
       (last_dump : List ℕ) × (dump_saved (keeps.tells.runs number run at whole).so.fits.stop.saved ≡ Some last_dump)
-      × AreFramedPieces final.declared r.buffers (told.seen run_files) run (keeps.tells.runs number run at whole).so.quota
+      × AreFramedPieces final.declared r.buffers (told.read run_files).seen run (keeps.tells.runs number run at whole).so.quota
       (keeps.tells.runs number run at whole).so.fits.start.dump last_dump written
 
 -- so it is with the session of which this is kept, if one was opened

@@ -1,4 +1,5 @@
 -- What a script came to whose lines are played: why it ended, and the outside as it leaves it.
+use Rattle.daq_io.specs.Told.{FilesTold}
 use Rattle.std.specs.Prelude.{◌≡◌, ℕ, true, List, Option}
 use Rattle.std.specs.List.{list_any}
 use Rattle.daq_io.specs.declared.objects.Outside.{Outside}
@@ -11,15 +12,14 @@ use Rattle.daq_session.specs.Endings.{FaultedFile, script_end}
 -- The script whose lines came to this ended so. The two counts are those of the faults of the run files and of the files of the
 -- database before: where the cause asks for them, and a call on these files is noted to have failed exactly where its count rose,
 -- the file of the first fault is the one that is named.
-abbrev pub HasEnd : {S O E C F K : Type 0} → (run_faults : F → ℕ) → (run_first : F → Option (List ℕ)) → (odb_faults : E → ℕ) →
-    (odb_first : E → Option (List ℕ)) → (run odb : ℕ) → LinesEnd S O E C F K → ScriptEnd → Type 0
-HasEnd run_faults run_first odb_faults odb_first run odb lines end =
-    (asks_files (ended_by lines.ending lines.closing) ≡ true → NotesFailed lines.failed run (run_faults lines.run_files)
-    × NotesFailed (list_any is_fault lines.replies.replies) odb (odb_faults lines.odb_files)) →
+abbrev pub HasEnd : {S O E C F K : Type 0} → (run_told : F → FilesTold) → (odb_told : E → FilesTold) → (run odb : ℕ) → LinesEnd S O E C F K → ScriptEnd → Type 0
+HasEnd run_told odb_told run odb lines end =
+    (asks_files (ended_by lines.ending lines.closing) ≡ true → NotesFailed lines.failed run (run_told lines.run_files).faults
+    × NotesFailed (list_any is_fault lines.replies.replies) odb (odb_told lines.odb_files).faults) →
     (faulted : Option (List ℕ)) ×
     (asks_files (ended_by lines.ending lines.closing) ≡ true →
-    FaultedFile run (run_faults lines.run_files) (run_first lines.run_files) odb (odb_faults lines.odb_files)
-    (odb_first lines.odb_files) faulted) ×
+    FaultedFile run (run_told lines.run_files).faults (run_told lines.run_files).first odb (odb_told lines.odb_files).faults
+    (odb_told lines.odb_files).first faulted) ×
     (end ≡ script_end (ended_by lines.ending lines.closing) faulted lines.script.line_loop.refusals)
 
 -- the outside as the script leaves it

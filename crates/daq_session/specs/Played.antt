@@ -49,7 +49,7 @@ use Rattle.daq_session.specs.Sessions.{KeepsSession, SessionKept}
 
 -- where the lines of a script stand
 abbrev pub lines_at : {S O F E C : Type 0} → OutsideTold S O F E C → Script S O → ScriptAt
-lines_at told script = script_point told.left told.written script
+lines_at told script = script_point told.source told.sink script
 
 -- what the main thread's port to a shared database, the files of the dumps and the clock tell
 abbrev pub side_of : {D S O F E C : Type 0} {g : _} → OutsideTold S O F E C → SideTold (SharedAccess D g) E C
@@ -74,8 +74,8 @@ unopened_lines ending side run_files pick script = record {
 -- the files of the dumps, stand in the stage.
 pub record TellsEnd {S O F E C K : Type 0} (told : OutsideTold S O F E C) (before : Script S O) (first_files : F)
     (lines : LinesEnd S O E C F K) (final : SessionStage) : Type 0 where
-  pub counts : EndCounts lines.ending lines.closing (told.source_faults before.src) (told.source_faults lines.script.src)
-      (told.sink_faults before.out) (told.sink_faults lines.script.out)
+  pub counts : EndCounts lines.ending lines.closing (told.source before.src).faults (told.source lines.script.src).faults
+      (told.sink before.out).faults (told.sink lines.script.out).faults
   pub failed : NotesFailed lines.failed (told.crew.read first_files).faults (told.crew.read lines.run_files).faults
   pub files_are : final.database.files ≡ told.dumps lines.odb_files
   pub replies_are : final.database.replies ≡ lines.replies.replies
@@ -186,7 +186,7 @@ pub record PlaysAll {D S O F E C K : Type 0} {g : _} (told : OutsideTold S O F E
   pub ends : SessionEnds told.crew shared first_files final lines.ending lines.run_files left
   pub finished : FinishedAt
       (first_stage (shared_access (odb_identity shared) main_caller []) (told.dumps odb_files) (told.clock clock))
-      (told.left before.src) (told.written before.out) lines.ending lines.closing (lines_at told lines.script) final
+      (told.source before.src) (told.sink before.out).written lines.ending lines.closing (lines_at told lines.script) final
 
 -- What is kept of it.
 

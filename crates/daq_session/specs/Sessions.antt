@@ -27,7 +27,7 @@ use Rattle.console.specs.declared.halts.Halt.{Halt}
 use Rattle.console.specs.Closing.{EndCounts, Finished, ended_by}
 use Rattle.session_commands.specs.Endings.{NotesFailed, OneReply, asks_files, is_fault}
 use Rattle.session_commands.specs.Keeping.{StageSaved}
-use Rattle.session_commands.specs.KeptDumps.{KeepsDumps}
+use Rattle.session_commands.specs.KeptDumps.{EachSavesWhole, KeepsDumps}
 use Rattle.session_commands.specs.Quotas.{quotas_asked, quotas_so_far}
 use Rattle.daq_session.specs.declared.ends.ScriptEnd.{ScriptEnd}
 use Rattle.daq_session.specs.declared.ends.ScriptEnd.TheVariants.{NoMemory}
@@ -100,17 +100,18 @@ KeptRunsAsked told first_files final end run_files asked (Some r) keeps = RunsAs
 pub record PlaysLines (access : DatabaseAccess) (before after : Environment) (ending : Ending) (closing : Option Halt)
     (refusals : Refusals) (final : SessionStage) : Type 0 where
   pub finished : Finished DoesScriptLine BreaksScriptLine ClosesScript GivesUp
-      (first_stage access before.odb_files before.clock) ending closing before.source after.source before.written after.written
-      final refusals
-  pub counts : EndCounts ending closing before.source_faults after.source_faults before.sink_faults after.sink_faults
+      (first_stage access before.odb_files before.clock) ending closing before.source after.source before.sink.written
+      after.sink.written final refusals
+  pub counts : EndCounts ending closing before.source.faults after.source.faults before.sink.faults after.sink.faults
   pub odb_files : final.database.files ≡ after.odb_files
   pub clock : final.clock ≡ after.clock
 
 -- A whole script. Its session's database has the run's parameters, and no call was made on it before. Where memory was not wanting,
 -- each call of the main thread that asked for the text of the database got it. The starts were begun with the quotas that the lines
--- asked for. The files of the database that were there stay as they were, and each new one has the name of a `save` line; and where
--- memory was not wanting and neither source nor sink failed, a line told a fault of these files exactly where their count rose; and,
--- however it ended, each fault and each clash of names that a line told was counted for itself.
+-- asked for. The files of the database that were there stay as they were, and each new one has the name of a `save` line; each `save`
+-- that was answered so made a file of its name, which was closed whole, with all of the text that the database gave the main thread;
+-- and where memory was not wanting and neither source nor sink failed, a line told a fault of these files exactly where their count
+-- rose; and, however it ended, each fault and each clash of names that a line told was counted for itself.
 pub record PlaysScript (before after : Environment) (end : ScriptEnd) (replies : List (ℕ × FileReply)) (final : SessionStage) : Type 0 where
   pub access : DatabaseAccess
   pub opens : access.database.opened ≡ unwatched session_rows
@@ -129,6 +130,7 @@ pub record PlaysScript (before after : Environment) (end : ScriptEnd) (replies :
   pub saved : end ≢ NoMemory → StageSaved final
   pub quotas : quotas_so_far final.runs ≡ quotas_asked 0 lines.finished.lines lines.finished.replies
   pub dumps : KeepsDumps lines.finished.lines before.odb_files.seen after.odb_files.seen
+  pub saves : EachSavesWhole lines.finished.lines lines.finished.replies (own_watched final.database.access) after.odb_files.seen.done
   pub fault_replies : asks_files (ended_by ending closing) ≡ true →
       NotesFailed (list_any is_fault replies) before.odb_files.faults after.odb_files.faults
   pub one_reply : OneReply replies before.odb_files after.odb_files

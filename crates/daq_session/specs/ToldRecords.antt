@@ -1,4 +1,5 @@
 -- What the record of a session tells: the histories of its objects, its runs, and the run files.
+use Rattle.daq_io.specs.Told.{FilesTold}
 use Rattle.std.specs.Prelude.{◌≡◌, ◌⊎◌, ◌≤◌, ◌==◌, ℕ, suc, ◌+◌, if◌then◌else◌, Bool, IsSome, IsTrue, ◌++◌, ◌∷◌, [], List, length, slice_get, Contains, Option, Some, Ok}
 use Rattle.std.specs.List.{AllByRecursion}
 use Rattle.daq_types.specs.Callers.{caller_of_client, entries_by, main_caller}
@@ -17,8 +18,8 @@ use Rattle.buffer_core.specs.Delivered.{Delivers}
 use Rattle.buffer_core.specs.Readers.{wanted}
 use Rattle.buffer_core.specs.Runs.{KeepsRuns, segment}
 use Rattle.buffer_core.specs.CallersView.{given_in}
-use Rattle.caller_laws.specs.OneCaller.{events_in}
-use Rattle.caller_laws.specs.SentRuns.{events_at_places, places_sent}
+use Rattle.history_laws.specs.OneCaller.{events_in}
+use Rattle.history_laws.specs.SentRuns.{events_at_places, places_sent}
 use Rattle.transitions.specs.declared.entry.EngineEntry.TheVariants.{Close}
 use Rattle.transitions.specs.EngineCalls.{order_for}
 use Rattle.transitions.specs.Engines.{engine_opening}
@@ -37,7 +38,6 @@ use Rattle.sub_files.specs.Rolls.{fallen_at}
 use Rattle.mid_logger.specs.declared.channel.Channel.{Channel}
 use Rattle.mid_logger.specs.declared.channel_spec.ChannelSpec.{ChannelSpec}
 use Rattle.loggers.specs.LeftNames.{NoneRose}
-use Rattle.loggers.specs.Moments.{RunFiles}
 use Rattle.loggers.specs.OtherFiles.{AreDeclared, specs_in}
 use Rattle.session_runs.specs.declared.records.ChannelFiles.{ChannelFiles}
 use Rattle.session_runs.specs.declared.records.FrontTally.{FrontTally}
@@ -61,8 +61,8 @@ use Rattle.session_laws.specs.MadeRuns.{ReportHolds}
 use Rattle.session_laws.specs.MembersAtEnd.{MembersAtEnd}
 use Rattle.session_laws.specs.OneAnswer.{OneAnswer, RisesTold}
 use Rattle.session_laws.specs.OtherNames.{AreStartsOver}
-use Rattle.session_ends.specs.EndedRecords.{IsInNoRecord, RecordSo, RefusalSo, clients_declared}
-use Rattle.session_ends.specs.EndedSessions.{closed_session}
+use Rattle.session_laws.specs.EndedRecords.{IsInNoRecord, RecordSo, RefusalSo, clients_declared}
+use Rattle.session_laws.specs.EndedSessions.{closed_session}
 use Rattle.daq_session.specs.RunNumbers.{GivesNumber, IsNumberBefore}
 
 -- Histories.
@@ -132,7 +132,7 @@ pub record AreFilesOfRun (declared : Declared) (buffers : List BufferRecord) (fi
   pub few : written.told.files ≤ suc last_number
   pub framed : written.told.framed ≡ written.told.files
   pub taken : Bool
-  pub beyond : IsTrue taken → IsTrue files.tells → IsSome (files.at (piece_name_by written.pattern run.run written.told.files))
+  pub beyond : IsTrue taken → IsTrue files.names → IsSome (files.at (piece_name_by written.pattern run.run written.told.files))
   pub cut : IsCut of.channel.sub_bytes (16 + length first_dump) (events_of_run of.channel of.buffer run.start) taken pieces
   pub each : (number : ℕ) → (piece : List Event) → slice_get pieces number ≡ Some piece →
       IsFileOfPiece files run first_dump last_dump written number piece
@@ -193,7 +193,7 @@ pub record IsCountedInRun (client : ℕ) (d : AnalyzerDeclared) (buffers : List 
 -- and each analyzer counted what the record has of it: the events of the run that its client got, and where it saw the run
 -- through, all events of the run for which it asks.
 pub record RunTells (c : ClosedSession) (moments : (client : ℕ) → List ℕ) (own : MainOwn) (declared : Declared)
-    (buffers : List BufferRecord) (first now : RunFiles) (run : RunRecord) : Type 0 where
+    (buffers : List BufferRecord) (first now : FilesTold) (run : RunRecord) : Type 0 where
   pub so : RecordSo c moments own run
   pub number : IsNumberBefore run.run so.fits.start.are.got
   pub files : (place : ℕ) → (written : ChannelFiles) → slice_get run.files place ≡ Some written → written.told.state ≡ Ended →
@@ -218,7 +218,7 @@ pub record RunTells (c : ClosedSession) (moments : (client : ℕ) → List ℕ) 
 -- run files as they were at first and are now.
 abbrev pub session_told : {D F : Type 0} {g : _} → MemberTold Generator F → Declared → List (Option Channel) → (first_files files : F) → SessionRecord D g → ClosedSession
 session_told told declared slots first_files files r =
-    closed_session (unwatched session_rows) declared.fronts declared.analyzers slots (told.seen first_files) (told.seen files) r
+    closed_session (unwatched session_rows) declared.fronts declared.analyzers slots (told.read first_files).seen (told.read files).seen r
 
 -- What the record of a session of these declarations tells, in which these are the main thread's calls: the histories of its
 -- objects; one record for each start that was begun, in order, each of which fits these calls, and no two of one start; each answer
@@ -244,7 +244,7 @@ pub record RecordTells {D F : Type 0} {g : _} (told : MemberTold Generator F) (d
   pub counts : CountsHold (session_told told declared slots first_files files r) (told.read first_files) (told.read files)
   pub one_answer : OneAnswer r.runs (told.read first_files) (told.read files)
   pub rises : RisesTold (specs_in slots) r.runs (told.read first_files) (told.read files)
-  pub left : IsTrue (told.read first_files).seen.tells → NoneRose (told.read first_files) (told.read files) →
+  pub left : IsTrue (told.read first_files).seen.names → NoneRose (told.read first_files) (told.read files) →
       (name : List ℕ) → IsInNoRecord r.runs name →
       (told.read files).seen.at name ≡ (told.read first_files).seen.at name
   pub runs : (number : ℕ) → (run : RunRecord) → slice_get r.runs number ≡ Some run → run.outcome ≡ Completed →

@@ -56,10 +56,10 @@ fn faulted_name<F: Files, E: Files>(
     replies: &[(u64, FileReply)],
     odb_files: &E,
 ) -> Option<FileName>
-    ensures { (run odb : ℕ) → NotesFailed failed run (F.faults run_files.now)
-        → NotesFailed (list_any is_fault replies.now) odb (E.faults odb_files.now)
-        → FaultedFile run (F.faults run_files.now) (F.first run_files.now) odb
-        (E.faults odb_files.now) (E.first odb_files.now) result }
+    ensures { (run odb : ℕ) → NotesFailed failed run (F.told run_files.now).faults
+        → NotesFailed (list_any is_fault replies.now) odb (E.told odb_files.now).faults
+        → FaultedFile run (F.told run_files.now).faults (F.told run_files.now).first odb
+        (E.told odb_files.now).faults (E.told odb_files.now).first result }
 {
     if failed {
         return run_files.first_fault();
@@ -98,11 +98,11 @@ fn end_by<F: Files, E: Files>(
     odb_files: &E,
 ) -> ScriptEnd
     ensures { (run odb : ℕ)
-        → (asks_files ending ≡ true → NotesFailed failed run (F.faults run_files.now)
-        × NotesFailed (list_any is_fault replies.now) odb (E.faults odb_files.now))
+        → (asks_files ending ≡ true → NotesFailed failed run (F.told run_files.now).faults
+        × NotesFailed (list_any is_fault replies.now) odb (E.told odb_files.now).faults)
         → (faulted : Option (List ℕ))
-        × (asks_files ending ≡ true → FaultedFile run (F.faults run_files.now)
-        (F.first run_files.now) odb (E.faults odb_files.now) (E.first odb_files.now) faulted)
+        × (asks_files ending ≡ true → FaultedFile run (F.told run_files.now).faults
+        (F.told run_files.now).first odb (E.told odb_files.now).faults (E.told odb_files.now).first faulted)
         × (result ≡ script_end ending faulted refusals.now) }
 {
     match ending {
@@ -124,7 +124,7 @@ fn end_by<F: Files, E: Files>(
 
 /// Why a script ended whose lines came to this.
 pub fn end_of<S, O, E: Files, C, F: Files, K>(lines: &LinesEnd<S, O, E, C, F, K>) -> ScriptEnd
-    ensures { (run odb : ℕ) → HasEnd F.faults F.first E.faults E.first run odb lines.now result }
+    ensures { (run odb : ℕ) → HasEnd F.told E.told run odb lines.now result }
 {
     end_by(
         lines.ending.with_closing(lines.closing),

@@ -3,18 +3,18 @@ ghost use Rattle.daq_members.specs.Members.{member_told};
 ghost use Rattle.session_objects.specs.Members.{generator_makes, generator_takes};
 ghost use Rattle.daq_session.specs.Played.{RecordsKeep};
 
-use caller_laws::laws::sent_by;
 use daq_io::Files;
+use history_laws::callers::sent_by;
 use odb_commands::watch_laws::run_number_stays_watched;
 use odb_lock::{LockedDatabase, WatchedSeen};
 use odb_runinfo::laws::{own_calls_spare, run_number_given, run_number_opens};
 use odb_tree::Database;
 use odb_watch::WatchEntry;
-use session_ends::laws::{
+use session_laws::laws::{members_listed, starts_differ};
+use session_laws::record_laws::{
     counts_end, members_end, names_end, one_answer_end, records_end, refusals_end, rises_end,
     session_ended, starts_end,
 };
-use session_laws::laws::{members_listed, starts_differ};
 use session_objects::SessionRecord;
 use turn_lock::Machine;
 
@@ -22,8 +22,7 @@ use turn_lock::Machine;
 pub fn sessions_hold<D: Database, F: Files>(kept: &SessionRecord<D>)
 where
     LockedDatabase<D>: Machine<State = WatchedSeen, Entry = WatchEntry>,
-    ensures { RecordsKeep (member_told generator_takes generator_makes F.seen F.faults F.clashes
-        F.first) kept.now }
+    ensures { RecordsKeep (member_told generator_takes generator_makes F.told) kept.now }
 {
     run_number_stays_watched();
     run_number_given();

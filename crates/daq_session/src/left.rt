@@ -132,8 +132,7 @@ fn close_objects<D: Database, F: Files>(
     ended: EndedObjects<D>,
 ) -> SessionRecord<D>
     requires back { IsBack shared (LeftBehind.Session ended) }
-    ensures kept { KeepsLeft (member_told generator_takes generator_makes F.seen F.faults F.clashes
-        F.first) shared (LeftBehind.Session ended) (Some result) }
+    ensures kept { KeepsLeft (member_told generator_takes generator_makes F.told) shared (LeftBehind.Session ended) (Some result) }
 {
     let EndedObjects {
         objects,
@@ -152,8 +151,7 @@ pub fn close_left<D: Database, F: Files>(
 ) -> Option<SessionRecord<D>>
     requires some { 0 < passes_of (odb_lock_of shared) }
     requires back { IsBack shared left }
-    ensures kept { KeepsLeft (member_told generator_takes generator_makes F.seen F.faults F.clashes
-        F.first) shared left result }
+    ensures kept { KeepsLeft (member_told generator_takes generator_makes F.told) shared left result }
 {
     match left {
         LeftBehind::Session { ended } => Some(close_objects::<D, F>(shared, ended)),

@@ -166,15 +166,15 @@ fn play_main<
     requires some { 0 < length members }
     requires few { length members ≤ 64 }
     ensures played { MainEnds
-        (side_told D.access E.seen E.faults E.clashes E.first C.tells C.ahead)
+        (side_told D.access E.told C.told)
         main.entry.lists.now main.entry.runs main.entry.side result.0.side
-        (script_point S.left O.written main.entry.script)
-        (script_point S.left O.written result.0.script)
+        (script_point S.told O.told main.entry.script)
+        (script_point S.told O.told result.0.script)
         result.0.ending result.0.closing result.0.records result.0.main }
-    ensures counts { EndCounts result.0.ending result.0.closing (S.faults main.entry.script.src)
-        (S.faults result.0.script.src) (O.faults main.entry.script.out)
-        (O.faults result.0.script.out) }
-    ensures stay { StaysListed (member_told X.takes X.makes F.seen F.faults F.clashes F.first)
+    ensures counts { EndCounts result.0.ending result.0.closing (S.told main.entry.script.src).faults
+        (S.told result.0.script.src).faults (O.told main.entry.script.out).faults
+        (O.told result.0.script.out).faults }
+    ensures stay { StaysListed (member_told X.takes X.makes F.told)
         members.entry result.1 }
 {
     let (end, members, pick) = play_members(rt, room, members, pick, gate, main);
@@ -216,8 +216,7 @@ fn play_opened<
         places.now.objects.now places.now.shared.now passes }
     ensures played { (files : F) → HasNewMembers places.now.lists.now
         places.now.lists.now.channels places.now.objects.now places.now.shared.now files
-        members.entry → PlaysOpened (outside_told S.left S.faults O.written O.faults F.seen
-        F.faults F.clashes F.first E.seen E.faults E.clashes E.first C.tells C.ahead)
+        members.entry → PlaysOpened (outside_told S.told O.told F.told E.told C.told)
         places.now.lists.now places.now.objects.now places.now.shared.now files main.entry.runs
         main.entry.side main.entry.script result }
 {
@@ -300,8 +299,7 @@ pub fn play_objects<
         places.now.objects.now places.now.shared.now passes.others }
     ensures played { (declared : Declared)
         → opened_with_defaults declared ≡ declared_by places.now.lists.now
-        → PlaysObjects (outside_told S.left S.faults O.written O.faults F.seen F.faults F.clashes
-        F.first E.seen E.faults E.clashes E.first C.tells C.ahead)
+        → PlaysObjects (outside_told S.told O.told F.told E.told C.told)
         places.now.lists.now places.now.objects.now places.now.shared.now members.entry.run_files
         places.now.quota declared side.entry script result }
 {

@@ -62,8 +62,7 @@ fn open_and_play<
         ≡ odb_identity shared.now }
     requires callers { passes_of (odb_lock_of shared.now) ≡ database_passes }
     requires others { KeepsFresh (main_caller ∷ []) (odb_lock_of shared.now) passes }
-    ensures played { PlaysSession (outside_told S.left S.faults O.written O.faults F.seen F.faults
-        F.clashes F.first E.seen E.faults E.clashes E.first C.tells C.ahead)
+    ensures played { PlaysSession (outside_told S.told O.told F.told E.told C.told)
         shared.now members.entry.run_files unopened.entry.quota unopened.entry.declarations
         unopened.entry.side script result.0 result.1 }
 {
@@ -137,8 +136,7 @@ fn play_all<
 ) -> (LinesEnd<S, O, E, C, F, K>, LeftBehind<D>)
     requires session { IsNewSession shared.now passes unopened }
     requires unread { IsUnreadScript script.line_loop }
-    ensures played { PlaysAll (outside_told S.left S.faults O.written O.faults F.seen F.faults
-        F.clashes F.first E.seen E.faults E.clashes E.first C.tells C.ahead)
+    ensures played { PlaysAll (outside_told S.told O.told F.told E.told C.told)
         shared.now unopened.entry.side.database.files unopened.entry.side.clock
         members.entry.run_files script result.0 result.1 }
 {
@@ -217,8 +215,7 @@ fn run_session<
         session.database.passes }
     requires nothing { session.declarations ≡ nothing_declared }
     requires unread { IsUnreadScript session.line_loop }
-    ensures ran { RunsScript (outside_told S.left S.faults O.written O.faults F.seen F.faults
-        F.clashes F.first E.seen E.faults E.clashes E.first C.tells C.ahead)
+    ensures ran { RunsScript (outside_told S.told O.told F.told E.told C.told)
         outside result.3 result.0 result.2.replies result.1 }
 {
     let NewSession {
@@ -284,11 +281,9 @@ pub fn run_script<
     FileReplies,
     Outside<S, O, F, E, C, K>,
 )
-    ensures ran { RunsScript (outside_told S.left S.faults O.written O.faults F.seen F.faults
-        F.clashes F.first E.seen E.faults E.clashes E.first C.tells C.ahead)
+    ensures ran { RunsScript (outside_told S.told O.told F.told E.told C.told)
         outside result.3 result.0 result.2.replies result.1 }
-    ensures files { ClosesFramedFiles (outside_told S.left S.faults O.written O.faults F.seen F.faults
-        F.clashes F.first E.seen E.faults E.clashes E.first C.tells C.ahead)
+    ensures files { ClosesFramedFiles (outside_told S.told O.told F.told E.told C.told)
         outside result.3 result.1 }
 {
     let (Ok(line_loop), Ok(declarations), Ok(database)) = (

@@ -9,9 +9,9 @@ use midas_tools::{Unwritten, write_script};
 use std::alloc::Global;
 
 /// Writes the script of a number, and answers why that ended.
-fn write_generated<K: Sink>(alloc: Global, number: u32, out: &mut K) -> Cause
-    ensures { Generates number (K.written out.old) (K.written out.new) (K.faults out.old)
-        (K.faults out.new) result }
+fn write_generated<O: Sink>(alloc: Global, number: u32, out: &mut O) -> Cause
+    ensures { Generates number (O.told out.old).written (O.told out.new).written (O.told out.old).faults
+        (O.told out.new).faults result }
 {
     match write_script(alloc, number, out) {
         Ok(()) => Cause::Done,
@@ -21,14 +21,14 @@ fn write_generated<K: Sink>(alloc: Global, number: u32, out: &mut K) -> Cause
 }
 
 /// Writes the script of a number.
-pub fn generate<S, K: Sink, F, E, C, P>(
+pub fn generate<S, O: Sink, F, E, C, K>(
     alloc: Global,
     number: u32,
-    mut outside: Outside<S, K, F, E, C, P>,
-) -> (Outcome, Outside<S, K, F, E, C, P>)
+    mut outside: Outside<S, O, F, E, C, K>,
+) -> (Outcome, Outside<S, O, F, E, C, K>)
     ensures status { result.0.status ≡ status_of result.0.cause }
-    ensures generates { Generates number (K.written outside.out) (K.written result.1.out)
-        (K.faults outside.out) (K.faults result.1.out) result.0.cause }
+    ensures generates { Generates number (O.told outside.out).written (O.told result.1.out).written
+        (O.told outside.out).faults (O.told result.1.out).faults result.0.cause }
     ensures session { result.0.session ≡ None }
     ensures file_replies { result.0.file_replies.replies ≡ [] }
     ensures source { result.1.src ≡ outside.src }

@@ -64,9 +64,8 @@ struct Called {
 }
 
 /// Calls the program with these words and these objects, and answers what that came to. More of it than the clauses have is
-/// what `midas` says of these words. It cannot be said here: nothing is told of the bytes of the real objects, so that all
-/// that `midas` says of what they held, and of what they have behind the call, holds of any bytes; and no contract can say that
-/// another function was called, so that a body which answers a cause that `midas` might have answered meets each clause too.
+/// what `midas` says of these words and objects, which is not said here yet. No contract can say that another function was
+/// called, so that a body which answers a cause that `midas` might have answered meets each clause too.
 fn call<R: Threads + Wait + Sync>(
     threads: &R,
     alloc: Global,

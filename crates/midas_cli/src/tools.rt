@@ -16,8 +16,8 @@ use std::alloc::Global;
 
 /// The cause of a tool's end.
 fn cause_of<F: Files>(end: ToolEnd, files: &F) -> Cause
-    requires { end ≡ ToolEnd.FileFault → F.faults files.now ≢ 0 }
-    ensures { IsCauseOf end (F.first files.now) result }
+    requires { end ≡ ToolEnd.FileFault → (F.told files.now).faults ≢ 0 }
+    ensures { IsCauseOf end (F.told files.now).first result }
 {
     match end {
         ToolEnd::Done => Cause::Done,
@@ -32,21 +32,21 @@ fn cause_of<F: Files>(end: ToolEnd, files: &F) -> Cause
 }
 
 /// Calls a tool on the files of these names.
-fn call_tool<F: Files, K: Sink>(
+fn call_tool<F: Files, O: Sink>(
     alloc: Global,
     tool: Tool,
     files: F,
     names: &[FileName],
-    out: &mut K,
+    out: &mut O,
 ) -> (ToolEnd, F)
     requires some { 0 < length names.now }
     requires few { length names.now ≤ most_files tool }
-    ensures writes { ToolWrites tool (F.seen files) names.now (call_counts K.faults F.faults
-        F.clashes F.bytes_read out.old out.new files result.1) (K.written out.old)
-        (K.written out.new) result.0 }
-    ensures ends { EndsBy result.0 (F.seen files) names.now (call_counts K.faults F.faults
-        F.clashes F.bytes_read out.old out.new files result.1) }
-    ensures same { Same (F.seen files) (F.seen result.1) }
+    ensures writes { ToolWrites tool (F.told files).seen names.now
+        (call_counts O.told F.told out.old out.new files result.1)
+        (O.told out.old).written (O.told out.new).written result.0 }
+    ensures ends { EndsBy result.0 (F.told files).seen names.now
+        (call_counts O.told F.told out.old out.new files result.1) }
+    ensures same { Same (F.told files).seen (F.told result.1).seen }
 {
     match tool {
         Tool::Check => check_file(alloc, files, names, out),
@@ -56,21 +56,20 @@ fn call_tool<F: Files, K: Sink>(
 }
 
 /// Runs a tool on the files of these names.
-fn run_on<S, K: Sink, F: Files, E, C, P>(
+fn run_on<S, O: Sink, F: Files, E, C, K>(
     alloc: Global,
     tool: Tool,
     names: &[FileName],
-    outside: Outside<S, K, F, E, C, P>,
-) -> (Outcome, Outside<S, K, F, E, C, P>)
+    outside: Outside<S, O, F, E, C, K>,
+) -> (Outcome, Outside<S, O, F, E, C, K>)
     requires some { 0 < length names.now }
     requires few { length names.now ≤ most_files tool }
     ensures status { result.0.status ≡ status_of result.0.cause }
-    ensures ran { ToolRan tool (F.seen outside.run_files) names.now (K.written outside.out)
-        (K.written result.1.out)
-        (call_counts K.faults F.faults F.clashes F.bytes_read outside.out result.1.out
-        outside.run_files result.1.run_files)
-        (F.first result.1.run_files) result.0.cause }
-    ensures same { Same (F.seen outside.run_files) (F.seen result.1.run_files) }
+    ensures ran { ToolRan tool (F.told outside.run_files).seen names.now
+        (O.told outside.out).written (O.told result.1.out).written
+        (call_counts O.told F.told outside.out result.1.out outside.run_files result.1.run_files)
+        (F.told result.1.run_files).first result.0.cause }
+    ensures same { Same (F.told outside.run_files).seen (F.told result.1.run_files).seen }
     ensures session { result.0.session ≡ None }
     ensures file_replies { result.0.file_replies.replies ≡ [] }
     ensures source { result.1.src ≡ outside.src }
@@ -100,22 +99,21 @@ fn run_on<S, K: Sink, F: Files, E, C, P>(
 }
 
 /// Runs a tool on the files that the words behind its own name. Where there is no memory for their names nothing is done.
-pub fn run_tool<S, K: Sink, F: Files, E, C, P>(
+pub fn run_tool<S, O: Sink, F: Files, E, C, K>(
     alloc: Global,
     tool: Tool,
     words: &Words,
-    outside: Outside<S, K, F, E, C, P>,
-) -> (Outcome, Outside<S, K, F, E, C, P>)
+    outside: Outside<S, O, F, E, C, K>,
+) -> (Outcome, Outside<S, O, F, E, C, K>)
     requires { IsToolCall tool words.now }
     ensures status { result.0.status ≡ status_of result.0.cause }
     ensures ran { (called : _) → (names : List (List ℕ)) → IsOnFiles called names words.now
-        → ToolRan called (F.seen outside.run_files) names (K.written outside.out)
-        (K.written result.1.out)
-        (call_counts K.faults F.faults F.clashes F.bytes_read outside.out result.1.out
-        outside.run_files result.1.run_files)
-        (F.first result.1.run_files) result.0.cause
+        → ToolRan called (F.told outside.run_files).seen names
+        (O.told outside.out).written (O.told result.1.out).written
+        (call_counts O.told F.told outside.out result.1.out outside.run_files result.1.run_files)
+        (F.told result.1.run_files).first result.0.cause
         ⊎ ((result.0.cause ≡ Cause.NoMemory) × (result.1 ≡ outside)) }
-    ensures same { Same (F.seen outside.run_files) (F.seen result.1.run_files) }
+    ensures same { Same (F.told outside.run_files).seen (F.told result.1.run_files).seen }
     ensures session { result.0.session ≡ None }
     ensures file_replies { result.0.file_replies.replies ≡ [] }
     ensures source { result.1.src ≡ outside.src }

@@ -32,47 +32,46 @@ use std::thread::Threads;
 pub fn midas<
     R: Threads + Wait + Sync,
     S: Source + Drop,
-    K: Sink + Drop,
+    O: Sink + Drop,
     F: Files + Drop + Send,
     E: Files + Drop,
     C: Clock + Drop,
-    P: Pick + Drop,
+    K: Pick + Drop,
     G: Gate + Sync,
 >(
     rt: &R,
     alloc: Global,
     words: &Words,
-    outside: Outside<S, K, F, E, C, P>,
+    outside: Outside<S, O, F, E, C, K>,
     gate: &G,
-) -> (Outcome, Outside<S, K, F, E, C, P>)
+) -> (Outcome, Outside<S, O, F, E, C, K>)
     ensures status { result.0.status ≡ status_of result.0.cause }
     // The words are refused exactly where they have no form. Then only the usage line is written.
     ensures usage { (result.0.cause ≡ Cause.Usage) ↔ ¬ HasForm words.now }
-    ensures usage_line { ¬ HasForm words.now → ¬ Rose (K.faults outside.out)
-        (K.faults result.1.out) → Appends (K.written outside.out) (K.written result.1.out)
+    ensures usage_line { ¬ HasForm words.now → ¬ Rose (O.told outside.out).faults
+        (O.told result.1.out).faults → Appends (O.told outside.out).written (O.told result.1.out).written
         usage_line }
-    ensures usage_part { ¬ HasForm words.now → AppendsPart (K.written outside.out)
-        (K.written result.1.out) usage_line }
+    ensures usage_part { ¬ HasForm words.now → AppendsPart (O.told outside.out).written
+        (O.told result.1.out).written usage_line }
     ensures usage_files { ¬ HasForm words.now → result.1.run_files ≡ outside.run_files }
     // The words of a tool: what it found under the names behind its own and wrote, and why it ended; or nothing was done where
     // the words or the names found no memory.
     // Every name and byte of the run files stays.
     ensures tool { (tool : Tool) → (names : List (List ℕ)) → IsOnFiles tool names words.now
-        → ToolRan tool (F.seen outside.run_files) names (K.written outside.out)
-        (K.written result.1.out)
-        (call_counts K.faults F.faults F.clashes F.bytes_read outside.out result.1.out
-        outside.run_files result.1.run_files)
-        (F.first result.1.run_files) result.0.cause
+        → ToolRan tool (F.told outside.run_files).seen names
+        (O.told outside.out).written (O.told result.1.out).written
+        (call_counts O.told F.told outside.out result.1.out outside.run_files result.1.run_files)
+        (F.told result.1.run_files).first result.0.cause
         ⊎ ((result.0.cause ≡ Cause.NoMemory) × (result.1 ≡ outside)) }
     // The words `gen N`: the script of N is written.
     ensures generated { (number : ℕ) → IsGenerate number words.now → Generates number
-        (K.written outside.out) (K.written result.1.out) (K.faults outside.out)
-        (K.faults result.1.out) result.0.cause }
+        (O.told outside.out).written (O.told result.1.out).written (O.told outside.out).faults
+        (O.told result.1.out).faults result.0.cause }
     ensures generated_files { (number : ℕ) → IsGenerate number words.now
         → result.1.run_files ≡ outside.run_files }
     // Words that run no session: no script is read, and the outside but for the output stays.
-    ensures files { ¬ IsRunWords words.now → Same (F.seen outside.run_files)
-        (F.seen result.1.run_files) }
+    ensures files { ¬ IsRunWords words.now → Same (F.told outside.run_files).seen
+        (F.told result.1.run_files).seen }
     ensures database_files { ¬ IsRunWords words.now → result.1.odb_files ≡ outside.odb_files }
     ensures source { ¬ IsRunWords words.now → result.1.src ≡ outside.src }
     ensures clock { ¬ IsRunWords words.now → result.1.clock ≡ outside.clock }
@@ -82,13 +81,11 @@ pub fn midas<
     // The run files: those of each channel that ended in a run are framed pieces that join to all events of front-ends in the run for
     // which the channel asks, in each front-end's order.
     ensures run_files { (result.0.session ≡ None) ⊎ ClosesFramedFiles
-        (outside_told S.left S.faults K.written K.faults F.seen F.faults F.clashes F.first E.seen
-        E.faults E.clashes E.first C.tells C.ahead) outside result.1 result.0.session }
+        (outside_told S.told O.told F.told E.told C.told) outside result.1 result.0.session }
     // The words of a session: how the script ended, what it did, and what the record of its session tells of the histories, of
     // the runs and of their files; or nothing was done where the words found no memory.
     ensures ran { IsRunWords words.now → ((end : ScriptEnd) × (result.0.cause ≡ script_cause end)
-        × RunsScript (outside_told S.left S.faults K.written K.faults F.seen F.faults F.clashes
-        F.first E.seen E.faults E.clashes E.first C.tells C.ahead) outside result.1
+        × RunsScript (outside_told S.told O.told F.told E.told C.told) outside result.1
         end result.0.file_replies.replies result.0.session)
         ⊎ ((result.0.cause ≡ Cause.NoMemory) × (result.0.session ≡ None)
         × (result.0.file_replies.replies ≡ []) × (result.1 ≡ outside)) }

@@ -14,26 +14,26 @@ const USAGE: &str =
     "usage: midas run [--cooperative] | check FILE.. | dump FILE | analyze FILE.. | gen N\n";
 
 /// Writes the line that tells which forms the words may have.
-fn write_usage<K: Sink>(out: &mut K)
-    ensures line { ¬ Rose (K.faults out.old) (K.faults out.new)
-        → Appends (K.written out.old) (K.written out.new) usage_line }
-    ensures part { AppendsPart (K.written out.old) (K.written out.new) usage_line }
+fn write_usage<O: Sink>(out: &mut O)
+    ensures line { ¬ Rose (O.told out.old).faults (O.told out.new).faults
+        → Appends (O.told out.old).written (O.told out.new).written usage_line }
+    ensures part { AppendsPart (O.told out.old).written (O.told out.new).written usage_line }
 {
     let _ = write_all(out, USAGE.as_bytes());
 }
 
 /// What becomes of words that have no form.
-pub fn refuse_words<S, K: Sink, F, E, C, P>(
+pub fn refuse_words<S, O: Sink, F, E, C, K>(
     alloc: Global,
-    mut outside: Outside<S, K, F, E, C, P>,
-) -> (Outcome, Outside<S, K, F, E, C, P>)
+    mut outside: Outside<S, O, F, E, C, K>,
+) -> (Outcome, Outside<S, O, F, E, C, K>)
     ensures status { result.0.status ≡ 2 }
     ensures cause { result.0.cause ≡ Cause.Usage }
     ensures session { result.0.session ≡ None }
     ensures file_replies { result.0.file_replies.replies ≡ [] }
-    ensures line { ¬ Rose (K.faults outside.out) (K.faults result.1.out)
-        → Appends (K.written outside.out) (K.written result.1.out) usage_line }
-    ensures part { AppendsPart (K.written outside.out) (K.written result.1.out) usage_line }
+    ensures line { ¬ Rose (O.told outside.out).faults (O.told result.1.out).faults
+        → Appends (O.told outside.out).written (O.told result.1.out).written usage_line }
+    ensures part { AppendsPart (O.told outside.out).written (O.told result.1.out).written usage_line }
     ensures source { result.1.src ≡ outside.src }
     ensures files { result.1.run_files ≡ outside.run_files }
     ensures database_files { result.1.odb_files ≡ outside.odb_files }

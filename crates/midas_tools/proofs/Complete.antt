@@ -122,7 +122,7 @@ dump_whole bytes text d = subst IsOneRun (sym d.lists.bytes_are) (ends_whole d.l
 -- What is found of the one file
 
 module _ (seen : Seen) (name : List ℕ) where
-  sound_one : (text : List ℕ) → IsTrue seen.tells → is_compressed name ≡ false → IsThere seen name (λ bytes. IsDump bytes None text) → AreSoundTogether seen (name ∷ [])
+  sound_one : (text : List ℕ) → IsTrue seen.names → is_compressed name ≡ false → IsThere seen name (λ bytes. IsDump bytes None text) → AreSoundTogether seen (name ∷ [])
   sound_one text tells plain there =
       let one : IsOneRun there.file.bytes = dump_whole there.file.bytes text there.fact in
       record {

@@ -122,13 +122,13 @@ module _ (seen : Seen) (name : List ℕ) (read_old read_new : ℕ) (told_old tol
     }
 
     -- what was read is so much of the file, and all that lies whole in it was written
-    read_lists : (after : Seen) (d : PrintsRead (told_left opened number) (told_left after number) told_old told_new) → ReadsFirst opened after number read_old read_new → IsTrue seen.tells
+    read_lists : (after : Seen) (d : PrintsRead (told_left opened number) (told_left after number) told_old told_new) → ReadsFirst opened after number read_old read_new → IsTrue seen.names
         → ListsRead seen name read_old read_new (d.text ++ end_lines d.progress.last)
     read_lists after d r told =
-        let tells : opened.tells ≡ true = o.opens.files.tells ∙ told in
+        let tells : opened.names ≡ true = o.opens.files.names ∙ told in
         let text : List ℕ = d.text ++ end_lines d.progress.last in
-        let f = front_if (opened.left number) opened.tells (told_left after number) told_old told_new tells d in
-        let g = given_front (opened.left number) r.bytes (after.left number) f.0 after.tells r.were_left f.1 in
+        let f = front_if (opened.left number) opened.names (told_left after number) told_old told_new tells d in
+        let g = given_front (opened.left number) r.bytes (after.left number) f.0 after.names r.were_left f.1 in
         record {
           count = length f.0;
           counted = subst (λ (n : ℕ). RoseJustBy n read_old read_new) (sym g.0) r.counted;
@@ -137,9 +137,9 @@ module _ (seen : Seen) (name : List ℕ) (read_old read_new : ℕ) (told_old tol
               (subst (λ (l : List ℕ). ListsWhole l (d.text ++ end_lines d.progress.last)) (sym g.1) f.2)) told;
         }
 
-    read_written : (after : Seen) → PrintsRead (told_left opened number) (told_left after number) told_old told_new → (IsTrue opened.tells → ReadsFirst opened after number read_old read_new)
+    read_written : (after : Seen) → PrintsRead (told_left opened number) (told_left after number) told_old told_new → (IsTrue opened.names → ReadsFirst opened after number read_old read_new)
         → WritesRead seen name read_old read_new told_old told_new
-    read_written after d front = record { text = d.text ++ end_lines d.progress.last; lists = λ told. read_lists after d (front (o.opens.files.tells ∙ told)) told; written = d.written }
+    read_written after d front = record { text = d.text ++ end_lines d.progress.last; lists = λ told. read_lists after d (front (o.opens.files.names ∙ told)) told; written = d.written }
 
     finds_of : (fault : Option MidFault) (text : List ℕ) → fault ≢ Some ReadFault → IfSome (told_left opened number) (λ bytes. IsDump bytes fault text) → (found : ToolEnd) × Finds IsDump seen name text found
     finds_of None text ne d = (Done, (o.plain, λ told. there seen opened name number (λ bytes. IsDump bytes None text) o d told))
@@ -155,7 +155,7 @@ module _ (seen : Seen) (name : List ℕ) (read_old read_new : ℕ) (told_old tol
     closed_all files_old files_new end result text finds written all (inl well) = subst (λ (e : ToolEnd). Writes e) (sym well.0) (all (record { text = text; finds = finds; written = written }))
     closed_all files_old files_new end result text finds written all (inr failed) = subst (λ (e : ToolEnd). Writes e) (sym failed.0) (o.plain, inr (end, record { text = text; finds = finds; written = written }))
 
-    dump_closed : (after : Seen) (files_old files_new : ℕ) (end result : ToolEnd) → DumpsTo (told_left opened number) (told_left after number) told_old told_new end → (IsTrue opened.tells → ReadsFirst opened after number read_old read_new)
+    dump_closed : (after : Seen) (files_old files_new : ℕ) (end result : ToolEnd) → DumpsTo (told_left opened number) (told_left after number) told_old told_new end → (IsTrue opened.names → ReadsFirst opened after number read_old read_new)
         → ClosedAs end files_old files_new result → WritesOn seen name read_old read_new told_old told_new result
     dump_closed after files_old files_new Done result d front c =
         closed_all files_old files_new Done result d.0 (o.plain, λ told. there seen opened name number (λ bytes. IsDump bytes None d.0) o d.1 told) d.2 (λ all. all) c
@@ -172,12 +172,12 @@ module _ (seen : Seen) (name : List ℕ) (read_old read_new : ℕ) (told_old tol
 
     -- the source that was read is the one that was opened
     pub dump_read : (after : Seen) (now_read : Origin) (files_old files_new : ℕ) (end result : ToolEnd) → Some now_read ≡ Some (record { files = opened; bytes_read = read_old; number = number })
-        → DumpsTo (told_left opened number) (told_left after now_read.number) told_old told_new end → (IsTrue now_read.files.tells → ReadsFirst now_read.files after now_read.number now_read.bytes_read read_new)
+        → DumpsTo (told_left opened number) (told_left after now_read.number) told_old told_new end → (IsTrue now_read.files.names → ReadsFirst now_read.files after now_read.number now_read.bytes_read read_new)
         → ClosedAs end files_old files_new result → WritesOn seen name read_old read_new told_old told_new result
     dump_read after now_read files_old files_new end result is d front c =
         let same : now_read ≡ record { files = opened; bytes_read = read_old; number = number } = same_origin now_read (record { files = opened; bytes_read = read_old; number = number }) is in
         dump_closed after files_old files_new end result (subst (λ (x : Origin). DumpsTo (told_left opened number) (told_left after x.number) told_old told_new end) same d)
-        (subst (λ (x : Origin). IsTrue x.files.tells → ReadsFirst x.files after x.number x.bytes_read read_new) same front) c
+        (subst (λ (x : Origin). IsTrue x.files.names → ReadsFirst x.files after x.number x.bytes_read read_new) same front) c
 
 -- Where memory is wanting the file was not opened: a call that opened it, or was refused it, ends otherwise.
 

@@ -157,7 +157,7 @@ module _ (Old New : List Event → Type 0) (seen : Seen) (names : List (List ℕ
             };
       }
 
-  abbrev holds_by : IsTrue seen.tells → (run : ℕ) → IfSome old.run (λ other. run ≡ other) → HaveOneRun seen names
+  abbrev holds_by : IsTrue seen.names → (run : ℕ) → IfSome old.run (λ other. run ≡ other) → HaveOneRun seen names
   holds_by tells run same =
       let a : AreGathered seen names g.run g.gathered.events old.bytes = g.told tells in
       record {
@@ -171,12 +171,12 @@ module _ (Old New : List Event → Type 0) (seen : Seen) (names : List (List ℕ
         };
       }
 
-  abbrev pub holds_run : IsTrue seen.tells → HaveOneRun seen names
+  abbrev pub holds_run : IsTrue seen.names → HaveOneRun seen names
   holds_run tells =
       let a : AreGathered seen names g.run g.gathered.events old.bytes = g.told tells in
       record { files = a.files; have = a.have; run = g.run; events = g.gathered.events; are = record { pieces = a.pieces; counted = omega (arith, a.size_is, g.gathered.within) } }
 
-  fault_by : (name : List ℕ) (fault : InputFault) → IsTrue seen.tells → IsThere seen name (λ bytes. IsWrongBehind old bytes fault) → HoldsFault seen names name fault
+  fault_by : (name : List ℕ) (fault : InputFault) → IsTrue seen.names → IsThere seen name (λ bytes. IsWrongBehind old bytes fault) → HoldsFault seen names name fault
   fault_by name fault tells found = record {
     holds = holds_by tells found.fact.0 found.fact.1;
     there = record {
@@ -195,8 +195,8 @@ module _ (Old New : List Event → Type 0) (seen : Seen) (names : List (List ℕ
 
 -- the files as they were stand for the files that have not changed since
 module _ (old new : Seen) (k : KeepsFiles old new) where
-  tells_too : IsTrue old.tells → IsTrue new.tells
-  tells_too tells = k.tells ∙ tells
+  tells_too : IsTrue old.names → IsTrue new.names
+  tells_too tells = k.names ∙ tells
 
   there_too : (name : List ℕ) (Fact : List ℕ → Type 0) → IsThere new name Fact → IsThere old name Fact
   there_too name Fact t = record { file = t.file; at_is = sym (k.at name) ∙ t.at_is; fact = t.fact }
@@ -244,7 +244,7 @@ first_have seen name names [] h = absurd h
 first_have seen name names (bytes ∷ files) h = there_some seen name bytes h.0
 
 first_there : (Taken : List Event → Type 0) (seen : Seen) (names : List (List ℕ)) (at : ℕ) (extent : Extent) → at < length names → GathersAll Taken seen (take at names) extent
-    → is_compressed (get_or names at []) ≡ false → (IsTrue seen.tells → IsSome (seen.at (get_or names at []))) → OfFirst names (λ name. (is_compressed name ≡ false) × (IsTrue seen.tells → IsSome (seen.at name)))
+    → is_compressed (get_or names at []) ≡ false → (IsTrue seen.names → IsSome (seen.at (get_or names at []))) → OfFirst names (λ name. (is_compressed name ≡ false) × (IsTrue seen.names → IsSome (seen.at name)))
 first_there Taken seen [] at extent inside g plain some = absurd (omega (arith, inside))
 first_there Taken seen (name ∷ names) zero extent inside g plain some = (plain, some)
 first_there Taken seen (name ∷ names) (suc at) extent inside g plain some =
@@ -266,7 +266,7 @@ goes_on Old New seen names at old new end is inside g r =
     (gathered_more Old New seen (take at names) old new g (get_or names at []) (subst (λ (e : ToolEnd). ReadsName New g.gathered.events old new seen (get_or names at []) e) is r))
 
 pub first_all : (Taken : List Event → Type 0) (seen : Seen) (names : List (List ℕ)) (extent : Extent) → 0 < length names → GathersAll Taken seen names extent
-    → OfFirst names (λ name. (is_compressed name ≡ false) × (IsTrue seen.tells → IsSome (seen.at name)))
+    → OfFirst names (λ name. (is_compressed name ≡ false) × (IsTrue seen.names → IsSome (seen.at name)))
 first_all Taken seen [] extent some g = absurd (omega (arith, some))
 first_all Taken seen (name ∷ names) extent some g = (g.plain 0 name (omega arith), λ tells. first_have seen name names (g.told tells).files (g.told tells).have)
 

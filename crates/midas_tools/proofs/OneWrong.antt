@@ -59,7 +59,7 @@ module _ (seen : Seen) (before : List (List ℕ)) (name : List ℕ) where
       let gone : IsNone (Some w.there.file) = subst (λ (o : Option Stored). IsNone o) w.there.at_is none in
       let clash : true ≡ false = gone in absurd cc
 
-  pub wrong_one : (f g : InputFault) → IsTrue seen.tells → IsWrong seen before name f → IsWrong seen before name g → f ≡ g
+  pub wrong_one : (f g : InputFault) → IsTrue seen.names → IsWrong seen before name f → IsWrong seen before name g → f ≡ g
   wrong_one (Mid f) (Mid g) tells v w = ap Mid (own_one f g (v.2 tells) (w.2 tells))
   wrong_one (Mid f) Compressed tells v w = absurd (not_both v.0 w.0)
   wrong_one (Mid f) Missing tells v w = absurd (not_there (Mid f) (w.1 tells).1 (v.2 tells))
@@ -84,7 +84,7 @@ module _ (seen : Seen) (before : List (List ℕ)) (name : List ℕ) where
       ap (λ (n : ℕ). OtherRun n run) (v.2 ∙ sym w.2) ∙ ap (λ (n : ℕ). OtherRun file' n) (other_one file run file' run' (v.3 tells) (w.3 tells))
 
   -- those before it are the pieces of one run
-  wrong_behind : (fault : InputFault) → IsTrue seen.tells → IsWrong seen before name fault → HaveOneRun seen before
+  wrong_behind : (fault : InputFault) → IsTrue seen.names → IsWrong seen before name fault → HaveOneRun seen before
   wrong_behind (Mid f) tells w = (w.2 tells).holds
   wrong_behind Compressed tells w = w.1 tells
   wrong_behind Missing tells w = (w.1 tells).0
@@ -114,7 +114,7 @@ in_order (x ∷ b) n r (y ∷ b') n' r' e =
     longer same (inr (inl first)) = inr (inl (first.0, ap (λ (z : List ℕ). z ∷ b') (sym same) ∙ ap (λ (zs : List (List ℕ)). x ∷ zs) first.1))
     longer same (inr (inr second)) = inr (inr (second.0, ap (λ (z : List ℕ). z ∷ b) same ∙ ap (λ (zs : List (List ℕ)). y ∷ zs) second.1))
 
-module _ (seen : Seen) (names : List (List ℕ)) (tells : IsTrue seen.tells) where
+module _ (seen : Seen) (names : List (List ℕ)) (tells : IsTrue seen.names) where
   -- nothing is wrong in front of what is first wrong
   none_before : (f g : InputFault) (t u : List ℕ) (v : FindsWrong seen names f t) (w : FindsWrong seen names g u) → IsPlaceOf w.before v.before v.name → ⊥
   none_before f g t u v w place =

@@ -30,14 +30,14 @@ module _ (Text : ℕ → List Event → ℕ → List ℕ) (seen : Seen) (names :
   printed text end result finds all (inr part) = subst (λ (e : ToolEnd). Writes e) (sym part.0) (record { found = end; text = text; finds = finds; written = part.1 })
 
   module _ (Taken : List Event → Type 0) (extent : Extent) where
-    tells_run : (g : GathersAll Taken seen names extent) (text : List ℕ) → 0 < length names → ((events : List Event) → Taken events → text ≡ Text (unwrap_or extent.run 0) events extent.bytes) → IsTrue seen.tells → TellsRun Text seen names text
+    tells_run : (g : GathersAll Taken seen names extent) (text : List ℕ) → 0 < length names → ((events : List Event) → Taken events → text ≡ Text (unwrap_or extent.run 0) events extent.bytes) → IsTrue seen.names → TellsRun Text seen names text
     tells_run g text some shows tells = record {
       holds = holds_run Taken Taken seen names extent extent g tells;
       text_is = shows g.gathered.events g.gathered.taken ∙ ap (λ (run : Option ℕ). Text (unwrap_or run 0) g.gathered.events extent.bytes) (g.run_is some)
           ∙ ap (λ (size : ℕ). Text g.run g.gathered.events size) (g.told tells).size_is;
     }
 
-    all_there : GathersAll Taken seen names extent → 0 < length names → OfFirst names (λ name. (is_compressed name ≡ false) × (IsTrue seen.tells → IsSome (seen.at name)))
+    all_there : GathersAll Taken seen names extent → 0 < length names → OfFirst names (λ name. (is_compressed name ≡ false) × (IsTrue seen.names → IsSome (seen.at name)))
     all_there g some = first_all Taken seen names extent some g
 
     pub writes_all : GathersAll Taken seen names extent → 0 < length names → (result : ToolEnd) → TellsEnd Text Taken extent told_old told_new sink_old sink_new result → WritesTogether Text seen names told_old told_new result
@@ -126,7 +126,7 @@ files_cut old new end fault by is = let same : new ≡ old = subst (λ (e : Tool
 
 -- what was found, by the end that this leads to where no call failed and there was memory
 abbrev pub FoundAs : Seen → (names : List (List ℕ)) → ToolEnd → Type 0
-FoundAs seen names Done = IsTrue seen.tells → AreSoundTogether seen names
+FoundAs seen names Done = IsTrue seen.names → AreSoundTogether seen names
 FoundAs seen names (Input fault) = (text : List ℕ) × FindsWrong seen names fault text
 FoundAs seen names FileFault = ⊤
 FoundAs seen names SinkFault = ⊤

@@ -99,13 +99,13 @@ pub record ListsRead (seen : Seen) (name : List ℕ) (read_old read_new : ℕ) (
 -- The lines of some records and events of the file were written, or a part of them.
 pub record WritesSome (seen : Seen) (name : List ℕ) (told_old told_new : Option (List ℕ)) : Type 0 where
   pub text : List ℕ
-  pub lists : IsTrue seen.tells → IsThere seen name (λ bytes. IsPart bytes text)
+  pub lists : IsTrue seen.names → IsThere seen name (λ bytes. IsPart bytes text)
   pub written : AppendsPart told_old told_new text
 
 -- The lines of all that was read of the file were written.
 pub record WritesRead (seen : Seen) (name : List ℕ) (read_old read_new : ℕ) (told_old told_new : Option (List ℕ)) : Type 0 where
   pub text : List ℕ
-  pub lists : IsTrue seen.tells → ListsRead seen name read_old read_new text
+  pub lists : IsTrue seen.names → ListsRead seen name read_old read_new text
   pub written : Appends told_old told_new text
 
 -- All of the text of what was found was written.

@@ -3,6 +3,7 @@ use Rattle.std.specs.Prelude.{◌≡◌, ◌≢◌, ◌≤◌, ℕ, false, List,
 use Rattle.std.specs.Io.KnownBytes.{Appends, Keeps}
 use Rattle.daq_types.specs.Names.{is_compressed}
 use Rattle.daq_io.specs.Counts.{Rose, RoseBy}
+use Rattle.daq_io.specs.Told.{FilesTold, SinkTold}
 use Rattle.daq_io.specs.Seen.{Stored, Seen, Opens}
 use Rattle.daq_io.specs.Streams.{AppendsPart}
 use Rattle.mid_format.specs.declared.faults.MidFault.{MidFault}
@@ -28,10 +29,10 @@ ComesTo Fact wanted sink_old sink_new files_old files_new end =
 -- What a tool finds that reads one file, and its text: `Says bytes fault text` says that the tool prints this text of a file of
 -- these bytes, which is a run file, or has this fault first. A compressed name is not looked for, and a missing one is not opened.
 abbrev pub Finds : (Says : List ℕ → Option MidFault → List ℕ → Type 0) (seen : Seen) (name text : List ℕ) → ToolEnd → Type 0
-Finds Says seen name text Done = (is_compressed name ≡ false) × (IsTrue seen.tells → IsThere seen name (λ bytes. Says bytes None text))
-Finds Says seen name text (Input (Mid fault)) = (is_compressed name ≡ false) × (fault ≢ ReadFault) × (IsTrue seen.tells → IsThere seen name (λ bytes. Says bytes (Some fault) text))
+Finds Says seen name text Done = (is_compressed name ≡ false) × (IsTrue seen.names → IsThere seen name (λ bytes. Says bytes None text))
+Finds Says seen name text (Input (Mid fault)) = (is_compressed name ≡ false) × (fault ≢ ReadFault) × (IsTrue seen.names → IsThere seen name (λ bytes. Says bytes (Some fault) text))
 Finds Says seen name text (Input Compressed) = IsTrue (is_compressed name) × (text ≡ bad_line Compressed)
-Finds Says seen name text (Input Missing) = (is_compressed name ≡ false) × (text ≡ bad_line Missing) × (IsTrue seen.tells → IsNone (seen.at name))
+Finds Says seen name text (Input Missing) = (is_compressed name ≡ false) × (text ≡ bad_line Missing) × (IsTrue seen.names → IsNone (seen.at name))
 Finds Says seen name text (Input ScriptTooLong) = ⊥
 Finds Says seen name text (Input (OtherRun file run)) = ⊥
 Finds Says seen name text FileFault = ⊥
@@ -92,16 +93,17 @@ pub record CallCounts : Type 0 where
   pub read_new : ℕ
 
 -- the same, of what a sink and files count
-abbrev pub call_counts : {K F : Type 0} → (sink_faults : K → ℕ) → (faults clashes bytes_read : F → ℕ) → (out_old out_new : K) → (files_old files_new : F) → CallCounts
-call_counts sink_faults faults clashes bytes_read out_old out_new files_old files_new = record {
-  sink_old = sink_faults out_old;
-  sink_new = sink_faults out_new;
-  files_old = faults files_old;
-  files_new = faults files_new;
-  clashes_old = clashes files_old;
-  clashes_new = clashes files_new;
-  read_old = bytes_read files_old;
-  read_new = bytes_read files_new;
+abbrev pub call_counts : {O F : Type 0} → (sink : O → SinkTold) → (files : F → FilesTold) → (out_old out_new : O) →
+    (files_old files_new : F) → CallCounts
+call_counts sink files out_old out_new files_old files_new = record {
+  sink_old = (sink out_old).faults;
+  sink_new = (sink out_new).faults;
+  files_old = (files files_old).faults;
+  files_new = (files files_new).faults;
+  clashes_old = (files files_old).clashes;
+  clashes_new = (files files_new).clashes;
+  read_old = (files files_old).bytes_read;
+  read_new = (files files_new).bytes_read;
 }
 
 -- the source's count of faults by that end
@@ -121,8 +123,8 @@ pub record IsFileOpened (old now : Seen) (name : List ℕ) (number : ℕ) : Type
 abbrev pub RefusesFile : Seen → (name : List ℕ) (faults_old faults_new clashes_old clashes_new : ℕ) → Refused → Type 0
 RefusesFile seen name faults_old faults_new clashes_old clashes_new NameCompressed = IsTrue (is_compressed name) × (faults_new ≡ faults_old)
 RefusesFile seen name faults_old faults_new clashes_old clashes_new NameMissing =
-    (is_compressed name ≡ false) × (IsTrue seen.tells → IsNone (seen.at name)) × (faults_new ≡ faults_old) × Rose clashes_old clashes_new
-RefusesFile seen name faults_old faults_new clashes_old clashes_new OpenFailed = (is_compressed name ≡ false) × Rose faults_old faults_new × (IsTrue seen.tells → IsSome (seen.at name))
+    (is_compressed name ≡ false) × (IsTrue seen.names → IsNone (seen.at name)) × (faults_new ≡ faults_old) × Rose clashes_old clashes_new
+RefusesFile seen name faults_old faults_new clashes_old clashes_new OpenFailed = (is_compressed name ≡ false) × Rose faults_old faults_new × (IsTrue seen.names → IsSome (seen.at name))
 
 -- A text was printed whole, and this is the end; or the sink failed at a part of it.
 abbrev pub Printed : (text : List ℕ) (told_old told_new : Option (List ℕ)) (sink_old sink_new : ℕ) (end result : ToolEnd) → Type 0

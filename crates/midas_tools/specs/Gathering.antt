@@ -66,19 +66,19 @@ ReadsPiece HasTaken before old new Told NoMemory = ⊤
 
 -- what is true of the bytes of this name's file, where they are told
 abbrev pub OfName : Seen → (name : List ℕ) → (List ℕ → Type 0) → Type 0
-OfName seen name Fact = IsTrue seen.tells → IsThere seen name Fact
+OfName seen name Fact = IsTrue seen.names → IsThere seen name Fact
 
 -- The same of a file by its name.
 abbrev pub ReadsName : (HasTaken : List Event → Type 0) (before : List Event) (old new : Extent) (seen : Seen) (name : List ℕ) → ToolEnd → Type 0
 ReadsName HasTaken before old new seen name Done = (is_compressed name ≡ false) × TakesPiece HasTaken before old new (OfName seen name)
 ReadsName HasTaken before old new seen name (Input (Mid fault)) = (is_compressed name ≡ false) × (fault ≢ ReadFault) × OfName seen name (λ bytes. IsWrongBehind old bytes (Mid fault))
 ReadsName HasTaken before old new seen name (Input Compressed) = IsTrue (is_compressed name)
-ReadsName HasTaken before old new seen name (Input Missing) = (is_compressed name ≡ false) × (IsTrue seen.tells → IsNone (seen.at name))
+ReadsName HasTaken before old new seen name (Input Missing) = (is_compressed name ≡ false) × (IsTrue seen.names → IsNone (seen.at name))
 ReadsName HasTaken before old new seen name (Input ScriptTooLong) = ⊥
 ReadsName HasTaken before old new seen name (Input (OtherRun file run)) = (is_compressed name ≡ false) × (0 < old.files) × (file ≡ old.files) × OfName seen name (λ bytes. IsWrongBehind old bytes (OtherRun file run))
 ReadsName HasTaken before old new seen name FileFault = is_compressed name ≡ false
 ReadsName HasTaken before old new seen name SinkFault = ⊥
-ReadsName HasTaken before old new seen name NoMemory = (is_compressed name ≡ false) × (IsTrue seen.tells → IsSome (seen.at name))
+ReadsName HasTaken before old new seen name NoMemory = (is_compressed name ≡ false) × (IsTrue seen.names → IsSome (seen.at name))
 
 -- The files of some names are whole and of one run, with these events and so many bytes together.
 pub record AreGathered (seen : Seen) (names : List (List ℕ)) (run : ℕ) (events : List Event) (size : ℕ) : Type 0 where
@@ -94,7 +94,7 @@ pub record GathersAll (HasTaken : List Event → Type 0) (seen : Seen) (names : 
   pub count : extent.files ≡ length names
   pub run : ℕ
   pub run_is : 0 < length names → extent.run ≡ Some run
-  pub told : IsTrue seen.tells → AreGathered seen names run gathered.events extent.bytes
+  pub told : IsTrue seen.names → AreGathered seen names run gathered.events extent.bytes
 
 -- One of these names, at this place, has a file that is wrong, and those before it are the pieces of one run.
 pub record StopsWrong (seen : Seen) (names : List (List ℕ)) (at : ℕ) (fault : InputFault) : Type 0 where
@@ -108,7 +108,7 @@ GathersTo HasTaken seen names extent at Done = GathersAll HasTaken seen names ex
 GathersTo HasTaken seen names extent at (Input fault) = StopsWrong seen names at fault
 GathersTo HasTaken seen names extent at FileFault = OfFirst names (λ name. is_compressed name ≡ false)
 GathersTo HasTaken seen names extent at SinkFault = ⊥
-GathersTo HasTaken seen names extent at NoMemory = OfFirst names (λ name. (is_compressed name ≡ false) × (IsTrue seen.tells → IsSome (seen.at name)))
+GathersTo HasTaken seen names extent at NoMemory = OfFirst names (λ name. (is_compressed name ≡ false) × (IsTrue seen.names → IsSome (seen.at name)))
 
 -- the end where a file was not opened
 abbrev pub EndsRefused : Refused → ToolEnd → Type 0
@@ -152,9 +152,9 @@ abbrev pub LooksFor : Seen → (name : List ℕ) → ToolEnd → Type 0
 LooksFor seen name Done = ⊥
 LooksFor seen name (Input (Mid fault)) = ⊥
 LooksFor seen name (Input Compressed) = IsTrue (is_compressed name)
-LooksFor seen name (Input Missing) = (is_compressed name ≡ false) × (IsTrue seen.tells → IsNone (seen.at name))
+LooksFor seen name (Input Missing) = (is_compressed name ≡ false) × (IsTrue seen.names → IsNone (seen.at name))
 LooksFor seen name (Input ScriptTooLong) = ⊥
 LooksFor seen name (Input (OtherRun file run)) = ⊥
 LooksFor seen name FileFault = is_compressed name ≡ false
 LooksFor seen name SinkFault = ⊥
-LooksFor seen name NoMemory = (is_compressed name ≡ false) × (IsTrue seen.tells → IsSome (seen.at name))
+LooksFor seen name NoMemory = (is_compressed name ≡ false) × (IsTrue seen.names → IsSome (seen.at name))

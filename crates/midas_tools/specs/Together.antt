@@ -45,11 +45,11 @@ pub record HoldsFault (seen : Seen) (before : List (List ℕ)) (name : List ℕ)
 -- What is wrong with the file of this name, of which those before are the pieces of one run: its own bytes, its name, that
 -- there is none, or that it is of another run than they.
 abbrev pub IsWrong : Seen → (before : List (List ℕ)) (name : List ℕ) → InputFault → Type 0
-IsWrong seen before name (Mid fault) = (is_compressed name ≡ false) × (fault ≢ ReadFault) × (IsTrue seen.tells → HoldsFault seen before name (Mid fault))
-IsWrong seen before name Compressed = IsTrue (is_compressed name) × (IsTrue seen.tells → HaveOneRun seen before)
-IsWrong seen before name Missing = (is_compressed name ≡ false) × (IsTrue seen.tells → HaveOneRun seen before × IsNone (seen.at name))
+IsWrong seen before name (Mid fault) = (is_compressed name ≡ false) × (fault ≢ ReadFault) × (IsTrue seen.names → HoldsFault seen before name (Mid fault))
+IsWrong seen before name Compressed = IsTrue (is_compressed name) × (IsTrue seen.names → HaveOneRun seen before)
+IsWrong seen before name Missing = (is_compressed name ≡ false) × (IsTrue seen.names → HaveOneRun seen before × IsNone (seen.at name))
 IsWrong seen before name ScriptTooLong = ⊥
-IsWrong seen before name (OtherRun file run) = (is_compressed name ≡ false) × (0 < length before) × (file ≡ length before) × (IsTrue seen.tells → HoldsFault seen before name (OtherRun file run))
+IsWrong seen before name (OtherRun file run) = (is_compressed name ≡ false) × (0 < length before) × (file ≡ length before) × (IsTrue seen.names → HoldsFault seen before name (OtherRun file run))
 
 -- The first of these names whose file is wrong is this one, and the text says what is wrong and, of several, with which.
 pub record FindsWrong (seen : Seen) (names : List (List ℕ)) (fault : InputFault) (text : List ℕ) : Type 0 where
@@ -63,13 +63,13 @@ pub record FindsWrong (seen : Seen) (names : List (List ℕ)) (fault : InputFaul
 
 -- This is what is wrong with the first of these names whose file is wrong, of files that are told.
 pub record IsFirstWrong (seen : Seen) (names : List (List ℕ)) (fault : InputFault) : Type 0 where
-  pub tells : IsTrue seen.tells
+  pub tells : IsTrue seen.names
   pub text : List ℕ
   pub wrong : FindsWrong seen names fault text
 
 -- what a tool finds under these names, and its text
 abbrev pub FindsTogether : (Text : (run : ℕ) (events : List Event) (size : ℕ) → List ℕ) (seen : Seen) (names : List (List ℕ)) (text : List ℕ) → ToolEnd → Type 0
-FindsTogether Text seen names text Done = ArePlain names × (IsTrue seen.tells → TellsRun Text seen names text)
+FindsTogether Text seen names text Done = ArePlain names × (IsTrue seen.names → TellsRun Text seen names text)
 FindsTogether Text seen names text (Input fault) = FindsWrong seen names fault text
 FindsTogether Text seen names text FileFault = ⊥
 FindsTogether Text seen names text SinkFault = ⊥
@@ -88,12 +88,12 @@ WritesTogether Text seen names told_old told_new (Input fault) = WritesAll (Find
 WritesTogether Text seen names told_old told_new FileFault = OfFirst names (λ name. is_compressed name ≡ false) × Keeps told_old told_new
 WritesTogether Text seen names told_old told_new SinkFault = WritesPart (FindsTogether Text seen names) told_old told_new
 WritesTogether Text seen names told_old told_new NoMemory =
-    OfFirst names (λ name. (is_compressed name ≡ false) × (IsTrue seen.tells → IsSome (seen.at name))) × Keeps told_old told_new
+    OfFirst names (λ name. (is_compressed name ≡ false) × (IsTrue seen.names → IsSome (seen.at name))) × Keeps told_old told_new
 
 -- The files of these names are there and are the pieces of one run, and no name is compressed.
 pub record AreSoundTogether (seen : Seen) (names : List (List ℕ)) : Type 0 where
   pub plain : ArePlain names
-  pub tells : IsTrue seen.tells
+  pub tells : IsTrue seen.names
   pub holds : HaveOneRun seen names
 
 -- The end of a tool that reads the files of these names comes by its cause: a fault of the sink or of the files exactly where its

@@ -44,22 +44,22 @@ impl Summary for EventCount {
 /// Reads the files of these names in order and prints whether they are those of one run: its number, their events and their
 /// bytes together, or what is wrong with the first that is not, and, of several, its name. Hands the files back, in which every
 /// name and every byte is as it was.
-pub fn check_file<F: Files, K: Sink>(
+pub fn check_file<F: Files, O: Sink>(
     alloc: Global,
     files: F,
     names: &[FileName],
-    out: &mut K,
+    out: &mut O,
 ) -> (ToolEnd, F)
     requires some { 0 < length names.now }
     requires few { length names.now ≤ 10000 }
     // What was found, and what was written of it.
-    ensures writes { WritesTogether check_text (F.seen files) names.now (K.written out.old)
-        (K.written out.new) result.0 }
+    ensures writes { WritesTogether check_text (F.told files).seen names.now (O.told out.old).written
+        (O.told out.new).written result.0 }
     // A fault of the sink or of the files is the end exactly where its count rose and no earlier cause holds. Unless a call
     // failed or there was no memory, the files of one run lead to the end `Done`, and others to what is first wrong.
-    ensures ends { EndsBy result.0 (F.seen files) names.now (call_counts K.faults F.faults
-        F.clashes F.bytes_read out.old out.new files result.1) }
-    ensures same { Same (F.seen files) (F.seen result.1) }
+    ensures ends { EndsBy result.0 (F.told files).seen names.now
+        (call_counts O.told F.told out.old out.new files result.1) }
+    ensures same { Same (F.told files).seen (F.told result.1).seen }
 {
     tell_files::<_, _, EventCount>(alloc, files, names, out)
 }

@@ -8,9 +8,9 @@ use crate::opening::{Refused, close};
 use daq_io::{FileSource, Files, Sink, write_all};
 
 /// Writes a text, and answers the end that it tells of, or that the sink failed.
-pub fn print<K: Sink>(end: ToolEnd, text: &[u8], out: &mut K) -> ToolEnd
-    ensures { Printed text.now (K.written out.old) (K.written out.new) (K.faults out.old)
-        (K.faults out.new) end result }
+pub fn print<O: Sink>(end: ToolEnd, text: &[u8], out: &mut O) -> ToolEnd
+    ensures { Printed text.now (O.told out.old).written (O.told out.new).written (O.told out.old).faults
+        (O.told out.new).faults end result }
 {
     match write_all(out, text) {
         Ok(()) => end,
@@ -19,9 +19,9 @@ pub fn print<K: Sink>(end: ToolEnd, text: &[u8], out: &mut K) -> ToolEnd
 }
 
 /// Writes why a file was not opened, unless a call on the files failed.
-pub fn refuse<K: Sink>(refused: Refused, out: &mut K) -> ToolEnd
-    ensures { SaysWhy refused (K.written out.old) (K.written out.new) (K.faults out.old)
-        (K.faults out.new) result }
+pub fn refuse<O: Sink>(refused: Refused, out: &mut O) -> ToolEnd
+    ensures { SaysWhy refused (O.told out.old).written (O.told out.new).written (O.told out.old).faults
+        (O.told out.new).faults result }
 {
     match refused {
         Refused::NameCompressed => {
@@ -38,10 +38,10 @@ pub fn refuse<K: Sink>(refused: Refused, out: &mut K) -> ToolEnd
 
 /// Closes the file, whose reading came to this end. A close that fails is the end only where nothing else failed.
 pub fn close_file<F: Files>(end: ToolEnd, source: FileSource<F>) -> (ToolEnd, F)
-    ensures closed { ClosedAs end (F.faults source.files) (F.faults result.1) result.0 }
-    ensures front { IsTrue (F.seen source.first).tells → ReadsFirst (F.seen source.first)
-        (F.seen source.files) source.number (F.bytes_read source.first) (F.bytes_read result.1) }
-    ensures ended { Ends (F.seen source.first) (F.seen result.1) source.number }
+    ensures closed { ClosedAs end (F.told source.files).faults (F.told result.1).faults result.0 }
+    ensures front { IsTrue (F.told source.first).seen.names → ReadsFirst (F.told source.first).seen
+        (F.told source.files).seen source.number (F.told source.first).bytes_read (F.told result.1).bytes_read }
+    ensures ended { Ends (F.told source.first).seen (F.told result.1).seen source.number }
 {
     let (closed, files) = close(source);
     match (end, closed) {

@@ -48,15 +48,15 @@ impl DumpRoom {
 }
 
 /// Prints the line of the begin record, where it was read just now.
-fn print_begin<K: Sink>(
+fn print_begin<O: Sink>(
     page: &mut Page,
     begun: bool,
     begin: Option<Header>,
-    out: &mut K,
+    out: &mut O,
 ) -> Result<(), Failed>
-    ensures passes { PassesText (K.written out.old) (K.written out.new) page.old page.new
+    ensures passes { PassesText (O.told out.old).written (O.told out.new).written page.old page.new
         (new_begin begun begin) result }
-    ensures faults { CountsFault (K.faults out.old) (K.faults out.new) result }
+    ensures faults { CountsFault (O.told out.old).faults (O.told out.new).faults result }
 {
     if begun {
         return Ok(());
@@ -68,10 +68,10 @@ fn print_begin<K: Sink>(
 }
 
 /// Prints the line of the end record, where it was read.
-fn print_end<K: Sink>(page: &mut Page, last: Option<Header>, out: &mut K) -> Result<(), Failed>
-    ensures passes { PassesText (K.written out.old) (K.written out.new) page.old page.new
+fn print_end<O: Sink>(page: &mut Page, last: Option<Header>, out: &mut O) -> Result<(), Failed>
+    ensures passes { PassesText (O.told out.old).written (O.told out.new).written page.old page.new
         (end_lines last) result }
-    ensures faults { CountsFault (K.faults out.old) (K.faults out.new) result }
+    ensures faults { CountsFault (O.told out.old).faults (O.told out.new).faults result }
 {
     match last {
         Some(last) => page.print(&record_line(b"end", &last), out),
@@ -80,10 +80,10 @@ fn print_end<K: Sink>(page: &mut Page, last: Option<Header>, out: &mut K) -> Res
 }
 
 /// Prints the line of a fault, unless it is the source's.
-fn print_fault<K: Sink>(page: &mut Page, fault: Option<MidFault>, out: &mut K) -> Result<(), Failed>
-    ensures passes { PassesText (K.written out.old) (K.written out.new) page.old page.new
+fn print_fault<O: Sink>(page: &mut Page, fault: Option<MidFault>, out: &mut O) -> Result<(), Failed>
+    ensures passes { PassesText (O.told out.old).written (O.told out.new).written page.old page.new
         (fault_lines fault) result }
-    ensures faults { CountsFault (K.faults out.old) (K.faults out.new) result }
+    ensures faults { CountsFault (O.told out.old).faults (O.told out.new).faults result }
 {
     match fault {
         None => Ok(()),
@@ -95,19 +95,19 @@ fn print_fault<K: Sink>(page: &mut Page, fault: Option<MidFault>, out: &mut K) -
 }
 
 /// Prints the events that lie whole at hand, from where they lie.
-fn print_at_hand<S: Ahead, K: Sink>(
+fn print_at_hand<S: Ahead, O: Sink>(
     reader: &mut MidReader<S>,
     page: &mut Page,
-    out: &mut K,
+    out: &mut O,
 ) -> Result<(), Failed>
     ensures prints { (first told_first : Option (List ℕ))
-        → Printing first (S.left reader.old.source) reader.old.progress told_first
-        (K.written out.old) page.old
-        → PrintsOn first (S.left reader.new.source) reader.new.progress told_first
-        (K.written out.new) page.new result }
-    ensures source { S.faults reader.new.source ≡ S.faults reader.old.source }
-    ensures sink { CountsFault (K.faults out.old) (K.faults out.new) result }
-    ensures origin { S.origin reader.new.source ≡ S.origin reader.old.source }
+        → Printing first (S.told reader.old.source).left reader.old.progress told_first
+        (O.told out.old).written page.old
+        → PrintsOn first (S.told reader.new.source).left reader.new.progress told_first
+        (O.told out.new).written page.new result }
+    ensures source { (S.told reader.new.source).faults ≡ (S.told reader.old.source).faults }
+    ensures sink { CountsFault (O.told out.old).faults (O.told out.new).faults result }
+    ensures origin { (S.told reader.new.source).origin ≡ (S.told reader.old.source).origin }
     ensures onward { reader.old.progress.at ≤ reader.new.progress.at }
 {
     while let Some((header, body)) = reader.whole_event() {
@@ -119,21 +119,21 @@ fn print_at_hand<S: Ahead, K: Sink>(
 }
 
 /// Prints the begin record and the events, as they are read.
-fn print_events<S: Ahead, K: Sink>(
+fn print_events<S: Ahead, O: Sink>(
     reader: &mut MidReader<S>,
     event: &mut EventBuf,
     page: &mut Page,
-    out: &mut K,
+    out: &mut O,
 ) -> Result<(), Halt>
     requires new { reader.old.progress ≡ nothing_read }
     requires room { event_limit ≤ event.old.room }
     requires blank { page.old ≡ [] }
-    ensures lists { ListsTo (S.left reader.old.source) (S.left reader.new.source)
-        reader.new.progress (K.written out.old) (K.written out.new) page.new result }
-    ensures source { SourceHalts result (S.faults reader.old.source) (S.faults reader.new.source) }
-    ensures at_hand { HandHalts result (S.at_hand reader.new.source) }
-    ensures sink { SinkHalts result (K.faults out.old) (K.faults out.new) }
-    ensures origin { S.origin reader.new.source ≡ S.origin reader.old.source }
+    ensures lists { ListsTo (S.told reader.old.source).left (S.told reader.new.source).left
+        reader.new.progress (O.told out.old).written (O.told out.new).written page.new result }
+    ensures source { SourceHalts result (S.told reader.old.source).faults (S.told reader.new.source).faults }
+    ensures at_hand { HandHalts result (S.told reader.new.source).at_hand }
+    ensures sink { SinkHalts result (O.told out.old).faults (O.told out.new).faults }
+    ensures origin { (S.told reader.new.source).origin ≡ (S.told reader.old.source).origin }
 {
     'events: loop {
         let begun = reader.begin().is_some();
@@ -151,17 +151,17 @@ fn print_events<S: Ahead, K: Sink>(
 }
 
 /// Writes what is on the page, and the lines of the end record and of the fault where there are such.
-fn print_last<K: Sink>(
+fn print_last<O: Sink>(
     last: Option<Header>,
     fault: Option<MidFault>,
     page: &mut Page,
-    out: &mut K,
+    out: &mut O,
 ) -> Result<(), Failed>
-    ensures all { OnOk result (Appends (K.written out.old) (K.written out.new)
+    ensures all { OnOk result (Appends (O.told out.old).written (O.told out.new).written
         (ended_text page.old last fault)) }
-    ensures part { OnErr result (AppendsPart (K.written out.old) (K.written out.new)
+    ensures part { OnErr result (AppendsPart (O.told out.old).written (O.told out.new).written
         (ended_text page.old last fault)) }
-    ensures faults { CountsFault (K.faults out.old) (K.faults out.new) result }
+    ensures faults { CountsFault (O.told out.old).faults (O.told out.new).faults result }
 {
     print_end(page, last, out)?;
     print_fault(page, fault, out)?;
@@ -180,15 +180,15 @@ fn end_of(fault: Option<MidFault>) -> ToolEnd
 }
 
 /// Writes the last lines, and answers the end.
-fn end_dump<K: Sink>(
+fn end_dump<O: Sink>(
     last: Option<Header>,
     fault: Option<MidFault>,
     page: &mut Page,
-    out: &mut K,
+    out: &mut O,
 ) -> ToolEnd
-    ensures text { EndsText fault (K.written out.old) (K.written out.new)
+    ensures text { EndsText fault (O.told out.old).written (O.told out.new).written
         (ended_text page.old last fault) result }
-    ensures sink { SinkByEnd result (K.faults out.old) (K.faults out.new) }
+    ensures sink { SinkByEnd result (O.told out.old).faults (O.told out.new).faults }
 {
     match print_last(last, fault, page, out) {
         Ok(()) => end_of(fault),
@@ -197,21 +197,21 @@ fn end_dump<K: Sink>(
 }
 
 /// Reads a file and prints what `dump` prints of it.
-fn read_and_dump<S: Ahead, K: Sink>(
+fn read_and_dump<S: Ahead, O: Sink>(
     reader: &mut MidReader<S>,
     event: &mut EventBuf,
     page: &mut Page,
-    out: &mut K,
+    out: &mut O,
 ) -> ToolEnd
     requires new { reader.old.progress ≡ nothing_read }
     requires room { event_limit ≤ event.old.room }
     requires blank { page.old ≡ [] }
-    ensures dumps { DumpsTo (S.left reader.old.source) (S.left reader.new.source)
-        (K.written out.old) (K.written out.new) result }
-    ensures source { ReadCounts result (S.faults reader.old.source) (S.faults reader.new.source) }
-    ensures at_hand { HandEnds result (S.at_hand reader.new.source) }
-    ensures sink { SinkByEnd result (K.faults out.old) (K.faults out.new) }
-    ensures origin { S.origin reader.new.source ≡ S.origin reader.old.source }
+    ensures dumps { DumpsTo (S.told reader.old.source).left (S.told reader.new.source).left
+        (O.told out.old).written (O.told out.new).written result }
+    ensures source { ReadCounts result (S.told reader.old.source).faults (S.told reader.new.source).faults }
+    ensures at_hand { HandEnds result (S.told reader.new.source).at_hand }
+    ensures sink { SinkByEnd result (O.told out.old).faults (O.told out.new).faults }
+    ensures origin { (S.told reader.new.source).origin ≡ (S.told reader.old.source).origin }
 {
     match print_events(reader, event, page, out) {
         Ok(()) => end_dump(reader.last(), None, page, out),
@@ -221,15 +221,15 @@ fn read_and_dump<S: Ahead, K: Sink>(
 }
 
 /// Reads a source in blocks, as `read_and_dump`, and gives it back.
-fn dump_source<S: Source, K: Sink>(source: S, room: DumpRoom, out: &mut K) -> (ToolEnd, S)
+fn dump_source<S: Source, O: Sink>(source: S, room: DumpRoom, out: &mut O) -> (ToolEnd, S)
     requires block { 0 < vec_len room.block }
     requires event { event_limit ≤ room.event.room }
     requires page { room.page ≡ [] }
-    ensures dumps { DumpsTo (S.left source) (S.left result.1) (K.written out.old)
-        (K.written out.new) result.0 }
-    ensures source { ReadCounts result.0 (S.faults source) (S.faults result.1) }
-    ensures sink { SinkByEnd result.0 (K.faults out.old) (K.faults out.new) }
-    ensures origin { S.origin result.1 ≡ S.origin source }
+    ensures dumps { DumpsTo (S.told source).left (S.told result.1).left (O.told out.old).written
+        (O.told out.new).written result.0 }
+    ensures source { ReadCounts result.0 (S.told source).faults (S.told result.1).faults }
+    ensures sink { SinkByEnd result.0 (O.told out.old).faults (O.told out.new).faults }
+    ensures origin { (S.told result.1).origin ≡ (S.told source).origin }
 {
     let DumpRoom {
         block,
@@ -245,22 +245,22 @@ fn dump_source<S: Source, K: Sink>(source: S, room: DumpRoom, out: &mut K) -> (T
 
 /// Reads the file of this name and prints its records and events, with the banks of each, as they are read, and what is
 /// wrong with it where it is no run file. Hands the files back, in which every name and every byte is as it was.
-pub fn dump_file<F: Files, K: Sink>(
+pub fn dump_file<F: Files, O: Sink>(
     alloc: Global,
     files: F,
     name: &FileName,
-    out: &mut K,
+    out: &mut O,
 ) -> (ToolEnd, F)
     // What was found, and what was written of it.
-    ensures writes { WritesOn (F.seen files) name.now (F.bytes_read files)
-        (F.bytes_read result.1) (K.written out.old) (K.written out.new) result.0 }
+    ensures writes { WritesOn (F.told files).seen name.now (F.told files).bytes_read
+        (F.told result.1).bytes_read (O.told out.old).written (O.told out.new).written result.0 }
     // A fault of the sink or of the files is the end exactly where its count rose and no earlier cause holds. Unless a call
     // failed or there was no memory, a run file leads to the end `Done`, and another to what is wrong with it.
-    ensures ends { EndsBy result.0 (F.seen files) (name.now ∷ []) (call_counts K.faults F.faults
-        F.clashes F.bytes_read out.old out.new files result.1) }
+    ensures ends { EndsBy result.0 (F.told files).seen (name.now ∷ [])
+        (call_counts O.told F.told out.old out.new files result.1) }
     // Where memory is wanting the files were not called.
     ensures uncalled { result.0 ≡ ToolEnd.NoMemory → result.1 ≡ files }
-    ensures same { Same (F.seen files) (F.seen result.1) }
+    ensures same { Same (F.told files).seen (F.told result.1).seen }
 {
     if name.compressed() {
         return (refuse(Refused::NameCompressed, out), files);

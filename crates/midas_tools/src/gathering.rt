@@ -126,12 +126,12 @@ fn sum_piece<S: Ahead, T: Summary>(
     requires some { HasGathered (T.has_taken summary.old) before }
     ensures piece { (events : List Event) → T.has_taken summary.old events
         → length (all_encoded events) ≤ before.bytes → ReadsPiece (T.has_taken summary.new) events
-        before (extent_behind before reader.new.progress) (IfSome (S.left reader.old.source))
+        before (extent_behind before reader.new.progress) (IfSome (S.told reader.old.source).left)
         result }
     ensures limit { reader.new.progress.at ≤ 2 ^ 62 }
     ensures room { room.new.room ≡ room.old.room }
-    ensures faults { SourceByEnd result (S.faults reader.old.source) (S.faults reader.new.source) }
-    ensures origin { S.origin reader.new.source ≡ S.origin reader.old.source }
+    ensures faults { SourceByEnd result (S.told reader.old.source).faults (S.told reader.new.source).faults }
+    ensures origin { (S.told reader.new.source).origin ≡ (S.told reader.old.source).origin }
 {
     'events: loop {
         match reader.give_next(room, summary) {
@@ -160,10 +160,10 @@ fn gather_source<S: Source, T: Summary>(
     ensures piece { (events : List Event) → T.has_taken gathered.old.summary events
         → length (all_encoded events) ≤ gathered.old.extent.bytes
         → ReadsPiece (T.has_taken gathered.new.summary) events gathered.old.extent
-        gathered.new.extent (IfSome (S.left source)) result.0 }
+        gathered.new.extent (IfSome (S.told source).left) result.0 }
     ensures room { gathered.new.room.room ≡ gathered.old.room.room }
-    ensures faults { SourceByEnd result.0 (S.faults source) (S.faults result.1) }
-    ensures origin { S.origin result.1 ≡ S.origin source }
+    ensures faults { SourceByEnd result.0 (S.told source).faults (S.told result.1).faults }
+    ensures origin { (S.told result.1).origin ≡ (S.told source).origin }
 {
     let Ok(block) = new_block(alloc) else {
         return (ToolEnd::NoMemory, source);
@@ -199,11 +199,11 @@ fn gather_name<F: Files, T: Summary>(
     ensures reads { (events : List Event) → T.has_taken gathered.old.summary events
         → length (all_encoded events) ≤ gathered.old.extent.bytes
         → ReadsName (T.has_taken gathered.new.summary) events gathered.old.extent
-        gathered.new.extent (F.seen files) name.now result.0 }
+        gathered.new.extent (F.told files).seen name.now result.0 }
     ensures room { gathered.new.room.room ≡ gathered.old.room.room }
-    ensures faults { FilesByEnd result.0 (F.faults files) (F.faults result.1) }
-    ensures clashes { ClashCounts result.0 (F.clashes files) (F.clashes result.1) }
-    ensures same { Same (F.seen files) (F.seen result.1) }
+    ensures faults { FilesByEnd result.0 (F.told files).faults (F.told result.1).faults }
+    ensures clashes { ClashCounts result.0 (F.told files).clashes (F.told result.1).clashes }
+    ensures same { Same (F.told files).seen (F.told result.1).seen }
 {
     match open(files, name) {
         Ok(source) => {
@@ -235,13 +235,13 @@ pub fn gather_all<F: Files, T: Summary>(
     requires none { T.has_taken gathered.old.summary [] }
     requires new { gathered.old.extent ≡ no_extent }
     requires room { event_limit ≤ gathered.old.room.room }
-    ensures gathers { GathersTo (T.has_taken gathered.new.summary) (F.seen files) names.now
+    ensures gathers { GathersTo (T.has_taken gathered.new.summary) (F.told files).seen names.now
         gathered.new.extent result.at result.end }
     ensures inside { 0 < length names.now → result.at < length names.now }
-    ensures faults { FilesByEnd result.end (F.faults files) (F.faults result.files) }
-    ensures clashes { length names.now ≡ 1 → ClashCounts result.end (F.clashes files)
-        (F.clashes result.files) }
-    ensures same { Same (F.seen files) (F.seen result.files) }
+    ensures faults { FilesByEnd result.end (F.told files).faults (F.told result.files).faults }
+    ensures clashes { length names.now ≡ 1 → ClashCounts result.end (F.told files).clashes
+        (F.told result.files).clashes }
+    ensures same { Same (F.told files).seen (F.told result.files).seen }
 {
     for at in 0..names.len() {
         let (end, behind) = gather_name(alloc, files, &names[at], gathered);

@@ -116,15 +116,15 @@ pub fn record_line(word: &[u8], header: &Header) -> Line
 }
 
 /// Prints the line of the event with this header and these data.
-pub fn print_event_line<K: Sink>(
+pub fn print_event_line<O: Sink>(
     page: &mut Page,
     header: &Header,
     body: &[u8],
-    out: &mut K,
+    out: &mut O,
 ) -> Result<(), Failed>
-    ensures passes { PassesText (K.written out.old) (K.written out.new) page.old page.new
+    ensures passes { PassesText (O.told out.old).written (O.told out.new).written page.old page.new
         (event_line (event_of header.now body.now)) result }
-    ensures faults { CountsFault (K.faults out.old) (K.faults out.new) result }
+    ensures faults { CountsFault (O.told out.old).faults (O.told out.new).faults result }
 {
     let mut line = Line::new();
     line.blank_number(body.len() as u64);
@@ -137,10 +137,10 @@ pub fn print_event_line<K: Sink>(
 }
 
 /// Prints the line of a bank.
-pub fn print_bank_line<K: Sink>(page: &mut Page, bank: &Bank, out: &mut K) -> Result<(), Failed>
-    ensures passes { PassesText (K.written out.old) (K.written out.new) page.old page.new
+pub fn print_bank_line<O: Sink>(page: &mut Page, bank: &Bank, out: &mut O) -> Result<(), Failed>
+    ensures passes { PassesText (O.told out.old).written (O.told out.new).written page.old page.new
         (bank_line (bank_value bank.now.name bank.now.tid bank.now.body.now)) result }
-    ensures faults { CountsFault (K.faults out.old) (K.faults out.new) result }
+    ensures faults { CountsFault (O.told out.old).faults (O.told out.new).faults result }
 {
     let mut line = Line::new();
     line.blank_number(bank.body.len() as u64);

@@ -20,15 +20,15 @@ pub enum Refused {
 
 /// Opens the file of this name. Hands the files back where it does not.
 pub fn open<F: Files>(mut files: F, name: &FileName) -> Result<FileSource<F>, (Refused, F)>
-    ensures opened { IfOk result (λ source. IsFileOpened (F.seen files) (F.seen source.files)
+    ensures opened { IfOk result (λ source. IsFileOpened (F.told files).seen (F.told source.files).seen
         name.now source.number) }
     ensures first { IfOk result (λ source. source.first ≡ source.files) }
-    ensures faults { IfOk result (λ source. F.faults source.files ≡ F.faults files) }
-    ensures bytes_read { IfOk result (λ source. F.bytes_read source.files ≡ F.bytes_read files) }
-    ensures none_read { IfErr result (λ r. F.bytes_read r.1 ≡ F.bytes_read files) }
-    ensures refused { IfErr result (λ r. RefusesFile (F.seen files) name.now (F.faults files)
-        (F.faults r.1) (F.clashes files) (F.clashes r.1) r.0) }
-    ensures same { IfErr result (λ r. Same (F.seen files) (F.seen r.1)) }
+    ensures faults { IfOk result (λ source. (F.told source.files).faults ≡ (F.told files).faults) }
+    ensures bytes_read { IfOk result (λ source. (F.told source.files).bytes_read ≡ (F.told files).bytes_read) }
+    ensures none_read { IfErr result (λ r. (F.told r.1).bytes_read ≡ (F.told files).bytes_read) }
+    ensures refused { IfErr result (λ r. RefusesFile (F.told files).seen name.now (F.told files).faults
+        (F.told r.1).faults (F.told files).clashes (F.told r.1).clashes r.0) }
+    ensures same { IfErr result (λ r. Same (F.told files).seen (F.told r.1).seen) }
 {
     if name.compressed() {
         return Err((Refused::NameCompressed, files));
@@ -43,10 +43,10 @@ pub fn open<F: Files>(mut files: F, name: &FileName) -> Result<FileSource<F>, (R
 
 /// Closes the file that was read, and gives the files back.
 pub fn close<F: Files>(source: FileSource<F>) -> (Result<(), Failed>, F)
-    ensures ended { Ends (F.seen source.first) (F.seen result.1) source.number }
-    ensures front { IsTrue (F.seen source.first).tells → ReadsFirst (F.seen source.first)
-        (F.seen source.files) source.number (F.bytes_read source.first) (F.bytes_read result.1) }
-    ensures faults { CountsFault (F.faults source.files) (F.faults result.1) result.0 }
+    ensures ended { Ends (F.told source.first).seen (F.told result.1).seen source.number }
+    ensures front { IsTrue (F.told source.first).seen.names → ReadsFirst (F.told source.first).seen
+        (F.told source.files).seen source.number (F.told source.first).bytes_read (F.told result.1).bytes_read }
+    ensures faults { CountsFault (F.told source.files).faults (F.told result.1).faults result.0 }
 {
     let number = source.file();
     let mut files = source.into_files();

@@ -54,10 +54,10 @@ impl Page {
     }
 
     /// Writes the page and begins it anew.
-    pub fn flush<K: Sink>(&mut self, out: &mut K) -> Result<(), Failed>
-        ensures all { OnOk result (Appends (K.written out.old) (K.written out.new) self.old) }
-        ensures part { OnErr result (AppendsPart (K.written out.old) (K.written out.new) self.old) }
-        ensures faults { CountsFault (K.faults out.old) (K.faults out.new) result }
+    pub fn flush<O: Sink>(&mut self, out: &mut O) -> Result<(), Failed>
+        ensures all { OnOk result (Appends (O.told out.old).written (O.told out.new).written self.old) }
+        ensures part { OnErr result (AppendsPart (O.told out.old).written (O.told out.new).written self.old) }
+        ensures faults { CountsFault (O.told out.old).faults (O.told out.new).faults result }
         ensures empty { OnOk result (self.new ≡ []) }
     {
         let (filled, _) = self.bytes.as_slice().split_at(self.len);
@@ -81,11 +81,11 @@ impl Page {
     }
 
     /// Puts a line on the page, which is written before where the line does not fit.
-    pub fn print<K: Sink>(&mut self, line: &Line, out: &mut K) -> Result<(), Failed>
-        ensures passes { PassesText (K.written out.old) (K.written out.new) self.old self.new
+    pub fn print<O: Sink>(&mut self, line: &Line, out: &mut O) -> Result<(), Failed>
+        ensures passes { PassesText (O.told out.old).written (O.told out.new).written self.old self.new
             line.now result }
         ensures fits { OnOk result (length self.new ≤ page_room) }
-        ensures faults { CountsFault (K.faults out.old) (K.faults out.new) result }
+        ensures faults { CountsFault (O.told out.old).faults (O.told out.new).faults result }
     {
         if self.put(line.as_slice()) {
             return Ok(());

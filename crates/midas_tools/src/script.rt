@@ -104,15 +104,15 @@ fn add_script(script: &mut TextBuffer, number: u32) -> Result<(), NoMemory>
 
 /// Writes the script of this number: 1 to 4 front-ends, each of which sends 1,000 to 1,999 events in each of two runs, and
 /// an analyzer. After a failure of the sink the front of it was written; without memory nothing was.
-pub fn write_script<K: Sink>(alloc: Global, number: u32, out: &mut K) -> Result<(), Unwritten>
-    ensures all { OnOk result (Appends (K.written out.old) (K.written out.new)
+pub fn write_script<O: Sink>(alloc: Global, number: u32, out: &mut O) -> Result<(), Unwritten>
+    ensures all { OnOk result (Appends (O.told out.old).written (O.told out.new).written
         (generated_script number)) }
-    ensures part { OnErr result (AppendsPart (K.written out.old) (K.written out.new)
+    ensures part { OnErr result (AppendsPart (O.told out.old).written (O.told out.new).written
         (generated_script number)) }
-    ensures done { OnOk result (K.faults out.new ≡ K.faults out.old) }
-    ensures failed { result ≡ Err sink_fault → Rose (K.faults out.old) (K.faults out.new) }
-    ensures memory { result ≡ Err no_memory → (K.faults out.new ≡ K.faults out.old)
-        × (K.written out.new ≡ K.written out.old) }
+    ensures done { OnOk result ((O.told out.new).faults ≡ (O.told out.old).faults) }
+    ensures failed { result ≡ Err sink_fault → Rose (O.told out.old).faults (O.told out.new).faults }
+    ensures memory { result ≡ Err no_memory → ((O.told out.new).faults ≡ (O.told out.old).faults)
+        × ((O.told out.new).written ≡ (O.told out.old).written) }
 {
     let mut script = TextBuffer::new(alloc);
     add_script(&mut script, number)?;

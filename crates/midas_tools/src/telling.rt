@@ -16,9 +16,9 @@ use daq_types::FileName;
 use std::alloc::Global;
 
 /// Writes what is told of the events together.
-fn tell_run<K: Sink, T: Summary>(alloc: Global, gathered: &Gathered<T>, out: &mut K) -> ToolEnd
+fn tell_run<O: Sink, T: Summary>(alloc: Global, gathered: &Gathered<T>, out: &mut O) -> ToolEnd
     ensures { TellsEnd T.text (T.has_taken gathered.now.summary) gathered.now.extent
-        (K.written out.old) (K.written out.new) (K.faults out.old) (K.faults out.new) result }
+        (O.told out.old).written (O.told out.new).written (O.told out.old).faults (O.told out.new).faults result }
 {
     let mut page = TextBuffer::new(alloc);
     let run = gathered.extent.run.unwrap_or(0);
@@ -34,10 +34,10 @@ fn tell_run<K: Sink, T: Summary>(alloc: Global, gathered: &Gathered<T>, out: &mu
 
 /// Looks for a file that there is no memory to read, and answers the end: what is wrong with its name is told all the same.
 fn look_for<F: Files>(files: F, name: &FileName) -> (ToolEnd, F)
-    ensures looks { LooksFor (F.seen files) name.now result.0 }
-    ensures faults { FilesByEnd result.0 (F.faults files) (F.faults result.1) }
-    ensures clashes { ClashCounts result.0 (F.clashes files) (F.clashes result.1) }
-    ensures same { Same (F.seen files) (F.seen result.1) }
+    ensures looks { LooksFor (F.told files).seen name.now result.0 }
+    ensures faults { FilesByEnd result.0 (F.told files).faults (F.told result.1).faults }
+    ensures clashes { ClashCounts result.0 (F.told files).clashes (F.told result.1).clashes }
+    ensures same { Same (F.told files).seen (F.told result.1).seen }
 {
     match open(files, name) {
         Ok(source) => close_file(ToolEnd::NoMemory, source),
@@ -48,19 +48,19 @@ fn look_for<F: Files>(files: F, name: &FileName) -> (ToolEnd, F)
 /// Reads the files of these names in order as those of one run, and prints what is told of their events together, or what is
 /// wrong with the first of them that is none of that run. Hands the files back, in which every name and every byte is as it
 /// was.
-pub fn tell_files<F: Files, K: Sink, T: Summary>(
+pub fn tell_files<F: Files, O: Sink, T: Summary>(
     alloc: Global,
     files: F,
     names: &[FileName],
-    out: &mut K,
+    out: &mut O,
 ) -> (ToolEnd, F)
     requires some { 0 < length names.now }
     requires few { length names.now ≤ 10000 }
-    ensures writes { WritesTogether T.text (F.seen files) names.now (K.written out.old)
-        (K.written out.new) result.0 }
-    ensures ends { EndsBy result.0 (F.seen files) names.now (call_counts K.faults F.faults
-        F.clashes F.bytes_read out.old out.new files result.1) }
-    ensures same { Same (F.seen files) (F.seen result.1) }
+    ensures writes { WritesTogether T.text (F.told files).seen names.now (O.told out.old).written
+        (O.told out.new).written result.0 }
+    ensures ends { EndsBy result.0 (F.told files).seen names.now
+        (call_counts O.told F.told out.old out.new files result.1) }
+    ensures same { Same (F.told files).seen (F.told result.1).seen }
 {
     let several = names.len() > 1;
     let Ok(mut gathered) = Gathered::<T>::new(alloc) else {

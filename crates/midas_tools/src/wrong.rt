@@ -13,17 +13,17 @@ use daq_io::{Failed, Sink, write_all};
 use daq_types::FileName;
 
 /// Writes what is wrong with a file, and which it is where several were named. Takes no memory.
-fn write_wrong<K: Sink>(
+fn write_wrong<O: Sink>(
     fault: InputFault,
     name: &FileName,
     several: bool,
-    out: &mut K,
+    out: &mut O,
 ) -> Result<(), Failed>
-    ensures all { OnOk result (Appends (K.written out.old) (K.written out.new)
+    ensures all { OnOk result (Appends (O.told out.old).written (O.told out.new).written
         (bad_file_line several name.now fault)) }
-    ensures part { OnErr result (AppendsPart (K.written out.old) (K.written out.new)
+    ensures part { OnErr result (AppendsPart (O.told out.old).written (O.told out.new).written
         (bad_file_line several name.now fault)) }
-    ensures faults { CountsFault (K.faults out.old) (K.faults out.new) result }
+    ensures faults { CountsFault (O.told out.old).faults (O.told out.new).faults result }
 {
     if !several {
         return write_all(out, bad_line(fault).as_slice());
@@ -34,9 +34,9 @@ fn write_wrong<K: Sink>(
 }
 
 /// Writes what is wrong with a file, and answers the end that it tells of, or that the sink failed.
-fn say_wrong<K: Sink>(fault: InputFault, name: &FileName, several: bool, out: &mut K) -> ToolEnd
-    ensures { Printed (bad_file_line several name.now fault) (K.written out.old)
-        (K.written out.new) (K.faults out.old) (K.faults out.new) (ToolEnd.Input fault) result }
+fn say_wrong<O: Sink>(fault: InputFault, name: &FileName, several: bool, out: &mut O) -> ToolEnd
+    ensures { Printed (bad_file_line several name.now fault) (O.told out.old).written
+        (O.told out.new).written (O.told out.old).faults (O.told out.new).faults (ToolEnd.Input fault) result }
 {
     match write_wrong(fault, name, several, out) {
         Ok(()) => ToolEnd::Input(fault),
@@ -45,9 +45,9 @@ fn say_wrong<K: Sink>(fault: InputFault, name: &FileName, several: bool, out: &m
 }
 
 /// Writes what is wrong with the file of this name, where the reading of files stopped at it for that, and answers the end.
-pub fn say_stop<K: Sink>(end: ToolEnd, name: &FileName, several: bool, out: &mut K) -> ToolEnd
-    ensures { SaysStop several name.now (K.written out.old) (K.written out.new) (K.faults out.old)
-        (K.faults out.new) end result }
+pub fn say_stop<O: Sink>(end: ToolEnd, name: &FileName, several: bool, out: &mut O) -> ToolEnd
+    ensures { SaysStop several name.now (O.told out.old).written (O.told out.new).written (O.told out.old).faults
+        (O.told out.new).faults end result }
 {
     match end {
         ToolEnd::Input(fault) => say_wrong(fault, name, several, out),

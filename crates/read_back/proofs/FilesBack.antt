@@ -17,7 +17,7 @@ use Rattle.midas_tools.specs.declared.ends.ToolEnd.TheVariants.{Done}
 use Rattle.midas_tools.proofs.Pieces.{have_one}
 use Rattle.sub_files.specs.Cuts.{joined}
 use Rattle.sub_files.specs.Patterns.{NamePattern, piece_name_by}
-use Rattle.read_back.specs.FilesBack.{FilesReadBack, piece_names, IsClosedFile}
+use Rattle.read_back.specs.FilesBack.{FilesReadBack, HasAsStored, piece_names, IsClosedFile}
 
 -- the law of what `analyze` prints
 abbrev pub AnalysisPrinted : Type 0
@@ -32,13 +32,13 @@ record AreThere (seen : Seen) (run : ℕ) (names : List (List ℕ)) (pieces : Li
   have : HaveBytes seen names files
   are : bytes_of files ≤ 2 ^ 62 → AreRunFilesWith run files (joined pieces)
 
-module _ (files seen : Seen) (pattern : NamePattern) (run : ℕ) (tell : IsTrue files.tells) where
+module _ (files seen : Seen) (pattern : NamePattern) (run : ℕ) where
   -- the files from this number on
   abbrev ClosedFrom : (first : ℕ) → (pieces : List (List Event)) → Type 0
   ClosedFrom first pieces = (number : ℕ) → (piece : List Event) → slice_get pieces number ≡ Some piece → IsClosedFile files (piece_name_by pattern run (first + number)) run piece
 
   abbrev AreAlike : (names : List (List ℕ)) → Type 0
-  AreAlike names = All (λ name. seen.at name ≡ files.at name) names
+  AreAlike names = All (HasAsStored files seen) names
 
   closed_next : (first : ℕ) (piece : List Event) (pieces : List (List Event)) → ClosedFrom first (piece ∷ pieces) → ClosedFrom (suc first) pieces
   closed_next first piece pieces closed number next at =
@@ -57,11 +57,11 @@ module _ (files seen : Seen) (pattern : NamePattern) (run : ℕ) (tell : IsTrue 
       let name : List ℕ = piece_name_by pattern run first in
       let file : IsClosedFile files name run piece = closed_first first piece pieces closed in
       let bytes : List ℕ = run_file run file.time0 file.dump0 piece file.time1 file.dump1 in
-      let rest : AreThere seen run names pieces = are_there (suc first) pieces (All-tail (λ name. seen.at name ≡ files.at name) name names alike) (closed_next first piece pieces closed) in
+      let rest : AreThere seen run names pieces = are_there (suc first) pieces (All-tail (HasAsStored files seen) name names alike) (closed_next first piece pieces closed) in
       record {
         files = bytes ∷ rest.files;
         many = ap (λ (n : ℕ). suc n) rest.many;
-        have = (record { file = stored_closed bytes; at_is = All-head (λ name. seen.at name ≡ files.at name) name names alike ∙ file.stored.holds tell; fact = refl }, rest.have);
+        have = (record { file = stored_closed bytes; at_is = All-head (HasAsStored files seen) name names alike bytes file.stored; fact = refl }, rest.have);
         are = λ counted. (
           piece,
           joined pieces,
@@ -78,12 +78,12 @@ module _ (files seen : Seen) (pattern : NamePattern) (run : ℕ) (tell : IsTrue 
       }
 
 pub files_back : AnalysisPrinted → FilesReadBack
-files_back prints files pattern run pieces some closed small short seen told_old told_new end files_tell tell alike wrote done =
+files_back prints files pattern run pieces some closed small short seen told_old told_new end tell alike wrote done =
     let names : List (List ℕ) = piece_names pattern run 0 (length pieces) in
     let all : WritesTogether analysis_text seen names told_old told_new Done = subst (λ (e : ToolEnd). WritesTogether analysis_text seen names told_old told_new e) done wrote in
     let tells : TellsRun analysis_text seen names all.text = all.finds.1 tell in
     let there : AreThere seen run names pieces =
-    are_there files seen pattern run files_tell 0 pieces alike (λ number piece at. let name : number ≡ 0 + number = omega arith in subst (λ (n : ℕ). IsClosedFile files (piece_name_by pattern run n) run piece) name (closed number piece at)) in
+    are_there files seen pattern run 0 pieces alike (λ number piece at. let name : number ≡ 0 + number = omega arith in subst (λ (n : ℕ). IsClosedFile files (piece_name_by pattern run n) run piece) name (closed number piece at)) in
     let counted : bytes_of there.files ≤ 2 ^ 62 = subst (λ (fs : List (List ℕ)). bytes_of fs ≤ 2 ^ 62) (have_one seen names tells.holds.files there.files tells.holds.have there.have) tells.holds.are.counted in
     let text : all.text ≡ run_number_line run ++ report_text [] (report_of (joined pieces)) =
     prints seen names there.files run (joined pieces) all.text there.have (omega (arith, some, there.many)) (there.are counted) small short tells in

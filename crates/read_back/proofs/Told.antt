@@ -1,4 +1,5 @@
 -- What `analyze` prints of the run files of a channel is the report of an analyzer that asked for the same events.
+use Rattle.daq_io.specs.Told.{FilesTold}
 use Rattle.std.proofs.Common.{◌≡◌, ◌∙◌, ℕ, ◌<◌, ◌^◌, List, [], All, Some, ap, sym, subst, get_or}
 use Rattle.std.specs.Prelude.{IsTrue, slice_get, suc, length, ◌==◌, if◌then◌else◌}
 use Rattle.std.proofs.lemmas.List.Elements.{All-map, All-filter, All-contains}
@@ -11,11 +12,10 @@ use Rattle.turn_lock.specs.Closing.{history_of}
 use Rattle.buffer_core.specs.Readers.{wanted}
 use Rattle.buffer_core.specs.Runs.{segment}
 use Rattle.buffer_core.specs.Window.{Sent}
-use Rattle.caller_laws.specs.OneCaller.{events_in}
+use Rattle.history_laws.specs.OneCaller.{events_in}
 use Rattle.event_report.specs.Reports.{Totals, report_of}
 use Rattle.transitions.specs.EngineCalls.{order_for}
 use Rattle.frontend_kit.specs.declared.generator.Generator.{Generator}
-use Rattle.loggers.specs.Moments.{RunFiles}
 use Rattle.mid_logger.specs.declared.channel_spec.ChannelSpec.{ChannelSpec}
 use Rattle.odb_runinfo.specs.RunSets.{have_of}
 use Rattle.session_runs.specs.declared.records.ChannelFiles.{ChannelFiles}
@@ -42,7 +42,7 @@ HasShortId e = e.id < 2 ^ 16
 one_buffer : (a b : BufferRecord) → Some a ≡ Some b → a ≡ b
 one_buffer a b same = cc
 
-module _ (c : ClosedSession) (moments : (client : ℕ) → List ℕ) (own : MainOwn) (declared : Declared) (buffers : List BufferRecord) (first now : RunFiles) (run : RunRecord)
+module _ (c : ClosedSession) (moments : (client : ℕ) → List ℕ) (own : MainOwn) (declared : Declared) (buffers : List BufferRecord) (first now : FilesTold) (run : RunRecord)
     (sound : AreSound declared) (tells : RunTells c moments own declared buffers first now run) where
   front_small : (front : FrontDeclared) (client : ℕ) → slice_get declared.fronts client ≡ Some front → front.id < 2 ^ 16
   front_small front client at =

@@ -2,7 +2,7 @@
 use Rattle.std.specs.Prelude.{◌≡◌, ◌<◌, ◌≤◌, ◌^◌, ℕ, zero, suc, IsTrue, List, [], ◌∷◌, ◌++◌, length, slice_get, Some, All, Option}
 use Rattle.std.specs.Io.KnownBytes.{Appends}
 use Rattle.daq_types.specs.declared.events.Event.{Event}
-use Rattle.daq_io.specs.Seen.{Seen, IsStored}
+use Rattle.daq_io.specs.Seen.{Seen, IsStored, stored_closed}
 use Rattle.event.specs.Events.{record_limit}
 use Rattle.event.specs.RunFile.{run_file, IsFileEvent}
 use Rattle.event_report.specs.Reports.{Totals, report_of}
@@ -15,11 +15,16 @@ use Rattle.midas_tools.specs.declared.ends.ToolEnd.TheVariants.{Done}
 use Rattle.sub_files.specs.Cuts.{joined}
 use Rattle.sub_files.specs.Patterns.{NamePattern, piece_name_by}
 
+-- The file that was stored under this name in these files is there in `seen` as it was stored. So it is where both tell the name and
+-- its file is the same; and where `seen` tells it to have what was written, whatever else these files tell.
+abbrev pub HasAsStored : (files seen : Seen) (name : List ℕ) → Type 0
+HasAsStored files seen name = (bytes : List ℕ) → IsStored files name bytes → seen.at name ≡ Some (stored_closed bytes)
+
 -- A call of `analyze` with these names that ends well writes the number of the run and this report, and nothing else: on any
--- files that tell the names' files, which are those of these run files, told too.
+-- files that tell the names' files, each of which is as it was stored in these run files.
 abbrev pub PrintsReport : (files : Seen) (names : List (List ℕ)) (run : ℕ) (report : Totals) → Type 0
 PrintsReport files names run report = (seen : Seen) → (told_old told_new : Option (List ℕ)) → (end : ToolEnd) →
-    IsTrue files.tells → IsTrue seen.tells → All (λ name. seen.at name ≡ files.at name) names →
+    IsTrue seen.names → All (HasAsStored files seen) names →
     WritesTogether analysis_text seen names told_old told_new end → end ≡ Done →
     Appends told_old told_new (run_number_line run ++ report_text [] report)
 

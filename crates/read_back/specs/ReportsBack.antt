@@ -1,4 +1,5 @@
 -- The run files of a channel and a report of one run that came about in a session: what `analyze` prints of the ones is the other.
+use Rattle.daq_io.specs.Told.{FilesTold}
 use Rattle.std.specs.Prelude.{◌≡◌, ℕ, suc, ◌+◌, List, length, slice_get, Contains, Some}
 use Rattle.daq_types.specs.Callers.{caller_of_client}
 use Rattle.daq_types.specs.declared.runs.ChannelState.TheVariants.{Ended}
@@ -8,7 +9,6 @@ use Rattle.event_report.specs.Reports.{Totals}
 use Rattle.member_model.specs.RunEngines.{EngineHistory}
 use Rattle.frontend_kit.specs.declared.generator.Generator.{Generator}
 use Rattle.mid_logger.specs.declared.channel_spec.ChannelSpec.{ChannelSpec}
-use Rattle.loggers.specs.Moments.{RunFiles}
 use Rattle.composition.specs.SessionRuns.{SawThrough}
 use Rattle.session_runs.specs.declared.records.ChannelFiles.{ChannelFiles}
 use Rattle.session_runs.specs.declared.records.ReportTally.{ReportTally}
@@ -62,7 +62,7 @@ pub record HasFilesAndReport (declared : Declared) (buffers : List BufferRecord)
 -- Where the declarations are sound and all is so that is told of a run: the files and the report of one request agree.
 abbrev pub ReportsReadBack : Type 0
 ReportsReadBack = (c : ClosedSession) → (moments : (client : ℕ) → List ℕ) → (own : MainOwn) → (declared : Declared) →
-    (buffers : List BufferRecord) → (first now : RunFiles) → (run : RunRecord) → AreSound declared →
+    (buffers : List BufferRecord) → (first now : FilesTold) → (run : RunRecord) → AreSound declared →
     RunTells c moments own declared buffers first now run → (written : ChannelFiles) → (report : Totals) →
     HasFilesAndReport declared buffers c.engine run written report → PrintsReport c.files (names_in_run run written) run.run report
 
@@ -72,4 +72,4 @@ SessionReadsBack {D} {F} told r = (first_files : F) → (final : SessionStage) �
     KeepsSession told first_files final run_files r → (number : ℕ) → (run : RunRecord) →
     slice_get r.runs number ≡ Some run → run.outcome ≡ Completed → (written : ChannelFiles) → (report : Totals) →
     HasFilesAndReport final.declared r.buffers (history_of r.engine) run written report →
-    PrintsReport (told.seen run_files) (names_in_run run written) run.run report
+    PrintsReport (told.read run_files).seen (names_in_run run written) run.run report

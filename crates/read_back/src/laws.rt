@@ -32,8 +32,7 @@ pub fn reports_read_back()
 pub fn sessions_read_back<D: Database, F: Files, K: Pick>(kept: &SessionRecord<D>)
 where
     LockedDatabase<D>: Machine<State = WatchedSeen, Entry = WatchEntry>,
-    ensures { SessionReadsBack (member_told generator_takes generator_makes F.seen F.faults F.clashes
-        F.first) kept.now }
+    ensures { SessionReadsBack (member_told generator_takes generator_makes F.told) kept.now }
 {
     reports_read_back();
 }

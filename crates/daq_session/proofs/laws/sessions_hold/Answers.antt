@@ -14,4 +14,4 @@ returns g c = λ first_files final run_files is.
       among = c.sent_by.ensures.among;
       differ = c.starts_differ.ensures;
     } in
-    keeps _ refl refl first_files final run_files c.args.kept.now is laws c.members_end.ensures c.session_ended.ensures c.starts_end.ensures (c.counts_end.ensures _) (c.one_answer_end.ensures _) (c.rises_end.ensures _) (c.names_end.ensures _) c.records_end.ensures (c.refusals_end.ensures _)
+    keeps _ refl refl first_files final run_files c.args.kept.now is laws c.members_end.ensures c.session_ended.ensures c.starts_end.ensures c.counts_end.ensures c.one_answer_end.ensures c.rises_end.ensures c.names_end.ensures c.records_end.ensures c.refusals_end.ensures

@@ -10,5 +10,5 @@ returns-clause-counts g c = c.play_members-end.ensures.played.1
 
 pub returns-clause-stay : goal.returns-clause-stay
 returns-clause-stay g c =
-    stays_listed (member_told g.X.Equipment.takes g.X.Equipment.makes g.F.Files.seen g.F.Files.faults g.F.Files.clashes g.F.Files.first)
+    stays_listed (member_told g.X.Equipment.takes g.X.Equipment.makes g.F.Files.told)
     c.crews_stay.ensures _ _ c.play_members-end.ensures.back c.play_members-end.ensures.keep

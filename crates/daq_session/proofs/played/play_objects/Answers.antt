@@ -1,8 +1,8 @@
+use Rattle.daq_io.specs.Told.{AheadTold}
 use Rattle.std.proofs.Common.{◌∙◌, refl, ap}
 use Rattle.odb_watch.specs.DatabasePorts.{DatabaseAccess}
 use Rattle.odb_lock.specs.SharedAccesses.{access_by_pass}
 use Rattle.console.specs.DatabaseStages.{DatabaseStage, database_stage}
-use Rattle.session_runs.specs.RunAnswers.{ClockTold, clock_of}
 use Rattle.session_runs.specs.KeptRuns.{RunsSeen}
 use Rattle.session_lines.specs.Stages.{unopened_stage}
 use Rattle.session_lines.specs.RunLines.{CutsKeys, KeysMade}
@@ -16,8 +16,8 @@ returns-in_default g c = record {
   played = λ declared opened.
       let places = c.args.places.now in
       let side = c.args.side in
-      let database : DatabaseStage = database_stage (access_by_pass side.database.access) (g.E.Files.seen side.database.files) (g.E.Files.faults side.database.files) (g.E.Files.clashes side.database.files) (g.E.Files.first side.database.files) side.database.replies.replies in
-      let clock : ClockTold = clock_of (g.C.Clock.tells side.clock) (g.C.Clock.ahead side.clock) in
+      let database : DatabaseStage = database_stage (access_by_pass side.database.access) (g.E.Files.told side.database.files) side.database.replies.replies in
+      let clock : AheadTold = g.C.Clock.told side.clock in
       let after : DatabaseAccess = access_by_pass c.open_keys.new.access in
       let keys : CutsKeys (names_of places.lists.now.fronts) database.access after = rw c.as_slice-fronts.ensures at c.in_default.ensures.cut in
       rw c.end_unopened.ensures (record {
@@ -45,14 +45,14 @@ returns-in-Ok-open_members g c = record {
   played = λ declared opened.
       let places = c.args.places.now in
       let side = c.args.side in
-      let database : DatabaseStage = database_stage (access_by_pass side.database.access) (g.E.Files.seen side.database.files) (g.E.Files.faults side.database.files) (g.E.Files.clashes side.database.files) (g.E.Files.first side.database.files) side.database.replies.replies in
-      let clock : ClockTold = clock_of (g.C.Clock.tells side.clock) (g.C.Clock.ahead side.clock) in
+      let database : DatabaseStage = database_stage (access_by_pass side.database.access) (g.E.Files.told side.database.files) side.database.replies.replies in
+      let clock : AheadTold = g.C.Clock.told side.clock in
       let after : DatabaseAccess = access_by_pass c.open_keys.new.access in
       let keys : KeysMade (names_of places.lists.now.fronts) database.access after = rw c.as_slice-fronts.ensures at c.in-Ok.ensures.made in
       let met = c.in-Ok-open_members in
       let played = c.play_opened.ensures.played c.args.members.run_files met.ensures.members in
       let later = c.play_opened.result.lines.script in
-      let behind : ScriptAt = script_at (g.S.Source.left later.src) (g.O.Sink.written later.out) later.line_loop.reader later.line_loop.last later.line_loop.refusals later.line_loop.number in
+      let behind : ScriptAt = script_at (g.S.Source.told later.src) (g.O.Sink.told later.out).written later.line_loop.reader later.line_loop.last later.line_loop.refusals later.line_loop.number in
       record {
         final = played.final;
         tells = played.tells;
@@ -67,8 +67,8 @@ returns-in-Err g c = record {
   played = λ declared opened.
       let places = c.args.places.now in
       let side = c.args.side in
-      let database : DatabaseStage = database_stage (access_by_pass side.database.access) (g.E.Files.seen side.database.files) (g.E.Files.faults side.database.files) (g.E.Files.clashes side.database.files) (g.E.Files.first side.database.files) side.database.replies.replies in
-      let clock : ClockTold = clock_of (g.C.Clock.tells side.clock) (g.C.Clock.ahead side.clock) in
+      let database : DatabaseStage = database_stage (access_by_pass side.database.access) (g.E.Files.told side.database.files) side.database.replies.replies in
+      let clock : AheadTold = g.C.Clock.told side.clock in
       let after : DatabaseAccess = access_by_pass c.open_keys.new.access in
       let keys : KeysMade (names_of places.lists.now.fronts) database.access after = rw c.as_slice-fronts.ensures at c.in-Ok.ensures.made in
       rw (c.end_unopened-in-Err.ensures, c.in-Err.ensures.files) (record {

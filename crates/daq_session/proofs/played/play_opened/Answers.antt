@@ -69,12 +69,12 @@ returns g c = record {
       let left = c.take_back-passes.result.logger in
       let back = c.take_back-passes.ensures crew stay.1 in
       let opened = ended.played.played in
-      let noted : NotesFailed left.failed (g.F.Files.faults given.crew.logger.files) (g.F.Files.faults crew.logger.files) =
+      let noted : NotesFailed left.failed (g.F.Files.told given.crew.logger.files).faults (g.F.Files.told crew.logger.files).faults =
       noted_failed _ _ _ _ _ (ap (λ l. l.failed) back.logger) given.new.logger.failed stay.2.faults in
-      let P : _ → Type 0 = λ first. NotesFailed left.failed (g.F.Files.faults first) (g.F.Files.faults left.files) in
-      let Q : _ → Type 0 = λ last. NotesFailed left.failed (g.F.Files.faults given.crew.logger.files) (g.F.Files.faults last) in
+      let P : _ → Type 0 = λ first. NotesFailed left.failed (g.F.Files.told first).faults (g.F.Files.told left.files).faults in
+      let Q : _ → Type 0 = λ last. NotesFailed left.failed (g.F.Files.told given.crew.logger.files).faults (g.F.Files.told last).faults in
       record {
-        final = stage_open (side_told access_by_pass g.E.Files.seen g.E.Files.faults g.E.Files.clashes g.E.Files.first g.C.Clock.tells g.C.Clock.ahead) places.lists.now opened.last end.side;
+        final = stage_open (side_told access_by_pass g.E.Files.told g.C.Clock.told) places.lists.now opened.last end.side;
         tells = record {
           counts = ended.counts;
           failed = subst P given.new.logger.has_files (subst Q (sym (ap (λ l. l.files) back.logger)) noted);

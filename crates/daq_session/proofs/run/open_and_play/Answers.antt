@@ -1,7 +1,7 @@
+use Rattle.daq_io.specs.Told.{AheadTold}
 use Rattle.std.proofs.Common.{refl}
 use Rattle.odb_lock.specs.SharedAccesses.{access_by_pass}
 use Rattle.console.specs.DatabaseStages.{DatabaseStage, database_stage}
-use Rattle.session_runs.specs.RunAnswers.{ClockTold, clock_of}
 use Rattle.session_lines.specs.Stages.{unopened_stage}
 use Rattle.daq_session.proofs.PlayedLaws.{cut_tells}
 use Rattle.daq_session.proofs.ScriptLaws.{few_fronts, lists_so, lists_sound, none_ended, nothing_opened, some_ended}
@@ -29,8 +29,8 @@ play_objects-lines-requires-clause-out g c = λ κs lives. c.in-Ok.ensures.passe
 pub returns-in_default : goal.returns-in_default
 returns-in_default g c =
     let side = c.args.unopened.side in
-    let database : DatabaseStage = database_stage (access_by_pass side.database.access) (g.E.Files.seen side.database.files) (g.E.Files.faults side.database.files) (g.E.Files.clashes side.database.files) (g.E.Files.first side.database.files) side.database.replies.replies in
-    let clock : ClockTold = clock_of (g.C.Clock.tells side.clock) (g.C.Clock.ahead side.clock) in
+    let database : DatabaseStage = database_stage (access_by_pass side.database.access) (g.E.Files.told side.database.files) side.database.replies.replies in
+    let clock : AheadTold = g.C.Clock.told side.clock in
     record {
       played = rw c.end_unopened.ensures (record {
         final = unopened_stage c.args.unopened.quota c.args.unopened.declarations database clock;

@@ -1,8 +1,8 @@
+use Rattle.daq_io.specs.Told.{AheadTold}
 use Rattle.std.proofs.Common.{refl, arith, ap, ◌∙◌}
 use Rattle.odb_watch.specs.DatabasePorts.{DatabaseAccess}
 use Rattle.odb_lock.specs.SharedAccesses.{access_by_pass}
 use Rattle.console.specs.DatabaseStages.{DatabaseStage, database_stage}
-use Rattle.session_runs.specs.RunAnswers.{ClockTold, clock_of}
 use Rattle.session_lines.specs.Stages.{unopened_stage}
 use Rattle.daq_session.proofs.AloneLaws.{unopened_ends}
 use Rattle.daq_session.proofs.run.play_all.Goals as goal
@@ -11,8 +11,8 @@ pub returns-in-Ended : goal.returns-in-Ended
 returns-in-Ended g c =
     let first = c.play_first.new.unopened in
     let side = first.side in
-    let database : DatabaseStage = database_stage (access_by_pass side.database.access) (g.E.Files.seen side.database.files) (g.E.Files.faults side.database.files) (g.E.Files.clashes side.database.files) (g.E.Files.first side.database.files) side.database.replies.replies in
-    let clock : ClockTold = clock_of (g.C.Clock.tells side.clock) (g.C.Clock.ahead side.clock) in
+    let database : DatabaseStage = database_stage (access_by_pass side.database.access) (g.E.Files.told side.database.files) side.database.replies.replies in
+    let clock : AheadTold = g.C.Clock.told side.clock in
     let left = c.leave_unopened.ensures in
     let new = c.requires.session.unopened in
     record {
@@ -22,7 +22,7 @@ returns-in-Ended g c =
           counts = record {
             may = tt;
             source_counts = rw c.in-Ended.is at c.play_first.ensures.source;
-            lines = g.O.Sink.faults c.play_first.new.script.out;
+            lines = (g.O.Sink.told c.play_first.new.script.out).faults;
             sink_counts = rw c.in-Ended.is at c.play_first.ensures.sink;
             behind = refl;
           };

@@ -31,7 +31,7 @@ returns g c =
     let final : SessionStage = played.final in
     let refusals = lines.script.line_loop.refusals in
     let kept = c.scripts_keep.ensures _ final lines.ending lines.closing _ _ _ _ refusals finished in
-    let end = c.end_of-end.ensures (g.F.Files.faults outside.run_files) (g.E.Files.faults outside.odb_files) in
+    let end = c.end_of-end.ensures (g.F.Files.told outside.run_files).faults (g.E.Files.told outside.odb_files).faults in
     let faults = end (λ asks. (played.tells.failed, rw (played.tells.replies_are, played.tells.files_are) at kept.faults refl asks)) in
     let saved : c.end_of-end.result ≢ NoMemory → StageSaved final = λ other. kept.saved (memory_found lines.ending lines.closing faults.0 refusals c.end_of-end.result faults.2 other) tt in
     let keeps = c.close_left-record.ensures.kept outside.run_files final lines.ending c.end_of-end.result lines.run_files c.requires.database.rows
@@ -62,6 +62,7 @@ returns g c =
           saved = saved;
           quotas = kept.quotas refl;
           dumps = rw played.tells.files_are at kept.dumps;
+          saves = rw played.tells.files_are at kept.saves;
           fault_replies = λ asks. rw (played.tells.replies_are, played.tells.files_are) at kept.faults refl asks;
           one_reply = rw (played.tells.replies_are, played.tells.files_are) at kept.one_reply refl;
         };

@@ -8,6 +8,6 @@ use Rattle.midas_cli.proofs.tools.call_tool.Goals as goal
 
 pub returns-in-Dump-clause-ends : goal.returns-in-Dump-clause-ends
 returns-in-Dump-clause-ends g c =
-    subst (λ (names : List (List ℕ)). EndsBy c.dump_file.result.0 (g.F.Files.seen c.args.files) names
-    (call_counts g.K.Sink.faults g.F.Files.faults g.F.Files.clashes g.F.Files.bytes_read c.args.out.now c.dump_file.new.out c.args.files c.dump_file.result.1))
+    subst (λ (names : List (List ℕ)). EndsBy c.dump_file.result.0 (g.F.Files.told c.args.files).seen names
+    (call_counts g.O.Sink.told g.F.Files.told c.args.out.now c.dump_file.new.out c.args.files c.dump_file.result.1))
     (one_name c.args.names.now c.index-names-0.result (subst (λ (tool : Tool). length c.args.names.now ≤ most_files tool) c.in-Dump.is c.requires.few) c.index-names-0.is c.requires.some) c.dump_file.ensures.ends

@@ -14,7 +14,7 @@ run_on-requires-clause-few g c = few c.args.words.now c.args.tool c.requires c.a
 pub returns-in-Ok-clause-ran : goal.returns-in-Ok-clause-ran
 returns-in-Ok-clause-ran g c = λ called names is.
     inl (so_called c.args.words.now c.args.tool c.requires c.as_slice.result.now (c.as_slice.ensures.value ∙ c.in-Ok.ensures) c.one_form.ensures
-    (λ (tool : Tool) (given : List (List ℕ)). ToolRan tool (g.F.Files.seen c.args.outside.run_files) given (g.K.Sink.written c.args.outside.out) (g.K.Sink.written c.run_on.result.1.out)
-    (call_counts g.K.Sink.faults g.F.Files.faults g.F.Files.clashes g.F.Files.bytes_read c.args.outside.out c.run_on.result.1.out c.args.outside.run_files c.run_on.result.1.run_files) (g.F.Files.first c.run_on.result.1.run_files)
+    (λ (tool : Tool) (given : List (List ℕ)). ToolRan tool (g.F.Files.told c.args.outside.run_files).seen given (g.O.Sink.told c.args.outside.out).written (g.O.Sink.told c.run_on.result.1.out).written
+    (call_counts g.O.Sink.told g.F.Files.told c.args.outside.out c.run_on.result.1.out c.args.outside.run_files c.run_on.result.1.run_files) (g.F.Files.told c.run_on.result.1.run_files).first
     c.run_on.result.0.cause)
     c.run_on.ensures.ran called names is)

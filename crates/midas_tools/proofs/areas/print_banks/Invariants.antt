@@ -6,8 +6,8 @@ use Rattle.midas_tools.proofs.areas.print_banks.Given as goal
 
 abbrev pub invariant-loop-bank : goal.invariant-loop-bank
 invariant-loop-bank g l = record {
-  prints : PrintsSoFar (g.K.Sink.written l.fn.out) (g.K.Sink.written l.out) (l.page ++ bank_lines l.banks.left) (l.fn.page ++ bank_lines l.fn.banks.left);
-  sink : g.K.Sink.faults l.out ≡ g.K.Sink.faults l.fn.out;
+  prints : PrintsSoFar (g.O.Sink.told l.fn.out).written (g.O.Sink.told l.out).written (l.page ++ bank_lines l.banks.left) (l.fn.page ++ bank_lines l.fn.banks.left);
+  sink : (g.O.Sink.told l.out).faults ≡ (g.O.Sink.told l.fn.out).faults;
 }
 
 abbrev pub decreases-loop-bank : goal.decreases-loop-bank

@@ -8,9 +8,9 @@ use Rattle.midas_tools.proofs.dump.print_at_hand.Goals as goal
 pub loop-header-preserved : goal.loop-header-preserved
 loop-header-preserved g c = record {
   printing = λ first told_first before.
-      one_more first (g.S.Source.left c.pass_event.new.self.source) c.pass_event.new.self.progress told_first (g.K.Sink.written c.loop-header.out) (g.K.Sink.written c.print_event-printed.new.out) c.loop-header.page c.print_event-printed.new.page tt c.in_ok-printed.field-0 _
+      one_more first (g.S.Source.told c.pass_event.new.self.source).left c.pass_event.new.self.progress told_first (g.O.Sink.told c.loop-header.out).written (g.O.Sink.told c.print_event-printed.new.out).written c.loop-header.page c.print_event-printed.new.page tt c.in_ok-printed.field-0 _
       (stepped_on _ _ _ _ _ _ _ _ _ _ (c.loop-header.invariant.printing first told_first before) c.in-Some.ensures.whole c.pass_event.ensures.reads c.pass_event.ensures.begun)
-      (subst (λ (b : List ℕ). PassesLines (AreEventLines (event_of c.in-Some.header b)) (g.K.Sink.written c.loop-header.out) (g.K.Sink.written c.print_event-printed.new.out) c.loop-header.page c.print_event-printed.new.page (Ok c.in_ok-printed.field-0)) c.in-Some.ensures.data c.in_ok-printed.ensures.passes)
+      (subst (λ (b : List ℕ). PassesLines (AreEventLines (event_of c.in-Some.header b)) (g.O.Sink.told c.loop-header.out).written (g.O.Sink.told c.print_event-printed.new.out).written c.loop-header.page c.print_event-printed.new.page (Ok c.in_ok-printed.field-0)) c.in-Some.ensures.data c.in_ok-printed.ensures.passes)
       c.pass_event.ensures.fault c.pass_event.ensures.end;
   origin = c.pass_event.ensures.origin ∙ c.loop-header.invariant.origin;
   source = c.pass_event.ensures.faults ∙ c.loop-header.invariant.source;
@@ -21,6 +21,6 @@ loop-header-preserved g c = record {
 pub returns-in_err-printed-clause-prints : goal.returns-in_err-printed-clause-prints
 returns-in_err-printed-clause-prints g c = λ first told_first before.
     let p = err_from_is_err_and c.from_residual.result c.from_residual.ensures.1 in
-    rw p.1 (one_cut first (g.S.Source.left c.pass_event.new.self.source) c.pass_event.new.self.progress told_first (g.K.Sink.written c.loop-header.out) (g.K.Sink.written c.print_event-printed.new.out) c.loop-header.page c.print_event-printed.new.page tt c.in_err-printed.field-0.0 _
+    rw p.1 (one_cut first (g.S.Source.told c.pass_event.new.self.source).left c.pass_event.new.self.progress told_first (g.O.Sink.told c.loop-header.out).written (g.O.Sink.told c.print_event-printed.new.out).written c.loop-header.page c.print_event-printed.new.page tt c.in_err-printed.field-0.0 _
     (stepped_on _ _ _ _ _ _ _ _ _ _ (c.loop-header.invariant.printing first told_first before) c.in-Some.ensures.whole c.pass_event.ensures.reads c.pass_event.ensures.begun)
-    (subst (λ (b : List ℕ). PassesLines (AreEventLines (event_of c.in-Some.header b)) (g.K.Sink.written c.loop-header.out) (g.K.Sink.written c.print_event-printed.new.out) c.loop-header.page c.print_event-printed.new.page (Err c.in_err-printed.field-0.0)) c.in-Some.ensures.data c.in_err-printed.ensures.passes))
+    (subst (λ (b : List ℕ). PassesLines (AreEventLines (event_of c.in-Some.header b)) (g.O.Sink.told c.loop-header.out).written (g.O.Sink.told c.print_event-printed.new.out).written c.loop-header.page c.print_event-printed.new.page (Err c.in_err-printed.field-0.0)) c.in-Some.ensures.data c.in_err-printed.ensures.passes))

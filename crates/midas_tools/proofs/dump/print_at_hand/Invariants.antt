@@ -5,10 +5,10 @@ use Rattle.midas_tools.proofs.dump.print_at_hand.Given as goal
 
 abbrev pub invariant-loop-header : goal.invariant-loop-header
 invariant-loop-header g l = record {
-  printing : (first told_first : Option (List ℕ)) → Printing first (g.S.Source.left l.fn.reader.source) l.fn.reader.progress told_first (g.K.Sink.written l.fn.out) l.fn.page → Printing first (g.S.Source.left l.reader.source) l.reader.progress told_first (g.K.Sink.written l.out) l.page;
-  origin : g.S.Source.origin l.reader.source ≡ g.S.Source.origin l.fn.reader.source;
-  source : g.S.Source.faults l.reader.source ≡ g.S.Source.faults l.fn.reader.source;
-  sink : g.K.Sink.faults l.out ≡ g.K.Sink.faults l.fn.out;
+  printing : (first told_first : Option (List ℕ)) → Printing first (g.S.Source.told l.fn.reader.source).left l.fn.reader.progress told_first (g.O.Sink.told l.fn.out).written l.fn.page → Printing first (g.S.Source.told l.reader.source).left l.reader.progress told_first (g.O.Sink.told l.out).written l.page;
+  origin : (g.S.Source.told l.reader.source).origin ≡ (g.S.Source.told l.fn.reader.source).origin;
+  source : (g.S.Source.told l.reader.source).faults ≡ (g.S.Source.told l.fn.reader.source).faults;
+  sink : (g.O.Sink.told l.out).faults ≡ (g.O.Sink.told l.fn.out).faults;
   onward : l.fn.reader.progress.at ≤ l.reader.progress.at;
 }
 

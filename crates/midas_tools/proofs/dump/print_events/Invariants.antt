@@ -6,11 +6,11 @@ use Rattle.midas_tools.proofs.dump.print_events.Given as goal
 
 abbrev pub invariant-events : goal.invariant-events
 invariant-events g l = record {
-  printing : Printing (g.S.Source.left l.fn.reader.source) (g.S.Source.left l.reader.source) l.reader.progress (g.K.Sink.written l.fn.out) (g.K.Sink.written l.out) l.page;
+  printing : Printing (g.S.Source.told l.fn.reader.source).left (g.S.Source.told l.reader.source).left l.reader.progress (g.O.Sink.told l.fn.out).written (g.O.Sink.told l.out).written l.page;
   room : event_limit ≤ l.event.room;
-  origin : g.S.Source.origin l.reader.source ≡ g.S.Source.origin l.fn.reader.source;
-  source : g.S.Source.faults l.reader.source ≡ g.S.Source.faults l.fn.reader.source;
-  sink : g.K.Sink.faults l.out ≡ g.K.Sink.faults l.fn.out;
+  origin : (g.S.Source.told l.reader.source).origin ≡ (g.S.Source.told l.fn.reader.source).origin;
+  source : (g.S.Source.told l.reader.source).faults ≡ (g.S.Source.told l.fn.reader.source).faults;
+  sink : (g.O.Sink.told l.out).faults ≡ (g.O.Sink.told l.fn.out).faults;
 }
 
 abbrev pub decreases-events : goal.decreases-events

@@ -7,9 +7,9 @@ use Rattle.midas_tools.proofs.gathering.gather_all.Given as goal
 
 abbrev pub invariant-loop-at : goal.invariant-loop-at
 invariant-loop-at g l = record {
-  gathers : GathersAll (g.T.EventTaker.has_taken l.gathered.summary) (g.F.Files.seen l.fn.files) (take l.at l.names) l.gathered.extent;
+  gathers : GathersAll (g.T.EventTaker.has_taken l.gathered.summary) (g.F.Files.told l.fn.files).seen (take l.at l.names) l.gathered.extent;
   room : event_limit ≤ l.gathered.room.room;
-  faults : g.F.Files.faults l.files ≡ g.F.Files.faults l.fn.files;
-  first : l.at ≡ 0 → g.F.Files.clashes l.files ≡ g.F.Files.clashes l.fn.files;
-  same : Same (g.F.Files.seen l.fn.files) (g.F.Files.seen l.files);
+  faults : (g.F.Files.told l.files).faults ≡ (g.F.Files.told l.fn.files).faults;
+  first : l.at ≡ 0 → (g.F.Files.told l.files).clashes ≡ (g.F.Files.told l.fn.files).clashes;
+  same : Same (g.F.Files.told l.fn.files).seen (g.F.Files.told l.files).seen;
 }

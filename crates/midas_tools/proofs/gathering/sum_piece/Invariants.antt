@@ -8,11 +8,11 @@ use Rattle.midas_tools.proofs.gathering.sum_piece.Given as goal
 abbrev pub invariant-events : goal.invariant-events
 invariant-events g l = record {
   so_far : (events : List Event) → g.T.EventTaker.has_taken l.fn.summary events → length (all_encoded events) ≤ l.before.bytes
-      → SumsSome (λ more. g.T.EventTaker.has_taken l.summary (events ++ more)) l.before.bytes (g.S.Source.left l.fn.reader.source) (g.S.Source.left l.reader.source) l.reader.progress;
+      → SumsSome (λ more. g.T.EventTaker.has_taken l.summary (events ++ more)) l.before.bytes (g.S.Source.told l.fn.reader.source).left (g.S.Source.told l.reader.source).left l.reader.progress;
   enough : event_limit ≤ l.room.room;
   room : l.room.room ≡ l.fn.room.room;
-  origin : g.S.Source.origin l.reader.source ≡ g.S.Source.origin l.fn.reader.source;
-  faults : g.S.Source.faults l.reader.source ≡ g.S.Source.faults l.fn.reader.source;
+  origin : (g.S.Source.told l.reader.source).origin ≡ (g.S.Source.told l.fn.reader.source).origin;
+  faults : (g.S.Source.told l.reader.source).faults ≡ (g.S.Source.told l.fn.reader.source).faults;
 }
 
 abbrev pub decreases-events : goal.decreases-events

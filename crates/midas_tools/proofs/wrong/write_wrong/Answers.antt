@@ -24,23 +24,23 @@ returns-in_err-write_all-clause-part g c =
     let p = err_from_is_err_and c.from_residual.result c.from_residual.ensures.1 in
     let several : c.args.several ≡ true = search rules in
     rw (p.1, several) (front_part _ _ c.args.name.now c.args.fault
-    (subst (λ (t : List ℕ). AppendsPart (g.K.Sink.written c.args.out.now) (g.K.Sink.written c.write_all-2.new.out) t) (c.as_slice-2.ensures.made ∙ c.bad_front.ensures) c.in_err-write_all.ensures.part))
+    (subst (λ (t : List ℕ). AppendsPart (g.O.Sink.told c.args.out.now).written (g.O.Sink.told c.write_all-2.new.out).written t) (c.as_slice-2.ensures.made ∙ c.bad_front.ensures) c.in_err-write_all.ensures.part))
 
 pub returns-in_err-write_all-2-clause-part : goal.returns-in_err-write_all-2-clause-part
 returns-in_err-write_all-2-clause-part g c =
     let p = err_from_is_err_and c.from_residual-in_err-write_all-2.result c.from_residual-in_err-write_all-2.ensures.1 in
     let several : c.args.several ≡ true = search rules in
-    rw (p.1, several) (name_part _ (g.K.Sink.written c.write_all-2.new.out) _ c.args.name.now c.args.fault
-    (subst (λ (t : List ℕ). Appends (g.K.Sink.written c.args.out.now) (g.K.Sink.written c.write_all-2.new.out) t) (c.as_slice-2.ensures.made ∙ c.bad_front.ensures) c.in_ok-write_all.ensures.all)
-    (subst (λ (t : List ℕ). AppendsPart (g.K.Sink.written c.write_all-2.new.out) (g.K.Sink.written c.write_all-3.new.out) t) c.as_slice-3.ensures.bytes c.in_err-write_all-2.ensures.part))
+    rw (p.1, several) (name_part _ (g.O.Sink.told c.write_all-2.new.out).written _ c.args.name.now c.args.fault
+    (subst (λ (t : List ℕ). Appends (g.O.Sink.told c.args.out.now).written (g.O.Sink.told c.write_all-2.new.out).written t) (c.as_slice-2.ensures.made ∙ c.bad_front.ensures) c.in_ok-write_all.ensures.all)
+    (subst (λ (t : List ℕ). AppendsPart (g.O.Sink.told c.write_all-2.new.out).written (g.O.Sink.told c.write_all-3.new.out).written t) c.as_slice-3.ensures.bytes c.in_err-write_all-2.ensures.part))
 
 pub returns-clause-part : goal.returns-clause-part
 returns-clause-part g c =
     let several : c.args.several ≡ true = search rules in
-    let front : Appends (g.K.Sink.written c.args.out.now) (g.K.Sink.written c.write_all-2.new.out) (bad_front c.args.fault) =
-    subst (λ (t : List ℕ). Appends (g.K.Sink.written c.args.out.now) (g.K.Sink.written c.write_all-2.new.out) t) (c.as_slice-2.ensures.made ∙ c.bad_front.ensures) c.in_ok-write_all.ensures.all in
-    let name : Appends (g.K.Sink.written c.write_all-2.new.out) (g.K.Sink.written c.write_all-3.new.out) c.args.name.now =
-    subst (λ (t : List ℕ). Appends (g.K.Sink.written c.write_all-2.new.out) (g.K.Sink.written c.write_all-3.new.out) t) c.as_slice-3.ensures.bytes c.in_ok-write_all-2.ensures.all in
-    rw several (on_err_part c.write_all-4.result _ (g.K.Sink.written c.write_all-3.new.out) _ (10 ∷ []) (bad_front c.args.fault ++ (c.args.name.now ++ 10 ∷ []))
+    let front : Appends (g.O.Sink.told c.args.out.now).written (g.O.Sink.told c.write_all-2.new.out).written (bad_front c.args.fault) =
+    subst (λ (t : List ℕ). Appends (g.O.Sink.told c.args.out.now).written (g.O.Sink.told c.write_all-2.new.out).written t) (c.as_slice-2.ensures.made ∙ c.bad_front.ensures) c.in_ok-write_all.ensures.all in
+    let name : Appends (g.O.Sink.told c.write_all-2.new.out).written (g.O.Sink.told c.write_all-3.new.out).written c.args.name.now =
+    subst (λ (t : List ℕ). Appends (g.O.Sink.told c.write_all-2.new.out).written (g.O.Sink.told c.write_all-3.new.out).written t) c.as_slice-3.ensures.bytes c.in_ok-write_all-2.ensures.all in
+    rw several (on_err_part c.write_all-4.result _ (g.O.Sink.told c.write_all-3.new.out).written _ (10 ∷ []) (bad_front c.args.fault ++ (c.args.name.now ++ 10 ∷ []))
     (record { done = bad_front c.args.fault ++ c.args.name.now; written = Appends-trans _ _ _ (bad_front c.args.fault) c.args.name.now front name; text_is = sym (append_assoc (bad_front c.args.fault) c.args.name.now (10 ∷ [])) })
     c.write_all-4.ensures.part)
