@@ -105,13 +105,13 @@ impl EventBuf {
     /// the source has no more. Where the source fails, the room holds some event, of no meaning.
     pub fn fill_from<S: Source>(&mut self, header: &Header, source: &mut S) -> Result<usize, Failed>
         requires { header.now.data_size ≤ self.old.room }
-        ensures gathers { IfOk result (GathersBody (S.left source.old) (S.left source.new)
+        ensures gathers { IfOk result (GathersBody (S.told source.old).left (S.told source.new).left
             header.now self.new) }
-        ensures fails { OnErr result (FailsBehind (S.left source.old) (S.left source.new)
-            (S.at_hand source.new) header.now.data_size) }
+        ensures fails { OnErr result (FailsBehind (S.told source.old).left (S.told source.new).left
+            (S.told source.new).at_hand header.now.data_size) }
         ensures room { self.new.room ≡ self.old.room }
-        ensures faults { CountsFault (S.faults source.old) (S.faults source.new) result }
-        ensures origin { S.origin source.new ≡ S.origin source.old }
+        ensures faults { CountsFault (S.told source.old).faults (S.told source.new).faults result }
+        ensures origin { (S.told source.new).origin ≡ (S.told source.old).origin }
     {
         self.prepare(*header);
         let (_, body) = self.bytes.as_mut_slice().split_at_mut(HEADER_BYTES);

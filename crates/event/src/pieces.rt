@@ -7,13 +7,13 @@ use daq_io::{Failed, Source};
 /// Reads until `into` is full or the source has no more, and answers how many bytes. The source may give them in any
 /// pieces.
 pub fn read_full<S: Source>(source: &mut S, into: &mut [u8]) -> Result<usize, Failed>
-    ensures gathers { IfOk result (λ count. Gathers (S.left source.old) (S.left source.new)
+    ensures gathers { IfOk result (λ count. Gathers (S.told source.old).left (S.told source.new).left
         into.new count) }
-    ensures fails { OnErr result (FailsBehind (S.left source.old) (S.left source.new)
-        (S.at_hand source.new) (length into.old)) }
+    ensures fails { OnErr result (FailsBehind (S.told source.old).left (S.told source.new).left
+        (S.told source.new).at_hand (length into.old)) }
     ensures length { length into.new ≡ length into.old }
-    ensures faults { CountsFault (S.faults source.old) (S.faults source.new) result }
-    ensures origin { S.origin source.new ≡ S.origin source.old }
+    ensures faults { CountsFault (S.told source.old).faults (S.told source.new).faults result }
+    ensures origin { (S.told source.new).origin ≡ (S.told source.old).origin }
 {
     let mut done = 0;
     while done < into.len() {

@@ -66,8 +66,8 @@ pub fn is_missing<F: Files>(files: &mut F, name: &FileName) -> bool {
 
 /// Appends to a file, and answers whether it took the bytes. It is still being written.
 fn is_appended<F: Files>(files: &mut F, file: u32, bytes: &[u8]) -> bool
-    requires { IsTrue ((F.seen files.old).writes file) }
-    ensures { IsTrue ((F.seen files.new).writes file) }
+    requires { IsTrue ((F.told files.old).seen.writes file) }
+    ensures { IsTrue ((F.told files.new).seen.writes file) }
 {
     match files.append(file, bytes) {
         Ok(()) => true,
@@ -114,7 +114,7 @@ pub fn read_as_source<F: Files + Drop>(
 }
 
 /// Copies the source to the sink, in pieces of three bytes, and answers how many bytes that were.
-pub fn copy<S: Source, K: Sink>(source: &mut S, sink: &mut K) -> Result<u64, Failed> {
+pub fn copy<S: Source, O: Sink>(source: &mut S, sink: &mut O) -> Result<u64, Failed> {
     let mut piece = [0; 3];
     let mut copied: u64 = 0;
     for _ in 0..u64::MAX {
@@ -129,7 +129,7 @@ pub fn copy<S: Source, K: Sink>(source: &mut S, sink: &mut K) -> Result<u64, Fai
 }
 
 /// Copies all of a source.
-pub fn copy_all<S: Source + Drop, K: Sink>(mut source: S, sink: &mut K) -> Result<u64, Failed> {
+pub fn copy_all<S: Source + Drop, O: Sink>(mut source: S, sink: &mut O) -> Result<u64, Failed> {
     copy(&mut source, sink)
 }
 
@@ -139,7 +139,7 @@ pub fn next_three<C: Clock + Drop>(mut clock: C) -> [u32; 3] {
 }
 
 /// The members, of so many, that three choices take for the first turn of a round; 0 each time where there is none.
-pub fn first_three<P: Pick + Drop>(mut pick: P, members: u32) -> [u32; 3] {
+pub fn first_three<K: Pick + Drop>(mut pick: K, members: u32) -> [u32; 3] {
     if members == 0 {
         return [0; 3];
     }

@@ -1,8 +1,8 @@
 //! Run files, read from a source.
-ghost use Rattle.std.specs.Prelude.{◌≡◌, ◌≤◌, ◌<◌, None, IfOk, vec_len};
+ghost use Rattle.std.specs.Prelude.{◌≡◌, ◌≤◌, ◌<◌, [], None, IfOk, vec_len};
 ghost use Rattle.event.specs.Events.{event_limit};
 
-use daq_io::{Failed, Source, copy_front};
+use daq_io::{ByteTrace, Failed, Source, copy_front};
 use daq_mem::MemSource;
 use daq_types::NoMemory;
 use event::{EventBuf, Header, MAX_DATA};
@@ -25,24 +25,22 @@ fn one_event(alloc: Global) -> Result<Vec<u8>, AllocError> {
     file_of(alloc, &[BEGIN, EVENT, END])
 }
 
-/// A source of these bytes, one at a time. It tells nothing.
+/// A source of these bytes, one at a time. It does not tell which are left.
 #[derive(Drop)]
 struct SingleBytes<'a> {
     rest: &'a [u8],
+    gave: ByteTrace,
 }
 
 impl Source for SingleBytes<'_> {
-    ghost left = { λ _. None };
-
-    ghost faults = { λ _. 0 };
-
-    ghost origin = { λ _. None };
+    ghost told = { λ s. record { left = None; gave = s.gave; faults = 0; at_hand = []; origin = None } };
 
     fn read(&mut self, into: &mut [u8]) -> Result<usize, Failed> {
         let (front, _) = into.split_at_mut(into.len().min(1));
         let count = copy_front(self.rest, front);
         let (_, rest) = self.rest.split_at(count);
         self.rest = rest;
+        self.gave.more(into, count);
         Ok(count)
     }
 }
@@ -175,6 +173,7 @@ fn read_single_bytes(alloc: Global) -> Result<(ReadThrough, bool), NoMemory> {
     let mut into = EventBuf::new(alloc, MAX_DATA)?;
     let mut reader = MidReader::new(SingleBytes {
         rest: file.as_slice(),
+        gave: ByteTrace::new(),
     });
     let told = read_through(&mut reader, &mut into);
     Ok((told, reader.into_source().read(&mut [0; 8]) == Ok(0)))

@@ -1,7 +1,7 @@
 //! The lines of a script, read from a source.
-ghost use Rattle.std.specs.Prelude.{None};
+ghost use Rattle.std.specs.Prelude.{[], None};
 
-use daq_io::{Failed, Source};
+use daq_io::{ByteTrace, Failed, Source};
 use daq_mem::MemSource;
 use daq_types::NoMemory;
 use odb_script::{LineReader, NextLine};
@@ -50,19 +50,16 @@ fn a_line_cut_by_a_fault(rt: HostRuntime) -> Result<(), Fail> {
     Ok(())
 }
 
-/// A script of one long line of blanks, and behind it of line ends without end. It tells nothing.
+/// A script of one long line of blanks, and behind it of line ends without end. It does not tell which bytes are left.
 #[derive(Drop)]
 struct LongScript {
     /// How many blanks are to come.
     blanks: usize,
+    gave: ByteTrace,
 }
 
 impl Source for LongScript {
-    ghost left = { λ _. None };
-
-    ghost faults = { λ _. 0 };
-
-    ghost origin = { λ _. None };
+    ghost told = { λ s. record { left = None; gave = s.gave; faults = 0; at_hand = []; origin = None } };
 
     fn read(&mut self, into: &mut [u8]) -> Result<usize, Failed> {
         let count = into.len();
@@ -71,6 +68,7 @@ impl Source for LongScript {
         line.fill(b' ');
         ends.fill(b'\n');
         self.blanks -= blanks;
+        self.gave.more(into, count);
         Ok(count)
     }
 }
@@ -88,7 +86,8 @@ fn next_four<S: Source>(source: &mut S, reader: &mut LineReader) -> [NextLine; 4
 /// What a new reader answers to a line of so many blanks, and line ends behind it.
 fn read_blanks(alloc: Global, blanks: usize) -> Result<[NextLine; 4], NoMemory> {
     let mut reader = LineReader::new(alloc)?;
-    Ok(next_four(&mut LongScript { blanks }, &mut reader))
+    let gave = ByteTrace::new();
+    Ok(next_four(&mut LongScript { blanks, gave }, &mut reader))
 }
 
 /// The third line ends with the last byte that a script may have.

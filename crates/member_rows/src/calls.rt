@@ -27,8 +27,8 @@ pub fn turn<R: Wait, F: Files, P: BufferPort>(
     transition: Transition,
     order: &Order,
 ) -> Result<Option<Answer>, NoMemory>
-    requires row { IsRowReady logger.old (map P.access ports.old) (F.seen files.old) }
-    ensures row { OnOk result (IsRowReady logger.new (map P.access ports.new) (F.seen files.new)) }
+    requires row { IsRowReady logger.old (map P.access ports.old) (F.told files.old).seen }
+    ensures row { OnOk result (IsRowReady logger.new (map P.access ports.new) (F.told files.new).seen) }
 {
     let dump = Bytes::of(DUMP.to_vec(alloc)?);
     Ok(logger.on_turn(rt, files, ports, transition, order, Some(dump)))
@@ -89,8 +89,8 @@ pub fn pull<R: Wait, F: Files, P: BufferPort>(
     ports: &mut Ports<P>,
     channel: u32,
 ) -> Pulled
-    requires row { IsRowReady logger.old (map P.access ports.old) (F.seen files.old) }
-    ensures row { IsRowReady logger.new (map P.access ports.new) (F.seen files.new) }
+    requires row { IsRowReady logger.old (map P.access ports.old) (F.told files.old).seen }
+    ensures row { IsRowReady logger.new (map P.access ports.new) (F.told files.new).seen }
 {
     logger.pull(rt, files, ports, channel)
 }

@@ -69,7 +69,7 @@ fn open<R: Wait, F: Files, P: BufferPort>(
     requires small { length dump.now ≤ record_limit }
     ensures size { (P.access port.new).size ≡ (P.access port.old).size }
     ensures room { channel.new.event ≡ channel.old.event }
-    ensures file { IsLastOpen (F.seen files.new) channel.new.spec
+    ensures file { IsLastOpen (F.told files.new).seen channel.new.spec
         (written_run channel.new.stage) }
 {
     channel.open(rt, files, port, &order(), dump)
@@ -111,10 +111,10 @@ fn pull<R: Wait, F: Files, P: BufferPort>(
     port: &mut P,
     channel: &mut Channel,
 ) -> Pulled
-    requires file { IsLastOpen (F.seen files.old) channel.old.spec (written_run channel.old.stage) }
+    requires file { IsLastOpen (F.told files.old).seen channel.old.spec (written_run channel.old.stage) }
     requires room { min event_limit ((P.access port.old).size - 24) ≤ channel.old.event.room }
     ensures room { channel.new.event.room ≡ channel.old.event.room }
-    ensures file { IsLastOpen (F.seen files.new) channel.new.spec (written_run channel.new.stage) }
+    ensures file { IsLastOpen (F.told files.new).seen channel.new.spec (written_run channel.new.stage) }
 {
     channel.pull(rt, files, port, DUMP)
 }
@@ -147,7 +147,7 @@ fn run_of_one_event<R: Wait, F: Files, P: BufferPort>(
 ) -> Pulled
     requires idle { channel.old.stage ≡ Idle }
     requires room { min event_limit ((P.access port.old).size - 24) ≤ channel.old.event.room }
-    ensures file { IsLastOpen (F.seen files.new) channel.new.spec
+    ensures file { IsLastOpen (F.told files.new).seen channel.new.spec
         (written_run channel.new.stage) }
 {
     let _ = open(rt, files, port, channel, DUMP);

@@ -32,7 +32,7 @@ impl Model for Fixture {
     ghost view = { λ f. length f.ports };
 
     ghost invariant = { λ f.
-        IsRowReady f.logger (map row_access f.ports) (seen_files f.files).seen };
+        IsRowReady f.logger (map row_access f.ports) (seen_files f.files).told.seen };
 }
 
 impl Fixture {

@@ -89,7 +89,7 @@ fn begin<R: Wait, F: Files, P: BufferPort>(
 )
     requires idle { channel.old.stage ≡ Idle }
     ensures room { channel.new.event ≡ channel.old.event }
-    ensures file { IsLastOpen (F.seen files.new) channel.new.spec
+    ensures file { IsLastOpen (F.told files.new).seen channel.new.spec
         (written_run channel.new.stage) }
     ensures few { files_by channel.new.stage ≤ 10000 }
 {
@@ -125,7 +125,7 @@ fn writing_at(opened: ChannelRun, file: u32, sub: u32) -> ChannelRun
 /// Goes on in an empty file of number 9998. Where it cannot be made no run is written.
 fn go_on<F: Files>(files: &mut F, channel: &mut Channel)
     ensures room { channel.new.event ≡ channel.old.event }
-    ensures file { IsLastOpen (F.seen files.new) channel.new.spec
+    ensures file { IsLastOpen (F.told files.new).seen channel.new.spec
         (written_run channel.new.stage) }
     ensures few { files_by channel.new.stage ≤ 10000 }
 {
@@ -169,11 +169,11 @@ fn send_and_pull<R: Wait, F: Files, P: BufferPort>(
     channel: &mut Channel,
     body: &[u8],
 )
-    requires file { IsLastOpen (F.seen files.old) channel.old.spec (written_run channel.old.stage) }
+    requires file { IsLastOpen (F.told files.old).seen channel.old.spec (written_run channel.old.stage) }
     requires few { files_by channel.old.stage ≤ 10000 }
     requires room { event_limit ≤ channel.old.event.room }
     ensures room { event_limit ≤ channel.new.event.room }
-    ensures file { IsLastOpen (F.seen files.new) channel.new.spec (written_run channel.new.stage) }
+    ensures file { IsLastOpen (F.told files.new).seen channel.new.spec (written_run channel.new.stage) }
     ensures few { files_by channel.new.stage ≤ 10000 }
 {
     send(rt, port, body);
@@ -191,7 +191,7 @@ fn write_events<R: Wait, F: Files, P: BufferPort>(
     requires idle { channel.old.stage ≡ Idle }
     requires room { event_limit ≤ channel.old.event.room }
     ensures room { event_limit ≤ channel.new.event.room }
-    ensures file { IsLastOpen (F.seen files.new) channel.new.spec (written_run channel.new.stage) }
+    ensures file { IsLastOpen (F.told files.new).seen channel.new.spec (written_run channel.new.stage) }
     ensures few { files_by channel.new.stage ≤ 10000 }
 {
     begin(rt, files, port, channel);
@@ -213,7 +213,7 @@ fn end<R: Wait, F: Files, P: BufferPort>(
     aborts: bool,
     dump: &Option<Bytes>,
 ) -> Option<ChannelEnd>
-    requires file { IsLastOpen (F.seen files.old) channel.old.spec (written_run channel.old.stage) }
+    requires file { IsLastOpen (F.told files.old).seen channel.old.spec (written_run channel.old.stage) }
     requires few { files_by channel.old.stage ≤ 10000 }
     requires room { event_limit ≤ channel.old.event.room }
     requires small { IfSome dump.now (λ bytes. length bytes ≤ record_limit) }

@@ -50,9 +50,9 @@ returns-clause-gathers g c =
     let old_is : c.split_at_mut-body.result.1.now ≡ drop 16 c.self.inside.bytes.items = c.split_at_mut-body.ensures.back ∙ ap (drop 16) c.as_mut_slice.ensures.value in
     let new_is : drop 16 (with_items c.self.inside.bytes (c.split_at_mut-body.result.0.now ++ c.read_full.new.into)).items ≡ c.read_full.new.into =
     written_body c.self.inside.header _ _ _ items_are is_head in
-    map_ok (Gathers (g.S.Source.left c.args.source.now) (g.S.Source.left c.read_full.new.source) c.read_full.new.into) _ c.read_full.result
-    (λ count p. gathered (g.S.Source.left c.args.source.now) (g.S.Source.left c.read_full.new.source) c.args.header.now c.self.inside.header c.args.self.now c.self.inside.room
+    map_ok (Gathers (g.S.Source.told c.args.source.now).left (g.S.Source.told c.read_full.new.source).left c.read_full.new.into) _ c.read_full.result
+    (λ count p. gathered (g.S.Source.told c.args.source.now).left (g.S.Source.told c.read_full.new.source).left c.args.header.now c.self.inside.header c.args.self.now c.self.inside.room
     (drop 16 c.self.inside.bytes.items) c.prepare.ensures.0 _ count (c.self.view_is ∙ c.prepare.ensures.2) c.prepare.ensures.1
     (ap (length {A = ℕ}) new_is ∙ c.read_full.ensures.length ∙ ap (length {A = ℕ}) old_is)
-    (subst (λ b. Gathers (g.S.Source.left c.args.source.now) (g.S.Source.left c.read_full.new.source) b count) (sym new_is) p))
+    (subst (λ b. Gathers (g.S.Source.told c.args.source.now).left (g.S.Source.told c.read_full.new.source).left b count) (sym new_is) p))
     c.read_full.ensures.gathers
