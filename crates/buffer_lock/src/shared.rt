@@ -6,7 +6,7 @@ ghost use Rattle.buffer_core.specs.Delivered.{Delivers};
 ghost use Rattle.buffer_core.specs.Runs.{KeepsRuns};
 ghost use Rattle.buffer_core.specs.Histories.{IsLegal, replay};
 ghost use Rattle.turn_lock.specs.Passes.{passes_of, number_of, seen_by, held_by, found_by, IsOf};
-ghost use Rattle.turn_lock.specs.History.{IsPartOf, entries_below};
+ghost use Rattle.turn_lock.specs.History.{IsPartOf, HadTurnThen, entries_below};
 ghost use Rattle.turn_lock.specs.Closing.{AreComplete, IsLeastMissing, opened_with, history_of};
 ghost use Rattle.turn_lock.specs.Roster.{items_of, numbers_of, numbers_below, ArePassesOf, AreIdle, AreFresh};
 ghost use Rattle.turn_lock.specs.Entered.{Enters, FindsTaken};
@@ -149,6 +149,10 @@ impl<B: EventBuffer> SharedBuffer<B> {
             → entries_by n (history_of closed) ≡ []) }
         ensures length { IfOk result (λ closed. length (history_of closed)
             ≡ entries_below (passes_of (lock_of self)) (history_of closed)) }
+
+        // Each number that a failed try of a pass found had the turn at that moment of it.
+        ensures found { IfOk result (λ closed. All (λ pass. All (HadTurnThen (history_of closed))
+            (found_by pass)) (items_of passes)) }
 
         ensures complete { IfOk result (λ closed. AreComplete (numbers_of passes)
             (passes_of (lock_of self))) }

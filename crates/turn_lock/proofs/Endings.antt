@@ -1,9 +1,9 @@
 -- Lists of passes, as a lock ends.
-use Rattle.std.proofs.Common.{◌≡◌, ℕ, zero, suc, ◌<◌, Bool, true, false, ◌||◌, List, [], ◌∷◌, ◌++◌, length, map, get_or, take, drop, sym, refl, ◌∙◌, arith, eq-eqb, ne_eqb, None}
+use Rattle.std.proofs.Common.{◌≡◌, ℕ, zero, suc, ◌<◌, Bool, true, false, ◌||◌, List, [], ◌∷◌, ◌++◌, length, map, get_or, take, drop, sym, refl, ap, ◌∙◌, arith, eq-eqb, ne_eqb, None}
 use Rattle.std.specs.Prelude.{All, Contains, ◌==◌}
 use Rattle.std.specs.List.{list_any}
 use Rattle.std.proofs.lemmas.List.Elements.{All-cons, All-head, All-tail, All-weaker}
-use Rattle.std.proofs.lemmas.List.{append_assoc}
+use Rattle.std.proofs.lemmas.List.{append-nil, append_assoc}
 use mathlib.Core.List.{IsPrefix}
 use mathlib.Core.Logic.{dite}
 use native.Mathlib.Decide.{ℕ_discrete}
@@ -11,7 +11,7 @@ use Rattle.atomic_table.proofs.Lists.{at_longer}
 use Rattle.turn_lock.specs.declared.lock.Turns.{Turns}
 use Rattle.turn_lock.specs.declared.lock.Pass.{Pass}
 use Rattle.turn_lock.specs.Views.{pair_of}
-use Rattle.turn_lock.specs.Passes.{number_of, seen_by, own_entries, held_by, IsOf}
+use Rattle.turn_lock.specs.Passes.{number_of, seen_by, own_entries, found_by, held_by, IsOf}
 use Rattle.turn_lock.specs.Closing.{Absorbs}
 use Rattle.turn_lock.proofs.LockLaws.{All_first, prefix_through, pair_stands}
 
@@ -62,32 +62,36 @@ module _ {M D E : Type 0} {g : _} where
     pub idle : held_by zero_pass ≡ None
     pub seen : IsPrefix (seen_by start) (seen_by zero_pass)
     pub mine : own_entries zero_pass ≡ own_entries start
+    pub found : IsPrefix (found_by start) (found_by zero_pass)
     pub left_own : All (IsOf lock) left
     pub left_idle : All (λ pass. held_by pass ≡ None) left
     pub done : List (Pass M D E g)
     pub items : all ≡ left ++ done
     pub absorbed : All (Absorbs zero_pass) done
 
-  Absorbs-later : (before after : Pass M D E g) (more : List (ℕ × List E)) → IsPrefix (seen_by before) (seen_by after) → after.seat.me.0.pairs ≡ before.seat.me.0.pairs ++ more → (pass : Pass M D E g) → Absorbs before pass → Absorbs after pass
-  Absorbs-later before after more seen pairs pass a = record {
+  Absorbs-later : (before after : Pass M D E g) (more : List (ℕ × List E)) (found : List (ℕ × List (ℕ × E))) → IsPrefix (seen_by before) (seen_by after) → after.seat.me.0.pairs ≡ before.seat.me.0.pairs ++ more → found_by after ≡ found_by before ++ found
+      → (pass : Pass M D E g) → Absorbs before pass → Absorbs after pass
+  Absorbs-later before after more found seen pairs founds pass a = record {
     begins = prefix_through (seen_by pass) (seen_by before) (seen_by after) a.begins seen;
     pair = (a.pair.0, rw pairs (at_longer before.seat.me.0.pairs more a.pair.0 (number_of pass, own_entries pass) a.pair.1));
+    found = (a.found.0, a.found.1 ++ found, founds ∙ (ap (λ z. z ++ found) a.found.2 ∙ (append_assoc a.found.0 (found_by pass ++ a.found.1) found ∙ ap (λ z. a.found.0 ++ z) (append_assoc (found_by pass) a.found.1 found))));
   }
 
   pub Absorbing-join : (lock : Turns M D E) (start before after pass : Pass M D E g) (all left : List (Pass M D E g)) → Absorbing lock start before all (left ++ pass ∷ [])
       → IsOf lock after → number_of after ≡ number_of before → held_by after ≡ held_by before → IsPrefix (seen_by before) (seen_by after) → IsPrefix (seen_by pass) (seen_by after) → own_entries after ≡ own_entries before
-      → after.seat.me.0.pairs ≡ before.seat.me.0.pairs ++ pair_of pass.seat.me.0.number pass.seat.me.0.seen → Absorbing lock start after all left
-  Absorbing-join lock start before after pass all left a own number held seen met mine pairs =
+      → after.seat.me.0.pairs ≡ before.seat.me.0.pairs ++ pair_of pass.seat.me.0.number pass.seat.me.0.seen → found_by after ≡ found_by before ++ found_by pass → Absorbing lock start after all left
+  Absorbing-join lock start before after pass all left a own number held seen met mine pairs founds =
       let more : List (ℕ × List E) = pair_of pass.seat.me.0.number pass.seat.me.0.seen in
-      let mine_pass : Absorbs after pass = record { begins = met; pair = (length before.seat.me.0.pairs, rw pairs (pair_stands before.seat.me.0.pairs pass.seat.me.0.number pass.seat.me.0.seen pass.number pass.is)) } in record {
+      let mine_pass : Absorbs after pass = record { begins = met; pair = (length before.seat.me.0.pairs, rw pairs (pair_stands before.seat.me.0.pairs pass.seat.me.0.number pass.seat.me.0.seen pass.number pass.is)); found = (found_by before, [], founds ∙ ap (λ z. found_by before ++ z) (sym (append-nil (found_by pass)))) } in record {
         own = own;
         number = number ∙ a.number;
         idle = held ∙ a.idle;
         seen = prefix_through (seen_by start) (seen_by before) (seen_by after) a.seen seen;
         mine = mine ∙ a.mine;
+        found = prefix_through (found_by start) (found_by before) (found_by after) a.found (found_by pass, sym founds);
         left_own = All_first (IsOf lock) left (pass ∷ []) a.left_own;
         left_idle = All_first (λ p. held_by p ≡ None) left (pass ∷ []) a.left_idle;
         done = pass ∷ a.done;
         items = a.items ∙ append_assoc left (pass ∷ []) a.done;
-        absorbed = All-cons (Absorbs after) pass a.done mine_pass (All-weaker (Absorbs before) (Absorbs after) (Absorbs-later before after more seen pairs) a.done a.absorbed);
+        absorbed = All-cons (Absorbs after) pass a.done mine_pass (All-weaker (Absorbs before) (Absorbs after) (Absorbs-later before after more (found_by pass) seen pairs founds) a.done a.absorbed);
       }

@@ -1,6 +1,8 @@
 -- Each kind of step keeps the lock's rule, and tells what it is to tell.
-use Rattle.std.proofs.Common.{◌≡◌, ◌≢◌, ◌⊎◌, ℕ, zero, suc, ◌+◌, ◌%◌, ◌^◌, ◌<◌, ◌≤◌, eqb, cond, List, [], ◌∷◌, ◌++◌, length, get_or, set, sym, refl, ap, ◌∙◌, subst, inl, inr, ⊎_elim, arith, Option, Some, None, length-set, length-append, get_or-set_other, get_or-set_same, eq-eqb, ne_eqb}
-use Rattle.std.proofs.lemmas.List.{append-nil}
+use Rattle.std.proofs.Common.{◌≡◌, ◌≢◌, ◌⊎◌, ℕ, zero, suc, ◌+◌, ◌%◌, ◌^◌, ◌<◌, ◌≤◌, eqb, cond, Bool, true, false, List, [], ◌∷◌, ◌++◌, length, get_or, set, sym, refl, ap, ◌∙◌, subst, inl, inr, ⊎_elim, arith, Option, Some, None, length-set, length-append, get_or-set_other, get_or-set_same, eq-eqb, ne_eqb}
+use Rattle.std.specs.Prelude.{All}
+use Rattle.std.proofs.lemmas.List.{append-nil, append_assoc}
+use Rattle.std.proofs.lemmas.List.Elements.{All-nil, All-append, All-push, All-weaker}
 use Rattle.std.proofs.lemmas.Option.{none-some, same_Some}
 use Rattle.std.proofs.Math.Nat.{mod-add-mod}
 use mathlib.Core.List.{IsPrefix}
@@ -15,9 +17,9 @@ use Rattle.atomic_table.specs.Table as table
 use Rattle.atomic_table.proofs.Lists.{at_set, set_here, set_else, at_longer}
 use Rattle.turn_lock.specs.declared.rule.View.{View}
 use Rattle.daq_types.specs.Callers.{entries_by}
-use Rattle.turn_lock.specs.History.{Leads}
-use Rattle.turn_lock.specs.Views.{first_view, holding_view, idle_view, missed_view, counted_view, giver_view, given_view, note_view, joined_view, spent_view, pair_of, longer, takes_turn, counts, Counted, frees, looks, Agrees, Settles}
-use Rattle.turn_lock.specs.Protocol.{IsPaired, Fits, IsLaid, Holds, IsLock}
+use Rattle.turn_lock.specs.History.{Leads, IsLastBy, HadTurnThen}
+use Rattle.turn_lock.specs.Views.{first_view, holding_view, idle_view, missed_view, counted_view, giver_view, given_view, note_view, joined_view, spent_view, pair_of, longer, takes_turn, counts, Counted, Missed, frees, looks, Agrees, Settles}
+use Rattle.turn_lock.specs.Protocol.{IsPaired, IsFoundRightly, Fits, IsLaid, Holds, IsLock}
 use Rattle.turn_lock.proofs.LockLaws.{prefix_self, prefix_more, longer_along, longer_first, longer_second, at_within, at_end, entries_added, rest_none, entries_between, none_before, whole_history, leads_further, pair_stands}
 
 module _ {S D E : Type 0} (state_of : S → D) (step : D → ℕ → E → D → Type 0) (first : D) (passes : ℕ) where
@@ -69,10 +71,31 @@ module _ {S D E : Type 0} (state_of : S → D) (step : D → ℕ → E → D →
       (w, h.1, ap (get_elem? (set vs id w)) e ∙ set_here vs id w (at_within vs id v at), (number ∙ (ap (λ (x : V). x.number) same ∙ h.3.0), kept ∙ (ap (λ (x : V). x.kept) same ∙ h.3.1))))
       (λ other. (h.0, h.1, set_else vs id j w other ∙ h.2, h.3))
 
+  not_counted : false ≡ true → ⊥
+  not_counted e = grind arith
+
+  -- What was found rightly is so still: where the turn is taken that was free;
+  found_free : (h : History) (t t' : ℕ) → t ≡ 256 → (x : ℕ × History) → IsFoundRightly h t x → IsFoundRightly h t' x
+  found_free h t t' free x = ⊎_elim (λ (a : HadTurnThen h x). inl a) (λ (a : (t ≢ 256) × (x ≡ (t, h))). absurd (a.0 free))
+
+  -- where it is freed behind an entry of the number that had it;
+  found_freed : (h : History) (t : ℕ) → IsLastBy t h → (x : ℕ × History) → IsFoundRightly h t x → HadTurnThen h x
+  found_freed h t last x = ⊎_elim (λ (a : HadTurnThen h x). a) (λ (a : (t ≢ 256) × (x ≡ (t, h))). subst (HadTurnThen h) (sym a.1) record { begins = prefix_self h; beside = inl last })
+
+  -- and where that number counts.
+  found_counted : (h : History) (n : ℕ) (e : E) (x : ℕ × History) → IsFoundRightly h n x → HadTurnThen (h ++ (n, e) ∷ []) x
+  found_counted h n e x = ⊎_elim
+      (λ (a : HadTurnThen h x). record {
+        begins = prefix_more x.1 h ((n, e) ∷ []) a.begins;
+        beside = ⊎_elim (λ b. inl b) (λ b. inr (b.0, b.1 ++ (n, e) ∷ [], ap (λ (z : History). z ++ (n, e) ∷ []) b.2 ∙ append_assoc x.1 ((x.0, b.0) ∷ b.1) ((n, e) ∷ []))) a.beside;
+      })
+      (λ (a : (n ≢ 256) × (x ≡ (n, h))). subst (HadTurnThen (h ++ (n, e) ∷ [])) (sym a.1) record { begins = ((n, e) ∷ [], refl); beside = inr (e, [], refl) })
+
   -- a view fits on where it alone changes what it keeps or found, or the turn changes
-  refit : (h : History) (g : ℕ) (o : ℕ → ℕ) (t t' j : ℕ) (v : V) (kept : Option D) (found : List ℕ) → Fit h g o t j v
-      → ((d : D) → kept ≡ Some d → (v.number ≡ Some t') × Leads step first h d) → Fit h g o t' j (record v { kept = kept; found = found })
-  refit h g o t t' j v kept found f holding = record {
+  refit : (h : History) (g : ℕ) (o : ℕ → ℕ) (t t' j : ℕ) (v : V) (kept : Option D) (counted : Bool) (found : List (ℕ × History)) → Fit h g o t j v
+      → ((d : D) → kept ≡ Some d → (v.number ≡ Some t') × Leads step first h d) → (counted ≡ true → (v.number ≡ Some t') × ((v.seen ≡ h) × IsLastBy t' h)) → All (IsFoundRightly h t') found
+      → Fit h g o t' j (record v { kept = kept; counted = counted; found = found })
+  refit h g o t t' j v kept counted found f holding counts_on found_on = record {
     start = f.start;
     passes = f.passes;
     seen = f.seen;
@@ -82,6 +105,8 @@ module _ {S D E : Type 0} (state_of : S → D) (step : D → ℕ → E → D →
     silent = f.silent;
     whole = f.whole;
     holding = holding;
+    counted = counts_on;
+    found = found_on;
     next = f.next;
     pairs = f.pairs;
   }
@@ -99,6 +124,8 @@ module _ {S D E : Type 0} (state_of : S → D) (step : D → ℕ → E → D →
     silent = λ n l e. let m = back n l e in f.silent n m.0 m.1;
     whole = f.whole;
     holding = f.holding;
+    counted = f.counted;
+    found = f.found;
     next = up;
     pairs = λ k p e. let m = f.pairs k p e in let a = to p.0 m.1.1.0 m.1.1.1.0 in (m.0, (m.1.0, (a.0, (a.1, m.1.1.1.1))));
   }
@@ -129,7 +156,9 @@ module _ {S D E : Type 0} (state_of : S → D) (step : D → ℕ → E → D →
   takes_hit : (s : St) (r : Rule s) (id n : ℕ) (v : V) (cs : List (ℕ × Option S)) (y : S) → get_elem? s.views id ≡ some v → v.number ≡ Some n → turn s ≡ 256 → Leads step first r.history (state_of y)
       → Rule (stepped s 0 n id cs (holding_view v (state_of y)) (takes 0 (Some y)))
   takes_hit s r id n v cs y at number free leads = let w : V = holding_view v (state_of y) in let two = r.two in let few = r.few in
-      let here : get_or (set s.words 0 n) 0 0 ≡ n = get_or-set_same s.words 0 n 0 (omega arith) in let fit = r.each id v at in let low = (fit.numbered n number).0 in record {
+      let here : get_or (set s.words 0 n) 0 0 ≡ n = get_or-set_same s.words 0 n 0 (omega arith) in let fit = r.each id v at in let low = (fit.numbered n number).0 in
+      let taken_on : (found : List (ℕ × History)) → All (IsFoundRightly r.history (turn s)) found → All (IsFoundRightly r.history n) found =
+      All-weaker (IsFoundRightly r.history (turn s)) (IsFoundRightly r.history n) (found_free r.history (turn s) n free) in record {
         history = r.history;
         given = r.given;
         some_given = r.some_given;
@@ -142,8 +171,9 @@ module _ {S D E : Type 0} (state_of : S → D) (step : D → ℕ → E → D →
         count = get_or-set_other s.words 0 1 n 0 (λ e. omega arith) ∙ r.count;
         each = subst (λ (z : ℕ). (j : ℕ) (x : V) → get_elem? (set s.views id w) j ≡ some x → Fit r.history r.given r.owner z j x) (sym here)
             (seats_stay (Fit r.history r.given r.owner n) s.views id w
-            (refit r.history r.given r.owner (turn s) n id v (Some (state_of y)) v.found fit (λ d e. (number, subst (Leads step first r.history) (same_Some _ _ e) leads)))
-            (λ j x _ there. refit r.history r.given r.owner (turn s) n j x x.kept x.found (r.each j x there) (λ d e. absurd (none_holds s r j x d free there e))));
+            (refit r.history r.given r.owner (turn s) n id v (Some (state_of y)) false v.found fit (λ d e. (number, subst (Leads step first r.history) (same_Some _ _ e) leads)) (λ e. absurd (not_counted e)) (taken_on v.found fit.found))
+            (λ j x _ there. let fits = r.each j x there in refit r.history r.given r.owner (turn s) n j x x.kept x.counted x.found fits (λ d e. absurd (none_holds s r j x d free there e))
+            (λ e. absurd (let given = (fits.numbered (turn s) (fits.counted e).0).0 in omega arith)) (taken_on x.found fits.found)));
         free = λ e. absurd (let x : n ≡ 256 = sym here ∙ e in omega arith);
         busy = λ _. (id, (w, state_of y, set_here s.views id w (at_within s.views id v at), (number ∙ ap (λ z. Some z) (sym here), refl)));
       }
@@ -158,26 +188,31 @@ module _ {S D E : Type 0} (state_of : S → D) (step : D → ℕ → E → D →
         subst (λ b. Rule (stepped s 0 (either b n x) id me.1 w (takes 0 (Some f.0)))) (sym (eq-eqb x 256 hit)) (takes_hit s r id n v me.1 f.0 at number hit f.2),
         ((λ _. (f.0, refl)), λ miss. absurd (miss hit)),
       ))
-      (λ miss. let h = r.busy miss in let w : V = missed_view v x in let held = (r.each h.0 h.1.0 h.1.2).numbered x h.1.3.0 in let few = r.few in (
+      (λ miss. let h = r.busy miss in let fit = r.each id v at in let others : History = fit.seen.0 in let w : V = missed_view v x (v.seen ++ others) in let held = (r.each h.0 h.1.0 h.1.2).numbered x h.1.3.0 in let few = r.few in (
         w,
         keeps,
         tt,
         subst (λ b. Rule (stepped s 0 (either b n x) id me.1 w keeps)) (sym (ne_eqb x 256 miss))
-            (unmoved s r 0 id me.1 v w at (refit r.history r.given r.owner x x id v v.kept w.found (r.each id v at) (r.each id v at).holding) refl refl),
+            (unmoved s r 0 id me.1 v w at
+            (refit r.history r.given r.owner x x id v v.kept v.counted w.found fit fit.holding fit.counted (All-push (IsFoundRightly r.history x) v.found (x, v.seen ++ others) fit.found (inr (miss, ap (λ (z : History). (x, z)) fit.seen.1))))
+            refl refl),
         (
           (λ hit. absurd (miss hit)),
           λ _. (
             omega arith,
             (λ own. none-some h.1.1 (sym idle ∙ (ap (λ (z : V). z.kept) (same_seat s.views id h.0 v h.1.0 (one_seat s r x id h.0 v h.1.0 at h.1.2 own h.1.3.0) at h.1.2) ∙ h.1.3.1))),
-            (λ n n_is. let all = (r.each id v at).passes n n_is in let within = r.within in omega arith),
-            refl,
+            (λ n n_is. let all = fit.passes n n_is in let within = r.within in omega arith),
+            (record { others = others; foreign = λ m is. let own = fit.numbered m is in rest_none m v.seen others (ap (entries_by m) fit.seen.1 ∙ fit.silent m own.0 own.1); view = refl }, refl),
           ),
         ),
       ))
 
   -- count
-  counts_fit : (h : History) (g : ℕ) (o : ℕ → ℕ) (t n j : ℕ) (e : E) (v : V) → (o n ≢ j) → (v.number ≢ Some t) → Fit h g o t j v → Fit (h ++ (n, e) ∷ []) g o t j v
-  counts_fit h g o t n j e v apart not_mine f = let same : (m : ℕ) → o m ≡ j → entries_by m h ≡ entries_by m (h ++ (n, e) ∷ []) = λ m is. sym (entries_added n m e h (λ q. apart (ap o (sym q) ∙ is))) in record {
+  counted_on : (h : History) (n : ℕ) (e : E) (found : List (ℕ × History)) → All (IsFoundRightly h n) found → All (IsFoundRightly (h ++ (n, e) ∷ []) n) found
+  counted_on h n e = All-weaker (IsFoundRightly h n) (IsFoundRightly (h ++ (n, e) ∷ []) n) (λ x a. inl (found_counted h n e x a))
+
+  counts_fit : (h : History) (g : ℕ) (o : ℕ → ℕ) (n j : ℕ) (e : E) (v : V) → (o n ≢ j) → (v.number ≢ Some n) → Fit h g o n j v → Fit (h ++ (n, e) ∷ []) g o n j v
+  counts_fit h g o n j e v apart not_mine f = let same : (m : ℕ) → o m ≡ j → entries_by m h ≡ entries_by m (h ++ (n, e) ∷ []) = λ m is. sym (entries_added n m e h (λ q. apart (ap o (sym q) ∙ is))) in record {
     start = f.start;
     passes = f.passes;
     seen = prefix_more v.seen h ((n, e) ∷ []) f.seen;
@@ -187,6 +222,8 @@ module _ {S D E : Type 0} (state_of : S → D) (step : D → ℕ → E → D →
     silent = λ m l is. sym (same m is) ∙ f.silent m l is;
     whole = λ m l is w. sym (same m (f.numbered m is).1) ∙ f.whole m l is w;
     holding = λ d e. absurd (not_mine (f.holding d e).0);
+    counted = λ q. absurd (not_mine (f.counted q).0);
+    found = counted_on h n e v.found f.found;
     next = f.next;
     pairs = λ k p at. let m = f.pairs k p at in (m.0, (m.1.0, (m.1.1.0, (m.1.1.1.0, m.1.1.1.1 ∙ same p.0 m.1.1.1.0))));
   }
@@ -202,6 +239,8 @@ module _ {S D E : Type 0} (state_of : S → D) (step : D → ℕ → E → D →
     silent = λ m l is. refl;
     whole = λ m l is w. absurd (none-some l w);
     holding = λ x is. (number, subst (Leads step first (h ++ (n, e) ∷ [])) (same_Some _ _ is) leads);
+    counted = λ _. (number, (refl, (h, e, refl)));
+    found = counted_on h n e v.found f.found;
     next = f.next;
     pairs = λ k p at. let m = f.pairs k p at in let zero_is : 0 ≡ n = same_Some _ _ (sym m.0 ∙ number) in
         (m.0, (m.1.0, (m.1.1.0, (m.1.1.1.0, m.1.1.1.1 ∙ sym (entries_added n p.0 e h (λ q. let low = m.1.0 in omega arith))))));
@@ -227,7 +266,7 @@ module _ {S D E : Type 0} (state_of : S → D) (step : D → ℕ → E → D →
         count = get_or-set_same s.words 1 x 0 (omega arith) ∙ (ap (λ (z : ℕ). (z + 1) % 2 ^ 64) (r.count ∙ ap (λ (z : History). length z % 2 ^ 64) is) ∙ (mod-add-mod (length h) (2 ^ 64) 1 ∙ ap (λ (z : ℕ). z % 2 ^ 64) (sym (length-append h ((n, e) ∷ [])))));
         each = subst (λ (z : ℕ). (j : ℕ) (y : V) → get_elem? (set s.views id w) j ≡ some y → Fit h' r.given r.owner z j y) (sym (still ∙ mine))
             (seats_stay (Fit h' r.given r.owner n) s.views id w (counts_mine h r.given r.owner n id e v d number leads (subst (λ z. Fit h r.given r.owner z id v) mine fit))
-            (λ j y other there. counts_fit h r.given r.owner n n j e y (λ q. other (sym q ∙ own)) (λ q. other (one_seat s r n j id y v there at q number))
+            (λ j y other there. counts_fit h r.given r.owner n j e y (λ q. other (sym q ∙ own)) (λ q. other (one_seat s r n j id y v there at q number))
             (subst (λ (z : ℕ × History). Fit z.1 r.given r.owner z.0 j y) (λ i. (mine i, is i)) (r.each j y there))));
         free = λ q. absurd (let f : n ≡ 256 = sym mine ∙ (sym still ∙ q) in omega arith);
         busy = λ _. (id, (w, d, set_here s.views id w (at_within s.views id v at), (number ∙ ap (λ z. Some z) (sym (still ∙ mine)), refl)));
@@ -258,9 +297,11 @@ module _ {S D E : Type 0} (state_of : S → D) (step : D → ℕ → E → D →
       )
 
   -- free
-  pub frees_kept : (slots id : ℕ) (me : Seat) (d : D) (y : S) → slots ≡ 1 → me.0.kept ≡ Some d → state_of y ≡ d → me.1 ≡ (0, Some y) ∷ []
+  pub frees_kept : (slots id : ℕ) (me : Seat) (d : D) (y : S) → slots ≡ 1 → me.0.kept ≡ Some d → me.0.counted ≡ true → state_of y ≡ d → me.1 ≡ (0, Some y) ∷ []
       → Allows Rule slots id me 0 (λ _. 256) (frees (table.step slots 0 256 0 none) me)
-  frees_kept slots id me d y one kept same out s r wide at _ = let v : V = me.0 in let w : V = idle_view v in let fit = r.each id v at in let two = r.two in let held = fit.holding d kept in
+  frees_kept slots id me d y one kept counted same out s r wide at _ = let v : V = me.0 in let w : V = idle_view v in let fit = r.each id v at in let two = r.two in let held = fit.holding d kept in
+      let freed_on : (found : List (ℕ × History)) → All (IsFoundRightly r.history (turn s)) found → All (IsFoundRightly r.history 256) found =
+      All-weaker (IsFoundRightly r.history (turn s)) (IsFoundRightly r.history 256) (λ x a. inl (found_freed r.history (turn s) (fit.counted counted).1.1 x a)) in
       let here : get_or (set s.words 0 256) 0 0 ≡ 256 = get_or-set_same s.words 0 256 0 (omega arith) in (
         w,
         gives,
@@ -278,8 +319,9 @@ module _ {S D E : Type 0} (state_of : S → D) (step : D → ℕ → E → D →
           count = get_or-set_other s.words 0 1 256 0 (λ e. omega arith) ∙ r.count;
           each = subst (λ (z : ℕ). (j : ℕ) (x : V) → get_elem? (set s.views id w) j ≡ some x → Fit r.history r.given r.owner z j x) (sym here)
               (seats_stay (Fit r.history r.given r.owner 256) s.views id w
-              (refit r.history r.given r.owner (turn s) 256 id v None v.found fit (λ x e. absurd (none-some x e)))
-              (λ j x other there. refit r.history r.given r.owner (turn s) 256 j x x.kept x.found (r.each j x there) (λ z e. absurd (other (one_holder s r id j v x z at held.0 there e)))));
+              (refit r.history r.given r.owner (turn s) 256 id v None false v.found fit (λ x e. absurd (none-some x e)) (λ e. absurd (not_counted e)) (freed_on v.found fit.found))
+              (λ j x other there. let fits = r.each j x there in refit r.history r.given r.owner (turn s) 256 j x x.kept x.counted x.found fits (λ z e. absurd (other (one_holder s r id j v x z at held.0 there e)))
+              (λ e. absurd (other (one_seat s r (turn s) j id x v there at (fits.counted e).0 held.0))) (freed_on x.found fits.found)));
           free = λ _. (y, set_here s.homes 0 (some (Some y)) (omega arith), subst (Leads step first r.history) (sym same) held.1);
           busy = λ b. absurd (b here);
         },
@@ -314,6 +356,8 @@ module _ {S D E : Type 0} (state_of : S → D) (step : D → ℕ → E → D →
     silent = λ n l e. refl;
     whole = λ n l e w. absurd (none-some l w);
     holding = λ d e. absurd (none-some d e);
+    counted = λ e. absurd (not_counted e);
+    found = All-nil _;
     next = λ e. refl;
     pairs = λ k p at. absurd (no_more k p at);
   }
@@ -382,6 +426,8 @@ module _ {S D E : Type 0} (state_of : S → D) (step : D → ℕ → E → D →
         whole = λ n l e. absurd (none-some n e);
         holding = λ d e. absurd (none-some d e);
         next = λ e. absurd (none-some 0 e);
+        counted = λ e. absurd (not_counted e);
+        found = All-nil _;
         pairs = λ k p e. absurd (no_more k p e);
       }
 
@@ -408,6 +454,8 @@ module _ {S D E : Type 0} (state_of : S → D) (step : D → ℕ → E → D →
         whole = λ n l e w. absurd (none-some l w);
         holding = λ d e. absurd (none-some d e);
         next = λ e. absurd (let is : v.next ≡ 0 = same_Some _ _ e in let some_given = r.some_given in omega arith);
+        counted = λ e. absurd (not_counted e);
+        found = All-nil _;
         pairs = λ k p e. absurd (no_more k p e);
       }
 
@@ -483,6 +531,8 @@ module _ {S D E : Type 0} (state_of : S → D) (step : D → ℕ → E → D →
           (owner_cases r.owner id other n id e);
       whole = λ n l is w_is. let m = fv.numbered n is in fv.silent n m.0 m.1 ∙ ap (entries_by n) (same_Some v.seen l w_is);
       holding = fv.holding;
+      counted = λ e. absurd (not_counted e);
+      found = All-append (IsFoundRightly h (turn s)) v.found w.found fv.found fw.found;
       next = fv.next;
       pairs = pairs_joined (λ p. (v.number ≡ Some 0) × ((0 < p.0) × ((p.0 < r.given) × ((o' p.0 ≡ id) × (p.1 ≡ entries_by p.0 h))))) v.pairs w.number w.seen
           (λ k p e. let m = fv.pairs k p e in let own = m.1.1.1.0 in (m.0, (m.1.0, (m.1.1.0, (owner_stays r.owner id other p.0 (λ q. apart (sym q ∙ own)) ∙ own, m.1.1.1.1)))))
@@ -504,6 +554,8 @@ module _ {S D E : Type 0} (state_of : S → D) (step : D → ℕ → E → D →
       whole = λ n l e. absurd (none-some n e);
       holding = λ d e. absurd (none-some d e);
       next = λ e. absurd (none-some 0 e);
+      counted = λ e. absurd (not_counted e);
+      found = All-nil _;
       pairs = λ k p e. absurd (no_more k p e);
     }
 
@@ -563,6 +615,8 @@ module _ {S D E : Type 0} (state_of : S → D) (step : D → ℕ → E → D →
         legal = subst (λ (z : History). Leads step first z (state_of f.0)) (sym seen_all) f.2;
         pairs = λ k p e. (fit.pairs k p e).1.1.1.1 ∙ ap (entries_by p.0) (sym seen_all);
         known = λ n l. ap (entries_by n) seen_all ∙ r.known n (let e = all_given in omega arith);
+        found = All-weaker (IsFoundRightly r.history (turn s)) (HadTurnThen v.seen)
+            (λ x. ⊎_elim (λ (a : HadTurnThen r.history x). subst (λ (z : History). HadTurnThen z x) (sym seen_all) a) (λ (a : (turn s ≢ 256) × (x ≡ (turn s, r.history))). absurd (a.0 turn_free))) v.found fit.found;
       },
     )
 

@@ -5,7 +5,7 @@ use mathlib.Core.Option as option
 use lib.ListN.{get_elem?}
 use Rattle.turn_lock.specs.declared.lock.Pass.{Pass}
 use Rattle.turn_lock.specs.declared.closing.Closed.{Closed}
-use Rattle.turn_lock.specs.Passes.{number_of, seen_by, own_entries}
+use Rattle.turn_lock.specs.Passes.{number_of, seen_by, own_entries, found_by}
 
 -- the number is the least of those below the count that is not in the list
 pub record IsLeastMissing (numbers : List ℕ) (count number : ℕ) : Type 0 where
@@ -30,7 +30,8 @@ module _ {M D E : Type 0} {g : _} where
   abbrev pub history_of : Closed M D E g → List (ℕ × E)
   history_of closed = closed.last.value.seat.me.0.seen
 
-  -- number 0 has seen what the pass saw, and keeps its number with its own entries
+  -- number 0 has seen what the pass saw, keeps its number with its own entries, and has what its failed tries found
   pub record Absorbs (zero pass : Pass M D E g) : Type 0 where
     pub begins : IsPrefix (seen_by pass) (seen_by zero)
     pub pair : (k : ℕ) × (get_elem? zero.seat.me.0.pairs k ≡ option.some (number_of pass, own_entries pass))
+    pub found : (front : _) × (back : _) × (found_by zero ≡ front ++ (found_by pass ++ back))

@@ -1,5 +1,5 @@
 -- Histories: lists of entries, each the number of a pass beside a call with its reply, in the order of the count steps.
-use Rattle.std.specs.Prelude.{◌≡◌, ℕ, ◌+◌, List, [], ◌∷◌, ◌++◌, length, zero, suc}
+use Rattle.std.specs.Prelude.{◌≡◌, ◌⊎◌, ℕ, ◌+◌, List, [], ◌∷◌, ◌++◌, length, zero, suc}
 use mathlib.Core.List.{IsPrefix}
 use Rattle.daq_types.specs.Callers.{entries_by}
 
@@ -32,3 +32,17 @@ pub record Appends {E : Type 0} (number : ℕ) (entry : E) (before after : List 
 pub record IsPartOf {E : Type 0} (history : List (ℕ × E)) (number : ℕ) (seen : List (ℕ × E)) : Type 0 where
   pub begins : IsPrefix seen history
   pub own : entries_by number history ≡ entries_by number seen
+
+-- the last entry of the list has this number
+abbrev pub IsLastBy : {E : Type 0} → ℕ → List (ℕ × E) → Type 0
+IsLastBy {E} number list = (earlier : List (ℕ × E)) × (entry : E) × (list ≡ earlier ++ (number, entry) ∷ [])
+
+-- the first entry of the history behind this beginning has this number
+abbrev pub IsNextBy : {E : Type 0} → ℕ → List (ℕ × E) → List (ℕ × E) → Type 0
+IsNextBy {E} number begun history = (entry : E) × (later : List (ℕ × E)) × (history ≡ begun ++ (number, entry) ∷ later)
+
+-- The pass with this number had the turn when so much of the history had come: the last entry before that moment is its
+-- own, or the first one behind it.
+pub record HadTurnThen {E : Type 0} (history : List (ℕ × E)) (found : ℕ × List (ℕ × E)) : Type 0 where
+  pub begins : IsPrefix found.1 history
+  pub beside : IsLastBy found.0 found.1 ⊎ IsNextBy found.0 found.1 history

@@ -41,8 +41,8 @@ module _ {M D E : Type 0} {g : _} where
   abbrev pub own_entries : Pass M D E g → List E
   own_entries pass = entries_by pass.number pass.seat.me.0.seen
 
-  -- the numbers that its failed tries found
-  abbrev pub found_by : Pass M D E g → List ℕ
+  -- what its failed tries found: the number, each with the history as it was then
+  abbrev pub found_by : Pass M D E g → List (ℕ × List (ℕ × E))
   found_by pass = pass.seat.me.0.found
 
   -- the data of the value that it took, while it holds the turn

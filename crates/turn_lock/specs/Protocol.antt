@@ -1,17 +1,21 @@
 -- The rule of the lock's table. Word 0 is the turn: 256 where it is free, and otherwise the number of the pass that holds it.
 -- Word 1 is the count. The one slot keeps the value.
-use Rattle.std.specs.Prelude.{◌≡◌, ◌≢◌, ◌⊎◌, ℕ, ◌%◌, ◌^◌, ◌<◌, ◌≤◌, List, [], length, slice_index, Option, Some}
+use Rattle.std.specs.Prelude.{◌≡◌, ◌≢◌, ◌⊎◌, ℕ, ◌%◌, ◌^◌, ◌<◌, ◌≤◌, List, [], length, slice_index, All, Option, Some, true}
 use mathlib.Core.List.{IsPrefix}
 use mathlib.Core.Option as option
 use lib.ListN.{get_elem?}
 use Rattle.atomic_table.specs.Table.{State}
 use Rattle.turn_lock.specs.declared.rule.View.{View}
 use Rattle.daq_types.specs.Callers.{entries_by}
-use Rattle.turn_lock.specs.History.{Leads}
+use Rattle.turn_lock.specs.History.{Leads, IsLastBy, HadTurnThen}
 
 -- the number is that of a kept pair
 abbrev pub IsPaired : {E : Type 0} → ℕ → List (ℕ × List E) → Type 0
 IsPaired {E} n pairs = (k : ℕ) × (p : ℕ × List E) × (get_elem? pairs k ≡ option.some p) × (p.0 ≡ n)
+
+-- what a failed try found: the pass had the turn then, or has it still, and no entry came since
+abbrev pub IsFoundRightly : {E : Type 0} → List (ℕ × E) → ℕ → ℕ × List (ℕ × E) → Type 0
+IsFoundRightly history turn found = HadTurnThen history found ⊎ ((turn ≢ 256) × (found ≡ (turn, history)))
 
 module _ {D E : Type 0} where
   -- how the view of one seat stands to the history, to the numbers given, to the seat that answers for each number, and to the turn
@@ -34,6 +38,10 @@ module _ {D E : Type 0} where
     pub whole : (n : ℕ) (l : List (ℕ × E)) → v.number ≡ Some n → v.whole ≡ Some l → entries_by n history ≡ entries_by n l
     -- where it holds, the turn is its own, and the history leads to the data that it keeps
     pub holding : (d : D) → v.kept ≡ Some d → (v.number ≡ Some turn) × Leads step first history d
+    -- where it has counted, the turn is its own, and what it has seen is the whole history, which ends with its entry
+    pub counted : v.counted ≡ true → (v.number ≡ Some turn) × ((v.seen ≡ history) × IsLastBy turn history)
+    -- each number that a failed try found had the turn then
+    pub found : All (IsFoundRightly history turn) v.found
     -- the next number of number 0 is above all numbers given
     pub next : v.number ≡ Some 0 → v.next ≡ given
     -- only number 0 keeps pairs: each has a number that was given, for which it answers, and the entries with that number

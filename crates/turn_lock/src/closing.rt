@@ -55,11 +55,11 @@ impl<M: Machine> Passes<M> {
 
 impl<M: Machine> Turns<M> {
     ghost use mathlib.Core.List.{IsPrefix};
-    ghost use Rattle.turn_lock.specs.History.{Leads, IsPartOf, entries_below};
+    ghost use Rattle.turn_lock.specs.History.{Leads, IsPartOf, HadTurnThen, entries_below};
     ghost use Rattle.daq_types.specs.Callers.{entries_by};
     ghost use Rattle.turn_lock.specs.Protocol.{IsPaired};
     ghost use Rattle.turn_lock.specs.Views.{Settles};
-    ghost use Rattle.turn_lock.specs.Passes.{first_value, passes_of, number_of, seen_by, own_entries, held_by, IsOf};
+    ghost use Rattle.turn_lock.specs.Passes.{first_value, passes_of, number_of, seen_by, own_entries, found_by, held_by, IsOf};
     ghost use Rattle.turn_lock.specs.Roster.{items_of, numbers_of, ArePassesOf, AreIdle};
     ghost use Rattle.turn_lock.specs.Closing.{AreComplete, IsLeastMissing, opened_with, history_of, Absorbs};
 
@@ -76,6 +76,7 @@ impl<M: Machine> Turns<M> {
         ensures idle { held_by zero.new ≡ None }
         ensures seen { IsPrefix (seen_by zero.old) (seen_by zero.new) }
         ensures mine { own_entries zero.new ≡ own_entries zero.old }
+        ensures found { IsPrefix (found_by zero.old) (found_by zero.new) }
         ensures absorbed { All (Absorbs zero.new) items.items }
     {
         while let Some(pass) = items.pop() {
@@ -117,6 +118,10 @@ impl<M: Machine> Turns<M> {
             → entries_by n (history_of closed) ≡ []) }
         ensures length { IfOk result (λ closed. length (history_of closed)
             ≡ entries_below (passes_of self) (history_of closed)) }
+
+        // Each number that a failed try of a pass found had the turn at that moment of the history.
+        ensures found { IfOk result (λ closed. All (λ pass. All (HadTurnThen (history_of closed))
+            (found_by pass)) (items_of passes)) }
 
         ensures complete { IfOk result (λ closed. AreComplete (numbers_of passes)
             (passes_of self)) }

@@ -1,5 +1,5 @@
 // The lock, its passes, and what they do.
-ghost use Rattle.std.specs.Prelude.{◌≡◌, ◌+◌, ◌<◌, ◌≤◌, ◌⊎◌, ◌++◌, ◌∷◌, [], Some, None, IfOk, IfErr, OnOk, IfSome, IfNone};
+ghost use Rattle.std.specs.Prelude.{◌≡◌, ◌+◌, ◌<◌, ◌≤◌, ◌⊎◌, ◌++◌, ◌∷◌, [], Some, None, true, IfOk, IfErr, OnOk, IfSome, IfNone};
 ghost use Rattle.turn_lock.specs.Views.{carried};
 
 use crate::object::{Machine, MadeCall};
@@ -64,6 +64,7 @@ pub struct Note<M: Machine> {
     ghost bare: { seat.me.1 ≡ [] },
     ghost unnumbered: { seat.me.0.number ≡ None },
     ghost idle: { seat.me.0.kept ≡ None },
+    ghost fresh: { seat.me.0.found ≡ [] },
 }
 
 /// The value, while a pass holds the turn. It has to be put back: it cannot be dropped, nor taken apart outside. The value
@@ -211,6 +212,7 @@ impl<M: Machine> Turns<M> {
         ensures own { IsOf self.now pass.new }
         ensures number { number_of pass.new ≡ number_of pass.old }
         ensures held { held_by pass.new ≡ Some (M.state value.now) }
+        ensures counted { pass.new.seat.me.0.counted ≡ true }
         ensures found { found_by pass.new ≡ found_by pass.old }
         ensures appends { Appends (number_of pass.old) (C.entry call.now) (seen_by pass.old)
             (seen_by pass.new) }
@@ -317,7 +319,7 @@ impl<M: Machine> Turns<M> {
 
         ensures own { IsOf self.now pass.new }
         ensures number { number_of pass.new ≡ number_of pass.old }
-        ensures found { found_by pass.new ≡ found_by pass.old }
+        ensures found { found_by pass.new ≡ found_by pass.old ++ other.me.0.found }
         ensures held { held_by pass.new ≡ held_by pass.old }
         ensures seen { IsPrefix (seen_by pass.old) (seen_by pass.new) }
         ensures met { IsPrefix other.me.0.seen (seen_by pass.new) }

@@ -17,14 +17,16 @@ pub struct View<D, E> {
     pub next: u64,
     /// While the seat holds the turn: the data of the value taken, and from the count step on those that will be laid back.
     pub kept: Option<D>,
+    /// It has the turn, and has counted since it took it.
+    pub counted: bool,
     /// A beginning of the history.
     pub seen: LinkedList<(u64, E)>,
     /// Further beginnings of the history, met by joining.
     pub met: LinkedList<LinkedList<(u64, E)>>,
     /// What was seen before the last join, where no count step came since.
     pub whole: Option<LinkedList<(u64, E)>>,
-    /// The numbers that failed tries found.
-    pub found: LinkedList<u64>,
+    /// What failed tries found: the number, each with the history as it was then.
+    pub found: LinkedList<(u64, LinkedList<(u64, E)>)>,
     /// Of number 0 alone: the numbers of the passes joined into it, each with that pass's own entries.
     pub pairs: LinkedList<(u64, LinkedList<E>)>,
 }

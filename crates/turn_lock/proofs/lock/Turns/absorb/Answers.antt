@@ -15,6 +15,7 @@ loop-pass-init g c = record {
   idle = c.requires.idle;
   seen = prefix_self _;
   mine = refl;
+  found = prefix_self _;
   left_own = c.requires.all_own;
   left_idle = c.requires.all_idle;
   done = [];
@@ -37,7 +38,7 @@ join-requires-clause-idle g c = let pass = c.in-Some.pass in
 
 pub loop-pass-preserved : goal.loop-pass-preserved
 loop-pass-preserved g c = let join = c.join.ensures in
-    Absorbing-join _ _ c.loop-pass.zero c.join.new.pass c.in-Some.pass _ c.pop.new.self.items (rw⁻¹ c.in-Some.ensures.items c.loop-pass.invariant) join.own join.number join.held join.seen join.met join.mine join.pairs
+    Absorbing-join _ _ c.loop-pass.zero c.join.new.pass c.in-Some.pass _ c.pop.new.self.items (rw⁻¹ c.in-Some.ensures.items c.loop-pass.invariant) join.own join.number join.held join.seen join.met join.mine join.pairs join.found
 
 pub returns-clause-absorbed : goal.returns-clause-absorbed
 returns-clause-absorbed g c = let left : c.loop-pass.items.items ≡ [] = search rules in

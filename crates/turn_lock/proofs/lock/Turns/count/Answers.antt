@@ -30,6 +30,9 @@ returns-clause-own g c = let pass = c.args.pass.now in let told = c.fetch_add.en
 pub returns-clause-held : goal.returns-clause-held
 returns-clause-held g c = let pass = c.args.pass.now in let told = c.fetch_add.ensures.2 pass.number _ _ pass.is c.requires.said.0 c.requires.said.1 in ap (λ v. v.kept) told.0.view
 
+pub returns-clause-counted : goal.returns-clause-counted
+returns-clause-counted g c = let pass = c.args.pass.now in let told = c.fetch_add.ensures.2 pass.number _ _ pass.is c.requires.said.0 c.requires.said.1 in ap (λ v. v.counted) told.0.view
+
 pub returns-clause-found : goal.returns-clause-found
 returns-clause-found g c = let pass = c.args.pass.now in let told = c.fetch_add.ensures.2 pass.number _ _ pass.is c.requires.said.0 c.requires.said.1 in ap (λ v. v.found) told.0.view
 
