@@ -1,31 +1,38 @@
 -- Each reply of a legal history is right where it came.
-use Rattle.std.specs.Prelude.{◌≡◌, ℕ, ◌+◌, ◌-◌, ◌<◌, ◌≤◌, true, false, nat_le, IsTrue, List, [], ◌∷◌, take, drop, sum_by, slice_get, Option, Some, None, Ok, Err, refl}
-use Rattle.std.proofs.Common.{ap, sym, ◌∙◌, subst, arith}
+use Rattle.std.specs.Prelude.{◌≡◌, ◌≢◌, ℕ, ◌+◌, ◌-◌, ◌^◌, ◌<◌, ◌≤◌, ◌==◌, ◌&&◌, Bool, true, false, if◌then◌else◌, nat_le, nat_lt, IsTrue, List, [], ◌∷◌, length, take, drop, sum_by, slice_get, Option, Some, None, Result, Ok, Err, refl}
+use Rattle.std.proofs.Common.{ap, sym, ◌∙◌, subst, arith, eq-eqb, le-leb}
+use mathlib.Core.Logic.{dite}
+use native.Mathlib.Decide.{ℕ_discrete}
 use Rattle.std.proofs.Math.Logic.{⊎_elim}
-use Rattle.std.proofs.lemmas.Bool.{and_parts, leb-true, cases_lt}
+use Rattle.std.proofs.lemmas.Bool.{and_parts, eqb-true, eqb-false, leb-true, ltb-true, ltb-false, cases_lt}
 use Rattle.std.proofs.lemmas.List.{drop-drop}
 use Rattle.std.proofs.lemmas.List.Sums.{sum_by-take-le}
 use Rattle.daq_types.specs.declared.events.Event.{Event}
-use Rattle.event.specs.Events.{slot_size, matches, Matches}
+use Rattle.event.specs.Events.{slot_size, matches, Matches, is_reserved, event_limit}
 use Rattle.buffer_core.specs.declared.gate.RunGate.{RunGate}
 use Rattle.buffer_core.specs.declared.client.Request.{Request as EventRequest}
 use Rattle.buffer_core.specs.declared.client.Client.{Client}
-use Rattle.buffer_core.specs.declared.replies.SendRefusal.TheVariants.{Full}
+use Rattle.buffer_core.specs.declared.gate.RunGate.TheVariants.{Shut, Running, Paused}
+use Rattle.buffer_core.specs.declared.replies.SendRefusal.{SendRefusal}
+use Rattle.buffer_core.specs.declared.replies.SendRefusal.TheVariants.{NotRunning, BadSize, ReservedId, TooLarge, Spent, Full}
 use Rattle.buffer_core.specs.declared.replies.Received.TheVariants.{Got, Empty}
 use Rattle.buffer_core.specs.declared.entry.BufferEntry.{BufferEntry}
 use Rattle.buffer_core.specs.declared.entry.BufferEntry.TheVariants.{Send, SendInRun, Receive}
 use Rattle.buffer_core.specs.Slots.{slot_at, first_slot, some_slot}
-use Rattle.buffer_core.specs.Window.{Sent, Window, opening, slot_of_sent, covers, wants, is_all, holds_back, owes}
-use Rattle.buffer_core.specs.Calls.{IsReply, found_in, receive_reply_to, gone_of}
+use Rattle.buffer_core.specs.Window.{Sent, Window, opening, slot_of_sent, accepted_of, covers, wants, is_all, holds_back, owes}
+use Rattle.buffer_core.specs.Calls.{IsReply, found_in, receive_reply_to, gone_of, owed_in, full_reply, room_reply, spent_reply, size_reply, id_reply, send_reply, is_running, send_in_run_reply}
 use Rattle.buffer_core.specs.Histories.{IsLegal}
 use Rattle.buffer_core.specs.Points.{Life, got_end, sent, count_at, life_at, request_at, IsDue, past_of}
-use Rattle.buffer_core.specs.Delivered.{IsIn, IsRightGot, HasAllBelow, IsTooMuch, HasWay, IsInTheWay, IsBounded, IsInOrder, IsComplete, IsHeldBack, Throughout, StaysBounded, Delivers}
+use Rattle.buffer_core.specs.Delivered.{IsIn, IsRightGot, HasAllBelow, IsStatedRightly, HasFreeId, FitsAtAll, IsUnspent, IsTooMuch, HasWay, IsInTheWay, IsRightSend, IsRightRunSend, IsBounded, IsInOrder, IsComplete, IsHeldBack, Throughout, StaysBounded, Delivers}
+use Rattle.buffer_core.specs.Runs.{begun_at, ended_at, is_paused_at, IsOpenAt, IsGateAt}
+use Rattle.buffer_core.proofs.SlotLaws.{split}
 use Rattle.buffer_core.proofs.Places.{get_drop, get_take, get_taken, goes, goes_much}
 use Rattle.buffer_core.proofs.Numbered.{some_found, IsFirst, first_found, none_found}
 use Rattle.buffer_core.proofs.Found.{IsFound, found, not_found, IsFirstOwed, owed, not_owed}
-use Rattle.buffer_core.proofs.Replied.{got_reply, empty_reply, IsAdmitted, admitted, run_admitted, IsHeldUp, held_up, run_held_up}
+use Rattle.buffer_core.proofs.Replied.{got_reply, empty_reply, IsAdmitted, IsHeldUp}
 use Rattle.buffer_core.proofs.Following.{Follows, HasAll, reads_on, owes_true, owes_next}
 use Rattle.buffer_core.proofs.Linked.{window_at, WasLegal, legal_after, is_window_at, Agrees, IsLinked, linked}
+use Rattle.buffer_core.proofs.Ordering.{IsOpenRun, GateFits, running_is, runs_fit}
 
 -- a client that has a life in the history lives in the window
 pub followed : (first : ℕ) (ss : List Sent) (asked : ℕ → Option EventRequest) (o : Option Client) (l : Option Life) (life : Life) → Agrees first ss asked o l → l ≡ Some life → (c : Client) × (o ≡ Some c) × Follows first ss asked c life
@@ -168,6 +175,10 @@ has_way size past was stated e n is client place due much =
     let failed : owes place it.sent.event it.reader ≡ false = none_found (owes place it.sent.event) w.clients none client it.reader it.lives in
     cc (failed, it.owed)
 
+not_both : (a b : Bool) → (a && b) ≡ false → a ≡ true → b ≡ true → ⊥
+not_both true b e f g = cc (e, g)
+not_both false b e f g = cc (f)
+
 in_the_way : (size : ℕ) (past : List (ℕ × BufferEntry)) → WasLegal size past → (e : Event) (client place : ℕ) → IsHeldUp (window_at size past) e client place → IsInTheWay size past e client place
 in_the_way size past was e client place is =
     let w : Window = window_at size past in
@@ -218,6 +229,91 @@ in_the_way size past was e client place is =
           (cases_lt c client);
     }
 
+-- The causes of refusals.
+
+module _ (size : ℕ) (past : List (ℕ × BufferEntry)) (was : WasLegal size past) (stated : ℕ) (e : Event) where
+  abbrev w : Window
+  w = window_at size past
+
+  abbrev IsRight : Result ℕ SendRefusal → Type 0
+  IsRight = IsRightSend size past stated e
+
+  full_right : (owed : Option (ℕ × ℕ)) → owed_in w.clients w.first (take (gone_of w e) w.kept) ≡ owed → IsUnspent size past stated e → IsRight (full_reply owed (accepted_of w))
+  full_right None none may =
+      let k : IsLinked size past = linked size past was in
+      has_way size past was stated e (accepted_of w) (record {
+        taken = record {
+          sendable = record { stated_right = may.0.0.0.0; small = omega (arith, may.0.0.0.0, may.0.0.0.1); free = may.0.0.1; fits = omega (arith, may.0.1, k.size_is) };
+          unspent = omega (arith, may.1, k.total);
+        };
+        free = none;
+        place_is = refl;
+      })
+  full_right (Some owed) some may =
+      let k : IsLinked size past = linked size past was in
+      (may, in_the_way size past was e owed.0 owed.1 (record { fits = omega (arith, may.0.1, k.size_is); owed = some }))
+
+  spent_right : FitsAtAll size stated e → IsRight (spent_reply w e)
+  spent_right may =
+      let k : IsLinked size past = linked size past was in
+      split (nat_lt (2 ^ 62) (w.total + slot_size e)) (λ b. IsRight (if b then Err (Spent w.total) else room_reply w e))
+      (λ is. (may, (k.total, ltb-true (2 ^ 62) (w.total + slot_size e) is)))
+      (λ is. full_right (owed_in w.clients w.first (take (gone_of w e) w.kept)) refl (may, omega (arith, ltb-false (2 ^ 62) (w.total + slot_size e) is, k.total)))
+
+  size_right : HasFreeId stated e → IsRight (size_reply w e)
+  size_right may =
+      let k : IsLinked size past = linked size past was in
+      split (nat_lt w.size (slot_size e)) (λ b. IsRight (if b then Err (TooLarge (slot_size e) w.size) else spent_reply w e))
+      (λ is. (may, (refl, (k.size_is, omega (arith, ltb-true w.size (slot_size e) is, k.size_is)))))
+      (λ is. spent_right (may, omega (arith, ltb-false w.size (slot_size e) is, k.size_is)))
+
+  id_right : IsStatedRightly stated e → IsRight (id_reply w e)
+  id_right may = split (is_reserved e.id) (λ b. IsRight (if b then Err (ReservedId e.id) else size_reply w e)) (λ is. (may, (refl, is))) (λ is. size_right (may, is))
+
+  right_send : IsRight (send_reply w stated e)
+  right_send =
+      split ((stated == length e.body) && nat_le stated event_limit) (λ b. IsRight (if b then id_reply w e else Err (BadSize stated (length e.body))))
+      (λ is. let parts = and_parts (stated == length e.body) (nat_le stated event_limit) is in id_right (eqb-true stated (length e.body) parts.0, leb-true stated event_limit parts.1))
+      (λ is. (refl, (refl, λ right. not_both (stated == length e.body) (nat_le stated event_limit) is (eq-eqb stated (length e.body) right.0) (le-leb stated event_limit right.1))))
+
+  -- the marks tell the gate
+  told_gate : (gate : RunGate) → GateFits gate (begun_at past) (ended_at past) (is_paused_at past) → IsGateAt past gate
+  told_gate Shut fits = fits
+  told_gate (Running run) fits = (record { from = fits.0.from; begun = fits.0.is_begun; unended = fits.0.not_ended }, fits.1)
+  told_gate (Paused run) fits = (record { from = fits.0.from; begun = fits.0.is_begun; unended = fits.0.not_ended }, fits.1)
+
+  -- a run that is open by the marks is the gate's
+  no_other : (run start : ℕ) → IsOpenRun run (begun_at past) (ended_at past) → start ≢ run → IsOpenAt past start → ⊥
+  no_other run start it other opened =
+      let ended = it.others start opened.from other opened.begun in
+      cc (ended.1, opened.unended)
+
+  is_off : (gate : RunGate) (start : ℕ) → GateFits gate (begun_at past) (ended_at past) (is_paused_at past) → is_running gate start ≡ false → IsGateAt past (Running start) → ⊥
+  is_off Shut start fits off on =
+      let ended = fits start on.0.from on.0.begun in
+      cc (ended.1, on.0.unended)
+  is_off (Running run) start fits off on = no_other run start fits.0 (λ same. eqb-false run start off (sym same)) on.0
+  is_off (Paused run) start fits off on =
+      dite (ℕ_discrete start run)
+      (λ same. let paused : is_paused_at past start ≡ true = subst (λ (s : ℕ). is_paused_at past s ≡ true) (sym same) fits.1 in cc (paused, on.1))
+      (λ other. no_other run start fits.0 other on.0)
+
+  in_run : (start : ℕ) → IsGateAt past (Running start) → (reply : Result ℕ SendRefusal) → IsRight reply → IsRightRunSend size past start stated e reply
+  in_run start on (Ok n) right = (on, right)
+  in_run start on (Err (NotRunning gate)) right = absurd right
+  in_run start on (Err (BadSize said given)) right = (on, right)
+  in_run start on (Err (ReservedId id)) right = (on, right)
+  in_run start on (Err (TooLarge slot whole)) right = (on, right)
+  in_run start on (Err (Spent total)) right = (on, right)
+  in_run start on (Err (Full client place)) right = (on, right)
+
+  right_run_send : (start : ℕ) → IsRightRunSend size past start stated e (send_in_run_reply w start stated e)
+  right_run_send start =
+      let fits : GateFits w.gate (begun_at past) (ended_at past) (is_paused_at past) = (runs_fit size past was).fits in
+      split (is_running w.gate start) (λ b. IsRightRunSend size past start stated e (if b then send_reply w stated e else Err (NotRunning w.gate)))
+      (λ is. in_run start (told_gate (Running start) (subst (λ (g : RunGate). GateFits g (begun_at past) (ended_at past) (is_paused_at past)) (running_is w.gate start is) fits)) (send_reply w stated e) right_send)
+      (λ is. (told_gate w.gate fits, is_off w.gate start fits is))
+
 -- The whole.
 
 bounded : (size : ℕ) (past : List (ℕ × BufferEntry)) → WasLegal size past → IsBounded past
@@ -237,10 +333,8 @@ complete size past was (Receive client room (Empty gate last)) reply = right_emp
 complete size past was entry reply = tt
 
 held_back : (size : ℕ) (past : List (ℕ × BufferEntry)) → WasLegal size past → (e : BufferEntry) → IsReply (window_at size past) e → IsHeldBack size past e
-held_back size past was (Send stated e (Ok n)) reply = has_way size past was stated e n (admitted (window_at size past) stated e n (sym reply))
-held_back size past was (Send stated e (Err (Full client place))) reply = in_the_way size past was e client place (held_up (window_at size past) stated e client place (sym reply))
-held_back size past was (SendInRun start stated e (Ok n)) reply = has_way size past was stated e n (run_admitted (window_at size past) start stated e n (sym reply)).1
-held_back size past was (SendInRun start stated e (Err (Full client place))) reply = in_the_way size past was e client place (run_held_up (window_at size past) start stated e client place (sym reply))
+held_back size past was (Send stated e reply) is = subst (IsRightSend size past stated e) (sym is) (right_send size past was stated e)
+held_back size past was (SendInRun start stated e reply) is = subst (IsRightRunSend size past start stated e) (sym is) (right_run_send size past was stated e start)
 held_back size past was entry reply = tt
 
 throughout : (size : ℕ) (P : List (ℕ × BufferEntry) → BufferEntry → Type 0)

@@ -14,6 +14,7 @@ pub mod Reading
 pub mod Sampled
 pub mod SampledReceives
 pub mod SampledSends
+pub mod SampledRefusals
 pub mod Searching
 pub mod NewNumbers
 pub mod OwnClients

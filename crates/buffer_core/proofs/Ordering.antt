@@ -31,7 +31,7 @@ pub record IsOpenRun (run : ℕ) (begun ended : ℕ → Option ℕ) : Type 0 whe
 abbrev pub GateFits : RunGate → (begun ended : ℕ → Option ℕ) → (paused : ℕ → Bool) → Type 0
 GateFits Shut begun ended paused = (s n : ℕ) → begun s ≡ Some n → (m : ℕ) × (ended s ≡ Some m)
 GateFits (Running run) begun ended paused = IsOpenRun run begun ended × (paused run ≡ false)
-GateFits (Paused run) begun ended paused = IsOpenRun run begun ended
+GateFits (Paused run) begun ended paused = IsOpenRun run begun ended × (paused run ≡ true)
 
 -- how the gate of a window and the marks in its history go together
 pub record RunsFit (gate : RunGate) (last : ℕ) (ss : List Sent) (begun ended : ℕ → Option ℕ) (paused : ℕ → Bool) : Type 0 where
@@ -60,7 +60,7 @@ paused_is (Paused s) start e = ap Paused (eqb-true s start e)
 open_run : (gate : RunGate) (start : ℕ) (begun ended : ℕ → Option ℕ) (paused : ℕ → Bool) → is_open gate start ≡ true → GateFits gate begun ended paused → IsOpenRun start begun ended
 open_run Shut start begun ended paused e fits = absurd (cc)
 open_run (Running s) start begun ended paused e fits = subst (λ (r : ℕ). IsOpenRun r begun ended) (eqb-true s start e) fits.0
-open_run (Paused s) start begun ended paused e fits = subst (λ (r : ℕ). IsOpenRun r begun ended) (eqb-true s start e) fits
+open_run (Paused s) start begun ended paused e fits = subst (λ (r : ℕ). IsOpenRun r begun ended) (eqb-true s start e) fits.0
 
 -- The steps.
 
@@ -205,7 +205,7 @@ pause_fits : (gate : RunGate) (last : ℕ) (ss : List Sent) (begun ended : ℕ �
     RunsFit (Paused start) last ss begun ended (λ s. if start == s then true else paused s)
 pause_fits gate last ss begun ended paused r start running =
     let it : IsOpenRun start begun ended = (subst (λ (g : RunGate). GateFits g begun ended paused) running r.fits).0 in
-    moved_fits gate (Paused start) last ss begun ended paused (λ s. if start == s then true else paused s) r it (λ s e.
+    moved_fits gate (Paused start) last ss begun ended paused (λ s. if start == s then true else paused s) r (it, hit_is start start true (paused start) refl) (λ s e.
     split (start == s) (λ b. (start == s) ≡ b → (if b then true else paused s) ≡ false)
     (λ h same. absurd (cc (it.is_begun, subst (λ (k : ℕ). begun k ≡ None) (sym (eqb-true start s same)) e)))
     (λ h other. r.never_paused s e)
@@ -214,7 +214,7 @@ pause_fits gate last ss begun ended paused r start running =
 resume_fits : (gate : RunGate) (last : ℕ) (ss : List Sent) (begun ended : ℕ → Option ℕ) (paused : ℕ → Bool) → RunsFit gate last ss begun ended paused → (start : ℕ) → gate ≡ Paused start →
     RunsFit (Running start) last ss begun ended (λ s. if start == s then false else paused s)
 resume_fits gate last ss begun ended paused r start in_pause =
-    let it : IsOpenRun start begun ended = subst (λ (g : RunGate). GateFits g begun ended paused) in_pause r.fits in
+    let it : IsOpenRun start begun ended = (subst (λ (g : RunGate). GateFits g begun ended paused) in_pause r.fits).0 in
     moved_fits gate (Running start) last ss begun ended paused (λ s. if start == s then false else paused s) r (it, hit_is start start false (paused start) refl) (λ s e.
     split (start == s) (λ b. (if b then false else paused s) ≡ false) (λ h. refl) (λ h. r.never_paused s e))
 

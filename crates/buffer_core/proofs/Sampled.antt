@@ -155,7 +155,7 @@ others_of_refused size HeldBack ne = absurd (ne refl)
 others_of_refused size Bounded ne = (λ client life lives. absurd (cc (lives)), (λ client life lives. absurd (cc (lives)), tt))
 
 pub refused_alone : (size : ℕ) → FailsAlone HeldBack size refused_for_nobody
-refused_alone size = record { fails = λ d. cc (d.0.due.lives); others = others_of_refused size }
+refused_alone size = record { fails = λ d. cc (d.0.1.due.lives); others = others_of_refused size }
 
 -- too much got
 

@@ -23,7 +23,7 @@ pub optional_alone : (size : ℕ) → FailsAlone HeldBack size refused_for_optio
 optional_alone size = record {
   fails = λ d.
       let optional : EventRequest = record { id = any; mask = any; kind = NonBlocking; since = 0 } in
-      let due = d.0.due in
+      let due = d.0.1.due in
       split (0 == due.number) (λ b. (if b then Some optional else None) ≡ Some due.request → ⊥)
       (λ h is.
       let same : optional ≡ due.request = cc (is) in
@@ -46,7 +46,7 @@ pub place_alone : FailsAlone HeldBack 48 refused_at_second
 unfolding slot_of_length
 place_alone = record {
   fails = λ d.
-      let least : 1 ≤ 0 = d.0.least_place 0 0 (record {
+      let least : 1 ≤ 0 = d.0.1.least_place 0 0 (record {
         life = reader_at 0 [];
         number = 0;
         request = all_events;
@@ -78,7 +78,7 @@ others_of_client Bounded ne = (λ client life lives. two_readers (sample_sent �
 pub client_alone : FailsAlone HeldBack 24 refused_for_second
 client_alone = record {
   fails = λ d.
-      let least : 1 ≤ 0 = d.0.least_client 0 (record {
+      let least : 1 ≤ 0 = d.0.1.least_client 0 (record {
         life = reader_at 0 [];
         number = 0;
         request = all_events;

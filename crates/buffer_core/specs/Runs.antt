@@ -1,6 +1,8 @@
 -- The events between the marks of a run: read off the calls of a buffer and their replies alone.
 use Rattle.std.specs.Prelude.{◌≡◌, ◌≢◌, ℕ, ◌==◌, Bool, true, false, if◌then◌else◌, List, [], ◌∷◌, length, take, drop, slice_get, Option, Some, None, Ok, unwrap_or, ⊤, ◌⊎◌}
 use Rattle.std.specs.List.{enumerate_from}
+use Rattle.buffer_core.specs.declared.gate.RunGate.{RunGate}
+use Rattle.buffer_core.specs.declared.gate.RunGate.TheVariants.{Shut, Running, Paused as InPause}
 use Rattle.buffer_core.specs.declared.entry.BufferEntry.{BufferEntry}
 use Rattle.buffer_core.specs.declared.entry.BufferEntry.TheVariants.{Begin, Pause, Resume, End}
 use Rattle.buffer_core.specs.Window.{Sent}
@@ -50,6 +52,19 @@ ended_at (e ∷ past) start = ended_after (mark_of e.1) start (ended_at past sta
 abbrev pub is_paused_at : List (ℕ × BufferEntry) → (start : ℕ) → Bool
 is_paused_at [] start = false
 is_paused_at (e ∷ past) start = paused_after (mark_of e.1) start (is_paused_at past start)
+
+-- the run with this start number began, and did not end
+pub record IsOpenAt (past : List (ℕ × BufferEntry)) (start : ℕ) : Type 0 where
+  pub from : ℕ
+  pub begun : begun_at past start ≡ Some from
+  pub unended : ended_at past start ≡ None
+
+-- the run gate by the marks alone: shut where each run that began has ended, and else open for one that did not, which is
+-- paused or not
+abbrev pub IsGateAt : List (ℕ × BufferEntry) → RunGate → Type 0
+IsGateAt past Shut = (start from : ℕ) → begun_at past start ≡ Some from → (to : ℕ) × (ended_at past start ≡ Some to)
+IsGateAt past (Running start) = IsOpenAt past start × (is_paused_at past start ≡ false)
+IsGateAt past (InPause start) = IsOpenAt past start × (is_paused_at past start ≡ true)
 
 -- the events from the begin on up to the end, or to the last one where there is no end, each with its place
 abbrev pub events_between : (begin end : Option ℕ) → List Sent → List (ℕ × Sent)

@@ -1,11 +1,11 @@
 -- A history that a buffer has, and some that none has, each wrong in one way.
-use Rattle.std.specs.Prelude.{ℕ, List, [], ◌∷◌, length, Ok, Err}
+use Rattle.std.specs.Prelude.{ℕ, ◌^◌, List, [], ◌∷◌, length, Ok, Err}
 use Rattle.daq_types.specs.declared.events.Event.{Event}
 use Rattle.daq_types.specs.declared.runs.Kind.TheVariants.{All, NonBlocking}
-use Rattle.buffer_core.specs.declared.gate.RunGate.TheVariants.{Shut}
+use Rattle.buffer_core.specs.declared.gate.RunGate.TheVariants.{Shut, Running}
 use Rattle.buffer_core.specs.Window.{any, opening}
 use Rattle.buffer_core.specs.Ports.{Access}
-use Rattle.buffer_core.specs.declared.replies.SendRefusal.TheVariants.{Full}
+use Rattle.buffer_core.specs.declared.replies.SendRefusal.TheVariants.{NotRunning, BadSize, ReservedId, TooLarge, Spent, Full}
 use Rattle.buffer_core.specs.declared.replies.Received.TheVariants.{Got, Empty}
 use Rattle.buffer_core.specs.declared.entry.BufferEntry.{BufferEntry}
 use Rattle.buffer_core.specs.declared.entry.BufferEntry.TheVariants.{Attach, Detach, Request, Cancel, Send, SendInRun, Receive, Begin, Pause, End}
@@ -95,6 +95,38 @@ refused_for_second =
     with_reader
     ((1, Attach [] (Ok 1)) ∷ (1, Request 1 any any All (Ok 0))
     ∷ (2, Send 0 sample_event (Ok 0)) ∷ (2, Send 0 sample_event (Err (Full 1 0))) ∷ [])
+
+-- a send is refused for what it is not: for its header, which states the length of the data
+abbrev pub refused_for_size : List (ℕ × BufferEntry)
+refused_for_size = (1, Send 0 sample_event (Err (BadSize 0 0))) ∷ []
+
+-- for its id, which is no reserved one
+abbrev pub refused_for_id : List (ℕ × BufferEntry)
+refused_for_id = (1, Send 0 sample_event (Err (ReservedId 1))) ∷ []
+
+-- for its length, though it fits
+abbrev pub refused_as_too_large : List (ℕ × BufferEntry)
+refused_as_too_large = (1, Send 0 sample_event (Err (TooLarge 24 24))) ∷ []
+
+-- for the room of all that were sent, though there was none
+abbrev pub refused_as_spent : List (ℕ × BufferEntry)
+refused_as_spent = (1, Send 0 sample_event (Err (Spent 0))) ∷ []
+
+-- for the room of all that were sent, of which it names too much
+abbrev pub refused_with_other_total : List (ℕ × BufferEntry)
+refused_with_other_total = (1, Send 0 sample_event (Err (Spent (2 ^ 62)))) ∷ []
+
+-- for its run, though it is on
+abbrev pub refused_in_run : List (ℕ × BufferEntry)
+refused_in_run = (1, Begin 1 (Ok 0)) ∷ (1, SendInRun 1 0 sample_event (Err (NotRunning (Running 1)))) ∷ []
+
+-- for its run, which is off, with the gate of a run that never began
+abbrev pub refused_with_other_gate : List (ℕ × BufferEntry)
+refused_with_other_gate = (1, SendInRun 1 0 sample_event (Err (NotRunning (Running 2)))) ∷ []
+
+-- for a run, though it was sent in none
+abbrev pub refused_without_run : List (ℕ × BufferEntry)
+refused_without_run = (1, Send 0 sample_event (Err (NotRunning Shut))) ∷ []
 
 -- an event of a run is sent behind its end
 abbrev pub sent_behind : List (ℕ × BufferEntry)

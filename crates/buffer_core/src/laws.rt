@@ -18,10 +18,10 @@ ghost use Rattle.buffer_core.specs.Continued.{sent_in, RepliesCount, GivesSent};
 ghost use Rattle.buffer_core.specs.Readers.{KeepsLife, HasReadBelow, ReadsAll, places_got, places_of, among, wanted};
 ghost use Rattle.buffer_core.specs.Ports.{Access, GotEvent, PortCalled, IsGivenAt, IsNewNumber, knowing};
 ghost use Rattle.buffer_core.specs.Searches.{FoundIsFirst, FirstIsFound, NotFoundIsNone, NoneIsNotFound, OwedIsLeast, LeastIsOwed, NotOwedIsNone, NoneIsNotOwed, DropIsLeast, LeastIsDrop};
-ghost use Rattle.buffer_core.specs.Samples.{refused_once, got_twice, left_out, reached_back, refused_for_nobody, got_too_much, got_too_much_together, got_with_other_start, got_of_cancelled, missed, refused_for_optional, refused_at_second, refused_for_second, dropped, sent_behind, sent_between, sent_in_pause, begun_twice, access_after, given_once, given_and_detached, given_twice};
+ghost use Rattle.buffer_core.specs.Samples.{refused_once, got_twice, left_out, reached_back, refused_for_nobody, got_too_much, got_too_much_together, got_with_other_start, got_of_cancelled, missed, refused_for_optional, refused_at_second, refused_for_second, dropped, refused_for_size, refused_for_id, refused_as_too_large, refused_as_spent, refused_with_other_total, refused_in_run, refused_with_other_gate, refused_without_run, sent_behind, sent_between, sent_in_pause, begun_twice, access_after, given_once, given_and_detached, given_twice};
 
 /// Each client gets only what its requests want, in order and once, and all of what its requests for all events want;
-/// a send is refused as full exactly where such an event is still to be got.
+/// a send is refused for its cause, which its reply names, and as full exactly where such an event is still to be got.
 pub fn delivers()
     ensures { (size : ℕ) → (history : History) → IsLegal (opening size) history
         → Delivers size history }
@@ -174,6 +174,17 @@ pub fn fails_alone()
     ensures place { FailsAlone HeldBack 48 refused_at_second }
     ensures client { FailsAlone HeldBack 24 refused_for_second }
     ensures owed { FailsAlone HeldBack 24 dropped }
+
+    // Why a send is refused: for its header, its id, its length or the room of all, which are right,
+    // with another room than that of all, for a run that is on, with another gate, and in no run.
+    ensures size { (size : ℕ) → FailsAlone HeldBack size refused_for_size }
+    ensures id { (size : ℕ) → FailsAlone HeldBack size refused_for_id }
+    ensures large { (size : ℕ) → FailsAlone HeldBack size refused_as_too_large }
+    ensures spent { (size : ℕ) → FailsAlone HeldBack size refused_as_spent }
+    ensures total { (size : ℕ) → FailsAlone HeldBack size refused_with_other_total }
+    ensures run { (size : ℕ) → FailsAlone HeldBack size refused_in_run }
+    ensures gate { (size : ℕ) → FailsAlone HeldBack size refused_with_other_gate }
+    ensures no_run { (size : ℕ) → FailsAlone HeldBack size refused_without_run }
 
     // How much is got: by one event, and by two together.
     ensures much { (size : ℕ) → (event : Event) →

@@ -1,9 +1,11 @@
-//! A ring of bytes.
+//! A ring of bytes, by itself and below a buffer.
 ghost use Rattle.std.specs.Prelude.{◌≡◌, ◌≤◌, length};
 
+use crate::tests::{MUST_GET, Step, run_all};
 use daq_types::NoMemory;
-use ring_buffer::Ring;
+use ring_buffer::{Ring, RingBuffer};
 use std::alloc::Global;
+use std::process::Abort;
 use std::test::Fail;
 
 /// The eight bytes of the ring from this offset.
@@ -67,5 +69,36 @@ fn a_ring_goes_on_at_its_beginning(rt: HostRuntime) -> Result<(), Fail> {
     assert!(rt; reads.around == [2, 3, 5, 0, 0, 0, 0, 1]);
     assert!(rt; reads.reads == 3);
     assert!(rt; reads.bytes_read == 24);
+    Ok(())
+}
+
+/// The slot of an event of eight bytes of data, which was sent in no run.
+const SLOT: [u8; 32] = [
+    0, 0, 0, 0, 8, 0, 0, 0, 1, 0, 0, 0, 1, 0, 0, 0, 0, 0, 0, 0, 8, 0, 0, 0, 1, 1, 1, 1, 1, 1, 1, 1,
+];
+
+/// The offset and the place that the first client goes on from after these calls on a new buffer of 256 bytes, and what
+/// stands in the buffer's ring from this offset on.
+fn left_by<R: Abort + AllocGlobal>(
+    rt: &R,
+    calls: &[Step],
+    off: u64,
+) -> Result<(Option<(u64, u64)>, [u8; 32]), Fail> {
+    let mut buffer = RingBuffer::over(Ring::new(rt.alloc(), 256)?);
+    run_all(rt, &mut buffer, calls)?;
+    let first = buffer.pointers().at(0);
+    let mut ring = buffer.into_ring();
+    assert!(rt; ring.size() == 256);
+    let mut slot = [9; 32];
+    ring.get_at(off, &mut slot);
+    Ok((first, slot))
+}
+
+#[test]
+fn a_kept_event_stands_in_the_ring(rt: HostRuntime) -> Result<(), Fail> {
+    // The first event is gone, and the ninth lies behind the ring's end, where the first was.
+    let (first, slot) = left_by(&rt, MUST_GET, 256)?;
+    assert_eq!(rt; first, Some((32, 1)));
+    assert!(rt; slot == SLOT);
     Ok(())
 }

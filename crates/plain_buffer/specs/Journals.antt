@@ -6,10 +6,10 @@ use Rattle.buffer_core.specs.declared.entry.BufferEntry.TheVariants.{Send, SendI
 use Rattle.plain_buffer.specs.declared.journal.Line.{Line}
 
 -- how many bytes of data the call hands over
-abbrev pub data_of : BufferEntry → ℕ
-data_of (Send stated e reply) = length e.body
-data_of (SendInRun start stated e reply) = length e.body
-data_of entry = 0
+abbrev pub handed_bytes : BufferEntry → ℕ
+handed_bytes (Send stated e reply) = length e.body
+handed_bytes (SendInRun start stated e reply) = length e.body
+handed_bytes entry = 0
 
 -- the event with these data
 abbrev pub event_with : List ℕ → Event → Event
@@ -32,8 +32,8 @@ entries_of (l ∷ ls) bytes = (l.caller, entry_with (take l.size bytes) l.entry)
 -- the call stands without data, and these are the data of the event that it sends; none, if it
 -- sends no event
 pub record IsApart (entry : BufferEntry) (body : List ℕ) : Type 0 where
-  pub bare : data_of entry ≡ 0
-  pub whole : length body ≡ data_of (entry_with body entry)
+  pub bare : handed_bytes entry ≡ 0
+  pub whole : length body ≡ handed_bytes (entry_with body entry)
 
 -- the entry of this number, with the number of its caller, is this one with these data
 abbrev pub IsEntryAt : List (ℕ × BufferEntry) → (number caller : ℕ) → BufferEntry → (body : List ℕ) → Type 0

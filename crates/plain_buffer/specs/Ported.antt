@@ -4,7 +4,7 @@ use Rattle.buffer_core.specs.declared.entry.BufferEntry.{BufferEntry}
 use Rattle.buffer_core.specs.Window.{Window, IsWindow}
 use Rattle.buffer_core.specs.Calls.{IsReply, window_after}
 use Rattle.buffer_core.specs.Histories.{IsLegal, replay}
-use Rattle.plain_buffer.specs.Journals.{data_of}
+use Rattle.plain_buffer.specs.Journals.{handed_bytes}
 
 -- the window that the buffer had at first, and the one that it has; the calls since, each with the number of its caller;
 -- whose calls come next; and room for so many calls more, which hand over so many bytes of data
@@ -31,7 +31,7 @@ pub record AppendsCall (p q : Ported) (entry : BufferEntry) : Type 0 where
   pub start : q.start ≡ p.start
   pub caller : q.caller ≡ p.caller
   pub calls : p.calls ≤ q.calls + 1
-  pub bytes : p.bytes ≤ q.bytes + data_of entry
+  pub bytes : p.bytes ≤ q.bytes + handed_bytes entry
 
 -- the same calls, and no less room
 pub record KeepsPort (p q : Ported) : Type 0 where

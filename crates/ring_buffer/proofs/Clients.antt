@@ -14,10 +14,10 @@ use Rattle.buffer_core.specs.Window.{Window, IsWindow}
 use Rattle.buffer_core.proofs.WindowKept.{window_stays}
 use Rattle.buffer_core.specs.Calls.{no_slot, joined, with_request, attach_reply, detach_reply_to, request_reply_to, cancel_reply_to, window_after, with_clients}
 use Rattle.ring_buffer.specs.declared.pointer.Pointer.{Pointer}
-use Rattle.ring_buffer.specs.Pointers.{clients_of, changed}
+use Rattle.ring_buffer.specs.Pointers.{clients_of, changed, IsAtOffset}
 use Rattle.ring_buffer.proofs.PointerLaws.{free_client, clients_set, clients_change}
 use Rattle.ring_buffer.specs.declared.ring_buffer.RingBuffer.TheInside.{Inside}
-use Rattle.ring_buffer.specs.RingViews.{window_of, IsAtOffset, IsRingBuffer}
+use Rattle.ring_buffer.specs.RingViews.{window_of, IsRingBuffer}
 use Rattle.ring_buffer.proofs.Sending.{accepted_is}
 use Rattle.ring_buffer.proofs.GivenEvents.{with_pointers, ring_clients, placed_set, at_end}
 

@@ -17,15 +17,15 @@ use Rattle.buffer_core.proofs.SlotLaws.{split, slot_set_same, slot_set_other, sl
 use Rattle.buffer_core.specs.Window.{Sent, Window, slot_of_sent, level_of, covers, IsWindow}
 use Rattle.buffer_core.specs.Calls.{detach_reply_to, found_in, found_reply, receive_reply_to, going_on, with_clients}
 use Rattle.ring_buffer.specs.declared.pointer.Pointer.{Pointer}
-use Rattle.ring_buffer.specs.Pointers.{clients_of, moved, position_of}
+use Rattle.ring_buffer.specs.Pointers.{clients_of, moved, position_of, IsAtOffset}
 use Rattle.ring_buffer.proofs.PointerLaws.{clients_change, client_at}
 use Rattle.ring_buffer.specs.declared.ring_buffer.RingBuffer.TheInside.{Inside}
 use Rattle.ring_buffer.specs.declared.walk.Position.{Position}
 use Rattle.ring_buffer.specs.declared.walk.Found.{Found}
 use Rattle.ring_buffer.specs.RingHolds.{HoldsEvents}
 use Rattle.ring_buffer.specs.Stored.{ring_event_at, ring_events_at, FitsSlot, AllFit}
-use Rattle.ring_buffer.specs.RingViews.{window_of, IsAtOffset, IsRingBuffer}
-use Rattle.ring_buffer.specs.Walks.{between, IsWalk, IsFoundFor, FindsNothing}
+use Rattle.ring_buffer.specs.RingViews.{window_of, IsRingBuffer}
+use Rattle.ring_buffer.specs.Walks.{ring_between, IsWalk, IsFoundFor, FindsNothing}
 use Rattle.ring_buffer.proofs.Walking.{at, IsNext, next_is}
 use Rattle.ring_buffer.proofs.Sending.{events_read, length-events_at, accepted_is, holds_drop, fit_drop}
 
@@ -108,7 +108,7 @@ at_end b is =
 
 pub record IsWalkOf (b : Inside) (p : Pointer) : Type 0 where
   pub walk : IsWalk b.ring.bytes (at p.off p.client.next) (at b.total b.count)
-  pub rest : between b.ring.bytes (at p.off p.client.next) (at b.total b.count) ≡ drop (p.client.next - b.first) (window_of b).kept
+  pub rest : ring_between b.ring.bytes (at p.off p.client.next) (at b.total b.count) ≡ drop (p.client.next - b.first) (window_of b).kept
   pub from : b.first ≤ p.client.next
   pub to : p.client.next ≤ b.count
 
@@ -126,7 +126,7 @@ walk_of b client p is lives =
     let holds : HoldsEvents b.ring.bytes p.off rest = subst (λ (o : ℕ). HoldsEvents b.ring.bytes o (drop k kept)) rest_off (holds_drop b.ring.bytes k b.off kept old) in
     let fits : AllFit rest = fit_drop k kept is.fit in
     let count : b.count - p.client.next ≡ length rest = omega (arith, length-drop k kept, length-events_at b.ring.bytes b.off (b.count - b.first), from, to) in
-    let rest_is : between b.ring.bytes (at p.off p.client.next) (at b.total b.count) ≡ rest = ap (λ (n : ℕ). ring_events_at b.ring.bytes p.off n) count ∙ events_read b.ring.bytes p.off rest holds fits in
+    let rest_is : ring_between b.ring.bytes (at p.off p.client.next) (at b.total b.count) ≡ rest = ap (λ (n : ℕ). ring_events_at b.ring.bytes p.off n) count ∙ events_read b.ring.bytes p.off rest holds fits in
     record {
       walk = record {
         order = to;
@@ -148,7 +148,7 @@ found_skip c (suc k) first (s ∷ ss) here =
     ap (λ (b : Bool). if b && some_slot (covers first s.event) c.requests then Some (first, s) else found_in c (suc first) ss) behind
     ∙ found_skip c k (suc first) ss (omega (arith, here))
 
-pub found_walk : (b : Inside) (p : Pointer) → IsWalkOf b p → found_in p.client b.first (window_of b).kept ≡ found_in p.client p.client.next (between b.ring.bytes (at p.off p.client.next) (at b.total b.count))
+pub found_walk : (b : Inside) (p : Pointer) → IsWalkOf b p → found_in p.client b.first (window_of b).kept ≡ found_in p.client p.client.next (ring_between b.ring.bytes (at p.off p.client.next) (at b.total b.count))
 found_walk b p walk =
     found_skip p.client (p.client.next - b.first) b.first (window_of b).kept (omega (arith, walk.from)) ∙ ap (λ (ss : List Sent). found_in p.client p.client.next ss) (sym walk.rest)
 
@@ -164,11 +164,11 @@ pub record IsReader (b : Inside) (client : ℕ) (from : Position) : Type 0 where
   pub pointer : Pointer
   pub lives : slot_at b.clients client ≡ Some pointer
   pub walk : IsWalk b.ring.bytes from (at b.total b.count)
-  pub rest : between b.ring.bytes from (at b.total b.count) ≡ drop (from.place - b.first) (window_of b).kept
+  pub rest : ring_between b.ring.bytes from (at b.total b.count) ≡ drop (from.place - b.first) (window_of b).kept
   pub place : pointer.client.next ≡ from.place
   pub first : b.first ≤ from.place
   pub last : from.place ≤ b.count
-  pub found : found_in pointer.client b.first (window_of b).kept ≡ found_in pointer.client from.place (between b.ring.bytes from (at b.total b.count))
+  pub found : found_in pointer.client b.first (window_of b).kept ≡ found_in pointer.client from.place (ring_between b.ring.bytes from (at b.total b.count))
 
 same_at : (o p o' p' : ℕ) → o ≡ o' → p ≡ p' → at o p ≡ at o' p'
 same_at o p o' p' e f = cc
@@ -206,7 +206,7 @@ given b client from f r found =
     let s : Sent = ring_event_at b.ring.bytes f.at.off in
     let next : IsNext b.ring.bytes from f.at.off f.at.place (at b.total b.count) = next_is b.ring.bytes from f.at.off f.at.place (at b.total b.count) found.on_way found.early in
     let index : (from.place - b.first) + (f.at.place + 1 - from.place) ≡ f.at.place + 1 - b.first = omega (arith, r.first, found.on_way.later) in
-    let rest : between b.ring.bytes (at (f.at.off + slot_of_sent (ring_event_at b.ring.bytes f.at.off)) (f.at.place + 1)) (at b.total b.count) ≡ drop (f.at.place + 1 - b.first) (window_of b).kept =
+    let rest : ring_between b.ring.bytes (at (f.at.off + slot_of_sent (ring_event_at b.ring.bytes f.at.off)) (f.at.place + 1)) (at b.total b.count) ≡ drop (f.at.place + 1 - b.first) (window_of b).kept =
     next.on_way.rest
     ∙ (ap (λ (ss : List Sent). drop (f.at.place + 1 - from.place) ss) r.rest
     ∙ (drop-drop (f.at.place + 1 - from.place) (from.place - b.first) (window_of b).kept ∙ ap (λ (n : ℕ). drop n (window_of b).kept) index)) in
@@ -286,8 +286,8 @@ given_room b client from f is r found =
     let kept : List Sent = (window_of b).kept in
     let j : ℕ = (from.place - b.first) + (f.at.place - from.place) in
     let next : IsNext b.ring.bytes from f.at.off f.at.place (at b.total b.count) = next_is b.ring.bytes from f.at.off f.at.place (at b.total b.count) found.on_way found.early in
-    let rest : List Sent = between b.ring.bytes (at (f.at.off + slot_of_sent (ring_event_at b.ring.bytes f.at.off)) (f.at.place + 1)) (at b.total b.count) in
-    let cut : between b.ring.bytes f.at (at b.total b.count) ≡ drop j kept =
+    let rest : List Sent = ring_between b.ring.bytes (at (f.at.off + slot_of_sent (ring_event_at b.ring.bytes f.at.off)) (f.at.place + 1)) (at b.total b.count) in
+    let cut : ring_between b.ring.bytes f.at (at b.total b.count) ≡ drop j kept =
     found.on_way.rest ∙ (ap (λ (ss : List Sent). drop (f.at.place - from.place) ss) r.rest ∙ drop-drop (f.at.place - from.place) (from.place - b.first) kept) in
     let sum : sum_by slot_of_sent (drop j kept) ≡ slot_of_sent (ring_event_at b.ring.bytes f.at.off) + sum_by slot_of_sent rest =
     ap (λ (ss : List Sent). sum_by slot_of_sent ss) (sym cut ∙ next.first) ∙ sum_by-cons slot_of_sent (ring_event_at b.ring.bytes f.at.off) rest in

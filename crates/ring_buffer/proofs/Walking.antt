@@ -18,7 +18,7 @@ use Rattle.ring_buffer.specs.declared.walk.Position.{Position}
 use Rattle.ring_buffer.specs.RingHolds.{HoldsEvent, HoldsEvents}
 use Rattle.ring_buffer.specs.Stored.{ring_event_at, ring_events_at, FitsSlot, AllFit}
 use Rattle.ring_buffer.specs.Reads.{ReadsFronts}
-use Rattle.ring_buffer.specs.Walks.{between, IsOnWay, to_go, in_the_way, IsWay}
+use Rattle.ring_buffer.specs.Walks.{ring_between, IsOnWay, to_go, in_the_way, IsWay}
 use Rattle.ring_buffer.proofs.CountLaws.{one_more_read}
 
 abbrev pub at : (off place : ℕ) → Position
@@ -28,7 +28,7 @@ at off place = record { off = off; place = place }
 pub record IsNext (ring : List ℕ) (from : Position) (off place : ℕ) (end : Position) : Type 0 where
   pub holds : HoldsEvent ring off (ring_event_at ring off)
   pub fits : FitsSlot (ring_event_at ring off)
-  pub first : between ring (at off place) end ≡ ring_event_at ring off ∷ between ring (at (off + slot_of_sent (ring_event_at ring off)) (place + 1)) end
+  pub first : ring_between ring (at off place) end ≡ ring_event_at ring off ∷ ring_between ring (at (off + slot_of_sent (ring_event_at ring off)) (place + 1)) end
   pub on_way : IsOnWay ring from (at (off + slot_of_sent (ring_event_at ring off)) (place + 1)) end
 
 next_by : (ring : List ℕ) (from : Position) (off place : ℕ) (end : Position) (n : ℕ) → IsOnWay ring from (at off place) end → end.place - place ≡ suc n → IsNext ring from off place end
@@ -37,13 +37,13 @@ next_by ring from off place end n on left =
     let s : Sent = ring_event_at ring off in
     let left_is : n ≡ end.place - (place + 1) = omega (arith, left) in
     let rest : List Sent = ring_events_at ring (off + slot_of_sent (ring_event_at ring off)) n in
-    let rest_is : rest ≡ between ring (at (off + slot_of_sent (ring_event_at ring off)) (place + 1)) end = ap (λ (k : ℕ). ring_events_at ring (off + slot_of_sent (ring_event_at ring off)) k) left_is in
-    let whole : between ring (at off place) end ≡ ring_event_at ring off ∷ rest = ap (λ (k : ℕ). ring_events_at ring off k) left in
+    let rest_is : rest ≡ ring_between ring (at (off + slot_of_sent (ring_event_at ring off)) (place + 1)) end = ap (λ (k : ℕ). ring_events_at ring (off + slot_of_sent (ring_event_at ring off)) k) left_is in
+    let whole : ring_between ring (at off place) end ≡ ring_event_at ring off ∷ rest = ap (λ (k : ℕ). ring_events_at ring off k) left in
     let holds : HoldsEvents ring off (ring_event_at ring off ∷ rest) = subst (λ (ss : List Sent). HoldsEvents ring off ss) whole on.walk.holds in
     let fit : AllFit (ring_event_at ring off ∷ rest) = subst AllFit whole on.walk.fit in
-    let sum : sum_by slot_of_sent (between ring (at off place) end) ≡ slot_of_sent (ring_event_at ring off) + sum_by slot_of_sent rest =
+    let sum : sum_by slot_of_sent (ring_between ring (at off place) end) ≡ slot_of_sent (ring_event_at ring off) + sum_by slot_of_sent rest =
     ap (λ (ss : List Sent). sum_by slot_of_sent ss) whole ∙ sum_by-cons slot_of_sent (ring_event_at ring off) rest in
-    let sum' : sum_by slot_of_sent rest ≡ sum_by slot_of_sent (between ring (at (off + slot_of_sent (ring_event_at ring off)) (place + 1)) end) = ap (λ (ss : List Sent). sum_by slot_of_sent ss) rest_is in
+    let sum' : sum_by slot_of_sent rest ≡ sum_by slot_of_sent (ring_between ring (at (off + slot_of_sent (ring_event_at ring off)) (place + 1)) end) = ap (λ (ss : List Sent). sum_by slot_of_sent ss) rest_is in
     let index : (place - from.place) + 1 ≡ place + 1 - from.place = omega (arith, on.later) in
     record {
       holds = holds.0;
@@ -60,7 +60,7 @@ next_by ring from off place end n on left =
         rest =
             sym rest_is
             ∙ (ap (λ (ss : List Sent). drop 1 ss) (sym whole ∙ on.rest)
-            ∙ (drop-drop 1 (place - from.place) (between ring from end) ∙ ap (λ (k : ℕ). drop k (between ring from end)) index));
+            ∙ (drop-drop 1 (place - from.place) (ring_between ring from end) ∙ ap (λ (k : ℕ). drop k (ring_between ring from end)) index));
       };
     }
 
@@ -68,7 +68,7 @@ pub next_is : (ring : List ℕ) (from : Position) (off place : ℕ) (end : Posit
 next_is ring from off place end on early = next_by ring from off place end (end.place - (place + 1)) on (omega (arith, early))
 
 -- at the end there is nothing left
-pub end_is : (ring : List ℕ) (off place : ℕ) (end : Position) → end.place ≤ place → between ring (at off place) end ≡ []
+pub end_is : (ring : List ℕ) (off place : ℕ) (end : Position) → end.place ≤ place → ring_between ring (at off place) end ≡ []
 unfolding ring_events_at
 end_is ring off place end late = ap (λ (k : ℕ). ring_events_at ring off k) (let none : end.place - place ≡ 0 = omega (arith, late) in none)
 
@@ -104,8 +104,8 @@ owed_now place h s clients r same is =
 goes : (ring : List ℕ) (from : Position) (off place : ℕ) (end : Position) (slot : ℕ) → IsOnWay ring from (at off place) end → IsNext ring from off place end → length ring < end.off - off + slot
     → to_go ring (at off place) end slot ≡ suc (to_go ring (at (off + slot_of_sent (ring_event_at ring off)) (place + 1)) end slot)
 goes ring from off place end slot on next full =
-    let rest : List Sent = between ring (at (off + slot_of_sent (ring_event_at ring off)) (place + 1)) end in
-    let sum : sum_by slot_of_sent (between ring (at off place) end) ≡ sum_by slot_of_sent (ring_event_at ring off ∷ rest) = ap (λ (ss : List Sent). sum_by slot_of_sent ss) next.first in
+    let rest : List Sent = ring_between ring (at (off + slot_of_sent (ring_event_at ring off)) (place + 1)) end in
+    let sum : sum_by slot_of_sent (ring_between ring (at off place) end) ≡ sum_by slot_of_sent (ring_event_at ring off ∷ rest) = ap (λ (ss : List Sent). sum_by slot_of_sent ss) next.first in
     let not_yet : nat_le (sum_by slot_of_sent (ring_event_at ring off ∷ rest) + slot) (length ring) ≡ false = lt-leb _ _ (omega (arith, sum, on.walk.level, full)) in
     ap (λ (ss : List Sent). to_drop slot_of_sent (length ring) slot ss) next.first
     ∙ ap (λ (b : Bool). if b then 0 else suc (to_drop slot_of_sent (length ring) slot rest)) not_yet
@@ -114,10 +114,10 @@ way_at : (ring : List ℕ) (clients : List (Option Client)) (from : Position) (o
     → in_the_way ring clients (at off place) end slot
     ≡ or_later (first_slot (owes place (ring_event_at ring off).event) clients) place (in_the_way ring clients (at (off + slot_of_sent (ring_event_at ring off)) (place + 1)) end slot)
 way_at ring clients from off place end slot on next full =
-    let rest : List Sent = between ring (at (off + slot_of_sent (ring_event_at ring off)) (place + 1)) end in
+    let rest : List Sent = ring_between ring (at (off + slot_of_sent (ring_event_at ring off)) (place + 1)) end in
     let k : ℕ = to_go ring (at (off + slot_of_sent (ring_event_at ring off)) (place + 1)) end slot in
     let one : suc place ≡ place + 1 = omega arith in
-    ap (λ (n : ℕ). owed_in clients place (take n (between ring (at off place) end))) (goes ring from off place end slot on next full)
+    ap (λ (n : ℕ). owed_in clients place (take n (ring_between ring (at off place) end))) (goes ring from off place end slot on next full)
     ∙ (ap (λ (ss : List Sent). owed_in clients place (take (suc k) ss)) next.first
     ∙ ap (λ (n : ℕ). or_later (first_slot (owes place (ring_event_at ring off).event) clients) place (owed_in clients n (take k rest))) one)
 
@@ -148,17 +148,17 @@ walk_blocked ring clients from off place end slot before now client walked early
 pub walk_ends : (ring : List ℕ) (clients : List (Option Client)) (from : Position) (off place : ℕ) (end : Position) (slot : ℕ) (before now : CountedBytes) → IsWalked ring clients from off place end slot before now
     → end.off - off + slot ≤ length ring → IsWay ring clients from (at off place) end slot
 walk_ends ring clients from off place end slot before now walked fits =
-    let none : to_go ring (at off place) end slot ≡ 0 = to_drop_none slot_of_sent (length ring) slot (between ring (at off place) end) (omega (arith, walked.on_way.walk.level, fits)) in
+    let none : to_go ring (at off place) end slot ≡ 0 = to_drop_none slot_of_sent (length ring) slot (ring_between ring (at off place) end) (omega (arith, walked.on_way.walk.level, fits)) in
     record {
       on_way = walked.on_way;
       place = omega (arith, walked.gone, none, walked.on_way.later);
-      free = walked.owed ∙ ap (λ (n : ℕ). owed_in clients place (take n (between ring (at off place) end))) none;
+      free = walked.owed ∙ ap (λ (n : ℕ). owed_in clients place (take n (ring_between ring (at off place) end))) none;
     }
 
 pub walk_out : (ring : List ℕ) (clients : List (Option Client)) (from : Position) (off place : ℕ) (end : Position) (slot : ℕ) (before now : CountedBytes) → IsWalked ring clients from off place end slot before now
     → place ≡ end.place → slot ≤ length ring → IsWay ring clients from (at off end.place) end slot
 walk_out ring clients from off place end slot before now walked out fits =
-    let none : sum_by slot_of_sent (between ring (at off place) end) ≡ 0 = ap (λ (ss : List Sent). sum_by slot_of_sent ss) (end_is ring off place end (omega (arith, out))) in
+    let none : sum_by slot_of_sent (ring_between ring (at off place) end) ≡ 0 = ap (λ (ss : List Sent). sum_by slot_of_sent ss) (end_is ring off place end (omega (arith, out))) in
     subst (λ (p : ℕ). IsWay ring clients from (at off p) end slot) out
     (walk_ends ring clients from off place end slot before now walked (omega (arith, none, walked.on_way.walk.level, fits)))
 
@@ -166,7 +166,7 @@ walk_out ring clients from off place end slot before now walked out fits =
 
 pub record IsSought (ring : List ℕ) (clients : List (Option Client)) (client : ℕ) (from : Position) (off place : ℕ) (end : Position) (before now : CountedBytes) : Type 0 where
   pub on_way : IsOnWay ring from (at off place) end
-  pub found : (c : Client) → slot_at clients client ≡ Some c → found_in c from.place (between ring from end) ≡ found_in c place (between ring (at off place) end)
+  pub found : (c : Client) → slot_at clients client ≡ Some c → found_in c from.place (ring_between ring from end) ≡ found_in c place (ring_between ring (at off place) end)
   pub read : ReadsFronts before now (place - from.place)
 
 -- whether the client wants the event in front
@@ -183,11 +183,11 @@ pub small_front : (h : Header) (s : Sent) → h ≡ fields_of s.event → FitsSl
 small_front h s same fits = omega (arith, ap (λ (k : Header). k.data_size) same, fits.small)
 
 found_at : (ring : List ℕ) (from : Position) (off place : ℕ) (end : Position) (c : Client) → IsNext ring from off place end
-    → found_in c place (between ring (at off place) end) ≡ (if wants place (ring_event_at ring off).event c then Some (place, ring_event_at ring off) else found_in c (place + 1) (between ring (at (off + slot_of_sent (ring_event_at ring off)) (place + 1)) end))
+    → found_in c place (ring_between ring (at off place) end) ≡ (if wants place (ring_event_at ring off).event c then Some (place, ring_event_at ring off) else found_in c (place + 1) (ring_between ring (at (off + slot_of_sent (ring_event_at ring off)) (place + 1)) end))
 found_at ring from off place end c next =
     let one : suc place ≡ place + 1 = omega arith in
     ap (λ (ss : List Sent). found_in c place ss) next.first
-    ∙ ap (λ (n : ℕ). if wants place (ring_event_at ring off).event c then Some (place, ring_event_at ring off) else found_in c n (between ring (at (off + slot_of_sent (ring_event_at ring off)) (place + 1)) end)) one
+    ∙ ap (λ (n : ℕ). if wants place (ring_event_at ring off).event c then Some (place, ring_event_at ring off) else found_in c n (ring_between ring (at (off + slot_of_sent (ring_event_at ring off)) (place + 1)) end)) one
 
 pub sought_next : (ring : List ℕ) (clients : List (Option Client)) (client : ℕ) (from : Position) (off place : ℕ) (end : Position) (before now now' : CountedBytes) (off' : ℕ) → IsSought ring clients client from off place end before now → place < end.place
     → ((c : Client) → slot_at clients client ≡ Some c → wants place (ring_event_at ring off).event c ≡ false) → IsRead now now' 1 24 → off' ≡ off + slot_of_sent (ring_event_at ring off)
@@ -200,19 +200,19 @@ sought_next ring clients client from off place end before now now' off' sought e
       found = λ c lives.
           sought.found c lives
           ∙ (found_at ring from off place end c next
-          ∙ ap (λ (b : Bool). if b then Some (place, ring_event_at ring off) else found_in c (place + 1) (between ring (at (off + slot_of_sent (ring_event_at ring off)) (place + 1)) end)) (unwanted c lives));
+          ∙ ap (λ (b : Bool). if b then Some (place, ring_event_at ring off) else found_in c (place + 1) (ring_between ring (at (off + slot_of_sent (ring_event_at ring off)) (place + 1)) end)) (unwanted c lives));
       read = one_more_read before now now' (place - from.place) (place + 1 - from.place) sought.read stepped (omega (arith, sought.on_way.later));
     } in
     subst (λ (o : ℕ). IsSought ring clients client from o (place + 1) end before now') (sym moved) here
 
 pub sought_found : (ring : List ℕ) (clients : List (Option Client)) (client : ℕ) (from : Position) (off place : ℕ) (end : Position) (before now : CountedBytes) → IsSought ring clients client from off place end before now → place < end.place
-    → (c : Client) → slot_at clients client ≡ Some c → wants place (ring_event_at ring off).event c ≡ true → found_in c from.place (between ring from end) ≡ Some (place, ring_event_at ring off)
+    → (c : Client) → slot_at clients client ≡ Some c → wants place (ring_event_at ring off).event c ≡ true → found_in c from.place (ring_between ring from end) ≡ Some (place, ring_event_at ring off)
 sought_found ring clients client from off place end before now sought early c lives wanted =
     sought.found c lives
     ∙ (found_at ring from off place end c (next_is ring from off place end sought.on_way early)
-    ∙ ap (λ (b : Bool). if b then Some (place, ring_event_at ring off) else found_in c (place + 1) (between ring (at (off + slot_of_sent (ring_event_at ring off)) (place + 1)) end)) wanted)
+    ∙ ap (λ (b : Bool). if b then Some (place, ring_event_at ring off) else found_in c (place + 1) (ring_between ring (at (off + slot_of_sent (ring_event_at ring off)) (place + 1)) end)) wanted)
 
 pub sought_nothing : (ring : List ℕ) (clients : List (Option Client)) (client : ℕ) (from : Position) (off place : ℕ) (end : Position) (before now : CountedBytes) → IsSought ring clients client from off place end before now → end.place ≤ place
-    → (c : Client) → slot_at clients client ≡ Some c → found_in c from.place (between ring from end) ≡ None
+    → (c : Client) → slot_at clients client ≡ Some c → found_in c from.place (ring_between ring from end) ≡ None
 sought_nothing ring clients client from off place end before now sought late c lives =
     sought.found c lives ∙ ap (λ (ss : List Sent). found_in c place ss) (end_is ring off place end late)

@@ -1,8 +1,9 @@
 -- The clients of a buffer that is kept in bytes.
-use Rattle.std.specs.Prelude.{◌≡◌, ℕ, ◌≤◌, nat_lt, if◌then◌else◌, List, replicate, map, Option, None}
+use Rattle.std.specs.Prelude.{◌≡◌, ℕ, ◌+◌, ◌-◌, ◌≤◌, nat_lt, if◌then◌else◌, List, replicate, map, drop, sum_by, Option, Some, None}
 use Rattle.std.specs.Option.{option_map}
 use Rattle.buffer_core.specs.declared.client.Client.{Client}
 use Rattle.buffer_core.specs.Slots.{slot_at}
+use Rattle.buffer_core.specs.Window.{Window, slot_of_sent}
 use Rattle.buffer_core.specs.Calls.{going_on}
 use Rattle.ring_buffer.specs.declared.pointer.Pointer.{Pointer}
 
@@ -33,3 +34,11 @@ raised off place p = if nat_lt p.client.next place then moved off place p else p
 -- the offset and the place that the client goes on from
 abbrev pub position_of : Pointer → ℕ × ℕ
 position_of p = (p.off, p.client.next)
+
+-- the client is at the offset of its next place: from there on the slots reach to the end
+abbrev pub IsAtOffset : Window → Pointer → Type 0
+IsAtOffset w p = p.off + sum_by slot_of_sent (drop (p.client.next - w.first) w.kept) ≡ w.total
+
+-- each client is
+abbrev pub AreAtOffsets : Window → List (Option Pointer) → Type 0
+AreAtOffsets w slots = (n : ℕ) (p : Pointer) → slot_at slots n ≡ Some p → IsAtOffset w p

@@ -1,9 +1,7 @@
 -- How a ring buffer keeps its window, and what its ring counts.
-use Rattle.std.specs.Prelude.{◌≡◌, ℕ, ◌+◌, ◌-◌, ◌≤◌, length, drop, sum_by, Some}
-use Rattle.buffer_core.specs.Slots.{slot_at}
-use Rattle.buffer_core.specs.Window.{Window, slot_of_sent, level_of, IsWindow}
-use Rattle.ring_buffer.specs.declared.pointer.Pointer.{Pointer}
-use Rattle.ring_buffer.specs.Pointers.{clients_of}
+use Rattle.std.specs.Prelude.{◌≡◌, ◌+◌, ◌-◌, ◌≤◌, length}
+use Rattle.buffer_core.specs.Window.{Window, level_of, IsWindow}
+use Rattle.ring_buffer.specs.Pointers.{clients_of, AreAtOffsets}
 use Rattle.ring_buffer.specs.declared.ring_buffer.RingBuffer.TheInside.{Inside}
 use Rattle.ring_buffer.specs.CountedWindows.{CountedWindow}
 use Rattle.ring_buffer.specs.RingHolds.{RingHolds}
@@ -25,10 +23,6 @@ window_of b = record {
 abbrev pub counted_of : Inside → CountedWindow
 counted_of b = record { window = window_of b; reads = b.ring.reads; bytes_read = b.ring.bytes_read }
 
--- the client is at the offset of its next place: from there on the slots reach to the end
-abbrev pub IsAtOffset : Window → Pointer → Type 0
-IsAtOffset w p = p.off + sum_by slot_of_sent (drop (p.client.next - w.first) w.kept) ≡ w.total
-
 -- what every ring buffer keeps
 pub record IsRingBuffer (b : Inside) : Type 0 where
   pub window : IsWindow (window_of b)
@@ -37,4 +31,4 @@ pub record IsRingBuffer (b : Inside) : Type 0 where
   pub least : 256 ≤ length b.ring.bytes
   pub order : b.first ≤ b.count
   pub level : b.off + level_of (window_of b) ≡ b.total
-  pub placed : (n : ℕ) (p : Pointer) → slot_at b.clients n ≡ Some p → IsAtOffset (window_of b) p
+  pub placed : AreAtOffsets (window_of b) b.clients

@@ -9,8 +9,8 @@ pub record CountedBytes : Type 0 where
   pub bytes_read : ℕ
 
 -- a ring of these bytes that was never read
-abbrev pub unread : (bytes : List ℕ) → CountedBytes
-unread bytes = record { bytes = bytes; reads = 0; bytes_read = 0 }
+abbrev pub never_read : (bytes : List ℕ) → CountedBytes
+never_read bytes = record { bytes = bytes; reads = 0; bytes_read = 0 }
 
 -- the most bytes of a ring
 abbrev pub most_bytes : ℕ

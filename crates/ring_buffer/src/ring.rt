@@ -1,6 +1,6 @@
 ghost use Rattle.std.specs.Prelude.{◌≡◌, ◌+◌, ◌%◌, ◌^◌, ◌<◌, ◌≤◌, ◌++◌, IfOk, length, take, drop, replicate};
 ghost use Rattle.event.specs.Headers.{event_of};
-ghost use Rattle.ring_buffer.specs.Rings.{unread, bytes_at, KeepsOtherOffsets, most_bytes};
+ghost use Rattle.ring_buffer.specs.Rings.{never_read, bytes_at, KeepsOtherOffsets, most_bytes};
 
 use daq_types::NoMemory;
 use event::{DataWriter, EventBuf, Header};
@@ -102,7 +102,7 @@ impl Ring {
     pub fn new(alloc: Global, size: u32) -> Result<Ring, NoMemory>
         requires least { 1 ≤ size }
         requires most { size ≤ most_bytes }
-        ensures { IfOk result (λ ring. ring ≡ unread (replicate size 0)) }
+        ensures { IfOk result (λ ring. ring ≡ never_read (replicate size 0)) }
     {
         let bytes = vec![in alloc; 0; size as usize]?;
         Ok(Ring {

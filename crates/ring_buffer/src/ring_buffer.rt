@@ -4,7 +4,8 @@ ghost use Rattle.event.specs.Headers.{event_of};
 ghost use Rattle.buffer_core.specs.Slots.{slot_at, change_all};
 ghost use Rattle.buffer_core.specs.Window.{opening, accepted_of, IsWindow};
 ghost use Rattle.buffer_core.specs.Calls.{after_send};
-ghost use Rattle.ring_buffer.specs.Pointers.{raised};
+ghost use Rattle.ring_buffer.specs.Pointers.{clients_of, raised, AreAtOffsets};
+ghost use Rattle.ring_buffer.specs.RingHolds.{RingHolds};
 ghost use Rattle.ring_buffer.specs.declared.pointer.Pointer.{Pointer};
 ghost use Rattle.ring_buffer.specs.LifeReads.{ReadsFew};
 ghost use Rattle.ring_buffer.specs.Sends.{send_entry, reply_to_sent, gone_for, level_left};
@@ -90,6 +91,23 @@ impl RingBuffer {
         ensures { result ≡ self.now.bytes_read }
     {
         self.ring.bytes_read()
+    }
+
+    /// The clients, each at the offset of its next place.
+    pub fn pointers(&self) -> &Pointers
+        ensures clients { clients_of result.now ≡ self.now.window.clients }
+        ensures placed { AreAtOffsets self.now.window result.now }
+    {
+        &self.clients
+    }
+
+    /// Ends the buffer, and gives its ring back: the kept events stand in it, each in its slot.
+    pub fn into_ring(self) -> Ring
+        ensures holds { RingHolds self.window result.bytes }
+        ensures reads { result.reads ≡ self.reads }
+        ensures bytes_read { result.bytes_read ≡ self.bytes_read }
+    {
+        self.ring
     }
 
     /// Where the kept events begin once there is room for this one, or why it is not taken.
