@@ -21,9 +21,9 @@ use Rattle.analyzers.specs.declared.analyzer_run.EventRequest.{EventRequest}
 use Rattle.analyzers.specs.declared.analyzer_run.AnalyzerRun.{AnalyzerRun}
 use Rattle.analyzers.specs.declared.analyzer_run.AnalyzerStage.{AnalyzerStage}
 use Rattle.analyzers.specs.declared.analyzer_run.AnalyzerStage.TheVariants.{Counting, Draining, Drained}
-use Rattle.analyzers.specs.Analyzers.{AnalyzerAt, run_at, CancelsRun}
+use Rattle.analyzers.specs.Analyzers.{AnalyzerAt, run_in_stage, CancelsRun}
 use Rattle.analyzers.specs.AnalyzerTurns.{analyzer_turn, report_in, report_answer, run_reported}
-use Rattle.analyzers.specs.AnalyzerPulls.{ReceivesFor, EndsReading, CountsOnce, CountsIn, PullsBy, drains_by, ends_by}
+use Rattle.analyzers.specs.AnalyzerPulls.{ReceivesFor, EndsReading, CountsOnce, CountsIn, PullsBy, drains_by, ends_reading}
 use Rattle.member_model.specs.GotRuns.{events_of_start}
 use Rattle.analyzers.specs.CountedRuns.{CountRequest, IsCounted, IsWhollyCounted, requests_made}
 use Rattle.analyzers.specs.AnalyzerKept.{KeepsAnalyzerCalls, HasOwnClient, AsksForNone, starts_accepted, HasTurnBehind, IsReportOfRun, ReportsHold, IsStopOpen, StageCounts, CountsRun, CountsSoFar, count_request}
@@ -104,7 +104,7 @@ reads_on stage wanted client r counted own got turns calls is at counts = record
 -- the client was drained, and its request cancelled
 reads_no_more : (wanted : EventRequest) (client : Option ℕ) (r counted : AnalyzerRun) (a b : Access) (turns : List MemberTurn) (room accepted : ℕ) (reply : Received) (reading draining : List BufferEntry) → IsStopOpen r.start turns → HasDrained accepted reply
     → ReceivedFor wanted client r counted a.own a.got turns (reading ++ Accepted accepted ∷ (draining ++ Receive r.client room reply ∷ [])) → CancelsRun counted a b
-    → StandsBy wanted client (Some (run_at Drained counted)) b turns
+    → StandsBy wanted client (Some (run_in_stage Drained counted)) b turns
 reads_no_more wanted client r counted a b turns room accepted reply reading draining stop drains at cancels =
     let q : CountRequest = count_request wanted r.client r.request r.start at.earlier in
     let cancel : BufferEntry = Cancel r.client r.request cancels.0 in
@@ -113,7 +113,7 @@ reads_no_more wanted client r counted a b turns room accepted reply reading drai
     let whole : IsWhollyCounted (a.own ++ cancel ∷ []) a.got q at.events = wholly_counted a.own a.got q at.events accepted reading draining room reply cancels.0 drains at.counts in
     let none : AsksForNone (Some r.client) (a.own ++ cancel ∷ []) =
     cancelled_asks_none a.own a.got q (reading ++ Accepted accepted ∷ (draining ++ Receive r.client room reply ∷ [])) at.events cancels.0 at.counts in
-    let now : CountsSoFar wanted client (Some (run_at Drained counted)) (a.own ++ cancel ∷ []) a.got turns = record {
+    let now : CountsSoFar wanted client (Some (run_in_stage Drained counted)) (a.own ++ cancel ∷ []) a.got turns = record {
       calls = analyzer_push a.own cancel at.own_calls tt at.gave;
       own_client = subst (λ (c : Option ℕ). HasOwnClient c (a.own ++ cancel ∷ [])) (sym at.client_is) (client_stays a.own cancel r.client at.gave);
       once = requests_stay a.own cancel (starts_accepted turns) refl at.once;
@@ -132,7 +132,7 @@ reads_no_more wanted client r counted a b turns room accepted reply reading drai
     } in
     rw (own_is, cancels.1.got_is) now
 
-has_drained : (accepted : ℕ) (reply : Received) → ends_by accepted reply ≡ true → HasDrained accepted reply
+has_drained : (accepted : ℕ) (reply : Received) → ends_reading accepted reply ≡ true → HasDrained accepted reply
 has_drained accepted (Got place start) e = leb-true accepted place e
 has_drained accepted (Empty gate last) e = tt
 has_drained accepted NoClient e = absurd (cc (e))
@@ -153,7 +153,7 @@ counting_kept wanted client r room port b answer turns is on counts once stands 
 
 -- by whether the reply drains the client
 draining_by : (drained : Bool) (wanted : EventRequest) (client : Option ℕ) (r counted : AnalyzerRun) (room accepted : ℕ) (reply : Received) (reading draining : List BufferEntry) (middle : Access) (b : AnalyzerAt) (turns : List MemberTurn)
-    → ends_by accepted reply ≡ drained → r.stage ≡ Draining accepted → IsStopOpen r.start turns → b.client ≡ client
+    → ends_reading accepted reply ≡ drained → r.stage ≡ Draining accepted → IsStopOpen r.start turns → b.client ≡ client
     → ReceivedFor wanted client r counted middle.own middle.got turns (reading ++ Accepted accepted ∷ (draining ++ Receive r.client room reply ∷ [])) → EndsReading drained counted b.run middle b.port → StandsBy wanted b.client b.run b.port turns
 draining_by true wanted client r counted room accepted reply reading draining middle b turns ends_is is stop client_is at ends =
     rw (client_is, ends.0) (reads_no_more wanted client r counted middle b.port turns room accepted reply reading draining stop (has_drained accepted reply ends_is) at ends.1)
@@ -173,9 +173,9 @@ draining_kept wanted client r room accepted port b answer turns is on counts onc
     let reading : List BufferEntry = counts.1.0 in
     let draining : List BufferEntry = counts.1.1 in
     let at = receive_lists wanted client r once.counted room port once.middle turns once.reply (reading ++ Accepted accepted ∷ draining) stands on counts.1.2 once.receives in
-    let ends : EndsReading (ends_by accepted once.reply) once.counted b.run once.middle b.port =
+    let ends : EndsReading (ends_reading accepted once.reply) once.counted b.run once.middle b.port =
     subst (λ (s : AnalyzerStage). EndsReading (drains_by s once.reply) once.counted b.run once.middle b.port) is once.ends in
-    draining_by (ends_by accepted once.reply) wanted client r once.counted room accepted once.reply reading draining once.middle b turns refl is counts.0 once.client
+    draining_by (ends_reading accepted once.reply) wanted client r once.counted room accepted once.reply reading draining once.middle b turns refl is counts.0 once.client
     (received_calls wanted client r once.counted once.middle.own once.middle.got turns ((reading ++ Accepted accepted ∷ draining) ++ Receive r.client room once.reply ∷ []) (reading ++ Accepted accepted ∷ (draining ++ Receive r.client room once.reply ∷ []))
     (append_assoc reading (Accepted accepted ∷ draining) (Receive r.client room once.reply ∷ [])) at)
     ends

@@ -25,7 +25,7 @@ use Rattle.analyzers.specs.declared.analyzer_run.EventRequest.{EventRequest}
 use Rattle.analyzers.specs.declared.analyzer_run.AnalyzerRun.{AnalyzerRun}
 use Rattle.analyzers.specs.declared.analyzer_run.AnalyzerStage.{AnalyzerStage}
 use Rattle.analyzers.specs.declared.analyzer_run.AnalyzerStage.TheVariants.{Counting, Draining, Drained}
-use Rattle.analyzers.specs.Analyzers.{AnalyzerAt, run_at}
+use Rattle.analyzers.specs.Analyzers.{AnalyzerAt, run_in_stage}
 use Rattle.analyzers.specs.AnalyzerTurns.{analyzer_turn, BeginsBy, RequestsRun, StartsAnalyzer, StopsOwn, StopsAnalyzer, TurnsBy, begun_count, report_in, report_answer, run_reported}
 use Rattle.analyzers.specs.AnalyzerPulls.{CountsOwn, CountsReply, EndsReading, CountsOnce, CountsIn, PullsBy, drains_by}
 use Rattle.analyzers.specs.CountedRuns.{CountRequest}
@@ -201,7 +201,7 @@ number_of_reply NoClient r s e counts = ap (λ (x : AnalyzerRun). x.start) count
 number_of_reply (SmallBuf need) r s e counts = ap (λ (x : AnalyzerRun). x.start) counts
 
 ends_tells : (drained : Bool) (r counted : AnalyzerRun) (later : Option AnalyzerRun) (a b : Access) (turns : List MemberTurn) → counted.start ≡ r.start → EndsReading drained counted later a b → AnalyzerTells (Some r) turns → AnalyzerTells later turns
-ends_tells true r counted later a b turns is ends tells = rw ends.0 (same_number r (run_at Drained counted) turns is tells)
+ends_tells true r counted later a b turns is ends tells = rw ends.0 (same_number r (run_in_stage Drained counted) turns is tells)
 ends_tells false r counted later a b turns is ends tells = rw ends.0 (same_number r counted turns is tells)
 
 once_tells : (r : AnalyzerRun) (room : ℕ) (a b : AnalyzerAt) (answer : AnalyzerPull) (turns : List MemberTurn) → CountsOnce r room a b answer → AnalyzerTells (Some r) turns → AnalyzerTells b.run turns

@@ -24,7 +24,7 @@ use Rattle.analyzers.specs.declared.analyzer_run.EventRequest.{EventRequest}
 use Rattle.analyzers.specs.declared.analyzer_run.AnalyzerRun.{AnalyzerRun}
 use Rattle.analyzers.specs.declared.analyzer_run.AnalyzerStage.{AnalyzerStage}
 use Rattle.analyzers.specs.declared.analyzer_run.AnalyzerStage.TheVariants.{Counting, Draining, Drained}
-use Rattle.analyzers.specs.Analyzers.{AnalyzerAt, run_at}
+use Rattle.analyzers.specs.Analyzers.{AnalyzerAt, run_in_stage}
 use Rattle.analyzers.specs.AnalyzerTurns.{analyzer_turn, analyzer_name, StaysAt, CancelsIn, DropsRun, GetsClient, BeginsBy, RequestsRun, StartsAnalyzer, StopsRun, StopsOwn, StopsAnalyzer, TurnsBy, begun_count}
 use Rattle.analyzers.specs.CountedRuns.{CountRequest, IsCounted, requests_made}
 use Rattle.analyzers.specs.AnalyzerKept.{HasOwnClient, AsksForNone, accepted_by, starts_accepted, ReportsHold, StageCounts, CountsRun, CountsSoFar, count_request}
@@ -184,7 +184,7 @@ stop_stage dump Counting wanted client r later order a b turns on same none coun
     let t : MemberTurn = analyzer_turn dump Stop order None in
     let q : CountRequest = count_request wanted r.client r.request r.start on.earlier in
     let gave : HasOwnClient (Some r.client) a.own = run_client wanted client r a.own a.got turns stands in
-    let now : CountsSoFar wanted client (Some (run_at (Draining stops.0) r)) (a.own ++ call ∷ []) a.got (t ∷ turns) = record {
+    let now : CountsSoFar wanted client (Some (run_in_stage (Draining stops.0) r)) (a.own ++ call ∷ []) a.got (t ∷ turns) = record {
       calls = analyzer_push a.own call stands.calls tt tt;
       own_client = subst (λ (c : Option ℕ). HasOwnClient c (a.own ++ call ∷ [])) (sym on.client_is) (client_stays a.own call r.client gave);
       once = omega (arith, requests_stay a.own call (starts_accepted turns) refl stands.once);

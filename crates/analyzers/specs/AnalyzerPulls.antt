@@ -10,7 +10,7 @@ use Rattle.analyzers.specs.declared.analyzer_pull.AnalyzerPull.TheVariants.{Fold
 use Rattle.analyzers.specs.declared.analyzer_run.AnalyzerRun.{AnalyzerRun}
 use Rattle.analyzers.specs.declared.analyzer_run.AnalyzerStage.{AnalyzerStage}
 use Rattle.analyzers.specs.declared.analyzer_run.AnalyzerStage.TheVariants.{Counting, Draining, Drained}
-use Rattle.analyzers.specs.Analyzers.{AnalyzerAt, run_at, CancelsRun}
+use Rattle.analyzers.specs.Analyzers.{AnalyzerAt, run_in_stage, CancelsRun}
 use Rattle.analyzers.specs.AnalyzerTurns.{StaysAt}
 
 -- the run's report has one event more, and nothing else of it changes
@@ -35,20 +35,20 @@ abbrev pub got_bytes : Received → Event → ℕ
 got_bytes (Got place start) e = 16 + length e.body
 got_bytes reply e = 0
 
-abbrev pub ends_by : (accepted : ℕ) → Received → Bool
-ends_by accepted (Got place start) = nat_le accepted place
-ends_by accepted (Empty gate last) = true
-ends_by accepted reply = false
+abbrev pub ends_reading : (accepted : ℕ) → Received → Bool
+ends_reading accepted (Got place start) = nat_le accepted place
+ends_reading accepted (Empty gate last) = true
+ends_reading accepted reply = false
 
 -- The reply drains the client: the run was stopped, and nothing is left of what the buffer took before that.
 abbrev pub drains_by : AnalyzerStage → Received → Bool
 drains_by Counting reply = false
-drains_by (Draining accepted) reply = ends_by accepted reply
+drains_by (Draining accepted) reply = ends_reading accepted reply
 drains_by Drained reply = false
 
 -- a client that is drained has its request cancelled
 abbrev pub EndsReading : (drained : Bool) → AnalyzerRun → Option AnalyzerRun → Access → Access → Type 0
-EndsReading true r later a b = (later ≡ Some (run_at Drained r)) × CancelsRun r a b
+EndsReading true r later a b = (later ≡ Some (run_in_stage Drained r)) × CancelsRun r a b
 EndsReading false r later a b = (later ≡ Some r) × (b ≡ a)
 
 -- the answer to a pull, by the start number of the run and the reply of the receive

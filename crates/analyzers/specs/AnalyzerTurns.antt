@@ -17,7 +17,7 @@ use Rattle.analyzers.specs.declared.analyzer_run.EventRequest.{EventRequest}
 use Rattle.analyzers.specs.declared.analyzer_run.AnalyzerRun.{AnalyzerRun}
 use Rattle.analyzers.specs.declared.analyzer_run.AnalyzerStage.{AnalyzerStage}
 use Rattle.analyzers.specs.declared.analyzer_run.AnalyzerStage.TheVariants.{Counting, Draining, Drained}
-use Rattle.analyzers.specs.Analyzers.{AnalyzerAt, run_at, CancelsRun}
+use Rattle.analyzers.specs.Analyzers.{AnalyzerAt, run_in_stage, CancelsRun}
 
 -- the turn that the analyzer was given; a dump that came with it is passed over
 abbrev pub analyzer_turn : (dump : Option (List ℕ)) → Transition → Order → Option Answer → MemberTurn
@@ -82,7 +82,7 @@ StartsAnalyzer (Some blank) wanted start a b answer = StartsCount wanted start b
 
 -- it is asked, once, how many events the buffer took so far
 abbrev pub StopsRun : AnalyzerStage → (r later : AnalyzerRun) → Access → Access → Type 0
-StopsRun Counting r later a b = (accepted : ℕ) × Calls a b (Accepted accepted) × (later ≡ run_at (Draining accepted) r)
+StopsRun Counting r later a b = (accepted : ℕ) × Calls a b (Accepted accepted) × (later ≡ run_in_stage (Draining accepted) r)
 StopsRun (Draining accepted) r later a b = (later ≡ r) × (b ≡ a)
 StopsRun Drained r later a b = (later ≡ r) × (b ≡ a)
 

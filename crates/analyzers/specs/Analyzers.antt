@@ -21,8 +21,8 @@ pub record AnalyzerAt : Type 0 where
   pub port : Access
 
 -- the run with this stage
-abbrev pub run_at : AnalyzerStage → AnalyzerRun → AnalyzerRun
-run_at stage r = record { start = r.start; client = r.client; request = r.request; stage = stage; report = r.report }
+abbrev pub run_in_stage : AnalyzerStage → AnalyzerRun → AnalyzerRun
+run_in_stage stage r = record { start = r.start; client = r.client; request = r.request; stage = stage; report = r.report }
 
 -- the request of the run was cancelled, with any reply
 abbrev pub CancelsRun : AnalyzerRun → Access → Access → Type 0

@@ -8,7 +8,7 @@ use Rattle.bank_format.specs.BankAreas.{IsBank, plain_banks}
 use Rattle.bank_format.specs.Places.{banks_in}
 
 -- the bytes are the plain bytes of the banks in them, within the limit, and there is room up to the limit
-pub record IsHeld (f : Format) (limit : ℕ) (v : Vec ℕ) : Type 0 where
+pub record HasBankRoom (f : Format) (limit : ℕ) (v : Vec ℕ) : Type 0 where
   pub banks : AllByRecursion (IsBank f) (banks_in f (drop 8 v.items))
   pub spelled : v.items ≡ plain_banks f (banks_in f (drop 8 v.items))
   pub counted : vec_len v ≡ length v.items

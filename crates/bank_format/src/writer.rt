@@ -24,7 +24,7 @@ impl Model for BankWriter {
 
     ghost use Rattle.std.specs.Prelude.{drop};
     ghost use Rattle.bank_format.specs.Places.{banks_in};
-    ghost use Rattle.bank_format.specs.Held.{IsHeld};
+    ghost use Rattle.bank_format.specs.Held.{HasBankRoom};
 
     ghost view = { λ w. record {
       format = w.format;
@@ -32,7 +32,7 @@ impl Model for BankWriter {
       banks = banks_in w.format (drop 8 w.bytes.items);
     } };
 
-    ghost invariant = { λ w. IsHeld w.format w.limit w.bytes };
+    ghost invariant = { λ w. HasBankRoom w.format w.limit w.bytes };
 }
 
 /// The most bytes that an area may have: as many as an event's data.

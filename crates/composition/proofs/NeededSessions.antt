@@ -18,7 +18,7 @@ use Rattle.buffer_core.specs.declared.entry.BufferEntry.TheVariants.{Begin as Bu
 use Rattle.event.specs.Events.{header_bytes, matches}
 use Rattle.event.specs.RunFile.{run_file, IsFileEvent}
 use Rattle.daq_io.specs.Seen.{Seen, Stored, IsStored, stored_closed}
-use Rattle.sub_files.specs.Cuts.{joined}
+use Rattle.sub_files.specs.Cuts.{events_of_pieces}
 use Rattle.buffer_core.proofs.SlotLaws.{split}
 use Rattle.buffer_core.specs.Window.{opening}
 use Rattle.buffer_core.specs.Histories.{IsLegal}
@@ -447,7 +447,7 @@ events_needed = record {
       let held = law sample_run (stopped_in other_told refl) 0 sample_channel refl whole_file (ended_told_in other_told refl) refl in
       let first = first_held other_told sample_run sample_channel held in
       let file = first.2 in
-      let piece : first.0 ≡ sample_event ∷ [] = sym (append-nil first.0) ∙ (sym (ap joined first.1) ∙ (held.cut.joins ∙ one_event)) in
+      let piece : first.0 ≡ sample_event ∷ [] = sym (append-nil first.0) ∙ (sym (ap events_of_pieces first.1) ∙ (held.cut.joins ∙ one_event)) in
       other_file first.0 piece (of_last first.0 held.last_dump held.has_dump (file.stored.holds refl ∙ ap (λ (bytes : List ℕ). Some (stored_closed bytes)) file.is.is_file));
 }
   where

@@ -9,7 +9,7 @@ use Rattle.event.specs.RunFile.{begin_record, end_record, begun_file, run_file, 
 use Rattle.event.proofs.Events.{all_encoded-append}
 use Rattle.buffer_core.proofs.SlotLaws.{split}
 use Rattle.daq_io.specs.Seen.{IsStored}
-use Rattle.sub_files.specs.Cuts.{joined}
+use Rattle.sub_files.specs.Cuts.{events_of_pieces}
 use Rattle.sub_files.specs.Pieces.{IsFileOf}
 use Rattle.member_model.specs.LoggerKept.{LoggerChannel}
 use Rattle.composition.specs.Sessions.{Session}
@@ -22,13 +22,13 @@ record StandsIn (events piece : List Event) : Type 0 where
   after : List Event
   is : events ≡ before ++ (piece ++ after)
 
-stands_in : (pieces : List (List Event)) (number : ℕ) (piece : List Event) → slice_get pieces number ≡ Some piece → StandsIn (joined pieces) piece
+stands_in : (pieces : List (List Event)) (number : ℕ) (piece : List Event) → slice_get pieces number ≡ Some piece → StandsIn (events_of_pieces pieces) piece
 stands_in [] number piece at = absurd (cc (at))
 stands_in (p ∷ pieces) zero piece at =
     let same : p ≡ piece = cc (at) in
-    record { before = []; after = joined pieces; is = ap (λ (x : List Event). x ++ joined pieces) same }
+    record { before = []; after = events_of_pieces pieces; is = ap (λ (x : List Event). x ++ events_of_pieces pieces) same }
 stands_in (p ∷ pieces) (suc number) piece at =
-    let rest : StandsIn (joined pieces) piece = stands_in pieces number piece at in
+    let rest : StandsIn (events_of_pieces pieces) piece = stands_in pieces number piece at in
     record { before = p ++ rest.before; after = rest.after; is = ap (λ (x : List Event). p ++ x) rest.is ∙ sym (append_assoc p rest.before (piece ++ rest.after)) }
 
 all_front : (P : Event → Type 0) (xs ys : List Event) → All P (xs ++ ys) → All P xs
@@ -94,7 +94,7 @@ stored_ending s r channel last_dump many number piece file =
     (λ other. file.other_file (eqb-false (suc number) many other))
 
 -- where such a file of all events would be a run file
-pub holds_piece : (s : Session) (r : SessionRun) (channel : LoggerChannel) (last_dump : List ℕ) (many : ℕ) (events : List Event) (pieces : List (List Event)) → joined pieces ≡ events → ((number : ℕ) → FitsAs r last_dump many number events)
+pub holds_piece : (s : Session) (r : SessionRun) (channel : LoggerChannel) (last_dump : List ℕ) (many : ℕ) (events : List Event) (pieces : List (List Event)) → events_of_pieces pieces ≡ events → ((number : ℕ) → FitsAs r last_dump many number events)
     → (number : ℕ) (piece : List Event) → slice_get pieces number ≡ Some piece → IsFileOf s.files (series_in r channel) (last_record r last_dump) many number piece → HoldsPiece s r channel last_dump many number piece
 holds_piece s r channel last_dump many events pieces joins fits number piece at file =
     let stands : StandsIn events piece = subst (λ (es : List Event). StandsIn es piece) joins (stands_in pieces number piece at) in

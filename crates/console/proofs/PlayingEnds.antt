@@ -8,10 +8,10 @@ use Rattle.daq_io.specs.Told.{SourceTold}
 use Rattle.daq_io.proofs.StreamsLaws.{Appends-kept}
 use Rattle.odb_script.specs.declared.commands.Command.{Command}
 use Rattle.odb_script.specs.Forms.{Read, command_of}
-use Rattle.odb_script.specs.Lines.{Gives, Reading, kept, ReadsLine, ReadsLast, ReadsNone, ReadsTooMuch, ReadsPart}
+use Rattle.odb_script.specs.Lines.{SourceGives, Reading, kept, ReadsLine, ReadsLast, ReadsNone, ReadsTooMuch, ReadsPart}
 use Rattle.odb_script.specs.ReadLines.{HasReadLines}
 use Rattle.odb_script.proofs.ReadLines.{lines_at_fault, text_within_end, text_within_last}
-use Rattle.odb_script.proofs.LinesSoFar.{Gives-trans}
+use Rattle.odb_script.proofs.LinesSoFar.{SourceGives-trans}
 use Rattle.odb_script.proofs.Knowing.{HasReadLines-knowing, ReadsLast-knowing, ReadsLine-knowing, ReadsNone-knowing, ReadsPart-knowing, ReadsTooMuch-knowing, knowing}
 use Rattle.odb_script.proofs.KeptForms.{command_of-kept}
 use Rattle.odb_script.specs.Exits.{GoOn, ends_script, is_exit}
@@ -82,12 +82,12 @@ first_next false first now after old new lines line read on reads text told = li
 
 -- what the last step took, with that step as of a source that told it
 next_known : (last : Bool) (old new : Reading) (before after : SourceTold) (line : List ℕ) → ReadsNext last old new before after line
-    → (more : List ℕ) × Gives before after more × ReadsNext last old new (knowing more before) (knowing [] after) line
+    → (more : List ℕ) × SourceGives before after more × ReadsNext last old new (knowing more before) (knowing [] after) line
 next_known true old new before after line reads = (reads.takes.more, reads.takes.gives, ReadsLast-knowing old new before after line reads)
 next_known false old new before after line reads = (reads.takes.more, reads.takes.gives, ReadsLine-knowing old new before after line reads)
 
 end_known : (ending : Ending) (last : Bool) (old new : Reading) (before after : SourceTold) → ReadsLineOrEnd (Some ending) last old new before after
-    → (more : List ℕ) × Gives before after more × ReadsLineOrEnd (Some ending) last old new (knowing more before) (knowing [] after)
+    → (more : List ℕ) × SourceGives before after more × ReadsLineOrEnd (Some ending) last old new (knowing more before) (knowing [] after)
 end_known End last old new before after reads = (reads.takes.more, reads.takes.gives, ReadsNone-knowing old new before after reads)
 end_known TooLong last old new before after reads = (reads.takes.more, reads.takes.gives, ReadsTooMuch-knowing old new before after reads)
 end_known SourceFault last old new before after reads = (reads.takes.more, reads.takes.gives, ReadsPart-knowing old new before after reads)
@@ -97,10 +97,10 @@ end_known (Halted halt) last old new before after reads = absurd reads
 came_with : (first now : SourceTold) (reading : Reading) (lines : List (List ℕ)) → HasReadLines first now reading lines → (more : List ℕ) → List ℕ
 came_with first now reading lines read more = (read.done ++ reading.pending) ++ more
 
-gave_with : (first now after : SourceTold) (reading : Reading) (lines : List (List ℕ)) (read : HasReadLines first now reading lines) (more : List ℕ) → Gives now after more
+gave_with : (first now after : SourceTold) (reading : Reading) (lines : List (List ℕ)) (read : HasReadLines first now reading lines) (more : List ℕ) → SourceGives now after more
     → after.gave ≡ first.gave ++ came_with first now reading lines read more
 unfolding came_with
-gave_with first now after reading lines read more gives = (Gives-trans first now after (read.done ++ reading.pending) more read.gives gives).gave
+gave_with first now after reading lines read more gives = (SourceGives-trans first now after (read.done ++ reading.pending) more read.gives gives).gave
 
 ended_given : (ending : Ending) (last : Bool) (first now after : SourceTold) (old new : Reading) (lines : List (List ℕ)) → HasReadLines first now old lines → GoOn lines → ReadsLineOrEnd (Some ending) last old new now after
     → AreOfGiven ending first after lines

@@ -3,7 +3,7 @@ ghost use Rattle.std.specs.Fmt.{decimal};
 ghost use Rattle.odb_commands.specs.Texts.{refused_line};
 ghost use Rattle.odb_value.specs.declared.items.Item.TheVariants.{Int32};
 ghost use Rattle.odb_value.specs.ItemTexts.{item_text};
-ghost use Rattle.session_runs.specs.FileRows.{channel_rows, file_row, file_rows, rows_of};
+ghost use Rattle.session_runs.specs.FileRows.{channel_rows, file_row, file_rows, row_count};
 ghost use Rattle.console.specs.Console.{file_line, file_lines, name_text, report_lines, run_line, sent_line, sent_lines, setup_text, state_name, state_number, stop_text, text_of, why_text};
 
 use crate::replies::Reply;
@@ -206,7 +206,7 @@ fn add_file(
     files: &ChannelFiles,
     number: u32,
 ) -> Result<(), NoMemory>
-    requires { number < rows_of files.now }
+    requires { number < row_count files.now }
     ensures { OnOk result (text.new ≡ text.old ++ file_line (file_row run files.now number)) }
 {
     text.text(files.name_of(run, number).as_slice())?;

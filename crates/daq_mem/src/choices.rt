@@ -12,9 +12,9 @@ pub struct Numbers {
 }
 
 impl Model for Numbers {
-    ghost use Rattle.daq_mem.specs.Series.{Series};
+    ghost use Rattle.daq_mem.specs.Series.{NumberSeries};
 
-    ghost Value = { Series };
+    ghost Value = { NumberSeries };
 
     ghost view = { λ s. record { values = s.values.items; next = s.next } };
 }

@@ -12,7 +12,7 @@ use Rattle.daq_io.specs.Uses.{ChangesUse, is_reading, is_writing, name_by, told_
 use Rattle.daq_io.specs.declared.uses.Usage.{Usage}
 use Rattle.daq_io.specs.declared.uses.Usage.TheVariants.{Free, Writing, Reading}
 use Rattle.daq_std.specs.Blocks.{given_of, to_hand}
-use Rattle.daq_std.specs.BlockTables.{ChangesBlock, IsLetGo, LeavesBlock, OpensBlock, UsesBlock, given_at, given_by, opening_at, opening_by}
+use Rattle.daq_std.specs.BlockTables.{ChangesBlock, IsLetGo, LeavesBlock, OpensBlock, UsesBlock, given_at, given_to_block, opening_at, opening_by}
 use Rattle.daq_std.specs.InBlocks.{HasFiles, IsOpenFor}
 use Rattle.daq_std.specs.Paths.{path_in}
 use Rattle.daq_std.specs.SystemCalls.{OpenedFile, OpenedThenLeft, Opening, new_to_write}
@@ -92,7 +92,7 @@ module _ {F : Type 0} (uses new_uses : List Usage) (old new : List (BlockFile F)
 
   module _ (number : ℕ) (blocks : ChangesBlock old new number) where
     others_kept : (more : List FileDone) (usage : Usage) → ChangesUse uses new_uses number usage → KeepsOthers before (told_numbers new_uses (given_at new) more) number
-    others_kept more usage changed = λ other differs. number_kept more other (changed.others other differs) (ap given_by (blocks.others other differs))
+    others_kept more usage changed = λ other differs. number_kept more other (changed.others other differs) (ap given_to_block (blocks.others other differs))
 
     -- a number that was in no use is one under which a file is made
     pub makes_told : (name : List ℕ) (new_done : List FileDone) → new_done ≡ done → use_at uses number ≡ Free → ChangesUse uses new_uses number (Writing name) → given_at new number ≡ [] → Creates before (told_numbers new_uses (given_at new) new_done) name number []
@@ -165,7 +165,7 @@ module _ {F : Type 0} (uses new_uses : List Usage) (old new : List (BlockFile F)
 
 module _ {F : Type 0} (uses : List Usage) (old new : List (BlockFile F)) (done : List FileDone) (number : ℕ) (blocks : ChangesBlock old new number) where
   others_used : KeepsOthers (told_numbers uses (given_at old) done) (told_numbers uses (given_at new) done) number
-  others_used = λ other differs. number_kept uses uses old new done done other refl (ap given_by (blocks.others other differs))
+  others_used = λ other differs. number_kept uses uses old new done done other refl (ap given_to_block (blocks.others other differs))
 
   -- bytes that are given to the file of a number
   pub writes_told : (bytes : List ℕ) → IsTrue (is_writing (use_at uses number)) → Writes (told_numbers uses (given_at old) done) (told_numbers uses (given_at new) done) number bytes
@@ -228,7 +228,7 @@ same_told uses old new done new_done blocks is = record {
 pub opens_nothing : {F : Type 0} {opened : OpenedFile F} {old new : List (BlockFile F)} {number : ℕ} → OpensBlock opened old new number → opened.handed ≡ [] → given_at new number ≡ []
 opens_nothing {opened = opened} opens nothing =
     let is = opens.opened_is in
-    ap given_by opens.block_is ∙ (ap (λ file. given_of file opens.block.broken opens.block.pending.bytes) is.file_is
+    ap given_to_block opens.block_is ∙ (ap (λ file. given_of file opens.block.broken opens.block.pending.bytes) is.file_is
     ∙ (ap (λ broken. opened.handed ++ to_hand broken opens.block.pending.bytes) is.whole
     ∙ (ap (λ pending. opened.handed ++ pending) is.nothing_pending ∙ (append-nil opened.handed ∙ nothing))))
 

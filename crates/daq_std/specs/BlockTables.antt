@@ -29,17 +29,17 @@ abbrev pub given_to : {F : Type 0} → (F → Option (List ℕ)) → BlockFile F
 given_to contents block = bytes_given contents block.file block.pending.bytes
 
 -- the bytes that the file in these blocks was given, whether it tells them or not
-abbrev pub given_in : {F : Type 0} → BlockFile F → List ℕ
-given_in block = given_of block.file block.broken block.pending.bytes
+abbrev pub given_in_blocks : {F : Type 0} → BlockFile F → List ℕ
+given_in_blocks block = given_of block.file block.broken block.pending.bytes
 
 -- those that the file in a block, if there is one, was given
-abbrev pub given_by : {F : Type 0} → Option (BlockFile F) → List ℕ
-given_by None = []
-given_by (Some block) = given_in block
+abbrev pub given_to_block : {F : Type 0} → Option (BlockFile F) → List ℕ
+given_to_block None = []
+given_to_block (Some block) = given_in_blocks block
 
 -- those that the file of a number was given
 abbrev pub given_at : {F : Type 0} → List (BlockFile F) → ℕ → List ℕ
-given_at blocks number = given_by (slice_get blocks number)
+given_at blocks number = given_to_block (slice_get blocks number)
 
 -- the bytes that are left to read of the file in these blocks
 abbrev pub left_in : {F : Type 0} → (F → Option (List ℕ)) → BlockFile F → Option (List ℕ)
@@ -55,13 +55,13 @@ abbrev pub bytes_given_at : {F : Type 0} → (F → Option (List ℕ)) → List 
 bytes_given_at contents blocks number = bytes_given_by contents (slice_get blocks number)
 
 -- the bytes that are left to read of the file in a block, if there is one
-abbrev pub left_by : {F : Type 0} → (F → Option (List ℕ)) → Option (BlockFile F) → Option (List ℕ)
-left_by remaining None = None
-left_by remaining (Some block) = left_in remaining block
+abbrev pub left_to_read : {F : Type 0} → (F → Option (List ℕ)) → Option (BlockFile F) → Option (List ℕ)
+left_to_read remaining None = None
+left_to_read remaining (Some block) = left_in remaining block
 
 -- the bytes that are left to read of the file of a number, where it tells them
 abbrev pub ahead_at : {F : Type 0} → (F → Option (List ℕ)) → List (BlockFile F) → ℕ → Option (List ℕ)
-ahead_at remaining blocks number = left_by remaining (slice_get blocks number)
+ahead_at remaining blocks number = left_to_read remaining (slice_get blocks number)
 
 -- whether a write of the file in a block failed; where there is no block, no byte is taken
 abbrev pub is_broken_by : {F : Type 0} → Option (BlockFile F) → Bool

@@ -3,7 +3,7 @@ ghost use mathlib.Core.List.{IsPrefix};
 ghost use Rattle.std.specs.Io.{ReadsAtMost};
 ghost use Rattle.std.specs.Io.KnownBytes.{Appends, Keeps, ReadConsumes};
 ghost use Rattle.daq_std.specs.Blocks.{bytes_given, opening_of};
-ghost use Rattle.daq_std.specs.BlockTables.{IsLetGo, IsOpened, given_in, given_to, left_in};
+ghost use Rattle.daq_std.specs.BlockTables.{IsLetGo, IsOpened, given_in_blocks, given_to, left_in};
 
 use crate::ahead::ReadAhead;
 use crate::system::{Fault, LetGo, OnDisk, SystemFile};
@@ -57,9 +57,9 @@ impl<F: Read + Write + OpenFile + Drop> BlockFile<F> {
         requires { IsSome (opening_of self.old.file) }
         ensures grown { OnOk result (Appends (given_to F.contents self.old)
             (given_to F.contents self.new) bytes.now) }
-        ensures given { OnOk result (given_in self.new ≡ given_in self.old ++ bytes.now) }
-        ensures part { OnErr result (IsPrefix (given_in self.new)
-            (given_in self.old ++ bytes.now)) }
+        ensures given { OnOk result (given_in_blocks self.new ≡ given_in_blocks self.old ++ bytes.now) }
+        ensures part { OnErr result (IsPrefix (given_in_blocks self.new)
+            (given_in_blocks self.old ++ bytes.now)) }
         ensures never_again { IsSome self.old.broken → IsErr result }
         ensures stays { IsSome self.old.broken → self.new ≡ self.old }
         ensures breaks { OnErr result (IsSome self.new.broken) }
@@ -84,8 +84,8 @@ impl<F: Read + Write + OpenFile + Drop> BlockFile<F> {
         ensures kept { OnOk result (Keeps (bytes_given F.contents self.old.file
             self.old.pending.bytes) (bytes_given F.contents self.new.file [])) }
         ensures empty { OnOk result (self.new.pending.bytes ≡ []) }
-        ensures given { OnOk result (given_in self.new ≡ given_in self.old) }
-        ensures part { OnErr result (IsPrefix (given_in self.new) (given_in self.old)) }
+        ensures given { OnOk result (given_in_blocks self.new ≡ given_in_blocks self.old) }
+        ensures part { OnErr result (IsPrefix (given_in_blocks self.new) (given_in_blocks self.old)) }
         ensures never_again { IsSome self.old.broken → IsErr result }
         ensures stays { IsSome self.old.broken → self.new ≡ self.old }
         ensures whole { OnOk result (self.new.broken ≡ None) }
@@ -113,9 +113,9 @@ impl<F: Read + Write + OpenFile + Drop> BlockFile<F> {
         requires whole { self.old.broken ≡ None }
         ensures grown { OnOk result (Appends (bytes_given F.contents self.old.file [])
             (bytes_given F.contents self.new.file self.new.pending.bytes) bytes.now) }
-        ensures given { OnOk result (given_in self.new ≡ given_in self.old ++ bytes.now) }
-        ensures part { OnErr result (IsPrefix (given_in self.new)
-            (given_in self.old ++ bytes.now)) }
+        ensures given { OnOk result (given_in_blocks self.new ≡ given_in_blocks self.old ++ bytes.now) }
+        ensures part { OnErr result (IsPrefix (given_in_blocks self.new)
+            (given_in_blocks self.old ++ bytes.now)) }
         ensures breaks { OnErr result (IsSome self.new.broken) }
         ensures opening { opening_of self.new.file ≡ opening_of self.old.file }
     {
@@ -158,9 +158,9 @@ impl<F: Read + Write + OpenFile + Drop> BlockFile<F> {
             (F.contents synced.file)) }
         ensures opening { IfOk result (λ synced. Some synced.opening
             ≡ opening_of self.old.file) }
-        ensures handed { IfOk result (λ synced. synced.handed ≡ given_in self.old) }
+        ensures handed { IfOk result (λ synced. synced.handed ≡ given_in_blocks self.old) }
         ensures let_go { IfErr result (λ gone. IsLetGo (opening_of self.old.file)
-            (given_in self.old) gone.file) }
+            (given_in_blocks self.old) gone.file) }
         ensures broken { IsSome self.old.broken → IsErr result }
         ensures gone { IsNone self.new.file }
     {

@@ -6,7 +6,7 @@ use Rattle.event.specs.Headers.{header_encoding}
 use Rattle.event.proofs.Headers.{length-header_encoding}
 use Rattle.event.specs.declared.head.Header.{Header}
 use Rattle.mid_format.specs.Faults.{header_fault, fault_at, or_else, OfBytes}
-use Rattle.mid_format.specs.Parts.{IsInRange, IsCut}
+use Rattle.mid_format.specs.Parts.{IsInRange, LacksBytes}
 use Rattle.mid_format.specs.declared.faults.MidFault.{MidFault}
 use Rattle.mid_format.specs.declared.faults.MidFault.TheVariants.{Truncated, NoBegin, NoEnd, AfterEnd, TooBig, ReadFault, BadRecord, TooLong}
 use Rattle.mid_format.proofs.HeadersBack.{behind_head}
@@ -37,7 +37,7 @@ cut_data run at h rest f fine r short is_cut =
     ∙ ap (λ n. Some (Truncated n)) {x = at + length (header_encoding h ++ rest)} {y = at + 16 + length rest} (omega (arith, long)) ∙ ap Some (sym is_cut)
 
 pub cut_behind : (before after : Option (List ℕ)) (run : Option ℕ) (at : ℕ) (h : Header) (f : MidFault) → Consumes before after (header_encoding h) → header_fault run at h ≡ None → IsInRange h
-    → IsCut after (at + 16) h.data_size f → OfBytes f (IfSome before (λ rest. fault_at run at rest ≡ Some f))
+    → LacksBytes after (at + 16) h.data_size f → OfBytes f (IfSome before (λ rest. fault_at run at rest ≡ Some f))
 cut_behind before after run at h f c fine r cut =
     map_fault f (IfSome after (λ rest. (length rest < h.data_size) × (f ≡ Truncated (at + 16 + length rest)))) (IfSome before (λ rest. fault_at run at rest ≡ Some f))
     (told_behind before after (header_encoding h) (λ rest. (length rest < h.data_size) × (f ≡ Truncated (at + 16 + length rest))) (λ rest. fault_at run at rest ≡ Some f) c

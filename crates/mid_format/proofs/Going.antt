@@ -16,7 +16,7 @@ use Rattle.event.specs.Headers.{header_encoding, event_of, fields_of}
 use Rattle.event.proofs.Headers.{length-header_encoding, header_back}
 use Rattle.event.specs.declared.head.Header.{Header}
 use Rattle.mid_format.specs.Faults.{fault_at, OfBytes, OfSource}
-use Rattle.mid_format.specs.Parts.{IsInRange, ReadsHead, ReadsBody, FailsInside, IsCut, IsBehindEnd}
+use Rattle.mid_format.specs.Parts.{IsInRange, ReadsHead, ReadsBody, FailsInside, LacksBytes, IsBehindEnd}
 use Rattle.mid_format.specs.HasRead.{IsStorable, IsBegunFile, IsEndedFile, IsMidFault, BeginsWith, IsReadSoFar, IsFaultAt, StandsBehind, HasRead}
 use Rattle.mid_format.specs.Steps.{IsGoing, BeginsNow, BeginsReading, BeginStops, FinishesReading, FinishStops}
 use Rattle.mid_format.specs.declared.faults.MidFault.{MidFault}
@@ -199,7 +199,7 @@ module _ (start : ℕ) (first before : Option (List ℕ)) (old : Progress) (even
       }
 
   module _ (middle : Option (List ℕ)) (h : Header) (head : ReadsHead before middle (Some b.serial_number) old.at h) where
-    pub data_stopped : (after : Option (List ℕ)) (at_hand : List ℕ) (f : MidFault) → IsCut middle (old.at + 16) h.data_size f → OfSource f (FailsBehind middle after at_hand h.data_size)
+    pub data_stopped : (after : Option (List ℕ)) (at_hand : List ℕ) (f : MidFault) → LacksBytes middle (old.at + 16) h.data_size f → OfSource f (FailsBehind middle after at_hand h.data_size)
         → HasRead start first after (record old { fault = Some f }) events
     data_stopped after at_hand f cut fails = stopped after at_hand f (cut_behind before middle (Some b.serial_number) old.at h f head.consumed head.fine head.in_range cut)
         (map_source f (FailsBehind middle after at_hand h.data_size) (FailsInside before after at_hand) (inside_data before middle after at_hand (Some b.serial_number) old.at h head) fails)

@@ -56,8 +56,8 @@ pub record FailsInside (before after : Option (List ℕ)) (at_hand : List ℕ) :
   pub none_at_hand : at_hand ≡ []
 
 -- Of so much data at this place, where these bytes are left, some are missing.
-abbrev pub IsCut : Option (List ℕ) → (place size : ℕ) → MidFault → Type 0
-IsCut before place size fault = OfBytes fault (IfSome before (λ rest. (length rest < size) × (fault ≡ Truncated (place + length rest))))
+abbrev pub LacksBytes : Option (List ℕ) → (place size : ℕ) → MidFault → Type 0
+LacksBytes before place size fault = OfBytes fault (IfSome before (λ rest. (length rest < size) × (fault ≡ Truncated (place + length rest))))
 
 -- Nothing was left.
 pub record IsEnd (before after : Option (List ℕ)) : Type 0 where

@@ -6,7 +6,7 @@ use Rattle.event.specs.Headers.{header_encoding}
 use Rattle.event.specs.Pieces.{FailsBehind}
 use Rattle.event.specs.declared.head.Header.{Header}
 use Rattle.mid_format.specs.Faults.{header_fault, fault_at, OfBytes, OfSource}
-use Rattle.mid_format.specs.Parts.{IsInRange, IsCut, IsBehindEnd}
+use Rattle.mid_format.specs.Parts.{IsInRange, LacksBytes, IsBehindEnd}
 use Rattle.mid_format.specs.HasRead.{HasRead, and_given}
 use Rattle.mid_format.specs.declared.faults.MidFault.{MidFault}
 use Rattle.mid_format.specs.declared.progress.Progress.{Progress}
@@ -52,7 +52,7 @@ pub record FinishesReading (before after : Option (List ℕ)) (old new : Progres
 -- The data of the end record were not passed.
 pub record FinishCut (before after : Option (List ℕ)) (at_hand : List ℕ) (old new : Progress) (h : Header) (fault : MidFault) : Type 0 where
   pub progress : new ≡ old
-  pub fault_is : IsCut before (old.at + 16) h.data_size fault
+  pub fault_is : LacksBytes before (old.at + 16) h.data_size fault
   pub fails : OfSource fault (FailsBehind before after at_hand h.data_size)
 
 -- They were passed, and more is left.

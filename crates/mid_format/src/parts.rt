@@ -2,7 +2,7 @@ ghost use Rattle.std.specs.Prelude.{◌≡◌, ◌≤◌, ◌+◌, ◌^◌, Some
 ghost use Rattle.daq_io.specs.Counts.{CountsFault};
 ghost use Rattle.event.specs.Pieces.{FailsBehind};
 ghost use Rattle.mid_format.specs.Faults.{fault_at, OfBytes, OfSource};
-ghost use Rattle.mid_format.specs.Parts.{ReadsHead, PassesOver, PassesAll, ReadsBody, IsCut, IsEnd, IsBehindEnd, CountsReads};
+ghost use Rattle.mid_format.specs.Parts.{ReadsHead, PassesOver, PassesAll, ReadsBody, LacksBytes, IsEnd, IsBehindEnd, CountsReads};
 
 use crate::faults::{MidFault, header_fault, nothing_left};
 use daq_io::{Failed, Source};
@@ -67,7 +67,7 @@ fn pass<S: Source>(source: &mut S, size: u32) -> Result<u32, Failed>
 pub fn pass_data<S: Source>(source: &mut S, place: u64, size: u32) -> Result<(), MidFault>
     requires { place + size ≤ 2 ^ 62 }
     ensures passed { OnOk result (PassesAll (S.told source.old).left (S.told source.new).left size) }
-    ensures cut { IfErr result (IsCut (S.told source.old).left place size) }
+    ensures cut { IfErr result (LacksBytes (S.told source.old).left place size) }
     ensures fails { IfErr result (λ fault. OfSource fault (FailsBehind (S.told source.old).left
         (S.told source.new).left (S.told source.new).at_hand size)) }
     ensures counted { CountsReads (S.told source.old).faults (S.told source.new).faults result }
@@ -95,7 +95,7 @@ pub fn read_data<S: Source>(
     requires room { header.now.data_size ≤ into.old.room }
     ensures read { OnOk result (ReadsBody (S.told source.old).left (S.told source.new).left header.now
         into.new) }
-    ensures cut { IfErr result (IsCut (S.told source.old).left place header.now.data_size) }
+    ensures cut { IfErr result (LacksBytes (S.told source.old).left place header.now.data_size) }
     ensures fails { IfErr result (λ fault. OfSource fault (FailsBehind (S.told source.old).left
         (S.told source.new).left (S.told source.new).at_hand header.now.data_size)) }
     ensures room { into.new.room ≡ into.old.room }

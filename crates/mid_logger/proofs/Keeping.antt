@@ -24,7 +24,7 @@ use Rattle.mid_logger.specs.Patterns.{file_name_by}
 use Rattle.mid_logger.specs.Channels.{FileHead, ChannelStands, HasLastOpen, IsLastOpen, KnowsTaken, channel_run, written_run, files_by, series_at}
 use Rattle.mid_logger.specs.Pulls.{PullOf, Pulls}
 use Rattle.mid_logger.specs.ChannelTurns.{ChannelAt, OpensBy, RefusesRun, drained_run}
-use Rattle.mid_logger.specs.ChannelEnds.{DropsRun, RemovesRun, ClosesRead, ClosesFile, HasLeft, end_of, last_bytes}
+use Rattle.mid_logger.specs.ChannelEnds.{DropsFiles, RemovesRun, ClosesRead, ClosesFile, HasLeft, end_of, last_bytes}
 use Rattle.mid_logger.specs.Keeping.{ChangesFiles, ChangesRun, KeepsThere, KeepsRun, OpensRunFile, any_file, order_head}
 use Rattle.mid_logger.proofs.FileMoves.{Moved, same_moved, closed_moved}
 use Rattle.sub_files.proofs.FilesStay.{run_there, fallen_there}
@@ -45,7 +45,7 @@ closed_changes spec opened old new bytes file leaves =
 
 -- Calling off.
 
-drop_changes : (spec : ChannelSpec) (opened : ChannelRun) (old new : Seen) (faults later : ℕ) → HasLastOpen old spec opened → DropsRun spec (Some opened) opened.run (opened.at.sub + 1) old new faults later
+drop_changes : (spec : ChannelSpec) (opened : ChannelRun) (old new : Seen) (faults later : ℕ) → HasLastOpen old spec opened → DropsFiles spec (Some opened) opened.run (opened.at.sub + 1) old new faults later
     → ChangesFiles (piece_name_by spec.pattern opened.run) (opened.at.sub + 1) (opened.at.sub + 1) (Some opened) old new
 drop_changes spec opened old new faults later file drops =
     let moved : Moved (piece_name_by spec.pattern opened.run) (opened.at.sub + 1) (opened.at.sub + 1) opened.at.file old drops.closed = closed_changes spec opened old drops.closed [] file drops.closes.closes.leaves in
@@ -57,7 +57,7 @@ drop_changes spec opened old new faults later file drops =
       numbers = λ number used other. KeepsNumber-trans (moved.numbers number used (other opened refl)) (drops.removes.numbers number);
     }
 
-left_changes : (spec : ChannelSpec) (run many : ℕ) (old new : Seen) (faults later : ℕ) → DropsRun spec None run many old new faults later → ChangesFiles (piece_name_by spec.pattern run) many many None old new
+left_changes : (spec : ChannelSpec) (run many : ℕ) (old new : Seen) (faults later : ℕ) → DropsFiles spec None run many old new faults later → ChangesFiles (piece_name_by spec.pattern run) many many None old new
 left_changes spec run many old new faults later drops =
     let here : ChangesFiles (piece_name_by spec.pattern run) many many None drops.closed new = record {
       told = drops.removes.told;

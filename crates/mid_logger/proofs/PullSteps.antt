@@ -25,7 +25,7 @@ use Rattle.sub_files.specs.declared.open_file.Fallen.{Fallen}
 use Rattle.sub_files.specs.declared.open_file.OpenFile.{OpenFile}
 use Rattle.sub_files.specs.Pieces.{Series, HoldsRun, HasPart}
 use Rattle.sub_files.proofs.NextEvent.{holds_next, part_next}
-use Rattle.mid_logger.specs.Channels.{FileHead, KeepsOwnCalls, IsOwnClient, AsksNothing, FilesHold, FilesLeft, ReadsUntil, ReadingWith, StageWith, StandsWith, ChannelStands, run_at, stage_at, is_in_run, is_behind_end, run_begun, reading_run, series_at, CancelsRequest}
+use Rattle.mid_logger.specs.Channels.{FileHead, KeepsOwnCalls, IsOwnClient, AsksNothing, FilesHold, FilesLeft, ReadsUntil, ReadingWith, StageWith, StandsWith, ChannelStands, run_writing, stage_at, is_in_run, is_behind_end, run_begun, reading_run, series_at, CancelsRequest}
 use Rattle.mid_logger.specs.Pulls.{PullOf, LeavesAll, WritesEvent, BreaksChannel, TakesBy, drains_at_none, FindsNone, TakesReply, PullsOnce, PullsIn, Pulls, run_series}
 use Rattle.mid_logger.proofs.OwnSteps.{own_push, own_client_push, given_by_reply, got_after_is}
 use Rattle.mid_logger.proofs.ReadSteps.{received, in_run, before_run, behind_run, event_taken, event_left, asks_still, asks_no_more, drained, part_read, file_event}
@@ -111,7 +111,7 @@ drain_kept Holds Left spec client run own got room reply events middle later own
 -- in this stage the channel reads this run, whichever of its files is written
 pub record Reads (Holds : Seen → ChannelRun → List Event → Type 0) (Left : Seen → ChannelRun → Fallen → List Event → Type 0) (spec : ChannelSpec) (client : Option ℕ) (run : BegunRun) (stage : ChannelStage) : Type 0 where
   pub same : (own : List BufferEntry) → (got : List GotEvent) → (seen : Seen) → ReadingWith (Holds seen) spec client run own got → StageWith (Holds seen) (Left seen) spec client stage own got
-  pub moved : (at : OpenFile) → (own : List BufferEntry) → (got : List GotEvent) → (seen : Seen) → ReadingWith (Holds seen) spec client (run_at run at) own got → StageWith (Holds seen) (Left seen) spec client (stage_at stage at) own got
+  pub moved : (at : OpenFile) → (own : List BufferEntry) → (got : List GotEvent) → (seen : Seen) → ReadingWith (Holds seen) spec client (run_writing run at) own got → StageWith (Holds seen) (Left seen) spec client (stage_at stage at) own got
 
 -- it is a pull of this channel, in a run of which each file begins with this dump
 abbrev pub PullsAs : PullOf → ChannelSpec → (dump : List ℕ) → Type 0

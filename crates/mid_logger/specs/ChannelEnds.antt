@@ -47,7 +47,7 @@ both_done (Err why) second = Err why
 
 -- The last file, if it is being written, is closed, and the files of the run are removed, so many. No more of them may stay than calls to
 -- remove one failed; and where no call failed, none does.
-pub record DropsRun (spec : ChannelSpec) (written : Option ChannelRun) (run many : ℕ) (a b : Seen) (faults later : ℕ) : Type 0 where
+pub record DropsFiles (spec : ChannelSpec) (written : Option ChannelRun) (run many : ℕ) (a b : Seen) (faults later : ℕ) : Type 0 where
   pub closed : Seen
   pub between : ℕ
   pub closes : ClosesOpen written a closed
@@ -59,7 +59,7 @@ pub record DropsRun (spec : ChannelSpec) (written : Option ChannelRun) (run many
 -- All files of the channel's run are removed, so many. Where it has none, nothing is done.
 abbrev pub RemovesRun : (run written : Option ChannelRun) → ChannelSpec → (many : ℕ) → (a b : Seen) → (faults later : ℕ) → Type 0
 RemovesRun None written spec many a b faults later = (b ≡ a) × (later ≡ faults)
-RemovesRun (Some opened) written spec many a b faults later = DropsRun spec written opened.run many a b faults later
+RemovesRun (Some opened) written spec many a b faults later = DropsFiles spec written opened.run many a b faults later
 
 -- the first fault is that of the file that is written, where there was none before
 abbrev pub NamesOpen : ChannelSpec → (written : Option ChannelRun) → (old new : Option (List ℕ)) → Type 0

@@ -178,13 +178,13 @@ files_by (Drained run) = run.opened.at.sub + 1
 files_by (Broken run fallen) = fallen.files
 
 -- the open run, with this file being written
-abbrev pub run_at : BegunRun → OpenFile → BegunRun
-run_at run at = record run { opened = record run.opened { at = at } }
+abbrev pub run_writing : BegunRun → OpenFile → BegunRun
+run_writing run at = record run { opened = record run.opened { at = at } }
 
 -- the stage, with this file being written
 abbrev pub stage_at : ChannelStage → OpenFile → ChannelStage
 stage_at (Writing opened begun) at = Writing (record opened { at = at }) begun
-stage_at (Draining run) at = Draining (run_at run at)
+stage_at (Draining run) at = Draining (run_writing run at)
 stage_at stage at = stage
 
 -- Where the channel found the name of the file behind its last one taken, there is a file of that name, where names are told.

@@ -12,7 +12,7 @@ ghost use Rattle.sub_files.specs.RecordFiles.{ClosesPart};
 ghost use Rattle.mid_logger.specs.declared.stage.ChannelStage.TheVariants.{Idle};
 ghost use Rattle.mid_logger.specs.Channels.{FileHead, ChannelStands, IsLastOpen, channel_run, written_run, files_by};
 ghost use Rattle.mid_logger.specs.ChannelTurns.{NotesFault, asking_run, drained_run};
-ghost use Rattle.mid_logger.specs.ChannelEnds.{CancelsStanding, ClosesOpen, DropsRun, RemovesRun, NamesRun, ClosesFile, EndNames, HasLeft, left_run, last_bytes, state_ended, state_otherwise, stage_settled, name_written, both_done, framed_by, end_of};
+ghost use Rattle.mid_logger.specs.ChannelEnds.{CancelsStanding, ClosesOpen, DropsFiles, RemovesRun, NamesRun, ClosesFile, EndNames, HasLeft, left_run, last_bytes, state_ended, state_otherwise, stage_settled, name_written, both_done, framed_by, end_of};
 
 use crate::channel::Channel;
 use crate::stage::{BegunRun, ChannelRun, ChannelStage};
@@ -223,7 +223,7 @@ impl Channel {
         requires file { IsLastOpen (F.told files.old).seen self.old.spec (written_run self.old.stage) }
         requires few { files_by self.old.stage ≤ 10000 }
         ensures channel { self.new ≡ record self.old { failed = self.new.failed } }
-        ensures drops { DropsRun self.old.spec (written_run self.old.stage) opened.run
+        ensures drops { DropsFiles self.old.spec (written_run self.old.stage) opened.run
             (files_by self.old.stage) (F.told files.old).seen
             (F.told files.new).seen (F.told files.old).faults (F.told files.new).faults }
         ensures failed { NotesFault self.old.failed self.new.failed (F.told files.old).faults

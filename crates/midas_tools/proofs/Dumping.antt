@@ -24,7 +24,7 @@ use Rattle.mid_format.specs.declared.faults.MidFault.TheVariants.{Truncated, NoB
 use Rattle.mid_format.specs.declared.progress.Progress.{Progress}
 use Rattle.midas_tools.specs.Areas.{AreEventLines, AreLinesOf, PassesLines}
 use Rattle.midas_tools.proofs.AreasLaws.{AreLinesOf-more}
-use Rattle.midas_tools.specs.Dumps.{DumpsTo, EndsAt, EndsText, HandEnds, IsDump, IsPart, Listing, Printing, PrintsRead, PrintsSome, PrintsUpTo, ReadCounts, begin_lines, end_lines, end_of, ended_text, fault_lines, new_begin}
+use Rattle.midas_tools.specs.Dumps.{DumpsTo, EndsAt, EndsText, HandEnds, IsDump, IsPart, Listing, Printing, PrintsRead, PrintsSome, PrintsUpTo, ReadCounts, begin_lines, end_lines, tool_end, ended_text, fault_lines, new_begin}
 use Rattle.midas_tools.specs.Findings.{SinkByEnd}
 use Rattle.midas_tools.specs.Printing.{PrintsSoFar, PassesText}
 use Rattle.midas_tools.proofs.Printing.{PrintsSoFar-none, PrintsSoFar-more, PrintsSoFar-all, PrintsSoFar-fails, none_passes, text_passes, text_fails}
@@ -369,7 +369,7 @@ read_or_not ReadFault = inl refl
 read_or_not (BadRecord at) = inr (λ e. cc)
 read_or_not (TooLong at) = inr (λ e. cc)
 
-pub end_is : (f : MidFault) → f ≢ ReadFault → end_of (Some f) ≡ Input (Mid f)
+pub end_is : (f : MidFault) → f ≢ ReadFault → tool_end (Some f) ≡ Input (Mid f)
 end_is (Truncated at) ne = refl
 end_is (NoBegin at) ne = refl
 end_is (NoEnd at) ne = refl
@@ -379,7 +379,7 @@ end_is ReadFault ne = absurd (ne refl)
 end_is (BadRecord at) ne = refl
 end_is (TooLong at) ne = refl
 
-pub end_calm : (fault : Option MidFault) (old new : ℕ) → new ≡ old → SinkByEnd (end_of fault) old new
+pub end_calm : (fault : Option MidFault) (old new : ℕ) → new ≡ old → SinkByEnd (tool_end fault) old new
 end_calm None old new same = same
 end_calm (Some (Truncated at)) old new same = same
 end_calm (Some (NoBegin at)) old new same = same
@@ -450,7 +450,7 @@ none_of : (last : Option Header) → ¬ IsSome last → last ≡ None
 none_of None h = refl
 none_of (Some end) h = absurd (h refl)
 
-end_counts : (f : MidFault) (old new : ℕ) → CountedBy f old new → ReadCounts (end_of (Some f)) old new
+end_counts : (f : MidFault) (old new : ℕ) → CountedBy f old new → ReadCounts (tool_end (Some f)) old new
 end_counts (Truncated at) old new c = c
 end_counts (NoBegin at) old new c = c
 end_counts (NoEnd at) old new c = c
@@ -471,7 +471,7 @@ fault_by_none ReadFault old new c = omega (arith, c)
 fault_by_none (BadRecord at) old new c = omega (arith, c)
 fault_by_none (TooLong at) old new c = omega (arith, c)
 
-end_hand : (f : MidFault) (at_hand : List ℕ) → OfSource f (at_hand ≡ []) → HandEnds (end_of (Some f)) at_hand
+end_hand : (f : MidFault) (at_hand : List ℕ) → OfSource f (at_hand ≡ []) → HandEnds (tool_end (Some f)) at_hand
 end_hand (Truncated at) at_hand h = tt
 end_hand (NoBegin at) at_hand h = tt
 end_hand (NoEnd at) at_hand h = tt

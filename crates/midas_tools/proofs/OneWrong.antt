@@ -7,7 +7,7 @@ use Rattle.mid_format.specs.Faults.{run_at}
 use Rattle.mid_format.specs.HasRead.{IsMidFault}
 use Rattle.mid_format.proofs.ReadLaws.{one_fault}
 use Rattle.mid_format.specs.declared.faults.MidFault.{MidFault}
-use Rattle.midas_tools.specs.Pieces.{ArePieces, bytes_of, in_file}
+use Rattle.midas_tools.specs.Pieces.{ArePieces, total_bytes, in_file}
 use Rattle.midas_tools.specs.Together.{AreSoundTogether, FindsWrong, HaveOneRun, HoldsFault, IsWrong}
 use Rattle.midas_tools.specs.declared.ends.InputFault.{InputFault}
 use Rattle.midas_tools.specs.declared.ends.InputFault.TheVariants.{Mid, Compressed, Missing, ScriptTooLong, OtherRun}
@@ -23,8 +23,8 @@ module _ (seen : Seen) (before : List (List ℕ)) (name : List ℕ) where
     file_same : w.there.file ≡ v.there.file
     file_same = same_file w.there.file v.there.file (sym w.there.at_is ∙ v.there.at_is)
 
-    moved : (P : ℕ → List ℕ → Type 0) → P (bytes_of w.holds.files) w.there.file.bytes → P (bytes_of v.holds.files) v.there.file.bytes
-    moved P p = subst (λ (fs : List (List ℕ)). P (bytes_of fs) v.there.file.bytes) files_same (subst (λ (s : Stored). P (bytes_of w.holds.files) s.bytes) file_same p)
+    moved : (P : ℕ → List ℕ → Type 0) → P (total_bytes w.holds.files) w.there.file.bytes → P (total_bytes v.holds.files) v.there.file.bytes
+    moved P p = subst (λ (fs : List (List ℕ)). P (total_bytes fs) v.there.file.bytes) files_same (subst (λ (s : Stored). P (total_bytes w.holds.files) s.bytes) file_same p)
 
     run_same : 0 < length before → v.holds.run ≡ w.holds.run
     run_same some =
@@ -34,10 +34,10 @@ module _ (seen : Seen) (before : List (List ℕ)) (name : List ℕ) where
   own_one : (f g : MidFault) → HoldsFault seen before name (Mid f) → HoldsFault seen before name (Mid g) → f ≡ g
   own_one f g v w =
       let same : v.there.fact.placed ≡ w.there.fact.placed =
-      one_fault (bytes_of v.holds.files) v.there.file.bytes v.there.fact.placed w.there.fact.placed v.there.fact.first
+      one_fault (total_bytes v.holds.files) v.there.file.bytes v.there.fact.placed w.there.fact.placed v.there.fact.first
       (moved (Mid f) (Mid g) v w (λ (n : ℕ) (bytes : List ℕ). IsMidFault n bytes w.there.fact.placed) w.there.fact.first) in
-      v.there.fact.fault_is ∙ ap (λ (x : MidFault). in_file (bytes_of v.holds.files) x) same
-      ∙ ap (λ (fs : List (List ℕ)). in_file (bytes_of fs) w.there.fact.placed) (sym (files_same (Mid f) (Mid g) v w)) ∙ sym w.there.fact.fault_is
+      v.there.fact.fault_is ∙ ap (λ (x : MidFault). in_file (total_bytes v.holds.files) x) same
+      ∙ ap (λ (fs : List (List ℕ)). in_file (total_bytes fs) w.there.fact.placed) (sym (files_same (Mid f) (Mid g) v w)) ∙ sym w.there.fact.fault_is
 
   some_number : (a b : ℕ) → Some a ≡ Some b → a ≡ b
   some_number a b e = ap (λ (o : Option ℕ). unwrap_or o a) e

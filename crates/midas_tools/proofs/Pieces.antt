@@ -8,7 +8,7 @@ use Rattle.daq_io.specs.Seen.{Seen, Stored}
 use Rattle.mid_format.specs.Faults.{run_at}
 use Rattle.mid_format.proofs.ReadLaws.{one_whole, run_of_whole, whole_no_fault}
 use Rattle.mid_format.specs.declared.faults.MidFault.{MidFault}
-use Rattle.midas_tools.specs.Pieces.{ArePieces, AreOneRun, IsPiece, IsPieceFault, bytes_of}
+use Rattle.midas_tools.specs.Pieces.{ArePieces, AreOneRun, IsPiece, IsPieceFault, total_bytes}
 use Rattle.midas_tools.specs.Together.{ArePlain, AreSoundTogether, FindsWrong, HaveBytes, HoldsFault, IsWrong}
 use Rattle.midas_tools.specs.Findings.{IsThere}
 use Rattle.midas_tools.specs.declared.ends.InputFault.{InputFault}
@@ -16,7 +16,7 @@ use Rattle.midas_tools.specs.declared.ends.InputFault.TheVariants.{Mid, Compress
 
 -- One file more
 
-pub bytes_more : (files : List (List ℕ)) (bytes : List ℕ) → bytes_of (files ++ bytes ∷ []) ≡ bytes_of files + length bytes
+pub bytes_more : (files : List (List ℕ)) (bytes : List ℕ) → total_bytes (files ++ bytes ∷ []) ≡ total_bytes files + length bytes
 bytes_more [] bytes = omega arith
 bytes_more (first ∷ files) bytes = omega (arith, bytes_more files bytes)
 
@@ -87,7 +87,7 @@ piece_parts run (first ∷ front) bytes back events p =
     let q : PieceParts run front bytes = piece_parts run front bytes back p.1 p.3 in
     record { events = p.0 ++ q.events; pieces = (p.0, q.events, p.2, q.pieces, refl); own = q.own; piece = q.piece }
 
-bytes_parts : (front : List (List ℕ)) (bytes : List ℕ) (back : List (List ℕ)) → bytes_of front + length bytes ≤ bytes_of (front ++ bytes ∷ back)
+bytes_parts : (front : List (List ℕ)) (bytes : List ℕ) (back : List (List ℕ)) → total_bytes front + length bytes ≤ total_bytes (front ++ bytes ∷ back)
 bytes_parts [] bytes back = omega arith
 bytes_parts (first ∷ front) bytes back = omega (arith, bytes_parts front bytes back)
 
@@ -113,24 +113,24 @@ module _ (seen : Seen) (before : List (List ℕ)) (name : List ℕ) (run : ℕ) 
   abbrev pieces : PieceParts run parts.front parts.bytes
   pieces = piece_parts run parts.front parts.bytes parts.back events (subst (λ (fs : List (List ℕ)). ArePieces run fs events) parts.files_are are.pieces)
 
-  within : bytes_of parts.front + length parts.bytes ≤ 2 ^ 62
-  within = omega (arith, bytes_parts parts.front parts.bytes parts.back, ap bytes_of parts.files_are, are.counted)
+  within : total_bytes parts.front + length parts.bytes ≤ 2 ^ 62
+  within = omega (arith, bytes_parts parts.front parts.bytes parts.back, ap total_bytes parts.files_are, are.counted)
 
   abbrev piece : IsPiece run parts.bytes pieces.own
   piece = pieces.piece
 
-  run_is : run_at (bytes_of parts.front) parts.bytes ≡ Some run
-  run_is = run_of_whole (bytes_of parts.front) parts.bytes run piece.time0 piece.dump0 pieces.own piece.time1 piece.dump1 piece.whole within
+  run_is : run_at (total_bytes parts.front) parts.bytes ≡ Some run
+  run_is = run_of_whole (total_bytes parts.front) parts.bytes run piece.time0 piece.dump0 pieces.own piece.time1 piece.dump1 piece.whole within
 
   some_number : (a b : ℕ) → Some a ≡ Some b → a ≡ b
   some_number a b e = ap (λ (o : Option ℕ). unwrap_or o a) e
 
   -- in front of which the files are those of the same run, if there are some
   module _ (other : ℕ) (events' : List Event) (p : ArePieces other parts.front events') where
-    no_own : (f : MidFault) → IsPieceFault other (bytes_of parts.front) parts.bytes (Mid f) → ⊥
-    no_own f w = whole_no_fault (bytes_of parts.front) parts.bytes run piece.time0 piece.dump0 pieces.own piece.time1 piece.dump1 w.placed piece.whole within w.first
+    no_own : (f : MidFault) → IsPieceFault other (total_bytes parts.front) parts.bytes (Mid f) → ⊥
+    no_own f w = whole_no_fault (total_bytes parts.front) parts.bytes run piece.time0 piece.dump0 pieces.own piece.time1 piece.dump1 w.placed piece.whole within w.first
 
-    no_other : (file found : ℕ) → 0 < length before → IsPieceFault other (bytes_of parts.front) parts.bytes (OtherRun file found) → ⊥
+    no_other : (file found : ℕ) → 0 < length before → IsPieceFault other (total_bytes parts.front) parts.bytes (OtherRun file found) → ⊥
     no_other file found some w =
         let same : run ≡ other = one_run run other parts.front pieces.events events' (omega (arith, some, have_length seen before parts.front parts.have)) pieces.pieces p in
         w.differs (some_number found run (sym w.begun ∙ run_is) ∙ same)
@@ -145,10 +145,10 @@ module _ (seen : Seen) (before : List (List ℕ)) (name : List ℕ) (run : ℕ) 
     its_pieces : ArePieces w.holds.run parts.front w.holds.events
     its_pieces = subst (λ (fs : List (List ℕ)). ArePieces w.holds.run fs w.holds.events) front w.holds.are.pieces
 
-    its_fault : IsPieceFault w.holds.run (bytes_of parts.front) parts.bytes fault
+    its_fault : IsPieceFault w.holds.run (total_bytes parts.front) parts.bytes fault
     its_fault =
-        subst (λ (b : List ℕ). IsPieceFault w.holds.run (bytes_of parts.front) b fault) bytes
-        (subst (λ (fs : List (List ℕ)). IsPieceFault w.holds.run (bytes_of fs) w.there.file.bytes fault) front w.there.fact)
+        subst (λ (b : List ℕ). IsPieceFault w.holds.run (total_bytes parts.front) b fault) bytes
+        (subst (λ (fs : List (List ℕ)). IsPieceFault w.holds.run (total_bytes fs) w.there.file.bytes fault) front w.there.fact)
 
   pub no_own_fault : (f : MidFault) → HoldsFault seen before name (Mid f) → ⊥
   no_own_fault f w = no_own w.holds.run w.holds.events (its_pieces (Mid f) w) f (its_fault (Mid f) w)

@@ -12,7 +12,7 @@ use Rattle.event_report.specs.Reports.{Totals, report_of}
 use Rattle.event_report.specs.Texts.{report_text}
 use Rattle.mid_format.specs.ReadLaws.{AreSameRun, IsWholeFile}
 use Rattle.midas_tools.specs.Analyses.{analysis_text}
-use Rattle.midas_tools.specs.Pieces.{ArePieces, AreRunFilesWith, IsPiece, IsRunFileWith, bytes_of}
+use Rattle.midas_tools.specs.Pieces.{ArePieces, AreRunFilesWith, IsPiece, IsRunFileWith, total_bytes}
 use Rattle.midas_tools.specs.Together.{HaveBytes, TellsRun}
 use Rattle.midas_tools.specs.Texts.{run_number_line}
 use Rattle.midas_tools.proofs.Pieces.{have_one}
@@ -97,14 +97,14 @@ module _ (reads : ReadsOneWay) (run other : ℕ) (small : run < 2 ^ 32) where
       sym (one_read bytes w.0 p.0 (short_front w.0 w.1 both) w.2 p.2).run_is
 
   text_same : (files : List (List ℕ)) (events found : List Event) → 0 < length files → All HasShortId events → AreRunFilesWith run files events → ArePieces other files found
-      → analysis_text other found (bytes_of files) ≡ analysis_text run events (bytes_of files)
+      → analysis_text other found (total_bytes files) ≡ analysis_text run events (total_bytes files)
   text_same files events found some short w p =
       ap (λ (n : ℕ). run_number_line n ++ report_text [] (report_of found)) (same_run files events found some short w p)
       ∙ ap (λ (t : Totals). run_number_line run ++ report_text [] t) (ap report_of (all_read files events found short w p) ∙ report_same events)
 
 pub printed_is : ReadsOneWay → (seen : Seen) (names files : List (List ℕ)) (run : ℕ) (events : List Event) (text : List ℕ)
     → HaveBytes seen names files → 0 < length files → AreRunFilesWith run files events → run < 2 ^ 32 → All HasShortId events
-    → TellsRun analysis_text seen names text → text ≡ analysis_text run events (bytes_of files)
+    → TellsRun analysis_text seen names text → text ≡ analysis_text run events (total_bytes files)
 printed_is reads seen names files run events text have some are small short tells =
     let same : tells.holds.files ≡ files = have_one seen names tells.holds.files files tells.holds.have have in
     let pieces : ArePieces tells.holds.run files tells.holds.events = subst (λ (fs : List (List ℕ)). ArePieces tells.holds.run fs tells.holds.events) same tells.holds.are.pieces in

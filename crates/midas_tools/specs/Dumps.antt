@@ -212,20 +212,20 @@ abbrev pub ended_text : List ℕ → Option Header → Option MidFault → List 
 ended_text text last fault = (text ++ end_lines last) ++ fault_lines fault
 
 -- the end of a call that read a file to its end, or to a fault
-abbrev pub end_of : Option MidFault → ToolEnd
-end_of None = Done
-end_of (Some (Truncated at)) = Input (Mid (Truncated at))
-end_of (Some (NoBegin at)) = Input (Mid (NoBegin at))
-end_of (Some (NoEnd at)) = Input (Mid (NoEnd at))
-end_of (Some (AfterEnd at)) = Input (Mid (AfterEnd at))
-end_of (Some (TooBig at size)) = Input (Mid (TooBig at size))
-end_of (Some ReadFault) = FileFault
-end_of (Some (BadRecord at)) = Input (Mid (BadRecord at))
-end_of (Some (TooLong at)) = Input (Mid (TooLong at))
+abbrev pub tool_end : Option MidFault → ToolEnd
+tool_end None = Done
+tool_end (Some (Truncated at)) = Input (Mid (Truncated at))
+tool_end (Some (NoBegin at)) = Input (Mid (NoBegin at))
+tool_end (Some (NoEnd at)) = Input (Mid (NoEnd at))
+tool_end (Some (AfterEnd at)) = Input (Mid (AfterEnd at))
+tool_end (Some (TooBig at size)) = Input (Mid (TooBig at size))
+tool_end (Some ReadFault) = FileFault
+tool_end (Some (BadRecord at)) = Input (Mid (BadRecord at))
+tool_end (Some (TooLong at)) = Input (Mid (TooLong at))
 
 -- All of this text was written, and this is the end; or the sink failed at a part of it.
 abbrev pub EndsText : (fault : Option MidFault) (now new : Option (List ℕ)) (text : List ℕ) → ToolEnd → Type 0
-EndsText fault now new text end = ((end ≡ end_of fault) × Appends now new text) ⊎ ((end ≡ SinkFault) × AppendsPart now new text)
+EndsText fault now new text end = ((end ≡ tool_end fault) × Appends now new text) ⊎ ((end ≡ SinkFault) × AppendsPart now new text)
 
 -- What was printed of a source, by the end that it leads to: where the source failed, all that was read in front of it.
 abbrev pub DumpsTo : (source now : Option (List ℕ)) (told_old told_new : Option (List ℕ)) → ToolEnd → Type 0

@@ -8,7 +8,7 @@ use Rattle.mid_format.specs.Opened.{run_number_of}
 use Rattle.mid_format.specs.declared.faults.MidFault.{MidFault}
 use Rattle.mid_format.specs.declared.faults.MidFault.TheVariants.{ReadFault}
 use Rattle.mid_format.specs.declared.progress.Progress.{Progress}
-use Rattle.midas_tools.specs.Pieces.{ArePieces, IsPiece, IsPieceFault, bytes_of, in_file}
+use Rattle.midas_tools.specs.Pieces.{ArePieces, IsPiece, IsPieceFault, total_bytes, in_file}
 use Rattle.midas_tools.specs.Together.{ArePlain, HaveBytes, IsWrong, OfFirst}
 use Rattle.midas_tools.specs.Texts.{bad_file_line}
 use Rattle.midas_tools.specs.Findings.{IsThere, Printed, Unprinted}
@@ -85,7 +85,7 @@ pub record AreGathered (seen : Seen) (names : List (List ℕ)) (run : ℕ) (even
   pub files : List (List ℕ)
   pub have : HaveBytes seen names files
   pub pieces : ArePieces run files events
-  pub size_is : size ≡ bytes_of files
+  pub size_is : size ≡ total_bytes files
 
 -- All the files of these names were gathered.
 pub record GathersAll (HasTaken : List Event → Type 0) (seen : Seen) (names : List (List ℕ)) (extent : Extent) : Type 0 where

@@ -41,14 +41,14 @@ abbrev pub ArePieces : (run : ℕ) (files : List (List ℕ)) (events : List Even
 ArePieces run = AreJoined (IsPiece run)
 
 -- how many bytes files have together
-abbrev pub bytes_of : List (List ℕ) → ℕ
-bytes_of [] = 0
-bytes_of (bytes ∷ files) = length bytes + bytes_of files
+abbrev pub total_bytes : List (List ℕ) → ℕ
+total_bytes [] = 0
+total_bytes (bytes ∷ files) = length bytes + total_bytes files
 
 -- The files are the pieces of one run.
 pub record AreOneRun (files : List (List ℕ)) (run : ℕ) (events : List Event) : Type 0 where
   pub pieces : ArePieces run files events
-  pub counted : bytes_of files ≤ 2 ^ 62
+  pub counted : total_bytes files ≤ 2 ^ 62
 
 -- the place of a fault in its file, of one that was counted from the first file on
 abbrev pub in_file : (before : ℕ) → MidFault → MidFault

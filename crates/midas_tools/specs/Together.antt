@@ -6,7 +6,7 @@ use Rattle.daq_types.specs.declared.events.Event.{Event}
 use Rattle.daq_io.specs.Seen.{Seen}
 use Rattle.mid_format.specs.declared.faults.MidFault.TheVariants.{ReadFault}
 use Rattle.midas_tools.specs.Texts.{bad_file_line}
-use Rattle.midas_tools.specs.Pieces.{AreOneRun, IsPieceFault, bytes_of}
+use Rattle.midas_tools.specs.Pieces.{AreOneRun, IsPieceFault, total_bytes}
 use Rattle.midas_tools.specs.Findings.{IsThere, WritesAll, WritesPart, ClashCounts, SinkByEnd, FilesByEnd, ComesTo, CallCounts}
 use Rattle.midas_tools.specs.declared.ends.InputFault.{InputFault}
 use Rattle.midas_tools.specs.declared.ends.InputFault.TheVariants.{Mid, Compressed, Missing, ScriptTooLong, OtherRun}
@@ -35,12 +35,12 @@ pub record HaveOneRun (seen : Seen) (names : List (List ℕ)) : Type 0 where
 -- And this is the text of that run: of its number, of all events, and of how many bytes the files have together.
 pub record TellsRun (Text : (run : ℕ) (events : List Event) (size : ℕ) → List ℕ) (seen : Seen) (names : List (List ℕ)) (text : List ℕ) : Type 0 where
   pub holds : HaveOneRun seen names
-  pub text_is : text ≡ Text holds.run holds.events (bytes_of holds.files)
+  pub text_is : text ≡ Text holds.run holds.events (total_bytes holds.files)
 
 -- The file of this name has this fault, behind those of other names, which are the pieces of one run.
 pub record HoldsFault (seen : Seen) (before : List (List ℕ)) (name : List ℕ) (fault : InputFault) : Type 0 where
   pub holds : HaveOneRun seen before
-  pub there : IsThere seen name (λ bytes. IsPieceFault holds.run (bytes_of holds.files) bytes fault)
+  pub there : IsThere seen name (λ bytes. IsPieceFault holds.run (total_bytes holds.files) bytes fault)
 
 -- What is wrong with the file of this name, of which those before are the pieces of one run: its own bytes, its name, that
 -- there is none, or that it is of another run than they.

@@ -5,7 +5,7 @@ ghost use Rattle.daq_io.specs.Seen.{Same};
 ghost use Rattle.daq_io.specs.Streams.{AppendsPart};
 ghost use Rattle.event.specs.Events.{event_limit};
 ghost use Rattle.mid_format.specs.HasRead.{nothing_read};
-ghost use Rattle.midas_tools.specs.Dumps.{DumpsTo, EndsText, HandEnds, HandHalts, ListsTo, Printing, PrintsOn, ReadCounts, SinkHalts, SourceHalts, WritesOn, end_lines, end_of, ended_text, fault_lines, new_begin};
+ghost use Rattle.midas_tools.specs.Dumps.{DumpsTo, EndsText, HandEnds, HandHalts, ListsTo, Printing, PrintsOn, ReadCounts, SinkHalts, SourceHalts, WritesOn, end_lines, tool_end, ended_text, fault_lines, new_begin};
 ghost use Rattle.midas_tools.specs.Findings.{SinkByEnd, call_counts};
 ghost use Rattle.midas_tools.specs.Printing.{PassesText};
 ghost use Rattle.midas_tools.specs.Together.{EndsBy};
@@ -169,8 +169,8 @@ fn print_last<O: Sink>(
 }
 
 /// The end of a call that read a file to its end, or to this fault.
-fn end_of(fault: Option<MidFault>) -> ToolEnd
-    ensures { result ≡ end_of fault }
+fn tool_end(fault: Option<MidFault>) -> ToolEnd
+    ensures { result ≡ tool_end fault }
 {
     match fault {
         None => ToolEnd::Done,
@@ -191,7 +191,7 @@ fn end_dump<O: Sink>(
     ensures sink { SinkByEnd result (O.told out.old).faults (O.told out.new).faults }
 {
     match print_last(last, fault, page, out) {
-        Ok(()) => end_of(fault),
+        Ok(()) => tool_end(fault),
         Err(_) => ToolEnd::SinkFault,
     }
 }

@@ -27,7 +27,7 @@ use Rattle.odb_tree.proofs.Led.{none_at_end, resolved_freed}
 use Rattle.odb_tree.proofs.WalkLaws.{true_false}
 use Rattle.odb_links.specs.declared.links.Link.{Link}
 use Rattle.odb_links.specs.Seen.{link_numbered, is_linked, typed, as_seen, seen, LinksRise, IsRight, AreLinks}
-use Rattle.odb_links.specs.Writing.{IsFree}
+use Rattle.odb_links.specs.Writing.{IsFreeOfLinks}
 use Rattle.odb_links.proofs.Retyped.{row_mapped, obstacle_mapped, dir_fault_mapped, absent_mapped, number_found_mapped, exists_mapped, outside_mapped, children_mapped, limit_mapped, path_mapped, below_mapped, change_mapped}
 use Rattle.odb_links.proofs.Above.{root_free}
 use Rattle.odb_links.proofs.Marked.{seen_retypes, seen_plain, seen_linked, unlinked_above, order_longer, not_linked, no_link_at, right_plain, right_at, way_seen, created_seen, made_above}
@@ -50,7 +50,7 @@ tested true h = absurd (h refl)
 tested false h = refl
 
 -- no link stands at the end of a path after its links
-pub free_after : (links : List Link) (s : Rows) (p q : List (List ℕ)) → AreLinks links s → resolved (seen links s) p true ≡ Ok q → IsFree links s q
+pub free_after : (links : List Link) (s : Rows) (p q : List (List ℕ)) → AreLinks links s → resolved (seen links s) p true ≡ Ok q → IsFreeOfLinks links s q
 free_after links s p q h e r there =
     tested (is_linked links r.number) (λ linked.
     true_false (is_link (as_seen links r)) (linked_is_link links r (row_has (IsRight links) s.rows q r h.right there) linked)
@@ -58,14 +58,14 @@ free_after links s p q h e r there =
     (λ root. root_free s r h.database.tree (subst (λ (x : List (List ℕ)). row_at s.rows x ≡ Some r) root there))
     (row_mapped (as_seen links) (seen_retypes links) s.rows q ∙ ap (option_map (as_seen links)) there)))
 
-same_row : (links : List Link) (s : Rows) (q : List (List ℕ)) → IsFree links s q → row_at (seen links s).rows q ≡ row_at s.rows q
+same_row : (links : List Link) (s : Rows) (q : List (List ℕ)) → IsFreeOfLinks links s q → row_at (seen links s).rows q ≡ row_at s.rows q
 same_row links s q free = row_mapped (as_seen links) (seen_retypes links) s.rows q ∙ at (row_at s.rows q) refl
   where
     at : (o : Option Row) → row_at s.rows q ≡ o → option_map (as_seen links) o ≡ o
     at None e = refl
     at (Some r) e = ap (λ (x : Row). Some x) (seen_plain links r (free r e))
 
-same_key : (links : List Link) (s : Rows) (q : List (List ℕ)) → IsFree links s q → seek_key (seen links s).rows q ≡ seek_key s.rows q
+same_key : (links : List Link) (s : Rows) (q : List (List ℕ)) → IsFreeOfLinks links s q → seek_key (seen links s).rows q ≡ seek_key s.rows q
 same_key links s [] free = refl
 same_key links s (name ∷ names) free =
     ap (λ (o : Option Row). key_or_refusal (found_row (obstacle_to (seen links s).rows (name ∷ names)) o)) (same_row links s (name ∷ names) free)
@@ -109,7 +109,7 @@ create_same links s q kind h plain =
 
 -- changed values
 
-pub changed_plain : (links : List Link) (s : Rows) (q : List (List ℕ)) (g : HeldValue → HeldValue) → IsFree links s q → change_at (seen links s).rows q g ≡ map (as_seen links) (change_at s.rows q g)
+pub changed_plain : (links : List Link) (s : Rows) (q : List (List ℕ)) (g : HeldValue → HeldValue) → IsFreeOfLinks links s q → change_at (seen links s).rows q g ≡ map (as_seen links) (change_at s.rows q g)
 changed_plain links s q g free =
     change_mapped (as_seen links) (seen_retypes links) g g s.rows q
     (λ r there. ap (change_row g) (seen_plain links r (free r there)) ∙ sym (seen_plain links (change_row g r) (free r there)))
@@ -117,10 +117,10 @@ changed_plain links s q g free =
 as_rows : (links : List Link) (s : Rows) (xs ys : List Row) → xs ≡ map (as_seen links) ys → (let a : Rows = record (seen links s) { rows = xs } in a ≡ seen links (record s { rows = ys }))
 as_rows links s xs ys e = ap (λ (l : List Row). (let a : Rows = record { rows = l; next = s.next; links = true } in a)) e
 
-pub set_leaves : (links : List Link) (s : Rows) (q : List (List ℕ)) (index : ℕ) (item : Item) → IsFree links s q → after_set (seen links s) q index item ≡ seen links (after_set s q index item)
+pub set_leaves : (links : List Link) (s : Rows) (q : List (List ℕ)) (index : ℕ) (item : Item) → IsFreeOfLinks links s q → after_set (seen links s) q index item ≡ seen links (after_set s q index item)
 set_leaves links s q index item free = as_rows links s _ _ (changed_plain links s q (λ v. put_in v index item) free)
 
-pub set_same : (links : List Link) (s : Rows) (q : List (List ℕ)) (index : ℕ) (item : Item) → IsFree links s q → set_reply (seen links s) q index item ≡ set_reply s q index item
+pub set_same : (links : List Link) (s : Rows) (q : List (List ℕ)) (index : ℕ) (item : Item) → IsFreeOfLinks links s q → set_reply (seen links s) q index item ≡ set_reply s q index item
 set_same links s q index item free = ap (set_reply_to (seen links s) q index item) (same_key links s q free) ∙ at (seek_key s.rows q)
   where
     at : (r : Result (ℕ × HeldValue) OdbRefusal) → set_reply_to (seen links s) q index item r ≡ set_reply_to s q index item r
@@ -129,10 +129,10 @@ set_same links s q index item free = ap (set_reply_to (seen links s) q index ite
         ap (λ (o : Option OdbRefusal). reply_or (option_or (type_fault key.1.tid (tid_of item)) (option_or (index_fault (length key.1.items) index) o)) key.0)
         (same_limit links (text_fault item) (after_set (seen links s) q index item) (after_set s q index item) (set_leaves links s q index item free))
 
-pub resize_leaves : (links : List Link) (s : Rows) (q : List (List ℕ)) (len : ℕ) → IsFree links s q → after_resize (seen links s) q len ≡ seen links (after_resize s q len)
+pub resize_leaves : (links : List Link) (s : Rows) (q : List (List ℕ)) (len : ℕ) → IsFreeOfLinks links s q → after_resize (seen links s) q len ≡ seen links (after_resize s q len)
 resize_leaves links s q len free = as_rows links s _ _ (changed_plain links s q (λ v. resized v len) free)
 
-pub resize_same : (links : List Link) (s : Rows) (q : List (List ℕ)) (len : ℕ) → IsFree links s q → resize_reply (seen links s) q len ≡ resize_reply s q len
+pub resize_same : (links : List Link) (s : Rows) (q : List (List ℕ)) (len : ℕ) → IsFreeOfLinks links s q → resize_reply (seen links s) q len ≡ resize_reply s q len
 resize_same links s q len free = ap (resize_reply_to (seen links s) q len) (same_key links s q free) ∙ at (seek_key s.rows q)
   where
     at : (r : Result (ℕ × HeldValue) OdbRefusal) → resize_reply_to (seen links s) q len r ≡ resize_reply_to s q len r
@@ -140,18 +140,18 @@ resize_same links s q len free = ap (resize_reply_to (seen links s) q len) (same
     at (Ok key) =
         ap (λ (o : Option OdbRefusal). reply_or o key.0) (same_limit links (len_fault len) (after_resize (seen links s) q len) (after_resize s q len) (resize_leaves links s q len free))
 
-pub set_all_leaves : (links : List Link) (s : Rows) (q : List (List ℕ)) (v : HeldValue) → LinksRise 1 links s.next → IsFree links s q → after_set_all (seen links s) q v ≡ seen links (after_set_all s q v)
+pub set_all_leaves : (links : List Link) (s : Rows) (q : List (List ℕ)) (v : HeldValue) → LinksRise 1 links s.next → IsFreeOfLinks links s q → after_set_all (seen links s) q v ≡ seen links (after_set_all s q v)
 set_all_leaves links s q v order free = ap (after_set_all_at (seen links s) q v) (same_row links s q free) ∙ at (row_at s.rows q)
   where
     at : (o : Option Row) → after_set_all_at (seen links s) q v o ≡ seen links (after_set_all_at s q v o)
     at None = created_plain links s q (Some v) order
     at (Some r) = as_rows links s _ _ (changed_plain links s q (λ _. v) free)
 
-value_same : (links : List Link) (s : Rows) (q : List (List ℕ)) → IsFree links s q → value_fault (seen links s).rows q ≡ value_fault s.rows q
+value_same : (links : List Link) (s : Rows) (q : List (List ℕ)) → IsFreeOfLinks links s q → value_fault (seen links s).rows q ≡ value_fault s.rows q
 value_same links s [] free = refl
 value_same links s (name ∷ names) free = ap directory_fault (same_row links s (name ∷ names) free)
 
-pub number_same : (links : List Link) (s : Rows) (q : List (List ℕ)) → IsFree links s q → number_at (seen links s) q (row_at (seen links s).rows q) ≡ number_at s q (row_at s.rows q)
+pub number_same : (links : List Link) (s : Rows) (q : List (List ℕ)) → IsFreeOfLinks links s q → number_at (seen links s) q (row_at (seen links s).rows q) ≡ number_at s q (row_at s.rows q)
 number_same links s q free = ap (number_at (seen links s) q) (same_row links s q free) ∙ at (row_at s.rows q)
   where
     at : (o : Option Row) → number_at (seen links s) q o ≡ number_at s q o
@@ -159,7 +159,7 @@ number_same links s q free = ap (number_at (seen links s) q) (same_row links s q
     at (Some r) = refl
 
 -- with any refusal of types
-pub write_same : (links : List Link) (s : Rows) (q : List (List ℕ)) (v : HeldValue) (refused : Option OdbRefusal) → LinksRise 1 links s.next → IsFree links s q
+pub write_same : (links : List Link) (s : Rows) (q : List (List ℕ)) (v : HeldValue) (refused : Option OdbRefusal) → LinksRise 1 links s.next → IsFreeOfLinks links s q
     → reply_or (option_or (obstacle_to_new (seen links s).rows q) (option_or (value_fault (seen links s).rows q) (option_or refused (option_or (there_fault v.tid (row_at (seen links s).rows q)) (limit_fault (own_fault v) (after_set_all (seen links s) q v))))))
     (number_at (seen links s) q (row_at (seen links s).rows q))
     ≡ reply_or (option_or (obstacle_to_new s.rows q) (option_or (value_fault s.rows q) (option_or refused (option_or (there_fault v.tid (row_at s.rows q)) (limit_fault (own_fault v) (after_set_all s q v)))))) (number_at s q (row_at s.rows q))
@@ -167,12 +167,12 @@ write_same links s q v refused order free =
     let obstacle : obstacle_to_new (seen links s).rows q ≡ obstacle_to_new s.rows q = obstacle_mapped (as_seen links) (seen_retypes links) None s.rows [] (parent_of q) in
     rw (obstacle, value_same links s q free, number_same links s q free, same_limit links (own_fault v) (after_set_all (seen links s) q v) (after_set_all s q v) (set_all_leaves links s q v order free), same_row links s q free) refl
 
-pub set_all_same : (links : List Link) (s : Rows) (q : List (List ℕ)) (v : HeldValue) → LinksRise 1 links s.next → IsFree links s q → set_all_reply (seen links s) q v ≡ set_all_reply s q v
+pub set_all_same : (links : List Link) (s : Rows) (q : List (List ℕ)) (v : HeldValue) → LinksRise 1 links s.next → IsFreeOfLinks links s q → set_all_reply (seen links s) q v ≡ set_all_reply s q v
 set_all_same links s q v order free = write_same links s q v (tid_fault v.tid) order free
 
 -- look-ups
 
-pub get_same : (links : List Link) (s : Rows) (q : List (List ℕ)) → IsFree links s q → get_reply (seen links s) q ≡ get_reply s q
+pub get_same : (links : List Link) (s : Rows) (q : List (List ℕ)) → IsFreeOfLinks links s q → get_reply (seen links s) q ≡ get_reply s q
 get_same links s q free = ap value_reply (same_key links s q free)
 
 pub find_same : (links : List Link) (s : Rows) (q : List (List ℕ)) → find_reply (seen links s) q ≡ find_reply s q
@@ -215,7 +215,7 @@ pub right_created : (links : List Link) (s : Rows) (q : List (List ℕ)) (value 
     → LinksRise 1 links (created s q value).next × All (IsRight links) (created s q value).rows
 right_created links s q value order right = (order_longer 1 links s.next (created s q value).next order (omega arith), right_made links s q value order right)
 
-pub right_changed : (links : List Link) (s : Rows) (q : List (List ℕ)) (g : HeldValue → HeldValue) → IsFree links s q → All (IsRight links) s.rows → All (IsRight links) (change_at s.rows q g)
+pub right_changed : (links : List Link) (s : Rows) (q : List (List ℕ)) (g : HeldValue → HeldValue) → IsFreeOfLinks links s q → All (IsRight links) s.rows → All (IsRight links) (change_at s.rows q g)
 right_changed links s q g free right = all_changed (IsRight links) s.rows q g right (λ x there k. right_plain links (change_row g x) (no_link_at links x.number (free x there)))
 
 pub right_outside : (links : List Link) (s : Rows) (p : List (List ℕ)) → All (IsRight links) s.rows → All (IsRight links) (rows_outside s.rows p)

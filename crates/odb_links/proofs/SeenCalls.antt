@@ -28,7 +28,7 @@ use Rattle.odb_tree.proofs.Led.{unlinked, unmet, after_unlinked, taking, tight}
 use Rattle.odb_tree.proofs.Sound.{database_after, links_after}
 use Rattle.odb_links.specs.declared.links.Link.{Link}
 use Rattle.odb_links.specs.Seen.{seen, LinksRise, IsRight, AreLinks}
-use Rattle.odb_links.specs.Writing.{IsFree}
+use Rattle.odb_links.specs.Writing.{IsFreeOfLinks}
 use Rattle.odb_links.proofs.Replies.{free_after, IsNoLink, created_plain, create_same, set_leaves, set_same, resize_leaves, resize_same, set_all_leaves, set_all_same, get_same, find_same, list_same, below_same, right_created, right_changed}
 
 -- notes
@@ -144,7 +144,7 @@ set_seen links s p q index item reply h path sound e given = record {
   notes = notes_seen links (rows_after (seen links s) (Set p index item reply)) (rows_after s (Set q index item reply)) (sym (leaves reply)) reply index 1;
 }
   where
-    free : IsFree links s q
+    free : IsFreeOfLinks links s q
     free = free_after links s p q h e
 
     kept : (reply : Result ℕ OdbRefusal) → LinksRise 1 links (rows_after s (Set q index item reply)).next × All (IsRight links) (rows_after s (Set q index item reply)).rows
@@ -157,7 +157,7 @@ set_seen links s p q index item reply h path sound e given = record {
         ∙ (sym (set_leaves links s q index item free) ∙ ap (λ (r : Result (List (List ℕ)) OdbRefusal). led_to (seen links s) r (λ x. after_set (seen links s) x index item)) (sym e))
     leaves (Err why) = refl
 
-pub right_written : (links : List Link) (s : Rows) (q : List (List ℕ)) (v : HeldValue) (o : Option Row) → AreLinks links s → IsFree links s q
+pub right_written : (links : List Link) (s : Rows) (q : List (List ℕ)) (v : HeldValue) (o : Option Row) → AreLinks links s → IsFreeOfLinks links s q
     → LinksRise 1 links (after_set_all_at s q v o).next × All (IsRight links) (after_set_all_at s q v o).rows
 right_written links s q v None h free = right_created links s q (Some v) h.order h.right
 right_written links s q v (Some r) h free = (h.order, right_changed links s q (λ _. v) free h.right)
@@ -171,7 +171,7 @@ set_all_seen links s p q v reply h path sound e given = record {
   notes = notes_seen links (rows_after (seen links s) (SetAll p v reply)) (rows_after s (SetAll q v reply)) (sym (leaves reply)) reply 0 (length v.items);
 }
   where
-    free : IsFree links s q
+    free : IsFreeOfLinks links s q
     free = free_after links s p q h e
 
     kept : (reply : Result ℕ OdbRefusal) → LinksRise 1 links (rows_after s (SetAll q v reply)).next × All (IsRight links) (rows_after s (SetAll q v reply)).rows
@@ -193,7 +193,7 @@ resize_seen links s p q len reply h path e given = record {
   notes = notes_seen links (rows_after (seen links s) (Resize p len reply)) (rows_after s (Resize q len reply)) (sym (leaves reply)) reply (len - 1) 1;
 }
   where
-    free : IsFree links s q
+    free : IsFreeOfLinks links s q
     free = free_after links s p q h e
 
     kept : (reply : Result ℕ OdbRefusal) → LinksRise 1 links (rows_after s (Resize q len reply)).next × All (IsRight links) (rows_after s (Resize q len reply)).rows

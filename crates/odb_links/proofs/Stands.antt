@@ -8,7 +8,7 @@ use Rattle.odb_links.specs.declared.links.Link.{Link}
 use Rattle.odb_links.specs.Seen.{is_linked, AreLinks}
 use Rattle.odb_links.specs.declared.making.Standing.{Standing}
 use Rattle.odb_links.specs.declared.making.Standing.TheVariants.{Nothing, Linked, Other}
-use Rattle.odb_links.specs.Writing.{RowAt, StandsThere, IsFree, IsForLinks}
+use Rattle.odb_links.specs.Writing.{RowAt, StandsThere, IsFreeOfLinks, IsForLinks}
 use Rattle.odb_tree.specs.Trees.{IsTree}
 use Rattle.odb_links.proofs.Above.{found_there, root_free}
 use Rattle.odb_links.proofs.Marked.{unlinked_below, not_linked}
@@ -37,7 +37,7 @@ stands_other links s (name ∷ names) n e is = inr (row_found links s (name ∷ 
 
 -- what follows of what stands there
 
-pub free_there : (links : List Link) (s : Rows) (p : List (List ℕ)) (x : Standing) → IsTree s → StandsThere links s p x → (x ≡ Nothing) ⊎ (x ≡ Other) → IsFree links s p
+pub free_there : (links : List Link) (s : Rows) (p : List (List ℕ)) (x : Standing) → IsTree s → StandsThere links s p x → (x ≡ Nothing) ⊎ (x ≡ Other) → IsFreeOfLinks links s p
 free_there links s p Nothing tree h is = λ r there. let k : None ≡ Some r = sym h.1 ∙ there in absurd (cc)
 free_there links s p Linked tree h (inl e) = absurd (cc)
 free_there links s p Linked tree h (inr e) = absurd (cc)
@@ -62,5 +62,5 @@ some_there links s p Linked h is = inr (h.row, h.there)
 some_there links s p Other (inl root) is = inl root
 some_there links s p Other (inr at) is = inr (at.row, at.there)
 
-pub free_without : (links : List Link) (s : Rows) (p : List (List ℕ)) → links ≡ [] → IsFree links s p
+pub free_without : (links : List Link) (s : Rows) (p : List (List ℕ)) → links ≡ [] → IsFreeOfLinks links s p
 free_without links s p e = λ r there. ap (λ (l : List Link). is_linked l r.number) e

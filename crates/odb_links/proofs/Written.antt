@@ -46,7 +46,7 @@ use Rattle.odb_tree.proofs.Led.{no_link_row, value_no_link, tight}
 use Rattle.odb_tree.proofs.Sound.{database_put}
 use Rattle.odb_links.specs.declared.links.Link.{Link}
 use Rattle.odb_links.specs.Seen.{link_numbered, is_linked, typed, as_seen, seen, IsRight, AreLinks}
-use Rattle.odb_links.specs.Writing.{RowAt, IsFree, as_size, text_held, IsTextTo}
+use Rattle.odb_links.specs.Writing.{RowAt, IsFreeOfLinks, as_size, text_held, IsTextTo}
 use Rattle.odb_links.proofs.Retyped.{row_mapped, obstacle_mapped, exists_mapped, seek_mapped, sought}
 use Rattle.odb_links.proofs.Above.{nothing_before, root_free}
 use Rattle.odb_links.proofs.Marked.{seen_retypes, seen_plain, seen_linked, right_at}
@@ -292,7 +292,7 @@ link_refuses links s (name ∷ names) v h at value =
     refused_as o v k th rest n eo ev ek et = rw (eo, ev, ek, et) refl
 
 -- any other value is written as below
-pub plain_same : (links : List Link) (s : Rows) (p : List (List ℕ)) (v : HeldValue) → AreLinks links s → IsFree links s p → IsValue v → put_reply (seen links s) p v ≡ put_reply s p v
+pub plain_same : (links : List Link) (s : Rows) (p : List (List ℕ)) (v : HeldValue) → AreLinks links s → IsFreeOfLinks links s p → IsValue v → put_reply (seen links s) p v ≡ put_reply s p v
 plain_same links s p v h free value =
     let kept = kept_type v.tid (is_kept-value v value) in
     write_same links s p v (link_fault true v.tid) h.order free
@@ -305,7 +305,7 @@ pub record IsPut (links : List Link) (s : Rows) (p : List (List ℕ)) (v : HeldV
   pub after : seen links (after_put s p v reply) ≡ after_put (seen links s) p v reply
   pub notes : (ws : List (Option Watch)) → all_noted (changes_of_put s p v reply) ws ≡ all_noted (changes_of_put (seen links s) p v reply) ws
 
-pub plain_put : (links : List Link) (s : Rows) (p : List (List ℕ)) (v : HeldValue) (reply : Result ℕ OdbRefusal) → AreLinks links s → IsFree links s p → IsValue v → IsPath p → GivesTaking (is_link_type v.tid) reply (put_reply s p v) → IsPut links s p v reply
+pub plain_put : (links : List Link) (s : Rows) (p : List (List ℕ)) (v : HeldValue) (reply : Result ℕ OdbRefusal) → AreLinks links s → IsFreeOfLinks links s p → IsValue v → IsPath p → GivesTaking (is_link_type v.tid) reply (put_reply s p v) → IsPut links s p v reply
 plain_put links s p v reply h free value path given = record {
   reply_is = subst (Gives reply) (sym (plain_same links s p v h free value)) strict;
   links_kept = kept reply strict;

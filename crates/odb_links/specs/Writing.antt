@@ -28,13 +28,13 @@ StandsThere links s p Linked = RowAt links s p true
 StandsThere links s p Other = (p ≡ []) ⊎ RowAt links s p false
 
 -- nothing that stands at the path is a link
-abbrev pub IsFree : List Link → Rows → List (List ℕ) → Type 0
-IsFree links s p = (r : Row) → row_at s.rows p ≡ Some r → is_linked links r.number ≡ false
+abbrev pub IsFreeOfLinks : List Link → Rows → List (List ℕ) → Type 0
+IsFreeOfLinks links s p = (r : Row) → row_at s.rows p ≡ Some r → is_linked links r.number ≡ false
 
 -- whether a link stands at the path
 abbrev pub IsLinkAt : List Link → Rows → List (List ℕ) → Bool → Type 0
 IsLinkAt links s p true = RowAt links s p true
-IsLinkAt links s p false = IsFree links s p
+IsLinkAt links s p false = IsFreeOfLinks links s p
 
 -- nothing stands at the path, or a link
 abbrev pub IsForLinks : List Link → Rows → List (List ℕ) → Type 0

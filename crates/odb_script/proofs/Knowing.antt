@@ -3,7 +3,7 @@ use Rattle.std.specs.Prelude.{◌≡◌, ℕ, List, [], ◌++◌, Some, refl}
 use Rattle.std.proofs.Common.{sym}
 use Rattle.std.proofs.lemmas.List.{append-nil}
 use Rattle.daq_io.specs.Told.{SourceTold}
-use Rattle.odb_script.specs.Lines.{Gives, Reading, ReadsLast, ReadsLine, ReadsNone, ReadsPart, ReadsTooMuch, Takes}
+use Rattle.odb_script.specs.Lines.{SourceGives, Reading, ReadsLast, ReadsLine, ReadsNone, ReadsPart, ReadsTooMuch, Takes}
 use Rattle.odb_script.specs.ReadLines.{HasReadLines}
 
 -- the source, as one that tells that this is left

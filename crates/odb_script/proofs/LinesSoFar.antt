@@ -7,7 +7,7 @@ use Rattle.std.proofs.Math.Logic.{⊎_elim}
 use Rattle.std.specs.Str.Lines.{strip_carriage_return}
 use Rattle.std.specs.Io.KnownBytes.{Consumes, IsAtEnd, Keeps}
 use Rattle.daq_io.specs.Told.{SourceTold}
-use Rattle.odb_script.specs.Lines.{Gives, Reading, Takes, ReadsLine, ReadsLast, ReadsNone, ReadsTooMuch, ReadsPart, script_limit}
+use Rattle.odb_script.specs.Lines.{SourceGives, Reading, Takes, ReadsLine, ReadsLast, ReadsNone, ReadsTooMuch, ReadsPart, script_limit}
 use Rattle.odb_script.specs.Advances.{Refills, Scans}
 
 -- a part of the line was passed, and no end
@@ -36,23 +36,23 @@ Consumes-kept (Some x) (Some y) (Some z) xs p q = p ∙ ap (λ rest. xs ++ rest)
 
 -- The same of the bytes that a source gave.
 
-pub Gives-nil : (a : SourceTold) → Gives a a []
-Gives-nil a = record { gave = sym (append-nil a.gave); consumed = Consumes-nil a.left }
+pub SourceGives-nil : (a : SourceTold) → SourceGives a a []
+SourceGives-nil a = record { gave = sym (append-nil a.gave); consumed = Consumes-nil a.left }
 
-pub Gives-trans : (a b c : SourceTold) (xs ys : List ℕ) → Gives a b xs → Gives b c ys → Gives a c (xs ++ ys)
-Gives-trans a b c xs ys p q = record {
+pub SourceGives-trans : (a b c : SourceTold) (xs ys : List ℕ) → SourceGives a b xs → SourceGives b c ys → SourceGives a c (xs ++ ys)
+SourceGives-trans a b c xs ys p q = record {
   gave = q.gave ∙ ap (λ (l : List ℕ). l ++ ys) p.gave ∙ append_assoc a.gave xs ys;
   consumed = Consumes-trans a.left b.left c.left xs ys p.consumed q.consumed;
 }
 
-Gives-kept : (a b c : SourceTold) (xs : List ℕ) → Gives a b xs → Keeps b.left c.left → c.gave ≡ b.gave → Gives a c xs
-Gives-kept a b c xs p kept same = record { gave = same ∙ p.gave; consumed = Consumes-kept a.left b.left c.left xs p.consumed kept }
+SourceGives-kept : (a b c : SourceTold) (xs : List ℕ) → SourceGives a b xs → Keeps b.left c.left → c.gave ≡ b.gave → SourceGives a c xs
+SourceGives-kept a b c xs p kept same = record { gave = same ∙ p.gave; consumed = Consumes-kept a.left b.left c.left xs p.consumed kept }
 
 -- nothing was passed yet
 pub so_far_first : (old now : Reading) (before : SourceTold) → now.pending ≡ old.pending → now.line ≡ [] → now.taken ≡ old.taken → old.taken ≤ script_limit → SoFar old now before before
 so_far_first old now before p l t w = record {
   part = [];
-  takes = record { more = []; gives = Gives-nil before; bytes = append-nil old.pending ∙ sym p; plain = All-nil (λ b. b ≢ 10) };
+  takes = record { more = []; gives = SourceGives-nil before; bytes = append-nil old.pending ∙ sym p; plain = All-nil (λ b. b ≢ 10) };
   line = l;
   taken = omega (arith, t);
   within = omega (arith, t, w);
@@ -64,7 +64,7 @@ so_far_refilled old now new before mid after s f = record {
   part = s.part;
   takes = record {
     more = s.takes.more ++ f.more;
-    gives = Gives-trans before mid after s.takes.more f.more s.takes.gives f.gives;
+    gives = SourceGives-trans before mid after s.takes.more f.more s.takes.gives f.gives;
     bytes = sym (append_assoc old.pending s.takes.more f.more) ∙ ap (λ xs. xs ++ f.more) s.takes.bytes
         ∙ append_assoc s.part now.pending f.more ∙ ap (λ xs. s.part ++ xs) f.pending;
     plain = s.takes.plain;
@@ -170,7 +170,7 @@ reads_part old now new before mid after s same p kept gave = record {
   part = s.part;
   takes = record {
     more = s.takes.more;
-    gives = Gives-kept before mid after s.takes.more s.takes.gives kept gave;
+    gives = SourceGives-kept before mid after s.takes.more s.takes.gives kept gave;
     bytes = s.takes.bytes ∙ ap (λ (r : Reading). s.part ++ r.pending) (sym same);
     plain = s.takes.plain;
   };

@@ -8,8 +8,8 @@ use Rattle.std.proofs.Math.Logic.{⊎_elim}
 use Rattle.std.specs.Str.Lines.{strip_carriage_return}
 use Rattle.std.specs.Io.KnownBytes.{Consumes, IsAtEnd}
 use Rattle.daq_io.specs.Told.{SourceTold}
-use Rattle.odb_script.proofs.LinesSoFar.{Gives-nil, Gives-trans}
-use Rattle.odb_script.specs.Lines.{Gives, Reading, no_line_read, ended_lines, behind_lines, whole_lines, last_line, script_lines, lines_of, script_limit, ReadsLine, ReadsLast, ReadsNone, ReadsTooMuch, ReadsPart}
+use Rattle.odb_script.proofs.LinesSoFar.{SourceGives-nil, SourceGives-trans}
+use Rattle.odb_script.specs.Lines.{SourceGives, Reading, no_line_read, ended_lines, behind_lines, whole_lines, last_line, script_lines, lines_of, script_limit, ReadsLine, ReadsLast, ReadsNone, ReadsTooMuch, ReadsPart}
 use Rattle.odb_script.specs.ReadLines.{AreGivenLines, AreWholeLines, HasReadLines}
 
 -- Lines of texts behind one another.
@@ -72,18 +72,18 @@ AreWholeLines-line done part h =
 
 -- nothing yet
 pub has_read_none : (first : SourceTold) → HasReadLines first first no_line_read []
-has_read_none first = record { done = []; gives = Gives-nil first; whole = refl; lines = refl; taken = refl; within = omega arith }
+has_read_none first = record { done = []; gives = SourceGives-nil first; whole = refl; lines = refl; taken = refl; within = omega arith }
 
 -- what a source gave of what was passed and of what is pending
-passed : (first now after : SourceTold) (done pending more part rest : List ℕ) → Gives first now (done ++ pending) → Gives now after more
-    → pending ++ more ≡ part ++ rest → Gives first after ((done ++ part) ++ rest)
+passed : (first now after : SourceTold) (done pending more part rest : List ℕ) → SourceGives first now (done ++ pending) → SourceGives now after more
+    → pending ++ more ≡ part ++ rest → SourceGives first after ((done ++ part) ++ rest)
 passed first now after done pending more part rest p q e =
-    subst (λ (bytes : List ℕ). Gives first after bytes)
+    subst (λ (bytes : List ℕ). SourceGives first after bytes)
     (append_assoc done pending more ∙ ap (λ ys. done ++ ys) e ∙ sym (append_assoc done part rest))
-    (Gives-trans first now after (done ++ pending) more p q)
+    (SourceGives-trans first now after (done ++ pending) more p q)
 
 -- it told that they were the first of those left
-of_text : (text : List ℕ) (first after : SourceTold) (bytes : List ℕ) → first.left ≡ Some text → Gives first after bytes → Consumes (Some text) after.left bytes
+of_text : (text : List ℕ) (first after : SourceTold) (bytes : List ℕ) → first.left ≡ Some text → SourceGives first after bytes → Consumes (Some text) after.left bytes
 of_text text first after bytes told p = subst (λ (left : Option (List ℕ)). Consumes left after.left bytes) told p.consumed
 
 regrouped : (done part rest : List ℕ) → (done ++ part) ++ 10 ∷ rest ≡ (done ++ (part ++ 10 ∷ [])) ++ rest
@@ -94,7 +94,7 @@ pub has_read_line : (first now after : SourceTold) (old new : Reading) (lines : 
     → HasReadLines first now old lines → ReadsLine old new now after line → HasReadLines first after new (lines ++ line ∷ [])
 has_read_line first now after old new lines line h r = record {
   done = h.done ++ (r.part ++ 10 ∷ []);
-  gives = subst (λ (bytes : List ℕ). Gives first after bytes) (regrouped h.done r.part new.pending)
+  gives = subst (λ (bytes : List ℕ). SourceGives first after bytes) (regrouped h.done r.part new.pending)
       (passed first now after h.done old.pending r.takes.more r.part (10 ∷ new.pending) h.gives r.takes.gives r.takes.bytes);
   whole = AreWholeLines-line h.done r.part h.whole;
   lines = ap (λ ls. ls ++ line ∷ []) h.lines ∙ ap (λ l. whole_lines h.done ++ l ∷ []) r.stripped ∙ sym (whole_lines-line h.done r.part h.whole r.takes.plain);
@@ -115,7 +115,7 @@ pub lines_at_end : (text : List ℕ) (first now after : SourceTold) (old new : R
     → first.left ≡ Some text → HasReadLines first now old lines → ReadsNone old new now after → lines ≡ lines_of text
 lines_at_end text first now after old new lines told h r =
     let is_text : text ≡ h.done = text_is text h.done [] after.left
-    (of_text text first after (h.done ++ []) told (subst (λ (bytes : List ℕ). Gives first after (bytes ++ [])) (append-nil h.done) (passed first now after h.done old.pending r.takes.more [] [] h.gives r.takes.gives r.takes.bytes))) r.at_end refl in
+    (of_text text first after (h.done ++ []) told (subst (λ (bytes : List ℕ). SourceGives first after (bytes ++ [])) (append-nil h.done) (passed first now after h.done old.pending r.takes.more [] [] h.gives r.takes.gives r.takes.bytes))) r.at_end refl in
     let whole : script_lines h.done ≡ whole_lines h.done = ap (λ l. whole_lines h.done ++ last_line l) h.whole ∙ append-nil (whole_lines h.done) in
     h.lines ∙ sym whole ∙ sym (lines_within h.done h.within) ∙ ap lines_of (sym is_text)
 
@@ -191,7 +191,7 @@ pub text_within_end : (text : List ℕ) (first now after : SourceTold) (old new 
     → first.left ≡ Some text → HasReadLines first now old lines → ReadsNone old new now after → length text ≤ script_limit
 text_within_end text first now after old new lines told h r =
     let is_text : text ≡ h.done = text_is text h.done [] after.left
-    (of_text text first after (h.done ++ []) told (subst (λ (bytes : List ℕ). Gives first after (bytes ++ [])) (append-nil h.done) (passed first now after h.done old.pending r.takes.more [] [] h.gives r.takes.gives r.takes.bytes))) r.at_end refl in
+    (of_text text first after (h.done ++ []) told (subst (λ (bytes : List ℕ). SourceGives first after (bytes ++ [])) (append-nil h.done) (passed first now after h.done old.pending r.takes.more [] [] h.gives r.takes.gives r.takes.bytes))) r.at_end refl in
     omega (arith, ap (length {A = ℕ}) is_text, h.within)
 
 pub text_within_last : (text : List ℕ) (first now after : SourceTold) (old new : Reading) (lines : List (List ℕ)) (line : List ℕ)
@@ -210,7 +210,7 @@ pub lines_at_fault : (text : List ℕ) (first now after : SourceTold) (old new :
     → first.left ≡ Some text → HasReadLines first now old lines → ReadsPart old new now after → AreGivenLines text after.left lines
 lines_at_fault text first now after old new lines told h r =
     let consumed : Consumes (Some text) after.left (h.done ++ r.part) = of_text text first after (h.done ++ r.part) told
-    (subst (λ (bytes : List ℕ). Gives first after bytes) (ap (λ rest. (h.done ++ r.part) ++ rest) r.none_pending ∙ append-nil (h.done ++ r.part))
+    (subst (λ (bytes : List ℕ). SourceGives first after bytes) (ap (λ rest. (h.done ++ r.part) ++ rest) r.none_pending ∙ append-nil (h.done ++ r.part))
     (passed first now after h.done old.pending r.takes.more r.part new.pending h.gives r.takes.gives r.takes.bytes)) in
     given_lines text (h.done ++ r.part) after.left lines consumed (h.lines ∙ sym (whole_lines-plain h.done r.part h.whole r.takes.plain))
     (omega (arith, length-append h.done r.part, h.taken, r.taken, r.within))

@@ -16,7 +16,7 @@ use Rattle.odb_script.specs.declared.commands.RunCommand.TheVariants.{Events, St
 use Rattle.odb_script.specs.declared.commands.DatabaseCommand.TheVariants.{Rows, Watches}
 use Rattle.odb_script.specs.declared.commands.RowCommand.TheVariants.{Create, CreateDir, Link, Set, Get, List as Ls, Remove}
 use Rattle.odb_script.specs.declared.commands.WatchCommand.TheVariants.{Load, Save, Watch, Notes, Unwatch}
-use Rattle.odb_script.specs.Forms.{Read, ◌>>=◌, next_text, words_behind, line_end, next_number, next_kind, last_number, on_rows, on_watches, only, with_text, with_number, buffer_form, equip_end, equip_form, channel_end, channel_form, analyzer_end, analyzer_form, value_form, create_form, link_form, set_end, set_form, get_form, watching_form, key_form, declaring_form, named_form, words_form, command_of}
+use Rattle.odb_script.specs.Forms.{Read, ◌>>=◌, next_text, words_behind, line_end, next_number, next_kind, number_at_end, on_rows, on_watches, only, with_text, with_number, buffer_form, equip_end, equip_form, channel_end, channel_form, analyzer_end, analyzer_form, value_form, create_form, link_form, set_end, set_form, get_form, watching_form, key_form, declaring_form, named_form, words_form, command_of}
 use Rattle.odb_script.specs.Spelled.{texts_of, Spells, Spelled}
 use Rattle.odb_script.proofs.TableLaws.{number_cases, type_cases, kind_cases, text_cases, no_directory_type}
 
@@ -75,7 +75,7 @@ given front make n (faulty at) h = tt
 
 maybe_number_ends : (front : List (List ℕ)) (make : Option ℕ → Command) → Spells front (make None)
     → ((text : List ℕ) (n : ℕ) → whole_number most_number text ≡ Some n → Spells (front ++ text ∷ []) (make (Some n)))
-    → (ws : LineWords) → Reads front ws (last_number ws >>= (λ n. Ok (make n)))
+    → (ws : LineWords) → Reads front ws (number_at_end ws >>= (λ n. Ok (make n)))
 maybe_number_ends front make none some (word at text ws) = number_cases most_number text
     (λ e. rw e tt)
     (λ n e. rw e (step front at text ws ((line_end ws >>= (λ end. Ok (Some n))) >>= (λ found. Ok (make found))) (given (front ++ text ∷ []) make n ws (some text n e))))
@@ -84,9 +84,9 @@ maybe_number_ends front make none some (faulty at) = tt
 
 text_number_ends : (front : List (List ℕ)) (make : List ℕ → Option ℕ → Command) → ((text : List ℕ) → Spells (front ++ text ∷ []) (make text None))
     → ((text number : List ℕ) (n : ℕ) → whole_number most_number number ≡ Some n → Spells ((front ++ text ∷ []) ++ number ∷ []) (make text (Some n)))
-    → (ws : LineWords) → Reads front ws (next_text ws >>= (λ text. last_number (words_behind ws) >>= (λ n. Ok (make text n))))
+    → (ws : LineWords) → Reads front ws (next_text ws >>= (λ text. number_at_end (words_behind ws) >>= (λ n. Ok (make text n))))
 text_number_ends front make none some ws =
-    text_goes_on front (λ text behind. last_number behind >>= (λ n. Ok (make text n))) (λ text. maybe_number_ends (front ++ text ∷ []) (make text) (none text) (some text)) ws
+    text_goes_on front (λ text behind. number_at_end behind >>= (λ n. Ok (make text n))) (λ text. maybe_number_ends (front ++ text ∷ []) (make text) (none text) (some text)) ws
 
 buffer : (ws : LineWords) → Reads (codes "buffer" ∷ []) ws (buffer_form ws)
 buffer ws =
@@ -113,9 +113,9 @@ channel ws =
     (λ pattern behind. next_text behind >>= (λ into. channel_end number pattern into (words_behind behind)))
     (λ pattern. text_goes_on (codes "channel" ∷ t ∷ pattern ∷ []) (channel_end number pattern)
     (λ into. number_goes_on (codes "channel" ∷ t ∷ pattern ∷ into ∷ []) most_small
-    (λ id behind. next_number most_small behind >>= (λ mask. last_number (words_behind behind) >>= (λ limit. Ok (Declare (Channel number pattern into id mask (unwrap_or limit 0))))))
+    (λ id behind. next_number most_small behind >>= (λ mask. number_at_end (words_behind behind) >>= (λ limit. Ok (Declare (Channel number pattern into id mask (unwrap_or limit 0))))))
     (λ i id is_id. number_goes_on (codes "channel" ∷ t ∷ pattern ∷ into ∷ i ∷ []) most_small
-    (λ mask behind. last_number behind >>= (λ limit. Ok (Declare (Channel number pattern into id mask (unwrap_or limit 0)))))
+    (λ mask behind. number_at_end behind >>= (λ limit. Ok (Declare (Channel number pattern into id mask (unwrap_or limit 0)))))
     (λ m mask is_mask. maybe_number_ends (codes "channel" ∷ t ∷ pattern ∷ into ∷ i ∷ m ∷ []) (λ limit. Declare (Channel number pattern into id mask (unwrap_or limit 0)))
     (t, i, m, is_number, is_id, is_mask, inl (refl, refl))
     (λ text n is_limit. (t, i, m, is_number, is_id, is_mask, inr (text, refl, is_limit))))))))

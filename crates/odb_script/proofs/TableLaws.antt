@@ -18,7 +18,7 @@ use Rattle.odb_script.specs.declared.commands.RunCommand.TheVariants.{Events, St
 use Rattle.odb_script.specs.declared.commands.RowCommand.TheVariants.{Create, CreateDir, Link, Set, Get, List as Ls, Remove}
 use Rattle.odb_script.specs.declared.commands.WatchCommand.TheVariants.{Load, Save, Watch, Notes, Unwatch}
 use Rattle.odb_script.specs.declared.refusals.LineRefusal.TheVariants.{BadCommand}
-use Rattle.odb_script.specs.Forms.{Read, ◌>>=◌, next_text, words_behind, next_number, next_kind, last_number, on_rows, on_watches, only, with_text, with_number, buffer_form, equip_end, equip_form, channel_end, channel_form, analyzer_end, analyzer_form, create_form, link_form, set_end, set_form, watching_form, key_form, declaring_form, named_form, words_form, command_of}
+use Rattle.odb_script.specs.Forms.{Read, ◌>>=◌, next_text, words_behind, next_number, next_kind, number_at_end, on_rows, on_watches, only, with_text, with_number, buffer_form, equip_end, equip_form, channel_end, channel_form, analyzer_end, analyzer_form, create_form, link_form, set_end, set_form, watching_form, key_form, declaring_form, named_form, words_form, command_of}
 use Rattle.odb_script.specs.FormTable.{Piece, exactly, any_text, number_to, a_number, a_small_number, a_type, fits, LineForm, forms, forms_going_on, form_ended, first_misfit, place_of}
 
 -- What is known of a text: whether it is a number, the name of a type, or one text alone.
@@ -63,7 +63,7 @@ number_ends make (ended at) = refl
 number_ends make (faulty at) = refl
 
 -- a number that may be left out
-maybe_number_ends : (make : Option ℕ → Command) (ws : LineWords) → place_of (last_number ws >>= (λ n. Ok (make n))) ≡ first_misfit ([] ∷ (a_number ∷ []) ∷ []) ws
+maybe_number_ends : (make : Option ℕ → Command) (ws : LineWords) → place_of (number_at_end ws >>= (λ n. Ok (make n))) ≡ first_misfit ([] ∷ (a_number ∷ []) ∷ []) ws
 maybe_number_ends make (word at text (word next other ws)) = number_cases most_number text (λ e. rw e refl) (λ n e. rw e refl)
 maybe_number_ends make (word at text (ended next)) = number_cases most_number text (λ e. rw e refl) (λ n e. rw e refl)
 maybe_number_ends make (word at text (faulty next)) = number_cases most_number text (λ e. rw e refl) (λ n e. rw e refl)
@@ -103,8 +103,8 @@ number_goes_on most f fs go_on h (faulty at) = refl
 
 -- a text, and a number that may be left out
 text_number_ends : (make : List ℕ → Option ℕ → Command) (ws : LineWords)
-    → place_of (next_text ws >>= (λ text. last_number (words_behind ws) >>= (λ n. Ok (make text n)))) ≡ first_misfit ((any_text ∷ []) ∷ (any_text ∷ a_number ∷ []) ∷ []) ws
-text_number_ends make ws = text_goes_on [] ((a_number ∷ []) ∷ []) (λ text rest. last_number rest >>= (λ n. Ok (make text n))) (λ text. maybe_number_ends (make text)) ws
+    → place_of (next_text ws >>= (λ text. number_at_end (words_behind ws) >>= (λ n. Ok (make text n)))) ≡ first_misfit ((any_text ∷ []) ∷ (any_text ∷ a_number ∷ []) ∷ []) ws
+text_number_ends make ws = text_goes_on [] ((a_number ∷ []) ∷ []) (λ text rest. number_at_end rest >>= (λ n. Ok (make text n))) (λ text. maybe_number_ends (make text)) ws
 
 -- The forms behind their names.
 
@@ -126,9 +126,9 @@ channel_back : (number : ℕ) (pattern into : List ℕ) (ws : LineWords) → pla
     ≡ first_misfit ((a_small_number ∷ a_small_number ∷ []) ∷ (a_small_number ∷ a_small_number ∷ a_number ∷ []) ∷ []) ws
 channel_back number pattern into ws =
     number_goes_on most_small (a_small_number ∷ []) ((a_small_number ∷ a_number ∷ []) ∷ [])
-    (λ id behind. next_number most_small behind >>= (λ mask. last_number (words_behind behind) >>= (λ limit. Ok (Declare (Channel number pattern into id mask (unwrap_or limit 0))))))
+    (λ id behind. next_number most_small behind >>= (λ mask. number_at_end (words_behind behind) >>= (λ limit. Ok (Declare (Channel number pattern into id mask (unwrap_or limit 0))))))
     (λ id. number_goes_on most_small [] ((a_number ∷ []) ∷ [])
-    (λ mask behind. last_number behind >>= (λ limit. Ok (Declare (Channel number pattern into id mask (unwrap_or limit 0)))))
+    (λ mask behind. number_at_end behind >>= (λ limit. Ok (Declare (Channel number pattern into id mask (unwrap_or limit 0)))))
     (λ mask. maybe_number_ends (λ limit. Declare (Channel number pattern into id mask (unwrap_or limit 0)))))
     ws
 

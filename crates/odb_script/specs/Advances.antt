@@ -3,7 +3,7 @@ use Rattle.std.specs.Prelude.{◌≡◌, ◌≢◌, ℕ, ◌+◌, ◌<◌, ◌�
 use Rattle.std.specs.Io.KnownBytes.{IsAtEnd}
 use Rattle.daq_io.specs.Counts.{Rose}
 use Rattle.daq_io.specs.Told.{SourceTold}
-use Rattle.odb_script.specs.Lines.{Gives, Reading, ReadsLine, ReadsLast, ReadsNone, ReadsTooMuch, ReadsPart, script_limit}
+use Rattle.odb_script.specs.Lines.{SourceGives, Reading, ReadsLine, ReadsLast, ReadsNone, ReadsTooMuch, ReadsPart, script_limit}
 use Rattle.odb_script.specs.declared.reading.NextLine.{NextLine}
 use Rattle.odb_script.specs.declared.reading.NextLine.TheVariants.{Line, Last, End, TooLong, Fault}
 
@@ -25,7 +25,7 @@ IsFaultBy Fault old new = Rose old new
 
 -- bytes were taken from the source where none were pending; no byte only at its end
 pub record IsFilledAgain (old new : Reading) (before after : SourceTold) (count : ℕ) : Type 0 where
-  pub gives : Gives before after new.pending
+  pub gives : SourceGives before after new.pending
   pub counted : length new.pending ≡ count
   pub ended : count ≡ 0 → IsAtEnd after.left
   pub line : new.line ≡ old.line
@@ -34,7 +34,7 @@ pub record IsFilledAgain (old new : Reading) (before after : SourceTold) (count 
 -- bytes are pending, behind those that were, or none are and the source is at its end
 pub record Refills (old new : Reading) (before after : SourceTold) : Type 0 where
   pub more : List ℕ
-  pub gives : Gives before after more
+  pub gives : SourceGives before after more
   pub pending : old.pending ++ more ≡ new.pending
   pub line : new.line ≡ old.line
   pub taken : new.taken ≡ old.taken

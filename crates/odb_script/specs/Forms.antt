@@ -69,13 +69,13 @@ next_kind (ended at) = Err (BadCommand at)
 next_kind (faulty at) = Err (BadCommand at)
 
 -- a number at the line's end, which may be left out
-abbrev pub last_number : LineWords → Read (Option ℕ)
-last_number (word at text ws) = do
+abbrev pub number_at_end : LineWords → Read (Option ℕ)
+number_at_end (word at text ws) = do
   n ← read_number_at at (whole_number most_number text)
   _ ← line_end ws
   Ok (Some n)
-last_number (ended at) = Ok None
-last_number (faulty at) = Err (BadCommand at)
+number_at_end (ended at) = Ok None
+number_at_end (faulty at) = Err (BadCommand at)
 
 -- the text of the last word
 abbrev pub only_text : LineWords → Read (List ℕ)
@@ -127,7 +127,7 @@ buffer_form ws = do
 abbrev pub equip_end : (name : List ℕ) (id mask : ℕ) → LineWords → Read Command
 equip_end name id mask ws = do
   buffer ← next_text ws
-  limit ← last_number (words_behind ws)
+  limit ← number_at_end (words_behind ws)
   Ok (Declare (Equip name id mask buffer (unwrap_or limit most_number)))
 
 -- `equip NAME ID MASK BUFFER [LIMIT]`
@@ -143,7 +143,7 @@ abbrev pub channel_end : (number : ℕ) (pattern buffer : List ℕ) → LineWord
 channel_end number pattern buffer ws = do
   id ← next_number most_small ws
   mask ← next_number most_small (words_behind ws)
-  sub_bytes ← last_number (words_behind (words_behind ws))
+  sub_bytes ← number_at_end (words_behind (words_behind ws))
   Ok (Declare (Channel number pattern buffer id mask (unwrap_or sub_bytes 0)))
 
 -- `channel N PATTERN BUFFER ID MASK [SUBBYTES]`
@@ -178,7 +178,7 @@ abbrev pub value_form : ℕ → Option Tid → LineWords → Read Command
 value_form at None ws = Err (BadCommand at)
 value_form at (Some tid) ws = do
   path ← next_text ws
-  len ← last_number (words_behind ws)
+  len ← number_at_end (words_behind ws)
   Ok (on_rows (Create tid path (unwrap_or len 1)))
 
 abbrev pub create_form : LineWords → Read Command
@@ -211,7 +211,7 @@ set_form ws = do
 abbrev pub get_form : LineWords → Read Command
 get_form ws = do
   path ← next_text ws
-  index ← last_number (words_behind ws)
+  index ← number_at_end (words_behind ws)
   Ok (on_rows (Get path index))
 
 -- The form that begins with a name, which stands at a place, with what is behind it.

@@ -55,14 +55,14 @@ abbrev pub no_line_read : Reading
 no_line_read = record { line = []; pending = []; taken = 0 }
 
 -- The source gave these bytes: behind all that it gave before; and they were the first of those left, where it tells these.
-pub record Gives (before after : SourceTold) (bytes : List ℕ) : Type 0 where
+pub record SourceGives (before after : SourceTold) (bytes : List ℕ) : Type 0 where
   pub gave : after.gave ≡ before.gave ++ bytes
   pub consumed : Consumes before.left after.left bytes
 
 -- Some bytes are taken from the source, and those that are there then begin with a part of a line.
 pub record Takes (old : Reading) (before after : SourceTold) (part rest : List ℕ) : Type 0 where
   pub more : List ℕ
-  pub gives : Gives before after more
+  pub gives : SourceGives before after more
   pub bytes : old.pending ++ more ≡ part ++ rest
   pub plain : All (λ b. b ≢ 10) part
 

@@ -1,7 +1,7 @@
 -- What a reader of lines has given, line by line, is the lines of the text.
 use Rattle.std.specs.Prelude.{◌≡◌, ℕ, ◌≤◌, List, [], ◌++◌, length, Option, Some}
 use Rattle.daq_io.specs.Told.{SourceTold}
-use Rattle.odb_script.specs.Lines.{Gives, Reading, behind_lines, whole_lines, script_limit}
+use Rattle.odb_script.specs.Lines.{SourceGives, Reading, behind_lines, whole_lines, script_limit}
 
 -- a text of whole lines alone
 abbrev pub AreWholeLines : List ℕ → Type 0
@@ -10,7 +10,7 @@ AreWholeLines text = behind_lines [] text ≡ []
 -- These lines were read, one at a time, from the bytes that a source gave.
 pub record HasReadLines (first now : SourceTold) (reading : Reading) (given : List (List ℕ)) : Type 0 where
   pub done : List ℕ
-  pub gives : Gives first now (done ++ reading.pending)
+  pub gives : SourceGives first now (done ++ reading.pending)
   pub whole : AreWholeLines done
   pub lines : given ≡ whole_lines done
   pub taken : reading.taken ≡ length done

@@ -3,7 +3,7 @@ ghost use Rattle.std.specs.Prelude.{◌≡◌, ◌≤◌, IfOk, IfSome, OnOk};
 ghost use Rattle.daq_text.specs.Numbers.{whole_number};
 ghost use Rattle.odb_script.specs.Numbers.{most_small};
 ghost use Rattle.odb_script.specs.TypeNames.{is_text, type_named, kind_named};
-ghost use Rattle.odb_script.specs.Forms.{next_text, words_behind, line_end, read_number_at, next_number as number_next, read_kind_at, next_kind as kind_next, last_number as number_last, only_text as text_alone, only_number as number_alone};
+ghost use Rattle.odb_script.specs.Forms.{next_text, words_behind, line_end, read_number_at, next_number as number_next, read_kind_at, next_kind as kind_next, number_at_end as number_last, only_text as text_alone, only_number as number_alone};
 
 use crate::line_text::LineText;
 use crate::refusals::LineRefusal;

@@ -2,7 +2,7 @@
 ghost use Rattle.std.specs.Prelude.{◌≡◌, ◌≢◌, ◌++◌, ◌∷◌, [], ℕ, map, slice_get, IfOk, OnErr};
 ghost use Rattle.std.specs.Option.{unwrap_or};
 ghost use Rattle.mid_logger.specs.ChannelTurns.{logger_name};
-ghost use Rattle.session_lines.specs.RunLines.{record_fronts, record_files, record_reports, last_record, member_name, reply_for, report_line, tally_line};
+ghost use Rattle.session_lines.specs.RunLines.{record_fronts, record_files, record_reports, latest_record, member_name, reply_for, report_line, tally_line};
 
 use console::Reply;
 use daq_types::{BoundedList, Bytes, Name, NoMemory};
@@ -128,9 +128,9 @@ fn stop_reply(
     run: u32,
 ) -> Result<Reply, NoMemory>
     ensures { IfOk result (λ reply. reply ≡ Reply.Stopped run
-        (map (tally_line fronts.now analyzers.now) (record_fronts (last_record records.now)))
-        (record_files (last_record records.now))
-        (map (report_line fronts.now analyzers.now) (record_reports (last_record records.now)))) }
+        (map (tally_line fronts.now analyzers.now) (record_fronts (latest_record records.now)))
+        (record_files (latest_record records.now))
+        (map (report_line fronts.now analyzers.now) (record_reports (latest_record records.now)))) }
 {
     let Some(record) = records.last() else {
         let fronts = BoundedList::new(alloc)?;

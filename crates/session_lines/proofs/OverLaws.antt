@@ -14,7 +14,7 @@ use Rattle.member_crew.specs.Rounds.{HadRounds}
 use Rattle.session_runs.specs.declared.on.CurrentRun.{CurrentRun}
 use Rattle.session_runs.specs.declared.replies.RunReply.{RunReply}
 use Rattle.session_runs.specs.declared.replies.RunReply.TheVariants as answer
-use Rattle.session_runs.specs.RunAnswers.{AnswersPause, AnswersResume, AnswersStart, AnswersStop, BeginsRun, ChangesRun, CommandPoint, CutsBegin, CutsNumber, CutsStart, GotNumber, LacksNumber, MakesChange, MakesStart, MakesStop, StopsUnsaved}
+use Rattle.session_runs.specs.RunAnswers.{AnswersPause, AnswersResume, AnswersStart, AnswersStop, BeginsRun, PausesOrResumes, CommandPoint, CutsBegin, CutsNumber, CutsStart, GotNumber, LacksNumber, MakesChange, MakesStart, MakesStop, StopsUnsaved}
 use Rattle.session_lines.specs.declared.passed_over.PassedOver.{PassedOver}
 use Rattle.session_lines.specs.NothingSaid.{NothingSaid, nobody, own_point}
 

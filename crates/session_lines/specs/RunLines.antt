@@ -44,8 +44,8 @@ report_line fronts analyzers tally =
     record { start = member_name fronts analyzers tally.client ++ 32 ∷ []; report = tally.report }
 
 -- the last of some records, if there is any
-abbrev pub last_record : List RunRecord → Option RunRecord
-last_record records = slice_get records (length records - 1)
+abbrev pub latest_record : List RunRecord → Option RunRecord
+latest_record records = slice_get records (length records - 1)
 
 abbrev pub record_fronts : Option RunRecord → List FrontTally
 record_fronts None = []
@@ -69,8 +69,8 @@ reply_for runs (answer.Started run) = run_started run
 reply_for runs (answer.Paused run) = run_paused run
 reply_for runs (answer.Resumed run) = run_resumed run
 reply_for runs (answer.Stopped run) =
-    run_stopped run (map (tally_line runs.fronts runs.analyzers) (record_fronts (last_record runs.runs)))
-    (record_files (last_record runs.runs)) (map (report_line runs.fronts runs.analyzers) (record_reports (last_record runs.runs)))
+    run_stopped run (map (tally_line runs.fronts runs.analyzers) (record_fronts (latest_record runs.runs)))
+    (record_files (latest_record runs.runs)) (map (report_line runs.fronts runs.analyzers) (record_reports (latest_record runs.runs)))
 
 -- Commands of an open session, by the main thread's own calls. What its members did meanwhile is not said here.
 

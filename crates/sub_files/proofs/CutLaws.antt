@@ -5,14 +5,14 @@ use Rattle.std.proofs.lemmas.List.{append-nil}
 use Rattle.daq_types.specs.declared.events.Event.{Event}
 use Rattle.event.specs.Events.{encoding, all_encoded}
 use Rattle.event.proofs.Events.{all_encoded-append}
-use Rattle.sub_files.specs.Cuts.{last_number, joined, Fits, IsFull, MayBeLast, AreFull, IsCut, StaysIn, BeginsNext}
+use Rattle.sub_files.specs.Cuts.{last_number, events_of_pieces, FitsInFile, IsFull, MayBeLast, AreFull, IsCut, StaysIn, BeginsNext}
 
-joined-append : (ps qs : List (List Event)) → joined (ps ++ qs) ≡ joined ps ++ joined qs
-joined-append [] qs = refl
-joined-append (p ∷ ps) qs = ap (λ (es : List Event). p ++ es) (joined-append ps qs) ∙ sym (append_assoc p (joined ps) (joined qs))
+events_of_pieces-append : (ps qs : List (List Event)) → events_of_pieces (ps ++ qs) ≡ events_of_pieces ps ++ events_of_pieces qs
+events_of_pieces-append [] qs = refl
+events_of_pieces-append (p ∷ ps) qs = ap (λ (es : List Event). p ++ es) (events_of_pieces-append ps qs) ∙ sym (append_assoc p (events_of_pieces ps) (events_of_pieces qs))
 
-pub joined-push : (ps : List (List Event)) (piece : List Event) → joined (ps ++ piece ∷ []) ≡ joined ps ++ piece
-joined-push ps piece = joined-append ps (piece ∷ []) ∙ ap (λ (es : List Event). joined ps ++ es) (append-nil piece)
+pub events_of_pieces-push : (ps : List (List Event)) (piece : List Event) → events_of_pieces (ps ++ piece ∷ []) ≡ events_of_pieces ps ++ piece
+events_of_pieces-push ps piece = events_of_pieces-append ps (piece ∷ []) ∙ ap (λ (es : List Event). events_of_pieces ps ++ es) (append-nil piece)
 
 -- the bytes of the events and of one more
 pub encoded-push : (piece : List Event) (e : Event) → all_encoded (piece ++ e ∷ []) ≡ all_encoded piece ++ encoding e
@@ -32,7 +32,7 @@ pub first_cut : (limit head : ℕ) → IsCut limit head [] false ([] ∷ [])
 first_cut limit head = record { joins = refl; some = omega arith; unlimited = λ none. refl; limited = λ some. inl (inl (omega arith)) }
 
 -- without a limit there is one piece
-one_piece : (pieces : List (List Event)) (events : List Event) → joined pieces ≡ events → length pieces ≡ 1 → pieces ≡ events ∷ []
+one_piece : (pieces : List (List Event)) (events : List Event) → events_of_pieces pieces ≡ events → length pieces ≡ 1 → pieces ≡ events ∷ []
 one_piece [] events joins one = absurd (omega (arith, one))
 one_piece (p ∷ []) events joins one = ap (λ (piece : List Event). piece ∷ []) (sym (append-nil p) ∙ joins)
 one_piece (p ∷ (q ∷ pieces)) events joins one = absurd (omega (arith, one))
@@ -79,9 +79,9 @@ full_grows limit head taken number (p ∷ ((y ∷ ys) ∷ closed)) piece e stays
     (full.0, full_grows limit head taken (suc number) ((y ∷ ys) ∷ closed) piece e here full.1)
 
 -- the events of a cut and one more
-joins_more : (closed : List (List Event)) (piece events : List Event) (e : Event) → joined (closed ++ piece ∷ []) ≡ events → joined (closed ++ (piece ++ e ∷ []) ∷ []) ≡ events ++ e ∷ []
+joins_more : (closed : List (List Event)) (piece events : List Event) (e : Event) → events_of_pieces (closed ++ piece ∷ []) ≡ events → events_of_pieces (closed ++ (piece ++ e ∷ []) ∷ []) ≡ events ++ e ∷ []
 joins_more closed piece events e joins =
-    joined-push closed (piece ++ e ∷ []) ∙ (sym (append_assoc (joined closed) piece (e ∷ [])) ∙ ap (λ (es : List Event). es ++ e ∷ []) (sym (joined-push closed piece) ∙ joins))
+    events_of_pieces-push closed (piece ++ e ∷ []) ∙ (sym (append_assoc (events_of_pieces closed) piece (e ∷ [])) ∙ ap (λ (es : List Event). es ++ e ∷ []) (sym (events_of_pieces-push closed piece) ∙ joins))
 
 pub cut_grows : (limit head : ℕ) (events : List Event) (taken : Bool) (closed : List (List Event)) (piece : List Event) (e : Event) → (limit ≢ 0 → StaysIn limit head taken (length closed) piece e)
     → IsCut limit head events taken (closed ++ piece ∷ []) → IsCut limit head (events ++ e ∷ []) taken (closed ++ (piece ++ e ∷ []) ∷ [])
@@ -94,10 +94,10 @@ cut_grows limit head events taken closed piece e stays cut = record {
 
 -- A piece is begun with an event more.
 
-last_fits : (limit head number : ℕ) (piece : List Event) → number < last_number → MayBeLast limit head false number piece → Fits limit head piece
-last_fits limit head number piece left last = elim last as (λ w. Fits limit head piece) [
+last_fits : (limit head number : ℕ) (piece : List Event) → number < last_number → MayBeLast limit head false number piece → FitsInFile limit head piece
+last_fits limit head number piece left last = elim last as (λ w. FitsInFile limit head piece) [
   | inl fits ↦ fits
-  | inr excuse ↦ elim excuse as (λ w. Fits limit head piece) [
+  | inr excuse ↦ elim excuse as (λ w. FitsInFile limit head piece) [
     | inl greatest ↦ absurd (omega (arith, left, greatest))
     | inr taken ↦ let never : false ≡ true = taken in absurd (cc (never))
   ]
@@ -124,7 +124,7 @@ full_next limit head number (p ∷ ((y ∷ ys) ∷ closed)) piece e begins full 
 pub cut_next : (limit head : ℕ) (events : List Event) (closed : List (List Event)) (piece : List Event) (e : Event) → limit ≢ 0 → BeginsNext limit head (length closed) piece e
     → IsCut limit head events false (closed ++ piece ∷ []) → IsCut limit head (events ++ e ∷ []) false ((closed ++ piece ∷ []) ++ (e ∷ []) ∷ [])
 cut_next limit head events closed piece e some begins cut = record {
-  joins = joined-push (closed ++ piece ∷ []) (e ∷ []) ∙ ap (λ (es : List Event). es ++ e ∷ []) cut.joins;
+  joins = events_of_pieces-push (closed ++ piece ∷ []) (e ∷ []) ∙ ap (λ (es : List Event). es ++ e ∷ []) cut.joins;
   some = omega (arith, length-push (closed ++ piece ∷ []) (e ∷ []));
   unlimited = λ none. absurd (some none);
   limited = λ limited. full_next limit head 0 closed piece e (subst (λ (n : ℕ). BeginsNext limit head n piece e) (none_before closed) begins) (cut.limited limited);

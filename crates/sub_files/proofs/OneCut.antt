@@ -5,7 +5,7 @@ use Rattle.std.proofs.lemmas.List.{append-nil}
 use Rattle.daq_types.specs.declared.events.Event.{Event}
 use Rattle.event.specs.Events.{encoding, all_encoded}
 use Rattle.event.proofs.Events.{all_encoded-append}
-use Rattle.sub_files.specs.Cuts.{last_number, joined, Fits, IsFull, MayBeLast, AreFull, IsCut}
+use Rattle.sub_files.specs.Cuts.{last_number, events_of_pieces, FitsInFile, IsFull, MayBeLast, AreFull, IsCut}
 
 -- One of two fronts of a list is the other one and more, or they are the same.
 abbrev LongerBy : (p q : List Event) → (y : Event) → Type 0
@@ -26,7 +26,7 @@ compare (z ∷ p) (w ∷ q) a b x y same =
     ]
 
 -- a full piece with its next event does not fit
-not_longer : (limit head : ℕ) (p q : List Event) (y : Event) → IsFull limit head q y → LongerBy p q y → Fits limit head p → ⊥
+not_longer : (limit head : ℕ) (p q : List Event) (y : Event) → IsFull limit head q y → LongerBy p q y → FitsInFile limit head p → ⊥
 not_longer limit head p q y full longer fits =
     let r : List Event = longer.0 in
     let long : length p ≡ length q + suc (length r) = ap (λ (es : List Event). length es) longer.1 ∙ length-append q (y ∷ r) in
@@ -52,7 +52,7 @@ cons_same : (p q : List Event) (ps qs : List (List Event)) → p ≡ q → ps �
 cons_same p q ps qs e f = rw (e, f) refl
 
 -- of as many pieces
-same_pieces : (limit head number : ℕ) (taken other : Bool) (ps qs : List (List Event)) → AreFull limit head taken number ps → AreFull limit head other number qs → joined ps ≡ joined qs → length ps ≡ length qs → ps ≡ qs
+same_pieces : (limit head number : ℕ) (taken other : Bool) (ps qs : List (List Event)) → AreFull limit head taken number ps → AreFull limit head other number qs → events_of_pieces ps ≡ events_of_pieces qs → length ps ≡ length qs → ps ≡ qs
 same_pieces limit head number taken other [] qs full clear same many = absurd full
 same_pieces limit head number taken other (p ∷ ps) [] full clear same many = absurd clear
 same_pieces limit head number taken other (p ∷ []) (q ∷ []) full clear same many = cons_same p q [] [] (sym (append-nil p) ∙ (same ∙ append-nil q)) refl
@@ -61,7 +61,7 @@ same_pieces limit head number taken other (p ∷ (s ∷ ps)) (q ∷ []) full cle
 same_pieces limit head number taken other (p ∷ ([] ∷ ps)) (q ∷ (s ∷ qs)) full clear same many = absurd full
 same_pieces limit head number taken other (p ∷ ((x ∷ xs) ∷ ps)) (q ∷ ([] ∷ qs)) full clear same many = absurd clear
 same_pieces limit head number taken other (p ∷ ((x ∷ xs) ∷ ps)) (q ∷ ((y ∷ ys) ∷ qs)) full clear same many =
-    let heads = same_heads limit head p q (xs ++ joined ps) (ys ++ joined qs) x y full.0 clear.0 same in
+    let heads = same_heads limit head p q (xs ++ events_of_pieces ps) (ys ++ events_of_pieces qs) x y full.0 clear.0 same in
     let fewer : length ((x ∷ xs) ∷ ps) ≡ length ((y ∷ ys) ∷ qs) = omega (arith, many) in
     cons_same p q ((x ∷ xs) ∷ ps) ((y ∷ ys) ∷ qs) heads.0 (same_pieces limit head (suc number) taken other ((x ∷ xs) ∷ ps) ((y ∷ ys) ∷ qs) full.1 clear.1 heads.1 fewer)
 
@@ -79,19 +79,19 @@ last_not_longer limit head number p q a y left last full same = elim last as (λ
   ]
 ]
 
-free_pieces : (limit head number : ℕ) (ps qs : List (List Event)) → number + length ps ≤ suc last_number → number + length qs ≤ suc last_number → AreFull limit head false number ps → AreFull limit head false number qs → joined ps ≡ joined qs → ps ≡ qs
+free_pieces : (limit head number : ℕ) (ps qs : List (List Event)) → number + length ps ≤ suc last_number → number + length qs ≤ suc last_number → AreFull limit head false number ps → AreFull limit head false number qs → events_of_pieces ps ≡ events_of_pieces qs → ps ≡ qs
 free_pieces limit head number [] qs few scant full clear same = absurd full
 free_pieces limit head number (p ∷ ps) [] few scant full clear same = absurd clear
 free_pieces limit head number (p ∷ []) (q ∷ []) few scant full clear same = cons_same p q [] [] (sym (append-nil p) ∙ (same ∙ append-nil q)) refl
 free_pieces limit head number (p ∷ []) (q ∷ ([] ∷ qs)) few scant full clear same = absurd clear
 free_pieces limit head number (p ∷ []) (q ∷ ((y ∷ ys) ∷ qs)) few scant full clear same =
-    absurd (last_not_longer limit head number p q (ys ++ joined qs) y (omega (arith, scant)) full clear.0 (sym (append-nil p) ∙ same))
+    absurd (last_not_longer limit head number p q (ys ++ events_of_pieces qs) y (omega (arith, scant)) full clear.0 (sym (append-nil p) ∙ same))
 free_pieces limit head number (p ∷ ([] ∷ ps)) qs few scant full clear same = absurd full
 free_pieces limit head number (p ∷ ((x ∷ xs) ∷ ps)) (q ∷ []) few scant full clear same =
-    absurd (last_not_longer limit head number q p (xs ++ joined ps) x (omega (arith, few)) clear full.0 (sym (append-nil q) ∙ sym same))
+    absurd (last_not_longer limit head number q p (xs ++ events_of_pieces ps) x (omega (arith, few)) clear full.0 (sym (append-nil q) ∙ sym same))
 free_pieces limit head number (p ∷ ((x ∷ xs) ∷ ps)) (q ∷ ([] ∷ qs)) few scant full clear same = absurd clear
 free_pieces limit head number (p ∷ ((x ∷ xs) ∷ ps)) (q ∷ ((y ∷ ys) ∷ qs)) few scant full clear same =
-    let heads = same_heads limit head p q (xs ++ joined ps) (ys ++ joined qs) x y full.0 clear.0 same in
+    let heads = same_heads limit head p q (xs ++ events_of_pieces ps) (ys ++ events_of_pieces qs) x y full.0 clear.0 same in
     cons_same p q ((x ∷ xs) ∷ ps) ((y ∷ ys) ∷ qs) heads.0
     (free_pieces limit head (suc number) ((x ∷ xs) ∷ ps) ((y ∷ ys) ∷ qs) (omega (arith, few)) (omega (arith, scant)) full.1 clear.1 heads.1)
 

@@ -6,10 +6,10 @@ use Rattle.daq_types.specs.declared.events.Event.{Event}
 use Rattle.event.specs.Events.{encoding, all_encoded}
 use Rattle.event.proofs.Events.{length-encoding}
 use Rattle.sub_files.specs.Cuts.{MayBeLast}
-use Rattle.sub_files.specs.SampleCuts.{sample_event, first_event, third_event, IsSampleCut, CutsSamples, two_and_one, one_and_two, all_in_one}
+use Rattle.sub_files.specs.SampleCuts.{event_of_size, first_event, third_event, IsSampleCut, CutsSamples, two_and_one, one_and_two, all_in_one}
 
-sample_length : (size : ℕ) → length (encoding (sample_event size)) ≡ 16 + size
-sample_length size = length-encoding (sample_event size) ∙ ap (λ (n : ℕ). 16 + n) (length-replicate {A = ℕ} size 0)
+sample_length : (size : ℕ) → length (encoding (event_of_size size)) ≡ 16 + size
+sample_length size = length-encoding (event_of_size size) ∙ ap (λ (n : ℕ). 16 + n) (length-replicate {A = ℕ} size 0)
 
 one_long : (e : Event) → length (all_encoded (e ∷ [])) ≡ length (encoding e)
 one_long e = length-append (encoding e) [] ∙ omega arith

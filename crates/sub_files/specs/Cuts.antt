@@ -8,27 +8,27 @@ abbrev pub last_number : ℕ
 last_number = 9999
 
 -- the events of all pieces
-abbrev pub joined : List (List Event) → List Event
-joined [] = []
-joined (piece ∷ pieces) = piece ++ joined pieces
+abbrev pub events_of_pieces : List (List Event) → List Event
+events_of_pieces [] = []
+events_of_pieces (piece ∷ pieces) = piece ++ events_of_pieces pieces
 
 -- the bytes of a file that begins with so many and holds this piece
 abbrev pub bytes_with : (head : ℕ) → (piece : List Event) → ℕ
 bytes_with head piece = head + length (all_encoded piece)
 
 -- one event alone fits into any file; more have to keep within the limit
-abbrev pub Fits : (limit head : ℕ) → (piece : List Event) → Type 0
-Fits limit head piece = (length piece ≤ 1) ⊎ (bytes_with head piece ≤ limit)
+abbrev pub FitsInFile : (limit head : ℕ) → (piece : List Event) → Type 0
+FitsInFile limit head piece = (length piece ≤ 1) ⊎ (bytes_with head piece ≤ limit)
 
 -- The piece has no room for the next event.
 pub record IsFull (limit head : ℕ) (piece : List Event) (next : Event) : Type 0 where
   pub some : 1 ≤ length piece
-  pub fits : Fits limit head piece
+  pub fits : FitsInFile limit head piece
   pub full : limit < bytes_with head piece + length (encoding next)
 
 -- The last piece fits too, unless it has the greatest number, or the name of the next file was found taken.
 abbrev pub MayBeLast : (limit head : ℕ) → (taken : Bool) → (number : ℕ) → (piece : List Event) → Type 0
-MayBeLast limit head taken number piece = Fits limit head piece ⊎ ((number ≡ last_number) ⊎ IsTrue taken)
+MayBeLast limit head taken number piece = FitsInFile limit head piece ⊎ ((number ≡ last_number) ⊎ IsTrue taken)
 
 -- Each piece but the last is full, where the first has this number. No piece behind another one is empty.
 abbrev pub AreFull : (limit head : ℕ) → (taken : Bool) → (number : ℕ) → (pieces : List (List Event)) → Type 0
@@ -40,7 +40,7 @@ AreFull limit head taken number (piece ∷ ((next ∷ more) ∷ pieces)) = IsFul
 -- The events are cut into these pieces, where a file has at most `limit` bytes, of which it begins with `head`. A limit of 0 is
 -- none: there is one piece. `taken` says that the name of the file behind the last one was found taken.
 pub record IsCut (limit head : ℕ) (events : List Event) (taken : Bool) (pieces : List (List Event)) : Type 0 where
-  pub joins : joined pieces ≡ events
+  pub joins : events_of_pieces pieces ≡ events
   pub some : 1 ≤ length pieces
   pub unlimited : limit ≡ 0 → length pieces ≡ 1
   pub limited : limit ≢ 0 → AreFull limit head taken 0 pieces

@@ -29,7 +29,7 @@ abbrev pub next_file : (dump : List ℕ) → (old : OpenFile) → (file : ℕ) �
 next_file dump old file = record { file = file; sub = old.sub + 1; bytes = head_bytes dump; taken = false }
 
 -- The next name was found taken, and nothing was done.
-pub record FindsTaken (next : List ℕ) (old ready : OpenFile) (a b : Seen) : Type 0 where
+pub record FindsNameTaken (next : List ℕ) (old ready : OpenFile) (a b : Seen) : Type 0 where
   pub ready_is : ready ≡ record old { taken = true }
   pub same : Same a b
   pub there : IsTrue a.names → IsSome (a.at next)
@@ -51,7 +51,7 @@ pub record RollsOn (next : List ℕ) (head : RunHead) (dump : List ℕ) (old rea
 -- The file is made ready for an event, which begins the next file or not.
 abbrev pub MovesOn : (begins : Bool) → (next : List ℕ) → RunHead → (dump : List ℕ) → (old ready : OpenFile) → (a b : Seen) → Type 0
 MovesOn false next head dump old ready a b = (ready ≡ old) × (b ≡ a)
-MovesOn true next head dump old ready a b = FindsTaken next old ready a b ⊎ RollsOn next head dump old ready a b
+MovesOn true next head dump old ready a b = FindsNameTaken next old ready a b ⊎ RollsOn next head dump old ready a b
 
 -- the name of the file behind this one
 abbrev pub next_name : Series → OpenFile → List ℕ

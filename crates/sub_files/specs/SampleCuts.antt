@@ -4,14 +4,14 @@ use Rattle.daq_types.specs.declared.events.Event.{Event}
 use Rattle.sub_files.specs.Cuts.{IsCut}
 
 -- an event with so many bytes behind its header of 16
-abbrev pub sample_event : (size : ℕ) → Event
-sample_event size = record { id = 1; mask = 0; serial = 1; time = 1000; body = replicate size 0 }
+abbrev pub event_of_size : (size : ℕ) → Event
+event_of_size size = record { id = 1; mask = 0; serial = 1; time = 1000; body = replicate size 0 }
 
 abbrev pub first_event : Event
-first_event = sample_event 24
+first_event = event_of_size 24
 
 abbrev pub third_event : Event
-third_event = sample_event 32
+third_event = event_of_size 32
 
 abbrev pub IsSampleCut : (taken : Bool) → (pieces : List (List Event)) → Type 0
 IsSampleCut taken pieces = IsCut 300 189 (first_event ∷ first_event ∷ third_event ∷ []) taken pieces

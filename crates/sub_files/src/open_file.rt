@@ -10,7 +10,7 @@ ghost use Rattle.daq_io.specs.Seen.{Same, Creates, Extends, Closes};
 ghost use Rattle.sub_files.specs.RecordFiles.{ClosesAnyhow, ClosesPart, NamesMore, UndoesFile, RoseTwice, RemovesNames, AreGone, LeavesForFaults, NamesOneOf};
 ghost use Rattle.sub_files.specs.Patterns.{piece_name_by};
 ghost use Rattle.sub_files.specs.Pieces.{Series, IsOpenPiece, HoldsRun, HasRun, HasPart, HoldsMore, HasPartOfMore, series_of, begin_bytes};
-ghost use Rattle.sub_files.specs.Rolls.{begins_next, counted_in, first_file, next_file, FindsTaken, RollsAt, RollsOn, MakesReady, WritesNext, FailsRoll, FailsMove, FailsNext, AppendsNone, ClashesBy, RisesWith, NamesOne, fallen_at};
+ghost use Rattle.sub_files.specs.Rolls.{begins_next, counted_in, first_file, next_file, FindsNameTaken, RollsAt, RollsOn, MakesReady, WritesNext, FailsRoll, FailsMove, FailsNext, AppendsNone, ClashesBy, RisesWith, NamesOne, fallen_at};
 
 use crate::pattern::Pattern;
 use crate::record_files::{append_record, begin_file, end_file};
@@ -182,7 +182,7 @@ impl OpenFile {
         requires small { length dump.now ≤ record_limit }
         requires few { self.sub < 9999 }
         ensures moves { IfOk result (λ ready.
-            FindsTaken (piece_name_by pattern.now head.run (self.sub + 1)) self ready
+            FindsNameTaken (piece_name_by pattern.now head.run (self.sub + 1)) self ready
             (F.told files.old).seen (F.told files.new).seen
             ⊎ RollsOn (piece_name_by pattern.now head.run (self.sub + 1)) head dump.now self ready
             (F.told files.old).seen (F.told files.new).seen) }
