@@ -33,12 +33,12 @@ rows_below run files zero = []
 rows_below run files (suc n) = rows_below run files n ++ file_row run files n ∷ []
 
 -- how many rows a channel has: one for each of its files, of which there are 10,000 numbers
-abbrev pub rows_of : ChannelFiles → ℕ
-rows_of files = min files.told.files (suc last_number)
+abbrev pub row_count : ChannelFiles → ℕ
+row_count files = min files.told.files (suc last_number)
 
 -- the rows of all files of a channel
 abbrev pub channel_rows : (run : ℕ) → ChannelFiles → List FileRow
-channel_rows run files = rows_below run files (rows_of files)
+channel_rows run files = rows_below run files (row_count files)
 
 -- the rows of all files of the run
 abbrev pub file_rows : (run : ℕ) → List ChannelFiles → List FileRow

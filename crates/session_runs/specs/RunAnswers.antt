@@ -194,15 +194,15 @@ module _ {M : Type 0} (round : M → M → Type 0) where
   StopsUnsaved before after old new = (r : CurrentRun) × MakesStop r (Err (record {})) before after old new
 
   -- a pause or a resume of the run of this number, which is on
-  abbrev pub ChangesRun : Transition → (run : ℕ) → (old new : CommandPoint M) → Type 0
-  ChangesRun t run old new = (r : CurrentRun) × (r.run ≡ run) × MakesChange t r old new
+  abbrev pub PausesOrResumes : Transition → (run : ℕ) → (old new : CommandPoint M) → Type 0
+  PausesOrResumes t run old new = (r : CurrentRun) × (r.run ≡ run) × MakesChange t r old new
 
   -- what a pause is answered
   abbrev pub AnswersPause : RunReply → (old new : CommandPoint M) → Type 0
-  AnswersPause (run_paused run) old new = ChangesRun Pause run old new
+  AnswersPause (run_paused run) old new = PausesOrResumes Pause run old new
   AnswersPause reply old new = RefusesKnown reply (known_at_point old) Pause × (new ≡ old)
 
   -- and a resume
   abbrev pub AnswersResume : RunReply → (old new : CommandPoint M) → Type 0
-  AnswersResume (run_resumed run) old new = ChangesRun Resume run old new
+  AnswersResume (run_resumed run) old new = PausesOrResumes Resume run old new
   AnswersResume reply old new = RefusesKnown reply (known_at_point old) Resume × (new ≡ old)

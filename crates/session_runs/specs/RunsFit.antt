@@ -63,7 +63,7 @@ pub record FitsStart (analyzers : ℕ) (own : MainOwn) (r : CurrentRun) (outcome
   pub stand : StandCalls entries own.database
 
 -- what the record's front-ends, files and reports are, where the clients told this in the end of the stop
-pub record TellsRun (clients : RunClients) (r : RunRecord) (tallies : List ClientTally) : Type 0 where
+pub record RecordIsTold (clients : RunClients) (r : RunRecord) (tallies : List ClientTally) : Type 0 where
   pub sent : r.fronts ≡ fronts_told clients.fronts tallies
   pub files : r.files ≡ files_of (ends_told clients.fronts tallies) clients.channels
   pub reports : r.reports ≡ reports_told (clients.fronts + 1) clients.analyzers tallies
@@ -79,7 +79,7 @@ pub record FitsStop (clients : RunClients) (own : MainOwn) (begun : CurrentRun) 
   pub entries : List WatchEntry
   pub are : StopCalls state r.time1 saved entries
   pub stand : StandCalls entries own.database
-  pub tells : TellsRun clients r tallies
+  pub tells : RecordIsTold clients r tallies
 
 -- the run of the record, with the quota of its start
 abbrev pub run_of : RunRecord → (quota : ℕ) → CurrentRun

@@ -3,7 +3,7 @@ ghost use Rattle.std.specs.Prelude.{◌≡◌, ◌⊎◌, IfOk, IfErr};
 ghost use Rattle.daq_types.specs.declared.runs.Transition.TheVariants.{Pause, Resume};
 ghost use Rattle.session_runs.specs.MainKnowledge.{known_from};
 ghost use Rattle.session_runs.specs.declared.on.CurrentRun.{CurrentRun};
-ghost use Rattle.session_runs.specs.RunAnswers.{AnswersPause, AnswersResume, ChangesRun, RefusesKnown, point_of};
+ghost use Rattle.session_runs.specs.RunAnswers.{AnswersPause, AnswersResume, PausesOrResumes, RefusesKnown, point_of};
 
 use crate::making::{make_untold, sheet_for};
 use crate::refusing::refusal_of;
@@ -28,7 +28,7 @@ impl<'a> Runs<'a> {
         transition: Transition,
     ) -> Result<u32, RunReply>
         requires { (transition ≡ Pause) ⊎ (transition ≡ Resume) }
-        ensures did { IfOk result (λ run. ChangesRun M.round transition run
+        ensures did { IfOk result (λ run. PausesOrResumes M.round transition run
             (point_of self.old (D.access database.old) members.old)
             (point_of self.new (D.access database.new) members.new)) }
         ensures refused { IfErr result (λ reply. RefusesKnown reply

@@ -1,7 +1,7 @@
 // What is kept of a session's runs.
 ghost use Rattle.std.specs.Prelude.{◌≡◌, ◌<◌, ◌≤◌};
 ghost use Rattle.sub_files.specs.Patterns.{piece_name_by};
-ghost use Rattle.session_runs.specs.FileRows.{rows_of, state_of_file};
+ghost use Rattle.session_runs.specs.FileRows.{row_count, state_of_file};
 
 use daq_types::{
     BoundedList, Bytes, ChannelEnd, ChannelState, FileName, FrontEnded, Name, StartOutcome,
@@ -84,14 +84,14 @@ impl ChannelFiles {
 
     /// How many files it tells of.
     pub fn count(&self) -> u32
-        ensures { result ≡ rows_of self.now }
+        ensures { result ≡ row_count self.now }
     {
         self.told.files.min(FILE_NUMBERS)
     }
 
     /// The name of the file of this number in the run of this number.
     pub fn name_of(&self, run: u32, number: u32) -> FileName
-        requires { number < rows_of self.now }
+        requires { number < row_count self.now }
         ensures { result ≡ piece_name_by self.now.pattern run number }
     {
         self.pattern.name(run, number)

@@ -1,29 +1,28 @@
 // A stop of the run that is on.
-ghost use Rattle.std.specs.Prelude.{◌≡◌, ◌≤◌, [], List, length, IsOk, IfOk, OnErr};
+ghost use Rattle.std.specs.Prelude.{◌≡◌, ◌≤◌, [], List, length, IfOk, OnErr};
 ghost use Rattle.odb_text.specs.Dumps.{dump_limit};
 ghost use Rattle.odb_watch.specs.declared.entry.WatchEntry.{WatchEntry};
 ghost use Rattle.odb_watch.specs.DatabasePorts.{AddsEntries};
 ghost use Rattle.daq_types.specs.declared.runs.StartOutcome.TheVariants.{Completed};
 ghost use Rattle.daq_types.specs.declared.runs.Transition.TheVariants.{Stop};
-ghost use Rattle.session_runs.specs.MainKnowledge.{known_from, begin_known, known_behind};
 ghost use Rattle.session_runs.specs.KeptRuns.{record_of};
 ghost use Rattle.session_runs.specs.RunEntries.{AnnouncesStop, dump_saved};
-ghost use Rattle.session_runs.specs.RunAnswers.{AnswersStop, DrivesStop, StopsUnsaved, ReadsClock, point_of};
+ghost use Rattle.session_runs.specs.RunAnswers.{AnswersStop, StopsUnsaved, ReadsClock, point_of};
 
+use crate::RunRecord;
 use crate::channels::RunChannel;
 use crate::making::sheet_for;
 use crate::on::{CurrentRun, OpenRun, RunRooms};
 use crate::replies::RunReply;
 use crate::runs::Runs;
 use crate::tallied::{take_files, take_fronts, take_reports};
-use crate::{MainSeat, RunRecord};
 use daq_io::Clock;
 use daq_types::{Bytes, NoMemory, RunState, StartOutcome, Transition};
 use member_crew::Rounds;
 use member_model::Tallies;
 use odb_runinfo::KeyPaths;
 use odb_watch::WatchPort;
-use odb_watch::port_laws::{calls_add_up, entries_add_up};
+use odb_watch::port_laws::calls_add_up;
 use std::alloc::Global;
 use std::sync::Wait;
 
@@ -114,41 +113,6 @@ fn record_of(
     record
 }
 
-/// Makes the stop of this run: announces it in the database, and sets there that no run is on once the engine told its end.
-/// When it was, and whether there was no memory for the text of the database.
-fn make_stop<R: Wait, D: WatchPort, M: Rounds, C: Clock>(
-    rt: &R,
-    alloc: Global,
-    seat: &mut MainSeat<'_>,
-    tallies: &mut Tallies,
-    database: &mut D,
-    members: &mut M,
-    clock: &mut C,
-    on: &OpenRun,
-) -> (u32, bool)
-    requires begins { IsOk (begin_known (known_from seat.old.own) Stop) }
-    requires empty { tallies.old ≡ [] }
-    ensures drives { DrivesStop M.round on.now.run result.0 result.1 tallies.new
-        (C.told clock.old)
-        (C.told clock.new) seat.old.own seat.new.own
-        (D.access database.old) (D.access database.new) members.old members.new }
-    ensures known { known_from seat.new.own
-        ≡ known_behind Stop Completed (known_from seat.old.own) }
-    ensures engine { seat.new.engine ≡ seat.old.engine }
-{
-    calls_add_up();
-    let state = seat.state();
-    let CurrentRun { run, quota, .. } = on.run;
-    let (time, saved) = announce_stop(rt, alloc, &on.rooms.paths, database, clock, state);
-    let lacking = saved.is_err();
-    let sheet = sheet_for(alloc, run, time, quota, dump_saved(saved));
-    let _ = seat.make(rt, Transition::Stop, sheet, tallies, members);
-    on.rooms
-        .paths
-        .set_state(rt, alloc, database, RunState::Stopped);
-    (time, lacking)
-}
-
 impl<'a> Runs<'a> {
     /// Answers `stop`. Where there is no memory for the text of the database, the run is stopped all the same, without it,
     /// and then the answer is that memory was wanting.
@@ -175,17 +139,17 @@ impl<'a> Runs<'a> {
         let Some(open) = self.on.take() else {
             return Ok(RunReply::WrongState { state });
         };
-        let run = open.run.run;
-        let (time, lacking) = make_stop(
-            rt,
-            alloc,
-            &mut self.seat,
-            &mut self.tallies,
-            database,
-            members,
-            clock,
-            &open,
-        );
+        calls_add_up();
+        let CurrentRun { run, quota, .. } = open.run;
+        let paths = &open.rooms.paths;
+        let (time, saved) = announce_stop(rt, alloc, paths, database, clock, state);
+        let lacking = saved.is_err();
+        let sheet = sheet_for(alloc, run, time, quota, dump_saved(saved));
+        let tallies = &mut self.tallies;
+        let _ = self
+            .seat
+            .make(rt, Transition::Stop, sheet, tallies, members);
+        paths.set_state(rt, alloc, database, RunState::Stopped);
         let count = self.fronts.len() as u32;
         let analyzers = self.analyzers.len() as u32;
         self.runs.push_reserved(record_of(

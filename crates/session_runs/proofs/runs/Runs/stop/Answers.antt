@@ -4,11 +4,12 @@ use Rattle.std.proofs.Common.{ap, sym, subst, ◌∙◌}
 use Rattle.session_runs.specs.declared.on.CurrentRun.{CurrentRun}
 use Rattle.session_runs.specs.KeptRuns.{RunsSeen}
 use Rattle.session_runs.specs.RunAnswers.{MakesStop, point_of}
-use Rattle.session_runs.proofs.MadeCalls.{kept_stopped, on_begins, recorded, seen_of, stop_answered, stop_unsaved, stops_run}
+use Rattle.session_runs.specs.RunEntries.{later_sheet}
+use Rattle.session_runs.proofs.MadeCalls.{drives_stop, kept_stopped, on_begins, recorded, seen_of, stop_answered, stop_is_none, stop_unsaved, stops_run}
 use Rattle.session_runs.proofs.runs.Runs.stop.Goals as goal
 
-pub make_stop-time-requires-clause-begins : goal.make_stop-time-requires-clause-begins
-make_stop-time-requires-clause-begins g c =
+pub make-requires-clause-begins : goal.make-requires-clause-begins
+make-requires-clause-begins g c =
     let inside = c.self.inside in
     let on : option_map (λ o. o.run) inside.on ≡ Some c.in-Some.open.run = ap (option_map (λ o. o.run)) (sym c.take.ensures.value ∙ c.in-Some.is) in
     rw (on_begins c.in-Some.open.run (option_map (λ o. o.run) inside.on) inside.seat.own on c.self.invariant.5 c.state-state.ensures.between) refl
@@ -16,14 +17,16 @@ make_stop-time-requires-clause-begins g c =
 pub returns-then-lacking-clause-unsaved : goal.returns-then-lacking-clause-unsaved
 returns-then-lacking-clause-unsaved g c =
     let inside = c.self.inside in
-    let seat = c.make_stop-time.new.seat in
+    let seat = c.make.new.self in
     let r = c.in-Some.open.run in
-    let time = c.make_stop-time.result.0 in
-    let tallies = c.make_stop-time.new.tallies in
+    let time = c.announce_stop-time.result.0 in
+    let tallies = c.make.new.tallies in
     let access = g.D.DatabasePort.access in
     let before = g.C.Clock.told c.args.clock.now in
-    let after = g.C.Clock.told c.make_stop-time.new.clock in
-    let drives = c.make_stop-time.ensures.drives in
+    let after = g.C.Clock.told c.announce_stop-time.new.clock in
+    let drives = drives_stop g.M.Rounds.round c.calls_add_up.ensures.are r c.make.result.start time c.make.result.outcome c.state-state.result c.announce_stop-time.result.1 c.is_err-lacking.result c.sheet_for-sheet.result tallies _ _
+    _ _ _ (access c.announce_stop-time.new.database) _ _ _ c.state-state.ensures.state c.make.ensures.begun c.announce_stop-time.ensures.reading c.announce_stop-time.ensures.calls c.set_state.ensures
+    (c.sheet_for-sheet.ensures.is ∙ ap (later_sheet r time) c.dump_saved.ensures) c.make.ensures.made (c.make.ensures.completed stop_is_none) c.is_err-lacking.ensures.value in
     let was_on : Option CurrentRun = option_map (λ o. o.run) inside.on in
     let is_on : Option CurrentRun = option_map (λ o. o.run) c.take.new.self in
     let s : RunsSeen = seen_of inside.quota inside.runs.items inside.fronts inside.channels inside.analyzers was_on inside.seat in
@@ -32,24 +35,26 @@ returns-then-lacking-clause-unsaved g c =
     let off : is_on ≡ None = ap (option_map (λ o. o.run)) c.take.ensures.after in
     let begins = on_begins r was_on inside.seat.own on c.self.invariant.5 c.state-state.ensures.between in
     let rec = recorded c.len-count.result (length inside.fronts) c.as_slice.result.now inside.channels c.len-analyzers.result (length inside.analyzers) r time tallies c.record_of.result c.record_of.ensures c.len-count.ensures c.as_slice.ensures c.len-analyzers.ensures in
-    let kept = kept_stopped inside.quota inside.runs.items c.push_reserved.new.self.items inside.fronts inside.channels inside.analyzers was_on is_on inside.seat seat r time tallies c.record_of.result c.push_reserved.ensures.items rec off c.make_stop-time.ensures.engine in
-    let does = stops_run g.M.Rounds.round r time c.make_stop-time.result.1 tallies before after s later (access c.args.database.now) (access c.make_stop-time.new.database) c.args.members.now c.make_stop-time.new.members drives on begins kept in
+    let kept = kept_stopped inside.quota inside.runs.items c.push_reserved.new.self.items inside.fronts inside.channels inside.analyzers was_on is_on inside.seat seat r time tallies c.record_of.result c.push_reserved.ensures.items rec off c.make.ensures.engine in
+    let does = stops_run g.M.Rounds.round r time c.is_err-lacking.result tallies before after s later (access c.args.database.now) (access c.set_state.new.database) c.args.members.now c.make.new.members drives on begins kept in
     let old = point_of c.args.self.now (access c.args.database.now) c.args.members.now in
-    let new = point_of later (access c.make_stop-time.new.database) c.make_stop-time.new.members in
+    let new = point_of later (access c.set_state.new.database) c.make.new.members in
     let makes = subst (λ (x : RunsSeen). MakesStop g.M.Rounds.round r drives.saved before after (point_of x (access c.args.database.now) c.args.members.now) new) c.self.view_is does in
     stop_unsaved g.M.Rounds.round r drives.saved before after old new (sym drives.lacks ∙ c.if-lacking.true) makes
 
 pub returns-clause-did : goal.returns-clause-did
 returns-clause-did g c =
     let inside = c.self.inside in
-    let seat = c.make_stop-time.new.seat in
+    let seat = c.make.new.self in
     let r = c.in-Some.open.run in
-    let time = c.make_stop-time.result.0 in
-    let tallies = c.make_stop-time.new.tallies in
+    let time = c.announce_stop-time.result.0 in
+    let tallies = c.make.new.tallies in
     let access = g.D.DatabasePort.access in
     let before = g.C.Clock.told c.args.clock.now in
-    let after = g.C.Clock.told c.make_stop-time.new.clock in
-    let drives = c.make_stop-time.ensures.drives in
+    let after = g.C.Clock.told c.announce_stop-time.new.clock in
+    let drives = drives_stop g.M.Rounds.round c.calls_add_up.ensures.are r c.make.result.start time c.make.result.outcome c.state-state.result c.announce_stop-time.result.1 c.is_err-lacking.result c.sheet_for-sheet.result tallies _ _
+    _ _ _ (access c.announce_stop-time.new.database) _ _ _ c.state-state.ensures.state c.make.ensures.begun c.announce_stop-time.ensures.reading c.announce_stop-time.ensures.calls c.set_state.ensures
+    (c.sheet_for-sheet.ensures.is ∙ ap (later_sheet r time) c.dump_saved.ensures) c.make.ensures.made (c.make.ensures.completed stop_is_none) c.is_err-lacking.ensures.value in
     let was_on : Option CurrentRun = option_map (λ o. o.run) inside.on in
     let is_on : Option CurrentRun = option_map (λ o. o.run) c.take.new.self in
     let s : RunsSeen = seen_of inside.quota inside.runs.items inside.fronts inside.channels inside.analyzers was_on inside.seat in
@@ -58,9 +63,9 @@ returns-clause-did g c =
     let off : is_on ≡ None = ap (option_map (λ o. o.run)) c.take.ensures.after in
     let begins = on_begins r was_on inside.seat.own on c.self.invariant.5 c.state-state.ensures.between in
     let rec = recorded c.len-count.result (length inside.fronts) c.as_slice.result.now inside.channels c.len-analyzers.result (length inside.analyzers) r time tallies c.record_of.result c.record_of.ensures c.len-count.ensures c.as_slice.ensures c.len-analyzers.ensures in
-    let kept = kept_stopped inside.quota inside.runs.items c.push_reserved.new.self.items inside.fronts inside.channels inside.analyzers was_on is_on inside.seat seat r time tallies c.record_of.result c.push_reserved.ensures.items rec off c.make_stop-time.ensures.engine in
-    let does = stops_run g.M.Rounds.round r time c.make_stop-time.result.1 tallies before after s later (access c.args.database.now) (access c.make_stop-time.new.database) c.args.members.now c.make_stop-time.new.members drives on begins kept in
+    let kept = kept_stopped inside.quota inside.runs.items c.push_reserved.new.self.items inside.fronts inside.channels inside.analyzers was_on is_on inside.seat seat r time tallies c.record_of.result c.push_reserved.ensures.items rec off c.make.ensures.engine in
+    let does = stops_run g.M.Rounds.round r time c.is_err-lacking.result tallies before after s later (access c.args.database.now) (access c.set_state.new.database) c.args.members.now c.make.new.members drives on begins kept in
     let old = point_of c.args.self.now (access c.args.database.now) c.args.members.now in
-    let new = point_of later (access c.make_stop-time.new.database) c.make_stop-time.new.members in
+    let new = point_of later (access c.set_state.new.database) c.make.new.members in
     let makes = subst (λ (x : RunsSeen). MakesStop g.M.Rounds.round r drives.saved before after (point_of x (access c.args.database.now) c.args.members.now) new) c.self.view_is does in
     stop_answered g.M.Rounds.round r drives.saved before after old new (sym drives.lacks ∙ c.if-lacking.false) makes
