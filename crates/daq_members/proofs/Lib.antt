@@ -13,7 +13,6 @@ pub mod LoggerNames
 pub mod BareLaws
 pub mod AnalyzerLaws
 pub mod AnalyzerSeatLaws
-pub mod CrewLaws
 pub mod StayLaws
 pub mod KindSends
 pub mod SendLaws

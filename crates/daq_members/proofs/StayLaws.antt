@@ -1,7 +1,9 @@
 -- The members of a session stay the same ones, however many turns they have.
-use Rattle.std.specs.Prelude.{◌≡◌, List, [], ◌∷◌, map, refl}
-use Rattle.std.proofs.Common.{ap, ◌∙◌}
+use Rattle.std.specs.Prelude.{◌≡◌, ℕ, zero, suc, List, [], ◌∷◌, slice_get, Some, All, refl}
+use Rattle.std.proofs.Common.{ap, subst, ◌∙◌}
 use Rattle.std.specs.List.{AllZip}
+use Rattle.std.proofs.lemmas.List.Elements.{All-get_or}
+use Rattle.std.proofs.lemmas.Option.{get_or_from_slice_get, slice_get_within}
 use Rattle.buffer_core.specs.Ports.{Access}
 use Rattle.loggers.specs.Moments.{IsSameAccess}
 use Rattle.member_crew.specs.declared.turned.Turned.{Turned}
@@ -12,8 +14,21 @@ use Rattle.daq_members.proofs.LoggerLaws.{same_ports, same_then}
 use Rattle.daq_members.proofs.LoggerSeatLaws.{NotedLaws, notes_same, taken_noted}
 use Rattle.member_crew.specs.Turns.{HadTurns}
 use Rattle.member_crew.proofs.TurnLaws.{all_keep}
-use Rattle.daq_members.specs.Members.{MemberSeen, MemberTold, FrontEnd, Logger, Analyzer, TurnsMember, FrontTurn, LoggerTurn, AnalyzerTurn, StaysLogger, IsSameMember, SameFront, SameLogger, SameAnalyzer, client_of, engine_of}
-use Rattle.daq_members.specs.Stay.{MembersStay, StillLaid, laid}
+use Rattle.daq_members.specs.Members.{MemberSeen, MemberTold, FrontEnd, Logger, Analyzer, TurnsMember, FrontTurn, LoggerTurn, AnalyzerTurn, StaysLogger, KeepsContract, IsSameMember, SameFront, SameLogger, SameAnalyzer}
+use Rattle.daq_members.specs.Stay.{MembersStay}
+
+-- Places of lists.
+
+-- what stands there is one of all of these
+each_of : {X : Type 0} (P : X → Type 0) (xs : List X) (n : ℕ) (x : X) → All P xs → slice_get xs n ≡ Some x → P x
+each_of P xs n x all at = subst P (get_or_from_slice_get xs n x x at) (All-get_or P xs n x (slice_get_within xs n x at) all)
+
+-- what stands beside it
+pub zip_there : {X Y : Type 0} (R : X → Y → Type 0) (xs : List X) (ys : List Y) (n : ℕ) (x : X) → AllZip R xs ys → slice_get xs n ≡ Some x → (y : Y) × (slice_get ys n ≡ Some y) × R x y
+zip_there R [] ys n x all at = absurd (cc (at))
+zip_there R (z ∷ xs) [] n x all at = absurd all
+zip_there R (z ∷ xs) (y ∷ ys) zero x all at = (y, refl, subst (λ w. R w y) (let same : z ≡ x = cc (at) in same) all.0)
+zip_there R (z ∷ xs) (y ∷ ys) (suc n) x all at = zip_there R xs ys n x all.1 at
 
 -- Accesses.
 
@@ -99,73 +114,26 @@ module _ {E F : Type 0} (told : MemberTold E F) where
       SameLogger (record { same = same; faults = taken_noted laws (logger_taken told.read a b turned) takes })
   one_turn laws (AnalyzerTurn takes same) = SameAnalyzer same
 
-  members_stay : NotedLaws → (before after : List (MemberSeen E F)) → AllZip (HadTurns (TurnsMember told)) before after → AllZip (IsSameMember told) before after
-  members_stay laws = all_keep (TurnsMember told) (IsSameMember told) same_member (λ a b c first then_. member_then laws first then_) (λ a b turned turn. one_turn laws turn)
+  members_same : NotedLaws → (before after : List (MemberSeen E F)) → AllZip (HadTurns (TurnsMember told)) before after → AllZip (IsSameMember told) before after
+  members_same laws = all_keep (TurnsMember told) (IsSameMember told) same_member (λ a b c first then_. member_then laws first then_) (λ a b turned turn. one_turn laws turn)
 
-  -- the same member has the same number and asks the same engine
-  pub same_client : {a b : MemberSeen E F} → IsSameMember told a b → client_of b ≡ client_of a
-  same_client (SameFront same) = same.client
-  same_client (SameLogger same) = same.same.client
-  same_client (SameAnalyzer same) = same.client
-
-  pub same_engine : {a b : MemberSeen E F} → IsSameMember told a b → engine_of b ≡ engine_of a
-  same_engine (SameFront same) = same.engine
-  same_engine (SameLogger same) = same.same.engine
-  same_engine (SameAnalyzer same) = same.engine
-
-  -- Members in order of their kinds.
-
-  -- a member stays what it is
-  still_front : {front : FrontSeen E} {after : MemberSeen E F} → IsSameMember told (FrontEnd front) after → (later : FrontSeen E) × (after ≡ FrontEnd later) × IsSameFront told.takes told.makes front later
-  still_front (SameFront {after = later} same) = (later, refl, same)
+  -- A logger stays one, at its place.
 
   still_logger : {logger : LoggerSeen F} {after : MemberSeen E F} → IsSameMember told (Logger logger) after → (later : LoggerSeen F) × (after ≡ Logger later) × StaysLogger told logger later
   still_logger (SameLogger {after = later} same) = (later, refl, same)
 
-  still_analyzer : {analyzer : AnalyzerSeen} {after : MemberSeen E F} → IsSameMember told (Analyzer analyzer) after → (later : AnalyzerSeen) × (after ≡ Analyzer later) × IsSameAnalyzer analyzer later
-  still_analyzer (SameAnalyzer {after = later} same) = (later, refl, same)
-
-  both : (m n : MemberSeen E F) (ms ns : List (MemberSeen E F)) → m ≡ n → ms ≡ ns → m ∷ ms ≡ n ∷ ns
-  both m n ms ns first rest = ap (λ (x : MemberSeen E F). x ∷ ms) first ∙ ap (λ (l : List (MemberSeen E F)). n ∷ l) rest
-
-  still_analyzers : (analyzers : List AnalyzerSeen) (after : List (MemberSeen E F)) → AllZip (IsSameMember told) (map Analyzer analyzers) after
-      → (later : List AnalyzerSeen) × (after ≡ map Analyzer later) × AllZip IsSameAnalyzer analyzers later
-  still_analyzers [] [] same = ([], refl, tt)
-  still_analyzers [] (m ∷ ms) same = absurd same
-  still_analyzers (a ∷ others) [] same = absurd same
-  still_analyzers (a ∷ others) (m ∷ ms) same =
-      let one : (later : AnalyzerSeen) × (m ≡ Analyzer later) × IsSameAnalyzer a later = still_analyzer same.0 in
-      let rest = still_analyzers others ms same.1 in
-      (one.0 ∷ rest.0, both m (Analyzer one.0) ms (map Analyzer rest.0) one.1 rest.1, (one.2, rest.2))
-
-  still_laid : (fronts : List (FrontSeen E)) (logger : LoggerSeen F) (analyzers : List AnalyzerSeen) (after : List (MemberSeen E F)) → AllZip (IsSameMember told) (laid fronts logger analyzers) after
-      → StillLaid told fronts logger analyzers after
-  still_laid [] logger analyzers [] same = absurd same
-  still_laid [] logger analyzers (m ∷ ms) same =
-      let one : (later : LoggerSeen F) × (m ≡ Logger later) × StaysLogger told logger later = still_logger same.0 in
-      let rest = still_analyzers analyzers ms same.1 in
-      record {
-        later_fronts = [];
-        later_logger = one.0;
-        later_analyzers = rest.0;
-        is = both m (Logger one.0) ms (map Analyzer rest.0) one.1 rest.1;
-        same_fronts = tt;
-        same_logger = one.2;
-        same_analyzers = rest.2;
-      }
-  still_laid (f ∷ fs) logger analyzers [] same = absurd same
-  still_laid (f ∷ fs) logger analyzers (m ∷ ms) same =
-      let one : (later : FrontSeen E) × (m ≡ FrontEnd later) × IsSameFront told.takes told.makes f later = still_front same.0 in
-      let rest = still_laid fs logger analyzers ms same.1 in
-      record {
-        later_fronts = one.0 ∷ rest.later_fronts;
-        later_logger = rest.later_logger;
-        later_analyzers = rest.later_analyzers;
-        is = both m (FrontEnd one.0) ms (laid rest.later_fronts rest.later_logger rest.later_analyzers) one.1 rest.is;
-        same_fronts = (one.2, rest.same_fronts);
-        same_logger = rest.same_logger;
-        same_analyzers = rest.same_analyzers;
-      }
+  logger_stays : (before after : List (MemberSeen E F)) → AllZip (IsSameMember told) before after → (client : ℕ) (logger : LoggerSeen F) → slice_get before client ≡ Some (Logger logger)
+      → (later : LoggerSeen F) × (slice_get after client ≡ Some (Logger later)) × StaysLogger told logger later
+  logger_stays before after same client logger at =
+      let there = zip_there (IsSameMember told) before after client (Logger logger) same at in
+      let later = still_logger there.2 in
+      (later.0, there.1 ∙ ap Some later.1, later.2)
 
   pub members_stay_so : NotedLaws → MembersStay told
-  members_stay_so laws = record { same = members_stay laws; laid_out = still_laid }
+  members_stay_so laws before after back all =
+      let same = members_same laws before after back.had in
+      record {
+        same = same;
+        keep = λ client member at. each_of (KeepsContract told) after client member all at;
+        logger = logger_stays before after same;
+      }

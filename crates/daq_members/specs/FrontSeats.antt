@@ -29,9 +29,9 @@ pub record FrontSeen (E : Type 0) : Type 0 where
   pub stood : DatabaseAccess
 
 -- a front-end, by its client at the engine, its name, what it does, its port, and its database
-abbrev pub front_by : {E D : Type 0} → (access : D → DatabaseAccess) → MemberClientSeen D → (name : List ℕ) → FrontState E → Access →
+abbrev pub front_of_parts : {E D : Type 0} → (access : D → DatabaseAccess) → MemberClientSeen D → (name : List ℕ) → FrontState E → Access →
     (database : D) → FrontSeen E
-front_by access engine name front port database = record {
+front_of_parts access engine name front port database = record {
   engine = engine.engine;
   client = engine.client;
   name = name;
@@ -46,7 +46,7 @@ front_by access engine name front port database = record {
 -- what is seen of a front-end that gave no answer yet, by its client at the engine, its name, what it does, its port and its access
 abbrev pub front_seen : {E : Type 0} → EngineClientSeen → (name : List ℕ) → FrontState E → Access → DatabaseAccess → FrontSeen E
 front_seen engine name front port database =
-    front_by (λ (a : DatabaseAccess). a) (at_first engine database) name front port database
+    front_of_parts (λ (a : DatabaseAccess). a) (at_first engine database) name front port database
 
 -- On the engine the front-end polls and answers for its own client alone; the port and the access are the client's own, an
 -- event fits into the buffer, and the front-end keeps its contract over its own calls on engine, buffer and database.

@@ -4,7 +4,7 @@ use Rattle.daq_members.specs.declared.member.MemberKind.TheVariants.{FrontEnd as
 use Rattle.daq_members.specs.Members.{MemberSeen, FrontEnd, Logger, Analyzer}
 
 -- what is seen of a member of this kind
-abbrev pub seen_of : {E P D F : Type 0} → MemberKind E P D F → MemberSeen E F
-seen_of (FrontKind front) = FrontEnd front
-seen_of (LoggerKind logger) = Logger logger
-seen_of (AnalyzerKind analyzer) = Analyzer analyzer
+abbrev pub member_seen : {E P D F : Type 0} → MemberKind E P D F → MemberSeen E F
+member_seen (FrontKind front) = FrontEnd front
+member_seen (LoggerKind logger) = Logger logger
+member_seen (AnalyzerKind analyzer) = Analyzer analyzer

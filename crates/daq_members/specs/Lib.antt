@@ -13,4 +13,3 @@ pub mod SeatedAnalyzers
 pub mod Members
 pub mod Kinds
 pub mod Stay
-pub mod Crews

@@ -33,10 +33,10 @@ engine_of (Logger logger) = logger.engine
 engine_of (Analyzer analyzer) = analyzer.engine
 
 -- its calls on the engine
-abbrev pub calls_of : {E F : Type 0} → MemberSeen E F → List EngineEntry
-calls_of (FrontEnd front) = front.calls
-calls_of (Logger logger) = logger.calls
-calls_of (Analyzer analyzer) = analyzer.calls
+abbrev pub engine_calls_of : {E F : Type 0} → MemberSeen E F → List EngineEntry
+engine_calls_of (FrontEnd front) = front.calls
+engine_calls_of (Logger logger) = logger.calls
+engine_calls_of (Analyzer analyzer) = analyzer.calls
 
 -- What is told of equipments and run files: which runs an equipment takes part in, and which events it makes; and what is
 -- told of run files.

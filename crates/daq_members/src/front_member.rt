@@ -43,15 +43,15 @@ pub struct FrontMember<'a, X: Equipment, P: BufferPort, D: WatchPort> {
 }
 
 impl<'a, X: Equipment, P: BufferPort, D: WatchPort> Model for FrontMember<'a, X, P, D> {
-    ghost use Rattle.daq_members.specs.FrontSeats.{FrontSeen, IsSeated, front_by};
+    ghost use Rattle.daq_members.specs.FrontSeats.{FrontSeen, IsSeated, front_of_parts};
 
     ghost Value = { FrontSeen X };
 
-    ghost view = { λ m. front_by D.access m.engine m.key.name m.front (P.access m.port)
+    ghost view = { λ m. front_of_parts D.access m.engine m.key.name m.front (P.access m.port)
         m.database };
 
     ghost invariant = { λ m. IsSeated X.takes X.makes
-        (front_by D.access m.engine m.key.name m.front (P.access m.port) m.database) };
+        (front_of_parts D.access m.engine m.key.name m.front (P.access m.port) m.database) };
 }
 
 /// What a turn came to in which something was done, or nothing.

@@ -7,7 +7,6 @@
 pub mod analyzer_laws;
 mod analyzer_member;
 mod connected_logger;
-pub mod crew_laws;
 mod engine_client;
 mod front_member;
 pub mod laws;

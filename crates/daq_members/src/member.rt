@@ -31,21 +31,21 @@ impl<'a, X: Equipment, P: BufferPort, D: WatchPort, F: Files> Model for Member<'
     ghost Value = { MemberSeen X F };
 
     ghost use Rattle.daq_members.specs.Members.{KeepsContract, member_told};
-    ghost use Rattle.daq_members.specs.Kinds.{seen_of};
+    ghost use Rattle.daq_members.specs.Kinds.{member_seen};
 
-    ghost view = { λ m. seen_of m.kind };
+    ghost view = { λ m. member_seen m.kind };
 
     ghost invariant = { λ m. KeepsContract
-        (member_told X.takes X.makes F.told) (seen_of m.kind) };
+        (member_told X.takes X.makes F.told) (member_seen m.kind) };
 }
 
 impl<'a, X: Equipment, P: BufferPort, D: WatchPort, F: Files> MemberKind<'a, X, P, D, F> {
-    ghost use Rattle.daq_members.specs.Kinds.{seen_of};
+    ghost use Rattle.daq_members.specs.Kinds.{member_seen};
 
     /// The member's client number. It keeps its contract at every moment.
     pub fn client(&self) -> u32
-        ensures number { result ≡ client_of (seen_of self.now) }
-        ensures keeps { KeepsContract (member_told X.takes X.makes F.told) (seen_of self.now) }
+        ensures number { result ≡ client_of (member_seen self.now) }
+        ensures keeps { KeepsContract (member_told X.takes X.makes F.told) (member_seen self.now) }
     {
         match self {
             MemberKind::FrontEnd(front) => front.client(),
@@ -56,11 +56,11 @@ impl<'a, X: Equipment, P: BufferPort, D: WatchPort, F: Files> MemberKind<'a, X, 
 }
 
 impl<'a, X: Equipment, P: BufferPort, D: WatchPort, F: Files> Member<'a, X, P, D, F> {
-    ghost use Rattle.daq_members.specs.Kinds.{seen_of};
+    ghost use Rattle.daq_members.specs.Kinds.{member_seen};
 
     /// The member of this kind.
     pub fn new(kind: MemberKind<'a, X, P, D, F>) -> Member<'a, X, P, D, F>
-        ensures { result ≡ seen_of kind.entry }
+        ensures { result ≡ member_seen kind.entry }
     {
         kind.client();
         Member { kind }
@@ -88,7 +88,7 @@ impl<'a, X: Equipment, P: BufferPort, D: WatchPort, F: Files> Member<'a, X, P, D
 
     /// The member by its kind, given back.
     pub fn into_kind(self) -> MemberKind<'a, X, P, D, F>
-        ensures kind { seen_of result ≡ self.entry }
+        ensures kind { member_seen result ≡ self.entry }
         ensures keeps { KeepsContract (member_told X.takes X.makes F.told) self.entry }
     {
         self.kind

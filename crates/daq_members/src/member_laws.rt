@@ -9,7 +9,8 @@ use front_ends::Equipment;
 use loggers::laws as logger_laws;
 use odb_watch::WatchPort;
 
-/// Each member stays the same one, however many turns it has, and the logger notes each fault of the run files in its turns.
+/// The members of a session that came back behind turns of their own are the same ones, in the same order, and the logger noted each
+/// fault of the run files in its turns.
 pub fn members_stay<'a, X: Equipment, P: BufferPort, D: WatchPort, F: Files>(
     _members: &[Member<'a, X, P, D, F>],
 )

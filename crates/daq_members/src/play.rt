@@ -1,9 +1,11 @@
 // A session whose main thread plays its part while its members have their turns.
-ghost use Rattle.std.specs.Prelude.{◌<◌, ◌≤◌, length, All};
+ghost use Rattle.std.specs.Prelude.{◌<◌, ◌≤◌, length};
 ghost use Rattle.member_crew.specs.Turns.{CameBack};
-ghost use Rattle.daq_members.specs.Members.{KeepsContract, TurnsMember, member_told};
+ghost use Rattle.daq_members.specs.Members.{TurnsMember, member_told};
+ghost use Rattle.daq_members.specs.Stay.{StayMembers};
 
 use crate::member::{Member, ask_all};
+use crate::member_laws::members_stay;
 use buffer_core::BufferPort;
 use daq_io::{Files, Gate, Pick};
 use daq_types::NoMemory;
@@ -50,8 +52,8 @@ fn thread_room<M: TakesTurns + Drop>(
 }
 
 /// Plays the main thread's part with these members, each by its client number: each in a thread of its own where there is room
-/// for that, else all in rounds of the main thread. Each comes back behind turns of its own, of which the last came to `Ended`,
-/// and keeps its contract.
+/// for that, else all in rounds of the main thread. Each comes back behind turns of its own, of which the last came to `Ended`, is
+/// the same one and keeps its contract.
 pub fn play_members<
     'a,
     R: Threads + Wait + Sync,
@@ -75,11 +77,12 @@ pub fn play_members<
     ensures played { Y.plays main result.0 }
     ensures back { CameBack (TurnsMember
         (member_told X.takes X.makes F.told)) members.entry result.1 }
-    ensures keep { All (KeepsContract (member_told X.takes X.makes F.told)) result.1 }
+    ensures stay { StayMembers (member_told X.takes X.makes F.told) members.entry result.1 }
 {
     let crew = Crew::new(members, pick, gate);
     let (played, parts) = play(rt, room.threads, crew, main);
     let CrewParts { members, pick } = parts;
     ask_all(members.as_slice());
+    members_stay(members.as_slice());
     (played, members, pick)
 }

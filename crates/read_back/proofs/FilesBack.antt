@@ -9,13 +9,13 @@ use Rattle.event.specs.RunFile.{run_file}
 use Rattle.event_report.specs.Reports.{report_of}
 use Rattle.event_report.specs.Texts.{report_text}
 use Rattle.midas_tools.specs.Analyses.{analysis_text}
-use Rattle.midas_tools.specs.Pieces.{AreRunFilesWith, bytes_of}
+use Rattle.midas_tools.specs.Pieces.{AreRunFilesWith, total_bytes}
 use Rattle.midas_tools.specs.Texts.{run_number_line}
 use Rattle.midas_tools.specs.Together.{HaveBytes, TellsRun, WritesTogether}
 use Rattle.midas_tools.specs.declared.ends.ToolEnd.{ToolEnd}
 use Rattle.midas_tools.specs.declared.ends.ToolEnd.TheVariants.{Done}
 use Rattle.midas_tools.proofs.Pieces.{have_one}
-use Rattle.sub_files.specs.Cuts.{joined}
+use Rattle.sub_files.specs.Cuts.{events_of_pieces}
 use Rattle.sub_files.specs.Patterns.{NamePattern, piece_name_by}
 use Rattle.read_back.specs.FilesBack.{FilesReadBack, HasAsStored, piece_names, IsClosedFile}
 
@@ -23,14 +23,14 @@ use Rattle.read_back.specs.FilesBack.{FilesReadBack, HasAsStored, piece_names, I
 abbrev pub AnalysisPrinted : Type 0
 AnalysisPrinted = (seen : Seen) → (names files : List (List ℕ)) → (run : ℕ) → (events : List Event) → (text : List ℕ)
     → HaveBytes seen names files → 0 < length files → AreRunFilesWith run files events → run < 2 ^ 32 → All (λ e. e.id < 2 ^ 16) events
-    → TellsRun analysis_text seen names text → text ≡ analysis_text run events (bytes_of files)
+    → TellsRun analysis_text seen names text → text ≡ analysis_text run events (total_bytes files)
 
 -- the files of these names are there, one for each piece, and are run files of the run
 record AreThere (seen : Seen) (run : ℕ) (names : List (List ℕ)) (pieces : List (List Event)) : Type 0 where
   files : List (List ℕ)
   many : length files ≡ length pieces
   have : HaveBytes seen names files
-  are : bytes_of files ≤ 2 ^ 62 → AreRunFilesWith run files (joined pieces)
+  are : total_bytes files ≤ 2 ^ 62 → AreRunFilesWith run files (events_of_pieces pieces)
 
 module _ (files seen : Seen) (pattern : NamePattern) (run : ℕ) where
   -- the files from this number on
@@ -64,7 +64,7 @@ module _ (files seen : Seen) (pattern : NamePattern) (run : ℕ) where
         have = (record { file = stored_closed bytes; at_is = All-head (HasAsStored files seen) name names alike bytes file.stored; fact = refl }, rest.have);
         are = λ counted. (
           piece,
-          joined pieces,
+          events_of_pieces pieces,
           record {
             time0 = file.time0;
             dump0 = file.dump0;
@@ -84,7 +84,7 @@ files_back prints files pattern run pieces some closed small short seen told_old
     let tells : TellsRun analysis_text seen names all.text = all.finds.1 tell in
     let there : AreThere seen run names pieces =
     are_there files seen pattern run 0 pieces alike (λ number piece at. let name : number ≡ 0 + number = omega arith in subst (λ (n : ℕ). IsClosedFile files (piece_name_by pattern run n) run piece) name (closed number piece at)) in
-    let counted : bytes_of there.files ≤ 2 ^ 62 = subst (λ (fs : List (List ℕ)). bytes_of fs ≤ 2 ^ 62) (have_one seen names tells.holds.files there.files tells.holds.have there.have) tells.holds.are.counted in
-    let text : all.text ≡ run_number_line run ++ report_text [] (report_of (joined pieces)) =
-    prints seen names there.files run (joined pieces) all.text there.have (omega (arith, some, there.many)) (there.are counted) small short tells in
+    let counted : total_bytes there.files ≤ 2 ^ 62 = subst (λ (fs : List (List ℕ)). total_bytes fs ≤ 2 ^ 62) (have_one seen names tells.holds.files there.files tells.holds.have there.have) tells.holds.are.counted in
+    let text : all.text ≡ run_number_line run ++ report_text [] (report_of (events_of_pieces pieces)) =
+    prints seen names there.files run (events_of_pieces pieces) all.text there.have (omega (arith, some, there.many)) (there.are counted) small short tells in
     subst (λ (t : List ℕ). Appends told_old told_new t) text all.written

@@ -19,7 +19,7 @@ use Rattle.frontend_kit.specs.declared.generator.Generator.{Generator}
 use Rattle.mid_logger.specs.declared.channel_spec.ChannelSpec.{ChannelSpec}
 use Rattle.odb_runinfo.specs.RunSets.{have_of}
 use Rattle.session_runs.specs.declared.records.ChannelFiles.{ChannelFiles}
-use Rattle.sub_files.specs.Cuts.{joined}
+use Rattle.sub_files.specs.Cuts.{events_of_pieces}
 use Rattle.sub_files.specs.Patterns.{piece_name_by}
 use Rattle.session_runs.specs.declared.records.RunRecord.{RunRecord}
 use Rattle.daq_members.specs.Members.{MemberTold}
@@ -111,7 +111,7 @@ module _ (c : ClosedSession) (moments : (client : ℕ) → List ℕ) (own : Main
     prints_report : PrintsReport c.files (names_in_run run written) run.run report
     prints_report =
         let small : run.run < 2 ^ 32 = run_small (have_of tells.so.fits.start.are.got) run.run tells.so.fits.start.are.number in
-        let short : All HasShortId (joined its_files.pieces) = subst (λ (es : List Event). All HasShortId es) (sym its_files.cut.joins) (all_small its_files.of.channel its_files.of.buffer its_files.of.there) in
+        let short : All HasShortId (events_of_pieces its_files.pieces) = subst (λ (es : List Event). All HasShortId es) (sym its_files.cut.joins) (all_small its_files.of.channel its_files.of.buffer its_files.of.there) in
         let of_pieces = back c.files written.pattern run.run its_files.pieces its_files.cut.some are_closed small short in
         subst (λ (n : ℕ). PrintsReport c.files (piece_names written.pattern run.run 0 n) run.run report) its_files.many
         (subst (λ (t : Totals). PrintsReport c.files (piece_names written.pattern run.run 0 (length its_files.pieces)) run.run t) (ap report_of its_files.cut.joins ∙ same_report) of_pieces)

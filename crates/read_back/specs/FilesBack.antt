@@ -12,7 +12,7 @@ use Rattle.midas_tools.specs.Texts.{run_number_line}
 use Rattle.midas_tools.specs.Together.{WritesTogether}
 use Rattle.midas_tools.specs.declared.ends.ToolEnd.{ToolEnd}
 use Rattle.midas_tools.specs.declared.ends.ToolEnd.TheVariants.{Done}
-use Rattle.sub_files.specs.Cuts.{joined}
+use Rattle.sub_files.specs.Cuts.{events_of_pieces}
 use Rattle.sub_files.specs.Patterns.{NamePattern, piece_name_by}
 
 -- The file that was stored under this name in these files is there in `seen` as it was stored. So it is where both tell the name and
@@ -53,5 +53,5 @@ AreClosedFiles files pattern run pieces = (number : ℕ) → (piece : List Event
 -- report over all its events.
 abbrev pub FilesReadBack : Type 0
 FilesReadBack = (files : Seen) → (pattern : NamePattern) → (run : ℕ) → (pieces : List (List Event)) → 1 ≤ length pieces →
-    AreClosedFiles files pattern run pieces → run < 2 ^ 32 → All (λ e. e.id < 2 ^ 16) (joined pieces) →
-    PrintsReport files (piece_names pattern run 0 (length pieces)) run (report_of (joined pieces))
+    AreClosedFiles files pattern run pieces → run < 2 ^ 32 → All (λ e. e.id < 2 ^ 16) (events_of_pieces pieces) →
+    PrintsReport files (piece_names pattern run 0 (length pieces)) run (report_of (events_of_pieces pieces))

@@ -1,6 +1,5 @@
 //! Laws of what is read back of a session: each function does nothing, and its contract is the law.
-ghost use Rattle.daq_members.specs.Members.{member_told};
-ghost use Rattle.session_objects.specs.Members.{generator_makes, generator_takes};
+ghost use Rattle.session_objects.specs.Members.{members_told};
 ghost use Rattle.read_back.specs.FilesBack.{FilesReadBack};
 ghost use Rattle.read_back.specs.ReportsBack.{ReportsReadBack, SessionReadsBack};
 
@@ -32,7 +31,7 @@ pub fn reports_read_back()
 pub fn sessions_read_back<D: Database, F: Files, K: Pick>(kept: &SessionRecord<D>)
 where
     LockedDatabase<D>: Machine<State = WatchedSeen, Entry = WatchEntry>,
-    ensures { SessionReadsBack (member_told generator_takes generator_makes F.told) kept.now }
+    ensures { SessionReadsBack (members_told F.told) kept.now }
 {
     reports_read_back();
 }

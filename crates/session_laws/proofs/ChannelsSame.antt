@@ -42,9 +42,6 @@ one_numbered n (x ∷ xs) spec has number alone = elim (eqb_tells x.number n) as
 
 -- The channel of a slot.
 
-spec_at : (o : Option Channel) → Option ChannelSpec
-spec_at o = option_map (λ (c : Channel). c.spec) o
-
 slot_specs : (slots : List (Option Channel)) (n : ℕ) → slot_at (specs_in slots) n ≡ option_map (λ (c : Channel). c.spec) (slot_at slots n)
 slot_specs [] n = refl
 slot_specs (o ∷ os) zero = refl
@@ -69,11 +66,6 @@ numbered specs slots are n (Some c) at =
     cc (other_there, there)))
 
 -- The slots one by one.
-
-joined : (xs ys : List (Option Channel)) → run_channels (xs ++ ys) ≡ run_channels xs ++ run_channels ys
-joined [] ys = refl
-joined (None ∷ xs) ys = joined xs ys
-joined (Some c ∷ xs) ys = ap (λ (l : List RunChannel). run_channel c.spec ∷ l) (joined xs ys)
 
 one_more : (slots : List (Option Channel)) (n : ℕ) → run_channels (take (suc n) slots) ≡ run_channels (take n slots) ++ option_to_list (slot_channel (slot_at slots n))
 unfolding slot_channel

@@ -41,7 +41,7 @@ use Rattle.session_laws.specs.MadeRuns.{RunIn}
 use Rattle.session_laws.specs.EndLaws.{EndsComposed, MadeAreStopped}
 use Rattle.session_laws.specs.CountedFaults.{LoggerReasons, LoggerNames, IsLoggerReason, IsAnalyzerRefusal, IsRefusedSo, state_by_dump, CountsTell}
 use Rattle.session_laws.proofs.EachCaller.{by_caller}
-use Rattle.session_laws.proofs.FrontsEnd.{front_listed}
+use Rattle.session_laws.proofs.MembersListed.{front_listed}
 use Rattle.session_laws.proofs.KeptTogether.{names_own}
 use Rattle.session_laws.proofs.LoggerRefusals.{never_unready}
 use Rattle.session_laws.proofs.NoneRefused.{AskLaws, logger_granted, analyzer_granted}

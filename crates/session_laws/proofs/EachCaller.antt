@@ -1,13 +1,20 @@
 -- The callers of a closed session, and what holds of each call since it holds of each caller's own.
-use Rattle.std.specs.Prelude.{◌≡◌, ℕ, zero, suc, ◌+◌, ◌<◌, ◌==◌, ◌&&◌, Bool, true, false, List, [], ◌∷◌, ◌++◌, length, slice_get, Some, refl}
+use Rattle.std.specs.Prelude.{◌≡◌, ◌≢◌, ℕ, zero, suc, ◌+◌, ◌-◌, ◌<◌, ◌==◌, true, false, List, [], ◌∷◌, ◌++◌, length, slice_get, Some, refl}
 use Rattle.std.specs.List.{AllByRecursion}
 use Rattle.std.proofs.Common.{ap, sym, subst, ◌∙◌, arith, inl, inr, add-one, eq-eqb}
+use Rattle.std.proofs.lemmas.Bool.{and_parts, cases_eq}
 use Rattle.std.proofs.lemmas.Bool.Decides.{eqb_tells}
+use Rattle.std.proofs.lemmas.Option.{slice_get_cases}
 use Rattle.daq_types.specs.Callers.{entries_by, main_caller, caller_of_client}
 use Rattle.daq_types.proofs.CallersLaws.{entries_by-append}
+use Rattle.buffer_core.specs.declared.entry.BufferEntry.{BufferEntry}
 use Rattle.member_model.specs.RunEngines.{EngineEntry}
+use Rattle.session_runs.specs.declared.opening.MemberName.{MemberName}
+use Rattle.session_runs.specs.Members.{registration, registrations}
+use Rattle.session_runs.specs.RunsFit.{SteersEngine}
 use Rattle.daq_members.specs.OwnTurns.{is_call_for, are_calls_for}
-use Rattle.session_laws.specs.ClosedSessions.{ClosedAnalyzer, ClosedFront, ClosedSession, analyzer_client, last_caller, logger_caller}
+use Rattle.session_laws.specs.ClosedSessions.{ClosedAnalyzer, ClosedFront, ClosedSession, analyzer_client, calls_on_buffer, engine_calls, last_caller, logger_caller, registered_members}
+use Rattle.session_laws.specs.MembersAtEnd.{MembersAtEnd}
 
 -- Own calls.
 
@@ -34,7 +41,7 @@ each_by {E} P (x ∷ h) own =
       ]),
     )
 
-pub all_both : {X : Type 0} (P : X → Type 0) (xs ys : List X) → AllByRecursion P xs → AllByRecursion P ys → AllByRecursion P (xs ++ ys)
+all_both : {X : Type 0} (P : X → Type 0) (xs ys : List X) → AllByRecursion P xs → AllByRecursion P ys → AllByRecursion P (xs ++ ys)
 all_both P [] ys first second = second
 all_both P (x ∷ xs) ys first second = (first.0, all_both P xs ys first.1 second)
 
@@ -47,61 +54,55 @@ none_all P xs none = subst (AllByRecursion P) (sym none) tt
 
 -- Who the callers are.
 
--- the client of this number: a front-end, the logger, an analyzer, or none
-pub data IsClient (fronts : List ClosedFront) (analyzers : List ClosedAnalyzer) (client : ℕ) : Type 0 where
-  IsFront : (f : ClosedFront) → slice_get fronts client ≡ Some f → IsClient fronts analyzers client
-  IsLogger : client ≡ length fronts → IsClient fronts analyzers client
-  IsAnalyzer : (place : ℕ) (a : ClosedAnalyzer) → slice_get analyzers place ≡ Some a → client ≡ suc (length fronts) + place → IsClient fronts analyzers client
-  IsNone : length fronts + length analyzers < client → IsClient fronts analyzers client
-
-next_client : (f : ClosedFront) (fs : List ClosedFront) (analyzers : List ClosedAnalyzer) (n : ℕ) → IsClient fs analyzers n → IsClient (f ∷ fs) analyzers (suc n)
-next_client f fs analyzers n (IsFront g at) = IsFront g at
-next_client f fs analyzers n (IsLogger is) = IsLogger (omega arith)
-next_client f fs analyzers n (IsAnalyzer place a at is) = IsAnalyzer place a at (omega arith)
-next_client f fs analyzers n (IsNone past) = IsNone (omega arith)
-
-next_analyzer : (x : ClosedAnalyzer) (analyzers : List ClosedAnalyzer) (n : ℕ) → IsClient [] analyzers (suc n) → IsClient [] (x ∷ analyzers) (suc (suc n))
-next_analyzer x analyzers n (IsFront g at) = absurd (cc at)
-next_analyzer x analyzers n (IsLogger is) = absurd (omega arith)
-next_analyzer x analyzers n (IsAnalyzer place a at is) = IsAnalyzer (suc place) a at (omega arith)
-next_analyzer x analyzers n (IsNone past) = IsNone (omega arith)
-
-analyzer_of : (analyzers : List ClosedAnalyzer) (n : ℕ) → IsClient [] analyzers (suc n)
-analyzer_of [] n = IsNone (omega arith)
-analyzer_of (x ∷ analyzers) zero = IsAnalyzer 0 x refl (omega arith)
-analyzer_of (x ∷ analyzers) (suc n) = next_analyzer x analyzers n (analyzer_of analyzers n)
-
-client_of : (fronts : List ClosedFront) (analyzers : List ClosedAnalyzer) (client : ℕ) → IsClient fronts analyzers client
-client_of [] analyzers zero = IsLogger refl
-client_of [] analyzers (suc n) = analyzer_of analyzers n
-client_of (f ∷ fs) analyzers zero = IsFront f refl
-client_of (f ∷ fs) analyzers (suc n) = next_client f fs analyzers n (client_of fs analyzers n)
-
-by_client : (P : ℕ → Type 0) (fronts : List ClosedFront) (analyzers : List ClosedAnalyzer) (n : ℕ) → ((f : ClosedFront) → slice_get fronts n ≡ Some f → P (caller_of_client n)) → P (caller_of_client (length fronts))
-    → ((place : ℕ) (a : ClosedAnalyzer) → slice_get analyzers place ≡ Some a → P (caller_of_client (suc (length fronts) + place)))
-    → (caller_of_client (length fronts + length analyzers) < caller_of_client n → P (caller_of_client n)) → IsClient fronts analyzers n → P (caller_of_client n)
-by_client P fronts analyzers n front logger of_analyzer other (IsFront f at) = front f at
-by_client P fronts analyzers n front logger of_analyzer other (IsLogger is) = subst (λ (k : ℕ). P (caller_of_client k)) (sym is) logger
-by_client P fronts analyzers n front logger of_analyzer other (IsAnalyzer place a at is) = subst (λ (k : ℕ). P (caller_of_client k)) (sym is) (of_analyzer place a at)
-by_client P fronts analyzers n front logger of_analyzer other (IsNone past) = other (omega arith)
+module _ (P : ℕ → Type 0) (c : ClosedSession) (logger : P (logger_caller c)) (analyzers : (place : ℕ) (a : ClosedAnalyzer) → slice_get c.analyzers place ≡ Some a → P (caller_of_client (analyzer_client c place))) (others : (by : ℕ) → last_caller c < by → P by) where
+  behind_fronts : (client place : ℕ) → client ≡ length c.fronts + place → P (caller_of_client client)
+  behind_fronts client zero is = (let n : client ≡ length c.fronts = omega arith in subst (λ (k : ℕ). P (caller_of_client k)) (sym n) logger)
+  behind_fronts client (suc place) is = elim (slice_get_cases c.analyzers place).1 as (λ w. P (caller_of_client client)) [
+    | inl a ↦ (let n : client ≡ analyzer_client c place = omega arith in subst (λ (k : ℕ). P (caller_of_client k)) (sym n) (analyzers place a.0 a.2))
+    | inr past ↦ others (caller_of_client client) (omega (arith, past.0))
+  ]
 
 -- what holds of the main thread, of each front-end, of the logger, of each analyzer, and of all others, holds of each caller
 pub by_caller : (P : ℕ → Type 0) (c : ClosedSession) → P main_caller → ((client : ℕ) (f : ClosedFront) → slice_get c.fronts client ≡ Some f → P (caller_of_client client)) → P (logger_caller c)
     → ((place : ℕ) (a : ClosedAnalyzer) → slice_get c.analyzers place ≡ Some a → P (caller_of_client (analyzer_client c place)))
     → ((by : ℕ) → last_caller c < by → P by) → (by : ℕ) → P by
-by_caller P c main fronts logger closed_analyzers others zero = main
-by_caller P c main fronts logger closed_analyzers others (suc n) =
-    subst P (add-one n) (by_client P c.fronts c.analyzers n (fronts n) logger closed_analyzers (others (caller_of_client n)) (client_of c.fronts c.analyzers n))
+by_caller P c main fronts logger analyzers others zero = main
+by_caller P c main fronts logger analyzers others (suc n) =
+    subst P (add-one n) (elim (slice_get_cases c.fronts n).1 as (λ w. P (caller_of_client n)) [
+      | inl f ↦ fronts n f.0 f.2
+      | inr past ↦ behind_fronts P c logger analyzers others n (n - length c.fronts) (omega (arith, past.0))
+    ])
 
--- Calls for one client.
+-- Calls on buffers.
 
-both : (a b : Bool) → a && b ≡ true → (a ≡ true) × (b ≡ true)
-both true b is = (refl, is)
-both false b is = absurd (cc (is))
+-- what holds of the calls of a member on its own buffer, and of no calls, holds of its calls on each buffer
+pub at_own : (c : ClosedSession) (by own : ℕ) → ((buffer : ℕ) → buffer ≢ own → calls_on_buffer c by buffer ≡ []) → (P : List BufferEntry → Type 0) → P (calls_on_buffer c by own) → P [] → (buffer : ℕ) → P (calls_on_buffer c by buffer)
+at_own c by own elsewhere P here none buffer = elim (cases_eq buffer own) as (λ w. P (calls_on_buffer c by buffer)) [
+  | inl same ↦ subst (λ (n : ℕ). P (calls_on_buffer c by n)) (sym same) here
+  | inr differs ↦ subst P (sym (elsewhere buffer differs)) none
+]
+
+-- Calls on the engine.
 
 -- what holds of each poll and each answer of a client holds of the calls of who speaks for it alone
-pub each_for : (client : ℕ) (P : EngineEntry → Type 0) → ((e : EngineEntry) → is_call_for client e ≡ true → P e) → (calls : List EngineEntry) → are_calls_for client calls ≡ true → AllByRecursion P calls
+each_for : (client : ℕ) (P : EngineEntry → Type 0) → ((e : EngineEntry) → is_call_for client e ≡ true → P e) → (calls : List EngineEntry) → are_calls_for client calls ≡ true → AllByRecursion P calls
 each_for client P each [] are = tt
-each_for client P each (e ∷ es) are =
-    let parts : (is_call_for client e ≡ true) × (are_calls_for client es ≡ true) = both (is_call_for client e) (are_calls_for client es) are in
-    (each e parts.0, each_for client P each es parts.1)
+each_for client P each (e ∷ es) are = (let parts = and_parts (is_call_for client e) (are_calls_for client es) are in (each e parts.0, each_for client P each es parts.1))
+
+-- what holds of the registration of each member at its place holds of all
+registered_each : (P : EngineEntry → Type 0) (first : ℕ) (ms : List MemberName) → ((k client : ℕ) (m : MemberName) → client ≡ first + k → slice_get ms k ≡ Some m → P (registration client m)) → AllByRecursion P (registrations first ms)
+registered_each P first [] each = tt
+registered_each P first (m ∷ ms) each = (each 0 first m (omega arith) refl, registered_each P (suc first) ms (λ k client x is at. each (suc k) client x (omega arith) at))
+
+-- what holds of the registrations, of what the main thread did behind them, and of each client's polls and answers for itself holds
+-- of each call
+pub each_call : (c : ClosedSession) (ends : MembersAtEnd c) (P : ℕ → EngineEntry → Type 0) → ((client : ℕ) (m : MemberName) → slice_get (registered_members c) client ≡ Some m → P main_caller (registration client m)) → ((e : EngineEntry) → SteersEngine e → P main_caller e)
+    → ((client : ℕ) (e : EngineEntry) → is_call_for client e ≡ true → P (caller_of_client client) e) → AllByRecursion (λ (x : ℕ × EngineEntry). P x.0 x.1) c.engine
+each_call c ends P registered steered called = each_by P c.engine own
+  where
+    own : (by : ℕ) → AllByRecursion (P by) (engine_calls c by)
+    own zero =
+        subst (AllByRecursion (P main_caller)) (sym ends.main.calls)
+        (all_both (P main_caller) (registrations 0 (registered_members c)) ends.main.later (registered_each (P main_caller) 0 (registered_members c) (λ k client m is at. (let same : client ≡ k = omega arith in registered client m (subst (λ (n : ℕ). slice_get (registered_members c) n ≡ Some m) (sym same) at))))
+        (all_each SteersEngine (P main_caller) ends.main.later steered ends.main.steers))
+    own (suc n) = subst (λ (by : ℕ). AllByRecursion (P by) (engine_calls c by)) (add-one n) (each_for n (P (caller_of_client n)) (called n) (engine_calls c (caller_of_client n)) (ends.speaks n))

@@ -1,16 +1,15 @@
 -- What is known of a closed session is what the law of composition asks for.
-use Rattle.std.specs.Prelude.{◌≡◌, ℕ, suc, true, List, [], ◌∷◌, slice_get, Some, refl, ◌⊎◌}
+use Rattle.std.specs.Prelude.{◌≡◌, ℕ, suc, true, List, [], length, slice_get, Some, refl, ◌⊎◌}
 use Rattle.std.specs.List.{AllByRecursion}
-use Rattle.std.proofs.Common.{ap, sym, subst, arith, inl, inr}
+use Rattle.std.proofs.Common.{ap, sym, subst, inl, inr}
 use Rattle.std.proofs.lemmas.Bool.{eqb-true}
 use Rattle.std.proofs.lemmas.Bool.Decides.{eqb_tells}
 use Rattle.daq_types.specs.Callers.{main_caller, caller_of_client}
 use Rattle.daq_types.specs.declared.runs.Transition.TheVariants.{Start, Stop}
-use Rattle.transitions.specs.declared.sequences.Role.{Role}
-use Rattle.transitions.specs.Sequences.{sequence_for, sequences_of}
-use Rattle.transitions.specs.declared.entry.EngineEntry.TheVariants.{Register, Begin, Poll, Answer, Check, Close}
-use Rattle.session_runs.specs.declared.opening.MemberName.{MemberName}
-use Rattle.session_runs.specs.Members.{registrations}
+use Rattle.transitions.specs.declared.sequences.Role.TheVariants.{Analyzer, FrontEnd}
+use Rattle.transitions.specs.Sequences.{sequence_for}
+use Rattle.transitions.specs.declared.entry.EngineEntry.TheVariants.{Register, Poll, Answer}
+use Rattle.session_runs.specs.Members.{member_in}
 use Rattle.loggers.specs.LoggerStands.{StandingLoggerKeeps}
 use Rattle.buffer_core.specs.Window.{opening}
 use Rattle.buffer_core.proofs.GotNames.{named_in}
@@ -26,84 +25,45 @@ use Rattle.composition.specs.Sessions.{Session, SessionAnalyzer, SessionFront, H
 use Rattle.daq_members.specs.OwnTurns.{is_call_for}
 use Rattle.daq_members.specs.FrontTaken.{FrontKeeps}
 use Rattle.session_runs.specs.RunsFit.{SteersEngine}
-use Rattle.session_laws.specs.ClosedSessions.{ClosedAnalyzer, ClosedFront, ClosedSession, analyzer_client, logger_client, logger_caller, members_of, size_of_buffer, history_of_buffer, engine_calls, calls_on_buffer, got_from_buffer, session_analyzer, session_front, session_of}
+use Rattle.session_laws.specs.ClosedSessions.{ClosedAnalyzer, ClosedFront, ClosedSession, analyzer_client, logger_client, logger_caller, size_of_buffer, history_of_buffer, engine_calls, calls_on_buffer, got_from_buffer, session_analyzer, session_front, session_of}
 use Rattle.session_laws.specs.MembersAtEnd.{AnalyzerAtEnd, FrontAtEnd, MembersAtEnd}
-use Rattle.session_laws.proofs.EachCaller.{each_by, all_both, all_each, none_all, by_caller, each_for}
-use Rattle.session_laws.proofs.Registrations.{AtAnalyzer, analyzer_at, front_at, logger_at, IsOfLogger, logger_alone, alone_wants, alone_numbered}
-use Rattle.session_laws.proofs.MainFirst.{registered}
+use Rattle.session_laws.proofs.EachCaller.{by_caller, each_call}
+use Rattle.session_laws.proofs.Registrations.{analyzer_at, front_at, IsOfLogger, logger_alone, alone_wants, alone_numbered}
+use Rattle.session_laws.proofs.MainFirst.{logger_called, registered}
 use Rattle.session_laws.proofs.GotSent.{got_sent, legal_buffer}
 use Rattle.session_laws.proofs.LoggerEnd.{GotAll, logger_keeps}
-use Rattle.session_laws.proofs.AnalyzersEnd.{IsSessionAnalyzer, analyzer_listed, analyzer_of}
-use Rattle.session_laws.proofs.FrontsEnd.{FrontKept, front_kept, choose, IsFrontOf, front_of, front_listed}
+use Rattle.session_laws.proofs.FrontsEnd.{FrontKept, front_kept, choose}
+use Rattle.session_laws.proofs.MembersListed.{analyzer_listed, front_listed, front_of, numbered_is}
 
 -- On the engine each names its own client.
 
 names_call : (client : ℕ) (e : EngineEntry) → is_call_for client e ≡ true → NamesOwnClient (caller_of_client client, e)
-names_call client (Register name sequences dump report reply) is = tt
-names_call client (Begin t sheet reply) is = tt
 names_call client (Poll n reply) is = ap caller_of_client (sym (eqb-true n client is))
 names_call client (Answer n answer reply) is = ap caller_of_client (sym (eqb-true n client is))
-names_call client (Check reply tallies) is = tt
-names_call client (Close reply) is = tt
-
-names_registered : (first : ℕ) (ms : List MemberName) → AllByRecursion (λ e. NamesOwnClient (main_caller, e)) (registrations first ms)
-names_registered first [] = tt
-names_registered first (m ∷ ms) = (tt, names_registered (suc first) ms)
+names_call client e is = tt
 
 names_steered : (e : EngineEntry) → SteersEngine e → NamesOwnClient (main_caller, e)
-names_steered (Register name sequences dump report reply) is = tt
-names_steered (Begin t sheet reply) is = tt
 names_steered (Poll n reply) is = absurd is
 names_steered (Answer n answer reply) is = absurd is
-names_steered (Check reply tallies) is = tt
-names_steered (Close reply) is = tt
-
--- what holds of the registrations and of what the main thread did behind them holds of its calls
-pub main_calls : (c : ClosedSession) (ends : MembersAtEnd c) (P : EngineEntry → Type 0) → AllByRecursion P (registrations 0 (members_of c.fronts c.analyzers)) → ((e : EngineEntry) → SteersEngine e → P e) → AllByRecursion P (engine_calls c main_caller)
-main_calls c ends P registered steered =
-    subst (AllByRecursion P) (sym ends.main.calls)
-    (all_both P (registrations 0 (members_of c.fronts c.analyzers)) ends.main.later registered (all_each SteersEngine P ends.main.later steered ends.main.steers))
+names_steered e is = tt
 
 pub names_own : (c : ClosedSession) → MembersAtEnd c → AllByRecursion NamesOwnClient c.engine
-names_own c ends =
-    each_by (λ by e. NamesOwnClient (by, e)) c.engine
-    (by_caller (λ by. AllByRecursion (λ e. NamesOwnClient (by, e)) (engine_calls c by)) c
-    (main_calls c ends (λ e. NamesOwnClient (main_caller, e)) (names_registered 0 (members_of c.fronts c.analyzers)) names_steered)
-    (λ client f at. each_for client (λ e. NamesOwnClient (caller_of_client client, e)) (names_call client) (engine_calls c (caller_of_client client)) (ends.fronts client f at).speaks)
-    (each_for (logger_client c) (λ e. NamesOwnClient (logger_caller c, e)) (names_call (logger_client c)) (engine_calls c (logger_caller c)) ends.logger.speaks)
-    (λ place a at. (let client : ℕ = analyzer_client c place in
-    each_for client (λ e. NamesOwnClient (caller_of_client client, e)) (names_call client) (engine_calls c (caller_of_client client)) (ends.analyzers place a at).speaks))
-    (λ by past. none_all (λ e. NamesOwnClient (by, e)) (engine_calls c by) (ends.others.engine by past)))
+names_own c ends = each_call c ends (λ by e. NamesOwnClient (by, e)) (λ client m at. tt) names_steered names_call
 
 -- The logger alone wants the dump, and has its number for a start.
 
 alone_call : (P : Registered → Type 0) (n by client : ℕ) (e : EngineEntry) → is_call_for client e ≡ true → IsAlone P n (by, e)
 alone_call P n by client (Register name sequences dump report reply) is = absurd (cc (is))
-alone_call P n by client (Begin t sheet reply) is = tt
-alone_call P n by client (Poll m reply) is = tt
-alone_call P n by client (Answer m answer reply) is = tt
-alone_call P n by client (Check reply tallies) is = tt
-alone_call P n by client (Close reply) is = tt
+alone_call P n by client e is = tt
 
 alone_steered : (P : Registered → Type 0) (n by : ℕ) (e : EngineEntry) → SteersEngine e → IsAlone P n (by, e)
 alone_steered P n by (Register name sequences dump report reply) is = absurd is
-alone_steered P n by (Begin t sheet reply) is = tt
-alone_steered P n by (Poll m reply) is = absurd is
-alone_steered P n by (Answer m answer reply) is = absurd is
-alone_steered P n by (Check reply tallies) is = tt
-alone_steered P n by (Close reply) is = tt
+alone_steered P n by e is = tt
 
 one_logger : (P : Registered → Type 0) → IsOfLogger P → (c : ClosedSession) → MembersAtEnd c → AllByRecursion (IsAlone P (logger_client c)) c.engine
 one_logger P of c ends =
     let n : ℕ = logger_client c in
-    each_by (λ by e. IsAlone P n (by, e)) c.engine
-    (by_caller (λ by. AllByRecursion (λ e. IsAlone P n (by, e)) (engine_calls c by)) c
-    (main_calls c ends (λ e. IsAlone P n (main_caller, e)) (logger_alone P of 0 n c.fronts c.analyzers (omega arith)) (alone_steered P n main_caller))
-    (λ client f at. each_for client (λ e. IsAlone P n (caller_of_client client, e)) (alone_call P n (caller_of_client client) client) (engine_calls c (caller_of_client client)) (ends.fronts client f at).speaks)
-    (each_for n (λ e. IsAlone P n (logger_caller c, e)) (alone_call P n (logger_caller c) n) (engine_calls c (logger_caller c)) ends.logger.speaks)
-    (λ place a at. (let client : ℕ = analyzer_client c place in
-    each_for client (λ e. IsAlone P n (caller_of_client client, e)) (alone_call P n (caller_of_client client) client) (engine_calls c (caller_of_client client)) (ends.analyzers place a at).speaks))
-    (λ by past. none_all (λ e. IsAlone P n (by, e)) (engine_calls c by) (ends.others.engine by past)))
+    each_call c ends (λ by e. IsAlone P n (by, e)) (logger_alone c P of) (alone_steered P n main_caller) (λ client. alone_call P n (caller_of_client client) client)
 
 one_dump : (c : ClosedSession) → MembersAtEnd c → OneWantsDump (logger_client c) c.engine
 one_dump c ends = one_logger (λ (k : Registered). k.wants_dump ≡ true) alone_wants c ends
@@ -143,42 +103,30 @@ member_callers c ends moments buffer =
 
 front_registered : (c : ClosedSession) → MembersAtEnd c → (moments : ℕ → List ℕ) (client : ℕ) (f : ClosedFront) → slice_get c.fronts client ≡ Some f → IsRegistered (session_of c moments) client Start × IsRegistered (session_of c moments) client Stop
 front_registered c ends moments client f at =
-    let m = front_at c.fronts c.analyzers client f at in (
-      registered c ends client m.0 m.1 Start 500 (ap (λ (r : Role). sequence_for (sequences_of r) Start) m.2) moments,
-      registered c ends client m.0 m.1 Stop 500 (ap (λ (r : Role). sequence_for (sequences_of r) Stop) m.2) moments,
-    )
+    let there = front_at c client f at in
+    (registered c ends client (member_in FrontEnd f.name) there Start 500 refl moments, registered c ends client (member_in FrontEnd f.name) there Stop 500 refl moments)
 
 logger_registered : (c : ClosedSession) → MembersAtEnd c → (moments : ℕ → List ℕ) → IsRegistered (session_of c moments) (logger_client c) Start × IsRegistered (session_of c moments) (logger_client c) Stop
-logger_registered c ends moments =
-    let m = logger_at c.fronts c.analyzers in (
-      registered c ends (logger_client c) m.0 m.1 Start 200 (ap (λ (r : Role). sequence_for (sequences_of r) Start) m.2) moments,
-      registered c ends (logger_client c) m.0 m.1 Stop 800 (ap (λ (r : Role). sequence_for (sequences_of r) Stop) m.2) moments,
-    )
+logger_registered c ends moments = (logger_called c ends Start 200 refl moments, logger_called c ends Stop 800 refl moments)
 
 analyzer_registered : (c : ClosedSession) → MembersAtEnd c → (moments : ℕ → List ℕ) (place : ℕ) (a : ClosedAnalyzer) → slice_get c.analyzers place ≡ Some a
     → IsRegistered (session_of c moments) (analyzer_client c place) Start × IsRegistered (session_of c moments) (analyzer_client c place) Stop
 analyzer_registered c ends moments place a at =
     let client : ℕ = analyzer_client c place in
-    let m : AtAnalyzer c.fronts c.analyzers client = analyzer_at c.fronts c.analyzers place client a at refl in (
-      registered c ends client m.member m.at Start 300 (ap (λ (r : Role). sequence_for (sequences_of r) Start) m.role) moments,
-      registered c ends client m.member m.at Stop 900 (ap (λ (r : Role). sequence_for (sequences_of r) Stop) m.role) moments,
-    )
+    let there = analyzer_at c place a at in
+    (registered c ends client (member_in Analyzer a.name) there Start 300 refl moments, registered c ends client (member_in Analyzer a.name) there Stop 900 refl moments)
 
 -- All together.
 
 -- what holds of each front-end, with its client number and its moments, holds of the session's
 each_front : (c : ClosedSession) (moments : ℕ → List ℕ) (P : SessionFront → Type 0) → ((client : ℕ) (f : ClosedFront) → slice_get c.fronts client ≡ Some f → P (session_front client f (moments client)))
     → (f : SessionFront) → HasFront (session_of c moments) f → P f
-each_front c moments P each f has =
-    let of : IsFrontOf c moments f = front_of c moments f has in
-    subst P (sym of.is) (each of.client of.front of.at)
+each_front c moments P each f has = (let of = front_of c moments f has in subst P (sym of.3) (each of.0 of.1 of.2))
 
 -- and so of its analyzers
 each_analyzer : (c : ClosedSession) (moments : ℕ → List ℕ) (P : SessionAnalyzer → Type 0) → ((place : ℕ) (a : ClosedAnalyzer) → slice_get c.analyzers place ≡ Some a → P (session_analyzer c (analyzer_client c place) a))
     → (a : SessionAnalyzer) → HasAnalyzer (session_of c moments) a → P a
-each_analyzer c moments P each a has =
-    let of : IsSessionAnalyzer c a = analyzer_of c a has in
-    subst P (sym of.is) (each of.place of.analyzer of.at)
+each_analyzer c moments P each a has = (let of = numbered_is (session_analyzer c) (suc (length c.fronts)) has.0 (analyzer_client c has.0) c.analyzers a refl has.1 in subst P (sym of.2) (each has.0 of.0 of.1))
 
 analyzer_keeps : MemberAnalyzersKeep → (c : ClosedSession) (client : ℕ) (a : ClosedAnalyzer) → AnalyzerAtEnd c client a
     → KeepsAnalyzer a.wanted (calls_on_buffer c (caller_of_client client) a.buffer) (got_from_buffer c (caller_of_client client) a.buffer) (member_turns client (engine_calls c (caller_of_client client)))

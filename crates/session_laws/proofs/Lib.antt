@@ -8,7 +8,7 @@ pub mod MainFirst
 pub mod NoneTaken
 pub mod GotSent
 pub mod LoggerEnd
-pub mod AnalyzersEnd
+pub mod MembersListed
 pub mod FrontsEnd
 pub mod KeptTogether
 pub mod RunsMade
@@ -22,6 +22,7 @@ pub mod TakenNames
 pub mod CountsTold
 pub mod ListedTold
 pub mod ReportsMade
+pub mod RecordedStarts
 pub mod RecordsMade
 pub mod ChannelsSame
 pub mod OneEach

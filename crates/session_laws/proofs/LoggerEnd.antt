@@ -1,11 +1,10 @@
 -- The logger of a closed session keeps its contract over the histories: nobody else detaches a client of it.
 use Rattle.std.specs.Prelude.{◌≡◌, ◌≢◌, ℕ, zero, suc, false, List, [], ◌∷◌, length, slice_get, Option, Some, None, refl}
 use Rattle.std.specs.List.{AllByRecursion}
-use Rattle.std.proofs.Common.{ap, sym, subst, ◌∙◌, arith, inl, inr}
-use Rattle.std.proofs.lemmas.Bool.Decides.{eqb_tells}
+use Rattle.std.proofs.Common.{ap, sym, subst, ◌∙◌, arith}
 use Rattle.daq_types.specs.Callers.{entries_by, main_caller, caller_of_client}
 use Rattle.buffer_core.specs.declared.entry.BufferEntry.{BufferEntry}
-use Rattle.buffer_core.specs.declared.entry.BufferEntry.TheVariants.{Attach, Detach, Request, Cancel, Send, SendInRun, Receive, Begin, Pause, Resume, End, Level, Accepted}
+use Rattle.buffer_core.specs.declared.entry.BufferEntry.TheVariants.{Detach, SendInRun}
 use Rattle.buffer_core.specs.Window.{Window, opening}
 use Rattle.buffer_core.specs.Histories.{History}
 use Rattle.buffer_core.specs.Ports.{Access, GotEvent}
@@ -19,7 +18,7 @@ use Rattle.loggers.specs.LoggerStands.{logger_channels, logger_port, logger_port
 use Rattle.analyzers.specs.AnalyzerKept.{IsAnalyzerCall}
 use Rattle.session_laws.specs.ClosedSessions.{ClosedAnalyzer, ClosedBuffer, ClosedFront, ClosedSession, analyzer_client, logger_client, logger_caller, size_in, history_in, history_of_buffer, engine_calls, calls_on_buffer, got_from_buffer}
 use Rattle.session_laws.specs.MembersAtEnd.{AnalyzerAtEnd, FrontAtEnd, IsAccessTo, MembersAtEnd}
-use Rattle.session_laws.proofs.EachCaller.{each_by, none_all, by_caller}
+use Rattle.session_laws.proofs.EachCaller.{each_by, none_all, by_caller, at_own}
 use Rattle.session_laws.proofs.NoneTaken.{OthersKeep, none_taken_first}
 
 -- What a port gave, whole: the law of the lock.
@@ -30,18 +29,7 @@ GotAll = (history seen : History) (caller : ℕ) (first : Window) → IsPartOf h
 
 pub send_keeps : (e : BufferEntry) → IsSendInRun e → (client : ℕ) → detaches e client ≡ false
 send_keeps (SendInRun start stated e reply) is client = refl
-send_keeps (Attach name reply) is client = absurd is
-send_keeps (Detach n reply) is client = absurd is
-send_keeps (Request n id mask kind reply) is client = absurd is
-send_keeps (Cancel n number reply) is client = absurd is
-send_keeps (Send stated e reply) is client = absurd is
-send_keeps (Receive n room reply) is client = absurd is
-send_keeps (Begin start reply) is client = absurd is
-send_keeps (Pause start reply) is client = absurd is
-send_keeps (Resume start reply) is client = absurd is
-send_keeps (End start reply) is client = absurd is
-send_keeps (Level reply) is client = absurd is
-send_keeps (Accepted reply) is client = absurd is
+send_keeps e is client = absurd is
 
 abbrev DetachesNone : (by other : ℕ) → BufferEntry → Type 0
 DetachesNone by other e = other ≢ by → (client : ℕ) → detaches e client ≡ false
@@ -55,39 +43,22 @@ own_keep by [] = tt
 own_keep by (e ∷ es) = ((λ differs client. absurd (differs refl)), own_keep by es)
 
 front_keeps : (c : ClosedSession) (client : ℕ) (f : ClosedFront) → FrontAtEnd c client f → (buffer : ℕ) → AllByRecursion (DetachesNone (logger_caller c) (caller_of_client client)) (calls_on_buffer c (caller_of_client client) buffer)
-front_keeps c client f ends buffer = elim (eqb_tells f.buffer buffer) as (λ w. AllByRecursion (DetachesNone (logger_caller c) (caller_of_client client)) (calls_on_buffer c (caller_of_client client) buffer)) [
-  | inl same ↦
-      subst (λ (n : ℕ). AllByRecursion (DetachesNone (logger_caller c) (caller_of_client client)) (calls_on_buffer c (caller_of_client client) n)) same.1
-      (sends_keep (logger_caller c) (caller_of_client client) (calls_on_buffer c (caller_of_client client) f.buffer) ends.stands.stands.keeps.only_sends)
-  | inr differs ↦ none_all (DetachesNone (logger_caller c) (caller_of_client client)) (calls_on_buffer c (caller_of_client client) buffer) (ends.elsewhere buffer (λ is. differs.1 (sym is)))
-]
+front_keeps c client f ends =
+    let by : ℕ = caller_of_client client in
+    at_own c by f.buffer ends.elsewhere (AllByRecursion (DetachesNone (logger_caller c) by)) (sends_keep (logger_caller c) by (calls_on_buffer c by f.buffer) ends.stands.stands.keeps.only_sends) tt
 
 read_keeps : (e : BufferEntry) → IsAnalyzerCall e → (client : ℕ) → detaches e client ≡ false
-read_keeps (Attach name reply) is client = refl
-read_keeps (Request n id mask kind reply) is client = refl
-read_keeps (Cancel n number reply) is client = refl
-read_keeps (Receive n room reply) is client = refl
-read_keeps (Accepted reply) is client = refl
 read_keeps (Detach n reply) is client = absurd is
-read_keeps (Send stated e reply) is client = absurd is
-read_keeps (SendInRun start stated e reply) is client = absurd is
-read_keeps (Begin start reply) is client = absurd is
-read_keeps (Pause start reply) is client = absurd is
-read_keeps (Resume start reply) is client = absurd is
-read_keeps (End start reply) is client = absurd is
-read_keeps (Level reply) is client = absurd is
+read_keeps e is client = refl
 
 reads_keep : (by other : ℕ) (es : List BufferEntry) → EachCall IsAnalyzerCall es → AllByRecursion (DetachesNone by other) es
 reads_keep by other [] all = tt
 reads_keep by other (e ∷ es) all = ((λ differs client. read_keeps e all.0 client), reads_keep by other es all.1)
 
 analyzer_keeps_calls : (c : ClosedSession) (client : ℕ) (a : ClosedAnalyzer) → AnalyzerAtEnd c client a → (buffer : ℕ) → AllByRecursion (DetachesNone (logger_caller c) (caller_of_client client)) (calls_on_buffer c (caller_of_client client) buffer)
-analyzer_keeps_calls c client a ends buffer = elim (eqb_tells a.buffer buffer) as (λ w. AllByRecursion (DetachesNone (logger_caller c) (caller_of_client client)) (calls_on_buffer c (caller_of_client client) buffer)) [
-  | inl same ↦
-      subst (λ (n : ℕ). AllByRecursion (DetachesNone (logger_caller c) (caller_of_client client)) (calls_on_buffer c (caller_of_client client) n)) same.1
-      (reads_keep (logger_caller c) (caller_of_client client) (calls_on_buffer c (caller_of_client client) a.buffer) ends.stands.stands.holds.calls.only_reads)
-  | inr differs ↦ none_all (DetachesNone (logger_caller c) (caller_of_client client)) (calls_on_buffer c (caller_of_client client) buffer) (ends.elsewhere buffer (λ is. differs.1 (sym is)))
-]
+analyzer_keeps_calls c client a ends =
+    let by : ℕ = caller_of_client client in
+    at_own c by a.buffer ends.elsewhere (AllByRecursion (DetachesNone (logger_caller c) by)) (reads_keep (logger_caller c) by (calls_on_buffer c by a.buffer) ends.stands.stands.holds.calls.only_reads) tt
 
 others_keep : (c : ClosedSession) → MembersAtEnd c → (buffer : ℕ) → OthersKeep (logger_caller c) (history_of_buffer c buffer)
 others_keep c ends buffer =

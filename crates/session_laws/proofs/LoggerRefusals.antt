@@ -1,11 +1,9 @@
 -- The logger of a closed session never refused a start as not ready; and its calls on a buffer are those that its port told it.
-use Rattle.std.specs.Prelude.{◌≡◌, ℕ, List, [], ◌∷◌, slice_get, Option, Some}
+use Rattle.std.specs.Prelude.{◌≡◌, ℕ, List, [], ◌∷◌, slice_get, Option, Some, refl}
 use Rattle.std.proofs.Common.{ap, sym, ◌∙◌, inl, inr}
 use Rattle.daq_types.specs.Callers.{entries_by}
 use Rattle.daq_types.specs.declared.runs.Transition.TheVariants.{Start, Stop, StartAbort}
 use Rattle.daq_types.specs.declared.runs.Why.TheVariants.{NotReady}
-use Rattle.transitions.specs.declared.sequences.Role.{Role}
-use Rattle.transitions.specs.Sequences.{sequence_for, sequences_of}
 use Rattle.buffer_core.specs.Ports.{Access}
 use Rattle.transitions.specs.declared.answers.Answer.TheVariants.{No}
 use Rattle.member_model.specs.Turns.{MemberTurn, HasTurn, AreEngineTurns}
@@ -18,8 +16,7 @@ use Rattle.session_laws.specs.ClosedSessions.{ClosedBuffer, ClosedSession, logge
 use Rattle.session_laws.specs.MembersAtEnd.{IsAccessTo, MembersAtEnd}
 use Rattle.session_laws.proofs.KeptTogether.{names_own}
 use Rattle.session_laws.proofs.LoggerEnd.{BothAt, Both, Neither, none_taken_back}
-use Rattle.session_laws.proofs.MainFirst.{registered}
-use Rattle.session_laws.proofs.Registrations.{logger_at}
+use Rattle.session_laws.proofs.MainFirst.{logger_called}
 use Rattle.session_laws.proofs.RunTurns.{TurnLaws}
 
 -- Not ready.
@@ -39,11 +36,7 @@ never_in_run (u ∷ us) t unready last has starts answered = elim has as (λ w. 
 -- the logger was registered before all transitions, for each end of a run
 pub always_called : (c : ClosedSession) → MembersAtEnd c → IsAlwaysCalled c.engine (logger_client c)
 always_called c ends earlier later caller begun sheet start whole =
-    let n : ℕ = logger_client c in
-    let m = logger_at c.fronts c.analyzers in (
-      registered c ends n m.0 m.1 Stop 800 (ap (λ (role : Role). sequence_for (sequences_of role) Stop) m.2) (λ client. []) earlier later caller begun sheet start whole,
-      registered c ends n m.0 m.1 StartAbort 800 (ap (λ (role : Role). sequence_for (sequences_of role) StartAbort) m.2) (λ client. []) earlier later caller begun sheet start whole,
-    )
+    (logger_called c ends Stop 800 refl (λ client. []) earlier later caller begun sheet start whole, logger_called c ends StartAbort 800 refl (λ client. []) earlier later caller begun sheet start whole)
 
 pub never_unready : TurnLaws → RunsAreOver → (c : ClosedSession) (ends : MembersAtEnd c) (turn : MemberTurn) → HasTurn (member_turns (logger_client c) (engine_calls c (logger_caller c))) turn → turn.transition ≡ Start → turn.answer ≡ Some (No NotReady) → ⊥
 never_unready laws over c ends turn has starts answered =

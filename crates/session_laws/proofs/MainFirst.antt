@@ -3,6 +3,7 @@ use Rattle.std.specs.Prelude.{◌≡◌, ℕ, List, [], ◌∷◌, ◌++◌, sli
 use Rattle.std.proofs.Common.{ap, sym, subst, ◌∙◌, arith, append_assoc}
 use Rattle.daq_types.specs.Callers.{entries_by, main_caller}
 use Rattle.daq_types.specs.declared.runs.Transition.{Transition}
+use Rattle.transitions.specs.declared.sequences.Role.TheVariants.{Logger}
 use Rattle.transitions.specs.Sequences.{sequence_for, sequences_of}
 use Rattle.transitions.specs.declared.entry.EngineEntry.TheVariants.{Begin}
 use Rattle.transitions.specs.Engines.{engine_opening}
@@ -10,12 +11,13 @@ use Rattle.transitions.specs.EngineCalls.{engine_after}
 use Rattle.member_model.specs.RunEngines.{Sheet, EngineEntry, EngineState, EngineHistory, IsEngineCaller, IsLegalEngine}
 use Rattle.history_laws.proofs.MainCalls.{OwnAt, own_at}
 use Rattle.session_runs.specs.declared.opening.MemberName.{MemberName}
-use Rattle.session_runs.specs.Members.{gets_dumps, gets_reports, registration, registrations}
+use Rattle.session_runs.specs.Members.{gets_dumps, gets_reports, member_in, registration, registrations}
+use Rattle.mid_logger.specs.ChannelTurns.{logger_name}
 use Rattle.composition.specs.Sessions.{IsRegistered}
-use Rattle.session_laws.specs.ClosedSessions.{ClosedSession, members_of, session_of}
+use Rattle.session_laws.specs.ClosedSessions.{ClosedSession, logger_client, registered_members, session_of}
 use Rattle.session_laws.specs.MembersAtEnd.{MembersAtEnd}
 use Rattle.session_laws.proofs.EachCaller.{own_around}
-use Rattle.session_laws.proofs.Registrations.{Among, registered_at, behind_all}
+use Rattle.session_laws.proofs.Registrations.{Among, logger_at, registered_at, behind_all}
 
 pub may_call : (s : EngineState) (xs : EngineHistory) (x : ℕ × EngineEntry) (ys : EngineHistory) → IsLegalEngine s (xs ++ x ∷ ys) → IsEngineCaller x.0 x.1
 may_call s [] x ys legal = legal.0
@@ -24,10 +26,10 @@ may_call s (y ∷ xs) x ys legal = may_call (engine_after s y.1) xs x ys legal.2
 no_begin : (t : Transition) (sheet : Sheet) (start : ℕ) (k : ℕ) (m : MemberName) → Begin t sheet (Ok start) ≡ registration k m → ⊥
 no_begin t sheet start k m is = absurd (cc (is))
 
-pub registered : (c : ClosedSession) → MembersAtEnd c → (client : ℕ) (m : MemberName) → slice_get (members_of c.fronts c.analyzers) client ≡ Some m
+pub registered : (c : ClosedSession) → MembersAtEnd c → (client : ℕ) (m : MemberName) → slice_get (registered_members c) client ≡ Some m
     → (transition : Transition) (sequence : ℕ) → sequence_for (sequences_of m.role) transition ≡ Some sequence → (moments : ℕ → List ℕ) → IsRegistered (session_of c moments) client transition
 registered c ends client m at transition sequence called moments earlier later caller begun sheet start whole =
-    let members : List MemberName = members_of c.fronts c.analyzers in
+    let members : List MemberName = registered_members c in
     let begin : EngineEntry = Begin begun sheet (Ok start) in
     let may : IsEngineCaller caller (Begin begun sheet (Ok start)) = may_call engine_opening earlier (caller, Begin begun sheet (Ok start)) later (subst (IsLegalEngine engine_opening) whole ends.engine) in
     let by_main : c.engine ≡ earlier ++ (main_caller, begin) ∷ later = whole ∙ ap (λ (n : ℕ). earlier ++ (n, Begin begun sheet (Ok start)) ∷ later) may.0 in
@@ -50,3 +52,7 @@ registered c ends client m at transition sequence called moments earlier later c
       sequence = sequence;
       called = called;
     }
+
+-- so was the logger
+pub logger_called : (c : ClosedSession) → MembersAtEnd c → (transition : Transition) (sequence : ℕ) → sequence_for (sequences_of Logger) transition ≡ Some sequence → (moments : ℕ → List ℕ) → IsRegistered (session_of c moments) (logger_client c) transition
+logger_called c ends transition sequence called moments = registered c ends (logger_client c) (member_in Logger logger_name) (logger_at c) transition sequence called moments

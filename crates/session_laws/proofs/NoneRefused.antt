@@ -2,7 +2,6 @@
 -- they gave none a cause.
 use Rattle.std.specs.Prelude.{◌≡◌, ℕ, zero, suc, ◌+◌, ◌<◌, ◌≤◌, ◌==◌, if◌then◌else◌, Bool, true, false, map, length, sum_by, slice_get, Contains, List, [], ◌∷◌, ◌++◌, Option, Some, None, Err, refl, ◌⊎◌}
 use Rattle.std.proofs.Common.{ap, sym, subst, ◌∙◌, arith, inl, inr}
-use Rattle.std.proofs.lemmas.Bool.Decides.{eqb_tells}
 use Rattle.std.proofs.lemmas.List.Elements.{Contains-append_right}
 use Rattle.std.proofs.lemmas.List.Sums.{sum_by-cons}
 use Rattle.daq_types.specs.Callers.{caller_of_client, main_caller, entries_by}
@@ -10,7 +9,7 @@ use Rattle.daq_types.specs.declared.runs.Transition.TheVariants.{Start}
 use Rattle.daq_types.specs.declared.runs.Transition.{Transition}
 use Rattle.buffer_core.specs.declared.replies.MarkRefusal.{MarkRefusal}
 use Rattle.buffer_core.specs.declared.entry.BufferEntry.{BufferEntry}
-use Rattle.buffer_core.specs.declared.entry.BufferEntry.TheVariants.{Attach, Detach, Request, Cancel, Send, SendInRun, Receive, Begin, Pause, Resume, End, Level, Accepted}
+use Rattle.buffer_core.specs.declared.entry.BufferEntry.TheVariants.{Attach, Request, SendInRun, Begin}
 use Rattle.buffer_core.specs.Ports.{Access}
 use Rattle.member_model.specs.Turns.{MemberTurn, IsNextTurn, IsNewStart, AreEngineTurns}
 use Rattle.member_model.specs.TurnCalls.{member_turns}
@@ -31,10 +30,10 @@ use Rattle.history_laws.specs.EngineLaws.{RunsAreOver}
 use Rattle.composition.proofs.FilesTogether.{logger_marks_alone}
 use Rattle.composition.proofs.SentTogether.{each_reads_or_sends}
 use Rattle.composition.proofs.SessionTurns.{speaks}
-use Rattle.session_laws.specs.ClosedSessions.{ClosedAnalyzer, ClosedBuffer, ClosedFront, ClosedSession, analyzer_client, logger_client, logger_caller, history_in, history_of_buffer, size_of_buffer, engine_calls, calls_on_buffer, session_front, session_of}
+use Rattle.session_laws.specs.ClosedSessions.{ClosedAnalyzer, ClosedBuffer, ClosedFront, ClosedSession, analyzer_client, calls_on_buffer, engine_calls, history_in, history_of_buffer, logger_caller, logger_client, numbered, session_front, session_of, size_of_buffer}
 use Rattle.session_laws.specs.MembersAtEnd.{MembersAtEnd}
-use Rattle.session_laws.proofs.EachCaller.{by_caller}
-use Rattle.session_laws.proofs.FrontsEnd.{front_listed}
+use Rattle.session_laws.proofs.EachCaller.{at_own, by_caller}
+use Rattle.session_laws.proofs.MembersListed.{front_listed, numbered_at}
 use Rattle.session_laws.proofs.GotSent.{legal_buffer}
 use Rattle.session_laws.proofs.KeptTogether.{names_own}
 use Rattle.session_laws.proofs.LoggerEnd.{BothAt, Both, Neither, both_at, none_taken_back}
@@ -94,18 +93,10 @@ fair_at ports turns own e a fair =
 
 -- who attaches clients: the logger and the analyzers
 abbrev analyzers_from : (client : ℕ) → List ClosedAnalyzer → List ℕ
-analyzers_from client [] = []
-analyzers_from client (a ∷ analyzers) = caller_of_client client ∷ analyzers_from (suc client) analyzers
+analyzers_from client analyzers = numbered (λ n a. caller_of_client n) client analyzers
 
 abbrev askers : ClosedSession → List ℕ
 askers c = logger_caller c ∷ analyzers_from (suc (length c.fronts)) c.analyzers
-
-analyzer_member_at : (client n place : ℕ) (analyzers : List ClosedAnalyzer) (a : ClosedAnalyzer) → n ≡ client + place → slice_get analyzers place ≡ Some a → slice_get (analyzers_from client analyzers) place ≡ Some (caller_of_client n)
-analyzer_member_at client n place [] a number at = absurd (cc at)
-analyzer_member_at client n zero (x ∷ analyzers) a number at =
-    let here : client ≡ n = omega arith in
-    ap (λ (m : ℕ). Some (caller_of_client m)) here
-analyzer_member_at client n (suc place) (x ∷ analyzers) a number at = analyzer_member_at (suc client) n place analyzers a (omega arith) at
 
 -- where each of them counts at most one, they count no more than they are
 analyzers_few : (count : ℕ → ℕ) (client : ℕ) (analyzers : List ClosedAnalyzer) → ((place n : ℕ) (a : ClosedAnalyzer) → n ≡ client + place → slice_get analyzers place ≡ Some a → count (caller_of_client n) ≤ 1)
@@ -138,18 +129,7 @@ slots_few buffer (s ∷ slots) = omega (arith, sum_by-cons (channel_clients buff
 
 send_none : (e : BufferEntry) → IsSendInRun e → attaches_by e ≡ 0
 send_none (SendInRun start stated event reply) sends = refl
-send_none (Attach name reply) sends = absurd sends
-send_none (Detach client reply) sends = absurd sends
-send_none (Request client id mask kind reply) sends = absurd sends
-send_none (Cancel client number reply) sends = absurd sends
-send_none (Send stated event reply) sends = absurd sends
-send_none (Receive client room reply) sends = absurd sends
-send_none (Begin start reply) sends = absurd sends
-send_none (Pause start reply) sends = absurd sends
-send_none (Resume start reply) sends = absurd sends
-send_none (End start reply) sends = absurd sends
-send_none (Level reply) sends = absurd sends
-send_none (Accepted reply) sends = absurd sends
+send_none e sends = absurd sends
 
 sends_none : (own : List BufferEntry) → EachCall IsSendInRun own → attaches_made own ≡ 0
 sends_none [] sends = refl
@@ -175,11 +155,9 @@ module _ (laws : TurnLaws) (asking : AskLaws) (c : ClosedSession) (ends : Member
   unfolding Counted
   front_counted buffer client f at =
       let keep = laws.keep c ends in
-      let sends : EachCall IsSendInRun (calls_on_buffer c (caller_of_client client) f.buffer) = (keep.1.fronts_keep (session_front client f (keep.0 client)) (client, front_listed c keep.0 client f at)).only_sends in
-      elim (eqb_tells buffer f.buffer) as (λ w. Counted buffer (caller_of_client client)) [
-        | inl same ↦ inr (ap (λ (b : ℕ). attached b (caller_of_client client)) same.1 ∙ sends_none (calls_on_buffer c (caller_of_client client) f.buffer) sends)
-        | inr differs ↦ inr (none_attached (calls_on_buffer c (caller_of_client client) buffer) ((ends.fronts client f at).elsewhere buffer differs.1))
-      ]
+      let by : ℕ = caller_of_client client in
+      let sends : EachCall IsSendInRun (calls_on_buffer c by f.buffer) = (keep.1.fronts_keep (session_front client f (keep.0 client)) (client, front_listed c keep.0 client f at)).only_sends in
+      inr (at_own c by f.buffer (ends.fronts client f at).elsewhere (λ own. attaches_made own ≡ 0) (sends_none (calls_on_buffer c by f.buffer) sends) refl buffer)
 
   counted : (buffer by : ℕ) → Counted buffer by
   unfolding Counted
@@ -188,20 +166,15 @@ module _ (laws : TurnLaws) (asking : AskLaws) (c : ClosedSession) (ends : Member
       (inr (none_attached (calls_on_buffer c main_caller buffer) (ends.main.buffers buffer)))
       (front_counted buffer)
       (inl (0, refl))
-      (λ place a at. inl (suc place, analyzer_member_at (suc (length c.fronts)) (analyzer_client c place) place c.analyzers a refl at))
+      (λ place a at. inl (suc place, numbered_at (λ n b. caller_of_client n) (suc (length c.fronts)) place (analyzer_client c place) c.analyzers a refl at))
       (λ by past. inr (none_attached (calls_on_buffer c by buffer) (ends.others.buffers by past buffer)))
 
   analyzer_attached : (buffer place : ℕ) (a : ClosedAnalyzer) → slice_get c.analyzers place ≡ Some a → attached buffer (caller_of_client (analyzer_client c place)) ≤ 1
   analyzer_attached buffer place a at =
       let by : ℕ = caller_of_client (analyzer_client c place) in
       let end = ends.analyzers place a at in
-      elim (eqb_tells buffer a.buffer) as (λ w. attached buffer by ≤ 1) [
-        | inl same ↦
-            let few = end.stands.stands.asks.attaches in
-            let here : attached buffer by ≡ attached a.buffer by = ap (λ (b : ℕ). attached b by) same.1 in
-            omega (arith, analyzer_few end.analyzer.client)
-        | inr differs ↦ omega (arith, none_attached (calls_on_buffer c by buffer) (end.elsewhere buffer differs.1))
-      ]
+      let few = end.stands.stands.asks.attaches in
+      at_own c by a.buffer end.elsewhere (λ own. attaches_made own ≤ 1) (omega (arith, analyzer_few end.analyzer.client)) (omega arith) buffer
 
   logger_attached_at : (buffer : ℕ) → BothAt ends.logger.ports c.buffers buffer → attached buffer (logger_caller c) ≤ 16
   logger_attached_at buffer (Both a b at there) =

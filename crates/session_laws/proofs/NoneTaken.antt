@@ -1,11 +1,11 @@
 -- Where no other caller detaches a client, no client of a caller is known to be detached by another.
-use Rattle.std.specs.Prelude.{◌≡◌, ◌≢◌, ℕ, suc, ◌==◌, not, Bool, true, false, if◌then◌else◌, List, [], ◌∷◌, ◌++◌, Ok, Err, refl}
+use Rattle.std.specs.Prelude.{◌≡◌, ◌≢◌, ℕ, suc, ◌==◌, not, Bool, true, false, if◌then◌else◌, List, [], ◌∷◌, ◌++◌, Ok, refl}
 use mathlib.Core.List.{IsPrefix}
 use Rattle.std.specs.List.{AllByRecursion}
 use Rattle.std.proofs.Common.{ap, sym, subst, ◌∙◌, inl, inr}
 use Rattle.std.proofs.lemmas.Bool.Decides.{eqb_tells}
 use Rattle.buffer_core.specs.declared.entry.BufferEntry.{BufferEntry}
-use Rattle.buffer_core.specs.declared.entry.BufferEntry.TheVariants.{Attach, Detach, Request, Cancel, Send, SendInRun, Receive, Begin, Pause, Resume, End, Level, Accepted}
+use Rattle.buffer_core.specs.declared.entry.BufferEntry.TheVariants.{Attach}
 use Rattle.buffer_core.specs.Histories.{History}
 use Rattle.buffer_core.proofs.SlotLaws.{split}
 use Rattle.buffer_core.specs.CallersView.{detaches, is_taken_back, taken_back_of, taken_back_in}
@@ -32,19 +32,7 @@ not_taken by client (x ∷ h) keep =
 
 none_of : (by call : ℕ) (e : BufferEntry) (h : History) → OthersKeep by h → taken_back_of by call e h ≡ []
 none_of by call (Attach name (Ok client)) h keep = ap (λ (b : Bool). if b then call ∷ [] else []) (not_taken by client h keep)
-none_of by call (Attach name (Err why)) h keep = refl
-none_of by call (Detach client reply) h keep = refl
-none_of by call (Request client id mask kind reply) h keep = refl
-none_of by call (Cancel client number reply) h keep = refl
-none_of by call (Send stated e reply) h keep = refl
-none_of by call (SendInRun start stated e reply) h keep = refl
-none_of by call (Receive client room reply) h keep = refl
-none_of by call (Begin start reply) h keep = refl
-none_of by call (Pause start reply) h keep = refl
-none_of by call (Resume start reply) h keep = refl
-none_of by call (End start reply) h keep = refl
-none_of by call (Level reply) h keep = refl
-none_of by call (Accepted reply) h keep = refl
+none_of by call e h keep = refl
 
 pub none_taken : (by call : ℕ) (h : History) → OthersKeep by h → taken_back_in by call h ≡ []
 none_taken by call [] keep = refl

@@ -1,5 +1,5 @@
 -- Each start has a number of its own, so what is told of several starts is told by several turns.
-use Rattle.std.specs.Prelude.{◌≡◌, ◌≤◌, ◌<◌, ◌+◌, ◌==◌, ◌⊎◌, ℕ, zero, suc, Bool, if◌then◌else◌, sum_by, List, [], ◌∷◌, ◌++◌, length, map, slice_get, Contains, Option, Some, None, Result, Ok, Err, ⊤, refl}
+use Rattle.std.specs.Prelude.{◌≡◌, ◌≤◌, ◌<◌, ◌+◌, ◌==◌, ◌⊎◌, ℕ, zero, suc, Bool, if◌then◌else◌, sum_by, List, [], ◌∷◌, ◌++◌, length, map, slice_get, Contains, Option, Some, None, Ok, ⊤, refl}
 use Rattle.std.specs.Option.{option_map, option_to_list}
 use Rattle.std.specs.List.{AllByRecursion}
 use Rattle.std.proofs.Common.{ap, sym, subst, ◌∙◌, arith, inl, inr, append_assoc, eq-eqb}
@@ -12,8 +12,7 @@ use Rattle.daq_types.specs.declared.runs.ChannelEnd.{ChannelEnd}
 use Rattle.daq_types.specs.declared.runs.Order.{Order}
 use Rattle.daq_types.specs.declared.runs.StartOutcome.{StartOutcome}
 use Rattle.daq_types.specs.declared.runs.StartOutcome.TheVariants.{Completed, Refused}
-use Rattle.daq_types.specs.declared.runs.Transition.{Transition}
-use Rattle.daq_types.specs.declared.runs.Transition.TheVariants.{Start, Stop, Pause, Resume, StartAbort}
+use Rattle.daq_types.specs.declared.runs.Transition.TheVariants.{Start, Stop}
 use Rattle.daq_types.specs.declared.runs.Why.{Why}
 use Rattle.daq_types.specs.declared.runs.Why.TheVariants.{NotReady, Exists, Fault, BufferRefused}
 use Rattle.daq_io.proofs.Counts.{RoseBy-fewer}
@@ -21,8 +20,7 @@ use Rattle.daq_io.specs.Told.{FilesTold}
 use Rattle.buffer_core.specs.Slots.{slot_at}
 use Rattle.transitions.specs.declared.answers.Answer.TheVariants.{Yes, No}
 use Rattle.transitions.specs.declared.answers.Tally.TheVariants.{Channels}
-use Rattle.transitions.specs.declared.replies.BeginRefusal.{BeginRefusal}
-use Rattle.transitions.specs.declared.entry.EngineEntry.TheVariants.{Register, Begin, Poll, Answer as Answered, Check, Close}
+use Rattle.transitions.specs.declared.entry.EngineEntry.TheVariants.{Begin}
 use Rattle.transitions.specs.Engines.{engine_opening}
 use Rattle.transitions.specs.EnginePoints.{engine_past, state_at}
 use Rattle.member_model.specs.RunEngines.{Sheet, Answer, ClientTally, EngineEntry, EngineHistory, IsLegalEngine}
@@ -53,7 +51,9 @@ use Rattle.session_laws.specs.OneAnswer.{faults_of_outcome, clashes_of_outcome, 
 use Rattle.session_laws.proofs.EachCaller.{all_each}
 use Rattle.session_laws.proofs.KeptTogether.{names_own}
 use Rattle.session_laws.proofs.LoggerEnd.{none_taken_back}
-use Rattle.session_laws.proofs.RecordsMade.{made_then, made_behind, ToldEnds, ends_so}
+use Rattle.session_laws.proofs.RecordedStarts.{refused_in, run_in, run_recorded, starts_joined}
+use Rattle.session_laws.specs.MadeRuns.{RunIn}
+use Rattle.session_laws.proofs.RecordsMade.{ToldEnds, ends_so}
 use Rattle.session_laws.proofs.RunsMade.{has_made}
 
 -- Sums.
@@ -138,35 +138,15 @@ runs_within weight count ts runs apart all = omega (arith, records_within weight
 
 -- The main thread's starts.
 
-pub starts_joined : (own more : List EngineEntry) → starts_begun (own ++ more) ≡ starts_begun own ++ starts_begun more
-starts_joined [] more = refl
-starts_joined (e ∷ own) more =
-    ap (λ (l : List ℕ). start_begun e ++ l) (starts_joined own more) ∙ sym (append_assoc (start_begun e) (starts_begun own) (starts_begun more))
-
 -- the call begins a start, or none
 record BeginsStart (e : EngineEntry) : Type 0 where
   sheet : Sheet
   start : ℕ
   is : e ≡ Begin Start sheet (Ok start)
 
-begun_start : (sheet : Sheet) (reply : Result ℕ BeginRefusal) → (start_begun (Begin Start sheet reply) ≡ []) ⊎ BeginsStart (Begin Start sheet reply)
-begun_start sheet (Ok start) = inr (record { sheet = sheet; start = start; is = refl })
-begun_start sheet (Err why) = inl refl
-
-begun_by : (t : Transition) (sheet : Sheet) (reply : Result ℕ BeginRefusal) → (start_begun (Begin t sheet reply) ≡ []) ⊎ BeginsStart (Begin t sheet reply)
-begun_by Start sheet reply = begun_start sheet reply
-begun_by Stop sheet reply = inl refl
-begun_by Pause sheet reply = inl refl
-begun_by Resume sheet reply = inl refl
-begun_by StartAbort sheet reply = inl refl
-
 begins_or_not : (e : EngineEntry) → (start_begun e ≡ []) ⊎ BeginsStart e
-begins_or_not (Begin t sheet reply) = begun_by t sheet reply
-begins_or_not (Register name sequences dump report reply) = inl refl
-begins_or_not (Poll client reply) = inl refl
-begins_or_not (Answered client answer reply) = inl refl
-begins_or_not (Check reply tallies) = inl refl
-begins_or_not (Close reply) = inl refl
+begins_or_not (Begin Start sheet (Ok start)) = inr (record { sheet = sheet; start = start; is = refl })
+begins_or_not e = inl refl
 
 -- the start with this number is begun among these calls
 record BegunAt (own : List EngineEntry) (start : ℕ) : Type 0 where
@@ -319,10 +299,8 @@ record RefusalTold (ts : List MemberTurn) (start : ℕ) (why : Why) : Type 0 whe
   clashes : clashes_of_answer (No why) ≤ told_for clash_count ts start
 
 clashes_refused : (client : ℕ) (why : Why) → clashes_of_outcome (Refused client why) ≡ clashes_of_answer (No why)
-clashes_refused client NotReady = refl
 clashes_refused client (Exists channel) = refl
-clashes_refused client (Fault channel) = refl
-clashes_refused client BufferRefused = refl
+clashes_refused client why = refl
 
 -- who refuses for another reason than being not ready is the logger
 refused_alone : (c : ClosedSession) (first now : FilesTold) (sheet : Sheet) (start client : ℕ) (why : Why) → (why ≡ NotReady → ⊥) → IsRefusedSo c first now sheet start client why → client ≡ logger_client c
@@ -382,9 +360,7 @@ module _ (laws : OneLaws) (c : ClosedSession) (ends : MembersAtEnd c) (first now
     refused_told r quota client why is fits =
         let start = fits.start in
         let sheet : Sheet = start_sheet (length c.analyzers) r.run r.time0 quota start.dump in
-        let here : TransitionIn own.engine Start sheet r.start (Refused client why) start.tallies = subst (λ (o : StartOutcome). TransitionIn own.engine Start sheet r.start o start.tallies) is start.made in
-        let made : TransitionIn (engine_calls c main_caller) Start sheet r.start (Refused client why) start.tallies =
-        subst (λ (l : List EngineEntry). TransitionIn l Start sheet r.start (Refused client why) start.tallies) (sym calls) (made_then own.engine more Start sheet r.start (Refused client why) start.tallies here) in
+        let made : TransitionIn (engine_calls c main_caller) Start sheet r.start (Refused client why) start.tallies = refused_in (clients_in c) own more (engine_calls c main_caller) calls r quota client why is start in
         let told : RefusalTold ts r.start why = refusal_told why sheet r.start client start.tallies made in
         let files : sum_by faults_of_files r.files ≡ 0 = ap (λ (l : List ChannelFiles). sum_by faults_of_files l) fits.files in
         let outcome : faults_of_outcome r.outcome ≡ faults_of_refusal why = ap faults_of_outcome is in
@@ -411,15 +387,9 @@ module _ (laws : OneLaws) (c : ClosedSession) (ends : MembersAtEnd c) (first now
     whole_told : (r : RunRecord) (quota : ℕ) → r.outcome ≡ Completed → FitsWhole (clients_in c) own (run_of r quota) r → ToldByTurns ts r
     whole_told r quota is fits =
         let stop = fits.stop in
-        let early : List EngineEntry = fits.early.engine in
-        let late : List EngineEntry = fits.late.engine in
-        let sheet : Sheet = later_sheet (run_of r quota) r.time1 (dump_saved stop.saved) in
-        let joined : (early ++ late) ++ more ≡ engine_calls c main_caller = sym (calls ∙ ap (λ (o : MainOwn). o.engine ++ more) fits.calls) in
-        let made : TransitionIn (engine_calls c main_caller) Stop sheet r.start Completed stop.tallies =
-        subst (λ (l : List EngineEntry). TransitionIn l Stop sheet r.start Completed stop.tallies) joined
-        (made_then (early ++ late) more Stop sheet r.start Completed stop.tallies (made_behind early late Stop sheet r.start Completed stop.tallies stop.made)) in
+        let made : RunIn (engine_calls c main_caller) (run_recorded (clients_in c) own more (engine_calls c main_caller) calls r quota fits) = run_in (clients_in c) own more (engine_calls c main_caller) calls r quota fits in
         let files : sum_by faults_of_files r.files ≡ sum_by faults_of_files (files_of (ends_told (logger_client c) stop.tallies) (run_channels c.slots)) = ap (λ (l : List ChannelFiles). sum_by faults_of_files l) stop.tells.files in
-        let some = ends_told_by r sheet stop.tallies made (ends_told (logger_client c) stop.tallies) refl in
+        let some = ends_told_by r (later_sheet (run_of r quota) r.time1 (dump_saved stop.saved)) stop.tallies made.stopped (ends_told (logger_client c) stop.tallies) refl in
         let outcome : faults_of_outcome r.outcome ≡ 0 = ap faults_of_outcome is in
         let clashed : clashes_of_outcome r.outcome ≡ 0 = ap clashes_of_outcome is in
         record { faults = omega (arith, files, some, outcome); clashes = omega (arith, clashed) }

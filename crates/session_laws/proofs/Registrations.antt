@@ -1,8 +1,11 @@
 -- How the members of a closed session are registered, and what is so of the logger alone.
-use Rattle.std.specs.Prelude.{◌≡◌, ℕ, zero, suc, ◌+◌, ◌<◌, true, List, [], ◌∷◌, ◌++◌, length, map, slice_get, Some, refl}
-use Rattle.std.specs.List.{AllByRecursion}
-use Rattle.std.proofs.Common.{ap, sym, subst, ◌∙◌, arith}
+use Rattle.std.specs.Prelude.{◌≡◌, ◌↔◌, ℕ, zero, suc, ◌+◌, ◌<◌, true, List, [], ◌∷◌, ◌++◌, length, map, slice_get, Some, refl}
+use Rattle.std.proofs.Common.{ap, sym, subst, ◌∙◌, arith, inl, inr}
+use Rattle.std.specs.Option.{option_map}
+use Rattle.std.proofs.lemmas.List.{length-map}
+use Rattle.std.proofs.lemmas.Option.{same_Some, slice_get-map, slice_get_within}
 use Rattle.daq_types.specs.Callers.{main_caller}
+use Rattle.transitions.specs.declared.sequences.Role.{Role}
 use Rattle.transitions.specs.declared.sequences.Role.TheVariants.{Analyzer, FrontEnd, Logger}
 use Rattle.daq_types.specs.declared.runs.Transition.TheVariants.{Start}
 use Rattle.transitions.specs.Sequences.{sequence_for, sequences_of}
@@ -12,43 +15,49 @@ use Rattle.history_laws.specs.BegunTurns.{IsAlone}
 use Rattle.session_runs.specs.declared.opening.MemberName.{MemberName}
 use Rattle.session_runs.specs.Members.{gets_dumps, gets_reports, member_in, registration, registrations}
 use Rattle.mid_logger.specs.ChannelTurns.{logger_name}
-use Rattle.session_laws.specs.ClosedSessions.{ClosedAnalyzer, ClosedFront, members_of}
+use Rattle.session_objects.proofs.ListedLaws.{at_front, at_middle, at_last, in_kinds}
+use Rattle.session_laws.specs.ClosedSessions.{ClosedAnalyzer, ClosedFront, ClosedSession, analyzer_client, logger_client, registered_members}
 
 -- The members in their order.
 
-abbrev pub analyzer_members : List ClosedAnalyzer → List MemberName
-analyzer_members closed_analyzers = map (member_in Analyzer) (map (λ (a : ClosedAnalyzer). a.name) closed_analyzers)
+map_at : {X Y : Type 0} (f : X → Y) (xs : List X) (n : ℕ) (x : X) → slice_get xs n ≡ Some x → slice_get (map f xs) n ≡ Some (f x)
+map_at f xs n x at = slice_get-map f xs n ∙ ap (option_map f) at
 
-pub front_at : (fs : List ClosedFront) (closed_analyzers : List ClosedAnalyzer) (k : ℕ) (f : ClosedFront) → slice_get fs k ≡ Some f → (m : MemberName) × (slice_get (members_of fs closed_analyzers) k ≡ Some m) × (m.role ≡ FrontEnd)
-front_at [] closed_analyzers k f at = absurd (cc (at))
-front_at (g ∷ fs) closed_analyzers zero f at = (record { name = g.name; role = FrontEnd }, refl, refl)
-front_at (g ∷ fs) closed_analyzers (suc k) f at = front_at fs closed_analyzers k f at
+module _ (c : ClosedSession) where
+  abbrev fronts : List (List ℕ)
+  fronts = map (λ (f : ClosedFront). f.name) c.fronts
 
-pub logger_at : (fs : List ClosedFront) (closed_analyzers : List ClosedAnalyzer) → (m : MemberName) × (slice_get (members_of fs closed_analyzers) (length fs) ≡ Some m) × (m.role ≡ Logger)
-logger_at [] closed_analyzers = (record { name = logger_name; role = Logger }, refl, refl)
-logger_at (f ∷ fs) closed_analyzers = logger_at fs closed_analyzers
+  abbrev analyzers : List (List ℕ)
+  analyzers = map (λ (a : ClosedAnalyzer). a.name) c.analyzers
 
-analyzer_member_at : (closed_analyzers : List ClosedAnalyzer) (k : ℕ) (a : ClosedAnalyzer) → slice_get closed_analyzers k ≡ Some a → (m : MemberName) × (slice_get (analyzer_members closed_analyzers) k ≡ Some m) × (m.role ≡ Analyzer)
-analyzer_member_at [] k a at = absurd (cc (at))
-analyzer_member_at (x ∷ closed_analyzers) zero a at = (record { name = x.name; role = Analyzer }, refl, refl)
-analyzer_member_at (x ∷ closed_analyzers) (suc k) a at = analyzer_member_at closed_analyzers k a at
+  many_fronts : length fronts ≡ length c.fronts
+  many_fronts = length-map c.fronts (λ (f : ClosedFront). f.name)
 
--- the member of this client number is that of an analyzer
-pub record AtAnalyzer (fs : List ClosedFront) (closed_analyzers : List ClosedAnalyzer) (client : ℕ) : Type 0 where
-  pub member : MemberName
-  pub at : slice_get (members_of fs closed_analyzers) client ≡ Some member
-  pub role : member.role ≡ Analyzer
+  -- each stands at its client number
+  pub front_at : (k : ℕ) (f : ClosedFront) → slice_get c.fronts k ≡ Some f → slice_get (registered_members c) k ≡ Some (member_in FrontEnd f.name)
+  front_at k f at = at_front (member_in FrontEnd) (member_in Logger logger_name) (member_in Analyzer) fronts analyzers k f.name (map_at (λ (x : ClosedFront). x.name) c.fronts k f at)
 
-pub analyzer_at : (fs : List ClosedFront) (closed_analyzers : List ClosedAnalyzer) (k client : ℕ) (a : ClosedAnalyzer) → slice_get closed_analyzers k ≡ Some a → client ≡ suc (length fs) + k → AtAnalyzer fs closed_analyzers client
-analyzer_at [] closed_analyzers k zero a at is = absurd (omega arith)
-analyzer_at [] closed_analyzers k (suc n) a at is =
-    let same : k ≡ n = omega arith in
-    let found = analyzer_member_at closed_analyzers n a (subst (λ (i : ℕ). slice_get closed_analyzers i ≡ Some a) same at) in
-    record { member = found.0; at = found.1; role = found.2 }
-analyzer_at (f ∷ fs) closed_analyzers k zero a at is = absurd (omega arith)
-analyzer_at (f ∷ fs) closed_analyzers k (suc n) a at is =
-    let found = analyzer_at fs closed_analyzers k n a at (omega arith) in
-    record { member = found.member; at = found.at; role = found.role }
+  pub logger_at : slice_get (registered_members c) (logger_client c) ≡ Some (member_in Logger logger_name)
+  logger_at = at_middle (member_in FrontEnd) (member_in Logger logger_name) (member_in Analyzer) fronts analyzers (logger_client c) (sym many_fronts)
+
+  pub analyzer_at : (place : ℕ) (a : ClosedAnalyzer) → slice_get c.analyzers place ≡ Some a → slice_get (registered_members c) (analyzer_client c place) ≡ Some (member_in Analyzer a.name)
+  analyzer_at place a at =
+      at_last (member_in FrontEnd) (member_in Logger logger_name) (member_in Analyzer) fronts analyzers (analyzer_client c place) place a.name (omega (arith, many_fronts)) (map_at (λ (x : ClosedAnalyzer). x.name) c.analyzers place a at)
+
+  -- where a member of this role stands
+  abbrev pub StandsAs : Role → (client : ℕ) → Type 0
+  StandsAs FrontEnd client = client < logger_client c
+  StandsAs Logger client = client ≡ logger_client c
+  StandsAs Analyzer client = logger_client c < client
+
+  pub role_at : (client : ℕ) (m : MemberName) → slice_get (registered_members c) client ≡ Some m → StandsAs m.role client
+  role_at client m at = elim (in_kinds (member_in FrontEnd) (member_in Logger logger_name) (member_in Analyzer) fronts analyzers client m at) as (λ w. StandsAs m.role client) [
+    | inl front ↦ subst (λ (x : MemberName). StandsAs x.role client) front.2 (omega (arith, slice_get_within fronts client front.0 front.1, many_fronts))
+    | inr other ↦ elim other as (λ w. StandsAs m.role client) [
+      | inl logger ↦ subst (λ (x : MemberName). StandsAs x.role client) logger.1 (logger.0 ∙ many_fronts)
+      | inr last ↦ subst (λ (x : MemberName). StandsAs x.role client) last.4 (omega (arith, last.1, many_fronts))
+    ]
+  ]
 
 -- One registration among them.
 
@@ -93,24 +102,20 @@ pub record IsOfLogger (P : Registered → Type 0) : Type 0 where
   pub front : (name : List ℕ) → P (as_client (member_in FrontEnd name)) → ⊥
   pub analyzer : (name : List ℕ) → P (as_client (member_in Analyzer name)) → ⊥
 
-analyzers_alone : (P : Registered → Type 0) → IsOfLogger P → (first n : ℕ) (closed_analyzers : List ClosedAnalyzer) → n < first → AllByRecursion (λ e. IsAlone P n (main_caller, e)) (registrations first (analyzer_members closed_analyzers))
-analyzers_alone P of first n [] past = tt
-analyzers_alone P of first n (a ∷ closed_analyzers) past = (((λ is. absurd (of.analyzer a.name is)), (λ is. absurd (omega arith))), analyzers_alone P of (suc first) n closed_analyzers (omega arith))
+alone_as : (c : ClosedSession) (P : Registered → Type 0) → IsOfLogger P → (role : Role) (name : List ℕ) (client : ℕ) → StandsAs c role client → P (as_client (member_in role name)) ↔ (client ≡ logger_client c)
+alone_as c P of FrontEnd name client stands = ((λ is. absurd (of.front name is)), (λ is. absurd (omega arith)))
+alone_as c P of Logger name client stands = ((λ is. stands), (λ is. of.logger name))
+alone_as c P of Analyzer name client stands = ((λ is. absurd (of.analyzer name is)), (λ is. absurd (omega arith)))
 
-pub logger_alone : (P : Registered → Type 0) → IsOfLogger P → (first n : ℕ) (fs : List ClosedFront) (closed_analyzers : List ClosedAnalyzer) → first + length fs ≡ n
-    → AllByRecursion (λ e. IsAlone P n (main_caller, e)) (registrations first (members_of fs closed_analyzers))
-logger_alone P of first n [] closed_analyzers number = (((λ is. omega arith), (λ is. of.logger logger_name)), analyzers_alone P of (suc first) n closed_analyzers (omega arith))
-logger_alone P of first n (f ∷ fs) closed_analyzers number = (((λ is. absurd (of.front f.name is)), (λ is. absurd (omega arith))), logger_alone P of (suc first) n fs closed_analyzers (omega arith))
+pub logger_alone : (c : ClosedSession) (P : Registered → Type 0) → IsOfLogger P → (client : ℕ) (m : MemberName) → slice_get (registered_members c) client ≡ Some m → IsAlone P (logger_client c) (main_caller, registration client m)
+logger_alone c P of client m at = alone_as c P of m.role m.name client (role_at c client m at)
 
 pub alone_wants : IsOfLogger (λ (c : Registered). c.wants_dump ≡ true)
 alone_wants = record { logger = λ name. refl; front = λ name is. absurd (cc (is)); analyzer = λ name is. absurd (cc (is)) }
 
-number_is : (a b : ℕ) → Some a ≡ Some b → a ≡ b
-number_is a b e = cc (e)
-
 pub alone_numbered : IsOfLogger (λ (c : Registered). sequence_for c.sequences Start ≡ Some 200)
 alone_numbered = record {
   logger = λ name. refl;
-  front = λ name is. absurd (omega (arith, number_is 500 200 is));
-  analyzer = λ name is. absurd (omega (arith, number_is 300 200 is));
+  front = λ name is. absurd (omega (arith, same_Some 500 200 is));
+  analyzer = λ name is. absurd (omega (arith, same_Some 300 200 is));
 }

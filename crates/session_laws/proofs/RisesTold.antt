@@ -1,12 +1,11 @@
 -- A count that rose is told by a record: where all that the logger told of a start is in the record of it.
-use Rattle.std.specs.Prelude.{◌≡◌, ◌≤◌, ℕ, zero, suc, cond, is_some, sum_by, List, [], ◌∷◌, ◌++◌, length, map, slice_get, Contains, Option, Some, None, refl}
-use Rattle.std.specs.List.{AllByRecursion}
-use Rattle.std.proofs.Common.{ap, sym, subst, ◌∙◌, arith, inl, inr, append-nil}
+use Rattle.std.specs.Prelude.{◌≡◌, ◌≤◌, ℕ, zero, suc, cond, is_some, sum_by, List, [], ◌∷◌, ◌++◌, length, slice_get, Contains, Option, Some, None, refl}
+use Rattle.std.proofs.Common.{ap, sym, subst, ◌∙◌, arith, inl, inr}
 use Rattle.std.proofs.lemmas.List.Sums.{sum_by-cons}
 use Rattle.daq_types.specs.Callers.{main_caller}
 use Rattle.daq_types.specs.declared.runs.ChannelEnd.{ChannelEnd}
 use Rattle.daq_types.specs.declared.runs.ChannelState.{ChannelState}
-use Rattle.daq_types.specs.declared.runs.ChannelState.TheVariants.{Idle as IsIdle, Writing as IsWriting, Ended, NoEnd, NoMark, Broken as IsBroken}
+use Rattle.daq_types.specs.declared.runs.ChannelState.TheVariants.{Broken as IsBroken}
 use Rattle.daq_types.specs.declared.runs.StartOutcome.{StartOutcome}
 use Rattle.daq_types.specs.declared.runs.StartOutcome.TheVariants.{Completed, Refused}
 use Rattle.daq_types.specs.declared.runs.Transition.{Transition}
@@ -25,7 +24,7 @@ use Rattle.mid_logger.specs.declared.channel.Channel.{Channel}
 use Rattle.sub_files.specs.declared.open_file.Fallen.{Fallen}
 use Rattle.mid_logger.specs.declared.stage.BegunRun.{BegunRun}
 use Rattle.mid_logger.specs.declared.stage.ChannelStage.{ChannelStage}
-use Rattle.mid_logger.specs.declared.stage.ChannelStage.TheVariants.{Idle, Asking, Writing, Draining, Drained, Broken}
+use Rattle.mid_logger.specs.declared.stage.ChannelStage.TheVariants.{Broken}
 use Rattle.mid_logger.specs.Channels.{channel_run}
 use Rattle.mid_logger.specs.ChannelTurns.{broken_run}
 use Rattle.loggers.specs.LoggerStands.{LoggerStands, ToldSo}
@@ -39,10 +38,9 @@ use Rattle.history_laws.specs.EngineLaws.{LoneNosAreRefusals}
 use Rattle.session_runs.specs.declared.records.ChannelFiles.{ChannelFiles}
 use Rattle.session_runs.specs.declared.records.RunRecord.{RunRecord}
 use Rattle.session_runs.specs.MadeTransitions.{TransitionIn}
-use Rattle.session_runs.specs.declared.on.CurrentRun.{CurrentRun}
 use Rattle.session_runs.specs.KeptRuns.{run_channel}
-use Rattle.session_runs.specs.RunEntries.{start_sheet, later_sheet, dump_saved}
-use Rattle.session_runs.specs.RunsFit.{MainOwn, RunClients, FitsRun, FitsOutcome, FitsRefused, FitsWhole, RecordsFit, run_of, start_of, starts_begun}
+use Rattle.session_runs.specs.RunEntries.{start_sheet}
+use Rattle.session_runs.specs.RunsFit.{MainOwn, FitsWhole, RecordsFit, run_of, starts_begun}
 use Rattle.session_runs.specs.ToldTallies.{files_told, files_of, ends_told}
 use Rattle.composition.specs.Sessions.{Session}
 use Rattle.composition.specs.SessionRuns.{SessionRun, IsStoppedRun}
@@ -56,8 +54,9 @@ use Rattle.session_laws.specs.OneAnswer.{faults_recorded, clashes_recorded, clas
 use Rattle.session_laws.proofs.KeptTogether.{names_own, one_number}
 use Rattle.session_laws.proofs.LoggerEnd.{none_taken_back}
 use Rattle.session_laws.proofs.NamesStay.{StartBegun, start_begun, abort_begun, HasSpec, has_spec}
-use Rattle.session_laws.proofs.OneEach.{starts_joined, faults_of_end, end_counts, faults_of_files, files_first}
-use Rattle.session_laws.proofs.RecordsMade.{made_then, made_behind, ToldEnds, ends_so, ends_there}
+use Rattle.session_laws.proofs.OneEach.{faults_of_end, end_counts, faults_of_files, files_first}
+use Rattle.session_laws.proofs.RecordedStarts.{RecordOf, record_of, refused_in, run_in, run_recorded, was_refused, whole}
+use Rattle.session_laws.proofs.RecordsMade.{ToldEnds, ends_so, ends_there}
 use Rattle.session_laws.proofs.RunsMade.{has_made, made_are_stopped}
 use Rattle.session_laws.proofs.RunTurns.{TurnLaws, Turned, TurnsOf, there_within, one_end, are_turns, turns_of_run, told_is, told_there, never_open}
 use Rattle.session_laws.proofs.UndoneNames.{started_in}
@@ -70,25 +69,6 @@ pub record RiseLaws : Type 0 where
 
 -- Lists.
 
-all_at : {X : Type 0} (P : X → Type 0) (xs : List X) → AllByRecursion P xs → (n : ℕ) (x : X) → slice_get xs n ≡ Some x → P x
-all_at P [] all n x at = absurd (cc (at))
-all_at P (y ∷ xs) all zero x at = subst P (cc (at)) all.0
-all_at P (y ∷ xs) all (suc n) x at = all_at P xs all.1 n x at
-
--- what stands in a list of images is the image of a member
-record MappedAt {X Y : Type 0} (f : X → Y) (xs : List X) (y : Y) : Type 0 where
-  place : ℕ
-  x : X
-  at : slice_get xs place ≡ Some x
-  is : f x ≡ y
-
-mapped_at : {X Y : Type 0} (f : X → Y) (xs : List X) (y : Y) → Contains (map f xs) y → MappedAt f xs y
-mapped_at f [] y has = absurd (omega (arith, has.1))
-mapped_at f (x ∷ xs) y (zero, within, is) = record { place = 0; x = x; at = refl; is = is }
-mapped_at f (x ∷ xs) y (suc k, within, is) =
-    let found : MappedAt f xs y = mapped_at f xs y (k, omega (arith, within), is) in
-    record { place = suc found.place; x = found.x; at = found.at; is = found.is }
-
 -- a list counts for nothing of which no member does
 turns_none : (f : MemberTurn → ℕ) (ts : List MemberTurn) → ((t : MemberTurn) → HasTurn ts t → f t ≡ 0) → sum_by f ts ≡ 0
 turns_none f [] none = refl
@@ -99,12 +79,8 @@ ends_none [] none = refl
 ends_none (e ∷ es) none = omega (arith, state_none e.state (λ is. none 0 e refl is), ends_none es (λ k x at. none (suc k) x at), sum_by-cons faults_of_end e es)
   where
     state_none : (state : ChannelState) → (state ≡ IsBroken → ⊥) → faults_of_state state ≡ 0
-    state_none IsIdle never = refl
-    state_none IsWriting never = refl
-    state_none Ended never = refl
-    state_none NoEnd never = refl
-    state_none NoMark never = refl
     state_none IsBroken never = absurd (never refl)
+    state_none state never = refl
 
 abbrev slot_off : Option Channel → ℕ
 slot_off slot = cond (passes (λ (x : Channel). is_some (broken_run x.stage)) slot) 1 0
@@ -115,12 +91,8 @@ slots_none (None ∷ os) none = slots_none os (λ n ch run fallen there is. none
 slots_none (Some ch ∷ os) none = omega (arith, stage_none ch.stage (λ run fallen is. none 0 ch run fallen refl is), slots_none os (λ n x run fallen there is. none (suc n) x run fallen there is), sum_by-cons slot_off (Some ch) os)
   where
     stage_none : (stage : ChannelStage) → ((run : BegunRun) (fallen : Fallen) → stage ≡ Broken run fallen → ⊥) → off_of stage ≡ 0
-    stage_none Idle never = refl
-    stage_none (Asking opened) never = refl
-    stage_none (Writing opened begun) never = refl
-    stage_none (Draining run) never = refl
-    stage_none (Drained run) never = refl
     stage_none (Broken run fallen) never = absurd (never run fallen refl)
+    stage_none stage never = refl
 
 -- Records.
 
@@ -136,14 +108,6 @@ files_count told (Some x ∷ os) zero ch e there at broken =
     omega (arith, counts, files_first (run_channel x.spec) (files_told told (run_channels os)) (slice_get told x.spec.number))
 files_count told (Some x ∷ os) (suc n) ch e there at broken =
     omega (arith, files_count told os n ch e there at broken, files_first (run_channel x.spec) (files_told told (run_channels os)) (slice_get told x.spec.number))
-
-whole : (clients : RunClients) (own : MainOwn) (begun : CurrentRun) (r : RunRecord) (o : StartOutcome) → o ≡ Completed → FitsOutcome clients own begun r o → FitsWhole clients own begun r
-whole clients own begun r Completed is fits = fits
-whole clients own begun r (Refused client why) is fits = absurd (cc (is))
-
-was_refused : (clients : RunClients) (own : MainOwn) (begun : CurrentRun) (r : RunRecord) (client : ℕ) (why : Why) (o : StartOutcome) → o ≡ Refused client why → FitsOutcome clients own begun r o → FitsRefused clients own begun r
-was_refused clients own begun r client why Completed is fits = absurd (cc (is))
-was_refused clients own begun r client why (Refused c w) is fits = fits
 
 module _ (laws : RiseLaws) (c : ClosedSession) (ends : MembersAtEnd c) where
   abbrev ts : List MemberTurn
@@ -167,22 +131,9 @@ module _ (laws : RiseLaws) (c : ClosedSession) (ends : MembersAtEnd c) where
 
   run_came : (own : MainOwn) (more : List EngineEntry) → engine_calls c main_caller ≡ own.engine ++ more → (r : RunRecord) (quota : ℕ) → FitsWhole (clients_in c) own (run_of r quota) r → RunCame r
   run_came own more calls r quota fits =
-      let stop = fits.stop in
-      let start = fits.start in
-      let early : List EngineEntry = fits.early.engine in
-      let late : List EngineEntry = fits.late.engine in
-      let first : Sheet = start_sheet (length c.analyzers) r.run r.time0 quota start.dump in
-      let last : Sheet = later_sheet (run_of r quota) r.time1 (dump_saved stop.saved) in
-      let joined : (early ++ late) ++ more ≡ engine_calls c main_caller = sym (calls ∙ ap (λ (o : MainOwn). o.engine ++ more) fits.calls) in
-      let began : TransitionIn (engine_calls c main_caller) Start first r.start Completed start.tallies =
-      subst (λ (l : List EngineEntry). TransitionIn l Start first r.start Completed start.tallies) joined
-      (made_then (early ++ late) more Start first r.start Completed start.tallies (made_then early late Start first r.start Completed start.tallies start.made)) in
-      let ended : TransitionIn (engine_calls c main_caller) Stop last r.start Completed stop.tallies =
-      subst (λ (l : List EngineEntry). TransitionIn l Stop last r.start Completed stop.tallies) joined
-      (made_then (early ++ late) more Stop last r.start Completed stop.tallies (made_behind early late Stop last r.start Completed stop.tallies stop.made)) in
-      let run : SessionRun = record { start = r.start; first = first; last = last; first_tallies = start.tallies; last_tallies = stop.tallies } in
-      let made : RunIn (engine_calls c main_caller) run = record { started = began; stopped = ended } in
-      record { run = run; stopped = made_are_stopped laws.turns.main its ends.engine run made; of = refl; files = stop.tells.files }
+      let run : SessionRun = run_recorded (clients_in c) own more (engine_calls c main_caller) calls r quota fits in
+      let made : RunIn (engine_calls c main_caller) run = run_in (clients_in c) own more (engine_calls c main_caller) calls r quota fits in
+      record { run = run; stopped = made_are_stopped laws.turns.main its ends.engine run made; of = refl; files = fits.stop.tells.files }
 
   turns_of_record : (r : RunRecord) → RunCame r → TurnsOf ts r.start
   turns_of_record r came = subst (λ (n : ℕ). TurnsOf ts n) came.of (turns_of_run laws.turns c ends came.run came.stopped)
@@ -202,25 +153,14 @@ module _ (laws : RiseLaws) (c : ClosedSession) (ends : MembersAtEnd c) where
   module _ (first now : FilesTold) (reasons : LoggerReasons c ends first now) (own : MainOwn) (more : List EngineEntry) (calls : engine_calls c main_caller ≡ own.engine ++ more) (none_more : starts_begun more ≡ [])
       (runs : List RunRecord) (fits : RecordsFit (clients_in c) own runs) where
     -- the record of a start
-    record OfStart (start : ℕ) : Type 0 where
-      place : ℕ
-      kept : RunRecord
-      at : slice_get runs place ≡ Some kept
-      is : kept.start ≡ start
-      fit : FitsRun (clients_in c) own kept
+    abbrev OfStart : (start : ℕ) → Type 0
+    OfStart start = RecordOf (clients_in c) own more (engine_calls c main_caller) calls runs start
 
     of_start : (t : MemberTurn) → StartBegun c t → OfStart t.order.start
     of_start t begun =
         let start : ℕ = t.order.start in
-        let among : Contains (starts_begun (engine_calls c main_caller)) start = subst (λ (l : List EngineEntry). Contains (starts_begun l) start) (sym begun.whole) (started_in begun.before begun.after begun.sheet start) in
-        let starts : starts_begun (engine_calls c main_caller) ≡ map start_of runs =
-        ap starts_begun calls
-        ∙ (starts_joined own.engine more
-        ∙ (ap (λ (l : List ℕ). starts_begun own.engine ++ l) none_more
-        ∙ (append-nil (starts_begun own.engine)
-        ∙ sym fits.each_start))) in
-        let found : MappedAt start_of runs start = mapped_at start_of runs start (subst (λ (l : List ℕ). Contains l start) starts among) in
-        record { place = found.place; kept = found.x; at = found.at; is = found.is; fit = all_at (FitsRun (clients_in c) own) runs fits.runs found.place found.x found.at }
+        record_of (clients_in c) own more (engine_calls c main_caller) calls runs none_more fits start
+        (subst (λ (l : List EngineEntry). Contains (starts_begun l) start) (sym begun.whole) (started_in begun.before begun.after begun.sheet start))
 
     came_of : (start : ℕ) (o : OfStart start) → o.kept.outcome ≡ Completed → RunCame o.kept
     came_of start o done = run_came own more calls o.kept o.fit.0 (whole (clients_in c) own (run_of o.kept o.fit.0) o.kept o.kept.outcome done o.fit.1)
@@ -321,12 +261,9 @@ module _ (laws : RiseLaws) (c : ClosedSession) (ends : MembersAtEnd c) where
       refused_at t channel has starts answered o Completed is = never_refused t (Exists channel) has starts answered o is
       refused_at t channel has starts answered o (Refused client why) is =
           let n : ℕ = logger_client c in
-          let refused : FitsRefused (clients_in c) own (run_of o.kept o.fit.0) o.kept = was_refused (clients_in c) own (run_of o.kept o.fit.0) o.kept client why o.kept.outcome is o.fit.1 in
-          let start = refused.start in
+          let start = (was_refused (clients_in c) own (run_of o.kept o.fit.0) o.kept client why o.kept.outcome is o.fit.1).start in
           let sheet : Sheet = start_sheet (length c.analyzers) o.kept.run o.kept.time0 o.fit.0 start.dump in
-          let here : TransitionIn own.engine Start sheet o.kept.start (Refused client why) start.tallies = subst (λ (x : StartOutcome). TransitionIn own.engine Start sheet o.kept.start x start.tallies) is start.made in
-          let made : TransitionIn (engine_calls c main_caller) Start sheet o.kept.start (Refused client why) start.tallies =
-          subst (λ (l : List EngineEntry). TransitionIn l Start sheet o.kept.start (Refused client why) start.tallies) (sym calls) (made_then own.engine more Start sheet o.kept.start (Refused client why) start.tallies here) in
+          let made : TransitionIn (engine_calls c main_caller) Start sheet o.kept.start (Refused client why) start.tallies = refused_in (clients_in c) own more (engine_calls c main_caller) calls o.kept o.fit.0 client why is start in
           let stood : HasTransition c.engine Start sheet o.kept.start (Refused client why) start.tallies = has_made laws.turns.main c.engine Start sheet o.kept.start (Refused client why) start.tallies ends.engine made in
           let told : Refused client why ≡ Refused n (Exists channel) = laws.nos (logger_caller c) n c.engine ends.engine (speaks n c.engine (names_own c ends)) 200 (one_number c ends) sheet o.kept.start (Refused client why) start.tallies stood t has starts (sym o.is) (Exists channel) answered in
           let one : clashes_recorded o.kept ≡ 1 = ap clashes_of_outcome (is ∙ told) in

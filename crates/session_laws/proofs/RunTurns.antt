@@ -16,7 +16,7 @@ use Rattle.member_model.specs.TurnCalls.{member_turns}
 use Rattle.mid_logger.specs.declared.channel.Channel.{Channel}
 use Rattle.mid_logger.specs.declared.stage.ChannelRun.{ChannelRun}
 use Rattle.mid_logger.specs.declared.stage.ChannelStage.{ChannelStage}
-use Rattle.mid_logger.specs.declared.stage.ChannelStage.TheVariants.{Idle, Asking, Writing, Draining, Drained, Broken}
+use Rattle.mid_logger.specs.declared.stage.ChannelStage.TheVariants.{Idle, Writing, Draining, Drained, Broken}
 use Rattle.mid_logger.specs.Channels.{channel_run}
 use Rattle.loggers.specs.declared.logged_run.LoggedRun.{LoggedRun}
 use Rattle.loggers.specs.declared.logged_run.RunPart.{RunPart}
@@ -159,18 +159,13 @@ not_idle stage opened is idle =
 started_of : (start : ℕ) (stage : ChannelStage) (opened : ChannelRun) → channel_run stage ≡ Some opened → IsStartedStage start stage → opened.start ≡ start
 started_of start (Writing run begun) opened is so = (let same : run ≡ opened = cc (is) in ap (λ (r : ChannelRun). r.start) (sym same) ∙ so)
 started_of start (Broken run fallen) opened is so = (let same : run.opened ≡ opened = cc (is) in ap (λ (r : ChannelRun). r.start) (sym same) ∙ so.of)
-started_of start Idle opened is so = absurd so
-started_of start (Asking run) opened is so = absurd so
-started_of start (Draining run) opened is so = absurd so
-started_of start (Drained run) opened is so = absurd so
+started_of start stage opened is so = absurd so
 
 stopping_of : (turns : List MemberTurn) (own : List BufferEntry) (start : ℕ) (stage : ChannelStage) (opened : ChannelRun) → channel_run stage ≡ Some opened → IsStoppingStage turns own start stage → opened.start ≡ start
 stopping_of turns own start (Draining run) opened is so = (let same : run.opened ≡ opened = cc (is) in ap (λ (r : ChannelRun). r.start) (sym same) ∙ so.of)
 stopping_of turns own start (Drained run) opened is so = (let same : run.opened ≡ opened = cc (is) in ap (λ (r : ChannelRun). r.start) (sym same) ∙ so.of)
 stopping_of turns own start (Broken run fallen) opened is so = (let same : run.opened ≡ opened = cc (is) in ap (λ (r : ChannelRun). r.start) (sym same) ∙ so.of)
-stopping_of turns own start Idle opened is so = absurd so
-stopping_of turns own start (Asking run) opened is so = absurd so
-stopping_of turns own start (Writing run begun) opened is so = absurd so
+stopping_of turns own start stage opened is so = absurd so
 
 module _ (laws : TurnLaws) (c : ClosedSession) (ends : MembersAtEnd c) where
   abbrev turns : List MemberTurn

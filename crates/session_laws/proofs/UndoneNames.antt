@@ -11,8 +11,6 @@ use Rattle.daq_io.specs.Seen.{Stored}
 use Rattle.daq_io.specs.Told.{FilesTold}
 use Rattle.transitions.specs.declared.answers.Answer.TheVariants.{Yes}
 use Rattle.transitions.specs.declared.answers.Tally.TheVariants.{Channels}
-use Rattle.transitions.specs.declared.sequences.Role.{Role}
-use Rattle.transitions.specs.Sequences.{sequence_for, sequences_of}
 use Rattle.buffer_core.specs.Slots.{slot_at}
 use Rattle.transitions.specs.declared.replies.Progress.TheVariants.{Done}
 use Rattle.member_model.specs.RunEngines.{Sheet, EngineEntry}
@@ -36,9 +34,8 @@ use Rattle.session_laws.specs.OtherNames.{RefusesStart, GivesOthers, IsUnmadeNam
 use Rattle.session_laws.specs.CountedFaults.{LoggerNames}
 use Rattle.session_laws.proofs.KeptTogether.{names_own}
 use Rattle.session_laws.proofs.LoggerEnd.{none_taken_back}
-use Rattle.session_laws.proofs.MainFirst.{registered}
+use Rattle.session_laws.proofs.MainFirst.{logger_called}
 use Rattle.session_laws.proofs.NamesStay.{StartBegun, start_begun, HasSpec, has_spec}
-use Rattle.session_laws.proofs.Registrations.{logger_at}
 use Rattle.session_laws.proofs.RunsMade.{has_made, made_are_stopped}
 use Rattle.session_laws.proofs.RunTurns.{TurnLaws, Turned, one_end, are_turns, told_is, never_open}
 
@@ -61,9 +58,8 @@ module _ (laws : TurnLaws) (c : ClosedSession) (ends : MembersAtEnd c) where
   called_off start r =
       let n : ℕ = logger_client c in
       let has : HasTransition c.engine Start r.sheet start (Refused r.client r.why) r.tallies = has_made laws.main c.engine Start r.sheet start (Refused r.client r.why) r.tallies ends.engine r.made in
-      let m = logger_at c.fronts c.analyzers in
       let is : IsRegisteredIn has.earlier n StartAbort =
-      registered c ends n m.0 m.1 StartAbort 800 (ap (λ (role : Role). sequence_for (sequences_of role) StartAbort) m.2) (λ client. []) has.earlier (has.between ++ (has.closer, Check (Done (Refused r.client r.why)) r.tallies) ∷ has.later) has.opener Start r.sheet start has.whole in
+      logger_called c ends StartAbort 800 refl (λ client. []) has.earlier (has.between ++ (has.closer, Check (Done (Refused r.client r.why)) r.tallies) ∷ has.later) has.opener Start r.sheet start has.whole in
       laws.calls_off (logger_caller c) n c.engine ends.engine (speaks n c.engine (names_own c ends)) r.sheet start r.client r.why r.tallies has is
 
   -- The run of this start turn came about, and no file of it has the name.

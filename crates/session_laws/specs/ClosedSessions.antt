@@ -101,9 +101,9 @@ abbrev pub got_from_buffer : ClosedSession → (by buffer : ℕ) → List GotEve
 got_from_buffer c by buffer = given_in by (opening (size_of_buffer c buffer)) (history_of_buffer c buffer)
 
 -- how the members are registered: the front-ends in order, then the logger, and then the analyzers in order
-abbrev pub members_of : List ClosedFront → List ClosedAnalyzer → List MemberName
-members_of fronts analyzers =
-    members_named (map (λ (f : ClosedFront). f.name) fronts) logger_name (map (λ (a : ClosedAnalyzer). a.name) analyzers)
+abbrev pub registered_members : ClosedSession → List MemberName
+registered_members c =
+    members_named (map (λ (f : ClosedFront). f.name) c.fronts) logger_name (map (λ (a : ClosedAnalyzer). a.name) c.analyzers)
 
 -- The session as the law of composition sees it.
 
@@ -118,10 +118,14 @@ session_front client f moments = record {
   moments = moments;
 }
 
+-- what is made of each of these by its number, where the first has this one
+abbrev pub numbered : {X Y : Type 0} → (make : ℕ → X → Y) → (first : ℕ) → List X → List Y
+numbered make first [] = []
+numbered make first (x ∷ xs) = make first x ∷ numbered make (suc first) xs
+
 -- the front-ends with the client numbers from this one on
 abbrev pub session_fronts : (client : ℕ) → List ClosedFront → (moments : (client : ℕ) → List ℕ) → List SessionFront
-session_fronts client [] moments = []
-session_fronts client (f ∷ fs) moments = session_front client f (moments client) ∷ session_fronts (suc client) fs moments
+session_fronts client fronts moments = numbered (λ n f. session_front n f (moments n)) client fronts
 
 -- an analyzer with its client number, and what its calls on its buffer gave
 abbrev pub session_analyzer : ClosedSession → (client : ℕ) → ClosedAnalyzer → SessionAnalyzer
@@ -134,8 +138,7 @@ session_analyzer c client a = record {
 
 -- the analyzers with the client numbers from this one on
 abbrev pub session_analyzers : ClosedSession → (client : ℕ) → List ClosedAnalyzer → List SessionAnalyzer
-session_analyzers c client [] = []
-session_analyzers c client (a ∷ analyzers) = session_analyzer c client a ∷ session_analyzers c (suc client) analyzers
+session_analyzers c client analyzers = numbered (session_analyzer c) client analyzers
 
 -- A channel that has no client is listed with number 0 for it.
 abbrev pub session_of : ClosedSession → (moments : (client : ℕ) → List ℕ) → Session

@@ -7,17 +7,15 @@ use Rattle.daq_types.specs.declared.runs.Why.{Why}
 use Rattle.daq_io.specs.Told.{FilesTold}
 use Rattle.member_model.specs.RunEngines.{EngineEntry}
 use Rattle.odb_lock.specs.SharedOdbs.{first_database}
-use Rattle.mid_logger.specs.declared.channel_spec.ChannelSpec.{ChannelSpec}
-use Rattle.loggers.specs.OtherFiles.{AreDeclared, specs_in}
+use Rattle.loggers.specs.OtherFiles.{specs_in}
 use Rattle.loggers.specs.LeftNames.{NoneRose}
-use Rattle.session_setup.specs.declared.declared.AnalyzerDeclared.{AnalyzerDeclared}
-use Rattle.session_setup.specs.declared.declared.FrontDeclared.{FrontDeclared}
+use Rattle.session_setup.specs.declared.declared.DeclaredLists.{DeclaredLists}
 use Rattle.session_runs.specs.declared.records.RunRecord.{RunRecord}
 use Rattle.session_runs.specs.FileRows.{HasFileNamed}
 use Rattle.session_runs.specs.KeptRuns.{channels_of}
 use Rattle.session_runs.specs.RunEntries.{start_sheet, later_sheet, dump_saved}
 use Rattle.session_runs.specs.RunsFit.{MainOwn, RunClients, FitsRefused, FitsRun, FitsWhole, RecordsFit, run_of, starts_begun}
-use Rattle.daq_members.specs.LoggerSeats.{LoggerSeen, HasLoggerReasons, KeepsLoggerNames}
+use Rattle.daq_members.specs.LoggerSeats.{LoggerSeen}
 use Rattle.session_objects.specs.declared.record.SessionRecord.{SessionRecord}
 use Rattle.session_laws.specs.ClosedSessions.{ClosedSession, engine_calls, session_of}
 use Rattle.session_laws.specs.EndLaws.{SessionHolds}
@@ -31,15 +29,15 @@ use Rattle.session_laws.specs.EndedSessions.{session_with, SessionEnded}
 -- What the counts of run files tell of starts, channels and names is so, from those as the logger took its seat to those at the
 -- end.
 abbrev pub CountsSo : {D F : Type 0} {g : _} → (read : F → FilesTold) → SessionRecord D g → Type 0
-CountsSo {D} {F} read r = (fronts : List FrontDeclared) → (analyzers : List AnalyzerDeclared) → (logger : LoggerSeen F) →
-    (ended : SessionEnded read fronts analyzers logger r) → HasLoggerReasons read logger → KeepsLoggerNames read logger →
-    CountsHold (session_with read (first_database ended.shared) fronts analyzers logger r)
+CountsSo {D} {F} read r = (lists : DeclaredLists) → (logger : LoggerSeen F) →
+    (ended : SessionEnded read lists logger r) →
+    CountsHold (session_with read (first_database ended.shared) lists logger r)
     (read logger.first) (read logger.files)
 
 -- who is told of in the records of a session of these declarations
-abbrev pub clients_declared : List FrontDeclared → List ChannelSpec → List AnalyzerDeclared → RunClients
-clients_declared fronts channels analyzers =
-    record { fronts = length fronts; channels = channels_of channels; analyzers = length analyzers }
+abbrev pub clients_declared : DeclaredLists → RunClients
+clients_declared lists =
+    record { fronts = length lists.fronts; channels = channels_of lists.channels; analyzers = length lists.analyzers }
 
 -- The record of a run that came about fits the main thread's own calls, and holds what it has of the run, which was started and
 -- stopped with the sheets that these calls tell.
@@ -52,23 +50,23 @@ pub record RecordSo (c : ClosedSession) (moments : (client : ℕ) → List ℕ) 
 
 -- So it is with each record of a completed start, where the records fit the main thread's own calls up to some point.
 abbrev pub RecordsSo : {D F : Type 0} {g : _} → (read : F → FilesTold) → SessionRecord D g → Type 0
-RecordsSo {D} {F} read r = (fronts : List FrontDeclared) → (analyzers : List AnalyzerDeclared) → (logger : LoggerSeen F) →
-    (ended : SessionEnded read fronts analyzers logger r) → (channels : List ChannelSpec) → AreDeclared channels logger.slots →
-    (holds : SessionHolds (session_with read (first_database ended.shared) fronts analyzers logger r)) →
+RecordsSo {D} {F} read r = (lists : DeclaredLists) → (logger : LoggerSeen F) →
+    (ended : SessionEnded read lists logger r) →
+    (holds : SessionHolds (session_with read (first_database ended.shared) lists logger r)) →
     (own : MainOwn) → (more : List EngineEntry) → ended.own ≡ own.engine ++ more →
-    AllByRecursion (FitsRun (clients_declared fronts channels analyzers) own) r.runs →
+    AllByRecursion (FitsRun (clients_declared lists) own) r.runs →
     (number : ℕ) → (record_at : RunRecord) → slice_get r.runs number ≡ Some record_at → record_at.outcome ≡ Completed →
-    RecordSo (session_with read (first_database ended.shared) fronts analyzers logger r)
+    RecordSo (session_with read (first_database ended.shared) lists logger r)
     holds.moments own record_at
 
 -- Where there is one record for each start that the main thread began, each start is over.
 abbrev pub StartsOverSo : {D F : Type 0} {g : _} → (read : F → FilesTold) → SessionRecord D g → Type 0
-StartsOverSo {D} {F} read r = (fronts : List FrontDeclared) → (analyzers : List AnalyzerDeclared) → (logger : LoggerSeen F) →
-    (ended : SessionEnded read fronts analyzers logger r) → (channels : List ChannelSpec) → AreDeclared channels logger.slots →
+StartsOverSo {D} {F} read r = (lists : DeclaredLists) → (logger : LoggerSeen F) →
+    (ended : SessionEnded read lists logger r) →
     (own : MainOwn) → (more : List EngineEntry) → ended.own ≡ own.engine ++ more → starts_begun more ≡ [] →
-    RecordsFit (clients_declared fronts channels analyzers) own r.runs →
+    RecordsFit (clients_declared lists) own r.runs →
     AreStartsOver (engine_calls
-    (session_with read (first_database ended.shared) fronts analyzers logger r) main_caller)
+    (session_with read (first_database ended.shared) lists logger r) main_caller)
 
 -- none of these records has a file of this name
 abbrev pub IsInNoRecord : List RunRecord → (name : List ℕ) → Type 0
@@ -78,11 +76,10 @@ IsInNoRecord records name = (place : ℕ) → (r : RunRecord) → slice_get reco
 -- Where there is one record for each start that the main thread began, names are told, and no fault was counted: each name that
 -- is in no record is there where it was as the logger took its seat, with the same bytes.
 abbrev pub NamesSo : {D F : Type 0} {g : _} → (read : F → FilesTold) → SessionRecord D g → Type 0
-NamesSo {D} {F} read r = (fronts : List FrontDeclared) → (analyzers : List AnalyzerDeclared) → (logger : LoggerSeen F) →
-    (ended : SessionEnded read fronts analyzers logger r) → HasLoggerReasons read logger → KeepsLoggerNames read logger →
-    (channels : List ChannelSpec) → AreDeclared channels logger.slots →
+NamesSo {D} {F} read r = (lists : DeclaredLists) → (logger : LoggerSeen F) →
+    (ended : SessionEnded read lists logger r) →
     (own : MainOwn) → (more : List EngineEntry) → ended.own ≡ own.engine ++ more → starts_begun more ≡ [] →
-    RecordsFit (clients_declared fronts channels analyzers) own r.runs →
+    RecordsFit (clients_declared lists) own r.runs →
     IsTrue (read logger.first).seen.names → NoneRose (read logger.first) (read logger.files) →
     (name : List ℕ) → IsInNoRecord r.runs name →
     (read logger.files).seen.at name ≡ (read logger.first).seen.at name
@@ -90,21 +87,19 @@ NamesSo {D} {F} read r = (fronts : List FrontDeclared) → (analyzers : List Ana
 -- One fault gives one answer: where the records fit the main thread's own calls up to some point, what they tell of faults and
 -- of clashes was each counted for itself.
 abbrev pub OneAnswerSo : {D F : Type 0} {g : _} → (read : F → FilesTold) → SessionRecord D g → Type 0
-OneAnswerSo {D} {F} read r = (fronts : List FrontDeclared) → (analyzers : List AnalyzerDeclared) → (logger : LoggerSeen F) →
-    (ended : SessionEnded read fronts analyzers logger r) → HasLoggerReasons read logger → KeepsLoggerNames read logger →
-    (channels : List ChannelSpec) → AreDeclared channels logger.slots →
+OneAnswerSo {D} {F} read r = (lists : DeclaredLists) → (logger : LoggerSeen F) →
+    (ended : SessionEnded read lists logger r) →
     (own : MainOwn) → (more : List EngineEntry) → ended.own ≡ own.engine ++ more →
-    RecordsFit (clients_declared fronts channels analyzers) own r.runs →
+    RecordsFit (clients_declared lists) own r.runs →
     OneAnswer r.runs (read logger.first) (read logger.files)
 
 -- And none is counted without an answer: where there is one record for each start that the main thread began, each rise of a
 -- count is told, but for clashes of next files' names, where a channel has a limit.
 abbrev pub RisesToldSo : {D F : Type 0} {g : _} → (read : F → FilesTold) → SessionRecord D g → Type 0
-RisesToldSo {D} {F} read r = (fronts : List FrontDeclared) → (analyzers : List AnalyzerDeclared) → (logger : LoggerSeen F) →
-    (ended : SessionEnded read fronts analyzers logger r) → HasLoggerReasons read logger →
-    (channels : List ChannelSpec) → AreDeclared channels logger.slots →
+RisesToldSo {D} {F} read r = (lists : DeclaredLists) → (logger : LoggerSeen F) →
+    (ended : SessionEnded read lists logger r) →
     (own : MainOwn) → (more : List EngineEntry) → ended.own ≡ own.engine ++ more → starts_begun more ≡ [] →
-    RecordsFit (clients_declared fronts channels analyzers) own r.runs →
+    RecordsFit (clients_declared lists) own r.runs →
     RisesTold (specs_in logger.slots) r.runs (read logger.first) (read logger.files)
 
 -- The record of a start that was refused fits the main thread's own calls, with the quota of its start, and was refused so.
@@ -115,12 +110,11 @@ pub record RefusalSo (c : ClosedSession) (first now : FilesTold) (own : MainOwn)
 
 -- So it is with each record of a start that was refused, where the records fit the main thread's own calls up to some point.
 abbrev pub RefusalsSo : {D F : Type 0} {g : _} → (read : F → FilesTold) → SessionRecord D g → Type 0
-RefusalsSo {D} {F} read r = (fronts : List FrontDeclared) → (analyzers : List AnalyzerDeclared) → (logger : LoggerSeen F) →
-    (ended : SessionEnded read fronts analyzers logger r) → HasLoggerReasons read logger → KeepsLoggerNames read logger →
-    (channels : List ChannelSpec) → AreDeclared channels logger.slots →
+RefusalsSo {D} {F} read r = (lists : DeclaredLists) → (logger : LoggerSeen F) →
+    (ended : SessionEnded read lists logger r) →
     (own : MainOwn) → (more : List EngineEntry) → ended.own ≡ own.engine ++ more →
-    AllByRecursion (FitsRun (clients_declared fronts channels analyzers) own) r.runs →
+    AllByRecursion (FitsRun (clients_declared lists) own) r.runs →
     (number : ℕ) → (record_at : RunRecord) → slice_get r.runs number ≡ Some record_at →
     (client : ℕ) → (why : Why) → record_at.outcome ≡ Refused client why →
-    RefusalSo (session_with read (first_database ended.shared) fronts analyzers logger r)
+    RefusalSo (session_with read (first_database ended.shared) lists logger r)
     (read logger.first) (read logger.files) own record_at client why

@@ -26,12 +26,11 @@ use Rattle.daq_members.specs.StartedRuns.{started_runs}
 use Rattle.daq_members.specs.FrontTaken.{FrontMemberStands}
 use Rattle.analyzers.specs.Analyzers.{AnalyzerState}
 use Rattle.daq_members.specs.AnalyzerTaken.{AnalyzerMemberStands}
-use Rattle.session_laws.specs.ClosedSessions.{ClosedAnalyzer, ClosedBuffer, ClosedFront, ClosedSession, logger_client, logger_caller, analyzer_client, last_caller, members_of, engine_calls, calls_on_buffer, calls_on_database, got_from_buffer}
+use Rattle.session_laws.specs.ClosedSessions.{ClosedAnalyzer, ClosedBuffer, ClosedFront, ClosedSession, logger_client, logger_caller, analyzer_client, last_caller, registered_members, engine_calls, calls_on_buffer, calls_on_database, got_from_buffer}
 
--- The front-end with this client number: on the engine it polls and answers for its own client alone; it keeps its contract
--- over its calls on the engine, on its buffer and on the database; and it called on no other buffer.
+-- The front-end with this client number: it keeps its contract over its calls on the engine, on its buffer and on the database;
+-- and it called on no other buffer.
 pub record FrontAtEnd (c : ClosedSession) (client : ℕ) (f : ClosedFront) : Type 0 where
-  pub speaks : are_calls_for client (engine_calls c (caller_of_client client)) ≡ true
   pub run : Option FrontRun
   pub stands : FrontMemberStands client f.name f.takes f.makes run (engine_calls c (caller_of_client client))
       (calls_on_buffer c (caller_of_client client) f.buffer) (calls_on_database c (caller_of_client client))
@@ -45,11 +44,10 @@ pub record IsAccessTo (caller : ℕ) (b : ClosedBuffer) (a : Access) : Type 0 wh
   pub got : a.got ≡ given_in caller (opening b.size) seen
   pub known : a.taken_back ≡ taken_back_in caller 0 seen
 
--- The logger: on the engine it polls and answers for its own client alone; and it has a port to each buffer. Where no client
--- of it is known to be detached by another, it keeps its contract over its calls on the engine, what its ports told it, and
--- the run files; and it left all files but those of its channels in the runs that it was told to start.
+-- The logger has a port to each buffer. Where no client of it is known to be detached by another, it keeps its contract over its
+-- calls on the engine, what its ports told it, and the run files; and it left all files but those of its channels in the runs that
+-- it was told to start.
 pub record LoggerAtEnd (c : ClosedSession) : Type 0 where
-  pub speaks : are_calls_for (logger_client c) (engine_calls c (logger_caller c)) ≡ true
   pub run : Option LoggedRun
   pub dumps : RunDumps
   pub ports : List Access
@@ -62,10 +60,9 @@ pub record LoggerAtEnd (c : ClosedSession) : Type 0 where
       KeepsOtherFiles (specs_in c.slots) (started_runs (member_turns (logger_client c) (engine_calls c (logger_caller c))))
       c.first_files c.files
 
--- The analyzer with this client number: on the engine it polls and answers for its own client alone; it keeps its contract over
--- its calls on the engine and on its buffer, and what these gave; and it called on no other buffer.
+-- The analyzer with this client number: it keeps its contract over its calls on the engine and on its buffer, and what these
+-- gave; and it called on no other buffer.
 pub record AnalyzerAtEnd (c : ClosedSession) (client : ℕ) (a : ClosedAnalyzer) : Type 0 where
-  pub speaks : are_calls_for client (engine_calls c (caller_of_client client)) ≡ true
   pub analyzer : AnalyzerState
   pub wanted : analyzer.wanted ≡ a.wanted
   pub stands : AnalyzerMemberStands client analyzer (engine_calls c (caller_of_client client))
@@ -75,7 +72,7 @@ pub record AnalyzerAtEnd (c : ClosedSession) (client : ℕ) (a : ClosedAnalyzer)
 -- The main thread: on the engine it registered the members, and then made and ended transitions; and it called on no buffer.
 pub record MainAtEnd (c : ClosedSession) : Type 0 where
   pub later : List EngineEntry
-  pub calls : engine_calls c main_caller ≡ registrations 0 (members_of c.fronts c.analyzers) ++ later
+  pub calls : engine_calls c main_caller ≡ registrations 0 (registered_members c) ++ later
   pub steers : AllByRecursion SteersEngine later
   pub buffers : (buffer : ℕ) → calls_on_buffer c main_caller buffer ≡ []
 
@@ -86,12 +83,13 @@ pub record NoOthers (c : ClosedSession) : Type 0 where
   pub buffers : (by : ℕ) → last_caller c < by → (buffer : ℕ) → calls_on_buffer c by buffer ≡ []
   pub database : (by : ℕ) → length c.fronts < by → calls_on_database c by ≡ []
 
--- All that.
+-- All that; and on the engine each client polls and answers for itself alone.
 pub record MembersAtEnd (c : ClosedSession) : Type 0 where
   pub buffers : (number : ℕ) → (b : ClosedBuffer) → slice_get c.buffers number ≡ Some b →
       IsLegal (opening b.size) b.history
   pub engine : IsLegalEngine engine_opening c.engine
   pub database : IsLegalDatabase c.opened c.database
+  pub speaks : (client : ℕ) → are_calls_for client (engine_calls c (caller_of_client client)) ≡ true
   pub fronts : (client : ℕ) → (f : ClosedFront) → slice_get c.fronts client ≡ Some f → FrontAtEnd c client f
   pub logger : LoggerAtEnd c
   pub analyzers : (place : ℕ) → (a : ClosedAnalyzer) → slice_get c.analyzers place ≡ Some a →

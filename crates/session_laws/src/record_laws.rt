@@ -1,5 +1,5 @@
 //! The laws of a session's end: each function does nothing, and its contract is the law.
-ghost use Rattle.session_laws.specs.EndedSessions.{EndsSo, HoldsSo};
+ghost use Rattle.session_laws.specs.EndedSessions.{ClosedEndsSo, HoldsSo};
 ghost use Rattle.session_laws.specs.EndedRecords.{CountsSo, RecordsSo, StartsOverSo, NamesSo, RefusalsSo, OneAnswerSo, RisesToldSo};
 
 use crate::laws as closed;
@@ -16,7 +16,7 @@ use turn_lock::Machine;
 pub fn members_end<D: Database, F: Files>(_kept: &SessionRecord<D>)
 where
     LockedDatabase<D>: Machine<State = WatchedSeen, Entry = WatchEntry>,
-    ensures { EndsSo F.told _kept.now }
+    ensures { ClosedEndsSo F.told _kept.now }
 {
     buffers::got_all();
 }

@@ -1,27 +1,27 @@
 -- The members of a session in one list, by their client numbers.
-use Rattle.std.proofs.Common.{◌≡◌, ◌∙◌, ◌⊎◌, ℕ, zero, suc, ◌+◌, ◌<◌, ◌++◌, ◌∷◌, false, List, [], length, map, ap, sym, refl, subst, inl, inr, ⊎_elim, arith, length-append}
-use Rattle.std.specs.Prelude.{slice_get, Some, None}
+use Rattle.std.proofs.Common.{◌≡◌, ◌≢◌, ◌∙◌, ◌⊎◌, ℕ, zero, suc, ◌+◌, ◌<◌, ◌++◌, ◌∷◌, false, List, [], length, map, ap, sym, refl, subst, inl, inr, ⊎_elim, arith, eq-eqb, length-append}
+use Rattle.std.specs.Prelude.{slice_get, Option, Some, None}
 use Rattle.std.specs.Option.{option_map}
 use Rattle.std.proofs.lemmas.List.{length-map}
 use Rattle.std.proofs.lemmas.Option.{slice_get_within, slice_get-map}
 use Rattle.frontend_kit.specs.declared.generator.Generator.{Generator}
+use Rattle.mid_logger.specs.declared.channel_spec.ChannelSpec.{ChannelSpec}
 use Rattle.odb_lock.specs.declared.shared.SharedOdb.{SharedOdb}
 use Rattle.daq_members.specs.FrontSeats.{FrontSeen}
 use Rattle.daq_members.specs.LoggerSeats.{LoggerSeen}
 use Rattle.daq_members.specs.SeatedAnalyzers.{AnalyzerSeen}
 use Rattle.daq_members.specs.Members.{MemberSeen, FrontEnd, Logger, Analyzer}
-use Rattle.daq_members.specs.Crews.{CrewSeen, logger_in, members_of}
-use Rattle.daq_members.proofs.CrewLaws.{logger_laid}
 use Rattle.session_setup.specs.declared.declared.AnalyzerDeclared.{AnalyzerDeclared}
 use Rattle.session_setup.specs.declared.declared.DeclaredLists.{DeclaredLists}
 use Rattle.session_setup.specs.declared.declared.FrontDeclared.{FrontDeclared}
 use Rattle.session_objects.specs.declared.membership.MemberDeclared.{MemberDeclared}
 use Rattle.session_objects.specs.declared.membership.MemberDeclared.TheVariants.{FrontEnd as WantedFront, Logger as WantedLogger, Analyzer as WantedAnalyzer}
 use Rattle.session_objects.specs.declared.objects.SessionObjects.{SessionObjects}
-use Rattle.session_objects.specs.Calls.{SessionCalls}
-use Rattle.session_objects.specs.Kept.{calls_buffer, calls_database, declared_members, member_count}
-use Rattle.session_objects.specs.Members.{HasMembers, HasAccount, CalledAt, AreCalledAt, IsMemberOf, FrontIs, LoggerIs, AnalyzerIs, IsFrontOf, IsLoggerOf, IsAnalyzerOf, account_of, accounts_of, front_account, logger_account, analyzer_account}
-use Rattle.session_objects.specs.Returns.{left_also, left_by}
+use Rattle.session_objects.specs.Calls.{Account, SessionCalls, account_or_none}
+use Rattle.session_objects.specs.DeclaredMembers.{calls_buffer, calls_database, declared_members, logger_number, member_count}
+use Rattle.session_objects.specs.Members.{AreMembersOf, HasAccount, HasLogger, CalledAt, AreCalledAt, IsMemberOf, FrontIs, LoggerIs, AnalyzerIs, IsFrontOf, IsLoggerOf, IsAnalyzerOf, IsOwnPort, account_of, accounts_of, front_account, logger_account, analyzer_account}
+use Rattle.session_objects.specs.declared.returning.LoggerEnd.{LoggerEnd}
+use Rattle.session_objects.specs.Returns.{left_also, left_among, end_of_member, logger_end}
 use Rattle.session_objects.proofs.ChangeLaws.{some_same, there_below}
 
 -- A list of those of one kind, one of another, and those of a third, in this order.
@@ -71,35 +71,32 @@ module _ {X Y Z : Type 0} (front : X → Z) (middle : Z) (last : Y → Z) where
       (λ h. inr (⊎_elim (λ m. inl (ap suc m.0, m.1)) (λ l. let is : n ≡ length xs + 1 + l.0 = l.1 in inr (l.0, omega (arith, is), l.2, l.3, l.4)) h)) (in_kinds xs ys n z at)
 
 -- What was declared with a client number.
-module _ (fronts : List FrontDeclared) (analyzers : List AnalyzerDeclared) (n : ℕ) where
-  pub declared_front : (d : FrontDeclared) → slice_get (declared_members fronts analyzers) n ≡ Some (WantedFront d) → slice_get fronts n ≡ Some d
-  declared_front d at = ⊎_elim
-      (λ h. h.1 ∙ ap Some (let same : h.0 ≡ d = cc (h.2) in same))
-      (λ h. ⊎_elim (λ m. absurd (cc (m.1))) (λ l. absurd (cc (l.4))) h)
-      (in_kinds WantedFront WantedLogger WantedAnalyzer fronts analyzers n (WantedFront d) at)
+module _ (lists : DeclaredLists) where
+  pub declared_count : member_count lists ≡ length lists.fronts + 1 + length lists.analyzers
+  declared_count = order_length WantedFront WantedLogger WantedAnalyzer lists.fronts lists.analyzers
 
-  pub declared_logger : slice_get (declared_members fronts analyzers) n ≡ Some WantedLogger → n ≡ length fronts
-  declared_logger at = ⊎_elim (λ h. absurd (cc (h.2))) (λ h. ⊎_elim (λ m. m.0) (λ l. absurd (cc (l.4))) h)
-      (in_kinds WantedFront WantedLogger WantedAnalyzer fronts analyzers n WantedLogger at)
+  pub logger_declared : slice_get (declared_members lists) (logger_number lists) ≡ Some WantedLogger
+  logger_declared = at_middle WantedFront WantedLogger WantedAnalyzer lists.fronts lists.analyzers (logger_number lists) refl
 
-  pub declared_analyzer : (d : AnalyzerDeclared) → slice_get (declared_members fronts analyzers) n ≡ Some (WantedAnalyzer d) →
-      (place : ℕ) × (n ≡ length fronts + 1 + place) × (slice_get analyzers place ≡ Some d)
-  declared_analyzer d at = ⊎_elim (λ h. absurd (cc (h.2)))
-      (λ h. ⊎_elim (λ m. absurd (cc (m.1))) (λ l. (l.0, l.1, l.3 ∙ ap Some (let same : l.2 ≡ d = cc (l.4) in same))) h)
-      (in_kinds WantedFront WantedLogger WantedAnalyzer fronts analyzers n (WantedAnalyzer d) at)
+  module _ (n : ℕ) where
+    pub declared_front : (d : FrontDeclared) → slice_get (declared_members lists) n ≡ Some (WantedFront d) → slice_get lists.fronts n ≡ Some d
+    declared_front d at = ⊎_elim
+        (λ h. h.1 ∙ ap Some (let same : h.0 ≡ d = cc (h.2) in same))
+        (λ h. ⊎_elim (λ m. absurd (cc (m.1))) (λ l. absurd (cc (l.4))) h)
+        (in_kinds WantedFront WantedLogger WantedAnalyzer lists.fronts lists.analyzers n (WantedFront d) at)
 
-pub declared_count : (fronts : List FrontDeclared) (analyzers : List AnalyzerDeclared) → length (declared_members fronts analyzers) ≡ member_count fronts analyzers
-declared_count fronts analyzers = order_length WantedFront WantedLogger WantedAnalyzer fronts analyzers
+    pub declared_logger : slice_get (declared_members lists) n ≡ Some WantedLogger → n ≡ logger_number lists
+    declared_logger at = ⊎_elim (λ h. absurd (cc (h.2))) (λ h. ⊎_elim (λ m. m.0) (λ l. absurd (cc (l.4))) h)
+        (in_kinds WantedFront WantedLogger WantedAnalyzer lists.fronts lists.analyzers n WantedLogger at)
 
--- One member more is back.
-pub one_more_left : {F : Type 0} (x : MemberSeen Generator F) (done : List (MemberSeen Generator F)) → left_also x (left_by (logger_in done)) ≡ left_by (logger_in (x ∷ done))
-one_more_left (FrontEnd front) done = refl
-one_more_left (Logger logger) done = refl
-one_more_left (Analyzer analyzer) done = refl
+    pub declared_analyzer : (d : AnalyzerDeclared) → slice_get (declared_members lists) n ≡ Some (WantedAnalyzer d) → (place : ℕ) × (slice_get lists.analyzers place ≡ Some d)
+    declared_analyzer d at = ⊎_elim (λ h. absurd (cc (h.2)))
+        (λ h. ⊎_elim (λ m. absurd (cc (m.1))) (λ l. (l.0, l.3 ∙ ap Some (let same : l.2 ≡ d = cc (l.4) in same))) h)
+        (in_kinds WantedFront WantedLogger WantedAnalyzer lists.fronts lists.analyzers n (WantedAnalyzer d) at)
 
--- The logger of a crew is the one in its list.
-pub crew_logger : {F : Type 0} (members : List (MemberSeen Generator F)) (crew : CrewSeen Generator F) → members ≡ members_of crew → logger_in members ≡ Some crew.logger
-crew_logger {F} members crew is = ap (λ (ms : List (MemberSeen Generator F)). logger_in ms) is ∙ logger_laid crew.fronts crew.logger crew.analyzers
+    -- what is no logger does not stand at the logger's number
+    pub declared_other : (d : MemberDeclared) → slice_get (declared_members lists) n ≡ Some d → d ≢ WantedLogger → n ≢ logger_number lists
+    declared_other d at other is = other (some_same d WantedLogger (sym at ∙ ap (λ (k : ℕ). slice_get (declared_members lists) k) is ∙ logger_declared))
 
 -- The account of a member stands at its client number.
 pub account_there : {F : Type 0} (wanted : List MemberDeclared) (members : List (MemberSeen Generator F)) (n : ℕ) (d : MemberDeclared) (m : MemberSeen Generator F) →
@@ -120,77 +117,65 @@ accounts_count [] members same = refl
 accounts_count (w ∷ ws) [] same = absurd (omega arith)
 accounts_count (w ∷ ws) (x ∷ xs) same = ap suc (accounts_count ws xs (omega arith))
 
-module _ {D F : Type 0} (lists : DeclaredLists) (objects : SessionObjects) (shared : SharedOdb D) (members : List (MemberSeen Generator F)) (has : HasMembers lists objects shared members) where
-  -- how many they are
-  pub listed_count : length members ≡ member_count lists.fronts lists.analyzers
-  listed_count =
-      let all : length members ≡ length has.crew.fronts + 1 + length has.crew.analyzers =
-      ap length has.laid ∙ order_length {Z = MemberSeen Generator F} FrontEnd (Logger has.crew.logger) Analyzer has.crew.fronts has.crew.analyzers in
-      let fronts : length has.crew.fronts ≡ length lists.fronts = has.are.fronts_are.many in
-      let analyzers : length has.crew.analyzers ≡ length lists.analyzers = has.are.analyzers_are.many in
-      omega (arith, all, fronts, analyzers)
+-- What is left by members is what the first logger among them leaves.
+first_left : {F : Type 0} (members : List (MemberSeen Generator F)) (n : ℕ) (logger : LoggerSeen F) → slice_get members n ≡ Some (Logger logger) →
+    ((k : ℕ) (m : MemberSeen Generator F) → k < n → slice_get members k ≡ Some m → end_of_member m ≡ None) → left_among members ≡ Some (logger_end logger)
+first_left [] n logger at none = absurd (cc (at))
+first_left {F} (m ∷ ms) zero logger at none = ap (λ (x : MemberSeen Generator F). left_also (end_of_member x) (left_among ms)) (some_same m (Logger logger) at)
+first_left {F} (m ∷ ms) (suc n) logger at none =
+    ap (λ (o : Option (LoggerEnd F)). left_also o (left_among ms)) (none 0 m (omega arith) refl) ∙ first_left ms n logger at (λ k x l there. none (suc k) x (omega arith) there)
 
-  -- the logger among them
-  pub listed_logger : logger_in members ≡ Some has.crew.logger
-  listed_logger = crew_logger members has.crew has.laid
+module _ {D F : Type 0} (lists : DeclaredLists) (objects : SessionObjects) (shared : SharedOdb D) (members : List (MemberSeen Generator F)) (are : AreMembersOf lists objects shared members) where
+  -- One of them is the logger,
+  logger_is : {m : MemberSeen Generator F} → IsMemberOf objects shared lists.channels (logger_number lists) WantedLogger m →
+      (logger : LoggerSeen F) × (m ≡ Logger logger) × IsLoggerOf objects lists.channels (logger_number lists) logger
+  logger_is (LoggerIs {logger = logger} is) = (logger, refl, is)
 
-  module _ (calls : SessionCalls) (told : calls.members ≡ accounts_of (declared_members lists.fronts lists.analyzers) members) where
-    one_called : (n : ℕ) (x : MemberSeen Generator F) (wanted : MemberDeclared) → slice_get members n ≡ Some x → slice_get (declared_members lists.fronts lists.analyzers) n ≡ Some wanted →
-        IsMemberOf objects shared n wanted x → CalledAt lists objects shared calls n x
-    one_called n x wanted at declared is = record {
-      wanted = wanted;
-      is = is;
-      account = record {
-        has_wanted = declared;
-        told = ap (λ accounts. slice_get accounts n) told ∙ account_there (declared_members lists.fronts lists.analyzers) members n wanted x declared at;
-      };
-    }
+  pub logger_there : (logger : LoggerSeen F) × HasLogger lists members logger × IsLoggerOf objects lists.channels (logger_number lists) logger
+  logger_there =
+      let l = slice_get_within (declared_members lists) (logger_number lists) WantedLogger (logger_declared lists) in
+      let m = there_below members (logger_number lists) (omega (arith, l, are.many)) in
+      let so = logger_is (are.each (logger_number lists) WantedLogger m.0 (logger_declared lists) m.1) in
+      (so.0, m.1 ∙ ap Some so.1, so.2)
 
-    abbrev Called : ℕ → MemberSeen Generator F → Type 0
-    Called n x = slice_get members n ≡ Some x → CalledAt lists objects shared calls n x
+  -- and those in front of it leave nothing,
+  leaves_none : (client : ℕ) {d : MemberDeclared} {m : MemberSeen Generator F} → client < logger_number lists → slice_get (declared_members lists) client ≡ Some d →
+      IsMemberOf objects shared lists.channels client d m → end_of_member m ≡ None
+  leaves_none client l at (FrontIs is) = refl
+  leaves_none client l at (LoggerIs is) = absurd (omega (arith, l, declared_logger lists client at))
+  leaves_none client l at (AnalyzerIs is) = refl
 
-    front_called : (n : ℕ) (front : FrontSeen Generator) → slice_get has.crew.fronts n ≡ Some front → Called n (FrontEnd front)
-    front_called n front there at =
-        let l : n < length has.crew.fronts = slice_get_within has.crew.fronts n front there in
-        let many : length has.crew.fronts ≡ length lists.fronts = has.are.fronts_are.many in
-        let d = there_below lists.fronts n (omega arith) in
-        one_called n (FrontEnd front) (WantedFront d.0) at (at_front WantedFront WantedLogger WantedAnalyzer lists.fronts lists.analyzers n d.0 d.1)
-        (FrontIs (has.are.fronts_are.each n d.0 front d.1 there))
+  -- so what they leave is what the logger leaves.
+  pub logger_left : (logger : LoggerSeen F) → HasLogger lists members logger → left_among members ≡ Some (logger_end logger)
+  logger_left logger has = first_left members (logger_number lists) logger has (λ k m l at.
+      let few = slice_get_within (declared_members lists) (logger_number lists) WantedLogger (logger_declared lists) in
+      let d = there_below (declared_members lists) k (omega (arith, l, few)) in
+      leaves_none k l d.1 (are.each k d.0 m d.1 at))
 
-    logger_called : (n : ℕ) → n ≡ length lists.fronts → Called n (Logger has.crew.logger)
-    logger_called n is at = one_called n (Logger has.crew.logger) WantedLogger at (at_middle WantedFront WantedLogger WantedAnalyzer lists.fronts lists.analyzers n is)
-        (LoggerIs (let P : ℕ → Type 0 = λ k. IsLoggerOf objects k has.crew.logger in subst P (sym is) has.are.logger))
-
-    analyzer_called : (n place : ℕ) (analyzer : AnalyzerSeen) → n ≡ length lists.fronts + 1 + place → slice_get has.crew.analyzers place ≡ Some analyzer → Called n (Analyzer analyzer)
-    analyzer_called n place analyzer is there at =
-        let l : place < length has.crew.analyzers = slice_get_within has.crew.analyzers place analyzer there in
-        let many : length has.crew.analyzers ≡ length lists.analyzers = has.are.analyzers_are.many in
-        let d = there_below lists.analyzers place (omega arith) in
-        one_called n (Analyzer analyzer) (WantedAnalyzer d.0) at (at_last WantedFront WantedLogger WantedAnalyzer lists.fronts lists.analyzers n place d.0 is d.1)
-        (AnalyzerIs (let P : ℕ → Type 0 = λ k. IsAnalyzerOf objects k d.0 analyzer in subst P (sym is) (has.are.analyzers_are.each place d.0 analyzer d.1 there)))
-
-    pub all_called : AreCalledAt lists objects shared calls members
-    all_called n x at =
-        let many : length has.crew.fronts ≡ length lists.fronts = has.are.fronts_are.many in
-        ⊎_elim
-        (λ h. subst (λ (m : MemberSeen Generator F). Called n m) h.2 (front_called n h.0 h.1) at)
-        (λ h. ⊎_elim
-        (λ m. subst (λ (y : MemberSeen Generator F). Called n y) m.1 (logger_called n (m.0 ∙ many)) at)
-        (λ l. subst (λ (y : MemberSeen Generator F). Called n y) l.4 (analyzer_called n l.0 l.2 (omega (arith, l.1, many)) l.3) at) h)
-        (in_kinds {Z = MemberSeen Generator F} FrontEnd (Logger has.crew.logger) Analyzer has.crew.fronts has.crew.analyzers n x
-        (ap (λ (ms : List (MemberSeen Generator F)). slice_get ms n) (sym has.laid) ∙ at))
+  -- Each of them made its own calls, where these have the accounts of all.
+  pub all_called : (calls : SessionCalls) → calls.members ≡ accounts_of (declared_members lists) members → AreCalledAt lists objects shared calls members
+  all_called calls told n x at =
+      let l = slice_get_within members n x at in
+      let d = there_below (declared_members lists) n (omega (arith, l, are.many)) in record {
+        wanted = d.0;
+        is = are.each n d.0 x d.1 at;
+        account = record {
+          has_wanted = d.1;
+          told = ap (λ accounts. slice_get accounts n) told ∙ account_there (declared_members lists) members n d.0 x d.1 at;
+        };
+      }
 
 -- What a member of a kind is, and called.
 module _ {D F : Type 0} (lists : DeclaredLists) (objects : SessionObjects) (shared : SharedOdb D) (calls : SessionCalls) (client : ℕ) where
-  front_so : {front : FrontSeen Generator} {wanted : MemberDeclared} → IsMemberOf {F = F} objects shared client wanted (FrontEnd front) → HasAccount lists calls client wanted (account_of {F = F} wanted (FrontEnd front)) →
+  front_so : {front : FrontSeen Generator} {wanted : MemberDeclared} → IsMemberOf {F = F} objects shared lists.channels client wanted (FrontEnd front) → HasAccount lists calls client wanted (account_of {F = F} wanted (FrontEnd front)) →
       (d : FrontDeclared) × IsFrontOf objects shared client d front × HasAccount lists calls client (WantedFront d) (front_account d front)
   front_so (FrontIs {wanted = d} is) account = (d, is, account)
 
-  logger_so : {logger : LoggerSeen F} {wanted : MemberDeclared} → IsMemberOf objects shared client wanted (Logger logger) → HasAccount lists calls client wanted (account_of wanted (Logger logger)) →
-      IsLoggerOf objects client logger × HasAccount lists calls client WantedLogger (logger_account logger)
+  logger_so : {logger : LoggerSeen F} {wanted : MemberDeclared} → IsMemberOf objects shared lists.channels client wanted (Logger logger) → HasAccount lists calls client wanted (account_of wanted (Logger logger)) →
+      IsLoggerOf objects lists.channels client logger × HasAccount lists calls client WantedLogger (logger_account logger)
   logger_so (LoggerIs is) account = (is, account)
 
-  analyzer_so : {analyzer : AnalyzerSeen} {wanted : MemberDeclared} → IsMemberOf {F = F} objects shared client wanted (Analyzer analyzer) → HasAccount lists calls client wanted (account_of {F = F} wanted (Analyzer analyzer)) →
+  analyzer_so : {analyzer : AnalyzerSeen} {wanted : MemberDeclared} → IsMemberOf {F = F} objects shared lists.channels client wanted (Analyzer analyzer) → HasAccount lists calls client wanted (account_of {F = F} wanted (Analyzer analyzer)) →
       (d : AnalyzerDeclared) × IsAnalyzerOf objects client d analyzer × HasAccount lists calls client (WantedAnalyzer d) (analyzer_account d analyzer)
   analyzer_so (AnalyzerIs {wanted = d} is) account = (d, is, account)
 
@@ -202,22 +187,52 @@ module _ {D F : Type 0} (lists : DeclaredLists) (objects : SessionObjects) (shar
         (d : FrontDeclared) × IsFrontOf objects shared client d front × HasAccount lists calls client (WantedFront d) (front_account d front)
     called_front front is = let so : At (FrontEnd front) = subst At (sym is) called in front_so so.is so.account
 
-    pub called_logger : (logger : LoggerSeen F) → Logger logger ≡ member → IsLoggerOf objects client logger × HasAccount lists calls client WantedLogger (logger_account logger)
+    pub called_logger : (logger : LoggerSeen F) → Logger logger ≡ member → IsLoggerOf objects lists.channels client logger × HasAccount lists calls client WantedLogger (logger_account logger)
     called_logger logger is = let so : At (Logger logger) = subst At (sym is) called in logger_so so.is so.account
 
     pub called_analyzer : (analyzer : AnalyzerSeen) → Analyzer analyzer ≡ member →
         (d : AnalyzerDeclared) × IsAnalyzerOf objects client d analyzer × HasAccount lists calls client (WantedAnalyzer d) (analyzer_account d analyzer)
     called_analyzer analyzer is = let so : At (Analyzer analyzer) = subst At (sym is) called in analyzer_so so.is so.account
 
+-- The port of one that calls one buffer alone.
+module _ (lists : DeclaredLists) (objects : SessionObjects) (calls : SessionCalls) (client : ℕ) where
+  pub front_port : {D : Type 0} (shared : SharedOdb D) (front : FrontSeen Generator) (d : FrontDeclared) → IsFrontOf objects shared client d front → HasAccount lists calls client (WantedFront d) (front_account d front) →
+      IsOwnPort lists objects calls client front.port
+  front_port shared front d is account = record {
+    wanted = WantedFront d;
+    has_wanted = account.has_wanted;
+    number = d.buffer;
+    has_number = refl;
+    buffer = is.buffer;
+    has_buffer = is.has_buffer;
+    leads_to = is.port;
+    caller = is.port_caller;
+    told = ap (λ (o : Option Account). (account_or_none o).port d.buffer) account.told ∙ rw (eq-eqb d.buffer d.buffer refl) refl;
+  }
+
+  pub analyzer_port : (analyzer : AnalyzerSeen) (d : AnalyzerDeclared) → IsAnalyzerOf objects client d analyzer → HasAccount lists calls client (WantedAnalyzer d) (analyzer_account d analyzer) →
+      IsOwnPort lists objects calls client analyzer.port
+  analyzer_port analyzer d is account = record {
+    wanted = WantedAnalyzer d;
+    has_wanted = account.has_wanted;
+    number = d.buffer;
+    has_number = refl;
+    buffer = is.buffer;
+    has_buffer = is.has_buffer;
+    leads_to = is.port;
+    caller = is.port_caller;
+    told = ap (λ (o : Option Account). (account_or_none o).port d.buffer) account.told ∙ rw (eq-eqb d.buffer d.buffer refl) refl;
+  }
+
 -- A member has an account of no object that those of its kind do not call.
-module _ {D F : Type 0} (objects : SessionObjects) (shared : SharedOdb D) (client : ℕ) where
-  pub no_database : {wanted : MemberDeclared} {member : MemberSeen Generator F} → IsMemberOf objects shared client wanted member → calls_database (Some wanted) ≡ false →
+module _ {D F : Type 0} (objects : SessionObjects) (shared : SharedOdb D) (channels : List ChannelSpec) (client : ℕ) where
+  pub no_database : {wanted : MemberDeclared} {member : MemberSeen Generator F} → IsMemberOf objects shared channels client wanted member → calls_database (Some wanted) ≡ false →
       (account_of wanted member).database ≡ []
   no_database (FrontIs is) none = absurd (cc (none))
   no_database (LoggerIs is) none = refl
   no_database (AnalyzerIs is) none = refl
 
-  pub no_port : (buffer : ℕ) {wanted : MemberDeclared} {member : MemberSeen Generator F} → IsMemberOf objects shared client wanted member → calls_buffer buffer (Some wanted) ≡ false →
+  pub no_port : (buffer : ℕ) {wanted : MemberDeclared} {member : MemberSeen Generator F} → IsMemberOf objects shared channels client wanted member → calls_buffer buffer (Some wanted) ≡ false →
       (account_of wanted member).port buffer ≡ None
   no_port buffer (FrontIs is) none = rw none refl
   no_port buffer (LoggerIs is) none = absurd (cc (none))

@@ -6,8 +6,10 @@ use native.Mathlib.Decide.{ℕ_discrete, dec_le}
 use Rattle.std.proofs.lemmas.Bool.{lt-ltb, le-ltb}
 use Rattle.session_setup.specs.declared.declared.DeclaredLists.{DeclaredLists}
 use Rattle.session_objects.specs.declared.membership.MemberDeclared.{MemberDeclared}
-use Rattle.session_objects.specs.declared.membership.MemberDeclared.TheVariants.{Logger as WantedLogger}
-use Rattle.session_objects.specs.Kept.{OutNumbers, callers_down, calls_buffer, calls_database, declared_members, own_buffer, out_to, ports_out, buffer_out}
+use Rattle.session_objects.specs.declared.membership.MemberDeclared.TheVariants.{FrontEnd as WantedFront, Logger as WantedLogger, Analyzer as WantedAnalyzer}
+use Rattle.session_objects.specs.DeclaredMembers.{calls_buffer, calls_database, declared_members, own_buffer}
+use Rattle.session_objects.specs.Kept.{OutNumbers, callers_down, out_to, ports_out, buffer_out}
+use Rattle.session_objects.proofs.ChangeLaws.{some_same}
 use Rattle.session_objects.proofs.RosterLaws.{at_first, in_rest, in_list, none_in}
 
 module _ (calls : ℕ → Bool) (others : List ℕ) where
@@ -61,10 +63,16 @@ out_here out place number = rw (eq-eqb place place refl) refl
 pub out_beside : (out : OutNumbers) (place number other : ℕ) → other ≢ place → (buffer_out number place out).buffers other ≡ out.buffers other
 out_beside out place number other apart = rw (ne_eqb place other (λ e. apart (sym e))) refl
 
+-- A member that calls one buffer alone calls that, and no other.
+own_called : (wanted : MemberDeclared) (number : ℕ) → own_buffer wanted ≡ Some number → (buffer : ℕ) → calls_buffer buffer (Some wanted) ≡ (number == buffer)
+own_called (WantedFront front) number own buffer = ap (λ (n : ℕ). n == buffer) (some_same front.buffer number own)
+own_called WantedLogger number own buffer = absurd (cc (own))
+own_called (WantedAnalyzer analyzer) number own buffer = ap (λ (n : ℕ). n == buffer) (some_same analyzer.buffer number own)
+
 -- One member more has its passes:
 module _ (lists : DeclaredLists) (client : ℕ) where
   abbrev wanted_at : ℕ → Option MemberDeclared
-  wanted_at n = slice_get (declared_members lists.fronts lists.analyzers) n
+  wanted_at n = slice_get (declared_members lists) n
 
   -- of the engine,
   pub engine_one : (out_to lists (client + 1)).engine ≡ suc client ∷ (out_to lists client).engine
@@ -81,28 +89,27 @@ module _ (lists : DeclaredLists) (client : ℕ) where
         ∙ down_without (λ n. calls_database (wanted_at n)) (0 ∷ []) client (ap calls_database at ∙ not_it)
 
     -- and of the buffers that it calls
-    pub buffer_one : (buffer : ℕ) → calls_buffer buffer (Some wanted) ≡ true → (out_to lists (client + 1)).buffers buffer ≡ suc client ∷ (out_to lists client).buffers buffer
-    buffer_one buffer calls_it = ap (λ (n : ℕ). (out_to lists n).buffers buffer) (add-one client)
-        ∙ down_with (λ n. calls_buffer buffer (wanted_at n)) [] client (ap (calls_buffer buffer) at ∙ calls_it)
+    buffer_one : (buffer : ℕ) → calls_buffer buffer (Some wanted) ≡ true → (out_to lists (suc client)).buffers buffer ≡ suc client ∷ (out_to lists client).buffers buffer
+    buffer_one buffer calls_it = down_with (λ n. calls_buffer buffer (wanted_at n)) [] client (ap (calls_buffer buffer) at ∙ calls_it)
 
-    pub buffer_same : (buffer : ℕ) → calls_buffer buffer (Some wanted) ≡ false → (out_to lists (client + 1)).buffers buffer ≡ (out_to lists client).buffers buffer
-    buffer_same buffer not_it = ap (λ (n : ℕ). (out_to lists n).buffers buffer) (add-one client)
-        ∙ down_without (λ n. calls_buffer buffer (wanted_at n)) [] client (ap (calls_buffer buffer) at ∙ not_it)
+    buffer_same : (buffer : ℕ) → calls_buffer buffer (Some wanted) ≡ false → (out_to lists (suc client)).buffers buffer ≡ (out_to lists client).buffers buffer
+    buffer_same buffer not_it = down_without (λ n. calls_buffer buffer (wanted_at n)) [] client (ap (calls_buffer buffer) at ∙ not_it)
 
     -- where it calls one alone
-    module _ (one : (number : ℕ) → calls_buffer number (Some wanted) ≡ (own_buffer wanted == number)) where
-      pub own_one : (out_to lists (client + 1)).buffers (own_buffer wanted) ≡ suc client ∷ (out_to lists client).buffers (own_buffer wanted)
-      own_one = buffer_one (own_buffer wanted) (one (own_buffer wanted) ∙ eq-eqb (own_buffer wanted) (own_buffer wanted) refl)
+    module _ (number : ℕ) (own : own_buffer wanted ≡ Some number) where
+      pub own_one : (out_to lists (suc client)).buffers number ≡ suc client ∷ (out_to lists client).buffers number
+      own_one = buffer_one number (own_called wanted number own number ∙ eq-eqb number number refl)
 
-      pub own_other : (buffer : ℕ) → buffer ≢ own_buffer wanted → (out_to lists (client + 1)).buffers buffer ≡ (out_to lists client).buffers buffer
-      own_other buffer apart = buffer_same buffer (one buffer ∙ ne_eqb (own_buffer wanted) buffer (λ e. apart (sym e)))
+      pub own_other : (buffer : ℕ) → buffer ≢ number → (out_to lists (suc client)).buffers buffer ≡ (out_to lists client).buffers buffer
+      own_other buffer apart = buffer_same buffer (own_called wanted number own buffer ∙ ne_eqb number buffer (λ e. apart (sym e)))
 
-      pub own_next : (buffer : ℕ) → (buffer_out (client + 1) (own_buffer wanted) (out_to lists client)).buffers buffer ≡ (out_to lists (client + 1)).buffers buffer
-      own_next buffer = dite (ℕ_discrete buffer (own_buffer wanted))
-          (λ e. let P : ℕ → Type 0 = λ b. (buffer_out (client + 1) (own_buffer wanted) (out_to lists client)).buffers b ≡ (out_to lists (client + 1)).buffers b in
-          subst P (sym e) (out_here (out_to lists client) (own_buffer wanted) (client + 1)
-          ∙ ap (λ (n : ℕ). n ∷ (out_to lists client).buffers (own_buffer wanted)) (add-one client) ∙ sym own_one))
-          (λ apart. out_beside (out_to lists client) (own_buffer wanted) (client + 1) buffer apart ∙ sym (own_other buffer apart))
+      pub own_next : (buffer : ℕ) → (buffer_out (client + 1) number (out_to lists client)).buffers buffer ≡ (out_to lists (client + 1)).buffers buffer
+      own_next buffer = dite (ℕ_discrete buffer number)
+          (λ e. let P : ℕ → Type 0 = λ b. (buffer_out (client + 1) number (out_to lists client)).buffers b ≡ (out_to lists (suc client)).buffers b in
+          subst P (sym e) (out_here (out_to lists client) number (client + 1)
+          ∙ ap (λ (n : ℕ). n ∷ (out_to lists client).buffers number) (add-one client) ∙ sym own_one))
+          (λ apart. out_beside (out_to lists client) number (client + 1) buffer apart ∙ sym (own_other buffer apart))
+          ∙ ap (λ (n : ℕ). (out_to lists n).buffers buffer) (sym (add-one client))
 
   -- One that has a port to each buffer has so many of them.
   pub port_here : (m buffer : ℕ) → buffer < m → (ports_out lists client m).buffers buffer ≡ (out_to lists (suc client)).buffers buffer
@@ -110,6 +117,15 @@ module _ (lists : DeclaredLists) (client : ℕ) where
 
   pub port_gone : (m buffer : ℕ) → m ≤ buffer → (ports_out lists client m).buffers buffer ≡ (out_to lists client).buffers buffer
   port_gone m buffer l = rw (le-ltb buffer m l) refl
+
+  -- one that calls one buffer alone has its port to that
+  module _ (wanted : MemberDeclared) (at : wanted_at client ≡ Some wanted) (number : ℕ) (own : own_buffer wanted ≡ Some number) (m : ℕ) where
+    pub own_port : number < m → (ports_out lists client m).buffers number ≡ suc client ∷ (out_to lists client).buffers number
+    own_port l = port_here m number l ∙ own_one wanted at number own
+
+    pub own_beside : (buffer : ℕ) → buffer ≢ number → (out_to lists client).buffers buffer ≡ (ports_out lists client m).buffers buffer
+    own_beside buffer apart = dite (dec_le m buffer) (λ l. sym (port_gone m buffer l))
+        (λ no. sym (own_other wanted at number own buffer apart) ∙ sym (port_here m buffer (omega arith)))
 
   pub port_beside : (m buffer : ℕ) → buffer ≢ m → (ports_out lists client m).buffers buffer ≡ (ports_out lists client (suc m)).buffers buffer
   port_beside m buffer other = dite (dec_le m buffer) (λ l. port_gone m buffer l ∙ sym (port_gone (suc m) buffer (omega arith)))

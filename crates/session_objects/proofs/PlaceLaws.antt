@@ -9,14 +9,26 @@ use Rattle.transition_lock.specs.SharedEngines.{engine_lock_of}
 use Rattle.odb_lock.specs.declared.shared.SharedOdb.{SharedOdb}
 use Rattle.odb_lock.specs.SharedOdbs.{odb_lock_of}
 use Rattle.session_setup.specs.declared.declared.DeclaredLists.{DeclaredLists}
+use Rattle.session_objects.specs.declared.membership.MemberDeclared.{MemberDeclared}
 use Rattle.session_objects.specs.declared.objects.SessionBuffer.{SessionBuffer}
 use Rattle.session_objects.specs.declared.objects.SessionObjects.{SessionObjects}
 use Rattle.session_objects.specs.declared.passes.SessionPasses.{SessionPasses}
 use Rattle.session_objects.specs.Rosters.{KeepsFresh, TakesFresh, ChangesAt, nothing_seen}
-use Rattle.session_objects.specs.Kept.{OutNumbers, calls_buffer, calls_database, declared_members, out_to, engine_out, database_out, buffer_out, HasFreshBut}
+use Rattle.session_objects.specs.DeclaredMembers.{calls_buffer, calls_database, caller_count, declared_members}
+use Rattle.session_objects.specs.Objects.{HaveCallers, SuitMembers}
+use Rattle.session_objects.specs.Kept.{OutNumbers, out_to, engine_out, database_out, buffer_out, HasFreshBut}
 use Rattle.session_objects.proofs.RosterLaws.{is_kept}
-use Rattle.session_objects.proofs.ChangeLaws.{changed_keep}
+use Rattle.session_objects.proofs.ChangeLaws.{changed_keep, there_below}
+use Rattle.session_objects.proofs.ListedLaws.{declared_count}
 use Rattle.session_objects.proofs.OutLaws.{out_here, out_beside, down_only, none_low, main_low}
+
+-- The caller of a member that was declared is one of those of an object, and there are fewer members than a buffer has clients.
+module _ (lists : DeclaredLists) (client : ℕ) (wanted : MemberDeclared) (at : slice_get (declared_members lists) client ≡ Some wanted) where
+  caller_below : client + 1 < caller_count lists
+  caller_below = let l = slice_get_within (declared_members lists) client wanted at in omega (arith, l)
+
+  pub client_few : {D : Type 0} (objects : SessionObjects) (database : SharedOdb D) → SuitMembers lists objects database → client < 64
+  client_few objects database suit = let l = slice_get_within (declared_members lists) client wanted at in omega (arith, l, declared_count lists, suit.few, suit.few_analyzers)
 
 module _ {D : Type 0} {gd : _} (objects : SessionObjects) (database : SharedOdb D) where
   -- which numbers are out may be said in another way
@@ -74,24 +86,27 @@ module _ {D : Type 0} {gd : _} (objects : SessionObjects) (database : SharedOdb 
     database = (let P : _ → Type 0 = λ db. KeepsFresh out.database (odb_lock_of database) db in subst P (sym database_same) k.database);
   }
 
-  module _ (lists : DeclaredLists) (client : ℕ) where
-    -- the passes of the next client are there
-    pub engine_has : (out : OutNumbers) (passes : SessionPasses D gd) → out.engine ≡ (out_to lists client).engine → HasFreshBut out objects database passes →
-        client + 1 < passes_of (engine_lock_of objects.engine) → Contains (numbers_of passes.engine) (client + 1)
-    engine_has out passes same k below = is_kept nothing_seen out.engine (engine_lock_of objects.engine) passes.engine (client + 1) k.engine.keeps below
+  -- A member that was declared, which is the next one,
+  module _ (lists : DeclaredLists) (client : ℕ) (wanted : MemberDeclared) (at : slice_get (declared_members lists) client ≡ Some wanted) (have : HaveCallers lists objects database) where
+    -- has its passes there: of the engine,
+    pub engine_has : (out : OutNumbers) (passes : SessionPasses D gd) → out.engine ≡ (out_to lists client).engine → HasFreshBut out objects database passes → Contains (numbers_of passes.engine) (client + 1)
+    engine_has out passes same k = is_kept nothing_seen out.engine (engine_lock_of objects.engine) passes.engine (client + 1) k.engine.keeps (subst (λ (n : ℕ). client + 1 < n) (sym have.engine) (caller_below lists client wanted at))
         (λ has. let P : List ℕ → Type 0 = λ ns. Contains ns (client + 1) in
         let l : client + 1 < suc client = down_only (λ n. true) (0 ∷ []) main_low client (client + 1) (subst P same has) in omega arith)
 
-    pub database_has : (out : OutNumbers) (passes : SessionPasses D gd) → out.database ≡ (out_to lists client).database → HasFreshBut out objects database passes →
-        client + 1 < passes_of (odb_lock_of database) → Contains (numbers_of passes.database) (client + 1)
-    database_has out passes same k below = is_kept nothing_seen out.database (odb_lock_of database) passes.database (client + 1) k.database.keeps below
+    -- of the database, if it calls that,
+    pub database_has : calls_database (Some wanted) ≡ true → (out : OutNumbers) (passes : SessionPasses D gd) → out.database ≡ (out_to lists client).database → HasFreshBut out objects database passes →
+        Contains (numbers_of passes.database) (client + 1)
+    database_has calls_it out passes same k = is_kept nothing_seen out.database (odb_lock_of database) passes.database (client + 1) k.database.keeps
+        (let l = have.database client (ap calls_database at ∙ calls_it) in omega (arith, l))
         (λ has. let P : List ℕ → Type 0 = λ ns. Contains ns (client + 1) in
-        let l : client + 1 < suc client = down_only (λ n. calls_database (slice_get (declared_members lists.fronts lists.analyzers) n)) (0 ∷ []) main_low client (client + 1) (subst P same has) in omega arith)
+        let l : client + 1 < suc client = down_only (λ n. calls_database (slice_get (declared_members lists) n)) (0 ∷ []) main_low client (client + 1) (subst P same has) in omega arith)
 
-    pub buffer_has : (out : OutNumbers) (number : ℕ) (passes : SessionPasses D gd) (buffer : SessionBuffer) (roster : _) → out.buffers number ≡ (out_to lists client).buffers number → HasFreshBut out objects database passes →
-        slice_get objects.buffers.items number ≡ Some buffer → slice_get passes.buffers.items number ≡ Some roster →
-        client + 1 < passes_of (lock_of buffer.shared) → Contains (numbers_of roster) (client + 1)
-    buffer_has out number passes buffer roster same k at there below =
-        is_kept nothing_seen (out.buffers number) (lock_of buffer.shared) roster (client + 1) (k.buffers number buffer roster at there).keeps below
+    -- and of each buffer.
+    pub buffer_has : (out : OutNumbers) (number : ℕ) (passes : SessionPasses D gd) → number < length objects.buffers.items → out.buffers number ≡ (out_to lists client).buffers number →
+        HasFreshBut out objects database passes → (roster : _) → slice_get passes.buffers.items number ≡ Some roster → Contains (numbers_of roster) (client + 1)
+    buffer_has out number passes within same k roster there =
+        let b = there_below objects.buffers.items number within in
+        is_kept nothing_seen (out.buffers number) (lock_of b.0.shared) roster (client + 1) (k.buffers number b.0 roster b.1 there).keeps (subst (λ (n : ℕ). client + 1 < n) (sym (have.buffers number b.0 b.1)) (caller_below lists client wanted at))
         (λ has. let P : List ℕ → Type 0 = λ ns. Contains ns (client + 1) in
-        let l : client + 1 < suc client = down_only (λ n. calls_buffer number (slice_get (declared_members lists.fronts lists.analyzers) n)) [] none_low client (client + 1) (subst P same has) in omega arith)
+        let l : client + 1 < suc client = down_only (λ n. calls_buffer number (slice_get (declared_members lists) n)) [] none_low client (client + 1) (subst P same has) in omega arith)

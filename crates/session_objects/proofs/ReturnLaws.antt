@@ -1,5 +1,5 @@
 -- Passes that come back, one after another.
-use Rattle.std.proofs.Common.{◌≡◌, ◌≢◌, ℕ, zero, suc, add-one, ◌+◌, ◌<◌, ◌==◌, true, false, Bool, List, [], ◌∷◌, length, sym, ap, ◌∙◌, refl, subst, arith, None as nothing}
+use Rattle.std.proofs.Common.{◌≡◌, ◌≢◌, ℕ, zero, suc, add-one, ◌+◌, ◌<◌, ◌≤◌, true, false, Bool, List, [], ◌∷◌, length, sym, ap, ◌∙◌, refl, subst, arith, None as nothing}
 use Rattle.std.specs.Prelude.{slice_get, Option, Some, Contains}
 use mathlib.Core.Logic.{dite}
 use native.Mathlib.Decide.{dec_le}
@@ -23,15 +23,16 @@ use Rattle.session_objects.specs.declared.objects.SessionBuffer.{SessionBuffer}
 use Rattle.session_objects.specs.declared.objects.SessionObjects.{SessionObjects}
 use Rattle.session_objects.specs.declared.passes.SessionPasses.{SessionPasses}
 use Rattle.session_objects.specs.Rosters.{ChangesAt, KeepsPasses, PutsBack}
-use Rattle.session_objects.specs.Kept.{OutNumbers, HasFreshBut, calls_buffer, calls_database, declared_members, member_count, own_buffer, out_to, out_to_members, ports_out}
+use Rattle.session_objects.specs.DeclaredMembers.{calls_buffer, calls_database, declared_members, member_count}
+use Rattle.session_objects.specs.Kept.{OutNumbers, HasFreshBut, out_to, out_to_members, ports_out}
 use Rattle.session_objects.specs.Calls.{Account, SessionCalls, account_at, account_or_none, told_of_engine, told_of_database, told_of_buffer, told_through}
 use Rattle.session_objects.specs.Objects.{HaveCallers}
-use Rattle.session_objects.specs.Members.{HasAccount, CalledAt, AreCalledAt}
+use Rattle.session_objects.specs.Members.{HasAccount, IsOwnPort, CalledAt, AreCalledAt}
 use Rattle.session_objects.specs.Records.{none_out, HasCalls, HasCallsBut}
 use Rattle.session_objects.proofs.RosterLaws.{at_first, fresh_tells, puts_keep, room_for}
 use Rattle.session_objects.proofs.ChangeLaws.{changed_keep, some_same, there_below}
 use Rattle.session_objects.proofs.ListedLaws.{no_database, no_port}
-use Rattle.session_objects.proofs.OutLaws.{down_all, down_others, engine_one, database_one, database_same, own_one, own_other, port_now, port_beside}
+use Rattle.session_objects.proofs.OutLaws.{down_all, down_others, engine_one, database_one, own_port, own_beside, port_here, port_now, port_beside}
 
 module _ {M D : Type 0} {g : _} (calls : SessionCalls) where
   -- what a pass of the engine tells of its client
@@ -147,6 +148,14 @@ module _ {D : Type 0} {gd : _} (calls : SessionCalls) (objects : SessionObjects)
         let k2 = database_back out1 0 [] s1 s2 pd refl k1 put_d bd ed nd od hd sd in
         calls_said (record out1 { database = [] }) none_out s2 refl (λ n l. refl) refl k2
 
+    -- The client's other passes are back; those of its ports are out still.
+    pub ports_still : (client ports : ℕ) (database_out : List ℕ) (passes : SessionPasses D gd) → database_out ≡ (out_to lists client).database → length objects.buffers.items ≤ ports →
+        HasCallsBut (record { engine = (out_to lists client).engine; buffers = (out_to lists (client + 1)).buffers; database = database_out }) calls objects database passes →
+        HasCallsBut (ports_out lists client ports) calls objects database passes
+    ports_still client ports database_out passes same all k =
+        calls_said (record { engine = (out_to lists client).engine; buffers = (out_to lists (client + 1)).buffers; database = database_out }) (ports_out lists client ports) passes refl
+        (λ n l. ap (λ (k : ℕ). (out_to lists k).buffers n) (add-one client) ∙ sym (port_here lists client ports n (omega (arith, l, all)))) same k
+
     module _ (client : ℕ) (wanted : MemberDeclared) (account : Account) (has : HasAccount lists calls client wanted account) where
       -- The client's pass of the engine comes back;
       pub client_engine_back : (s0 s1 : SessionPasses D gd) (pe : _) → HasCallsBut (out_to lists (client + 1)) calls objects database s0 →
@@ -167,31 +176,23 @@ module _ {D : Type 0} {gd : _} (calls : SessionCalls) (objects : SessionObjects)
           database_back out (suc client) (out_to lists client).database s0 s1 pd (same ∙ database_one lists client wanted has.has_wanted calls_it) k put bd ed (nd ∙ add-one client) od hd
           (sd ∙ sym (ap (λ (a : Account). a.database) (ap account_or_none has.told)))
 
-      -- and that of its one buffer.
-      pub client_buffer_back : (out : OutNumbers) (buffer : SessionBuffer) (port : Access) (s0 s1 : SessionPasses D gd) (pb : _) →
-          out.buffers ≡ (out_to lists (client + 1)).buffers → ((number : ℕ) → calls_buffer number (Some wanted) ≡ (own_buffer wanted == number)) →
-          slice_get objects.buffers.items (own_buffer wanted) ≡ Some buffer → account.port (own_buffer wanted) ≡ Some port → HasCallsBut out calls objects database s0 →
-          ChangesAt (λ b a. PutsBack b pb a) (own_buffer wanted) s0.buffers.items s1.buffers.items → s1.engine ≡ s0.engine → s1.database ≡ s0.database →
-          number_of pb ≡ client + 1 → IsOf (lock_of buffer.shared) pb → held_by pb ≡ nothing → told_through buffer.size (suc client) (Some port) (seen_by pb) →
-          HasCallsBut (record out { buffers = (out_to lists client).buffers }) calls objects database s1
-      client_buffer_back out buffer port s0 s1 pb same one b p k put eb db nb ob hb tb =
-          let place : ℕ = own_buffer wanted in
-          let P : Option Access → Type 0 = λ o. told_through buffer.size (suc client) o (seen_by pb) in
-          buffer_back out (out_to lists client).buffers place (suc client) buffer s0 s1 pb b
-          (ap (λ (bs : ℕ → List ℕ). bs place) same ∙ own_one lists client wanted has.has_wanted one)
-          (λ other apart. sym (own_other lists client wanted has.has_wanted one other apart) ∙ ap (λ (bs : ℕ → List ℕ). bs other) (sym same))
-          k put eb db (nb ∙ add-one client) ob hb (subst P (sym (ap (λ (a : Account). a.port place) (ap account_or_none has.told) ∙ p)) tb)
-
-      -- a client that does not call the database has no pass of it
-      pub without_database : (engine : List ℕ) (buffers : ℕ → List ℕ) (passes : SessionPasses D gd) → calls_database (Some wanted) ≡ false →
-          HasCallsBut (record { engine = engine; buffers = buffers; database = (out_to lists (client + 1)).database }) calls objects database passes →
-          HasCallsBut (record { engine = engine; buffers = buffers; database = (out_to lists client).database }) calls objects database passes
-      without_database engine buffers passes not_it k = calls_said (record { engine = engine; buffers = buffers; database = (out_to lists (client + 1)).database })
-          (record { engine = engine; buffers = buffers; database = (out_to lists client).database }) passes refl (λ n l. refl) (database_same lists client wanted has.has_wanted not_it) k
+    -- The port of a client that calls one buffer alone comes back.
+    pub own_port_back : (client : ℕ) (port : Access) (is : IsOwnPort lists objects calls client port) (s0 s1 : SessionPasses D gd) (pb : _) →
+        HasCallsBut (ports_out lists client (length objects.buffers.items)) calls objects database s0 →
+        ChangesAt (λ b a. PutsBack b pb a) is.number s0.buffers.items s1.buffers.items → s1.engine ≡ s0.engine → s1.database ≡ s0.database →
+        number_of pb ≡ client + 1 → IsOf (lock_of is.buffer.shared) pb → held_by pb ≡ nothing → told_through is.buffer.size (suc client) (Some port) (seen_by pb) →
+        HasCallsBut (out_to lists client) calls objects database s1
+    own_port_back client port is s0 s1 pb k put eb db nb ob hb tb =
+        let many : ℕ = length objects.buffers.items in
+        let P : Option Access → Type 0 = λ o. told_through is.buffer.size (suc client) o (seen_by pb) in
+        buffer_back (ports_out lists client many) (out_to lists client).buffers is.number (suc client) is.buffer s0 s1 pb is.has_buffer
+        (own_port lists client is.wanted is.has_wanted is.number is.has_number many (slice_get_within objects.buffers.items is.number is.buffer is.has_buffer))
+        (own_beside lists client is.wanted is.has_wanted is.number is.has_number many)
+        k put eb db (nb ∙ add-one client) ob hb (subst P (sym is.told) tb)
 
     -- The ports of a client that has one to each buffer come back, the last one first.
     module _ (client : ℕ) where
-      pub logger_port_back : (place : ℕ) (buffer : SessionBuffer) (port : Access) (s0 s1 : SessionPasses D gd) (pb : _) → slice_get (declared_members lists.fronts lists.analyzers) client ≡ Some WantedLogger →
+      pub logger_port_back : (place : ℕ) (buffer : SessionBuffer) (port : Access) (s0 s1 : SessionPasses D gd) (pb : _) → slice_get (declared_members lists) client ≡ Some WantedLogger →
           slice_get objects.buffers.items place ≡ Some buffer → (account_at calls client).port place ≡ Some port →
           HasCallsBut (ports_out lists client (suc place)) calls objects database s0 →
           ChangesAt (λ b a. PutsBack b pb a) place s0.buffers.items s1.buffers.items → s1.engine ≡ s0.engine → s1.database ≡ s0.database →
@@ -205,49 +206,48 @@ module _ {D : Type 0} {gd : _} (calls : SessionCalls) (objects : SessionObjects)
 
 -- What is told of passes by which no call was made, where these members are all that have others.
 module _ {D F : Type 0} (calls : SessionCalls) (objects : SessionObjects) (database : SharedOdb D) (lists : DeclaredLists) (members : List (MemberSeen Generator F))
-    (called : AreCalledAt lists objects database calls members) (many : length members ≡ member_count lists.fronts lists.analyzers) (accounts : length calls.members ≡ member_count lists.fronts lists.analyzers) where
-  member_at : (client : ℕ) → client < (member_count lists.fronts lists.analyzers) → (m : MemberSeen Generator F) × CalledAt lists objects database calls client m
+    (called : AreCalledAt lists objects database calls members) (many : length members ≡ member_count lists) (accounts : length calls.members ≡ member_count lists) where
+  member_at : (client : ℕ) → client < (member_count lists) → (m : MemberSeen Generator F) × CalledAt lists objects database calls client m
   member_at client l = let m = there_below members client (omega arith) in (m.0, called client m.0 m.1)
 
-  engine_untold : (k : ℕ) → k < suc (member_count lists.fronts lists.analyzers) → ¬ Contains (out_to_members lists).engine k → told_of_engine calls k []
-  engine_untold zero l absent = absurd (absent (down_others (λ n. true) (0 ∷ []) (member_count lists.fronts lists.analyzers) 0 (at_first 0 [] 0 refl)))
-  engine_untold (suc client) l absent = absurd (absent (down_all (λ n. true) (0 ∷ []) (member_count lists.fronts lists.analyzers) client (omega arith) refl))
+  engine_untold : (k : ℕ) → k < suc (member_count lists) → ¬ Contains (out_to_members lists).engine k → told_of_engine calls k []
+  engine_untold zero l absent = absurd (absent (down_others (λ n. true) (0 ∷ []) (member_count lists) 0 (at_first 0 [] 0 refl)))
+  engine_untold (suc client) l absent = absurd (absent (down_all (λ n. true) (0 ∷ []) (member_count lists) client (omega arith) refl))
 
   database_untold : (k : ℕ) → ¬ Contains (out_to_members lists).database k → told_of_database calls k []
-  database_untold zero absent = absurd (absent (down_others (λ n. calls_database (slice_get (declared_members lists.fronts lists.analyzers) n)) (0 ∷ []) (member_count lists.fronts lists.analyzers) 0 (at_first 0 [] 0 refl)))
-  database_untold (suc client) absent = dite (dec_le (member_count lists.fronts lists.analyzers) client)
+  database_untold zero absent = absurd (absent (down_others (λ n. calls_database (slice_get (declared_members lists) n)) (0 ∷ []) (member_count lists) 0 (at_first 0 [] 0 refl)))
+  database_untold (suc client) absent = dite (dec_le (member_count lists) client)
       (λ l. ap (λ (o : Option Account). (account_or_none o).database) (sym (slice_get_past calls.members client (omega arith))))
-      (λ no. one (omega arith) (calls_database (slice_get (declared_members lists.fronts lists.analyzers) client)) refl)
+      (λ no. one (omega arith) (calls_database (slice_get (declared_members lists) client)) refl)
     where
-      one : client < (member_count lists.fronts lists.analyzers) → (b : Bool) → calls_database (slice_get (declared_members lists.fronts lists.analyzers) client) ≡ b → told_of_database calls (suc client) []
-      one l true is = absurd (absent (down_all (λ n. calls_database (slice_get (declared_members lists.fronts lists.analyzers) n)) (0 ∷ []) (member_count lists.fronts lists.analyzers) client l is))
+      one : client < (member_count lists) → (b : Bool) → calls_database (slice_get (declared_members lists) client) ≡ b → told_of_database calls (suc client) []
+      one l true is = absurd (absent (down_all (λ n. calls_database (slice_get (declared_members lists) n)) (0 ∷ []) (member_count lists) client l is))
       one l false is =
           let m = member_at client l in
           sym (ap (λ (o : Option Account). (account_or_none o).database) m.1.account.told
-          ∙ no_database objects database client m.1.is (ap calls_database (sym m.1.account.has_wanted) ∙ is))
+          ∙ no_database objects database lists.channels client m.1.is (ap calls_database (sym m.1.account.has_wanted) ∙ is))
 
-  buffer_untold : (buffer size k : ℕ) → k < suc (member_count lists.fronts lists.analyzers) → ¬ Contains ((out_to_members lists).buffers buffer) k → told_of_buffer calls buffer size k []
+  buffer_untold : (buffer size k : ℕ) → k < suc (member_count lists) → ¬ Contains ((out_to_members lists).buffers buffer) k → told_of_buffer calls buffer size k []
   buffer_untold buffer size zero l absent = refl
-  buffer_untold buffer size (suc client) l absent = one (omega arith) (calls_buffer buffer (slice_get (declared_members lists.fronts lists.analyzers) client)) refl
+  buffer_untold buffer size (suc client) l absent = one (omega arith) (calls_buffer buffer (slice_get (declared_members lists) client)) refl
     where
-      one : client < (member_count lists.fronts lists.analyzers) → (b : Bool) → calls_buffer buffer (slice_get (declared_members lists.fronts lists.analyzers) client) ≡ b → told_of_buffer calls buffer size (suc client) []
-      one l true is = absurd (absent (down_all (λ n. calls_buffer buffer (slice_get (declared_members lists.fronts lists.analyzers) n)) [] (member_count lists.fronts lists.analyzers) client l is))
+      one : client < (member_count lists) → (b : Bool) → calls_buffer buffer (slice_get (declared_members lists) client) ≡ b → told_of_buffer calls buffer size (suc client) []
+      one l true is = absurd (absent (down_all (λ n. calls_buffer buffer (slice_get (declared_members lists) n)) [] (member_count lists) client l is))
       one l false is =
           let m = member_at client l in
           let P : Option Access → Type 0 = λ o. told_through size (suc client) o [] in
           subst P (sym (ap (λ (o : Option Account). (account_or_none o).port buffer) m.1.account.told
-          ∙ no_port objects database client buffer m.1.is (ap (calls_buffer buffer) (sym m.1.account.has_wanted) ∙ is))) refl
+          ∙ no_port objects database lists.channels client buffer m.1.is (ap (calls_buffer buffer) (sym m.1.account.has_wanted) ∙ is))) refl
 
-  pub untold : {gd : _} (passes : SessionPasses D gd) → HaveCallers lists.fronts lists.analyzers objects database →
+  pub untold : {gd : _} (passes : SessionPasses D gd) → HaveCallers lists objects database →
       HasFreshBut (out_to_members lists) objects database passes → HasCallsBut (out_to_members lists) calls objects database passes
   untold passes have fresh = record {
     engine = fresh_tells (told_of_engine calls) (out_to_members lists).engine (engine_lock_of objects.engine) passes.engine
-        (λ k below absent. engine_untold k (let c : passes_of (engine_lock_of objects.engine) ≡ length lists.fronts + 2 + length lists.analyzers = have.engine in omega arith) absent) fresh.engine;
+        (λ k below absent. engine_untold k (subst (λ (n : ℕ). k < n) have.engine below) absent) fresh.engine;
     many = fresh.many;
     buffers = λ number buffer roster at there.
         fresh_tells (told_of_buffer calls number buffer.size) ((out_to_members lists).buffers number) (lock_of buffer.shared) roster
-        (λ k below absent. buffer_untold number buffer.size k
-        (let c : passes_of (lock_of buffer.shared) ≡ length lists.fronts + 2 + length lists.analyzers = have.buffers number buffer at in omega arith) absent)
+        (λ k below absent. buffer_untold number buffer.size k (subst (λ (n : ℕ). k < n) (have.buffers number buffer at) below) absent)
         (fresh.buffers number buffer roster at there);
     database = fresh_tells (told_of_database calls) (out_to_members lists).database (odb_lock_of database) passes.database
         (λ k below absent. database_untold k absent) fresh.database;

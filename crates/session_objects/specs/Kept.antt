@@ -1,49 +1,17 @@
 -- The passes that the main thread keeps of the session's objects, while others are with the members.
-use Rattle.std.specs.Prelude.{◌≡◌, ℕ, zero, suc, ◌+◌, ◌==◌, ◌++◌, ◌∷◌, [], Bool, true, false, if◌then◌else◌, nat_lt, List, map, slice_get, length, Option, Some, None}
+use Rattle.std.specs.Prelude.{◌≡◌, ℕ, zero, suc, ◌+◌, ◌==◌, ◌∷◌, [], Bool, true, false, if◌then◌else◌, nat_lt, List, slice_get, length, Some}
 use Rattle.daq_types.specs.Callers.{main_caller}
 use Rattle.buffer_lock.specs.SharedBuffers.{lock_of}
 use Rattle.transition_lock.specs.SharedEngines.{engine_lock_of}
 use Rattle.odb_lock.specs.declared.shared.SharedOdb.{SharedOdb}
 use Rattle.odb_lock.specs.SharedOdbs.{odb_lock_of}
-use Rattle.session_setup.specs.declared.declared.AnalyzerDeclared.{AnalyzerDeclared}
 use Rattle.session_setup.specs.declared.declared.DeclaredLists.{DeclaredLists}
-use Rattle.session_setup.specs.declared.declared.FrontDeclared.{FrontDeclared}
 use Rattle.session_objects.specs.declared.membership.MemberDeclared.{MemberDeclared}
-use Rattle.session_objects.specs.declared.membership.MemberDeclared.TheVariants.{FrontEnd, Logger, Analyzer}
 use Rattle.session_objects.specs.declared.objects.SessionBuffer.{SessionBuffer}
 use Rattle.session_objects.specs.declared.objects.SessionObjects.{SessionObjects}
 use Rattle.session_objects.specs.declared.passes.SessionPasses.{SessionPasses}
 use Rattle.session_objects.specs.Rosters.{KeepsFresh}
-
--- The members of a session by their client numbers: the front-ends, the logger, and the analyzers.
-abbrev pub declared_members : List FrontDeclared → List AnalyzerDeclared → List MemberDeclared
-declared_members fronts analyzers = map FrontEnd fronts ++ (Logger ∷ map Analyzer analyzers)
-
--- how many they are
-abbrev pub member_count : List FrontDeclared → List AnalyzerDeclared → ℕ
-member_count fronts analyzers = length fronts + 1 + length analyzers
-
--- Which objects a member calls, besides the engine, which each member asks.
-
--- the number of the one buffer that it calls, where it calls one alone
-abbrev pub own_buffer : MemberDeclared → ℕ
-own_buffer (FrontEnd front) = front.buffer
-own_buffer Logger = 0
-own_buffer (Analyzer analyzer) = analyzer.buffer
-
--- it calls the buffer of this number
-abbrev pub calls_buffer : (buffer : ℕ) → Option MemberDeclared → Bool
-calls_buffer buffer None = false
-calls_buffer buffer (Some (FrontEnd front)) = front.buffer == buffer
-calls_buffer buffer (Some Logger) = true
-calls_buffer buffer (Some (Analyzer analyzer)) = analyzer.buffer == buffer
-
--- it calls the database
-abbrev pub calls_database : Option MemberDeclared → Bool
-calls_database None = false
-calls_database (Some (FrontEnd front)) = true
-calls_database (Some Logger) = false
-calls_database (Some (Analyzer analyzer)) = false
+use Rattle.session_objects.specs.DeclaredMembers.{calls_buffer, calls_database, declared_members, member_count}
 
 -- The numbers of the passes that are with those that call by them: of the engine; of each buffer, by its number; and of
 -- the database.
@@ -67,11 +35,11 @@ out_among members clients = record {
 
 -- the same of the members that were declared
 abbrev pub out_to : DeclaredLists → (clients : ℕ) → OutNumbers
-out_to lists clients = out_among (declared_members lists.fronts lists.analyzers) clients
+out_to lists clients = out_among (declared_members lists) clients
 
 -- all of them have their passes
 abbrev pub out_to_members : DeclaredLists → OutNumbers
-out_to_members lists = out_to lists (member_count lists.fronts lists.analyzers)
+out_to_members lists = out_to lists (member_count lists)
 
 -- the first so many have theirs, and the next one has its own of each buffer with a number below this
 abbrev pub ports_out : DeclaredLists → (clients buffers : ℕ) → OutNumbers

@@ -1,4 +1,5 @@
 pub mod Rosters
+pub mod DeclaredMembers
 pub mod Objects
 pub mod Kept
 pub mod Calls

@@ -1,5 +1,6 @@
 -- The members of a session, as their seats show them.
 use Rattle.std.specs.Prelude.{◌≡◌, ℕ, ◌+◌, ◌-◌, min, Bool, nat_le, nat_lt, if◌then◌else◌, List, [], ◌∷◌, map, slice_get, length, Option, Some, None}
+use Rattle.std.specs.List.{AllZip}
 use Rattle.daq_types.specs.Callers.{caller_of_client}
 use Rattle.daq_types.specs.declared.events.Event.{Event}
 use Rattle.daq_types.specs.declared.runs.Order.{Order}
@@ -37,15 +38,13 @@ use Rattle.daq_members.specs.LoggerSeats.{LoggerSeen}
 use Rattle.analyzers.specs.declared.analyzer_run.EventRequest.{EventRequest}
 use Rattle.analyzers.specs.Analyzers.{AnalyzerState}
 use Rattle.daq_members.specs.SeatedAnalyzers.{AnalyzerSeen}
-use Rattle.daq_members.specs.Members.{MemberSeen, MemberTold, FrontEnd, Logger, Analyzer}
-use Rattle.daq_members.specs.Crews.{CrewSeen, IsSameCrew, crew_seen, members_of}
+use Rattle.daq_members.specs.Members.{MemberSeen, MemberTold, FrontEnd, Logger, Analyzer, IsSameMember, member_told}
 use Rattle.session_objects.specs.declared.objects.SessionBuffer.{SessionBuffer}
 use Rattle.session_objects.specs.declared.objects.SessionObjects.{SessionObjects}
-use Rattle.session_objects.specs.Objects.{first_analyzer}
 use Rattle.session_objects.specs.declared.membership.MemberDeclared.{MemberDeclared}
 use Rattle.session_objects.specs.declared.membership.MemberDeclared.TheVariants.{FrontEnd as WantedFront, Logger as WantedLogger, Analyzer as WantedAnalyzer}
-use Rattle.session_objects.specs.Kept.{calls_buffer, declared_members}
-use Rattle.session_objects.specs.Calls.{Account, SessionCalls, account_or_none}
+use Rattle.session_objects.specs.DeclaredMembers.{calls_buffer, declared_members, logger_number, member_count, own_buffer}
+use Rattle.session_objects.specs.Calls.{Account, SessionCalls, account_at, account_or_none}
 
 -- what is seen of a ring buffer tells its window
 abbrev pub ring_window : CountedWindow → Window
@@ -66,6 +65,10 @@ generator_takes g order = nat_le order.quota g.limit
 abbrev pub generator_makes : Generator → Order → ℕ → Event
 generator_makes g order number = generated_event order g.id g.mask number
 
+-- what is told of a session's members: what the equipments of its front-ends do, and what is told of its run files
+abbrev pub members_told : {F : Type 0} → (read : F → FilesTold) → MemberTold Generator F
+members_told read = member_told generator_takes generator_makes read
+
 -- The front-end with this client number is the one that was declared: its equipment does the same; it asks the session's
 -- engine, sends into its own buffer and calls the session's database, each as its own caller.
 pub record IsFrontOf {D : Type 0} (objects : SessionObjects) (shared : SharedOdb D) (client : ℕ) (declared : FrontDeclared)
@@ -82,22 +85,17 @@ pub record IsFrontOf {D : Type 0} (objects : SessionObjects) (shared : SharedOdb
   pub access : front.database.database ≡ odb_identity shared
   pub access_caller : front.database.caller ≡ caller_of_client client
 
--- The front-ends are those that were declared, in their order.
-pub record AreFrontsOf {D : Type 0} (objects : SessionObjects) (shared : SharedOdb D) (declared : List FrontDeclared)
-    (seats : List (FrontSeen Generator)) : Type 0 where
-  pub many : length seats ≡ length declared
-  pub each : (client : ℕ) → (wanted : FrontDeclared) → (front : FrontSeen Generator) → slice_get declared client ≡ Some wanted →
-      slice_get seats client ≡ Some front → IsFrontOf objects shared client wanted front
-
 -- These are ports of one caller, each to the buffer of its number.
 pub record ArePortsTo (buffers : List SessionBuffer) (caller : ℕ) (ports : List Access) : Type 0 where
   pub many : length ports ≡ length buffers
   pub each : (number : ℕ) → (buffer : SessionBuffer) → (port : Access) → slice_get buffers number ≡ Some buffer →
       slice_get ports number ≡ Some port → (port.buffer ≡ ring_identity buffer.shared) × (port.caller ≡ caller)
 
--- The logger, which has this client number, asks the session's engine and has a port of its own to each buffer.
-pub record IsLoggerOf {F : Type 0} (objects : SessionObjects) (client : ℕ) (logger : LoggerSeen F) : Type 0 where
+-- The logger, which has this client number, has the channels that were declared, each at its number; it asks the session's engine
+-- and has a port of its own to each buffer.
+pub record IsLoggerOf {F : Type 0} (objects : SessionObjects) (channels : List ChannelSpec) (client : ℕ) (logger : LoggerSeen F) : Type 0 where
   pub is : logger.client ≡ client
+  pub channels_are : AreDeclared channels logger.slots
   pub engine : logger.engine ≡ objects.engine
   pub ports : ArePortsTo objects.buffers.items (caller_of_client client) logger.ports
 
@@ -116,50 +114,37 @@ pub record IsAnalyzerOf (objects : SessionObjects) (client : ℕ) (declared : An
   pub port : analyzer.port.buffer ≡ ring_identity buffer.shared
   pub port_caller : analyzer.port.caller ≡ caller_of_client client
 
--- The analyzers are those that were declared, in their order, and the first has this client number.
-pub record AreAnalyzersOf (objects : SessionObjects) (first : ℕ) (declared : List AnalyzerDeclared) (seats : List AnalyzerSeen) : Type 0 where
-  pub many : length seats ≡ length declared
-  pub each : (place : ℕ) → (wanted : AnalyzerDeclared) → (analyzer : AnalyzerSeen) → slice_get declared place ≡ Some wanted →
-      slice_get seats place ≡ Some analyzer → IsAnalyzerOf objects (first + place) wanted analyzer
-
--- The members are those of a session of these declarations: the front-ends, in their order, behind them the logger, and
--- behind that the analyzers.
-pub record AreMembersOf {D F : Type 0} (fronts : List FrontDeclared) (analyzers : List AnalyzerDeclared) (objects : SessionObjects)
-    (shared : SharedOdb D) (seats : List (FrontSeen Generator)) (last : LoggerSeen F) (seated_analyzers : List AnalyzerSeen) : Type 0 where
-  pub fronts_are : AreFrontsOf objects shared fronts seats
-  pub logger : IsLoggerOf objects (length fronts) last
-  pub analyzers_are : AreAnalyzersOf objects (first_analyzer fronts) analyzers seated_analyzers
-
--- The members of a session stay those of its declarations and objects, whatever turns they take.
-abbrev pub KeepsMembers : (D : Type 0) → {F : Type 0} → MemberTold Generator F → Type 0
-KeepsMembers D {F} told = (fronts : List FrontDeclared) → (analyzers : List AnalyzerDeclared) → (objects : SessionObjects) →
-    (shared : SharedOdb D) → (before after : CrewSeen Generator F) → IsSameCrew told before after →
-    AreMembersOf fronts analyzers objects shared before.fronts before.logger before.analyzers →
-    AreMembersOf fronts analyzers objects shared after.fronts after.logger after.analyzers
-
--- So does the logger the channels that were declared.
-abbrev pub KeepsChannels : {F : Type 0} → MemberTold Generator F → Type 0
-KeepsChannels {F} told = (channels : List ChannelSpec) → (before after : CrewSeen Generator F) →
-    IsSameCrew told before after → AreDeclared channels before.logger.slots → AreDeclared channels after.logger.slots
-
--- The members in one list.
-
--- The member with this client number is the one that was declared.
-pub data IsMemberOf {D F : Type 0} (objects : SessionObjects) (shared : SharedOdb D) (client : ℕ) : MemberDeclared →
-    MemberSeen Generator F → Type 0 where
+-- The member with this client number is the one that was declared. The logger has these channels.
+pub data IsMemberOf {D F : Type 0} (objects : SessionObjects) (shared : SharedOdb D) (channels : List ChannelSpec) (client : ℕ) :
+    MemberDeclared → MemberSeen Generator F → Type 0 where
   FrontIs : {wanted : FrontDeclared} {front : FrontSeen Generator} → IsFrontOf objects shared client wanted front →
-      IsMemberOf objects shared client (WantedFront wanted) (FrontEnd front)
-  LoggerIs : {logger : LoggerSeen F} → IsLoggerOf objects client logger →
-      IsMemberOf objects shared client WantedLogger (Logger logger)
+      IsMemberOf objects shared channels client (WantedFront wanted) (FrontEnd front)
+  LoggerIs : {logger : LoggerSeen F} → IsLoggerOf objects channels client logger →
+      IsMemberOf objects shared channels client WantedLogger (Logger logger)
   AnalyzerIs : {wanted : AnalyzerDeclared} {analyzer : AnalyzerSeen} → IsAnalyzerOf objects client wanted analyzer →
-      IsMemberOf objects shared client (WantedAnalyzer wanted) (Analyzer analyzer)
+      IsMemberOf objects shared channels client (WantedAnalyzer wanted) (Analyzer analyzer)
 
 -- The list has the members of a session of these declarations, by their client numbers.
-pub record HasMembers {D F : Type 0} (lists : DeclaredLists) (objects : SessionObjects) (shared : SharedOdb D)
+pub record AreMembersOf {D F : Type 0} (lists : DeclaredLists) (objects : SessionObjects) (shared : SharedOdb D)
     (members : List (MemberSeen Generator F)) : Type 0 where
-  pub crew : CrewSeen Generator F
-  pub laid : members ≡ members_of crew
-  pub are : AreMembersOf lists.fronts lists.analyzers objects shared crew.fronts crew.logger crew.analyzers
+  pub many : length members ≡ member_count lists
+  pub each : (client : ℕ) → (wanted : MemberDeclared) → (member : MemberSeen Generator F) →
+      slice_get (declared_members lists) client ≡ Some wanted → slice_get members client ≡ Some member →
+      IsMemberOf objects shared lists.channels client wanted member
+
+-- This is the logger among the members, at its client number.
+abbrev pub HasLogger : {F : Type 0} → DeclaredLists → List (MemberSeen Generator F) → LoggerSeen F → Type 0
+HasLogger lists members logger = slice_get members (logger_number lists) ≡ Some (Logger logger)
+
+-- The members of a session stay those of its declarations and objects, as long as each stays the same one; and one of them is the
+-- logger.
+pub record KeepsMembers (D : Type 0) {F : Type 0} (told : MemberTold Generator F) : Type 0 where
+  pub stay : (lists : DeclaredLists) → (objects : SessionObjects) → (shared : SharedOdb D) →
+      (before after : List (MemberSeen Generator F)) → AllZip (IsSameMember told) before after →
+      AreMembersOf lists objects shared before → AreMembersOf lists objects shared after
+  pub logger : (lists : DeclaredLists) → (objects : SessionObjects) → (shared : SharedOdb D) →
+      (members : List (MemberSeen Generator F)) → AreMembersOf lists objects shared members →
+      (logger : LoggerSeen F) × HasLogger lists members logger × IsLoggerOf objects lists.channels (logger_number lists) logger
 
 -- the one port of a member, at the buffer that was declared for it
 abbrev pub port_at : MemberDeclared → Access → (buffer : ℕ) → Option Access
@@ -190,31 +175,37 @@ accounts_of [] members = []
 accounts_of (wanted ∷ more) [] = []
 accounts_of (wanted ∷ more) (member ∷ members) = account_of wanted member ∷ accounts_of more members
 
--- all calls of a session of these declarations, by what the main thread and the members of this list know
-abbrev pub listed_calls : {F : Type 0} → List FrontDeclared → List AnalyzerDeclared → (engine : List EngineEntry) →
-    (database : List (ℕ × WatchEntry)) → List (MemberSeen Generator F) → SessionCalls
-listed_calls fronts analyzers engine database members = record {
+-- all calls of a session of these declarations, by what the main thread and these members know
+abbrev pub session_calls : {F : Type 0} → DeclaredLists → (engine : List EngineEntry) → (database : List (ℕ × WatchEntry)) →
+    List (MemberSeen Generator F) → SessionCalls
+session_calls lists engine database members = record {
   main_engine = engine;
   main_database = database;
-  members = accounts_of (declared_members fronts analyzers) members;
+  members = accounts_of (declared_members lists) members;
 }
-
--- the same, by what the main thread and the members of this crew know
-abbrev pub session_calls : {F : Type 0} → List FrontDeclared → List AnalyzerDeclared → (engine : List EngineEntry) →
-    (database : List (ℕ × WatchEntry)) → List (FrontSeen Generator) → LoggerSeen F → List AnalyzerSeen → SessionCalls
-session_calls fronts analyzers engine database seats logger seated_analyzers =
-    listed_calls fronts analyzers engine database (members_of (crew_seen seats logger seated_analyzers))
 
 -- What was declared with this client number is this, and these calls have this account of it.
 pub record HasAccount (lists : DeclaredLists) (calls : SessionCalls) (client : ℕ) (wanted : MemberDeclared) (account : Account) : Type 0 where
-  pub has_wanted : slice_get (declared_members lists.fronts lists.analyzers) client ≡ Some wanted
+  pub has_wanted : slice_get (declared_members lists) client ≡ Some wanted
   pub told : slice_get calls.members client ≡ Some account
+
+-- The member with this client number calls one buffer alone; this is its port to that, and what these calls have of it.
+pub record IsOwnPort (lists : DeclaredLists) (objects : SessionObjects) (calls : SessionCalls) (client : ℕ) (port : Access) : Type 0 where
+  pub wanted : MemberDeclared
+  pub has_wanted : slice_get (declared_members lists) client ≡ Some wanted
+  pub number : ℕ
+  pub has_number : own_buffer wanted ≡ Some number
+  pub buffer : SessionBuffer
+  pub has_buffer : slice_get objects.buffers.items number ≡ Some buffer
+  pub leads_to : port.buffer ≡ ring_identity buffer.shared
+  pub caller : port.caller ≡ caller_of_client client
+  pub told : (account_at calls client).port number ≡ Some port
 
 -- The member is the one with this client number, of a session of these declarations, and made those of these calls that are its own.
 pub record CalledAt {D F : Type 0} (lists : DeclaredLists) (objects : SessionObjects) (shared : SharedOdb D) (calls : SessionCalls)
     (client : ℕ) (member : MemberSeen Generator F) : Type 0 where
   pub wanted : MemberDeclared
-  pub is : IsMemberOf objects shared client wanted member
+  pub is : IsMemberOf objects shared lists.channels client wanted member
   pub account : HasAccount lists calls client wanted (account_of wanted member)
 
 -- so each of these is
@@ -277,13 +268,6 @@ pub record IsNewFront {D : Type 0} (objects : SessionObjects) (shared : SharedOd
   pub has_buffer : slice_get objects.buffers.items declared.buffer ≡ Some buffer
   pub is : front ≡ new_front objects shared client declared buffer
 
--- The front-ends are those that were declared, in their order, and none made a call.
-pub record AreNewFronts {D : Type 0} (objects : SessionObjects) (shared : SharedOdb D) (declared : List FrontDeclared)
-    (seats : List (FrontSeen Generator)) : Type 0 where
-  pub many : length seats ≡ length declared
-  pub each : (client : ℕ) → (wanted : FrontDeclared) → (front : FrontSeen Generator) → slice_get declared client ≡ Some wanted →
-      slice_get seats client ≡ Some front → IsNewFront objects shared client wanted front
-
 -- the analyzer that was declared, with so much room for an event, in no run
 abbrev pub idle_analyzer : (room : ℕ) → AnalyzerDeclared → AnalyzerState
 idle_analyzer room declared = record { wanted = request_of declared; room = room; client = None; run = None }
@@ -304,12 +288,6 @@ pub record IsNewAnalyzer (objects : SessionObjects) (client : ℕ) (declared : A
   pub buffer : SessionBuffer
   pub has_buffer : slice_get objects.buffers.items declared.buffer ≡ Some buffer
   pub is : analyzer ≡ new_analyzer objects client declared buffer
-
--- The analyzers are those that were declared, in their order, none made a call, and the first has this client number.
-pub record AreNewAnalyzers (objects : SessionObjects) (first : ℕ) (declared : List AnalyzerDeclared) (seats : List AnalyzerSeen) : Type 0 where
-  pub many : length seats ≡ length declared
-  pub each : (place : ℕ) → (wanted : AnalyzerDeclared) → (analyzer : AnalyzerSeen) → slice_get declared place ≡ Some wanted →
-      slice_get seats place ≡ Some analyzer → IsNewAnalyzer objects (first + place) wanted analyzer
 
 -- The logger has this client number, a port to each buffer, and a channel for each that was declared, with room for each
 -- event of its buffer; and it made no call.
@@ -340,22 +318,6 @@ pub record IsMadeLogger (buffers : List SessionBuffer) (declared : List ChannelS
       LoggerStands None no_dumps logger.channels (new_ports buffers caller) [] seen
   pub room : (caller number : ℕ) → HasEventRoom number logger.channels (new_ports buffers caller)
 
--- The members are those of a session of these declarations, and none made a call.
-pub record AreNewMembers {D F : Type 0} (fronts : List FrontDeclared) (analyzers : List AnalyzerDeclared) (channels : List ChannelSpec)
-    (objects : SessionObjects) (shared : SharedOdb D) (files : F) (crew : CrewSeen Generator F) : Type 0 where
-  pub fronts_are : AreNewFronts objects shared fronts crew.fronts
-  pub logger : IsNewLogger objects (length fronts) channels files crew.logger
-  pub analyzers_are : AreNewAnalyzers objects (first_analyzer fronts) analyzers crew.analyzers
-
--- The list has the members of a session of these declarations, by their client numbers, and none made a call.
-pub record HasNewMembers {D F : Type 0} (lists : DeclaredLists) (channels : List ChannelSpec) (objects : SessionObjects)
-    (shared : SharedOdb D) (files : F) (members : List (MemberSeen Generator F)) : Type 0 where
-  pub crew : CrewSeen Generator F
-  pub laid : members ≡ members_of crew
-  pub new : AreNewMembers lists.fronts lists.analyzers channels objects shared files crew
-  pub are : AreMembersOf lists.fronts lists.analyzers objects shared crew.fronts crew.logger crew.analyzers
-  pub channels_are : AreDeclared channels crew.logger.slots
-
 -- The member with this client number is the one that was declared, and made no call. The logger has these channels and run files.
 pub data IsNewMember {D F : Type 0} (objects : SessionObjects) (shared : SharedOdb D) (channels : List ChannelSpec) (files : F)
     (client : ℕ) : MemberDeclared → MemberSeen Generator F → Type 0 where
@@ -370,8 +332,25 @@ pub data IsNewMember {D F : Type 0} (objects : SessionObjects) (shared : SharedO
 pub record IsNewMemberAt {D F : Type 0} (lists : DeclaredLists) (objects : SessionObjects) (shared : SharedOdb D) (files : F)
     (client : ℕ) (member : MemberSeen Generator F) : Type 0 where
   pub wanted : MemberDeclared
-  pub has_wanted : slice_get (declared_members lists.fronts lists.analyzers) client ≡ Some wanted
+  pub has_wanted : slice_get (declared_members lists) client ≡ Some wanted
   pub new : IsNewMember objects shared lists.channels files client wanted member
+
+-- The list has the members of a session of these declarations, by their client numbers, and none made a call. The logger has these
+-- run files, and no call on them failed.
+pub record HasNewMembers {D F : Type 0} (lists : DeclaredLists) (objects : SessionObjects) (shared : SharedOdb D) (files : F)
+    (members : List (MemberSeen Generator F)) : Type 0 where
+  pub new : AreSeated (IsNewMemberAt lists objects shared files) (member_count lists) members
+  pub are : AreMembersOf lists objects shared members
+  pub logger : LoggerSeen F
+  pub has_logger : HasLogger lists members logger
+  pub first : logger.first ≡ files
+  pub has_files : logger.files ≡ files
+  pub failed : HasFailed logger.slots → ⊥
+
+-- the run files that this member has, if it has any
+abbrev pub run_files_of : {F : Type 0} → MemberSeen Generator F → Option F
+run_files_of (Logger logger) = Some logger.files
+run_files_of member = None
 
 -- the run files, once so many members are made: the logger has them once it is made, which has this client number
 abbrev pub files_left : {F : Type 0} → (logger clients : ℕ) → F → Option F

@@ -7,9 +7,10 @@ ghost use Rattle.odb_lock.specs.SharedAccesses.{access_by_pass};
 ghost use Rattle.analyzers.specs.AnalyzerKept.{AnalyzerStands, AnalyzerTells};
 ghost use Rattle.loggers.specs.NewLoggers.{HaveNumbers};
 ghost use Rattle.session_objects.specs.declared.membership.MemberDeclared.TheVariants.{FrontEnd as WantedFront, Logger as WantedLogger, Analyzer as WantedAnalyzer};
+ghost use Rattle.session_objects.specs.DeclaredMembers.{declared_members, logger_number, member_count};
 ghost use Rattle.session_objects.specs.Objects.{HaveBuffers, SuitMembers};
-ghost use Rattle.session_objects.specs.Kept.{OutNumbers, declared_members, member_count, out_to, out_to_members, ports_out, engine_out, database_out, buffer_out, HasFreshBut};
-ghost use Rattle.session_objects.specs.Members.{ring_window, new_ports, new_access, generator_of, event_room_of, event_rooms, idle_analyzer, files_left, IsNewPort, IsNewFront, IsNewLogger, IsNewAnalyzer, IsNewMemberAt, IsMadeLogger, AreSeated, HasNewMembers};
+ghost use Rattle.session_objects.specs.Kept.{OutNumbers, out_to, out_to_members, ports_out, engine_out, database_out, buffer_out, HasFreshBut};
+ghost use Rattle.session_objects.specs.Members.{ring_window, new_ports, new_access, generator_of, event_room_of, event_rooms, idle_analyzer, files_left, run_files_of, IsNewPort, IsNewFront, IsNewLogger, IsNewAnalyzer, IsNewMemberAt, IsMadeLogger, AreSeated, HasNewMembers};
 
 use crate::membership::{MemberDeclared, Membership};
 use crate::objects::SessionBuffer;
@@ -130,6 +131,36 @@ fn make_analyzer(
     Ok(analyzer)
 }
 
+/// The run files of a logger that is let go.
+fn logger_files<'a, F: Files + Drop>(logger: SessionLogger<'a, F>) -> F
+    ensures { result ≡ logger.entry.files }
+{
+    logger.into_parts().files
+}
+
+/// Lets a front-end go.
+fn let_front_go<'a, D: Database>(_front: SessionFront<'a, D>) {}
+
+/// Lets an analyzer go.
+fn let_analyzer_go<'a>(_analyzer: SessionAnalyzer<'a>) {}
+
+/// The run files that this member has: the logger has some.
+fn run_files_of<'a, D: Database, F: Files + Drop>(member: SessionMember<'a, D, F>) -> Option<F>
+    ensures { result ≡ run_files_of member.entry }
+{
+    match member.into_kind() {
+        MemberKind::FrontEnd(front) => {
+            let_front_go(front);
+            None
+        }
+        MemberKind::Logger(logger) => Some(logger_files(logger)),
+        MemberKind::Analyzer(analyzer) => {
+            let_analyzer_go(analyzer);
+            None
+        }
+    }
+}
+
 impl<'a, 's, D: Database> Membership<'a, 's, D> {
     /// A port of this client to the buffer of this number, with its pass of that, by which no call was made.
     fn take_port(
@@ -197,10 +228,8 @@ impl<'a, 's, D: Database> Membership<'a, 's, D> {
         declared: &FrontDeclared,
         passes: &mut SessionPasses<D>,
     ) -> Result<SessionFront<'a, D>, NoMemory>
-        requires declared { slice_get (declared_members self.now.lists.now.fronts
-            self.now.lists.now.analyzers) client ≡ Some (WantedFront declared.now) }
-        requires suit { SuitMembers self.now.lists.now.fronts self.now.lists.now.analyzers
-            self.now.lists.now.channels self.now.objects.now self.now.database.now }
+        requires declared { slice_get (declared_members self.now.lists.now) client ≡ Some (WantedFront declared.now) }
+        requires suit { SuitMembers self.now.lists.now self.now.objects.now self.now.database.now }
         requires out { HasFreshBut (out_to self.now.lists.now client) self.now.objects.now
             self.now.database.now passes.old }
         ensures out { OnOk result (HasFreshBut (out_to self.now.lists.now (client + 1))
@@ -223,10 +252,8 @@ impl<'a, 's, D: Database> Membership<'a, 's, D> {
         client: u32,
         passes: &mut SessionPasses<D>,
     ) -> Result<Ports<SharedPort<'a, RingBuffer>>, NoMemory>
-        requires declared { slice_get (declared_members self.now.lists.now.fronts
-            self.now.lists.now.analyzers) client ≡ Some WantedLogger }
-        requires suit { SuitMembers self.now.lists.now.fronts self.now.lists.now.analyzers
-            self.now.lists.now.channels self.now.objects.now self.now.database.now }
+        requires declared { slice_get (declared_members self.now.lists.now) client ≡ Some WantedLogger }
+        requires suit { SuitMembers self.now.lists.now self.now.objects.now self.now.database.now }
         requires out { HasFreshBut (out_to self.now.lists.now client) self.now.objects.now
             self.now.database.now passes.old }
         ensures out { OnOk result (HasFreshBut (ports_out self.now.lists.now client
@@ -250,10 +277,8 @@ impl<'a, 's, D: Database> Membership<'a, 's, D> {
         passes: &mut SessionPasses<D>,
         files: &mut Option<F>,
     ) -> Result<SessionLogger<'a, F>, NoMemory>
-        requires declared { slice_get (declared_members self.now.lists.now.fronts
-            self.now.lists.now.analyzers) client ≡ Some WantedLogger }
-        requires suit { SuitMembers self.now.lists.now.fronts self.now.lists.now.analyzers
-            self.now.lists.now.channels self.now.objects.now self.now.database.now }
+        requires declared { slice_get (declared_members self.now.lists.now) client ≡ Some WantedLogger }
+        requires suit { SuitMembers self.now.lists.now self.now.objects.now self.now.database.now }
         requires files { (given : F) × (files.old ≡ Some given) }
         requires out { HasFreshBut (out_to self.now.lists.now client) self.now.objects.now
             self.now.database.now passes.old }
@@ -282,10 +307,9 @@ impl<'a, 's, D: Database> Membership<'a, 's, D> {
         declared: &AnalyzerDeclared,
         passes: &mut SessionPasses<D>,
     ) -> Result<SessionAnalyzer<'a>, NoMemory>
-        requires declared { slice_get (declared_members self.now.lists.now.fronts
-            self.now.lists.now.analyzers) client ≡ Some (WantedAnalyzer declared.now) }
-        requires suit { SuitMembers self.now.lists.now.fronts self.now.lists.now.analyzers
-            self.now.lists.now.channels self.now.objects.now self.now.database.now }
+        requires declared { slice_get (declared_members self.now.lists.now) client
+            ≡ Some (WantedAnalyzer declared.now) }
+        requires suit { SuitMembers self.now.lists.now self.now.objects.now self.now.database.now }
         requires out { HasFreshBut (out_to self.now.lists.now client) self.now.objects.now
             self.now.database.now passes.old }
         ensures out { OnOk result (HasFreshBut (out_to self.now.lists.now (client + 1))
@@ -306,21 +330,20 @@ impl<'a, 's, D: Database> Membership<'a, 's, D> {
         passes: &mut SessionPasses<D>,
         files: &mut Option<F>,
     ) -> Result<SessionMember<'a, D, F>, NoMemory>
-        requires client { client < member_count self.now.lists.now.fronts self.now.lists.now.analyzers }
-        requires suit { SuitMembers self.now.lists.now.fronts self.now.lists.now.analyzers
-            self.now.lists.now.channels self.now.objects.now self.now.database.now }
+        requires client { client < member_count self.now.lists.now }
+        requires suit { SuitMembers self.now.lists.now self.now.objects.now self.now.database.now }
         requires files { (given : F) × (files.old
-            ≡ files_left (length self.now.lists.now.fronts) client given) }
+            ≡ files_left (logger_number self.now.lists.now) client given) }
         requires out { HasFreshBut (out_to self.now.lists.now client) self.now.objects.now
             self.now.database.now passes.old }
         ensures out { OnOk result (HasFreshBut (out_to self.now.lists.now (client + 1))
             self.now.objects.now self.now.database.now passes.new) }
         ensures member { (given : F) → files.old
-            ≡ files_left (length self.now.lists.now.fronts) client given → IfOk result
+            ≡ files_left (logger_number self.now.lists.now) client given → IfOk result
             (IsNewMemberAt self.now.lists.now self.now.objects.now self.now.database.now given client) }
         ensures files { (given : F) → files.old
-            ≡ files_left (length self.now.lists.now.fronts) client given → OnOk result (files.new
-            ≡ files_left (length self.now.lists.now.fronts) (client + 1) given) }
+            ≡ files_left (logger_number self.now.lists.now) client given → OnOk result (files.new
+            ≡ files_left (logger_number self.now.lists.now) (client + 1) given) }
         ensures kept { OnErr result (files.new ≡ files.old) }
     {
         match self.declared(client as usize) {
@@ -345,18 +368,18 @@ impl<'a, 's, D: Database> Membership<'a, 's, D> {
         mut members: SessionMembers<'a, D, F>,
         files: Option<F>,
     ) -> F
-        requires files { (given : F) × (files ≡ files_left (length self.now.lists.now.fronts)
+        requires files { (given : F) × (files ≡ files_left (logger_number self.now.lists.now)
             (length members) given) × AreSeated (IsNewMemberAt self.now.lists.now
             self.now.objects.now self.now.database.now given) (length members) members }
-        ensures { (given : F) → files ≡ files_left (length self.now.lists.now.fronts)
+        ensures { (given : F) → files ≡ files_left (logger_number self.now.lists.now)
             (length members.entry) given → AreSeated (IsNewMemberAt self.now.lists.now
             self.now.objects.now self.now.database.now given) (length members.entry) members.entry
             → result ≡ given }
     {
         let mut found = files;
         while let Some(member) = members.pop() {
-            if let MemberKind::Logger(logger) = member.into_kind() {
-                found = Some(logger.into_parts().files);
+            if let Some(files) = run_files_of(member) {
+                found = Some(files);
             }
         }
         let Some(files) = found else { unreachable!() };
@@ -372,12 +395,11 @@ impl<'a, 's, D: Database> Membership<'a, 's, D> {
         passes: &mut SessionPasses<D>,
         files: F,
     ) -> Result<SessionMembers<'a, D, F>, F>
-        requires suit { SuitMembers self.now.lists.now.fronts self.now.lists.now.analyzers
-            self.now.lists.now.channels self.now.objects.now self.now.database.now }
+        requires suit { SuitMembers self.now.lists.now self.now.objects.now self.now.database.now }
         requires out { HasFreshBut (out_to self.now.lists.now 0) self.now.objects.now
             self.now.database.now passes.old }
         ensures members { IfOk result (HasNewMembers self.now.lists.now
-            self.now.lists.now.channels self.now.objects.now self.now.database.now files) }
+            self.now.objects.now self.now.database.now files) }
         ensures out { OnOk result (HasFreshBut (out_to_members self.now.lists.now)
             self.now.objects.now self.now.database.now passes.new) }
         ensures files { IfErr result (λ back. back ≡ files) }

@@ -1,6 +1,6 @@
 // What the members of a session are made for.
 ghost use Rattle.std.specs.Prelude.{◌≡◌, ◌<◌, ◌≤◌, length, slice_get, Some};
-ghost use Rattle.session_objects.specs.Kept.{declared_members, member_count, own_buffer};
+ghost use Rattle.session_objects.specs.DeclaredMembers.{declared_members, member_count, own_buffer};
 
 use crate::objects::SessionObjects;
 use odb_lock::SharedOdb;
@@ -28,16 +28,15 @@ impl<'a, 's, D: Database> Membership<'a, 's, D> {
     pub(crate) fn count(&self) -> u32
         requires few { length self.now.lists.now.fronts ≤ 32 }
         requires few_analyzers { length self.now.lists.now.analyzers ≤ 8 }
-        ensures { result ≡ member_count self.now.lists.now.fronts self.now.lists.now.analyzers }
+        ensures { result ≡ member_count self.now.lists.now }
     {
         self.lists.fronts.len() as u32 + 1 + self.lists.analyzers.len() as u32
     }
 
     /// The member that was declared with this client number.
     pub(crate) fn declared(&self, client: usize) -> MemberDeclared
-        requires { client < member_count self.now.lists.now.fronts self.now.lists.now.analyzers }
-        ensures { slice_get (declared_members self.now.lists.now.fronts
-            self.now.lists.now.analyzers) client ≡ Some result }
+        requires { client < member_count self.now.lists.now }
+        ensures { slice_get (declared_members self.now.lists.now) client ≡ Some result }
     {
         let fronts = self.lists.fronts.as_slice();
         if client < fronts.len() {
@@ -50,15 +49,15 @@ impl<'a, 's, D: Database> Membership<'a, 's, D> {
     }
 
     /// The number of the buffer that the member with this client number calls, where it calls one alone.
-    pub(crate) fn own_buffer(&self, client: usize) -> usize
-        requires { client < member_count self.now.lists.now.fronts self.now.lists.now.analyzers }
-        ensures { (declared : _) → slice_get (declared_members self.now.lists.now.fronts
-            self.now.lists.now.analyzers) client ≡ Some declared → result ≡ own_buffer declared }
+    pub(crate) fn own_buffer(&self, client: usize) -> Option<usize>
+        requires { client < member_count self.now.lists.now }
+        ensures { (declared : _) → slice_get (declared_members self.now.lists.now) client ≡ Some declared
+            → result ≡ own_buffer declared }
     {
         match self.declared(client) {
-            MemberDeclared::FrontEnd(front) => front.buffer as usize,
-            MemberDeclared::Logger => 0,
-            MemberDeclared::Analyzer(analyzer) => analyzer.buffer as usize,
+            MemberDeclared::FrontEnd(front) => Some(front.buffer as usize),
+            MemberDeclared::Logger => None,
+            MemberDeclared::Analyzer(analyzer) => Some(analyzer.buffer as usize),
         }
     }
 }

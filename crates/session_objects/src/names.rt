@@ -7,7 +7,7 @@ ghost use Rattle.session_objects.specs.Names.{member_names};
 
 use daq_types::{Name, NoMemory};
 use session_runs::MemberName;
-use session_setup::{AnalyzerDeclared, FrontDeclared};
+use session_setup::{AnalyzerDeclared, DeclaredLists, FrontDeclared};
 use std::alloc::Global;
 use transitions::Role;
 
@@ -55,18 +55,14 @@ fn push_analyzers(
 
 /// The members of a session in the order of their client numbers: the front-ends as they were declared, the logger, and the
 /// analyzers as they were declared.
-pub fn member_names(
-    alloc: Global,
-    fronts: &[FrontDeclared],
-    analyzers: &[AnalyzerDeclared],
-) -> Result<Vec<MemberName>, NoMemory>
-    ensures { IfOk result (λ names. names.items ≡ member_names fronts.now analyzers.now) }
+pub fn member_names(alloc: Global, lists: &DeclaredLists) -> Result<Vec<MemberName>, NoMemory>
+    ensures { IfOk result (λ names. names.items ≡ member_names lists.now) }
 {
-    let mut names = front_member_names(alloc, fronts)?;
+    let mut names = front_member_names(alloc, lists.fronts.as_slice())?;
     names.push(MemberName {
         name: logger_name(),
         role: Role::Logger,
     })?;
-    push_analyzers(&mut names, analyzers)?;
+    push_analyzers(&mut names, lists.analyzers.as_slice())?;
     Ok(names)
 }

@@ -8,12 +8,12 @@ ghost use Rattle.odb_lock.specs.SharedOdbs.{odb_lock_of};
 ghost use Rattle.session_objects.specs.Rosters.{IsMainPass};
 ghost use Rattle.session_objects.specs.Calls.{SessionCalls, account_at};
 ghost use Rattle.session_objects.specs.declared.membership.MemberDeclared.TheVariants.{FrontEnd, Logger, Analyzer};
-ghost use Rattle.session_objects.specs.Kept.{declared_members, out_to, out_to_members, ports_out, HasFreshBut};
+ghost use Rattle.session_objects.specs.DeclaredMembers.{declared_members};
+ghost use Rattle.session_objects.specs.Kept.{out_to, out_to_members, ports_out, HasFreshBut};
 ghost use Rattle.session_objects.specs.Records.{HasCallsBut, HasCalls};
-ghost use Rattle.daq_members.specs.Crews.{logger_in, members_of};
 ghost use Rattle.session_objects.specs.Objects.{HaveCallers};
-ghost use Rattle.session_objects.specs.Members.{ring_window, front_account, logger_account, analyzer_account, ArePortsTo, IsFrontOf, IsLoggerOf, IsAnalyzerOf, HasMembers, HasAccount, CalledAt, AreCalledAt, listed_calls};
-ghost use Rattle.session_objects.specs.Returns.{ComesBack, left_also, left_by, logger_end};
+ghost use Rattle.session_objects.specs.Members.{ring_window, front_account, logger_account, analyzer_account, ArePortsTo, IsFrontOf, IsLoggerOf, IsAnalyzerOf, AreMembersOf, HasAccount, IsOwnPort, CalledAt, AreCalledAt, session_calls};
+ghost use Rattle.session_objects.specs.Returns.{ComesBack, left_also, left_among, end_of_member, logger_end};
 
 use crate::membership::Membership;
 use crate::passes::SessionPasses;
@@ -47,6 +47,28 @@ where
 }
 
 impl<'a, 's, D: Database> Membership<'a, 's, D> {
+    /// Takes the pass back of this client's port to the one buffer that it calls.
+    fn take_back_port(
+        &self,
+        client: usize,
+        port: SharedPort<'a, RingBuffer>,
+        passes: &mut SessionPasses<D>,
+    )
+        ghost calls: { SessionCalls }
+        requires port { IsOwnPort self.now.lists.now self.now.objects.now calls client
+            (access_by ring_window port) }
+        requires out { HasCallsBut (ports_out self.now.lists.now client
+            (length self.now.objects.now.buffers.items)) calls self.now.objects.now
+            self.now.database.now passes.old }
+        ensures { HasCallsBut (out_to self.now.lists.now client) calls self.now.objects.now
+            self.now.database.now passes.new }
+    {
+        let Some(buffer) = self.own_buffer(client) else {
+            unreachable!()
+        };
+        passes.put_to_buffer(buffer, port.into_pass());
+    }
+
     /// Takes the passes of the front-end with this client number back, which is the last one that has them.
     fn take_back_front(
         &self,
@@ -71,7 +93,7 @@ impl<'a, 's, D: Database> Membership<'a, 's, D> {
         } = front.into_parts();
         passes.put_to_engine(pass);
         passes.put_to_database(access.into_pass());
-        passes.put_to_buffer(self.own_buffer(client), port.into_pass());
+        self.take_back_port(client, port, passes);
     }
 
     /// Takes the passes of the logger back, which has this client number and is the last one that has them.
@@ -82,7 +104,7 @@ impl<'a, 's, D: Database> Membership<'a, 's, D> {
         passes: &mut SessionPasses<D>,
     ) -> LoggerEnd<F>
         ghost calls: { SessionCalls }
-        requires logger { IsLoggerOf self.now.objects.now client logger }
+        requires logger { IsLoggerOf self.now.objects.now self.now.lists.now.channels client logger }
         requires calls { HasAccount self.now.lists.now calls client Logger (logger_account logger) }
         requires out { HasCallsBut (out_to self.now.lists.now (client + 1)) calls
             self.now.objects.now self.now.database.now passes.old }
@@ -105,8 +127,7 @@ impl<'a, 's, D: Database> Membership<'a, 's, D> {
         passes: &mut SessionPasses<D>,
     )
         ghost calls: { SessionCalls }
-        requires wanted { slice_get (declared_members self.now.lists.now.fronts
-            self.now.lists.now.analyzers) client ≡ Some Logger }
+        requires wanted { slice_get (declared_members self.now.lists.now) client ≡ Some Logger }
         requires ports { ArePortsTo self.now.objects.now.buffers.items (caller_of_client client)
             (map (access_by ring_window) ports) }
         requires calls { (account_at calls client).port
@@ -139,7 +160,7 @@ impl<'a, 's, D: Database> Membership<'a, 's, D> {
     {
         let AnalyzerParts { pass, port } = analyzer.into_parts();
         passes.put_to_engine(pass);
-        passes.put_to_buffer(self.own_buffer(client), port.into_pass());
+        self.take_back_port(client, port, passes);
     }
 
     /// Takes the passes of the member with this client number back, which is the last one that has them. Of the logger this also
@@ -156,7 +177,7 @@ impl<'a, 's, D: Database> Membership<'a, 's, D> {
             calls client member }
         requires out { HasCallsBut (out_to self.now.lists.now (client + 1)) calls
             self.now.objects.now self.now.database.now passes.old }
-        ensures left { left.new ≡ left_also member.entry left.old }
+        ensures left { left.new ≡ left_also (end_of_member member.entry) left.old }
         ensures out { HasCallsBut (out_to self.now.lists.now client) calls self.now.objects.now
             self.now.database.now passes.new }
     {
@@ -180,7 +201,7 @@ impl<'a, 's, D: Database> Membership<'a, 's, D> {
             self.now.database.now calls members }
         requires out { HasCallsBut (out_to self.now.lists.now (length members)) calls
             self.now.objects.now self.now.database.now passes.old }
-        ensures left { result ≡ left_by (logger_in members.entry) }
+        ensures left { result ≡ left_among members.entry }
         ensures out { HasCallsBut (out_to self.now.lists.now 0) calls self.now.objects.now
             self.now.database.now passes.new }
     {
@@ -200,18 +221,18 @@ impl<'a, 's, D: Database> Membership<'a, 's, D> {
         main_database: OdbPass<D>,
     ) -> Returned<D, F>
         ghost calls: { SessionCalls }
-        requires calls { calls ≡ listed_calls self.now.lists.now.fronts self.now.lists.now.analyzers
+        requires calls { calls ≡ session_calls self.now.lists.now
             (own_entries main_engine) (seen_by main_database) members }
-        requires callers { HaveCallers self.now.lists.now.fronts self.now.lists.now.analyzers
+        requires callers { HaveCallers self.now.lists.now
             self.now.objects.now self.now.database.now }
-        requires members { HasMembers self.now.lists.now self.now.objects.now self.now.database.now
+        requires members { AreMembersOf self.now.lists.now self.now.objects.now self.now.database.now
             members }
         requires out { HasFreshBut (out_to_members self.now.lists.now) self.now.objects.now
             self.now.database.now passes }
         requires engine { IsMainPass (engine_lock_of self.now.objects.now.engine) main_engine }
         requires database { IsMainPass (odb_lock_of self.now.database.now) main_database }
         ensures calls { HasCalls calls self.now.objects.now self.now.database.now result.passes }
-        ensures logger { left_by (logger_in members.entry) ≡ Some result.logger }
+        ensures logger { left_among members.entry ≡ Some result.logger }
     {
         let Some(logger) = self.take_back_members(members, &mut passes) else {
             unreachable!()
@@ -230,17 +251,16 @@ impl<'a, 's, D: Database> Membership<'a, 's, D> {
         main_engine: EnginePass,
         main_database: OdbPass<D>,
     ) -> Returned<D, F>
-        requires callers { HaveCallers self.now.lists.now.fronts self.now.lists.now.analyzers
+        requires callers { HaveCallers self.now.lists.now
             self.now.objects.now self.now.database.now }
-        requires members { HasMembers self.now.lists.now self.now.objects.now self.now.database.now
+        requires members { AreMembersOf self.now.lists.now self.now.objects.now self.now.database.now
             members }
         requires out { HasFreshBut (out_to_members self.now.lists.now) self.now.objects.now
             self.now.database.now passes }
         requires engine { IsMainPass (engine_lock_of self.now.objects.now.engine) main_engine }
         requires database { IsMainPass (odb_lock_of self.now.database.now) main_database }
-        ensures { (crew : _) → members.entry ≡ members_of crew → ComesBack self.now.lists.now
-            self.now.objects.now self.now.database.now (own_entries main_engine)
-            (seen_by main_database) crew result }
+        ensures { ComesBack self.now.lists.now self.now.objects.now self.now.database.now
+            (own_entries main_engine) (seen_by main_database) members.entry result }
     {
         self.take_back_all(passes, members, main_engine, main_database)
     }

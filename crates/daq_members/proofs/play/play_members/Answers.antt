@@ -15,8 +15,8 @@ returns-clause-back g c =
     let P : List (MemberSeen _ _) → Type 0 = λ before. CameBack (TurnsMember told) before c.play-played.result.1.members in
     subst P c.new-crew.ensures.members c.play-played.ensures.back
 
-pub returns-clause-keep : goal.returns-clause-keep
-returns-clause-keep g c =
+pub returns-clause-stay : goal.returns-clause-stay
+returns-clause-stay g c =
     let told = member_told g.X.Equipment.takes g.X.Equipment.makes g.F.Files.told in
     let P : List (MemberSeen _ _) → Type 0 = λ members. All (KeepsContract told) members in
-    subst P c.as_slice.ensures c.ask_all.ensures
+    c.members_stay.ensures _ _ (returns-clause-back g c) (subst P c.as_slice.ensures c.ask_all.ensures)

@@ -2,7 +2,6 @@ use Rattle.session_laws.proofs.RecordsMet.{starts_met}
 use Rattle.session_laws.proofs.record_laws.starts_end.Goals as goal
 
 pub returns : goal.returns
-returns g c = λ fronts analyzers logger ended channels declared own more calls none fits.
-    let holds = c.session_ended.ensures fronts analyzers logger ended in
-    starts_met g.F.Files.told fronts analyzers logger c.args.kept.now ended holds channels own more calls none fits
-    (λ place kept at done. c.records_end.ensures fronts analyzers logger ended channels declared holds own more calls fits.runs place kept at done)
+returns g c = λ lists logger ended own more calls none fits.
+    let holds = c.session_ended.ensures lists logger ended in
+    starts_met g.F.Files.told lists logger c.args.kept.now ended own more calls none fits holds (c.records_end.ensures lists logger ended holds own more calls fits.runs)

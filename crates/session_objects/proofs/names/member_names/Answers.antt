@@ -5,6 +5,7 @@ use Rattle.mid_logger.specs.ChannelTurns.{logger_name}
 use Rattle.session_runs.specs.declared.opening.MemberName.{MemberName}
 use Rattle.session_runs.specs.Members.{member_in}
 use Rattle.session_setup.specs.declared.declared.AnalyzerDeclared.{AnalyzerDeclared}
+use Rattle.session_setup.specs.declared.declared.DeclaredLists.{DeclaredLists}
 use Rattle.session_setup.specs.declared.declared.FrontDeclared.{FrontDeclared}
 use Rattle.session_objects.specs.Names.{member_names}
 use Rattle.session_objects.proofs.names.member_names.Goals as goal
@@ -15,20 +16,22 @@ fronts_named fronts = map (λ (f : FrontDeclared). member_in FrontEnd f.name) fr
 analyzers_named : List AnalyzerDeclared → List MemberName
 analyzers_named analyzers = map (λ (a : AnalyzerDeclared). member_in Analyzer a.name) analyzers
 
-named : (fronts : List FrontDeclared) (analyzers : List AnalyzerDeclared) → (fronts_named fronts ++ member_in Logger logger_name ∷ []) ++ analyzers_named analyzers ≡ member_names fronts analyzers
+named : (lists : DeclaredLists) → (fronts_named lists.fronts ++ member_in Logger logger_name ∷ []) ++ analyzers_named lists.analyzers ≡ member_names lists
 unfolding fronts_named analyzers_named
-named fronts analyzers =
-    append_assoc (fronts_named fronts) (member_in Logger logger_name ∷ []) (analyzers_named analyzers)
-    ∙ ap (λ (l : List MemberName). l ++ member_in Logger logger_name ∷ analyzers_named analyzers) (sym (map-map (member_in FrontEnd) (λ (f : FrontDeclared). f.name) fronts))
-    ∙ ap (λ (l : List MemberName). map (member_in FrontEnd) (map (λ (f : FrontDeclared). f.name) fronts) ++ member_in Logger logger_name ∷ l) (sym (map-map (member_in Analyzer) (λ (a : AnalyzerDeclared). a.name) analyzers))
+named lists =
+    append_assoc (fronts_named lists.fronts) (member_in Logger logger_name ∷ []) (analyzers_named lists.analyzers)
+    ∙ ap (λ (l : List MemberName). l ++ member_in Logger logger_name ∷ analyzers_named lists.analyzers) (sym (map-map (member_in FrontEnd) (λ (f : FrontDeclared). f.name) lists.fronts))
+    ∙ ap (λ (l : List MemberName). map (member_in FrontEnd) (map (λ (f : FrontDeclared). f.name) lists.fronts) ++ member_in Logger logger_name ∷ l) (sym (map-map (member_in Analyzer) (λ (a : AnalyzerDeclared). a.name) lists.analyzers))
 
 pub returns : goal.returns
 unfolding fronts_named analyzers_named
 returns c =
-    let first : c.push.new.self.items ≡ fronts_named c.args.fronts.now ++ member_in Logger logger_name ∷ [] =
+    let lists = c.args.lists.now in
+    let first : c.push.new.self.items ≡ fronts_named lists.fronts ++ member_in Logger logger_name ∷ [] =
     c.in_ok-push.ensures.items
-    ∙ ap (λ (l : List MemberName). l ++ member_in Logger c.logger_name.result ∷ []) c.in_ok-names.ensures
-    ∙ ap (λ (n : List ℕ). fronts_named c.args.fronts.now ++ member_in Logger n ∷ []) c.logger_name.ensures in
+    ∙ ap (λ (l : List MemberName). l ++ member_in Logger c.logger_name.result ∷ []) (c.in_ok-names.ensures ∙ ap fronts_named c.as_slice.ensures)
+    ∙ ap (λ (n : List ℕ). fronts_named lists.fronts ++ member_in Logger n ∷ []) c.logger_name.ensures in
     c.in_ok-push_analyzers.ensures
-    ∙ ap (λ (l : List MemberName). l ++ analyzers_named c.args.analyzers.now) first
-    ∙ named c.args.fronts.now c.args.analyzers.now
+    ∙ ap (λ (l : List MemberName). l ++ analyzers_named c.as_slice-2.result.now) first
+    ∙ ap (λ (as_ : List AnalyzerDeclared). (fronts_named lists.fronts ++ member_in Logger logger_name ∷ []) ++ analyzers_named as_) c.as_slice-2.ensures
+    ∙ named lists

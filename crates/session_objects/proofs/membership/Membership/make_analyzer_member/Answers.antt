@@ -15,36 +15,25 @@ use Rattle.session_objects.specs.declared.objects.SessionBuffer.{SessionBuffer}
 use Rattle.session_objects.specs.declared.membership.MemberDeclared.TheVariants.{Analyzer as WantedAnalyzer}
 use Rattle.session_objects.specs.Kept.{out_to, engine_out, buffer_out}
 use Rattle.session_objects.specs.Members.{ring_window, event_room_of, idle_analyzer, new_analyzer}
-use Rattle.session_objects.proofs.ChangeLaws.{there_below}
-use Rattle.session_objects.proofs.ListedLaws.{declared_analyzer}
 use Rattle.session_objects.proofs.OutLaws.{engine_one, database_same, own_next}
-use Rattle.session_objects.proofs.PlaceLaws.{buffer_has, engine_has, fresh_said}
+use Rattle.session_objects.proofs.PlaceLaws.{buffer_has, client_few, engine_has, fresh_said}
 use Rattle.session_objects.proofs.SeatLaws.{analyzer_same, analyzer_stands_yet}
 use Rattle.session_objects.proofs.membership.Membership.make_analyzer_member.Goals as goal
 
 pub make_analyzer-requires : goal.make_analyzer-requires
 make_analyzer-requires g c =
-    let lists = c.args.self.now.lists.now in
     let d = c.args.declared.now in
-    let at = declared_analyzer lists.fronts lists.analyzers c.args.client d c.requires.declared in
     let bs : c.deref.result.now ≡ c.args.self.now.objects.now.buffers.items = search rules in
     let P : List SessionBuffer → Type 0 = λ xs. d.buffer < length xs in
-    subst P (sym bs) (c.requires.suit.callers.read_from at.0 d at.2)
+    subst P (sym bs) (c.requires.suit.callers.own c.args.client (WantedAnalyzer d) c.requires.declared d.buffer refl)
 
 pub take_port-port-requires-clause-client : goal.take_port-port-requires-clause-client
 take_port-port-requires-clause-client g c =
-    let lists = c.args.self.now.lists.now in
-    let at = declared_analyzer lists.fronts lists.analyzers c.args.client c.args.declared.now c.requires.declared in
-    let l : at.0 < length lists.analyzers = slice_get_within lists.analyzers at.0 c.args.declared.now at.2 in
-    let few : length lists.fronts ≤ 32 = c.requires.suit.few in
-    let few_analyzers : length lists.analyzers ≤ 8 = c.requires.suit.few_analyzers in
-    let is : c.args.client ≡ length lists.fronts + 1 + at.0 = at.1 in omega (arith, is)
+    let m = c.args.self.now in
+    client_few m.lists.now c.args.client (WantedAnalyzer c.args.declared.now) c.requires.declared m.objects.now m.database.now c.requires.suit
 
 pub take_port-port-requires-clause-number : goal.take_port-port-requires-clause-number
-take_port-port-requires-clause-number g c =
-    let lists = c.args.self.now.lists.now in
-    let at = declared_analyzer lists.fronts lists.analyzers c.args.client c.args.declared.now c.requires.declared in
-    c.requires.suit.callers.read_from at.0 c.args.declared.now at.2
+take_port-port-requires-clause-number g c = c.requires.suit.callers.own c.args.client (WantedAnalyzer c.args.declared.now) c.requires.declared c.args.declared.now.buffer refl
 
 pub take_port-port-requires-clause-out : goal.take_port-port-requires-clause-out
 take_port-port-requires-clause-out g c = (out_to c.args.self.now.lists.now c.args.client, c.requires.out)
@@ -52,14 +41,9 @@ take_port-port-requires-clause-out g c = (out_to c.args.self.now.lists.now c.arg
 pub take_port-port-requires-clause-there : goal.take_port-port-requires-clause-there
 take_port-port-requires-clause-there g c =
     let m = c.args.self.now in
-    let lists = m.lists.now in
     let d = c.args.declared.now in
-    let at = declared_analyzer lists.fronts lists.analyzers c.args.client d c.requires.declared in
-    let l : at.0 < length lists.analyzers = slice_get_within lists.analyzers at.0 d at.2 in
-    let is : c.args.client ≡ length lists.fronts + 1 + at.0 = at.1 in
-    let b = there_below m.objects.now.buffers.items d.buffer (c.requires.suit.callers.read_from at.0 d at.2) in
-    let count : passes_of (lock_of b.0.shared) ≡ length lists.fronts + 2 + length lists.analyzers = c.requires.suit.callers.buffers d.buffer b.0 b.1 in
-    λ roster there. buffer_has m.objects.now m.database.now lists c.args.client (out_to lists c.args.client) d.buffer c.args.passes.now b.0 roster refl c.requires.out b.1 there (omega (arith, is))
+    buffer_has m.objects.now m.database.now m.lists.now c.args.client (WantedAnalyzer d) c.requires.declared c.requires.suit.callers (out_to m.lists.now c.args.client) d.buffer c.args.passes.now
+    (c.requires.suit.callers.own c.args.client (WantedAnalyzer d) c.requires.declared d.buffer refl) refl c.requires.out
 
 pub take_engine-engine-requires-clause-out : goal.take_engine-engine-requires-clause-out
 take_engine-engine-requires-clause-out g c = (buffer_out (c.args.client + 1) c.args.declared.now.buffer (out_to c.args.self.now.lists.now c.args.client), c.take_port-port.ensures.out _ c.requires.out)
@@ -67,13 +51,9 @@ take_engine-engine-requires-clause-out g c = (buffer_out (c.args.client + 1) c.a
 pub take_engine-engine-requires-clause-there : goal.take_engine-engine-requires-clause-there
 take_engine-engine-requires-clause-there g c =
     let m = c.args.self.now in
-    let lists = m.lists.now in
-    let at = declared_analyzer lists.fronts lists.analyzers c.args.client c.args.declared.now c.requires.declared in
-    let l : at.0 < length lists.analyzers = slice_get_within lists.analyzers at.0 c.args.declared.now at.2 in
-    let is : c.args.client ≡ length lists.fronts + 1 + at.0 = at.1 in
-    let count : passes_of (engine_lock_of m.objects.now.engine) ≡ length lists.fronts + 2 + length lists.analyzers = c.requires.suit.callers.engine in
-    engine_has m.objects.now m.database.now lists c.args.client (buffer_out (c.args.client + 1) c.args.declared.now.buffer (out_to lists c.args.client)) c.take_port-port.new.passes refl
-    (c.take_port-port.ensures.out _ c.requires.out) (omega (arith, is))
+    let d = c.args.declared.now in
+    engine_has m.objects.now m.database.now m.lists.now c.args.client (WantedAnalyzer d) c.requires.declared c.requires.suit.callers (buffer_out (c.args.client + 1) d.buffer (out_to m.lists.now c.args.client))
+    c.take_port-port.new.passes refl (c.take_port-port.ensures.out _ c.requires.out)
 
 pub new-requires : goal.new-requires
 new-requires g c =
@@ -107,7 +87,7 @@ returns-clause-out g c =
     let d = c.args.declared.now in
     fresh_said m.objects.now m.database.now (engine_out (client + 1) (buffer_out (client + 1) d.buffer (out_to lists client))) (out_to lists (client + 1)) c.take_engine-engine.new.passes
     (ap (λ (n : ℕ). n ∷ (out_to lists client).engine) (add-one client) ∙ sym (engine_one lists client))
-    (λ n l. own_next lists client (WantedAnalyzer d) c.requires.declared (λ k. refl) n)
+    (λ n l. own_next lists client (WantedAnalyzer d) c.requires.declared d.buffer refl n)
     (sym (database_same lists client (WantedAnalyzer d) c.requires.declared refl))
     (c.take_engine-engine.ensures.out _ (c.take_port-port.ensures.out _ c.requires.out))
 

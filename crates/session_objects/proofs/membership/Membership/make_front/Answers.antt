@@ -14,29 +14,24 @@ use Rattle.frontend_kit.specs.declared.generator.Generator.{Generator}
 use Rattle.session_objects.specs.declared.membership.MemberDeclared.TheVariants.{FrontEnd as WantedFront}
 use Rattle.session_objects.specs.Kept.{out_to, engine_out, database_out, buffer_out}
 use Rattle.session_objects.specs.Members.{new_front}
-use Rattle.session_objects.proofs.ChangeLaws.{there_below}
 use Rattle.session_objects.proofs.ListedLaws.{declared_front}
 use Rattle.session_objects.proofs.OutLaws.{engine_one, database_one, own_next}
-use Rattle.session_objects.proofs.PlaceLaws.{buffer_has, engine_has, database_has, fresh_said}
+use Rattle.session_objects.proofs.PlaceLaws.{buffer_has, client_few, engine_has, database_has, fresh_said}
 use Rattle.session_objects.proofs.SeatLaws.{seen_same, front_stands_yet, wide_enough}
 use Rattle.session_objects.proofs.membership.Membership.make_front.Goals as goal
 
 pub new-requires-2 : goal.new-requires-2
 new-requires-2 g c =
-    let lists = c.args.self.now.lists.now in
     let P : Generator → Type 0 = λ e. IsFrontId e.id in
-    subst P (sym c.generator_of.ensures) (c.requires.suit.ids c.args.client c.args.declared.now (declared_front lists.fronts lists.analyzers c.args.client c.args.declared.now c.requires.declared))
+    subst P (sym c.generator_of.ensures) (c.requires.suit.ids c.args.client c.args.declared.now (declared_front c.args.self.now.lists.now c.args.client c.args.declared.now c.requires.declared))
 
 pub take_port-port-requires-clause-client : goal.take_port-port-requires-clause-client
 take_port-port-requires-clause-client g c =
-    let lists = c.args.self.now.lists.now in
-    let l : c.args.client < length lists.fronts = slice_get_within lists.fronts c.args.client c.args.declared.now (declared_front lists.fronts lists.analyzers c.args.client c.args.declared.now c.requires.declared) in
-    let few : length lists.fronts ≤ 32 = c.requires.suit.few in omega arith
+    let m = c.args.self.now in
+    client_few m.lists.now c.args.client (WantedFront c.args.declared.now) c.requires.declared m.objects.now m.database.now c.requires.suit
 
 pub take_port-port-requires-clause-number : goal.take_port-port-requires-clause-number
-take_port-port-requires-clause-number g c =
-    let lists = c.args.self.now.lists.now in
-    c.requires.suit.callers.sent_into c.args.client c.args.declared.now (declared_front lists.fronts lists.analyzers c.args.client c.args.declared.now c.requires.declared)
+take_port-port-requires-clause-number g c = c.requires.suit.callers.own c.args.client (WantedFront c.args.declared.now) c.requires.declared c.args.declared.now.buffer refl
 
 pub take_port-port-requires-clause-out : goal.take_port-port-requires-clause-out
 take_port-port-requires-clause-out g c = (out_to c.args.self.now.lists.now c.args.client, c.requires.out)
@@ -44,13 +39,9 @@ take_port-port-requires-clause-out g c = (out_to c.args.self.now.lists.now c.arg
 pub take_port-port-requires-clause-there : goal.take_port-port-requires-clause-there
 take_port-port-requires-clause-there g c =
     let m = c.args.self.now in
-    let lists = m.lists.now in
     let d = c.args.declared.now in
-    let at = declared_front lists.fronts lists.analyzers c.args.client d c.requires.declared in
-    let l : c.args.client < length lists.fronts = slice_get_within lists.fronts c.args.client d at in
-    let b = there_below m.objects.now.buffers.items d.buffer (c.requires.suit.callers.sent_into c.args.client d at) in
-    let count : passes_of (lock_of b.0.shared) ≡ length lists.fronts + 2 + length lists.analyzers = c.requires.suit.callers.buffers d.buffer b.0 b.1 in
-    λ roster there. buffer_has m.objects.now m.database.now lists c.args.client (out_to lists c.args.client) d.buffer c.args.passes.now b.0 roster refl c.requires.out b.1 there (omega arith)
+    buffer_has m.objects.now m.database.now m.lists.now c.args.client (WantedFront d) c.requires.declared c.requires.suit.callers (out_to m.lists.now c.args.client) d.buffer c.args.passes.now
+    (c.requires.suit.callers.own c.args.client (WantedFront d) c.requires.declared d.buffer refl) refl c.requires.out
 
 pub take_access-access-requires-clause-out : goal.take_access-access-requires-clause-out
 take_access-access-requires-clause-out g c = (buffer_out (c.args.client + 1) c.args.declared.now.buffer (out_to c.args.self.now.lists.now c.args.client), c.take_port-port.ensures.out _ c.requires.out)
@@ -58,10 +49,9 @@ take_access-access-requires-clause-out g c = (buffer_out (c.args.client + 1) c.a
 pub take_access-access-requires-clause-there : goal.take_access-access-requires-clause-there
 take_access-access-requires-clause-there g c =
     let m = c.args.self.now in
-    let lists = m.lists.now in
-    let l : c.args.client < length lists.fronts = slice_get_within lists.fronts c.args.client c.args.declared.now (declared_front lists.fronts lists.analyzers c.args.client c.args.declared.now c.requires.declared) in
-    let more : length lists.fronts < passes_of (odb_lock_of m.database.now) = c.requires.suit.callers.database in
-    database_has m.objects.now m.database.now lists c.args.client (buffer_out (c.args.client + 1) c.args.declared.now.buffer (out_to lists c.args.client)) c.take_port-port.new.passes refl (c.take_port-port.ensures.out _ c.requires.out) (omega arith)
+    let d = c.args.declared.now in
+    database_has m.objects.now m.database.now m.lists.now c.args.client (WantedFront d) c.requires.declared c.requires.suit.callers refl (buffer_out (c.args.client + 1) d.buffer (out_to m.lists.now c.args.client))
+    c.take_port-port.new.passes refl (c.take_port-port.ensures.out _ c.requires.out)
 
 pub take_engine-engine-requires-clause-out : goal.take_engine-engine-requires-clause-out
 take_engine-engine-requires-clause-out g c = (
@@ -72,11 +62,10 @@ take_engine-engine-requires-clause-out g c = (
 pub take_engine-engine-requires-clause-there : goal.take_engine-engine-requires-clause-there
 take_engine-engine-requires-clause-there g c =
     let m = c.args.self.now in
-    let lists = m.lists.now in
-    let l : c.args.client < length lists.fronts = slice_get_within lists.fronts c.args.client c.args.declared.now (declared_front lists.fronts lists.analyzers c.args.client c.args.declared.now c.requires.declared) in
-    let count : passes_of (engine_lock_of m.objects.now.engine) ≡ length lists.fronts + 2 + length lists.analyzers = c.requires.suit.callers.engine in
-    engine_has m.objects.now m.database.now lists c.args.client (database_out (c.args.client + 1) (buffer_out (c.args.client + 1) c.args.declared.now.buffer (out_to lists c.args.client))) c.take_access-access.new.passes refl
-    (c.take_access-access.ensures.out _ (c.take_port-port.ensures.out _ c.requires.out)) (omega arith)
+    let d = c.args.declared.now in
+    engine_has m.objects.now m.database.now m.lists.now c.args.client (WantedFront d) c.requires.declared c.requires.suit.callers
+    (database_out (c.args.client + 1) (buffer_out (c.args.client + 1) d.buffer (out_to m.lists.now c.args.client))) c.take_access-access.new.passes refl
+    (c.take_access-access.ensures.out _ (c.take_port-port.ensures.out _ c.requires.out))
 
 pub new-requires-3 : goal.new-requires-3
 new-requires-3 g c =
@@ -102,7 +91,7 @@ returns-clause-out g c =
     let d = c.args.declared.now in
     fresh_said m.objects.now m.database.now (engine_out (client + 1) (database_out (client + 1) (buffer_out (client + 1) d.buffer (out_to lists client)))) (out_to lists (client + 1)) c.take_engine-engine.new.passes
     (ap (λ (n : ℕ). n ∷ (out_to lists client).engine) (add-one client) ∙ sym (engine_one lists client))
-    (λ n l. own_next lists client (WantedFront d) c.requires.declared (λ k. refl) n)
+    (λ n l. own_next lists client (WantedFront d) c.requires.declared d.buffer refl n)
     (ap (λ (n : ℕ). n ∷ (out_to lists client).database) (add-one client) ∙ sym (database_one lists client (WantedFront d) c.requires.declared refl))
     (c.take_engine-engine.ensures.out _ (c.take_access-access.ensures.out _ (c.take_port-port.ensures.out _ c.requires.out)))
 

@@ -13,16 +13,14 @@ use Rattle.loggers.specs.NewLoggers.{HaveNumbers}
 use Rattle.session_objects.specs.Objects.{HaveBuffers}
 use Rattle.session_objects.specs.declared.objects.SessionBuffer.{SessionBuffer}
 use Rattle.session_objects.proofs.CrewedLaws.{first_bare, logger_bare}
-use Rattle.session_objects.proofs.ListedLaws.{declared_logger}
 use Rattle.session_objects.proofs.OutLaws.{engine_one, database_same, port_here}
-use Rattle.session_objects.proofs.PlaceLaws.{engine_has, fresh_said}
+use Rattle.session_objects.proofs.PlaceLaws.{client_few, engine_has, fresh_said}
 use Rattle.session_objects.proofs.membership.Membership.make_logger_member.Goals as goal
 
 pub take_engine-engine-requires-clause-client : goal.take_engine-engine-requires-clause-client
 take_engine-engine-requires-clause-client g c =
-    let lists = c.args.self.now.lists.now in
-    let is : c.args.client ≡ length lists.fronts = declared_logger lists.fronts lists.analyzers c.args.client c.requires.declared in
-    let few : length lists.fronts ≤ 32 = c.requires.suit.few in omega (arith, is)
+    let m = c.args.self.now in
+    client_few m.lists.now c.args.client WantedLogger c.requires.declared m.objects.now m.database.now c.requires.suit
 
 pub take_engine-engine-requires-clause-out : goal.take_engine-engine-requires-clause-out
 take_engine-engine-requires-clause-out g c = (ports_out c.args.self.now.lists.now c.args.client (length c.args.self.now.objects.now.buffers.items), c.in_ok-ports.ensures.out)
@@ -30,10 +28,8 @@ take_engine-engine-requires-clause-out g c = (ports_out c.args.self.now.lists.no
 pub take_engine-engine-requires-clause-there : goal.take_engine-engine-requires-clause-there
 take_engine-engine-requires-clause-there g c =
     let m = c.args.self.now in
-    let lists = m.lists.now in
-    let is : c.args.client ≡ length lists.fronts = declared_logger lists.fronts lists.analyzers c.args.client c.requires.declared in
-    let count : passes_of (engine_lock_of m.objects.now.engine) ≡ length lists.fronts + 2 + length lists.analyzers = c.requires.suit.callers.engine in
-    engine_has m.objects.now m.database.now lists c.args.client (ports_out lists c.args.client (length m.objects.now.buffers.items)) _ refl c.in_ok-ports.ensures.out (omega (arith, is))
+    engine_has m.objects.now m.database.now m.lists.now c.args.client WantedLogger c.requires.declared c.requires.suit.callers (ports_out m.lists.now c.args.client (length m.objects.now.buffers.items)) _ refl
+    c.in_ok-ports.ensures.out
 
 pub make_logger-requires-clause-numbers : goal.make_logger-requires-clause-numbers
 make_logger-requires-clause-numbers g c =

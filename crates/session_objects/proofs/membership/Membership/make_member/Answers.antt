@@ -1,12 +1,11 @@
-use Rattle.std.proofs.Common.{◌≡◌, ◌∙◌, ◌<◌, ◌+◌, length, ap, sym, subst, arith}
+use Rattle.std.proofs.Common.{◌≡◌, ◌∙◌, ap, sym, subst}
 use Rattle.std.specs.Prelude.{slice_get, Some}
-use Rattle.std.proofs.lemmas.Option.{slice_get_within}
 use Rattle.frontend_kit.specs.declared.generator.Generator.{Generator}
 use Rattle.daq_members.specs.Members.{MemberSeen}
 use Rattle.session_objects.specs.declared.membership.MemberDeclared.TheVariants.{FrontEnd as WantedFront, Logger as WantedLogger, Analyzer as WantedAnalyzer}
-use Rattle.session_objects.specs.Kept.{declared_members}
+use Rattle.session_objects.specs.DeclaredMembers.{declared_members, logger_number}
 use Rattle.session_objects.specs.Members.{IsNewMember, NewFront, NewLogger, NewAnalyzer}
-use Rattle.session_objects.proofs.ListedLaws.{declared_front, declared_logger, declared_analyzer}
+use Rattle.session_objects.proofs.ListedLaws.{declared_logger, declared_other}
 use Rattle.session_objects.proofs.MadeLaws.{files_kept, files_here, files_gone}
 use Rattle.session_objects.proofs.membership.Membership.make_member.Goals as goal
 
@@ -22,23 +21,22 @@ returns-in_ok-front-in-FrontEnd-clause-member g c = λ given is.
 pub returns-in_ok-front-in-FrontEnd-clause-files : goal.returns-in_ok-front-in-FrontEnd-clause-files
 returns-in_ok-front-in-FrontEnd-clause-files g c = λ given is.
     let lists = c.args.self.now.lists.now in
-    let at : slice_get (declared_members lists.fronts lists.analyzers) c.args.client ≡ Some (WantedFront c.in-FrontEnd.declared) = c.declared.ensures ∙ ap Some c.in-FrontEnd.is in
-    let l : c.args.client < length lists.fronts = slice_get_within lists.fronts c.args.client c.in-FrontEnd.declared (declared_front lists.fronts lists.analyzers c.args.client c.in-FrontEnd.declared at) in
-    is ∙ files_kept (length lists.fronts) c.args.client given (λ e. omega (arith, l, e))
+    is ∙ files_kept (logger_number lists) c.args.client given
+    (declared_other lists c.args.client (WantedFront c.in-FrontEnd.declared) (c.declared.ensures ∙ ap Some c.in-FrontEnd.is) (λ e. cc (e)))
 
 pub make_logger_member-requires-clause-files : goal.make_logger_member-requires-clause-files
 make_logger_member-requires-clause-files g c =
     let lists = c.args.self.now.lists.now in
-    let at : slice_get (declared_members lists.fronts lists.analyzers) c.args.client ≡ Some WantedLogger = c.declared.ensures ∙ ap Some c.in-Logger.is in
+    let at : slice_get (declared_members lists) c.args.client ≡ Some WantedLogger = c.declared.ensures ∙ ap Some c.in-Logger.is in
     let given = c.requires.files in
-    (given.0, given.1 ∙ files_here (length lists.fronts) c.args.client given.0 (declared_logger lists.fronts lists.analyzers c.args.client at))
+    (given.0, given.1 ∙ files_here (logger_number lists) c.args.client given.0 (declared_logger lists c.args.client at))
 
 pub returns-in_ok-logger-in-Logger-clause-member : goal.returns-in_ok-logger-in-Logger-clause-member
 returns-in_ok-logger-in-Logger-clause-member g c = λ given is.
     let m = c.args.self.now in
     let lists = m.lists.now in
-    let at : slice_get (declared_members lists.fronts lists.analyzers) c.args.client ≡ Some WantedLogger = c.declared.ensures ∙ ap Some c.in-Logger.is in
-    let here = files_here (length lists.fronts) c.args.client given (declared_logger lists.fronts lists.analyzers c.args.client at) in
+    let at : slice_get (declared_members lists) c.args.client ≡ Some WantedLogger = c.declared.ensures ∙ ap Some c.in-Logger.is in
+    let here = files_here (logger_number lists) c.args.client given (declared_logger lists c.args.client at) in
     let P : MemberSeen Generator _ → Type 0 = λ x. IsNewMember m.objects.now m.database.now lists.channels given c.args.client WantedLogger x in record {
       wanted = WantedLogger;
       has_wanted = at;
@@ -48,8 +46,8 @@ returns-in_ok-logger-in-Logger-clause-member g c = λ given is.
 pub returns-in_ok-logger-in-Logger-clause-files : goal.returns-in_ok-logger-in-Logger-clause-files
 returns-in_ok-logger-in-Logger-clause-files g c = λ given is.
     let lists = c.args.self.now.lists.now in
-    let at : slice_get (declared_members lists.fronts lists.analyzers) c.args.client ≡ Some WantedLogger = c.declared.ensures ∙ ap Some c.in-Logger.is in
-    c.in_ok-logger-in-Logger.ensures.files ∙ sym (files_gone (length lists.fronts) c.args.client given (declared_logger lists.fronts lists.analyzers c.args.client at))
+    let at : slice_get (declared_members lists) c.args.client ≡ Some WantedLogger = c.declared.ensures ∙ ap Some c.in-Logger.is in
+    c.in_ok-logger-in-Logger.ensures.files ∙ sym (files_gone (logger_number lists) c.args.client given (declared_logger lists c.args.client at))
 
 pub returns-in_ok-analyzer-in-Analyzer-clause-member : goal.returns-in_ok-analyzer-in-Analyzer-clause-member
 returns-in_ok-analyzer-in-Analyzer-clause-member g c = λ given is.
@@ -63,7 +61,5 @@ returns-in_ok-analyzer-in-Analyzer-clause-member g c = λ given is.
 pub returns-in_ok-analyzer-in-Analyzer-clause-files : goal.returns-in_ok-analyzer-in-Analyzer-clause-files
 returns-in_ok-analyzer-in-Analyzer-clause-files g c = λ given is.
     let lists = c.args.self.now.lists.now in
-    let at : slice_get (declared_members lists.fronts lists.analyzers) c.args.client ≡ Some (WantedAnalyzer c.in-Analyzer.declared) = c.declared.ensures ∙ ap Some c.in-Analyzer.is in
-    let there = declared_analyzer lists.fronts lists.analyzers c.args.client c.in-Analyzer.declared at in
-    let past : c.args.client ≡ length lists.fronts + 1 + there.0 = there.1 in
-    is ∙ files_kept (length lists.fronts) c.args.client given (λ e. omega (arith, past, e))
+    is ∙ files_kept (logger_number lists) c.args.client given
+    (declared_other lists c.args.client (WantedAnalyzer c.in-Analyzer.declared) (c.declared.ensures ∙ ap Some c.in-Analyzer.is) (λ e. cc (e)))

@@ -1,5 +1,6 @@
 use Rattle.std.proofs.Common.{rules, ◌≡◌, ◌∙◌, ℕ, length, ap, sym, subst}
-use Rattle.session_objects.specs.Kept.{member_count, out_to, HasFreshBut}
+use Rattle.session_objects.specs.DeclaredMembers.{logger_number, member_count}
+use Rattle.session_objects.specs.Kept.{out_to, HasFreshBut}
 use Rattle.session_objects.specs.Members.{AreSeated, IsNewMemberAt, files_left}
 use Rattle.session_objects.proofs.SeatLaws.{none_seated, one_seated}
 use Rattle.session_objects.proofs.MadeLaws.{files_first, made_members}
@@ -9,7 +10,7 @@ pub loop-client-init : goal.loop-client-init
 loop-client-init g c =
     let m = c.args.self.now in record {
       seated = none_seated (IsNewMemberAt m.lists.now m.objects.now m.database.now c.args.files) c.in-Ok.members (search rules);
-      files = sym (files_first (length m.lists.now.fronts) 0 c.args.files);
+      files = sym (files_first (logger_number m.lists.now) 0 c.args.files);
       out = c.requires.out;
     }
 
@@ -24,7 +25,7 @@ files_back-requires g c =
     let S : ℕ → Type 0 = λ n. AreSeated (IsNewMemberAt m.lists.now m.objects.now m.database.now c.args.files) n c.loop-client.members in record {
       files = (
         c.args.files,
-        c.in-Err.ensures.kept ∙ c.loop-client.invariant.files ∙ ap (λ (n : ℕ). files_left (length m.lists.now.fronts) n c.args.files) (sym many),
+        c.in-Err.ensures.kept ∙ c.loop-client.invariant.files ∙ ap (λ (n : ℕ). files_left (logger_number m.lists.now) n c.args.files) (sym many),
         subst S (sym many) seated,
       );
     }
@@ -43,13 +44,13 @@ loop-client-preserved g c =
 pub returns-clause-members : goal.returns-clause-members
 returns-clause-members g c =
     let m = c.args.self.now in
-    let all : c.loop-client.client ≡ member_count m.lists.now.fronts m.lists.now.analyzers = search rules in
+    let all : c.loop-client.client ≡ member_count m.lists.now = search rules in
     let S : ℕ → Type 0 = λ n. AreSeated (IsNewMemberAt m.lists.now m.objects.now m.database.now c.args.files) n c.loop-client.members in
     made_members m.objects.now m.database.now m.lists.now c.args.files c.loop-client.members (subst S all c.loop-client.invariant.seated)
 
 pub returns-clause-out : goal.returns-clause-out
 returns-clause-out g c =
     let m = c.args.self.now in
-    let all : c.loop-client.client ≡ member_count m.lists.now.fronts m.lists.now.analyzers = search rules in
+    let all : c.loop-client.client ≡ member_count m.lists.now = search rules in
     let P : ℕ → Type 0 = λ n. HasFreshBut (out_to m.lists.now n) m.objects.now m.database.now c.loop-client.passes in
     subst P all c.loop-client.invariant.out

@@ -1,16 +1,14 @@
 use Rattle.std.proofs.Common.{◌≡◌, ◌∙◌, ◌<◌, [], ℕ, length, ap, sym, subst}
-use Rattle.std.specs.Prelude.{Option}
 use Rattle.turn_lock.specs.Roster.{items_of, room_of}
 use Rattle.turn_lock.specs.declared.roster.Passes.{Passes}
 use Rattle.transition_lock.specs.SharedEngines.{engine_lock_of}
 use Rattle.odb_lock.specs.SharedOdbs.{odb_lock_of}
-use Rattle.daq_members.specs.LoggerSeats.{LoggerSeen}
 use Rattle.session_objects.specs.Calls.{SessionCalls, told_of_engine, told_of_database}
-use Rattle.session_objects.specs.Kept.{declared_members, member_count, out_to}
+use Rattle.session_objects.specs.DeclaredMembers.{declared_members, member_count}
+use Rattle.session_objects.specs.Kept.{out_to}
 use Rattle.session_objects.specs.Members.{accounts_of, AreCalledAt}
 use Rattle.session_objects.specs.Records.{HasCallsBut}
-use Rattle.session_objects.specs.Returns.{left_by}
-use Rattle.session_objects.proofs.ListedLaws.{accounts_count, all_called, declared_count, listed_count, listed_logger}
+use Rattle.session_objects.proofs.ListedLaws.{accounts_count, all_called, logger_left, logger_there}
 use Rattle.session_objects.proofs.RosterLaws.{room_for}
 use Rattle.session_objects.proofs.ReturnLaws.{main_back, untold}
 use Rattle.session_objects.proofs.membership.Membership.take_back_all.Goals as goal
@@ -19,27 +17,25 @@ pub take_back_members-requires : goal.take_back_members-requires
 take_back_members-requires g c =
     let m = c.args.self.now in
     let lists = m.lists.now in
-    let has = c.requires.1.1.1.1.0 in
-    let told : g.calls.members ≡ accounts_of (declared_members lists.fronts lists.analyzers) c.args.members = ap (λ (k : SessionCalls). k.members) c.requires.1.1.0 in
-    let count : length c.args.members ≡ member_count lists.fronts lists.analyzers = listed_count lists m.objects.now m.database.now c.args.members has in
-    let declared : length (declared_members lists.fronts lists.analyzers) ≡ member_count lists.fronts lists.analyzers = declared_count lists.fronts lists.analyzers in
-    let accounts : length g.calls.members ≡ member_count lists.fronts lists.analyzers =
-    ap length told ∙ accounts_count (declared_members lists.fronts lists.analyzers) c.args.members (count ∙ sym declared) ∙ declared in
-    let called : AreCalledAt lists m.objects.now m.database.now g.calls c.args.members = all_called lists m.objects.now m.database.now c.args.members has g.calls told in
+    let are = c.requires.1.1.1.1.0 in
+    let told : g.calls.members ≡ accounts_of (declared_members lists) c.args.members = ap (λ (k : SessionCalls). k.members) c.requires.1.1.0 in
+    let accounts : length g.calls.members ≡ member_count lists = ap length told ∙ accounts_count (declared_members lists) c.args.members are.many in
+    let called : AreCalledAt lists m.objects.now m.database.now g.calls c.args.members = all_called lists m.objects.now m.database.now c.args.members are g.calls told in
     let O : ℕ → Type 0 = λ n. HasCallsBut (out_to lists n) g.calls m.objects.now m.database.now c.args.passes in
     λ κs bounds. (
       bounds.0,
       (
         bounds.1,
-        (called, subst O (sym count) (untold g.calls m.objects.now m.database.now lists c.args.members called count accounts c.args.passes c.requires.1.1.1.0 c.requires.1.1.1.1.1.0)),
+        (called, subst O (sym are.many) (untold g.calls m.objects.now m.database.now lists c.args.members called are.many accounts c.args.passes c.requires.1.1.1.0 c.requires.1.1.1.1.1.0)),
       ),
     )
 
 pub unreachable-requires : goal.unreachable-requires
 unreachable-requires g c =
     let m = c.args.self.now in
-    let has = c.requires.1.1.1.1.0 in
-    c.in_default.not-Some _ (c.take_back_members.ensures.left ∙ ap (λ (l : Option (LoggerSeen _)). left_by l) (listed_logger m.lists.now m.objects.now m.database.now c.args.members has))
+    let are = c.requires.1.1.1.1.0 in
+    let there = logger_there m.lists.now m.objects.now m.database.now c.args.members are in
+    c.in_default.not-Some _ (c.take_back_members.ensures.left ∙ logger_left m.lists.now m.objects.now m.database.now c.args.members are there.0 there.1)
 
 pub put_to_engine-requires : goal.put_to_engine-requires
 put_to_engine-requires g c =

@@ -1,6 +1,4 @@
-use Rattle.std.proofs.Common.{◌≡◌, ◌∙◌, ◌+◌, ◌<◌, ℕ, length, ap, sym, refl, subst, arith, eq-eqb}
-use Rattle.std.specs.Prelude.{slice_get}
-use Rattle.std.proofs.lemmas.Option.{slice_get_within}
+use Rattle.std.proofs.Common.{◌≡◌, ◌∙◌, ◌+◌, ◌<◌, ℕ, length, ap, sym, refl, subst, arith}
 use Rattle.turn_lock.specs.Passes.{number_of, seen_by, IsOf}
 use Rattle.turn_lock.specs.Roster.{items_of, room_of}
 use Rattle.turn_lock.specs.declared.roster.Passes.{Passes}
@@ -8,21 +6,13 @@ use Rattle.buffer_core.specs.Ports.{Access}
 use Rattle.transition_lock.specs.declared.shared.SharedEngine.{SharedEngine}
 use Rattle.transition_lock.specs.SharedEngines.{engine_lock_of}
 use Rattle.odb_watch.specs.DatabasePorts.{DatabaseAccess}
-use Rattle.session_objects.specs.Kept.{declared_members, member_count, out_to}
-use Rattle.session_objects.specs.Members.{front_account}
+use Rattle.session_objects.specs.Kept.{out_to}
+use Rattle.session_objects.specs.Members.{front_account, IsOwnPort}
 use Rattle.session_objects.specs.declared.membership.MemberDeclared.TheVariants.{FrontEnd as WantedFront}
-use Rattle.session_objects.proofs.ListedLaws.{declared_count}
-use Rattle.session_objects.proofs.OutLaws.{engine_one, database_one, own_one}
-use Rattle.session_objects.proofs.ReturnLaws.{engine_room, database_room, buffer_room, buffer_within, client_engine_back, client_database_back, client_buffer_back}
-use Rattle.session_objects.proofs.ToldLaws.{port_tells}
+use Rattle.session_objects.proofs.ListedLaws.{front_port}
+use Rattle.session_objects.proofs.OutLaws.{engine_one, database_one}
+use Rattle.session_objects.proofs.ReturnLaws.{engine_room, database_room, client_engine_back, client_database_back, ports_still}
 use Rattle.session_objects.proofs.membership.Membership.take_back_front.Goals as goal
-
-pub own_buffer-requires : goal.own_buffer-requires
-own_buffer-requires g c =
-    let lists = c.args.self.now.lists.now in
-    let l : c.args.client < length (declared_members lists.fronts lists.analyzers) = slice_get_within (declared_members lists.fronts lists.analyzers) c.args.client _ c.requires.1.0.2.has_wanted in
-    let many : length (declared_members lists.fronts lists.analyzers) ≡ member_count lists.fronts lists.analyzers = declared_count lists.fronts lists.analyzers in
-    omega (arith, l, many)
 
 pub put_to_engine-requires : goal.put_to_engine-requires
 put_to_engine-requires g c =
@@ -37,27 +27,8 @@ put_to_database-requires g c =
     (database_room g.calls m.objects.now m.database.now (out_to m.lists.now (c.args.client + 1)) _ (out_to m.lists.now c.args.client).database c.args.passes.now
     (database_one m.lists.now c.args.client (WantedFront c.requires.1.0.0) c.requires.1.0.2.has_wanted refl) c.requires.1.1)
 
-pub put_to_buffer-requires-clause-within : goal.put_to_buffer-requires-clause-within
-put_to_buffer-requires-clause-within g c =
-    let m = c.args.self.now in
-    let is = c.requires.1.0.1 in
-    let P : ℕ → Type 0 = λ n. n < length c.put_to_database.new.self.buffers.items in
-    subst P (sym (c.own_buffer.ensures (WantedFront c.requires.1.0.0) c.requires.1.0.2.has_wanted))
-    (buffer_within g.calls m.objects.now m.database.now (out_to m.lists.now (c.args.client + 1)) c.requires.1.0.0.buffer is.buffer
-    c.args.passes.now c.put_to_database.new.self is.has_buffer c.requires.1.1 (c.put_to_database.ensures.buffers ∙ c.put_to_engine.ensures.buffers))
-
-pub put_to_buffer-requires-clause-room : goal.put_to_buffer-requires-clause-room
-put_to_buffer-requires-clause-room g c =
-    let m = c.args.self.now in
-    let is = c.requires.1.0.1 in
-    let d = c.requires.1.0.0 in
-    λ roster there. buffer_room g.calls m.objects.now m.database.now (out_to m.lists.now (c.args.client + 1)) d.buffer _ ((out_to m.lists.now c.args.client).buffers d.buffer) is.buffer c.args.passes.now roster
-    is.has_buffer (own_one m.lists.now c.args.client (WantedFront d) c.requires.1.0.2.has_wanted (λ n. refl)) c.requires.1.1
-    (ap (λ bs. slice_get bs.items d.buffer) (sym (c.put_to_database.ensures.buffers ∙ c.put_to_engine.ensures.buffers))
-    ∙ ap (λ (n : ℕ). slice_get c.put_to_database.new.self.buffers.items n) (sym (c.own_buffer.ensures (WantedFront d) c.requires.1.0.2.has_wanted)) ∙ there)
-
-pub returns : goal.returns
-returns g c =
+pub take_back_port-requires : goal.take_back_port-requires
+take_back_port-requires g c =
     let m = c.args.self.now in
     let lists = m.lists.now in
     let client : ℕ = c.args.client in
@@ -65,7 +36,6 @@ returns g c =
     let is = c.requires.1.0.1 in
     let has = c.requires.1.0.2 in
     let parts = c.into_parts-pass.ensures in
-    let port = c.into_parts-pass.result.port in
     let account = front_account d c.args.front in
     let k1 = client_engine_back g.calls m.objects.now m.database.now lists client (WantedFront d) account has c.args.passes.now c.put_to_engine.new.self c.into_parts-pass.result.pass c.requires.1.1
     c.put_to_engine.ensures.put c.put_to_engine.ensures.buffers c.put_to_engine.ensures.database
@@ -78,10 +48,14 @@ returns g c =
     (c.into_pass.ensures.told m.database.now (ap (λ (a : DatabaseAccess). a.database) parts.database ∙ is.access))
     c.into_pass.ensures.idle
     (ap (λ p. seen_by p) c.into_pass.ensures.pass ∙ ap (λ (a : DatabaseAccess). a.seen) parts.database) in
-    client_buffer_back g.calls m.objects.now m.database.now lists client (WantedFront d) account has _ is.buffer c.args.front.port c.put_to_database.new.self c.put_to_buffer.new.self c.into_pass-2.result refl (λ n. refl)
-    is.has_buffer (rw (eq-eqb d.buffer d.buffer refl) refl) k2
-    (rw (c.own_buffer.ensures (WantedFront d) has.has_wanted) at c.put_to_buffer.ensures.put) c.put_to_buffer.ensures.engine c.put_to_buffer.ensures.database
-    (ap (λ p. number_of p) c.into_pass-2.ensures.pass ∙ ap (λ (a : Access). a.caller) parts.port ∙ is.port_caller)
-    (c.into_pass-2.ensures.told is.buffer.shared (ap (λ (a : Access). a.buffer) parts.port ∙ is.port))
-    c.into_pass-2.ensures.idle
-    (port_tells port c.args.front.port is.buffer.shared is.buffer.size client c.into_pass-2.result parts.port is.port is.buffer.opens is.port_caller c.into_pass-2.ensures.pass)
+    let P : Access → Type 0 = λ port. IsOwnPort lists m.objects.now g.calls client port in
+    λ κs lives. (
+      lives,
+      (
+        subst P (sym parts.port) (front_port lists m.objects.now g.calls client m.database.now c.args.front d is has),
+        ports_still g.calls m.objects.now m.database.now lists client (length m.objects.now.buffers.items) (out_to lists client).database c.put_to_database.new.self refl (omega arith) k2,
+      ),
+    )
+
+pub returns : goal.returns
+returns g c = c.take_back_port.ensures

@@ -1,4 +1,4 @@
-use Rattle.std.proofs.Common.{◌≡◌, ◌∙◌, ◌+◌, ℕ, add-one, List, length, ap, sym, refl, subst, arith}
+use Rattle.std.proofs.Common.{◌≡◌, ◌∙◌, ◌+◌, ℕ, List, length, ap, sym, refl, subst, arith}
 use Rattle.std.specs.Prelude.{slice_get, Option}
 use Rattle.std.proofs.lemmas.List.{length-map}
 use Rattle.buffer_core.specs.Ports.{Access}
@@ -8,11 +8,11 @@ use Rattle.daq_types.specs.Callers.{caller_of_client}
 use Rattle.turn_lock.specs.Passes.{IsOf}
 use Rattle.buffer_lock.specs.SharedPorts.{access_by}
 use Rattle.session_objects.specs.Calls.{Account, account_or_none}
-use Rattle.session_objects.specs.Kept.{OutNumbers, out_to, ports_out}
+use Rattle.session_objects.specs.Kept.{out_to, ports_out}
 use Rattle.session_objects.specs.Members.{ring_window, logger_account, ArePortsTo}
 use Rattle.session_objects.specs.declared.membership.MemberDeclared.TheVariants.{Logger as WantedLogger}
-use Rattle.session_objects.proofs.OutLaws.{engine_one, database_same, port_here, port_gone}
-use Rattle.session_objects.proofs.ReturnLaws.{calls_said, client_engine_back, engine_room}
+use Rattle.session_objects.proofs.OutLaws.{engine_one, database_same, port_gone}
+use Rattle.session_objects.proofs.ReturnLaws.{calls_said, client_engine_back, engine_room, ports_still}
 use Rattle.session_objects.proofs.membership.Membership.take_back_logger.Goals as goal
 
 pub put_to_engine-requires : goal.put_to_engine-requires
@@ -32,7 +32,6 @@ take_back_ports-requires g c =
     let P : List Access → Type 0 = λ ps. ArePortsTo m.objects.now.buffers.items (caller_of_client client) ps in
     let Q : SharedEngine → Type 0 = λ e. IsOf (engine_lock_of e) c.into_parts-pass.result.pass in
     let many : length ports ≡ length m.objects.now.buffers.items = sym (length-map ports (access_by ring_window)) ∙ ap length parts.ports ∙ is.ports.many in
-    let out : OutNumbers = record (out_to lists (client + 1)) { engine = (out_to lists client).engine } in
     let back = client_engine_back g.calls m.objects.now m.database.now lists client WantedLogger (logger_account c.args.logger) has c.args.passes.now c.put_to_engine.new.self c.into_parts-pass.result.pass c.requires.1.1.1.1
     c.put_to_engine.ensures.put c.put_to_engine.ensures.buffers c.put_to_engine.ensures.database
     (parts.number ∙ ap (λ (n : ℕ). n + 1) is.is) (subst Q is.engine parts.own) parts.idle parts.calls in
@@ -44,9 +43,8 @@ take_back_ports-requires g c =
           subst P (sym parts.ports) is.ports,
           (
             ap (λ (o : Option Account). (account_or_none o).port) has.told ∙ ap (λ (ps : List Access). slice_get ps) (sym parts.ports),
-            calls_said g.calls m.objects.now m.database.now out (ports_out lists client (length ports)) c.put_to_engine.new.self refl
-                (λ n l. ap (λ (k : ℕ). (out_to lists k).buffers n) (add-one client) ∙ sym (port_here lists client (length ports) n (omega (arith, l, many))))
-                (database_same lists client WantedLogger has.has_wanted refl) back,
+            ports_still g.calls m.objects.now m.database.now lists client (length ports) (out_to lists (client + 1)).database c.put_to_engine.new.self (database_same lists client WantedLogger has.has_wanted refl)
+                (omega (arith, many)) back,
           ),
         ),
       ),

@@ -2,14 +2,12 @@ use Rattle.std.proofs.Common.{rules, ◌≡◌, ◌∙◌, ◌+◌, ◌++◌, �
 use Rattle.std.specs.Prelude.{slice_get, Some, Option}
 use Rattle.frontend_kit.specs.declared.generator.Generator.{Generator}
 use Rattle.daq_members.specs.Members.{MemberSeen}
-use Rattle.daq_members.specs.Crews.{logger_in}
 use Rattle.session_objects.specs.Kept.{out_to}
 use Rattle.session_objects.specs.Members.{CalledAt}
 use Rattle.session_objects.specs.Records.{HasCallsBut}
-use Rattle.session_objects.specs.Returns.{left_also, left_by}
+use Rattle.session_objects.specs.Returns.{left_also, left_among, end_of_member}
 use Rattle.session_objects.specs.declared.returning.LoggerEnd.{LoggerEnd}
 use Rattle.session_objects.proofs.ChangeLaws.{get_seam}
-use Rattle.session_objects.proofs.ListedLaws.{one_more_left}
 use Rattle.session_objects.proofs.membership.Membership.take_back_members.Goals as goal
 
 pub loop-member-init : goal.loop-member-init
@@ -45,7 +43,7 @@ loop-member-preserved g c =
     let O : ℕ → Type 0 = λ n. HasCallsBut (out_to m.lists.now n) g.calls m.objects.now m.database.now c.take_back_member.new.passes in record {
       done = x ∷ inv.done;
       all = inv.all ∙ ap (λ zs. zs ++ inv.done) popped ∙ append_assoc new (x ∷ []) inv.done;
-      left = c.take_back_member.ensures.left ∙ ap (λ (l : Option (LoggerEnd _)). left_also x l) inv.left ∙ one_more_left x inv.done;
+      left = c.take_back_member.ensures.left ∙ ap (λ (l : Option (LoggerEnd _)). left_also (end_of_member x) l) inv.left;
       out = subst O same c.take_back_member.ensures.out;
     }
 
@@ -53,7 +51,7 @@ pub returns-clause-left : goal.returns-clause-left
 returns-clause-left g c =
     let none : c.loop-member.members ≡ [] = search rules in
     let inv = c.loop-member.invariant in
-    inv.left ∙ ap (λ (ms : List (MemberSeen Generator _)). left_by (logger_in ms)) (sym (inv.all ∙ ap (λ zs. zs ++ inv.done) none))
+    inv.left ∙ ap (λ (ms : List (MemberSeen Generator _)). left_among ms) (sym (inv.all ∙ ap (λ zs. zs ++ inv.done) none))
 
 pub returns-clause-out : goal.returns-clause-out
 returns-clause-out g c =

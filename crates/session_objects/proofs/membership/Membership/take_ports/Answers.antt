@@ -7,12 +7,11 @@ use Rattle.buffer_core.specs.Ports.{Access}
 use Rattle.buffer_lock.specs.SharedBuffers.{lock_of}
 use Rattle.buffer_lock.specs.SharedPorts.{access_by}
 use Rattle.session_objects.specs.declared.objects.SessionBuffer.{SessionBuffer}
+use Rattle.session_objects.specs.declared.membership.MemberDeclared.TheVariants.{Logger as WantedLogger}
 use Rattle.session_objects.specs.Kept.{out_to, ports_out, buffer_out, HasFreshBut}
 use Rattle.session_objects.specs.Members.{ring_window, new_port, new_ports}
-use Rattle.session_objects.proofs.ChangeLaws.{there_below}
-use Rattle.session_objects.proofs.ListedLaws.{declared_logger}
 use Rattle.session_objects.proofs.OutLaws.{port_gone, port_next}
-use Rattle.session_objects.proofs.PlaceLaws.{buffer_has, fresh_said}
+use Rattle.session_objects.proofs.PlaceLaws.{buffer_has, client_few, fresh_said}
 use Rattle.session_objects.proofs.membership.Membership.take_ports.Goals as goal
 
 pub loop-number-init : goal.loop-number-init
@@ -26,9 +25,8 @@ loop-number-init g c =
 
 pub take_port-requires-clause-client : goal.take_port-requires-clause-client
 take_port-requires-clause-client g c =
-    let lists = c.args.self.now.lists.now in
-    let is : c.args.client ≡ length lists.fronts = declared_logger lists.fronts lists.analyzers c.args.client c.requires.declared in
-    let few : length lists.fronts ≤ 32 = c.requires.suit.few in omega (arith, is)
+    let m = c.args.self.now in
+    client_few m.lists.now c.args.client WantedLogger c.requires.declared m.objects.now m.database.now c.requires.suit
 
 pub take_port-requires-clause-out : goal.take_port-requires-clause-out
 take_port-requires-clause-out g c = (ports_out c.args.self.now.lists.now c.args.client c.loop-number.number, c.loop-number.invariant.1)
@@ -36,14 +34,9 @@ take_port-requires-clause-out g c = (ports_out c.args.self.now.lists.now c.args.
 pub take_port-requires-clause-there : goal.take_port-requires-clause-there
 take_port-requires-clause-there g c =
     let m = c.args.self.now in
-    let lists = m.lists.now in
     let n : ℕ = c.loop-number.number in
-    let l : n < length m.objects.now.buffers.items = search rules in
-    let is : c.args.client ≡ length lists.fronts = declared_logger lists.fronts lists.analyzers c.args.client c.requires.declared in
-    let b = there_below m.objects.now.buffers.items n l in
-    let count : passes_of (lock_of b.0.shared) ≡ length lists.fronts + 2 + length lists.analyzers = c.requires.suit.callers.buffers n b.0 b.1 in
-    λ roster there. buffer_has m.objects.now m.database.now lists c.args.client (ports_out lists c.args.client n) n c.loop-number.passes b.0 roster
-    (port_gone lists c.args.client n n (omega arith)) c.loop-number.invariant.1 b.1 there (omega (arith, is))
+    buffer_has m.objects.now m.database.now m.lists.now c.args.client WantedLogger c.requires.declared c.requires.suit.callers (ports_out m.lists.now c.args.client n) n c.loop-number.passes
+    (search rules) (port_gone m.lists.now c.args.client n n (omega arith)) c.loop-number.invariant.1
 
 pub loop-number-preserved : goal.loop-number-preserved
 loop-number-preserved g c =

@@ -1,0 +1,1 @@
+use Rattle.session_objects.proofs.membership.Membership.declared.Goals as goal
