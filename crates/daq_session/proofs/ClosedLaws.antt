@@ -55,9 +55,11 @@ module _ {D F : Type 0} {g : _} (told : MemberTold Generator F) (shared : Shared
     spares = spares;
     kept = runs ∙ is.ends.kept;
     caller = is.ends.caller;
-    crew = is.ends.crew;
     members = is.ends.members;
+    are_members = is.ends.are;
     keep = is.ends.keep;
+    logger = is.ends.logger;
+    has_logger = is.ends.has_logger;
     channels = is.ends.channels;
     first = is.ends.first;
     files = is.ends.files;

@@ -1,20 +1,15 @@
 -- A whole script, from the parts that play it.
 use Rattle.daq_io.specs.Told.{AheadTold}
-use Rattle.std.proofs.Common.{◌≡◌, ℕ, ◌<◌, List, [], refl, sym, ap, subst, ◌∙◌, inl, arith, true, length}
+use Rattle.std.proofs.Common.{◌≡◌, ℕ, ◌<◌, List, [], refl, subst, inl, arith, length}
 use Rattle.std.specs.Prelude.{Option, Some, None}
 use Rattle.frontend_kit.specs.declared.generator.Generator.{Generator}
-use Rattle.mid_logger.specs.declared.channel_spec.ChannelSpec.{ChannelSpec}
 use Rattle.turn_lock.specs.Passes.{passes_of}
 use Rattle.odb_lock.specs.declared.shared.SharedOdb.{SharedOdb}
 use Rattle.odb_lock.specs.SharedOdbs.{odb_lock_of}
 use Rattle.daq_members.specs.Members.{MemberTold}
 use Rattle.session_runs.specs.declared.records.RunRecord.{RunRecord}
 use Rattle.session_setup.specs.Setup.{AreSound, Declared, declared_by}
-use Rattle.session_setup.specs.SetupLines.{opened_with_defaults}
-use Rattle.session_setup.specs.declared.declared.AnalyzerDeclared.{AnalyzerDeclared}
-use Rattle.session_setup.specs.declared.declared.BufferDeclared.{BufferDeclared}
 use Rattle.session_setup.specs.declared.declared.DeclaredLists.{DeclaredLists}
-use Rattle.session_setup.specs.declared.declared.FrontDeclared.{FrontDeclared}
 use Rattle.session_objects.specs.declared.objects.SessionObjects.{SessionObjects}
 use Rattle.session_objects.specs.declared.passes.SessionPasses.{SessionPasses}
 use Rattle.session_objects.specs.Objects.{AreObjectsOf, HaveCallers}
@@ -27,35 +22,6 @@ use Rattle.console.specs.declared.halts.Halt.TheVariants.{NoMemory as no_memory}
 use Rattle.daq_session.specs.declared.left.EndedObjects.{EndedObjects}
 use Rattle.daq_session.specs.NewDatabases.{database_passes}
 use Rattle.daq_session.specs.Played.{IsEndedSession, ObjectsEnd}
-
--- The declarations.
-
-abbrev opened_lists : List BufferDeclared → List FrontDeclared → List ChannelSpec → List AnalyzerDeclared → Declared
-opened_lists buffers fronts channels analyzers =
-    record { opened = true; buffers = buffers; fronts = fronts; channels = channels; analyzers = analyzers }
-
--- these lists are those of the declarations
-pub record AreListed (opened : Declared) (lists : DeclaredLists) : Type 0 where
-  pub buffers : lists.buffers ≡ opened.buffers
-  pub fronts : lists.fronts ≡ opened.fronts
-  pub channels : lists.channels ≡ opened.channels
-  pub analyzers : lists.analyzers ≡ opened.analyzers
-
--- those with which a session opens, in lists for themselves
-pub lists_so : (declared opened : Declared) (lists : DeclaredLists) → opened ≡ opened_with_defaults declared → AreListed opened lists → opened_with_defaults declared ≡ declared_by lists
-lists_so declared opened lists is are =
-    let d : Declared = opened_with_defaults declared in
-    let same_buffers : lists.buffers ≡ d.buffers = are.buffers ∙ ap (λ (x : Declared). x.buffers) is in
-    let same_fronts : lists.fronts ≡ d.fronts = are.fronts ∙ ap (λ (x : Declared). x.fronts) is in
-    let same_channels : lists.channels ≡ d.channels = are.channels ∙ ap (λ (x : Declared). x.channels) is in
-    let same_analyzers : lists.analyzers ≡ d.analyzers = are.analyzers ∙ ap (λ (x : Declared). x.analyzers) is in
-    sym (ap (λ (b : List BufferDeclared). opened_lists b lists.fronts lists.channels lists.analyzers) same_buffers
-    ∙ ap (λ (f : List FrontDeclared). opened_lists d.buffers f lists.channels lists.analyzers) same_fronts
-    ∙ ap (λ (c : List ChannelSpec). opened_lists d.buffers d.fronts c lists.analyzers) same_channels
-    ∙ ap (λ (a : List AnalyzerDeclared). opened_lists d.buffers d.fronts d.channels a) same_analyzers)
-
-pub lists_sound : (declared opened : Declared) (lists : DeclaredLists) → opened ≡ opened_with_defaults declared → AreListed opened lists → AreSound opened → AreSound (declared_by lists)
-lists_sound declared opened lists is are sound = subst AreSound (is ∙ lists_so declared opened lists is are) sound
 
 -- the database has a pass for each front-end
 pub few_fronts : {D : Type 0} (shared : SharedOdb D) (lists : DeclaredLists) → passes_of (odb_lock_of shared) ≡ database_passes → AreSound (declared_by lists) → length lists.fronts < passes_of (odb_lock_of shared)
@@ -85,7 +51,7 @@ module _ {D F : Type 0} {g : _} (told : MemberTold Generator F) (lists : Declare
   objects_left passes records = record { objects = objects; passes = passes; runs = records }
 
   pub some_ended : (session : Option (SessionPasses D g × List RunRecord)) (passes : SessionPasses D g) (records : List RunRecord) → session ≡ Some (passes, records)
-      → AreSound (declared_by lists) → AreObjectsOf lists objects → HaveCallers lists.fronts lists.analyzers objects shared
+      → AreSound (declared_by lists) → AreObjectsOf lists objects → HaveCallers lists objects shared
       → ObjectsEnd told lists objects shared first_files final ending run_files session → IsEndedSession told shared first_files final run_files (objects_left passes records)
   some_ended session passes records is sound are callers ends =
       let all = subst (ObjectsEnd told lists objects shared first_files final ending run_files) is ends in

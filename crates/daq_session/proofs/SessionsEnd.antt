@@ -1,20 +1,18 @@
 -- What is kept of a session is what the laws of ended sessions ask for, so all that they say holds of it.
 use Rattle.daq_io.specs.Told.{FilesTold}
-use Rattle.std.specs.Prelude.{◌≡◌, ℕ, ◌<◌, ◌≤◌, Bool, IsTrue, List, [], ◌∷◌, ◌++◌, Ok, length, map, slice_get, Option, Some, refl}
+use Rattle.std.specs.Prelude.{◌≡◌, ℕ, ◌<◌, ◌≤◌, IsTrue, List, [], ◌∷◌, ◌++◌, Ok, length, map, slice_get, Option, Some, refl}
 use Rattle.std.specs.List.{AllByRecursion}
 use Rattle.std.specs.Option.{option_map, option_to_list}
 use Rattle.std.proofs.Common.{ap, sym, subst, ◌∙◌, append_assoc, arith}
 use Rattle.std.proofs.lemmas.List.{append-nil, length-map}
 use Rattle.std.proofs.lemmas.Option.{slice_get-map, slice_get_within}
 use Rattle.daq_types.specs.Callers.{entries_by, main_caller}
-use Rattle.daq_types.specs.declared.events.Event.{Event}
-use Rattle.daq_types.specs.declared.runs.Order.{Order}
 use Rattle.daq_types.specs.declared.runs.StartOutcome.TheVariants.{Completed, Refused}
 use Rattle.daq_types.specs.declared.runs.Why.{Why}
 use Rattle.turn_lock.specs.Closing.{history_of}
 use Rattle.transitions.specs.declared.entry.EngineEntry.TheVariants.{Close}
+use Rattle.transitions.specs.EngineHistories.{engine_replay}
 use Rattle.member_model.specs.RunEngines.{EngineEntry, EngineState, IsLegalEngine}
-use Rattle.frontend_kit.specs.declared.generator.Generator.{Generator}
 use Rattle.daq_session.specs.SessionRows.{session_rows}
 use Rattle.odb_tree.specs.Noting.{Watched}
 use Rattle.odb_watch.specs.Steps.{LeadsDatabase, unwatched}
@@ -22,24 +20,18 @@ use Rattle.odb_watch.specs.declared.entry.WatchEntry.{WatchEntry}
 use Rattle.odb_lock.specs.SharedOdbs.{first_database}
 use Rattle.session_setup.specs.Setup.{Declared}
 use Rattle.session_setup.specs.declared.declared.BufferDeclared.{BufferDeclared}
-use Rattle.session_setup.specs.declared.declared.AnalyzerDeclared.{AnalyzerDeclared}
-use Rattle.session_setup.specs.declared.declared.FrontDeclared.{FrontDeclared}
-use Rattle.mid_logger.specs.declared.channel_spec.ChannelSpec.{ChannelSpec}
+use Rattle.session_setup.specs.declared.declared.DeclaredLists.{DeclaredLists}
 use Rattle.session_runs.specs.declared.opening.MemberName.{MemberName}
 use Rattle.session_runs.specs.Members.{registrations}
 use Rattle.loggers.specs.LeftNames.{NoneRose}
 use Rattle.loggers.specs.OtherFiles.{AreDeclared, specs_in}
 use Rattle.session_runs.specs.declared.records.RunRecord.{RunRecord}
-use Rattle.session_runs.specs.declared.channels.RunChannel.{RunChannel}
 use Rattle.session_runs.specs.declared.on.CurrentRun.{CurrentRun}
-use Rattle.session_runs.specs.KeptRuns.{channels_of}
 use Rattle.session_runs.specs.RunsFit.{FitsRun, MainOwn, RecordsFit, RunClients, SteersEngine, run_clients, start_of, start_on, starts_begun}
-use Rattle.session_lines.specs.Stages.{SessionStage, analyzer_names, front_names, members_declared}
-use Rattle.daq_members.specs.Members.{MemberTold}
-use Rattle.daq_members.specs.FrontSeats.{FrontSeen, IsSeated}
+use Rattle.session_lines.specs.Stages.{SessionStage, members_declared}
 use Rattle.session_objects.specs.declared.record.BufferRecord.{BufferRecord}
 use Rattle.session_objects.specs.declared.record.SessionRecord.{SessionRecord}
-use Rattle.session_objects.specs.Members.{generator_takes, generator_makes}
+use Rattle.session_objects.specs.Members.{members_told}
 use Rattle.session_objects.specs.Names.{member_names}
 use Rattle.session_laws.specs.ClosedSessions.{ClosedSession, engine_calls}
 use Rattle.session_laws.specs.CountedFaults.{CountsHold}
@@ -47,12 +39,12 @@ use Rattle.session_laws.specs.EndLaws.{SessionHolds}
 use Rattle.session_laws.specs.MembersAtEnd.{MembersAtEnd}
 use Rattle.session_laws.specs.OneAnswer.{OneAnswer, RisesTold}
 use Rattle.session_laws.specs.OtherNames.{AreStartsOver}
-use Rattle.session_laws.specs.EndedSessions.{EndsSo, SessionEnded, HoldsSo, closed_session}
+use Rattle.session_laws.specs.EndedSessions.{ClosedEndsSo, SessionEnded, HoldsSo, closed_session}
 use Rattle.session_laws.specs.EndedRecords.{CountsSo, IsInNoRecord, NamesSo, OneAnswerSo, RecordSo, RecordsSo, RefusalSo, RefusalsSo, RisesToldSo, StartsOverSo, clients_declared}
 use Rattle.session_commands.specs.Endings.{closing_calls}
 use Rattle.daq_session.specs.Played.{IsSessionRecord}
 use Rattle.daq_session.specs.Sessions.{KeepsSession, main_own}
-use Rattle.daq_session.specs.ToldRecords.{AreHistoriesOf, AreMainCalls, IsHistoryOf, session_told}
+use Rattle.daq_session.specs.ToldRecords.{AreHistoriesOf, AreMainCalls, IsHistoryOf, lists_declared, session_told}
 use Rattle.daq_session.specs.RunNumbers.{GivesNumber}
 use Rattle.daq_session.proofs.NumberLaws.{RunLaws, calls_give, session_spares}
 use Rattle.daq_session.proofs.ToldRuns.{run_tells, there}
@@ -73,15 +65,30 @@ record LawsHold (c : ClosedSession) (first now : FilesTold) (own : MainOwn) (run
   so : (number : ℕ) → (run : RunRecord) → slice_get runs number ≡ Some run → run.outcome ≡ Completed → RecordSo c holds.moments own run
   refused : (number : ℕ) → (run : RunRecord) → slice_get runs number ≡ Some run → (client : ℕ) → (why : Why) → run.outcome ≡ Refused client why → RefusalSo c first now own run client why
 
-module _ {D F : Type 0} {g : _} (told : MemberTold Generator F) (takes : told.takes ≡ generator_takes) (makes : told.makes ≡ generator_makes)
-    (first_files : F) (final : SessionStage) (run_files : F) (r : SessionRecord D g) (kept : IsSessionRecord told first_files final run_files r) where
-  names : members_declared final.declared ≡ member_names kept.lists.fronts kept.lists.analyzers
+-- That all of it is so, by the objects and seats of such a session.
+pub record EndedLaws {D F : Type 0} {g : _} (read : F → FilesTold) (r : SessionRecord D g) : Type 0 where
+  pub ends : ClosedEndsSo read r
+  pub holds : HoldsSo read r
+  pub starts : StartsOverSo read r
+  pub counts : CountsSo read r
+  pub one_answer : OneAnswerSo read r
+  pub rises : RisesToldSo read r
+  pub names : NamesSo read r
+  pub records : RecordsSo read r
+  pub refusals : RefusalsSo read r
+
+module _ {D F : Type 0} {g : _} (read : F → FilesTold) (first_files : F) (final : SessionStage) (run_files : F) (r : SessionRecord D g)
+    (kept : IsSessionRecord (members_told read) first_files final run_files r) where
+  names : members_declared final.declared ≡ member_names kept.lists
   names = ap members_declared (sym kept.declared)
+
+  its_lists : kept.lists ≡ lists_declared final.declared
+  its_lists = ap lists_declared kept.declared
 
   abbrev later : List EngineEntry
   later = kept.fits.later ++ Close (Ok tt) ∷ []
 
-  begins : closing_calls kept.last.main.own ≡ registrations 0 (member_names kept.lists.fronts kept.lists.analyzers) ++ later
+  begins : closing_calls kept.last.main.own ≡ registrations 0 (member_names kept.lists) ++ later
   begins =
       ap (λ (l : List EngineEntry). l ++ Close (Ok tt) ∷ []) kept.fits.begins
       ∙ (append_assoc (registrations 0 (members_declared final.declared)) kept.fits.later (Close (Ok tt) ∷ [])
@@ -93,23 +100,18 @@ module _ {D F : Type 0} {g : _} (told : MemberTold Generator F) (takes : told.ta
   few_analyzers : length kept.lists.analyzers ≤ 8
   few_analyzers = subst (λ (d : Declared). length d.analyzers ≤ 8) (sym kept.declared) kept.sound.few_analyzers
 
-  abbrev ended : SessionEnded told.read kept.lists.fronts kept.lists.analyzers kept.crew.logger r
+  abbrev ended : SessionEnded read kept.lists kept.logger r
   ended = record {
     objects = kept.objects;
     shared = kept.shared;
     own = closing_calls kept.last.main.own;
     database = final.database.access.seen;
-    seats = kept.crew.fronts;
-    seated_analyzers = kept.crew.analyzers;
+    members = kept.members;
     callers = kept.callers;
     opening = kept.are.engine;
-    members = kept.members;
-    seated =
-        subst (λ (t : Generator → Order → Bool). (client : ℕ) → (front : FrontSeen Generator) → slice_get kept.crew.fronts client ≡ Some front → IsSeated t generator_makes front) takes
-        (subst (λ (m : Generator → Order → ℕ → Event). (client : ℕ) → (front : FrontSeen Generator) → slice_get kept.crew.fronts client ≡ Some front → IsSeated told.takes m front) makes
-        kept.keep.fronts);
-    logger_seated = kept.keep.logger;
-    analyzers_seated = kept.keep.analyzers;
+    are = kept.are_members;
+    keep = kept.keep;
+    has_logger = kept.has_logger;
     histories = kept.histories;
     calls = kept.calls;
     few_analyzers = few_analyzers;
@@ -123,31 +125,11 @@ module _ {D F : Type 0} {g : _} (told : MemberTold Generator F) (takes : told.ta
 
   -- The records fit the main thread's own calls, by the front-ends and the channels that were declared.
 
-  many_fronts : length kept.last.fronts ≡ length kept.lists.fronts
-  many_fronts =
-      ap (λ (l : List (List ℕ)). length l) kept.fits.fronts
-      ∙ (ap (λ (d : Declared). length (front_names d)) (sym kept.declared) ∙ length-map kept.lists.fronts (λ (f : FrontDeclared). f.name))
-
-  its_channels : kept.last.channels ≡ channels_of kept.lists.channels
-  its_channels = kept.fits.channels ∙ ap (λ (d : Declared). channels_of d.channels) (sym kept.declared)
-
-  many_analyzers : length kept.last.analyzers ≡ length kept.lists.analyzers
-  many_analyzers =
-      ap (λ (l : List (List ℕ)). length l) kept.fits.analyzers
-      ∙ (ap (λ (d : Declared). length (analyzer_names d)) (sym kept.declared) ∙ length-map kept.lists.analyzers (λ (a : AnalyzerDeclared). a.name))
-
   abbrev its_clients : RunClients
-  its_clients = clients_declared kept.lists.fronts kept.lists.channels kept.lists.analyzers
-
-  clients_with : (fronts : ℕ) → List RunChannel → (analyzers : ℕ) → RunClients
-  clients_with fronts channels analyzers = record { fronts = fronts; channels = channels; analyzers = analyzers }
+  its_clients = clients_declared kept.lists
 
   same_clients : run_clients kept.last ≡ its_clients
-  unfolding clients_with
-  same_clients =
-      ap (λ (n : ℕ). clients_with n kept.last.channels (length kept.last.analyzers)) many_fronts
-      ∙ (ap (λ (c : List RunChannel). clients_with (length kept.lists.fronts) c (length kept.last.analyzers)) its_channels
-      ∙ ap (clients_with (length kept.lists.fronts) (channels_of kept.lists.channels)) many_analyzers)
+  same_clients = rw (kept.fits.fronts, kept.fits.channels, kept.fits.analyzers, ← kept.declared) (simp length-map)
 
   fit : AllByRecursion (FitsRun its_clients own) r.runs
   fit =
@@ -164,36 +146,31 @@ module _ {D F : Type 0} {g : _} (told : MemberTold Generator F) (takes : told.ta
 
   -- By the objects and seats of the session, and then by what a reader of the record knows of it.
 
-  abbrev closed_by : (opened : Watched) (fronts : List FrontDeclared) (analyzers : List AnalyzerDeclared) (first now : F) → ClosedSession
-  closed_by opened fronts analyzers first now = closed_session opened fronts analyzers kept.crew.logger.slots (told.read first).seen (told.read now).seen r
+  abbrev Laws : (opened : Watched) (lists : DeclaredLists) (first now : F) → Type 0
+  Laws opened lists first now =
+      LawsHold (closed_session opened lists kept.logger.slots (read first).seen (read now).seen r) (read first) (read now) own r.runs
 
-  abbrev Laws : (opened : Watched) (fronts : List FrontDeclared) (analyzers : List AnalyzerDeclared) (first now : F) → Type 0
-  Laws opened fronts analyzers first now = LawsHold (closed_by opened fronts analyzers first now) (told.read first) (told.read now) own r.runs
-
-  laws_first : EndsSo told.read r → HoldsSo told.read r → StartsOverSo told.read r → CountsSo told.read r → OneAnswerSo told.read r → RisesToldSo told.read r → NamesSo told.read r → RecordsSo told.read r → RefusalsSo told.read r
-      → Laws (first_database kept.shared) kept.lists.fronts kept.lists.analyzers kept.crew.logger.first kept.crew.logger.files
-  laws_first ends hold starts counts one rises names_so records refusals =
-      let holds = hold kept.lists.fronts kept.lists.analyzers kept.crew.logger ended in
+  laws_first : EndedLaws read r → Laws (first_database kept.shared) kept.lists kept.logger.first kept.logger.files
+  laws_first laws =
+      let holds = laws.holds kept.lists kept.logger ended in
       record {
-        members = ends kept.lists.fronts kept.lists.analyzers kept.crew.logger ended;
+        members = laws.ends kept.lists kept.logger ended;
         holds = holds;
-        over = starts kept.lists.fronts kept.lists.analyzers kept.crew.logger ended kept.lists.channels kept.channels own (Close (Ok tt) ∷ []) refl refl lists_fit;
-        counts = counts kept.lists.fronts kept.lists.analyzers kept.crew.logger ended kept.keep.reasons kept.keep.names;
-        one = one kept.lists.fronts kept.lists.analyzers kept.crew.logger ended kept.keep.reasons kept.keep.names kept.lists.channels kept.channels own (Close (Ok tt) ∷ []) refl lists_fit;
-        rises = rises kept.lists.fronts kept.lists.analyzers kept.crew.logger ended kept.keep.reasons kept.lists.channels kept.channels own (Close (Ok tt) ∷ []) refl refl lists_fit;
-        left = names_so kept.lists.fronts kept.lists.analyzers kept.crew.logger ended kept.keep.reasons kept.keep.names kept.lists.channels kept.channels own (Close (Ok tt) ∷ []) refl refl lists_fit;
-        so = records kept.lists.fronts kept.lists.analyzers kept.crew.logger ended kept.lists.channels kept.channels holds own (Close (Ok tt) ∷ []) refl fit;
-        refused = refusals kept.lists.fronts kept.lists.analyzers kept.crew.logger ended kept.keep.reasons kept.keep.names kept.lists.channels kept.channels own (Close (Ok tt) ∷ []) refl fit;
+        over = laws.starts kept.lists kept.logger ended own (Close (Ok tt) ∷ []) refl refl lists_fit;
+        counts = laws.counts kept.lists kept.logger ended;
+        one = laws.one_answer kept.lists kept.logger ended own (Close (Ok tt) ∷ []) refl lists_fit;
+        rises = laws.rises kept.lists kept.logger ended own (Close (Ok tt) ∷ []) refl refl lists_fit;
+        left = laws.names kept.lists kept.logger ended own (Close (Ok tt) ∷ []) refl refl lists_fit;
+        so = laws.records kept.lists kept.logger ended holds own (Close (Ok tt) ∷ []) refl fit;
+        refused = laws.refusals kept.lists kept.logger ended own (Close (Ok tt) ∷ []) refl fit;
       }
 
-  laws_read : EndsSo told.read r → HoldsSo told.read r → StartsOverSo told.read r → CountsSo told.read r → OneAnswerSo told.read r → RisesToldSo told.read r → NamesSo told.read r → RecordsSo told.read r → RefusalsSo told.read r
-      → Laws (unwatched session_rows) final.declared.fronts final.declared.analyzers first_files run_files
-  laws_read ends hold starts counts one rises names_so records refusals =
-      subst (λ (now : F). Laws (unwatched session_rows) final.declared.fronts final.declared.analyzers first_files now) kept.files
-      (subst (λ (first : F). Laws (unwatched session_rows) final.declared.fronts final.declared.analyzers first kept.crew.logger.files) kept.first
-      (subst (λ (d : Declared). Laws (unwatched session_rows) d.fronts d.analyzers kept.crew.logger.first kept.crew.logger.files) kept.declared
-      (subst (λ (opened : Watched). Laws opened kept.lists.fronts kept.lists.analyzers kept.crew.logger.first kept.crew.logger.files) kept.rows
-      (laws_first ends hold starts counts one rises names_so records refusals))))
+  laws_read : EndedLaws read r → Laws (unwatched session_rows) (lists_declared final.declared) first_files run_files
+  laws_read laws =
+      subst (λ (now : F). Laws (unwatched session_rows) (lists_declared final.declared) first_files now) kept.files
+      (subst (λ (first : F). Laws (unwatched session_rows) (lists_declared final.declared) first kept.logger.files) kept.first
+      (subst (λ (lists : DeclaredLists). Laws (unwatched session_rows) lists kept.logger.first kept.logger.files) its_lists
+      (subst (λ (opened : Watched). Laws opened kept.lists kept.logger.first kept.logger.files) kept.rows (laws_first laws))))
 
   -- The histories.
 
@@ -214,6 +191,7 @@ module _ {D F : Type 0} {g : _} (told : MemberTold Generator F) (takes : told.ta
         name = closed.name ∙ of.name;
         size = closed.size ∙ of.size;
         legal = closed.legal;
+        left = closed.left;
         delivers = closed.delivers;
         runs = closed.runs;
       }
@@ -223,6 +201,7 @@ module _ {D F : Type 0} {g : _} (told : MemberTold Generator F) (takes : told.ta
     many = many_buffers;
     buffers = buffer_told;
     engine = subst (λ (e : EngineState). IsLegalEngine e (history_of r.engine)) kept.are.engine kept.histories.engine;
+    engine_left = subst (λ (e : EngineState). r.engine.value.engine ≡ engine_replay e (history_of r.engine)) kept.are.engine kept.histories.engine_left;
     follows = kept.histories.follows kept.are.engine;
     database = subst (λ (w : Watched). LeadsDatabase w (history_of r.database) r.database.value.database) kept.rows kept.histories.database;
     notes = kept.histories.notes session_rows kept.rows;
@@ -231,7 +210,7 @@ module _ {D F : Type 0} {g : _} (told : MemberTold Generator F) (takes : told.ta
   main_calls : AreMainCalls own r
   main_calls =
       let engine = kept.calls.engine.parts 0 (omega (arith, kept.callers.engine)) in
-      let database = kept.calls.database.parts 0 (omega (arith, kept.callers.database)) in
+      let database = kept.calls.database.parts 0 kept.callers.main in
       record {
         engine = engine.1.own ∙ engine.2;
         database = database.1.own ∙ (ap (entries_by main_caller) database.2
@@ -239,32 +218,32 @@ module _ {D F : Type 0} {g : _} (told : MemberTold Generator F) (takes : told.ta
       }
 
   -- one record for each start
-  records_fit : RecordsFit (clients_declared final.declared.fronts final.declared.channels final.declared.analyzers) own r.runs
-  records_fit = subst (λ (d : Declared). RecordsFit (clients_declared d.fronts d.channels d.analyzers) own r.runs) kept.declared lists_fit
+  records_fit : RecordsFit (clients_declared (lists_declared final.declared)) own r.runs
+  records_fit = subst (λ (lists : DeclaredLists). RecordsFit (clients_declared lists) own r.runs) its_lists lists_fit
 
   -- no two records of one start
-  differ : RunLaws → MembersAtEnd (session_told told final.declared kept.crew.logger.slots first_files run_files r) → (number other : ℕ) (run second : RunRecord)
+  differ : RunLaws → MembersAtEnd (session_told (members_told read) final.declared kept.logger.slots first_files run_files r) → (number other : ℕ) (run second : RunRecord)
       → slice_get r.runs number ≡ Some run → slice_get r.runs other ≡ Some second → run.start ≡ second.start → number ≡ other
   differ laws members number other run second at second_at same =
       let of : (n : ℕ) (x : RunRecord) → slice_get r.runs n ≡ Some x → slice_get (starts_begun own.engine) n ≡ Some x.start =
       λ n x x_at. subst (λ (l : List ℕ). slice_get l n ≡ Some x.start) records_fit.each_start (slice_get-map start_of r.runs n ∙ ap (option_map start_of) x_at) in
-      laws.differ (session_told told final.declared kept.crew.logger.slots first_files run_files r) members own.engine (Close (Ok tt) ∷ []) main_calls.engine
+      laws.differ (session_told (members_told read) final.declared kept.logger.slots first_files run_files r) members own.engine (Close (Ok tt) ∷ []) main_calls.engine
       number other run.start (of number run at) (of other second second_at ∙ ap Some (sym same))
 
   -- each answer that the run number got
-  numbers : RunLaws → (holds : SessionHolds (session_told told final.declared kept.crew.logger.slots first_files run_files r)) → AllByRecursion GivesNumber own.database
+  numbers : RunLaws → (holds : SessionHolds (session_told (members_told read) final.declared kept.logger.slots first_files run_files r)) → AllByRecursion GivesNumber own.database
   numbers laws holds =
-      let c : ClosedSession = session_told told final.declared kept.crew.logger.slots first_files run_files r in
+      let c : ClosedSession = session_told (members_told read) final.declared kept.logger.slots first_files run_files r in
       subst (λ (calls : List WatchEntry). AllByRecursion GivesNumber calls) main_calls.database
       (calls_give laws.stays laws.given main_caller (unwatched session_rows) (history_of r.database) r.database.value.database histories.database
       (session_spares laws.sets laws.listed c holds own main_calls.database kept.spares) laws.opens)
 
-  channels : AreDeclared final.declared.channels kept.crew.logger.slots
-  channels = subst (λ (l : List ChannelSpec). AreDeclared l kept.crew.logger.slots) (ap (λ (d : Declared). d.channels) kept.declared) kept.channels
+  channels : AreDeclared final.declared.channels kept.logger.slots
+  channels = subst (λ (lists : DeclaredLists). AreDeclared lists.channels kept.logger.slots) its_lists kept.channels
 
-  pub keeps : RunLaws → EndsSo told.read r → HoldsSo told.read r → StartsOverSo told.read r → CountsSo told.read r → OneAnswerSo told.read r → RisesToldSo told.read r → NamesSo told.read r → RecordsSo told.read r → RefusalsSo told.read r → KeepsSession told first_files final run_files r
-  keeps number_laws ends hold starts counts one rises names_so records refusals =
-      let laws = laws_read ends hold starts counts one rises names_so records refusals in
+  pub keeps : RunLaws → EndedLaws read r → KeepsSession (members_told read) first_files final run_files r
+  keeps number_laws ended_laws =
+      let laws = laws_read ended_laws in
       let given : AllByRecursion GivesNumber own.database = numbers number_laws laws.holds in
       record {
         sound = kept.sound;
@@ -278,7 +257,7 @@ module _ {D F : Type 0} {g : _} (told : MemberTold Generator F) (takes : told.ta
           fit = records_fit;
           differ = differ number_laws laws.members;
           numbers = given;
-          slots = kept.crew.logger.slots;
+          slots = kept.logger.slots;
           channels = channels;
           members = laws.members;
           holds = laws.holds;
@@ -288,8 +267,8 @@ module _ {D F : Type 0} {g : _} (told : MemberTold Generator F) (takes : told.ta
           rises = laws.rises;
           left = laws.left;
           runs = λ number run at whole.
-              run_tells (session_told told final.declared kept.crew.logger.slots first_files run_files r) final.declared r.buffers kept.sound many_buffers refl refl refl channels
-              laws.holds.moments own given (told.read first_files) (told.read run_files) laws.counts laws.holds.composed number_laws.listed number_laws.among run (laws.so number run at whole);
+              run_tells (session_told (members_told read) final.declared kept.logger.slots first_files run_files r) final.declared r.buffers kept.sound many_buffers refl refl refl channels
+              laws.holds.moments own given (read first_files) (read run_files) laws.counts laws.holds.composed number_laws.listed number_laws.among run (laws.so number run at whole);
           refusals = laws.refused;
         };
       }

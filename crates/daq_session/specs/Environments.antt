@@ -1,11 +1,9 @@
 -- What the outside tells of itself, before a call and after it.
 use Rattle.daq_io.specs.Told.{AheadTold, FilesTold, SinkTold, SourceTold}
-use Rattle.std.specs.Prelude.{ℕ, Bool, List, Option}
-use Rattle.daq_io.specs.Seen.{Seen}
 use Rattle.daq_io.specs.declared.objects.Outside.{Outside}
 use Rattle.frontend_kit.specs.declared.generator.Generator.{Generator}
-use Rattle.daq_members.specs.Members.{MemberTold, member_told}
-use Rattle.session_objects.specs.Members.{generator_makes, generator_takes}
+use Rattle.daq_members.specs.Members.{MemberTold}
+use Rattle.session_objects.specs.Members.{members_told}
 
 -- What is left of the script, the text written so far, the run files, the files of the database and the clock, with the counts
 -- of faults.
@@ -30,7 +28,7 @@ abbrev pub outside_told : {S O F E C : Type 0} → (source : S → SourceTold) �
 outside_told source sink files dumps clock = record {
   source = source;
   sink = sink;
-  crew = member_told generator_takes generator_makes files;
+  crew = members_told files;
   dumps = dumps;
   clock = clock;
 }

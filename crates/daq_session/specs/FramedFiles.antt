@@ -8,7 +8,7 @@ use Rattle.daq_io.specs.Seen.{Seen}
 use Rattle.turn_lock.specs.Closing.{history_of}
 use Rattle.buffer_core.specs.Window.{Sent}
 use Rattle.buffer_core.specs.Runs.{segment}
-use Rattle.sub_files.specs.Cuts.{joined}
+use Rattle.sub_files.specs.Cuts.{events_of_pieces}
 use Rattle.mid_logger.specs.declared.channel_spec.ChannelSpec.{ChannelSpec}
 use Rattle.session_runs.specs.declared.records.ChannelFiles.{ChannelFiles}
 use Rattle.session_runs.specs.declared.records.FrontTally.{FrontTally}
@@ -44,7 +44,7 @@ pub record AreFramedPieces (declared : Declared) (buffers : List BufferRecord) (
   pub each : length pieces ≡ written.told.files
   pub framed : (number : ℕ) → (piece : List Event) → slice_get pieces number ≡ Some piece →
       IsFileOfPiece files run first_dump last_dump written number piece
-  pub join : joined pieces ≡ events_of_run channel buffer run.start
+  pub join : events_of_pieces pieces ≡ events_of_run channel buffer run.start
   pub sent : (index place : ℕ) → (x : Sent) → slice_get (segment (history_of buffer.closed) run.start) index ≡ Some (place, x) →
       IsFrontEvent declared run quota first_dump channel.buffer x.event
   pub fronts : (client : ℕ) → (d : FrontDeclared) → slice_get declared.fronts client ≡ Some d →

@@ -6,5 +6,6 @@ pub mod LinesEnded
 pub mod Environments
 pub mod ToldRecords
 pub mod Sessions
+pub mod Opened
 pub mod Played
 pub mod FramedFiles

@@ -1,26 +1,32 @@
 -- How a script is played, part by part: what each part leaves to the next.
 use Rattle.std.specs.Prelude.{◌≡◌, ℕ, zero, suc, false, List, [], Option, Some, None, ⊤}
+use Rattle.std.specs.List.{AllByRecursion}
 use Rattle.daq_types.specs.Callers.{main_caller}
 use Rattle.frontend_kit.specs.declared.generator.Generator.{Generator}
 use Rattle.loggers.specs.OtherFiles.{AreDeclared}
+use Rattle.turn_lock.specs.declared.roster.Passes.{Passes}
+use Rattle.odb_tree.specs.Noting.{Watched}
 use Rattle.odb_watch.specs.DatabasePorts.{DatabaseAccess, own_watched}
 use Rattle.daq_session.specs.SessionRows.{session_rows}
 use Rattle.odb_watch.specs.Steps.{unwatched}
 use Rattle.odb_watch.specs.declared.entry.WatchEntry.{WatchEntry}
 use Rattle.odb_lock.specs.declared.access.SharedAccess.{SharedAccess}
+use Rattle.odb_lock.specs.declared.locked.LockedDatabase.{LockedDatabase}
 use Rattle.odb_lock.specs.declared.shared.SharedOdb.{SharedOdb}
 use Rattle.odb_lock.specs.SharedAccesses.{access_by_pass, odb_identity, shared_access}
 use Rattle.odb_lock.specs.SharedOdbs.{first_database, odb_lock_of}
 use Rattle.session_runs.specs.declared.records.RunRecord.{RunRecord}
-use Rattle.daq_members.specs.Members.{MemberTold}
-use Rattle.daq_members.specs.Crews.{CrewSeen, KeepContracts}
+use Rattle.daq_members.specs.Members.{MemberSeen, MemberTold}
+use Rattle.daq_members.specs.LoggerSeats.{LoggerSeen}
+use Rattle.daq_members.specs.Stay.{KeepContracts}
 use Rattle.session_setup.specs.declared.declared.DeclaredLists.{DeclaredLists}
 use Rattle.session_setup.specs.Setup.{AreSound, Declared, declared_by}
+use Rattle.session_setup.specs.SetupLines.{opened_with_defaults}
 use Rattle.session_objects.specs.declared.objects.SessionObjects.{SessionObjects}
 use Rattle.session_objects.specs.declared.passes.SessionPasses.{SessionPasses}
 use Rattle.session_objects.specs.declared.record.SessionRecord.{SessionRecord}
 use Rattle.session_objects.specs.Calls.{SessionCalls}
-use Rattle.session_objects.specs.Members.{AreMembersOf, session_calls}
+use Rattle.session_objects.specs.Members.{AreMembersOf, HasLogger, HasNewMembers, session_calls}
 use Rattle.session_objects.specs.Objects.{AreObjectsOf, HaveCallers}
 use Rattle.session_objects.specs.Records.{HasCalls, HoldsCalls, HoldsHistories}
 use Rattle.session_objects.specs.Rosters.{KeepsPasses}
@@ -30,8 +36,10 @@ use Rattle.console.specs.declared.endings.Ending.{Ending}
 use Rattle.console.specs.declared.endings.Ending.TheVariants.{Halted}
 use Rattle.console.specs.declared.halts.Halt.TheVariants.{NoMemory as no_memory}
 use Rattle.console.specs.Closing.{EndCounts}
+use Rattle.session_commands.specs.declared.main_play.MainPlay.{MainPlay}
 use Rattle.session_commands.specs.declared.script.Script.{Script}
 use Rattle.session_commands.specs.declared.side.MainSide.{MainSide}
+use Rattle.session_commands.specs.declared.unopened.Unopened.{Unopened as Setup}
 use Rattle.session_commands.specs.Endings.{NotesFailed, closing_calls}
 use Rattle.session_commands.specs.Finishing.{FinishedAt, FinishesLine, FinishesOpening, ScriptAt, SideTold, script_point, stage_open, stage_unopened}
 use Rattle.session_commands.specs.Keeping.{EndsOver, KnowsRuns, RunsKept, StageKept, StageSpares}
@@ -40,6 +48,8 @@ use Rattle.daq_session.specs.declared.ends.ScriptEnd.TheVariants.{NoMemory}
 use Rattle.daq_session.specs.declared.left.EndedObjects.{EndedObjects}
 use Rattle.daq_session.specs.declared.left.LeftBehind.{LeftBehind}
 use Rattle.daq_session.specs.declared.left.LeftBehind.TheVariants.{Session, Unopened, Nothing}
+use Rattle.daq_session.specs.declared.places.Places.{Places}
+use Rattle.daq_session.specs.declared.places.Scene.{Scene}
 use Rattle.daq_session.specs.declared.played.LinesEnd.{LinesEnd}
 use Rattle.daq_session.specs.declared.played.OpenedEnd.{OpenedEnd}
 use Rattle.daq_session.specs.Environments.{OutsideTold}
@@ -56,23 +66,23 @@ abbrev pub side_of : {D S O F E C : Type 0} {g : _} → OutsideTold S O F E C �
 side_of told = record { access = access_by_pass; files = told.dumps; clock = told.clock }
 
 -- what is left of a script that opened no session
-abbrev pub unopened_lines : {P S O E C F K : Type 0} {d : _} {e : _} → Ending → MainSide P E C d e → F → K → Script S O → LinesEnd S O E C F K
-unopened_lines ending side run_files pick script = record {
+abbrev pub unopened_lines : {P S O E C F K G : Type 0} {d : _} {e : _} → Ending → MainSide P E C d e → Scene S O F K G → LinesEnd S O E C F K
+unopened_lines ending side scene = record {
   ending = ending;
   closing = None;
   failed = false;
   replies = side.database.replies;
   odb_files = side.database.files;
   clock = side.clock;
-  run_files = run_files;
-  pick = pick;
-  script = script;
+  run_files = scene.members.run_files;
+  pick = scene.members.pick;
+  script = scene.script;
 }
 
 -- The lines ended so over this last stage, and what is behind them: the counts of faults of source and sink are those of such an
 -- end; that of the run files rose exactly where it was noted; and what the outside tells, and what came of the lines that called
 -- the files of the dumps, stand in the stage.
-pub record TellsEnd {S O F E C K : Type 0} (told : OutsideTold S O F E C) (before : Script S O) (first_files : F)
+pub record TellsScriptEnd {S O F E C K : Type 0} (told : OutsideTold S O F E C) (before : Script S O) (first_files : F)
     (lines : LinesEnd S O E C F K) (final : SessionStage) : Type 0 where
   pub counts : EndCounts lines.ending lines.closing (told.source before.src).faults (told.source lines.script.src).faults
       (told.sink before.out).faults (told.sink lines.script.out).faults
@@ -92,14 +102,15 @@ pub record OpenedEnds {D F : Type 0} {g : _} (told : MemberTold Generator F) (li
   pub kept : records ≡ last.runs
   pub knows : KnowsRuns last
   pub caller : access.caller ≡ main_caller
-  pub crew : CrewSeen Generator F
-  pub members : AreMembersOf lists.fronts lists.analyzers objects shared crew.fronts crew.logger crew.analyzers
-  pub keep : KeepContracts told crew
-  pub calls : HasCalls (session_calls lists.fronts lists.analyzers (closing_calls last.main.own) access.seen crew.fronts crew.logger
-      crew.analyzers) objects shared passes
-  pub channels : AreDeclared lists.channels crew.logger.slots
-  pub first : crew.logger.first ≡ first_files
-  pub files : crew.logger.files ≡ run_files
+  pub members : List (MemberSeen Generator F)
+  pub are : AreMembersOf lists objects shared members
+  pub keep : KeepContracts told members
+  pub calls : HasCalls (session_calls lists (closing_calls last.main.own) access.seen members) objects shared passes
+  pub logger : LoggerSeen F
+  pub has_logger : HasLogger lists members logger
+  pub channels : AreDeclared lists.channels logger.slots
+  pub first : logger.first ≡ first_files
+  pub files : logger.files ≡ run_files
 
 -- All passes are back, and the records of the runs; or there are none, where memory was wanting to open the session, and the run
 -- files are what they were.
@@ -111,25 +122,39 @@ ObjectsEnd told lists objects shared first_files final ending run_files (Some (p
     (declared_by lists ≡ final.declared) × ((last : RunsSeen) × (final.runs ≡ Some last)
     × OpenedEnds told lists objects shared first_files final.database.access last passes records run_files)
 
--- An open session was played from the line that opened it to the end of its script, over its objects.
-pub record PlaysOpened {D S O F E C K : Type 0} {g : _} {d : _} {e : _} (told : OutsideTold S O F E C) (lists : DeclaredLists)
-    (objects : SessionObjects) (shared : SharedOdb D) (first_files : F) (runs : RunsSeen) (side : MainSide (SharedAccess D g) E C d e)
-    (before : Script S O) (end : OpenedEnd D S O E C F K g) : Type 0 where
-  pub final : SessionStage
-  pub tells : TellsEnd told before first_files end.lines final
-  pub ends : ObjectsEnd told.crew lists objects shared first_files final end.lines.ending end.lines.run_files end.session
-  pub finishes : FinishesLine (lines_at told before) (lines_at told end.lines.script) (stage_open (side_of told) lists runs side) final
-      end.lines.ending end.lines.closing
+-- Parts of a script.
 
--- A session of these declarations was opened over its objects, and played to the end of its script, from its first start on.
-pub record PlaysObjects {D S O F E C K : Type 0} {g : _} {d : _} {e : _} (told : OutsideTold S O F E C) (lists : DeclaredLists)
-    (objects : SessionObjects) (shared : SharedOdb D) (first_files : F) (quota : ℕ) (declared : Declared)
-    (side : MainSide (SharedAccess D g) E C d e) (before : Script S O) (end : OpenedEnd D S O E C F K g) : Type 0 where
+-- A script was played to its end, from where it stood and with the run files as they were then: over this last stage its lines ended
+-- so, this is so of what it leaves, and it came to its end so.
+pub record PlaysThrough {S O F E C K : Type 0} (told : OutsideTold S O F E C) (before : Script S O) (first_files : F)
+    (lines : LinesEnd S O E C F K) (Ends Finishes : SessionStage → Type 0) : Type 0 where
   pub final : SessionStage
-  pub tells : TellsEnd told before first_files end.lines final
-  pub ends : ObjectsEnd told.crew lists objects shared first_files final end.lines.ending end.lines.run_files end.session
-  pub finishes : FinishesOpening (lines_at told before) (lines_at told end.lines.script) (stage_unopened (side_of told) quota declared side)
-      final end.lines.ending end.lines.closing
+  pub tells : TellsScriptEnd told before first_files lines final
+  pub ends : Ends final
+  pub finishes : Finishes final
+
+-- An open session was played from the line that opened it to the end of its script, over its objects, with members that had made no
+-- call before.
+abbrev pub PlaysOpened : {D S O F E C K G : Type 0} {g : _} {s : _} {o : _} {d : _} {e : _} {c : _} → OutsideTold S O F E C → Places D G →
+    List (MemberSeen Generator F) → MainPlay S O (SharedAccess D g) E C s o d e c → OpenedEnd D S O E C F K g → Type 0
+PlaysOpened {F = F} told places members main end = (first_files : F) →
+    HasNewMembers places.lists.now places.objects.now places.shared.now first_files members →
+    PlaysThrough told main.script first_files end.lines
+    (λ final. ObjectsEnd told.crew places.lists.now places.objects.now places.shared.now first_files final end.lines.ending
+    end.lines.run_files end.session)
+    (λ final. FinishesLine (lines_at told main.script) (lines_at told end.lines.script)
+    (stage_open (side_of told) places.lists.now main.runs main.side) final end.lines.ending end.lines.closing)
+
+-- A session was opened over its objects, which opened for its declarations, and played to the end of its script, from its first
+-- start on.
+abbrev pub PlaysObjects : {D S O F E C K G : Type 0} {g : _} {d : _} {e : _} → OutsideTold S O F E C → Places D G →
+    MainSide (SharedAccess D g) E C d e → Scene S O F K G → OpenedEnd D S O E C F K g → Type 0
+PlaysObjects told places side scene end = (declared : Declared) → opened_with_defaults declared ≡ declared_by places.lists.now →
+    PlaysThrough told scene.script scene.members.run_files end.lines
+    (λ final. ObjectsEnd told.crew places.lists.now places.objects.now places.shared.now scene.members.run_files final end.lines.ending
+    end.lines.run_files end.session)
+    (λ final. FinishesOpening (lines_at told scene.script) (lines_at told end.lines.script)
+    (stage_unopened (side_of told) places.quota declared side) final end.lines.ending end.lines.closing)
 
 -- What is left behind a script.
 
@@ -140,7 +165,7 @@ pub record IsEndedSession {D F : Type 0} {g : _} (told : MemberTold Generator F)
   pub declared : declared_by lists ≡ final.declared
   pub sound : AreSound final.declared
   pub are : AreObjectsOf lists ended.objects
-  pub callers : HaveCallers lists.fronts lists.analyzers ended.objects shared
+  pub callers : HaveCallers lists ended.objects shared
   pub last : RunsSeen
   pub is_open : final.runs ≡ Some last
   pub ends : OpenedEnds told lists ended.objects shared first_files final.database.access last ended.passes ended.runs run_files
@@ -149,6 +174,11 @@ pub record IsEndedSession {D F : Type 0} {g : _} (told : MemberTold Generator F)
 abbrev pub seen_by_main : (calls : List (ℕ × WatchEntry)) → ℕ → List (ℕ × WatchEntry) → Type 0
 seen_by_main calls zero seen = seen ≡ calls
 seen_by_main calls (suc number) seen = seen ≡ []
+
+-- Where what these passes have seen is the main thread's, all calls are its own.
+abbrev pub MainCalledAlone : {D : Type 0} {g : _} → SharedOdb D → Passes (LockedDatabase D) Watched WatchEntry g → Type 0
+MainCalledAlone shared passes = (seen : List (ℕ × WatchEntry)) → KeepsPasses (seen_by_main seen) [] (odb_lock_of shared) passes →
+    AllByRecursion (λ call. call.0 ≡ main_caller) seen
 
 -- The passes of the database are left, and all but the main thread's have seen nothing.
 abbrev pub IsMainAlone : {D : Type 0} {g : _} → SharedOdb D → List (ℕ × WatchEntry) → LeftBehind D g → Type 0
@@ -168,25 +198,24 @@ SessionEnds told shared first_files final ending run_files Nothing =
     (final.runs ≡ None) × (run_files ≡ first_files) × (ending ≡ Halted no_memory)
 
 -- A session of these declarations was to be opened, and its script was played to the end from its first start on.
-pub record PlaysSession {D S O F E C K : Type 0} {g : _} {d : _} {e : _} (told : OutsideTold S O F E C) (shared : SharedOdb D) (first_files : F)
-    (quota : ℕ) (declared : Declared) (side : MainSide (SharedAccess D g) E C d e) (before : Script S O)
-    (lines : LinesEnd S O E C F K) (left : LeftBehind D g) : Type 0 where
-  pub final : SessionStage
-  pub tells : TellsEnd told before first_files lines final
-  pub ends : SessionEnds told.crew shared first_files final lines.ending lines.run_files left
-  pub finishes : FinishesOpening (lines_at told before) (lines_at told lines.script) (stage_unopened (side_of told) quota declared side)
-      final lines.ending lines.closing
+abbrev pub PlaysSession : {D S O F E C K G : Type 0} {g : _} {d : _} {e : _} {c : _} → OutsideTold S O F E C → SharedOdb D →
+    Setup (SharedAccess D g) E C d e c → Scene S O F K G → LinesEnd S O E C F K × LeftBehind D g → Type 0
+PlaysSession told shared setup scene end =
+    PlaysThrough told scene.script scene.members.run_files end.0
+    (λ final. SessionEnds told.crew shared scene.members.run_files final end.0.ending end.0.run_files end.1)
+    (λ final. FinishesOpening (lines_at told scene.script) (lines_at told end.0.script)
+    (stage_unopened (side_of told) setup.quota setup.declarations setup.side) final end.0.ending end.0.closing)
 
 -- A script was played from its beginning to its end, in a session in which nothing was declared, over a database that its main thread
--- had not called before: these were the files of dumps and the clock.
-pub record PlaysAll {D S O F E C K : Type 0} {g : _} (told : OutsideTold S O F E C) (shared : SharedOdb D) (odb_files : E) (clock : C)
-    (first_files : F) (before : Script S O) (lines : LinesEnd S O E C F K) (left : LeftBehind D g) : Type 0 where
-  pub final : SessionStage
-  pub tells : TellsEnd told before first_files lines final
-  pub ends : SessionEnds told.crew shared first_files final lines.ending lines.run_files left
-  pub finished : FinishedAt
-      (first_stage (shared_access (odb_identity shared) main_caller []) (told.dumps odb_files) (told.clock clock))
-      (told.source before.src) (told.sink before.out).written lines.ending lines.closing (lines_at told lines.script) final
+-- had not called before, with these files of dumps and this clock.
+abbrev pub PlaysAll : {D S O F E C K G : Type 0} {g : _} {d : _} {e : _} {c : _} → OutsideTold S O F E C → SharedOdb D →
+    Setup (SharedAccess D g) E C d e c → Scene S O F K G → LinesEnd S O E C F K × LeftBehind D g → Type 0
+PlaysAll told shared setup scene end =
+    PlaysThrough told scene.script scene.members.run_files end.0
+    (λ final. SessionEnds told.crew shared scene.members.run_files final end.0.ending end.0.run_files end.1)
+    (λ final. FinishedAt
+    (first_stage (shared_access (odb_identity shared) main_caller []) (told.dumps setup.side.database.files) (told.clock setup.side.clock))
+    (told.source scene.script.src) (told.sink scene.script.out).written end.0.ending end.0.closing (lines_at told end.0.script) final)
 
 -- What is kept of it.
 
@@ -210,22 +239,22 @@ pub record IsSessionRecord {D F : Type 0} {g : _} (told : MemberTold Generator F
   pub rows : first_database shared ≡ unwatched session_rows
   pub last : RunsSeen
   pub is_open : final.runs ≡ Some last
-  pub callers : HaveCallers lists.fronts lists.analyzers objects shared
+  pub callers : HaveCallers lists objects shared
   pub fits : RunsKept final.declared (own_watched final.database.access) last
   pub over : last.on ≡ None
   pub spares : StageSpares final
   pub kept : r.runs ≡ last.runs
   pub caller : final.database.access.caller ≡ main_caller
-  pub crew : CrewSeen Generator F
-  pub members : AreMembersOf lists.fronts lists.analyzers objects shared crew.fronts crew.logger crew.analyzers
-  pub keep : KeepContracts told crew
-  pub channels : AreDeclared lists.channels crew.logger.slots
-  pub first : crew.logger.first ≡ first_files
-  pub files : crew.logger.files ≡ run_files
+  pub members : List (MemberSeen Generator F)
+  pub are_members : AreMembersOf lists objects shared members
+  pub keep : KeepContracts told members
+  pub logger : LoggerSeen F
+  pub has_logger : HasLogger lists members logger
+  pub channels : AreDeclared lists.channels logger.slots
+  pub first : logger.first ≡ first_files
+  pub files : logger.files ≡ run_files
   pub histories : HoldsHistories objects shared r
-  pub calls : HoldsCalls
-      (session_calls lists.fronts lists.analyzers (closing_calls last.main.own) final.database.access.seen crew.fronts crew.logger crew.analyzers)
-      objects shared r
+  pub calls : HoldsCalls (session_calls lists (closing_calls last.main.own) final.database.access.seen members) objects shared r
 
 -- such a record keeps the session
 abbrev pub RecordsKeep : {D F : Type 0} {g : _} → MemberTold Generator F → SessionRecord D g → Type 0

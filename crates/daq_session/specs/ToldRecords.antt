@@ -13,7 +13,7 @@ use Rattle.event.specs.Events.{encoding}
 use Rattle.event.specs.RunFile.{IsRunFile, end_record}
 use Rattle.turn_lock.specs.Closing.{history_of}
 use Rattle.buffer_core.specs.Window.{Sent, opening}
-use Rattle.buffer_core.specs.Histories.{IsLegal}
+use Rattle.buffer_core.specs.Histories.{IsLegal, replay}
 use Rattle.buffer_core.specs.Delivered.{Delivers}
 use Rattle.buffer_core.specs.Readers.{wanted}
 use Rattle.buffer_core.specs.Runs.{KeepsRuns, segment}
@@ -24,6 +24,7 @@ use Rattle.transitions.specs.declared.entry.EngineEntry.TheVariants.{Close}
 use Rattle.transitions.specs.EngineCalls.{order_for}
 use Rattle.transitions.specs.Engines.{engine_opening}
 use Rattle.transitions.specs.TurnOrder.{TurnsInOrder}
+use Rattle.transitions.specs.EngineHistories.{engine_replay}
 use Rattle.member_model.specs.RunEngines.{EngineHistory, IsLegalEngine}
 use Rattle.daq_session.specs.SessionRows.{session_rows}
 use Rattle.odb_watch.specs.Steps.{LeadsDatabase, unwatched}
@@ -49,6 +50,7 @@ use Rattle.session_runs.specs.RunsFit.{MainOwn, RecordsFit}
 use Rattle.session_setup.specs.Setup.{Declared}
 use Rattle.session_setup.specs.declared.declared.AnalyzerDeclared.{AnalyzerDeclared}
 use Rattle.session_setup.specs.declared.declared.BufferDeclared.{BufferDeclared}
+use Rattle.session_setup.specs.declared.declared.DeclaredLists.{DeclaredLists}
 use Rattle.session_setup.specs.declared.declared.FrontDeclared.{FrontDeclared}
 use Rattle.session_objects.specs.declared.record.BufferRecord.{BufferRecord}
 use Rattle.session_objects.specs.declared.record.SessionRecord.{SessionRecord}
@@ -67,23 +69,25 @@ use Rattle.daq_session.specs.RunNumbers.{GivesNumber, IsNumberBefore}
 
 -- Histories.
 
--- The buffer of the record is the one that was declared. Its history is legal from a buffer of that size which opened empty;
--- each client got what it is owed; and the events of each run stand between its marks.
+-- The buffer of the record is the one that was declared. Its history is legal from a buffer of that size which opened empty, and leads
+-- to what the buffer was left as; each client got what it is owed; and the events of each run stand between its marks.
 pub record IsHistoryOf (declared : BufferDeclared) (b : BufferRecord) : Type 0 where
   pub name : b.name ≡ declared.name
   pub size : b.size ≡ declared.size
   pub legal : IsLegal (opening b.size) (history_of b.closed)
+  pub left : b.closed.value.buffer.window ≡ replay (opening b.size) (history_of b.closed)
   pub delivers : Delivers b.size (history_of b.closed)
   pub runs : KeepsRuns (history_of b.closed)
 
--- There is one history for each buffer that was declared, in order. That of the engine is legal from a new one, and each
--- client's turns follow its transitions. That of the database is legal from the keys of runs alone and no watch, and each
+-- There is one history for each buffer that was declared, in order. That of the engine is legal from a new one, leads to what the engine
+-- was left as, and each client's turns follow its transitions. That of the database is legal from the keys of runs alone and no watch, and each
 -- watch was told the changes that it was due.
 pub record AreHistoriesOf {D : Type 0} {g : _} (declared : Declared) (r : SessionRecord D g) : Type 0 where
   pub many : length r.buffers ≡ length declared.buffers
   pub buffers : (number : ℕ) → (d : BufferDeclared) → (b : BufferRecord) → slice_get declared.buffers number ≡ Some d →
       slice_get r.buffers number ≡ Some b → IsHistoryOf d b
   pub engine : IsLegalEngine engine_opening (history_of r.engine)
+  pub engine_left : r.engine.value.engine ≡ engine_replay engine_opening (history_of r.engine)
   pub follows : TurnsInOrder (history_of r.engine)
   pub database : LeadsDatabase (unwatched session_rows) (history_of r.database) r.database.value.database
   pub notes : TellsDueNotes session_rows (history_of r.database)
@@ -214,11 +218,20 @@ pub record RunTells (c : ClosedSession) (moments : (client : ℕ) → List ℕ) 
       (tally : ReportTally) × (slice_get run.reports place ≡ Some tally)
       × IsCountedInRun (suc (length declared.fronts) + place) d buffers c.engine run.start tally
 
+-- these declarations, in lists for themselves
+abbrev pub lists_declared : Declared → DeclaredLists
+lists_declared declared = record {
+  buffers = declared.buffers;
+  fronts = declared.fronts;
+  channels = declared.channels;
+  analyzers = declared.analyzers;
+}
+
 -- The session of a record as its laws see it: its database had the keys of runs; and its logger, with these channels, had the
 -- run files as they were at first and are now.
 abbrev pub session_told : {D F : Type 0} {g : _} → MemberTold Generator F → Declared → List (Option Channel) → (first_files files : F) → SessionRecord D g → ClosedSession
 session_told told declared slots first_files files r =
-    closed_session (unwatched session_rows) declared.fronts declared.analyzers slots (told.read first_files).seen (told.read files).seen r
+    closed_session (unwatched session_rows) (lists_declared declared) slots (told.read first_files).seen (told.read files).seen r
 
 -- What the record of a session of these declarations tells, in which these are the main thread's calls: the histories of its
 -- objects; one record for each start that was begun, in order, each of which fits these calls, and no two of one start; each answer
@@ -232,7 +245,7 @@ pub record RecordTells {D F : Type 0} {g : _} (told : MemberTold Generator F) (d
     (first_files files : F) (r : SessionRecord D g) : Type 0 where
   pub histories : AreHistoriesOf declared r
   pub main : AreMainCalls own r
-  pub fit : RecordsFit (clients_declared declared.fronts declared.channels declared.analyzers) own r.runs
+  pub fit : RecordsFit (clients_declared (lists_declared declared)) own r.runs
   pub differ : (number other : ℕ) → (run second : RunRecord) → slice_get r.runs number ≡ Some run →
       slice_get r.runs other ≡ Some second → run.start ≡ second.start → number ≡ other
   pub numbers : AllByRecursion GivesNumber own.database

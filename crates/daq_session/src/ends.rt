@@ -1,9 +1,9 @@
 // Why a script ended.
-ghost use Rattle.std.specs.Prelude.{◌≡◌, ℕ, true, List, Option, None};
+ghost use Rattle.std.specs.Prelude.{◌≡◌, ℕ, true, None};
 ghost use Rattle.std.specs.List.{list_any};
-ghost use Rattle.session_commands.specs.Endings.{NotesFailed, asks_files, is_fault};
-ghost use Rattle.daq_session.specs.Endings.{FaultedFile, script_end};
-ghost use Rattle.daq_session.specs.LinesEnded.{HasEnd};
+ghost use Rattle.session_commands.specs.Endings.{asks_files, is_fault};
+ghost use Rattle.daq_session.specs.Endings.{script_end};
+ghost use Rattle.daq_session.specs.LinesEnded.{HasCause, HasEnd, NamesFaulted};
 
 use crate::played::LinesEnd;
 use console::{Ending, Halt, Refusals};
@@ -56,10 +56,7 @@ fn faulted_name<F: Files, E: Files>(
     replies: &[(u64, FileReply)],
     odb_files: &E,
 ) -> Option<FileName>
-    ensures { (run odb : ℕ) → NotesFailed failed run (F.told run_files.now).faults
-        → NotesFailed (list_any is_fault replies.now) odb (E.told odb_files.now).faults
-        → FaultedFile run (F.told run_files.now).faults (F.told run_files.now).first odb
-        (E.told odb_files.now).faults (E.told odb_files.now).first result }
+    ensures { NamesFaulted failed replies.now (F.told run_files.now) (E.told odb_files.now) result }
 {
     if failed {
         return run_files.first_fault();
@@ -97,13 +94,7 @@ fn end_by<F: Files, E: Files>(
     replies: &[(u64, FileReply)],
     odb_files: &E,
 ) -> ScriptEnd
-    ensures { (run odb : ℕ)
-        → (asks_files ending ≡ true → NotesFailed failed run (F.told run_files.now).faults
-        × NotesFailed (list_any is_fault replies.now) odb (E.told odb_files.now).faults)
-        → (faulted : Option (List ℕ))
-        × (asks_files ending ≡ true → FaultedFile run (F.told run_files.now).faults
-        (F.told run_files.now).first odb (E.told odb_files.now).faults (E.told odb_files.now).first faulted)
-        × (result ≡ script_end ending faulted refusals.now) }
+    ensures { HasCause failed replies.now (F.told run_files.now) (E.told odb_files.now) ending refusals.now result }
 {
     match ending {
         Ending::Halted {
@@ -124,7 +115,7 @@ fn end_by<F: Files, E: Files>(
 
 /// Why a script ended whose lines came to this.
 pub fn end_of<S, O, E: Files, C, F: Files, K>(lines: &LinesEnd<S, O, E, C, F, K>) -> ScriptEnd
-    ensures { (run odb : ℕ) → HasEnd F.told E.told run odb lines.now result }
+    ensures { HasEnd F.told E.told lines.now result }
 {
     end_by(
         lines.ending.with_closing(lines.closing),

@@ -1,6 +1,5 @@
 //! What the record of a session says. The function does nothing, and its contract is the law.
-ghost use Rattle.daq_members.specs.Members.{member_told};
-ghost use Rattle.session_objects.specs.Members.{generator_makes, generator_takes};
+ghost use Rattle.session_objects.specs.Members.{members_told};
 ghost use Rattle.daq_session.specs.Played.{RecordsKeep};
 
 use daq_io::Files;
@@ -22,7 +21,7 @@ use turn_lock::Machine;
 pub fn sessions_hold<D: Database, F: Files>(kept: &SessionRecord<D>)
 where
     LockedDatabase<D>: Machine<State = WatchedSeen, Entry = WatchEntry>,
-    ensures { RecordsKeep (member_told generator_takes generator_makes F.told) kept.now }
+    ensures { RecordsKeep (members_told F.told) kept.now }
 {
     run_number_stays_watched();
     run_number_given();

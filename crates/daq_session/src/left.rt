@@ -1,26 +1,23 @@
 // What is left behind a script, and what is kept of it.
-ghost use Rattle.std.specs.Prelude.{◌≡◌, ◌<◌, ◌∷◌, [], ℕ, List, Some};
-ghost use Rattle.std.specs.List.{AllByRecursion};
+ghost use Rattle.std.specs.Prelude.{◌≡◌, ◌<◌, ◌∷◌, [], Some};
 ghost use Rattle.daq_types.specs.Callers.{main_caller};
 ghost use Rattle.turn_lock.specs.Passes.{passes_of};
-ghost use Rattle.odb_watch.specs.declared.entry.WatchEntry.{WatchEntry as Called};
 ghost use Rattle.odb_lock.specs.SharedAccesses.{access_by_pass, odb_identity};
 ghost use Rattle.odb_lock.specs.SharedOdbs.{odb_lock_of};
-ghost use Rattle.daq_members.specs.Members.{member_told};
-ghost use Rattle.session_objects.specs.Members.{generator_makes, generator_takes};
+ghost use Rattle.session_objects.specs.Members.{members_told};
 ghost use Rattle.session_objects.specs.Records.{AreAllPasses};
 ghost use Rattle.session_objects.specs.Rosters.{KeepsFresh, KeepsPasses};
-ghost use Rattle.daq_session.specs.Played.{IsBack, IsMainAlone, KeepsLeft, seen_by_main, unopened_lines};
+ghost use Rattle.daq_session.specs.Played.{IsBack, IsMainAlone, KeepsLeft, MainCalledAlone, seen_by_main, unopened_lines};
 
 use crate::laws::sessions_hold;
-use crate::places::MemberSide;
+use crate::places::Scene;
 use crate::played::LinesEnd;
 use console::{DatabaseConsole, Ending};
 use daq_io::{Clock, Files, Gate, Pick, Sink, Source};
 use odb_lock::{LockedDatabase, OdbPasses, SharedAccess, SharedOdb, WatchedSeen};
 use odb_tree::Database;
 use odb_watch::WatchEntry;
-use session_commands::{MainSide, Script};
+use session_commands::MainSide;
 use session_objects::{RunRecords, SessionObjects, SessionPasses, SessionRecord};
 use turn_lock::Machine;
 
@@ -82,17 +79,15 @@ pub fn leave_unopened<
     side: MainSide<SharedAccess<'a, D>, E, C>,
     passes: OdbPasses<D>,
     ending: Ending,
-    members: MemberSide<'a, F, K, G>,
-    script: Script<S, O>,
+    scene: Scene<'a, S, O, F, K, G>,
 ) -> (LinesEnd<S, O, E, C, F, K>, LeftBehind<D>)
-    requires caller { (access_by_pass side.database.access).caller ≡ main_caller }
     requires database { (access_by_pass side.database.access).database ≡ odb_identity shared.now }
     requires others { KeepsFresh (main_caller ∷ []) (odb_lock_of shared.now) passes }
-    ensures lines { result.0 ≡ unopened_lines ending side.entry members.entry.run_files
-        members.entry.pick script }
+    ensures lines { result.0 ≡ unopened_lines ending side.entry scene.entry }
     ensures left { IsMainAlone shared.now (access_by_pass side.entry.database.access).seen result.1 }
 {
     let MainSide { database, clock } = side;
+    let Scene { script, members } = scene;
     let DatabaseConsole {
         access,
         files: odb_files,
@@ -117,9 +112,7 @@ pub fn leave_unopened<
 fn close_database<D: Database>(shared: SharedOdb<D>, passes: OdbPasses<D>)
     requires some { 0 < passes_of (odb_lock_of shared) }
     requires all { AreAllPasses (odb_lock_of shared) passes }
-    ensures alone { (seen : List (ℕ × Called))
-        → KeepsPasses (seen_by_main seen) [] (odb_lock_of shared) passes
-        → AllByRecursion (λ call. call.0 ≡ main_caller) seen }
+    ensures alone { MainCalledAlone shared passes }
 {
     let Ok(_) = shared.close(passes) else {
         unreachable!()
@@ -132,7 +125,7 @@ fn close_objects<D: Database, F: Files>(
     ended: EndedObjects<D>,
 ) -> SessionRecord<D>
     requires back { IsBack shared (LeftBehind.Session ended) }
-    ensures kept { KeepsLeft (member_told generator_takes generator_makes F.told) shared (LeftBehind.Session ended) (Some result) }
+    ensures kept { KeepsLeft (members_told F.told) shared (LeftBehind.Session ended) (Some result) }
 {
     let EndedObjects {
         objects,
@@ -151,7 +144,7 @@ pub fn close_left<D: Database, F: Files>(
 ) -> Option<SessionRecord<D>>
     requires some { 0 < passes_of (odb_lock_of shared) }
     requires back { IsBack shared left }
-    ensures kept { KeepsLeft (member_told generator_takes generator_makes F.told) shared left result }
+    ensures kept { KeepsLeft (members_told F.told) shared left result }
 {
     match left {
         LeftBehind::Session { ended } => Some(close_objects::<D, F>(shared, ended)),

@@ -1,5 +1,5 @@
 // The opening of a session, with its first start.
-ghost use Rattle.std.specs.Prelude.{◌≡◌, ◌≤◌, IfErr, IfOk, OnErr, OnOk, length, map};
+ghost use Rattle.std.specs.Prelude.{◌≡◌, ◌≤◌, IfErr, IfOk, OnErr, OnOk, length};
 ghost use Rattle.daq_types.specs.Callers.{main_caller};
 ghost use Rattle.turn_lock.specs.Passes.{number_of, IsOf};
 ghost use Rattle.turn_lock.specs.Roster.{IsFresh};
@@ -7,13 +7,10 @@ ghost use Rattle.odb_watch.specs.DatabasePorts.{IsSamePort};
 ghost use Rattle.odb_lock.specs.SharedAccesses.{access_by_pass};
 ghost use Rattle.transitions.specs.Engines.{engine_opening};
 ghost use Rattle.transition_lock.specs.SharedEngines.{engine_lock_of, first_engine};
-ghost use Rattle.session_lines.specs.Stages.{opened_runs};
-ghost use Rattle.session_lines.specs.RunLines.{CutsKeys, KeysMade};
+ghost use Rattle.session_lines.specs.Stages.{analyzer_names, front_names, opened_runs};
 ghost use Rattle.session_setup.specs.Setup.{declared_by};
-ghost use Rattle.session_objects.specs.Kept.{HasFreshBut, out_to, out_to_members};
-ghost use Rattle.session_objects.specs.Members.{HasNewMembers};
-ghost use Rattle.session_objects.specs.Objects.{SuitMembers};
 ghost use Rattle.daq_session.specs.NewDatabases.{IsNewDatabase};
+ghost use Rattle.daq_session.specs.Opened.{AreOpenFor, FrontKeysCut, FrontKeysMade, OpensMembers};
 
 use crate::places::{MemberSide, Places};
 use buffer_core::BufferPort;
@@ -35,7 +32,7 @@ use session_objects::{
     Membership, SessionMembers, SessionObjects, SessionPasses, member_names, take_main,
 };
 use session_runs::{AnalyzerNames, FrontNames, MainSeat, Runs};
-use session_setup::{AnalyzerDeclared, DeclaredLists, FrontDeclared};
+use session_setup::DeclaredLists;
 use std::alloc::Global;
 use std::sync::Wait;
 use transition_lock::EnginePass;
@@ -76,9 +73,10 @@ pub fn open_database(alloc: Global) -> Result<OpenDatabase<SessionTree>, NoMemor
 }
 
 /// The names of the front-ends.
-fn front_names(alloc: Global, fronts: &[FrontDeclared]) -> Result<FrontNames, NoMemory>
-    ensures { IfOk result (λ names. names ≡ map (λ front. front.name) fronts.now) }
+fn front_names(alloc: Global, lists: &DeclaredLists) -> Result<FrontNames, NoMemory>
+    ensures { IfOk result (λ names. names ≡ front_names (declared_by lists.now)) }
 {
+    let fronts = lists.fronts.as_slice();
     let mut names = BoundedList::new(alloc)?;
     for front in fronts {
         names.try_push(front.name)?;
@@ -87,9 +85,10 @@ fn front_names(alloc: Global, fronts: &[FrontDeclared]) -> Result<FrontNames, No
 }
 
 /// The names of the analyzers.
-fn analyzer_names(alloc: Global, analyzers: &[AnalyzerDeclared]) -> Result<AnalyzerNames, NoMemory>
-    ensures { IfOk result (λ names. names ≡ map (λ analyzer. analyzer.name) analyzers.now) }
+fn analyzer_names(alloc: Global, lists: &DeclaredLists) -> Result<AnalyzerNames, NoMemory>
+    ensures { IfOk result (λ names. names ≡ analyzer_names (declared_by lists.now)) }
 {
+    let analyzers = lists.analyzers.as_slice();
     let mut names = BoundedList::new(alloc)?;
     for analyzer in analyzers {
         names.try_push(analyzer.name)?;
@@ -102,17 +101,14 @@ fn front_keys<'a, R: Wait, D: Database>(
     rt: &R,
     alloc: Global,
     access: &mut SharedAccess<'a, D>,
-    fronts: &[FrontDeclared],
+    lists: &DeclaredLists,
 ) -> Result<(), NoMemory>
-    requires few { length fronts.now ≤ 32 }
     requires main { (access_by_pass access.old).caller ≡ main_caller }
-    ensures made { OnOk result (KeysMade (map (λ front. front.name) fronts.now)
-        (access_by_pass access.old) (access_by_pass access.new)) }
-    ensures cut { OnErr result (CutsKeys (map (λ front. front.name) fronts.now)
-        (access_by_pass access.old) (access_by_pass access.new)) }
+    ensures made { OnOk result (FrontKeysMade lists.now (access_by_pass access.old) (access_by_pass access.new)) }
+    ensures cut { OnErr result (FrontKeysCut lists.now (access_by_pass access.old) (access_by_pass access.new)) }
     ensures same { IsSamePort (access_by_pass access.old) (access_by_pass access.new) }
 {
-    let names = front_names(alloc, fronts)?;
+    let names = front_names(alloc, lists)?;
     make_keys(rt, alloc, access, names.as_slice())
 }
 
@@ -136,18 +132,15 @@ pub fn open_keys<'a, R: Wait, D: Database, F: Files + Drop>(
     alloc: Global,
     cooperative: bool,
     access: &mut SharedAccess<'a, D>,
-    fronts: &[FrontDeclared],
+    lists: &DeclaredLists,
 ) -> Result<SessionRoom<'a, D, F>, NoMemory>
-    requires few { length fronts.now ≤ 32 }
     requires main { (access_by_pass access.old).caller ≡ main_caller }
-    ensures made { OnOk result (KeysMade (map (λ front. front.name) fronts.now)
-        (access_by_pass access.old) (access_by_pass access.new)) }
-    ensures cut { OnErr result (CutsKeys (map (λ front. front.name) fronts.now)
-        (access_by_pass access.old) (access_by_pass access.new)) }
+    ensures made { OnOk result (FrontKeysMade lists.now (access_by_pass access.old) (access_by_pass access.new)) }
+    ensures cut { OnErr result (FrontKeysCut lists.now (access_by_pass access.old) (access_by_pass access.new)) }
     ensures same { IsSamePort (access_by_pass access.old) (access_by_pass access.new) }
 {
     let room = MemberRoom::new(alloc, cooperative)?;
-    match front_keys(rt, alloc, access, fronts) {
+    match front_keys(rt, alloc, access, lists) {
         Ok(()) => Ok(room),
         Err(NoMemory) => {
             let_go(room);
@@ -174,15 +167,19 @@ fn open_runs<'a, R: Wait>(
     ensures { IfOk result (λ runs. runs ≡ opened_runs quota (declared_by lists.now)
         objects.now.engine) }
 {
-    let fronts = lists.fronts.as_slice();
-    let analyzers = lists.analyzers.as_slice();
-    let channels = lists.channels.as_slice();
-    let names = front_names(alloc, fronts)?;
-    let named_analyzers = analyzer_names(alloc, analyzers)?;
-    let members = member_names(alloc, fronts, analyzers)?;
+    let fronts = front_names(alloc, lists)?;
+    let analyzers = analyzer_names(alloc, lists)?;
+    let members = member_names(alloc, lists)?;
     let mut seat = MainSeat::new(&objects.engine, main);
     seat.register_all(rt, &members);
-    Runs::new(alloc, seat, quota, names, channels, named_analyzers)
+    Runs::new(
+        alloc,
+        seat,
+        quota,
+        fronts,
+        lists.channels.as_slice(),
+        analyzers,
+    )
 }
 
 /// What the main thread keeps of the runs of a session that opens, its members, and their pick; or what the members were to meet
@@ -195,22 +192,8 @@ pub fn open_members<'a, R: Wait, D: Database, F: Files + Drop, K: Pick, G: Gate>
     passes: &mut SessionPasses<D>,
     side: MemberSide<'a, F, K, G>,
 ) -> Result<(Runs<'a>, SessionMembers<'a, D, F>, K), MemberSide<'a, F, K, G>>
-    requires main { number_of main ≡ main_caller }
-    requires own { IsOf (engine_lock_of places.now.objects.now.engine) main }
-    requires fresh { IsFresh main }
-    requires opening { first_engine places.now.objects.now.engine ≡ engine_opening }
-    requires suit { SuitMembers places.now.lists.now.fronts places.now.lists.now.analyzers
-        places.now.lists.now.channels places.now.objects.now places.now.shared.now }
-    requires out { HasFreshBut (out_to places.now.lists.now 0)
-        places.now.objects.now places.now.shared.now passes.old }
-    ensures runs { IfOk result (λ opened. opened.0 ≡ opened_runs places.now.quota
-        (declared_by places.now.lists.now) places.now.objects.now.engine) }
-    ensures members { IfOk result (λ opened. HasNewMembers places.now.lists.now
-        places.now.lists.now.channels places.now.objects.now places.now.shared.now
-        side.entry.run_files opened.1) }
-    ensures out { OnOk result (HasFreshBut (out_to_members places.now.lists.now)
-        places.now.objects.now places.now.shared.now passes.new) }
-    ensures has_pick { IfOk result (λ opened. opened.2 ≡ side.entry.pick) }
+    requires { AreOpenFor places.now main passes.old }
+    ensures opened { IfOk result (λ opened. OpensMembers places.now side.entry passes.new opened) }
     ensures files { IfErr result (λ back. back.run_files ≡ side.entry.run_files) }
     ensures pick { IfErr result (λ back. back.pick ≡ side.entry.pick) }
 {

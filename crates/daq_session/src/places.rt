@@ -2,6 +2,7 @@ use daq_io::Gate;
 use odb_lock::{LockedDatabase, SharedOdb, WatchedSeen};
 use odb_tree::Database;
 use odb_watch::WatchEntry;
+use session_commands::Script;
 use session_objects::{SessionObjects, SessionPasses};
 use session_setup::DeclaredLists;
 use transition_lock::EnginePass;
@@ -37,4 +38,11 @@ pub struct MemberSide<'a, F, K, G> {
     pub gate: &'a G,
     /// Whether the main thread gives all members their turns.
     pub cooperative: bool,
+}
+
+/// A script that is played, and what the members of its session meet outside.
+#[derive(Drop)]
+pub struct Scene<'a, S, O, F, K, G> {
+    pub script: Script<S, O>,
+    pub members: MemberSide<'a, F, K, G>,
 }

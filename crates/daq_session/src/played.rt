@@ -1,31 +1,19 @@
 // An open session over its objects, from its first start to the end of its script.
 ghost use Rattle.std.specs.Prelude.{◌≡◌, ◌<◌, ◌≤◌, ◌+◌, length};
-ghost use Rattle.daq_types.specs.Callers.{main_caller};
-ghost use Rattle.turn_lock.specs.Passes.{IsOf, number_of};
-ghost use Rattle.turn_lock.specs.Roster.{IsFresh};
 ghost use Rattle.odb_lock.specs.SharedAccesses.{access_by_pass, odb_identity};
-ghost use Rattle.transitions.specs.Engines.{engine_opening};
-ghost use Rattle.transition_lock.specs.SharedEngines.{engine_lock_of, first_engine};
-ghost use Rattle.console.specs.Closing.{EndCounts};
 ghost use Rattle.daq_members.specs.Members.{member_told};
-ghost use Rattle.daq_members.specs.Crews.{StaysListed};
-ghost use Rattle.session_commands.specs.Finishing.{script_point, side_told};
-ghost use Rattle.session_commands.specs.MainEnds.{MainEnds};
-ghost use Rattle.session_setup.specs.Setup.{Declared, declared_by};
-ghost use Rattle.session_setup.specs.SetupLines.{opened_with_defaults};
-ghost use Rattle.session_objects.specs.Kept.{HasFreshBut, out_to, out_to_members};
-ghost use Rattle.session_objects.specs.Members.{HasNewMembers};
-ghost use Rattle.session_objects.specs.Objects.{SuitMembers};
+ghost use Rattle.daq_members.specs.Stay.{StayMembers};
+ghost use Rattle.session_commands.specs.Finishing.{side_told};
 ghost use Rattle.daq_session.specs.Environments.{outside_told};
 ghost use Rattle.daq_session.specs.LinesEnded.{outside_left};
+ghost use Rattle.daq_session.specs.Opened.{AreOpenFor, HasMembersAt, IsMainOf, PlaysMain};
 ghost use Rattle.daq_session.specs.Played.{PlaysObjects, PlaysOpened, unopened_lines};
 
 use crate::opening::{SessionRoom, let_go, open_keys, open_members};
-use crate::places::{MemberSide, OpenedPasses, Places};
+use crate::places::{OpenedPasses, Places, Scene};
 use buffer_core::BufferPort;
 use console::{DatabaseConsole, Ending, Halt};
 use daq_io::{Clock, Files, Gate, Outside, Pick, Sink, Source};
-use daq_members::crew_laws::crews_stay;
 use daq_members::{MemberRoom, Members, play_members};
 use front_ends::Equipment;
 use odb_commands::FileReplies;
@@ -34,7 +22,7 @@ use odb_tree::Database;
 use odb_watch::{WatchEntry, WatchPort};
 use session_commands::laws::first_start_opens;
 use session_commands::{MainEnd, MainPlay, MainSide, Script};
-use session_objects::laws::{channels_stay, members_stay};
+use session_objects::laws::members_stay;
 use session_objects::{LoggerEnd, Membership, Returned, RunRecords, SessionMembers, SessionPasses};
 use std::alloc::Global;
 use std::sync::Wait;
@@ -115,13 +103,12 @@ pub fn end_unopened<
 >(
     ending: Ending,
     side: MainSide<SharedAccess<'a, D>, E, C>,
-    members: MemberSide<'a, F, K, G>,
-    script: Script<S, O>,
+    scene: Scene<'a, S, O, F, K, G>,
 ) -> LinesEnd<S, O, E, C, F, K>
-    ensures { result ≡ unopened_lines ending side.entry members.entry.run_files
-        members.entry.pick script }
+    ensures { result ≡ unopened_lines ending side.entry scene.entry }
 {
     let MainSide { database, clock } = side;
+    let Scene { script, members } = scene;
     let DatabaseConsole {
         files: odb_files,
         replies,
@@ -165,21 +152,10 @@ fn play_main<
 ) -> (MainEnd<S, O, D, E, C>, Members<'a, X, P, D, F>, K)
     requires some { 0 < length members }
     requires few { length members ≤ 64 }
-    ensures played { MainEnds
-        (side_told D.access E.told C.told)
-        main.entry.lists.now main.entry.runs main.entry.side result.0.side
-        (script_point S.told O.told main.entry.script)
-        (script_point S.told O.told result.0.script)
-        result.0.ending result.0.closing result.0.records result.0.main }
-    ensures counts { EndCounts result.0.ending result.0.closing (S.told main.entry.script.src).faults
-        (S.told result.0.script.src).faults (O.told main.entry.script.out).faults
-        (O.told result.0.script.out).faults }
-    ensures stay { StaysListed (member_told X.takes X.makes F.told)
-        members.entry result.1 }
+    ensures played { PlaysMain S.told O.told (side_told D.access E.told C.told) main.entry result.0 }
+    ensures stay { StayMembers (member_told X.takes X.makes F.told) members.entry result.1 }
 {
-    let (end, members, pick) = play_members(rt, room, members, pick, gate, main);
-    crews_stay(members.as_slice());
-    (end, members, pick)
+    play_members(rt, room, members, pick, gate, main)
 }
 
 /// Plays an open session to the end of its script, and takes back what its members called by.
@@ -203,25 +179,11 @@ fn play_opened<
     passes: SessionPasses<D>,
     main: MainPlay<'a, S, O, SharedAccess<'a, D>, E, C>,
 ) -> OpenedEnd<D, S, O, E, C, F, K>
-    requires lists { main.lists.now ≡ places.now.lists.now }
-    requires main { (access_by_pass main.side.database.access).caller ≡ main_caller }
-    requires database { (access_by_pass main.side.database.access).database
-        ≡ odb_identity places.now.shared.now }
-    requires engine { main.runs.main.engine ≡ places.now.objects.now.engine }
-    requires suit { SuitMembers places.now.lists.now.fronts places.now.lists.now.analyzers
-        places.now.lists.now.channels places.now.objects.now places.now.shared.now }
-    requires members { (files : F) × HasNewMembers places.now.lists.now
-        places.now.lists.now.channels places.now.objects.now places.now.shared.now files members }
-    requires out { HasFreshBut (out_to_members places.now.lists.now)
-        places.now.objects.now places.now.shared.now passes }
-    ensures played { (files : F) → HasNewMembers places.now.lists.now
-        places.now.lists.now.channels places.now.objects.now places.now.shared.now files
-        members.entry → PlaysOpened (outside_told S.told O.told F.told E.told C.told)
-        places.now.lists.now places.now.objects.now places.now.shared.now files main.entry.runs
-        main.entry.side main.entry.script result }
+    requires main { IsMainOf places.now main }
+    requires members { (files : F) × HasMembersAt places.now files members passes }
+    ensures { PlaysOpened (outside_told S.told O.told F.told E.told C.told) places.now members.entry main.entry result }
 {
     members_stay(members.as_slice());
-    channels_stay(members.as_slice());
     let (end, members, pick) = play_main(rt, room, members, pick, places.gate, main);
     let MainEnd {
         ending,
@@ -282,41 +244,27 @@ pub fn play_objects<
     places: &Places<'a, D, G>,
     passes: OpenedPasses<D>,
     mut side: MainSide<SharedAccess<'a, D>, E, C>,
-    members: MemberSide<'a, F, K, G>,
-    script: Script<S, O>,
+    scene: Scene<'a, S, O, F, K, G>,
 ) -> OpenedEnd<D, S, O, E, C, F, K>
-    requires fits { script.line_loop.number + 1 ≤ script.line_loop.reader.taken }
-    requires caller { (access_by_pass side.database.access).caller ≡ main_caller }
-    requires database { (access_by_pass side.database.access).database
-        ≡ odb_identity places.now.shared.now }
-    requires main { number_of passes.main ≡ main_caller }
-    requires own { IsOf (engine_lock_of places.now.objects.now.engine) passes.main }
-    requires fresh { IsFresh passes.main }
-    requires opening { first_engine places.now.objects.now.engine ≡ engine_opening }
-    requires suit { SuitMembers places.now.lists.now.fronts places.now.lists.now.analyzers
-        places.now.lists.now.channels places.now.objects.now places.now.shared.now }
-    requires out { HasFreshBut (out_to places.now.lists.now 0)
-        places.now.objects.now places.now.shared.now passes.others }
-    ensures played { (declared : Declared)
-        → opened_with_defaults declared ≡ declared_by places.now.lists.now
-        → PlaysObjects (outside_told S.told O.told F.told E.told C.told)
-        places.now.lists.now places.now.objects.now places.now.shared.now members.entry.run_files
-        places.now.quota declared side.entry script result }
+    requires fits { scene.script.line_loop.number + 1 ≤ scene.script.line_loop.reader.taken }
+    requires database { (access_by_pass side.database.access).database ≡ odb_identity places.now.shared.now }
+    requires open { AreOpenFor places.now passes.main passes.others }
+    ensures { PlaysObjects (outside_told S.told O.told F.told E.told C.told) places.now side.entry scene.entry result }
 {
     first_start_opens::<D, E, C>(places.shared);
     let OpenedPasses {
         main,
         others: mut passes,
     } = passes;
-    let fronts = places.lists.fronts.as_slice();
     let database = &mut side.database;
     let access = &mut database.access;
-    let Ok(room) = open_keys(rt, alloc, members.cooperative, access, fronts) else {
+    let Ok(room) = open_keys(rt, alloc, scene.members.cooperative, access, places.lists) else {
         return OpenedEnd {
-            lines: end_unopened(NO_MEMORY, side, members, script),
+            lines: end_unopened(NO_MEMORY, side, scene),
             session: None,
         };
     };
+    let Scene { script, members } = scene;
     match open_members(rt, alloc, places, main, &mut passes, members) {
         Ok((runs, members, pick)) => {
             let main = MainPlay {
@@ -331,7 +279,7 @@ pub fn play_objects<
         Err(members) => {
             let_go(room);
             OpenedEnd {
-                lines: end_unopened(NO_MEMORY, side, members, script),
+                lines: end_unopened(NO_MEMORY, side, Scene { script, members }),
                 session: None,
             }
         }

@@ -5,7 +5,8 @@ ghost use Rattle.turn_lock.specs.Passes.{passes_of, number_of, IsOf};
 ghost use Rattle.turn_lock.specs.Roster.{IsFresh};
 ghost use Rattle.odb_lock.specs.SharedAccesses.{access_by_pass, odb_identity};
 ghost use Rattle.odb_lock.specs.SharedOdbs.{odb_lock_of};
-ghost use Rattle.session_setup.specs.Setup.{nothing_declared};
+ghost use Rattle.session_setup.specs.Setup.{AreSound, declared_by, nothing_declared};
+ghost use Rattle.session_setup.specs.SetupLines.{opened_with_defaults};
 ghost use Rattle.session_objects.specs.Rosters.{KeepsFresh};
 ghost use Rattle.session_commands.specs.FirstLines.{IsUnreadScript};
 ghost use Rattle.daq_session.specs.Environments.{outside_told};
@@ -17,7 +18,7 @@ ghost use Rattle.daq_session.specs.Sessions.{RunsScript};
 use crate::ends::{ScriptEnd, end_of};
 use crate::left::{EndedObjects, LeftBehind, close_left, leave_unopened};
 use crate::opening::{OpenDatabase, SessionTree, open_database};
-use crate::places::{MemberSide, OpenedPasses, Places};
+use crate::places::{MemberSide, OpenedPasses, Places, Scene};
 use crate::played::{LinesEnd, NO_MEMORY, OpenedEnd, end_unopened, play_objects};
 use console::{DatabaseConsole, LineLoop, PlayEnd};
 use daq_io::{Clock, Files, Gate, Outside, Pick, Sink, Source};
@@ -29,11 +30,20 @@ use session_commands::laws::{first_start_opens, scripts_keep};
 use session_commands::{MainSide, Script, Unopened, play_first};
 use session_objects::laws::members_suit;
 use session_objects::{OpenedObjects, SessionObjects, SessionRecord};
-use session_setup::Declarations;
+use session_setup::{Declarations, DeclaredLists};
 use std::alloc::Global;
 use std::sync::Wait;
 use std::thread::Threads;
 use turn_lock::Machine;
+
+/// The declarations with which a session opens, in lists for themselves.
+fn open_lists(mut declarations: Declarations) -> DeclaredLists
+    ensures are { opened_with_defaults declarations ≡ declared_by result }
+    ensures sound { AreSound (declared_by result) }
+{
+    declarations.open();
+    declarations.into_lists()
+}
 
 /// Opens a session with the first start of its script, and plays it to the script's end.
 fn open_and_play<
@@ -52,33 +62,24 @@ fn open_and_play<
     alloc: Global,
     shared: &'a SharedOdb<D>,
     passes: OdbPasses<D>,
-    unopened: Unopened<SharedAccess<'a, D>, E, C>,
-    members: MemberSide<'a, F, K, G>,
-    script: Script<S, O>,
+    setup: Unopened<SharedAccess<'a, D>, E, C>,
+    scene: Scene<'a, S, O, F, K, G>,
 ) -> (LinesEnd<S, O, E, C, F, K>, LeftBehind<D>)
-    requires fits { script.line_loop.number + 1 ≤ script.line_loop.reader.taken }
-    requires caller { (access_by_pass unopened.side.database.access).caller ≡ main_caller }
-    requires database { (access_by_pass unopened.side.database.access).database
-        ≡ odb_identity shared.now }
+    requires fits { scene.script.line_loop.number + 1 ≤ scene.script.line_loop.reader.taken }
+    requires database { (access_by_pass setup.side.database.access).database ≡ odb_identity shared.now }
     requires callers { passes_of (odb_lock_of shared.now) ≡ database_passes }
     requires others { KeepsFresh (main_caller ∷ []) (odb_lock_of shared.now) passes }
-    ensures played { PlaysSession (outside_told S.told O.told F.told E.told C.told)
-        shared.now members.entry.run_files unopened.entry.quota unopened.entry.declarations
-        unopened.entry.side script result.0 result.1 }
+    ensures { PlaysSession (outside_told S.told O.told F.told E.told C.told) shared.now setup.entry scene.entry result }
 {
     first_start_opens::<D, E, C>(shared);
     let Unopened {
         quota,
-        mut declarations,
+        declarations,
         side,
-    } = unopened;
-    declarations.open();
-    let lists = declarations.into_lists();
+    } = setup;
+    let lists = open_lists(declarations);
     let Ok(opened) = SessionObjects::open(alloc, &lists, passes) else {
-        return (
-            end_unopened(NO_MEMORY, side, members, script),
-            LeftBehind::Nothing,
-        );
+        return (end_unopened(NO_MEMORY, side, scene), LeftBehind::Nothing);
     };
     let OpenedObjects {
         objects,
@@ -90,16 +91,14 @@ fn open_and_play<
         shared,
         objects: &objects,
         lists: &lists,
-        gate: members.gate,
+        gate: scene.members.gate,
         quota,
     };
     let passes = OpenedPasses {
         main,
         others: passes,
     };
-    let OpenedEnd { lines, session } = play_objects(
-        rt, alloc, &places, passes, side, members, script,
-    );
+    let OpenedEnd { lines, session } = play_objects(rt, alloc, &places, passes, side, scene);
     match session {
         None => (lines, LeftBehind::Nothing),
         Some((passes, runs)) => {
@@ -130,22 +129,17 @@ fn play_all<
     alloc: Global,
     shared: &'a SharedOdb<D>,
     passes: OdbPasses<D>,
-    mut unopened: Unopened<SharedAccess<'a, D>, E, C>,
-    members: MemberSide<'a, F, K, G>,
-    mut script: Script<S, O>,
+    mut setup: Unopened<SharedAccess<'a, D>, E, C>,
+    mut scene: Scene<'a, S, O, F, K, G>,
 ) -> (LinesEnd<S, O, E, C, F, K>, LeftBehind<D>)
-    requires session { IsNewSession shared.now passes unopened }
-    requires unread { IsUnreadScript script.line_loop }
-    ensures played { PlaysAll (outside_told S.told O.told F.told E.told C.told)
-        shared.now unopened.entry.side.database.files unopened.entry.side.clock
-        members.entry.run_files script result.0 result.1 }
+    requires session { IsNewSession shared.now passes setup }
+    requires unread { IsUnreadScript scene.script.line_loop }
+    ensures { PlaysAll (outside_told S.told O.told F.told E.told C.told) shared.now setup.entry scene.entry result }
 {
     first_start_opens::<D, E, C>(shared);
-    match play_first(rt, alloc, &mut unopened, &mut script) {
-        PlayEnd::Ended { ending } => {
-            leave_unopened(shared, unopened.side, passes, ending, members, script)
-        }
-        PlayEnd::Opens => open_and_play(rt, alloc, shared, passes, unopened, members, script),
+    match play_first(rt, alloc, &mut setup, &mut scene.script) {
+        PlayEnd::Ended { ending } => leave_unopened(shared, setup.side, passes, ending, scene),
+        PlayEnd::Opens => open_and_play(rt, alloc, shared, passes, setup, scene),
     }
 }
 
@@ -247,8 +241,9 @@ fn run_session<
         src,
         out,
     };
-    let unopened = new_session(alloc, &shared, main, declarations, odb_files, clock);
-    let (lines, left) = play_all(rt, alloc, &shared, passes, unopened, members, script);
+    let setup = new_session(alloc, &shared, main, declarations, odb_files, clock);
+    let scene = Scene { script, members };
+    let (lines, left) = play_all(rt, alloc, &shared, passes, setup, scene);
     scripts_keep();
     let end = end_of(&lines);
     let record = close_left::<D, F>(shared, left);

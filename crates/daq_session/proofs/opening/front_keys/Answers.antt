@@ -1,9 +1,10 @@
-use Rattle.std.proofs.Common.{◌≡◌, ℕ, List, [], refl, ◌∙◌, subst, inl}
-use Rattle.std.specs.Prelude.{Result, Ok, Err, OnErr, OnOk}
+use Rattle.std.proofs.Common.{ℕ, List, [], refl, inl}
+use Rattle.std.specs.Prelude.{Result, Ok, Err, OnErr}
 use Rattle.odb_watch.specs.DatabasePorts.{DatabaseAccess}
 use Rattle.odb_lock.specs.SharedAccesses.{access_by_pass}
-use Rattle.session_lines.specs.RunLines.{CutsKeys, KeysMade}
-use Rattle.daq_session.proofs.MembersLaws.{names_of}
+use Rattle.session_setup.specs.Setup.{declared_by}
+use Rattle.session_lines.specs.Stages.{front_names}
+use Rattle.session_lines.specs.RunLines.{CutsKeys}
 use Rattle.daq_session.proofs.opening.front_keys.Goals as goal
 
 on_err_so : {T E : Type 0} (r : Result T E) (P : Type 0) → P → OnErr r P
@@ -21,19 +22,13 @@ none_made fronts access = record {
 }
 
 pub returns-in_err-names-clause-cut : goal.returns-in_err-names-clause-cut
-returns-in_err-names-clause-cut g c = on_err_so _ _ (none_made (names_of c.args.fronts.now) (access_by_pass c.args.access.now))
+returns-in_err-names-clause-cut g c = on_err_so _ _ (none_made (front_names (declared_by c.args.lists.now)) (access_by_pass c.args.access.now))
 
 pub returns-in_err-names-clause-same : goal.returns-in_err-names-clause-same
 returns-in_err-names-clause-same g c = record { database = refl; caller = refl }
 
 pub returns-clause-made : goal.returns-clause-made
-returns-clause-made g c =
-    let names : c.as_slice.result.now ≡ names_of c.args.fronts.now = c.as_slice.ensures ∙ c.in_ok-names.ensures in
-    let P : List (List ℕ) → Type 0 = λ fronts. OnOk c.make_keys.result (KeysMade fronts (access_by_pass c.args.access.now) (access_by_pass c.make_keys.new.access)) in
-    subst P names c.make_keys.ensures.made
+returns-clause-made g c = rw (c.as_slice.ensures, c.in_ok-names.ensures) at c.make_keys.ensures.made
 
 pub returns-clause-cut : goal.returns-clause-cut
-returns-clause-cut g c =
-    let names : c.as_slice.result.now ≡ names_of c.args.fronts.now = c.as_slice.ensures ∙ c.in_ok-names.ensures in
-    let P : List (List ℕ) → Type 0 = λ fronts. OnErr c.make_keys.result (CutsKeys fronts (access_by_pass c.args.access.now) (access_by_pass c.make_keys.new.access)) in
-    subst P names c.make_keys.ensures.cut
+returns-clause-cut g c = rw (c.as_slice.ensures, c.in_ok-names.ensures) at c.make_keys.ensures.cut

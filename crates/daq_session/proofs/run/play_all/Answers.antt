@@ -1,67 +1,55 @@
-use Rattle.daq_io.specs.Told.{AheadTold}
 use Rattle.std.proofs.Common.{refl, arith, ap, ◌∙◌}
 use Rattle.odb_watch.specs.DatabasePorts.{DatabaseAccess}
 use Rattle.odb_lock.specs.SharedAccesses.{access_by_pass}
-use Rattle.console.specs.DatabaseStages.{DatabaseStage, database_stage}
-use Rattle.session_lines.specs.Stages.{unopened_stage}
+use Rattle.session_commands.specs.Finishing.{side_told, stage_unopened}
 use Rattle.daq_session.proofs.AloneLaws.{unopened_ends}
 use Rattle.daq_session.proofs.run.play_all.Goals as goal
 
 pub returns-in-Ended : goal.returns-in-Ended
 returns-in-Ended g c =
     let first = c.play_first.new.unopened in
-    let side = first.side in
-    let database : DatabaseStage = database_stage (access_by_pass side.database.access) (g.E.Files.told side.database.files) side.database.replies.replies in
-    let clock : AheadTold = g.C.Clock.told side.clock in
     let left = c.leave_unopened.ensures in
     let new = c.requires.session.unopened in
-    record {
-      played = rw left.lines (record {
-        final = unopened_stage first.quota first.declarations database clock;
-        tells = record {
-          counts = record {
-            may = tt;
-            source_counts = rw c.in-Ended.is at c.play_first.ensures.source;
-            lines = (g.O.Sink.told c.play_first.new.script.out).faults;
-            sink_counts = rw c.in-Ended.is at c.play_first.ensures.sink;
-            behind = refl;
-          };
-          failed = omega arith;
-          files_are = refl;
-          replies_are = refl;
-          clock_is = refl;
+    rw left.lines (record {
+      final = stage_unopened (side_told access_by_pass g.E.Files.told g.C.Clock.told) first.quota first.declarations first.side;
+      tells = record {
+        counts = record {
+          may = tt;
+          source_counts = rw c.in-Ended.is at c.play_first.ensures.source;
+          lines = (g.O.Sink.told c.play_first.new.script.out).faults;
+          sink_counts = rw c.in-Ended.is at c.play_first.ensures.sink;
+          behind = refl;
         };
-        ends = unopened_ends _ c.args.shared.now c.args.members.run_files _ _ _ _ refl refl left.left;
-        finished = c.first_start_opens.ensures.unopened _ _ _ _ _ _ _ _ (rw (new.quota, new.nothing, new.access, new.replies, c.in-Ended.is) at c.play_first.ensures.played) refl;
-      });
-    }
+        failed = omega arith;
+        files_are = refl;
+        replies_are = refl;
+        clock_is = refl;
+      };
+      ends = unopened_ends _ c.args.shared.now c.args.scene.members.run_files _ _ _ _ refl refl left.left;
+      finishes = c.first_start_opens.ensures.unopened _ _ _ _ _ _ _ _ (rw (new.quota, new.nothing, new.access, new.replies, c.in-Ended.is) at c.play_first.ensures.played) refl;
+    })
 
 pub returns-in-Opens : goal.returns-in-Opens
 returns-in-Opens g c =
-    let played = c.open_and_play.ensures.played in
+    let played = c.open_and_play.ensures in
     let new = c.requires.session.unopened in
     let source = rw c.in-Opens.is at c.play_first.ensures.source in
     let sink = rw c.in-Opens.is at c.play_first.ensures.sink in
     record {
-      played = record {
-        final = played.final;
-        tells = record {
-          counts = rw (source, sink) at played.tells.counts;
-          failed = played.tells.failed;
-          files_are = played.tells.files_are;
-          replies_are = played.tells.replies_are;
-          clock_is = played.tells.clock_is;
-        };
-        ends = played.ends;
-        finished = played.finishes _ _ _ (rw (new.quota, new.nothing, new.access, new.replies, c.in-Opens.is) at c.play_first.ensures.played);
+      final = played.final;
+      tells = record {
+        counts = rw (source, sink) at played.tells.counts;
+        failed = played.tells.failed;
+        files_are = played.tells.files_are;
+        replies_are = played.tells.replies_are;
+        clock_is = played.tells.clock_is;
       };
+      ends = played.ends;
+      finishes = played.finishes _ _ _ (rw (new.quota, new.nothing, new.access, new.replies, c.in-Opens.is) at c.play_first.ensures.played);
     }
 
 pub play_first-requires-clause-caller : goal.play_first-requires-clause-caller
-play_first-requires-clause-caller g c = ap (λ (a : DatabaseAccess). a.caller) c.requires.session.unopened.access
-
-pub open_and_play-requires-clause-caller : goal.open_and_play-requires-clause-caller
-open_and_play-requires-clause-caller g c = λ κs lives. c.play_first.ensures.same.caller ∙ ap (λ (a : DatabaseAccess). a.caller) c.requires.session.unopened.access
+play_first-requires-clause-caller g c = c.args.setup.side.database.main
 
 pub open_and_play-requires-clause-database : goal.open_and_play-requires-clause-database
 open_and_play-requires-clause-database g c = λ κs lives. c.play_first.ensures.same.database ∙ ap (λ (a : DatabaseAccess). a.database) c.requires.session.unopened.access

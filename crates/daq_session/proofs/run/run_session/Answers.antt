@@ -16,7 +16,7 @@ close_left-record-requires-clause-some g c = omega (arith, c.requires.database.c
 
 pub close_left-record-requires-clause-back : goal.close_left-record-requires-clause-back
 close_left-record-requires-clause-back g c =
-    let played = c.play_all-lines.ensures.played in
+    let played = c.play_all-lines.ensures in
     let lines = c.play_all-lines.result.0 in
     is_back _ c.args.session.database.shared c.args.outside.run_files played.final lines.run_files lines.ending _ played.ends
 
@@ -24,9 +24,9 @@ pub returns : goal.returns
 returns g c =
     let outside = c.args.outside in
     let all = c.play_all-lines in
-    let new = c.new_session-unopened.ensures.unopened in
-    let played = all.ensures.played in
-    let finished = rw (new.files_are, new.clock_is) at played.finished in
+    let new = c.new_session-setup.ensures.unopened in
+    let played = all.ensures in
+    let finished = rw (new.files_are, new.clock_is) at played.finishes in
     let lines = all.result.0 in
     let final : SessionStage = played.final in
     let refusals = lines.script.line_loop.refusals in
