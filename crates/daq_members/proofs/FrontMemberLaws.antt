@@ -28,43 +28,41 @@ use Rattle.daq_members.proofs.OwnTurnLaws.{taken_turn}
 use Rattle.daq_members.proofs.SetLaws.{sent_by_all_calls, sets_more, number_now}
 
 -- the same front-end with calls that tell the same turns
-pub same_turns_stand : (client : ℕ) (name : List ℕ) (takes : Order → Bool) (makes : Order → ℕ → Event) (run : Option FrontRun) (calls later : List EngineEntry) (own : List BufferEntry) (sets : List WatchEntry)
-    → member_turns client later ≡ member_turns client calls → FrontMemberStands client name takes makes run calls own sets → FrontMemberStands client name takes makes run later own sets
-same_turns_stand client name takes makes run calls later own sets same member = record {
+pub same_turns_stand : (client : ℕ) (name : List ℕ) (takes : Order → Bool) (makes : Order → ℕ → Event) (run : Option FrontRun) (calls later : List EngineEntry) (own : List BufferEntry) (moments : List ℕ) (sets : List WatchEntry)
+    → member_turns client later ≡ member_turns client calls → FrontMemberStands client name takes makes run calls own moments sets → FrontMemberStands client name takes makes run later own moments sets
+same_turns_stand client name takes makes run calls later own moments sets same member = record {
   stands = subst (λ (ts : List MemberTurn). FrontStands takes makes run own ts) (sym same) member.stands;
-  moments = member.moments;
-  kept = subst (λ (ts : List MemberTurn). KeepsMoments own ts member.moments) (sym same) member.kept;
-  told = subst (λ (ts : List MemberTurn). AreEngineTurns ts → AreNumbersSet name own ts member.moments sets) (sym same) member.told;
+  kept = subst (λ (ts : List MemberTurn). KeepsMoments own ts moments) (sym same) member.kept;
+  told = subst (λ (ts : List MemberTurn). AreEngineTurns ts → AreNumbersSet name own ts moments sets) (sym same) member.told;
 }
 
 -- A step: more calls on the buffer.
-pub step_stands : (client : ℕ) (name : List ℕ) (takes : Order → Bool) (makes : Order → ℕ → Event) (run later : Option FrontRun) (calls : List EngineEntry) (own more : List BufferEntry) (sets : List WatchEntry)
-    → (member : FrontMemberStands client name takes makes run calls own sets)
-    → FrontStands takes makes later (own ++ more) (member_turns client calls) → KeepsMoments (own ++ more) (member_turns client calls) member.moments
-    → FrontMemberStands client name takes makes later calls (own ++ more) sets
-step_stands client name takes makes run later calls own more sets member stands kept = record {
+pub step_stands : (client : ℕ) (name : List ℕ) (takes : Order → Bool) (makes : Order → ℕ → Event) (run later : Option FrontRun) (calls : List EngineEntry) (own more : List BufferEntry) (moments : List ℕ) (sets : List WatchEntry)
+    → (member : FrontMemberStands client name takes makes run calls own moments sets)
+    → FrontStands takes makes later (own ++ more) (member_turns client calls) → KeepsMoments (own ++ more) (member_turns client calls) moments
+    → FrontMemberStands client name takes makes later calls (own ++ more) moments sets
+step_stands client name takes makes run later calls own more moments sets member stands kept = record {
   stands = stands;
-  moments = member.moments;
   kept = kept;
-  told = λ are. sets_more name own more (member_turns client calls) member.moments (length own) sets (omega arith) member.kept.are (member.told are);
+  told = λ are. sets_more name own more (member_turns client calls) moments (length own) sets (omega arith) member.kept.are (member.told are);
 }
 
 -- A new turn, whose answer, if there is one, is given.
-pub taken_stands : (client : ℕ) (name : List ℕ) (takes : Order → Bool) (makes : Order → ℕ → Event) (run later_run : Option FrontRun) (calls later : List EngineEntry) (own : List BufferEntry) (sets later_sets : List WatchEntry)
+pub taken_stands : (client : ℕ) (name : List ℕ) (takes : Order → Bool) (makes : Order → ℕ → Event) (run later_run : Option FrontRun) (calls later : List EngineEntry) (own : List BufferEntry) (moments : List ℕ) (sets later_sets : List WatchEntry)
     (transition : Transition) (order : Order) (dump : Option (List ℕ)) (answer : Option Answer)
-    → (member : FrontMemberStands client name takes makes run calls own sets)
+    → (member : FrontMemberStands client name takes makes run calls own moments sets)
     → NoneOpen (member_turns client calls)
     → member_turns client later ≡ taken_turn transition order dump answer ∷ member_turns client calls
     → FrontStands takes makes later_run own (front_turn dump transition order answer ∷ member_turns client calls)
-    → KeepsMoments own (front_turn dump transition order answer ∷ member_turns client calls) (length own ∷ member.moments)
+    → KeepsMoments own (front_turn dump transition order answer ∷ member_turns client calls) (length own ∷ moments)
     → (AreEngineTurns (member_turns client calls) → IsOfRun order.start (member_turns client calls) → length (own_sent own order.start) ≡ events_sent run order.start)
     → AddsNumberIf name (number_set_at transition (is_some answer) (events_sent run order.start)) sets later_sets
-    → FrontMemberStands client name takes makes later_run later own later_sets
-taken_stands client name takes makes run later_run calls later own sets later_sets transition order dump answer member answered turns stands kept sent adds =
+    → FrontMemberStands client name takes makes later_run later own (length own ∷ moments) later_sets
+taken_stands client name takes makes run later_run calls later own moments sets later_sets transition order dump answer member answered turns stands kept sent adds =
     same_as (member_turns client later) (sym turns)
   where
     told_so : AreEngineTurns (front_turn dump transition order answer ∷ member_turns client calls)
-        → AreNumbersSet name own (front_turn dump transition order answer ∷ member_turns client calls) (length own ∷ member.moments) later_sets
+        → AreNumbersSet name own (front_turn dump transition order answer ∷ member_turns client calls) (length own ∷ moments) later_sets
     told_so are = (
       answered,
       sets,
@@ -73,12 +71,11 @@ taken_stands client name takes makes run later_run calls later own sets later_se
           (sym (number_now transition (is_some answer) own (member_turns client calls) order.start (events_sent run order.start) are.0 (sent are.1))) adds,
     )
 
-    same_as : (ts : List MemberTurn) → taken_turn transition order dump answer ∷ member_turns client calls ≡ member_turns client later → FrontMemberStands client name takes makes later_run later own later_sets
+    same_as : (ts : List MemberTurn) → taken_turn transition order dump answer ∷ member_turns client calls ≡ member_turns client later → FrontMemberStands client name takes makes later_run later own (length own ∷ moments) later_sets
     same_as ts same = record {
       stands = subst (λ (l : List MemberTurn). FrontStands takes makes later_run own l) same stands;
-      moments = length own ∷ member.moments;
-      kept = subst (λ (l : List MemberTurn). KeepsMoments own l (length own ∷ member.moments)) same kept;
-      told = subst (λ (l : List MemberTurn). AreEngineTurns l → AreNumbersSet name own l (length own ∷ member.moments) later_sets) same told_so;
+      kept = subst (λ (l : List MemberTurn). KeepsMoments own l (length own ∷ moments)) same kept;
+      told = subst (λ (l : List MemberTurn). AreEngineTurns l → AreNumbersSet name own l (length own ∷ moments) later_sets) same told_so;
     }
 
 -- The stop that waited is answered.
@@ -129,32 +126,30 @@ finish_told name own (t ∷ ts) (m ∷ ms) calls sets later_sets order dump earl
     )
 
 -- A turn that is owed, and its answer, if it can be given.
-pub finished_stands : (client : ℕ) (name : List ℕ) (takes : Order → Bool) (makes : Order → ℕ → Event) (run later_run : Option FrontRun) (calls later : List EngineEntry) (own : List BufferEntry) (sets later_sets : List WatchEntry) (start : ℕ) (answer : Option Answer)
-    → (member : FrontMemberStands client name takes makes run calls own sets)
+pub finished_stands : (client : ℕ) (name : List ℕ) (takes : Order → Bool) (makes : Order → ℕ → Event) (run later_run : Option FrontRun) (calls later : List EngineEntry) (own : List BufferEntry) (moments : List ℕ) (sets later_sets : List WatchEntry) (start : ℕ) (answer : Option Answer)
+    → (member : FrontMemberStands client name takes makes run calls own moments sets)
     → answer ≡ finish_answer run
     → open_start (member_turns client calls) ≡ Some start
     → member_turns client later ≡ latest_answered (member_turns client calls) answer
     → FrontStands takes makes later_run own (latest_answered (member_turns client calls) answer)
-    → KeepsMoments own (latest_answered (member_turns client calls) answer) (moments_answered member.moments answer (length own))
+    → KeepsMoments own (latest_answered (member_turns client calls) answer) (moments_answered moments answer (length own))
     → (AreEngineTurns (member_turns client calls) → IsInRun run start → length (own_sent own start) ≡ events_sent run start)
     → AddsNumberIf name (number_if (is_some answer) (events_sent run start)) sets later_sets
     → (AreEngineTurns (latest_answered (member_turns client calls) answer) → AreEngineTurns (member_turns client calls))
-    → FrontMemberStands client name takes makes later_run later own later_sets
-finished_stands client name takes makes run later_run calls later own sets later_sets start None member is owed turns stands kept sent adds engine = record {
+    → FrontMemberStands client name takes makes later_run later own (moments_answered moments answer (length own)) later_sets
+finished_stands client name takes makes run later_run calls later own moments sets later_sets start None member is owed turns stands kept sent adds engine = record {
   stands = subst (λ (l : List MemberTurn). FrontStands takes makes later_run own l) (sym turns) stands;
-  moments = member.moments;
-  kept = subst (λ (l : List MemberTurn). KeepsMoments own l member.moments) (sym turns) kept;
-  told = subst (λ (l : List MemberTurn). AreEngineTurns l → AreNumbersSet name own l member.moments later_sets) (sym turns)
-      (λ are. subst (λ (l : List WatchEntry). AreNumbersSet name own (member_turns client calls) member.moments l) (sym adds) (member.told are));
+  kept = subst (λ (l : List MemberTurn). KeepsMoments own l moments) (sym turns) kept;
+  told = subst (λ (l : List MemberTurn). AreEngineTurns l → AreNumbersSet name own l moments later_sets) (sym turns)
+      (λ are. subst (λ (l : List WatchEntry). AreNumbersSet name own (member_turns client calls) moments l) (sym adds) (member.told are));
 }
-finished_stands client name takes makes run later_run calls later own sets later_sets start (Some answer) member is owed turns stands kept sent adds engine =
+finished_stands client name takes makes run later_run calls later own moments sets later_sets start (Some answer) member is owed turns stands kept sent adds engine =
     let stop : IsStopOwed run (member_turns client calls) start = stop_owed takes makes run own (member_turns client calls) start answer member.stands (sym is) owed in
     record {
       stands = subst (λ (l : List MemberTurn). FrontStands takes makes later_run own l) (sym turns) stands;
-      moments = moments_answered member.moments (Some answer) (length own);
-      kept = subst (λ (l : List MemberTurn). KeepsMoments own l (moments_answered member.moments (Some answer) (length own))) (sym turns) kept;
-      told = subst (λ (l : List MemberTurn). AreEngineTurns l → AreNumbersSet name own l (moments_answered member.moments (Some answer) (length own)) later_sets) (sym turns)
-          (λ are. finish_told name own (member_turns client calls) member.moments (length own) sets later_sets stop.order stop.dump stop.earlier answer (events_sent run start) stop.turns_are
+      kept = subst (λ (l : List MemberTurn). KeepsMoments own l (moments_answered moments (Some answer) (length own))) (sym turns) kept;
+      told = subst (λ (l : List MemberTurn). AreEngineTurns l → AreNumbersSet name own l (moments_answered moments (Some answer) (length own)) later_sets) (sym turns)
+          (λ are. finish_told name own (member_turns client calls) moments (length own) sets later_sets stop.order stop.dump stop.earlier answer (events_sent run start) stop.turns_are
           (ap (λ (n : ℕ). length (own_sent own n)) stop.of ∙ sent (engine are) stop.in_run)
           adds (member.told (engine are)));
     }
@@ -192,14 +187,14 @@ step_adds makes run later a b step steps = by_work (is_at_work run) steps
     by_work true sends = (SendInRun sends.run.order.start (length (makes sends.run.order (suc sends.run.sent)).body) (makes sends.run.order (suc sends.run.sent)) sends.reply ∷ [], sends.sent.own)
 
 -- What is kept behind a step.
-pub stepped_stands : (client : ℕ) (name : List ℕ) (takes : Order → Bool) (makes : Order → ℕ → Event) (run later : Option FrontRun) (a b : Access) (step : FrontStep) (calls : List EngineEntry) (sets : List WatchEntry)
+pub stepped_stands : (client : ℕ) (name : List ℕ) (takes : Order → Bool) (makes : Order → ℕ → Event) (run later : Option FrontRun) (a b : Access) (step : FrontStep) (calls : List EngineEntry) (moments : List ℕ) (sets : List WatchEntry)
     → StepsFront makes run later a b step
-    → (member : FrontMemberStands client name takes makes run calls a.own sets)
-    → FrontStands takes makes later b.own (member_turns client calls) → KeepsMoments b.own (member_turns client calls) member.moments
-    → FrontMemberStands client name takes makes later calls b.own sets
-stepped_stands client name takes makes run later a b step calls sets steps member stands kept =
+    → (member : FrontMemberStands client name takes makes run calls a.own moments sets)
+    → FrontStands takes makes later b.own (member_turns client calls) → KeepsMoments b.own (member_turns client calls) moments
+    → FrontMemberStands client name takes makes later calls b.own moments sets
+stepped_stands client name takes makes run later a b step calls moments sets steps member stands kept =
     let more : (more : List BufferEntry) × (b.own ≡ a.own ++ more) = step_adds makes run later a b step steps in
-    subst (λ (own : List BufferEntry). FrontMemberStands client name takes makes later calls own sets) (sym more.1)
-    (step_stands client name takes makes run later calls a.own more.0 sets member
+    subst (λ (own : List BufferEntry). FrontMemberStands client name takes makes later calls own moments sets) (sym more.1)
+    (step_stands client name takes makes run later calls a.own more.0 moments sets member
     (subst (λ (own : List BufferEntry). FrontStands takes makes later own (member_turns client calls)) more.1 stands)
-    (subst (λ (own : List BufferEntry). KeepsMoments own (member_turns client calls) member.moments) more.1 kept))
+    (subst (λ (own : List BufferEntry). KeepsMoments own (member_turns client calls) moments) more.1 kept))

@@ -22,15 +22,21 @@ use Rattle.daq_members.specs.contracts.logger_member.LoggerMember as logger_memb
 use Rattle.daq_members.specs.contracts.logger_member.LoggerMember.TheInside as logger_inside
 use Rattle.daq_members.specs.contracts.analyzer_member.AnalyzerMember as analyzer_member
 use Rattle.daq_members.specs.contracts.analyzer_member.AnalyzerMember.TheInside as analyzer_inside
+use Rattle.daq_members.specs.contracts.traced_port.TracedPort as traced_port
+use Rattle.daq_members.specs.contracts.traced_port.TracedPort.TheInside as traced_inside
 
 client_send : (a : NamedLft) (X : RattleType) → IsSend (member_client.the_row a X)
 client_send a X = view_send _ _ _ _ _ (recorded_send (client_inside.the_field a X).row _ _ (client_inside.the_type a X).to_one
     (struct_send (shape (client_inside.the_type a X)) (client.the_send a, (search (sendable, crosses), tt))))
 
+traced_send : (P : RattleType) (p : BufferPort.Ghosts P.Denot) → IsSend P → IsSend (traced_port.the_row P p)
+traced_send P p sp = view_send _ _ _ _ _ (recorded_send (traced_inside.the_field P p).row _ _ (traced_inside.the_type P p).to_one
+    (struct_send (shape (traced_inside.the_type P p)) (sp, (search (sendable, crosses), (search (sendable, crosses), tt)))))
+
 module _ (a : NamedLft) (E P D : RattleType) (e : Equipment.Ghosts E.Denot) (p : BufferPort.Ghosts P.Denot) (d : DatabasePort.Ghosts D.Denot) where
   pub front_send : IsSend E → IsSend P → IsSend D → IsSend (front_member.the_row a E P D e p d)
   front_send se sp sd = view_send _ _ _ _ _ (recorded_send (front_inside.the_field a E P D e p d).row _ _ (front_inside.the_type a E P D e p d).to_one
-      (struct_send (shape (front_inside.the_type a E P D e p d)) (client_send a D, (key.the_field_send, (front_end.the_send E e se, (sp, (sd, tt)))))))
+      (struct_send (shape (front_inside.the_type a E P D e p d)) (client_send a D, (key.the_field_send, (front_end.the_send E e se, (traced_send P p sp, (sd, tt)))))))
 
 module _ (a : NamedLft) (P F : RattleType) (p : BufferPort.Ghosts P.Denot) (f : Files.Ghosts F.Denot) where
   pub logger_send : IsSend P → IsSend F → IsSend (logger_member.the_row a P F p f)

@@ -1,5 +1,6 @@
 pub mod OwnTurnLaws
 pub mod SetLaws
+pub mod TracedLaws
 pub mod FrontMemberLaws
 pub mod FrontSeatLaws
 pub mod TakenLaws

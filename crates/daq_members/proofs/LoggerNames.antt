@@ -1,6 +1,6 @@
 -- A turn of the logger in a session keeps which names of run files it leaves.
 use Rattle.std.specs.Prelude.{◌≡◌, ℕ, zero, suc, Bool, List, [], Option, Some, None, refl}
-use Rattle.std.proofs.Common.{ap, sym, subst, ◌∙◌, inl, inr}
+use Rattle.std.proofs.Common.{ap, sym, subst, ◌∙◌, inl}
 use Rattle.daq_io.specs.Told.{FilesTold}
 use Rattle.member_model.specs.RunEngines.{Polled}
 use Rattle.transitions.specs.declared.replies.Polled.TheVariants.{Turn, Idle as NoTurn, Closed, NoClient}
@@ -14,7 +14,7 @@ use Rattle.loggers.specs.Turning.{IsIdleOutside}
 use Rattle.loggers.specs.LoggerStands.{LoggerStands}
 use Rattle.loggers.specs.OtherFiles.{specs_in, HaveRunsAmong, PullsLeaveFiles}
 use Rattle.loggers.specs.Reasons.{GivesReasons}
-use Rattle.loggers.specs.LeftNames.{AreTaken, KeepsNames, HaveStoppedRuns, TurnsKeepNames, PullsKeepNames, FinishesKeepNames, StandingHasStopped, PullsKeepStopped}
+use Rattle.loggers.specs.LeftNames.{HasUntoldFault, EachFindsNames, KeepsNames, HaveStoppedRuns, TurnsKeepNames, PullsKeepNames, FinishesKeepNames, StandingHasStopped, PullsKeepStopped}
 use Rattle.daq_members.specs.OwnTurns.{start_owed}
 use Rattle.daq_members.specs.StartedRuns.{started_runs}
 use Rattle.daq_members.specs.LoggerTaken.{LoggerTaken, PullsBelow, TakesLoggerBy, TakesLogger, pulled_channels}
@@ -34,11 +34,12 @@ pub record NameLaws : Type 0 where
 pub idle_names : (slots : List (Option Channel)) (told : FilesTold) (turns : List MemberTurn) → AreIdleChannels slots → turns ≡ [] → KeepsNames slots told told turns
 idle_names slots told turns idle no_turns = record {
   told = refl;
-  names = λ named none. record {
-    each = λ name. inl (inr refl);
+  names = λ named. record {
+    each = λ name. inl (inl refl);
     fresh = λ name o. absurd (let is : None ≡ Some o.opened = sym (ap (λ (s : ChannelStage). channel_run s) (idle o.number o.channel o.there)) ∙ o.of in cc (is));
   };
-  taken = λ named none. subst (λ (ts : List MemberTurn). AreTaken (specs_in slots) told.seen ts) (sym no_turns) tt;
+  found = λ named. subst (λ (ts : List MemberTurn). EachFindsNames (HasUntoldFault slots turns told told) (specs_in slots) told.seen ts) (sym no_turns) tt;
+  first_fault = λ none undone name is. absurd (cc (none, is));
 }
 
 -- what holds of a logger before its turn, and what its turn keeps
@@ -76,7 +77,7 @@ names_by laws t first (NoTurn state) owed is works had =
     (pulled_names laws first turns (started_runs turns) _ pulled_channels works.got t.before t.after works.pulls had.ready held had.names)
 names_by laws t first (Turn transition order dump blank) None is taken had =
     subst (λ (ts : List MemberTurn). Keeps first t.after ts) (sym (taken_turns t.client t.calls _ t.later_calls transition order dump blank taken.answer is refl taken.gives))
-    (laws.turns _ first (member_turns t.client t.calls) taken.takes had.idle had.reasons had.names)
+    (laws.turns _ first (member_turns t.client t.calls) taken.takes had.ready had.idle had.stands had.reasons had.names)
 names_by laws t first (Turn transition order dump blank) (Some start) is ends had =
     let turns : List MemberTurn = member_turns t.client t.calls in
     let runs : List ℕ = started_runs turns in

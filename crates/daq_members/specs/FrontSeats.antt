@@ -13,10 +13,13 @@ use Rattle.loggers.specs.Moments.{IsSameAccess}
 use Rattle.member_crew.specs.declared.turned.Turned.{Turned}
 use Rattle.daq_members.specs.OwnTurns.{are_calls_for}
 use Rattle.daq_members.specs.EngineClients.{EngineClientSeen, MemberClientSeen, at_first}
+use Rattle.daq_members.specs.TracedPorts.{TracedPortSeen, untraced}
 use Rattle.daq_members.specs.FrontTaken.{FrontTaken, FrontMemberStands}
 
 -- A front-end in a session: the engine that it asks, its client number, its name, its equipment, and its run; its
--- calls on the engine; its access to its buffer and to the database; and the latter as it stood when it answered last.
+-- calls on the engine; its access to its buffer; the moments of its turns, the latest first: how many calls it had made there when
+-- it answered each, or when it was given it, while it has no answer; its access to the database; and that as it stood when it
+-- answered last.
 pub record FrontSeen (E : Type 0) : Type 0 where
   pub engine : SharedEngine
   pub client : ℕ
@@ -25,11 +28,12 @@ pub record FrontSeen (E : Type 0) : Type 0 where
   pub run : Option FrontRun
   pub calls : List EngineEntry
   pub port : Access
+  pub moments : List ℕ
   pub database : DatabaseAccess
   pub stood : DatabaseAccess
 
 -- a front-end, by its client at the engine, its name, what it does, its port, and its database
-abbrev pub front_of_parts : {E D : Type 0} → (access : D → DatabaseAccess) → MemberClientSeen D → (name : List ℕ) → FrontState E → Access →
+abbrev pub front_of_parts : {E D : Type 0} → (access : D → DatabaseAccess) → MemberClientSeen D → (name : List ℕ) → FrontState E → TracedPortSeen →
     (database : D) → FrontSeen E
 front_of_parts access engine name front port database = record {
   engine = engine.engine;
@@ -38,15 +42,16 @@ front_of_parts access engine name front port database = record {
   equipment = front.equipment;
   run = front.run;
   calls = engine.calls;
-  port = port;
+  port = port.access;
+  moments = port.moments;
   database = access database;
   stood = access engine.stood;
 }
 
--- what is seen of a front-end that gave no answer yet, by its client at the engine, its name, what it does, its port and its access
+-- what is seen of a front-end that took no turn yet, by its client at the engine, its name, what it does, its port and its access
 abbrev pub front_seen : {E : Type 0} → EngineClientSeen → (name : List ℕ) → FrontState E → Access → DatabaseAccess → FrontSeen E
 front_seen engine name front port database =
-    front_of_parts (λ (a : DatabaseAccess). a) (at_first engine database) name front port database
+    front_of_parts (λ (a : DatabaseAccess). a) (at_first engine database) name front (untraced port) database
 
 -- On the engine the front-end polls and answers for its own client alone; the port and the access are the client's own, an
 -- event fits into the buffer, and the front-end keeps its contract over its own calls on engine, buffer and database.
@@ -56,7 +61,7 @@ pub record IsSeated {E : Type 0} (takes : E → Order → Bool) (makes : E → O
   pub database_caller : front.database.caller ≡ caller_of_client front.client
   pub size : 104 ≤ front.port.size
   pub stands : FrontMemberStands front.client front.name (takes front.equipment) (makes front.equipment) front.run
-      front.calls front.port.own (own_watched front.database)
+      front.calls front.port.own front.moments (own_watched front.database)
 
 module _ {E : Type 0} (takes : E → Order → Bool) (makes : E → Order → ℕ → Event) where
   -- a turn of the front-end, by what is seen of it before and behind
@@ -72,6 +77,8 @@ module _ {E : Type 0} (takes : E → Order → Bool) (makes : E → Order → �
     later_calls = after.calls;
     port = before.port;
     later_port = after.port;
+    moments = before.moments;
+    later_moments = after.moments;
     database = before.database;
     later_database = after.database;
     stood = after.stood;

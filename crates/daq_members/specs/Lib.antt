@@ -1,6 +1,7 @@
 pub mod OwnTurns
 pub mod EngineClients
 pub mod SentSets
+pub mod TracedPorts
 pub mod FrontTaken
 pub mod LoggerTaken
 pub mod ConnectedLoggers

@@ -88,9 +88,9 @@ abbrev pub HasLoggerReasons : {F : Type 0} → (read : F → FilesTold) → Logg
 HasLoggerReasons read logger =
     GivesReasons logger.slots logger.ports (read logger.first) (read logger.files) (member_turns logger.client logger.calls)
 
--- Where names are told, and no fault was counted since the logger took its seat, it left all names of run files as they were
--- then, but those of its channels in the runs that were started and stopped in its turns, and in the run that it has. So it is
--- where no client of it is known to be detached by another.
+-- Where names are told, the logger left all names of run files as they were when it took its seat, but those of its channels in the
+-- runs that were started and stopped in its turns, in the run that it has, and, where more faults were counted than it told, in those
+-- whose start was undone. So it is where no client of it is known to be detached by another.
 abbrev pub KeepsLoggerNames : {F : Type 0} → (read : F → FilesTold) → LoggerSeen F → Type 0
 KeepsLoggerNames read logger = NoneTakenBack logger.ports →
     KeepsNames logger.slots (read logger.first) (read logger.files) (member_turns logger.client logger.calls)

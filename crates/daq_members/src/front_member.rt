@@ -8,6 +8,7 @@ ghost use Rattle.daq_members.specs.FrontTaken.{turned_by, is_sent, StepsOnce, Ta
 
 use crate::engine_client::{EngineClient, MemberClient};
 use crate::sent_key::SentKey;
+use crate::traced_port::TracedPort;
 use buffer_core::BufferPort;
 use daq_io::{Gate, Point};
 use daq_types::{Name, Transition};
@@ -38,7 +39,7 @@ pub struct FrontMember<'a, X: Equipment, P: BufferPort, D: WatchPort> {
     engine: MemberClient<'a, D>,
     key: SentKey,
     front: FrontEnd<X>,
-    port: P,
+    port: TracedPort<P>,
     database: D,
 }
 
@@ -47,11 +48,10 @@ impl<'a, X: Equipment, P: BufferPort, D: WatchPort> Model for FrontMember<'a, X,
 
     ghost Value = { FrontSeen X };
 
-    ghost view = { λ m. front_of_parts D.access m.engine m.key.name m.front (P.access m.port)
-        m.database };
+    ghost view = { λ m. front_of_parts D.access m.engine m.key.name m.front m.port m.database };
 
     ghost invariant = { λ m. IsSeated X.takes X.makes
-        (front_of_parts D.access m.engine m.key.name m.front (P.access m.port) m.database) };
+        (front_of_parts D.access m.engine m.key.name m.front m.port m.database) };
 }
 
 /// What a turn came to in which something was done, or nothing.
@@ -100,19 +100,18 @@ fn step_between<R: Wait, X: Equipment, P: BufferPort, G: Gate>(
     gate: &G,
     client: u32,
     front: &mut FrontEnd<X>,
-    port: &mut P,
+    port: &mut TracedPort<P>,
 ) -> FrontStep
-    requires size { 104 ≤ (P.access port.old).size }
-    ensures steps { StepsOnce X.makes front.old front.new (P.access port.old) (P.access port.new)
-        result }
+    requires size { 104 ≤ port.old.access.size }
+    ensures steps { StepsOnce X.makes front.old front.new port.old.access port.new.access result }
     ensures takes_as { X.takes front.new.equipment ≡ X.takes front.old.equipment }
     ensures makes_as { X.makes front.new.equipment ≡ X.makes front.old.equipment }
-    ensures same_port { IsSameAccess (P.access port.old) (P.access port.new) }
-    ensures keeps { KeepsAtStep X.takes X.makes front.old front.new (P.access port.old)
-        (P.access port.new) }
+    ensures same_port { IsSameAccess port.old.access port.new.access }
+    ensures moments { port.new.moments ≡ port.old.moments }
+    ensures keeps { KeepsAtStep X.takes X.makes front.old front.new port.old.access port.new.access }
 {
     gate.at(client, Point::BeforeSend);
-    let step = front.step(rt, port);
+    let step = port.step(rt, front);
     gate.at(client, Point::AfterSend);
     step
 }
@@ -120,8 +119,8 @@ fn step_between<R: Wait, X: Equipment, P: BufferPort, G: Gate>(
 impl<'a, X: Equipment, P: BufferPort, D: WatchPort> FrontMember<'a, X, P, D> {
     ghost use Rattle.daq_members.specs.FrontSeats.{IsSeated, IsSameFront, front_seen, front_taken};
 
-    /// A front-end that is ready for its turns, with its client at the engine, its own port to its buffer and its own access to
-    /// the database.
+    /// A front-end that is ready for its turns, of which it took none yet, with its client at the engine, its own port to its
+    /// buffer and its own access to the database.
     pub fn new(
         engine: EngineClient<'a>,
         key: SentKey,
@@ -139,7 +138,7 @@ impl<'a, X: Equipment, P: BufferPort, D: WatchPort> FrontMember<'a, X, P, D> {
             engine,
             key,
             front,
-            port,
+            port: TracedPort::new(port),
             database,
         }
     }
@@ -170,6 +169,7 @@ impl<'a, X: Equipment, P: BufferPort, D: WatchPort> FrontMember<'a, X, P, D> {
                 None => {
                     let sent = self.front.sent_in(order.start);
                     let answer = self.front.on_turn(transition, &order);
+                    self.port.take_turn();
                     let number = number_set_at(transition, answer.is_some(), sent);
                     self.key.set(rt, &mut self.database, number);
                     self.engine.give(rt, answer, &self.database);
@@ -179,6 +179,7 @@ impl<'a, X: Equipment, P: BufferPort, D: WatchPort> FrontMember<'a, X, P, D> {
                     let step = step_between(rt, gate, client, &mut self.front, &mut self.port);
                     let sent = self.front.sent_in(start);
                     let answer = self.front.finish();
+                    self.port.answer_turn(&answer);
                     let answered = answer.is_some();
                     let number = number_finished(answered, sent);
                     self.key.set(rt, &mut self.database, number);
@@ -219,7 +220,7 @@ impl<'a, X: Equipment, P: BufferPort, D: WatchPort> FrontMember<'a, X, P, D> {
         FrontParts {
             name: key.name,
             pass: engine.into_pass(),
-            port,
+            port: port.into_port(),
             database,
         }
     }

@@ -15,6 +15,7 @@ mod member;
 pub mod member_laws;
 mod play;
 mod sent_key;
+mod traced_port;
 
 pub use analyzer_member::{AnalyzerMember, AnalyzerParts};
 pub use engine_client::EngineClient;

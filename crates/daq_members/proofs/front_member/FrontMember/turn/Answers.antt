@@ -6,6 +6,7 @@ use Rattle.front_ends.specs.Fronts.{FrontState}
 use Rattle.odb_watch.specs.DatabasePorts.{own_watched}
 use Rattle.daq_members.specs.FrontTaken.{turned_by, is_sent}
 use Rattle.daq_members.proofs.OwnTurnLaws.{none_open, idle_turns, closed_turns, unknown_turns, last_seen}
+use Rattle.daq_members.proofs.TracedLaws.{same_access, access_then}
 use Rattle.daq_members.proofs.FrontSeatLaws.{seated_asked, seated_taken, seated_finished}
 use Rattle.daq_members.proofs.TakenLaws.{front_taken, front_finished}
 use Rattle.daq_members.proofs.front_member.FrontMember.turn.Goals as goal
@@ -19,7 +20,7 @@ invariant_of-self g c =
     let was = c.self.inside.engine in
     seated_asked g.X.Equipment.takes g.X.Equipment.makes _ _ c.self.invariant
     (record { engine = c.poll.ensures.engine; client = c.poll.ensures.client; name = refl; takes_as = refl; makes_as = refl; port = (refl, refl, refl); database = record { database = refl; caller = refl } })
-    c.poll.ensures.speaks Closed (rw c.in-Closed.is at c.poll.ensures.asked) (closed_turns was.client was.calls) c.self.invariant.stands
+    c.poll.ensures.speaks Closed (rw c.in-Closed.is at c.poll.ensures.asked) (closed_turns was.client was.calls) (refl {a = c.self.inside.port.moments}) c.self.invariant.stands
 
 pub returns-in-Closed-clause-keeps : goal.returns-in-Closed-clause-keeps
 returns-in-Closed-clause-keeps g c = invariant_of-self g c
@@ -27,7 +28,7 @@ returns-in-Closed-clause-keeps g c = invariant_of-self g c
 pub returns-in-Closed-clause-takes : goal.returns-in-Closed-clause-takes
 returns-in-Closed-clause-takes g c = rw (← c.self.view_is) (record {
   reply = Closed;
-  takes = record { asks = rw c.in-Closed.is at c.poll.ensures.asked; run = refl; port = refl; database = refl; turned_is = refl };
+  takes = record { asks = rw c.in-Closed.is at c.poll.ensures.asked; run = refl; port = refl; moments = refl; database = refl; turned_is = refl };
 })
 
 pub invariant_of-self-in-NoClient : goal.invariant_of-self-in-NoClient
@@ -35,7 +36,7 @@ invariant_of-self-in-NoClient g c =
     let was = c.self.inside.engine in
     seated_asked g.X.Equipment.takes g.X.Equipment.makes _ _ c.self.invariant
     (record { engine = c.poll.ensures.engine; client = c.poll.ensures.client; name = refl; takes_as = refl; makes_as = refl; port = (refl, refl, refl); database = record { database = refl; caller = refl } })
-    c.poll.ensures.speaks NoClient (rw c.in-NoClient.is at c.poll.ensures.asked) (unknown_turns was.client was.calls) c.self.invariant.stands
+    c.poll.ensures.speaks NoClient (rw c.in-NoClient.is at c.poll.ensures.asked) (unknown_turns was.client was.calls) (refl {a = c.self.inside.port.moments}) c.self.invariant.stands
 
 pub returns-in-NoClient-clause-keeps : goal.returns-in-NoClient-clause-keeps
 returns-in-NoClient-clause-keeps g c = invariant_of-self-in-NoClient g c
@@ -43,7 +44,7 @@ returns-in-NoClient-clause-keeps g c = invariant_of-self-in-NoClient g c
 pub returns-in-NoClient-clause-takes : goal.returns-in-NoClient-clause-takes
 returns-in-NoClient-clause-takes g c = rw (← c.self.view_is) (record {
   reply = NoClient;
-  takes = record { asks = rw c.in-NoClient.is at c.poll.ensures.asked; run = refl; port = refl; database = refl; turned_is = refl };
+  takes = record { asks = rw c.in-NoClient.is at c.poll.ensures.asked; run = refl; port = refl; moments = refl; database = refl; turned_is = refl };
 })
 
 -- No turn is given: the front-end makes its step.
@@ -55,7 +56,8 @@ invariant_of-self-in-Idle g c =
     seated_asked g.X.Equipment.takes g.X.Equipment.makes _ _ c.self.invariant
     (record { engine = c.poll.ensures.engine; client = c.poll.ensures.client; name = refl; takes_as = stepped.takes_as; makes_as = stepped.makes_as; port = stepped.same_port; database = record { database = refl; caller = refl } })
     c.poll.ensures.speaks (Idle c.in-Idle.state) (rw c.in-Idle.is at c.poll.ensures.asked) (idle_turns was.engine.client was.engine.calls c.in-Idle.state)
-    (stepped.keeps was.engine.client was.key.name was.engine.calls (own_watched (g.D.DatabasePort.access was.database)) c.self.invariant.stands)
+    stepped.moments
+    (stepped.keeps was.engine.client was.key.name was.engine.calls was.port.moments (own_watched (g.D.DatabasePort.access was.database)) c.self.invariant.stands)
 
 pub returns-in-Idle-clause-keeps : goal.returns-in-Idle-clause-keeps
 returns-in-Idle-clause-keeps g c = invariant_of-self-in-Idle g c
@@ -72,6 +74,7 @@ returns-in-Idle-clause-takes g c = rw (← c.self.view_is) (record {
     asks = rw c.in-Idle.is at c.poll.ensures.asked;
     step = c.step_between-step.result;
     steps = c.step_between-step.ensures.steps;
+    moments = c.step_between-step.ensures.moments;
     database = refl;
     turned_is = c.turned_by.ensures ∙ ap turned_by c.is_sent.ensures;
   };
@@ -83,9 +86,10 @@ pub invariant_of-self-in-None : goal.invariant_of-self-in-None
 invariant_of-self-in-None g c =
     let was = c.self.inside in
     let turns = member_turns was.engine.client was.engine.calls in
-    let own = (g.P.BufferPort.access was.port).own in
+    let own = c.take_turn.new.self.access.own in
+    let access = c.take_turn.ensures.access in
     let did = c.on_turn-answer.ensures in
-    let stands = c.self.invariant.stands in
+    let stands = rw (← access) at c.self.invariant.stands in
     let owed = sym c.owed-owed.ensures ∙ c.in-None.is in
     seated_taken g.X.Equipment.takes g.X.Equipment.makes _ _ c.self.invariant
     (record {
@@ -94,13 +98,14 @@ invariant_of-self-in-None g c =
       name = refl;
       takes_as = ap (λ (f : FrontState _). g.X.Equipment.takes f.equipment) did.after;
       makes_as = ap (λ (f : FrontState _). g.X.Equipment.makes f.equipment) did.after;
-      port = (refl, refl, refl);
+      port = same_access access;
       database = c.set.ensures.same;
     })
     c.give.ensures.speaks was.front.run stands c.poll.new.self.calls c.in-Turn.transition c.in-Turn.order c.in-Turn.dump c.in-Turn.blank c.on_turn-answer.result (rw c.in-Turn.is at c.poll.ensures.asked)
     (rw c.poll.ensures.client at c.give.ensures.gives) owed
+    (rw (← access) at c.take_turn.ensures.moments)
     (did.keeps own c.in-Turn.dump turns (none_open turns owed) stands.stands)
-    (did.moments own c.in-Turn.dump turns stands.moments stands.kept)
+    (did.moments own c.in-Turn.dump turns was.port.moments stands.kept)
     (λ are of_run. c.sent_in-sent.ensures.of_run own turns stands.stands are of_run ∙ c.sent_in-sent.ensures.number)
     (rw (c.number_set_at-number.ensures, c.is_some.ensures, c.sent_in-sent.ensures.number) at c.set.ensures.own)
 
@@ -114,7 +119,7 @@ returns-in-None-clause-same g c = rw (← c.self.view_is) (record {
   name = refl;
   takes_as = ap (λ (f : FrontState _). g.X.Equipment.takes f.equipment) c.on_turn-answer.ensures.after;
   makes_as = ap (λ (f : FrontState _). g.X.Equipment.makes f.equipment) c.on_turn-answer.ensures.after;
-  port = (refl, refl, refl);
+  port = same_access c.take_turn.ensures.access;
   database = c.set.ensures.same;
 })
 
@@ -125,7 +130,8 @@ returns-in-None-clause-takes g c = rw (← c.self.view_is) (
       answer_is = c.on_turn-answer.ensures.answer;
       gives = rw (c.poll.ensures.client, rw c.in-Turn.is at c.poll.ensures.asked) at c.give.ensures.gives;
       run = ap (λ (f : FrontState _). f.run) c.on_turn-answer.ensures.after;
-      port = refl;
+      port = c.take_turn.ensures.access;
+      moments = c.take_turn.ensures.moments;
       sets = rw (c.number_set_at-number.ensures, c.is_some.ensures, c.sent_in-sent.ensures.number) at c.set.ensures.sets;
       last = last_seen g.D.DatabasePort.access _ _ _ c.give.ensures.last;
       turned_is = refl;
@@ -138,9 +144,10 @@ invariant_of-self-in-Some g c =
     let was = c.self.inside in
     let turns = member_turns was.engine.client was.engine.calls in
     let step = c.step_between-step-in-Some in
-    let own = (g.P.BufferPort.access step.new.port).own in
+    let own = c.answer_turn.new.self.access.own in
+    let access = c.answer_turn.ensures.access in
     let ends = c.finish-answer.ensures in
-    let stepped = step.ensures.keeps was.engine.client was.key.name was.engine.calls (own_watched (g.D.DatabasePort.access was.database)) c.self.invariant.stands in
+    let stepped = rw (← access) at (step.ensures.keeps was.engine.client was.key.name was.engine.calls was.port.moments (own_watched (g.D.DatabasePort.access was.database)) c.self.invariant.stands) in
     let stands = rw (← step.ensures.takes_as, ← step.ensures.makes_as) at stepped.stands in
     seated_finished g.X.Equipment.takes g.X.Equipment.makes _ _ c.self.invariant
     (record {
@@ -149,13 +156,14 @@ invariant_of-self-in-Some g c =
       name = refl;
       takes_as = ap (λ (f : FrontState _). g.X.Equipment.takes f.equipment) ends.after ∙ step.ensures.takes_as;
       makes_as = ap (λ (f : FrontState _). g.X.Equipment.makes f.equipment) ends.after ∙ step.ensures.makes_as;
-      port = step.ensures.same_port;
+      port = access_then was.port.access step.new.port.access c.answer_turn.new.self.access step.ensures.same_port access;
       database = c.set-in-Some.ensures.same;
     })
     c.give-in-Some.ensures.speaks step.new.front.run stepped c.poll.new.self.calls c.in-Turn.transition c.in-Turn.order c.in-Turn.dump c.in-Turn.blank c.finish-answer.result (rw c.in-Turn.is at c.poll.ensures.asked)
     (rw c.poll.ensures.client at c.give-in-Some.ensures.gives) c.in-Some.start (sym c.owed-owed.ensures ∙ c.in-Some.is) ends.answer
+    (rw (← access, step.ensures.moments) at c.answer_turn.ensures.moments)
     (ends.keeps own turns stands)
-    (ends.moments own turns stepped.moments stands stepped.kept)
+    (ends.moments own turns was.port.moments stands stepped.kept)
     (λ are in_run. c.sent_in-sent-in-Some.ensures.in_run own turns stands are in_run ∙ c.sent_in-sent-in-Some.ensures.number)
     (rw (c.number_finished-number.ensures, c.is_some-answered.ensures, c.sent_in-sent-in-Some.ensures.number) at c.set-in-Some.ensures.own)
 
@@ -168,7 +176,7 @@ returns-clause-same g c =
       name = refl;
       takes_as = ap (λ (f : FrontState _). g.X.Equipment.takes f.equipment) c.finish-answer.ensures.after ∙ step.takes_as;
       makes_as = ap (λ (f : FrontState _). g.X.Equipment.makes f.equipment) c.finish-answer.ensures.after ∙ step.makes_as;
-      port = step.same_port;
+      port = access_then c.self.inside.port.access c.step_between-step-in-Some.new.port.access c.answer_turn.new.self.access step.same_port c.answer_turn.ensures.access;
       database = c.set-in-Some.ensures.same;
     })
 
@@ -177,11 +185,12 @@ returns-clause-takes g c = rw (← c.self.view_is) (
     front_finished c.in-Turn.transition c.in-Turn.order c.in-Turn.dump c.in-Turn.blank _ c.in-Some.start (sym c.owed-owed.ensures ∙ c.in-Some.is) (record {
       step = c.step_between-step-in-Some.result;
       stepped = c.step_between-step-in-Some.new.front.run;
-      steps = c.step_between-step-in-Some.ensures.steps;
+      steps = rw (← c.answer_turn.ensures.access) at c.step_between-step-in-Some.ensures.steps;
       answer = c.finish-answer.result;
       answer_is = c.finish-answer.ensures.answer;
       gives = rw (c.poll.ensures.client, rw c.in-Turn.is at c.poll.ensures.asked) at c.give-in-Some.ensures.gives;
       run = ap (λ (f : FrontState _). f.run) c.finish-answer.ensures.after;
+      moments = rw (← c.answer_turn.ensures.access, c.step_between-step-in-Some.ensures.moments) at c.answer_turn.ensures.moments;
       sets = rw (c.number_finished-number.ensures, c.is_some-answered.ensures, c.sent_in-sent-in-Some.ensures.number) at c.set-in-Some.ensures.sets;
       last = last_seen g.D.DatabasePort.access _ _ _ c.give-in-Some.ensures.last;
       turned_is = c.turned_by_step.ensures ∙ ap (λ (b : Bool). turned_by (is_sent c.step_between-step-in-Some.result || b)) c.is_some-answered.ensures;
@@ -192,9 +201,10 @@ returns-clause-keeps g c =
     let was = c.self.inside in
     let turns = member_turns was.engine.client was.engine.calls in
     let step = c.step_between-step-in-Some in
-    let own = (g.P.BufferPort.access step.new.port).own in
+    let own = c.answer_turn.new.self.access.own in
+    let access = c.answer_turn.ensures.access in
     let ends = c.finish-answer.ensures in
-    let stepped = step.ensures.keeps was.engine.client was.key.name was.engine.calls (own_watched (g.D.DatabasePort.access was.database)) c.self.invariant.stands in
+    let stepped = rw (← access) at (step.ensures.keeps was.engine.client was.key.name was.engine.calls was.port.moments (own_watched (g.D.DatabasePort.access was.database)) c.self.invariant.stands) in
     let stands = rw (← step.ensures.takes_as, ← step.ensures.makes_as) at stepped.stands in
     seated_finished g.X.Equipment.takes g.X.Equipment.makes _ _ c.self.invariant
     (record {
@@ -203,12 +213,13 @@ returns-clause-keeps g c =
       name = refl;
       takes_as = ap (λ (f : FrontState _). g.X.Equipment.takes f.equipment) ends.after ∙ step.ensures.takes_as;
       makes_as = ap (λ (f : FrontState _). g.X.Equipment.makes f.equipment) ends.after ∙ step.ensures.makes_as;
-      port = step.ensures.same_port;
+      port = access_then was.port.access step.new.port.access c.answer_turn.new.self.access step.ensures.same_port access;
       database = c.set-in-Some.ensures.same;
     })
     c.give-in-Some.ensures.speaks step.new.front.run stepped c.poll.new.self.calls c.in-Turn.transition c.in-Turn.order c.in-Turn.dump c.in-Turn.blank c.finish-answer.result (rw c.in-Turn.is at c.poll.ensures.asked)
     (rw c.poll.ensures.client at c.give-in-Some.ensures.gives) c.in-Some.start (sym c.owed-owed.ensures ∙ c.in-Some.is) ends.answer
+    (rw (← access, step.ensures.moments) at c.answer_turn.ensures.moments)
     (ends.keeps own turns stands)
-    (ends.moments own turns stepped.moments stands stepped.kept)
+    (ends.moments own turns was.port.moments stands stepped.kept)
     (λ are in_run. c.sent_in-sent-in-Some.ensures.in_run own turns stands are in_run ∙ c.sent_in-sent-in-Some.ensures.number)
     (rw (c.number_finished-number.ensures, c.is_some-answered.ensures, c.sent_in-sent-in-Some.ensures.number) at c.set-in-Some.ensures.own)
