@@ -5,6 +5,7 @@ pub mod StepEntries
 pub mod StoppedRuns
 pub mod NewSlots
 pub mod LeftThere
+pub mod StoppedThere
 pub mod Moved
 pub mod PullMoves
 pub mod PulledLogger
@@ -33,7 +34,9 @@ pub mod FilesLeft
 pub mod ManyRose
 pub mod RisesKept
 pub mod ReasonsKept
+pub mod NamesOpened
 pub mod NamesUndone
+pub mod FirstNamed
 pub mod NamesKept
 pub mod RefusedAsks
 pub mod NamesTaken

@@ -1,19 +1,25 @@
 -- Each call of a logger keeps which names of run files it leaves.
-use Rattle.std.specs.Prelude.{◌≡◌, ◌≤◌, ◌<◌, ℕ, zero, suc, Bool, true, false, IsTrue, List, [], ◌∷◌, length, slice_get, slice_set, Option, Some, None, ◌⊎◌, refl}
+use Rattle.std.specs.Prelude.{◌≡◌, ◌≢◌, ◌≤◌, ◌<◌, ◌==◌, ◌+◌, sum_by, ℕ, zero, suc, Bool, true, false, IsTrue, IsSome, List, [], ◌∷◌, length, slice_get, slice_set, Option, Some, None, ◌⊎◌, refl}
 use Rattle.std.specs.List.{list_all}
+use Rattle.std.proofs.lemmas.List.Sums.{sum_by-cons}
+use Rattle.std.proofs.lemmas.Bool.{eqb-true}
 use Rattle.std.proofs.Common.{ap, sym, subst, ◌∙◌, arith, inl, inr}
 use Rattle.daq_types.specs.declared.runs.ChannelEnd.{ChannelEnd}
-use Rattle.daq_types.specs.declared.runs.Transition.TheVariants.{Stop}
+use Rattle.daq_types.specs.declared.runs.Transition.{Transition}
+use Rattle.daq_types.specs.declared.runs.Transition.TheVariants.{Start, Stop, StartAbort}
+use Rattle.daq_types.specs.declared.runs.Why.{Why}
 use Rattle.daq_types.specs.declared.runs.Order.{Order}
+use Rattle.daq_io.specs.Counts.{RoseBy}
 use Rattle.daq_io.specs.Seen.{Seen, Stored}
+use Rattle.daq_io.proofs.Counts.{RoseBy-fewer, RoseBy-then}
 use Rattle.daq_io.specs.Told.{FilesTold}
 use Rattle.buffer_core.specs.declared.entry.BufferEntry.{BufferEntry}
 use Rattle.buffer_core.specs.Ports.{Access, GotEvent}
 use Rattle.buffer_core.specs.Slots.{slot_at}
 use Rattle.buffer_core.proofs.SlotLaws.{slot_set_other, slot_within}
-use Rattle.transitions.specs.declared.answers.Answer.TheVariants.{Yes}
+use Rattle.transitions.specs.declared.answers.Answer.TheVariants.{Yes, No}
 use Rattle.transitions.specs.declared.answers.Tally.TheVariants.{Channels}
-use Rattle.member_model.specs.Turns.{MemberTurn, HasTurn, IsAcceptedStart, latest_answered}
+use Rattle.member_model.specs.Turns.{MemberTurn, HasTurn, HasTurnOf, IsAcceptedStart, latest_answered, AreEngineTurns}
 use Rattle.mid_logger.specs.declared.channel.Channel.{Channel}
 use Rattle.mid_logger.specs.declared.channel_spec.ChannelSpec.{ChannelSpec}
 use Rattle.mid_logger.specs.declared.pulled.Pulled.{Pulled}
@@ -26,19 +32,23 @@ use Rattle.loggers.specs.declared.logged_run.LoggedRun.{LoggedRun}
 use Rattle.loggers.specs.declared.logged_run.RunDumps.{RunDumps}
 use Rattle.loggers.specs.declared.logged_run.RunPart.{RunPart}
 use Rattle.loggers.specs.declared.logged_run.RunPart.TheVariants.{Refused, Started, Stopping}
-use Rattle.loggers.specs.Moments.{LoggerMoment, InTurn, HaveFilesOpen, channel_limit}
+use Rattle.loggers.specs.Moments.{LoggerMoment, InTurn, AreIdleChannels, HaveFilesOpen, IsLoggerReady, channel_limit}
+use Rattle.loggers.specs.Turning.{LoggerTurn, is_of_start}
+use Rattle.loggers.specs.ToldCounts.{faults_of_end, faults_of_answer, clashes_of_answer, count_in_answer, undone_by, faults_told, starts_undone, broken_off}
 use Rattle.loggers.specs.SlotPulls.{PullsSlot}
 use Rattle.loggers.specs.Finishing.{EndingMoment, EndsSlot, EndsSlotAt, LoggerFinish, FinishesLogger, FinishesBy, EndsFiles, ending_of, ends_idle, is_settled_slot, waiting_stop}
-use Rattle.loggers.specs.LoggerStands.{LoggerHolds, logger_turn, ChannelKept, HasHead, IsHeadTold, IsStopWaiting, IsStartedStage, IsStoppingStage, IsStageOf, IsStagePart, IsRunTold, IsPartTold}
+use Rattle.loggers.specs.LoggerStands.{LoggerHolds, LoggerStands, logger_turn, ChannelKept, HasHead, IsHeadTold, IsStopWaiting, IsStartedStage, IsStoppingStage, IsStageOf, IsStagePart, IsRunTold, IsPartTold}
 use Rattle.loggers.specs.OtherFiles.{specs_in}
-use Rattle.loggers.specs.LeftNames.{IsOpenName, NamesLeft, NoneRose, IsStoppedRunOf, IsStoppedName, IsNameLeft, AreTaken, KeepsNames, StopsOpenRuns, HaveStoppedRuns, StandingHasStarted, StandingHasStopped, PullsKeepStopped, TurnsKeepNames, PullsKeepNames, FinishesKeepNames}
-use Rattle.loggers.proofs.FaultsNoted.{turn_faults, pull_faults, finish_faults}
+use Rattle.loggers.specs.LeftNames.{IsOpenName, NamesLeft, IsStoppedRunOf, IsStoppedName, IsUndoneRun, IsUndoneName, HasUntoldFault, IsNameMade, IsNameLeft, EachFindsNames, KeepsNames, StopsOpenRuns, HaveStoppedRuns, StandingHasStarted, StandingHasStopped, PullsKeepStopped, TurnsKeepNames, PullsKeepNames, FinishesKeepNames}
 use Rattle.loggers.proofs.FilesLeft.{FileChanges, spec_at, no_run, same_run, turn_leaves, pull_leaves, finish_leaves}
+use Rattle.loggers.proofs.FirstNamed.{turn_fault, pull_fault, finish_fault}
 use Rattle.loggers.proofs.FinishedLogger.{Waits, run_waits}
-use Rattle.loggers.proofs.NamesTaken.{turn_taken}
+use Rattle.loggers.proofs.NamesTaken.{found_more, free_name, turn_found}
 use Rattle.loggers.proofs.SlotLists.{same_or_other, one_changed, got_there, kept_there, many_set}
-use Rattle.loggers.proofs.ManyRose.{StaysOrRose, by_stays}
-use Rattle.loggers.proofs.NamesUndone.{none_first, none_last, turn_left, pull_left, ends_left}
+use Rattle.loggers.proofs.NamesUndone.{Undoes, turn_left, pull_left, ends_left}
+use Rattle.loggers.proofs.ReasonsKept.{CountsKept, more_faults, turn_counted, pull_counted, ends_all}
+use Rattle.loggers.proofs.RisesKept.{idle_off}
+use Rattle.loggers.proofs.StoppedThere.{stopped_there}
 use Rattle.loggers.proofs.StoppedRuns.{there_is}
 use Rattle.loggers.proofs.TurnsKnown.{across, stop_answered}
 
@@ -53,32 +63,29 @@ left_more Good More slots now more left = record {
   fresh = λ name open_. more name None (left.fresh name open_);
 }
 
-name_more : (specs : List (Option ChannelSpec)) (turns later : List MemberTurn) (first : Seen) → ((run : ℕ) (ends : List ChannelEnd) → IsStoppedRunOf turns run ends → IsStoppedRunOf later run ends) → (name : List ℕ) (x : Option Stored) → IsNameLeft specs turns first name x → IsNameLeft specs later first name x
-name_more specs turns later first more name x good = elim good as (λ w. IsNameLeft specs later first name x) [
-  | inl is ↦ inl (
-    record {
-      number = is.0.number;
-      spec = is.0.spec;
-      there = is.0.there;
-      run = is.0.run;
-      ends = is.0.ends;
-      stopped = more is.0.run is.0.ends is.0.stopped;
-      told = is.0.told;
-      at = is.0.at;
-      sub = is.0.sub;
-      made = is.0.made;
-      is = is.0.is;
-    },
-    is.1,
-  )
-  | inr same ↦ inr same
-]
+stopped_more : (specs : List (Option ChannelSpec)) (turns later : List MemberTurn) (name : List ℕ) → ((run : ℕ) (ends : List ChannelEnd) → IsStoppedRunOf turns run ends → IsStoppedRunOf later run ends) → IsStoppedName specs turns name → IsStoppedName specs later name
+stopped_more specs turns later name more o =
+    record { number = o.number; spec = o.spec; there = o.there; run = o.run; ends = o.ends; stopped = more o.run o.ends o.stopped; told = o.told; at = o.at; sub = o.sub; made = o.made; is = o.is }
 
--- where it is good that there is no file, there was none at first
-free_name : (specs : List (Option ChannelSpec)) (turns : List MemberTurn) (first : Seen) (name : List ℕ) → IsNameLeft specs turns first name None → first.at name ≡ None
-free_name specs turns first name good = elim good as (λ w. first.at name ≡ None) [
-  | inl is ↦ is.1
-  | inr same ↦ sym same
+undone_more : (specs : List (Option ChannelSpec)) (turns later : List MemberTurn) (name : List ℕ) → ((run : ℕ) → IsUndoneRun turns run → IsUndoneRun later run) → IsUndoneName specs turns name → IsUndoneName specs later name
+undone_more specs turns later name more o = record { number = o.number; spec = o.spec; there = o.there; run = o.run; undone = more o.run o.undone; sub = o.sub; few = o.few; is = o.is }
+
+-- behind more turns, and more faults
+record MoreTurns (One Other : Type 0) (turns later : List MemberTurn) : Type 0 where
+  untold : One → Other
+  stopped : (run : ℕ) (ends : List ChannelEnd) → IsStoppedRunOf turns run ends → IsStoppedRunOf later run ends
+  undone : (run : ℕ) → IsUndoneRun turns run → IsUndoneRun later run
+
+name_more : {One Other : Type 0} (specs : List (Option ChannelSpec)) (turns later : List MemberTurn) (first : Seen) → MoreTurns One Other turns later → (name : List ℕ) (x : Option Stored) → IsNameLeft One specs turns first name x → IsNameLeft Other specs later first name x
+name_more {One} {Other} specs turns later first more name x good = elim good as (λ w. IsNameLeft Other specs later first name x) [
+  | inl same ↦ inl same
+  | inr made ↦ inr (
+    made.0,
+    elim made.1 as (λ w. IsNameMade Other specs later name) [
+      | inl stopped ↦ inl (stopped_more specs turns later name more.stopped stopped)
+      | inr undone ↦ inr (more.untold undone.0, undone_more specs turns later name more.undone undone.1)
+    ],
+  )
 ]
 
 turn_more : (t : MemberTurn) (turns : List MemberTurn) (run : ℕ) (ends : List ChannelEnd) → IsStoppedRunOf turns run ends → IsStoppedRunOf (t ∷ turns) run ends
@@ -92,49 +99,19 @@ turn_more t turns run ends is = record {
   answered = is.answered;
 }
 
--- A turn.
+turn_undone : (t : MemberTurn) (turns : List MemberTurn) (run : ℕ) → IsUndoneRun turns run → IsUndoneRun (t ∷ turns) run
+turn_undone t turns run is = record {
+  begin = is.begin;
+  stands = inr is.stands;
+  is = is.is;
+  number = is.number;
+  undone = elim is.undone as (λ w. ((why : Why) × (is.begin.answer ≡ Some (No why))) ⊎ ((off : MemberTurn) × HasTurnOf (t ∷ turns) StartAbort is.begin.order.start off)) [
+    | inl refused ↦ inl refused
+    | inr off ↦ inr (off.0, record { stands = inr off.1.stands; is = off.1.is; of = off.1.of })
+  ];
+}
 
-pub turns_keep_names : FileChanges → TurnsKeepNames
-turns_keep_names laws t first turns takes idle gives keeps =
-    let leaves = turn_leaves laws (t.order.run ∷ []) t takes (λ starts. (0, omega arith, refl)) in
-    let later : List MemberTurn = logger_turn t.transition t.order t.dump t.answer ∷ turns in
-    let stays : StaysOrRose t.before.files.faults t.after.files.faults = (turn_faults t takes).count in
-    record {
-      told = leaves.names ∙ keeps.told;
-      names = λ tells none.
-          let before_none : NoneRose first t.before.files = none_first first.faults t.before.files.faults t.after.files.faults none stays in
-          let now_none : NoneRose t.before.files t.after.files = none_last first.faults t.before.files.faults t.after.files.faults none (by_stays _ first.faults t.before.files.faults gives.faults) in
-          let told : IsTrue t.before.files.seen.names = subst (λ (b : Bool). IsTrue b) (sym keeps.told) tells in
-          let left : NamesLeft (IsNameLeft (specs_in t.before.slots) turns first.seen) t.after.slots t.after.files.seen =
-          turn_left laws.aborts (IsNameLeft (specs_in t.before.slots) turns first.seen) t takes idle told now_none (keeps.names tells before_none) in
-          subst (λ (specs : List (Option ChannelSpec)). NamesLeft (IsNameLeft specs later first.seen) t.after.slots t.after.files.seen) (sym leaves.specs)
-          (left_more (IsNameLeft (specs_in t.before.slots) turns first.seen) (IsNameLeft (specs_in t.before.slots) later first.seen) t.after.slots t.after.files.seen
-          (name_more (specs_in t.before.slots) turns later first.seen (turn_more (logger_turn t.transition t.order t.dump t.answer) turns)) left);
-      taken = λ tells none.
-          let before_none : NoneRose first t.before.files = none_first first.faults t.before.files.faults t.after.files.faults none stays in
-          let told : IsTrue t.before.files.seen.names = subst (λ (b : Bool). IsTrue b) (sym keeps.told) tells in
-          subst (λ (specs : List (Option ChannelSpec)). AreTaken specs first.seen later) (sym leaves.specs)
-          (turn_taken turns first.seen t idle told (keeps.names tells before_none) takes, keeps.taken tells before_none);
-    }
-
--- A pull.
-
-pub pulls_keep_names : FileChanges → PullsKeepNames
-pulls_keep_names laws dump number answer a b first turns pulls ready keeps =
-    let leaves = pull_leaves laws.pulls [] dump number answer a b pulls ready.files in
-    record {
-      told = leaves.names ∙ keeps.told;
-      names = λ tells none.
-          let before_none : NoneRose first a.files = none_first first.faults a.files.faults b.files.faults none (pull_faults dump number answer a b pulls).count in
-          let told : IsTrue a.files.seen.names = subst (λ (t : Bool). IsTrue t) (sym keeps.told) tells in
-          subst (λ (specs : List (Option ChannelSpec)). NamesLeft (IsNameLeft specs turns first.seen) b.slots b.files.seen) (sym leaves.specs)
-          (pull_left laws.pulls (IsNameLeft (specs_in a.slots) turns first.seen) dump number answer a b pulls ready.files told (keeps.names tells before_none));
-      taken = λ tells none.
-          let before_none : NoneRose first a.files = none_first first.faults a.files.faults b.files.faults none (pull_faults dump number answer a b pulls).count in
-          subst (λ (specs : List (Option ChannelSpec)). AreTaken specs first.seen turns) (sym leaves.specs) (keeps.taken tells before_none);
-    }
-
--- A call to finish.
+-- The run of a channel.
 
 head_run : (spec : ChannelSpec) (client : Option ℕ) (stage : ChannelStage) (head : FileHead) (own : List BufferEntry) (got : List GotEvent) (seen : Seen) (opened : ChannelRun) → StageWith (FilesHold spec head seen) (FilesLeft spec head seen) spec client stage own got → channel_run stage ≡ Some opened
     → head.run ≡ opened.run
@@ -152,22 +129,6 @@ stage_start (Writing o begun) turns own start opened at is = absurd at
 stage_start (Draining run) turns own start opened at is = (let same : run.opened ≡ opened = cc (is) in ap (λ (x : ChannelRun). x.start) (sym same) ∙ at.of)
 stage_start (Drained run) turns own start opened at is = (let same : run.opened ≡ opened = cc (is) in ap (λ (x : ChannelRun). x.start) (sym same) ∙ at.of)
 stage_start (Broken run fallen) turns own start opened at is = (let same : run.opened ≡ opened = cc (is) in ap (λ (x : ChannelRun). x.start) (sym same) ∙ at.of)
-
-answered_more : (order : Order) (dump : Option (List ℕ)) (told : List ChannelEnd) (earlier : List MemberTurn) (run : ℕ) (ends : List ChannelEnd) → IsStoppedRunOf (logger_turn Stop order dump None ∷ earlier) run ends → IsStoppedRunOf (stop_answered order dump told earlier) run ends
-answered_more order dump told earlier run ends is = record {
-  begin = is.begin;
-  stop = is.stop;
-  is_start = across order dump None (Some (Yes (Channels told))) earlier is.stop.order.start is.begin is.is_start;
-  number = is.number;
-  stands = elim is.stands as (λ w. HasTurn (stop_answered order dump told earlier) is.stop) [
-    | inl same ↦ absurd (let none : None ≡ is.stop.answer = ap (λ (u : MemberTurn). u.answer) same in let some = is.answered in cc (none, some))
-    | inr old ↦ inr old
-  ];
-  is = is.is;
-  answered = is.answered;
-}
-
--- The run that is stopped.
 
 -- the start of the run that a channel has, where the channel is one of a logger that stands
 record HeadStart (turns : List MemberTurn) (opened : ChannelRun) : Type 0 where
@@ -200,6 +161,144 @@ part_start (Stopping time) turns own start stage opened at is = stage_start stag
 its_run : (run : Option LoggedRun) (turns : List MemberTurn) (own : List BufferEntry) (stage : ChannelStage) (opened : ChannelRun) → IsStageOf run turns own stage → channel_run stage ≡ Some opened → (r : LoggedRun) × (run ≡ Some r) × (opened.start ≡ r.start)
 its_run None turns own stage opened at is = absurd (no_run stage opened at is)
 its_run (Some r) turns own stage opened at is = (r, refl, part_start r.part turns own r.start stage opened at is)
+
+-- A turn.
+
+-- more faults were counted than are told as before
+untold_more : (told clashes : ℕ) (slots later : List (Option Channel)) (turns : List MemberTurn) (t : MemberTurn) (first old new : FilesTold) → count_in_answer faults_of_answer t.answer ≡ told → CountsKept told clashes slots later old new → HasUntoldFault slots turns first old → HasUntoldFault later (t ∷ turns) first new
+untold_more told clashes slots later turns t first old new is kept untold =
+    let all : faults_told (t ∷ turns) ≡ count_in_answer faults_of_answer t.answer + faults_told turns = sum_by-cons (λ (u : MemberTurn). count_in_answer faults_of_answer u.answer) t turns in
+    RoseBy-fewer (faults_told (t ∷ turns) + broken_off later + 1) (told + (faults_told turns + 1) + broken_off later) first.faults new.faults (omega (arith, all, is))
+    (more_faults (faults_told turns + 1) told clashes slots later first old new kept (RoseBy-fewer (faults_told turns + 1 + broken_off slots) (faults_told turns + broken_off slots + 1) first.faults old.faults (omega arith) untold))
+
+-- in a turn that undid what was opened one fault was counted more than its answer tells
+untold_now : (t : LoggerTurn) (first : FilesTold) (turns : List MemberTurn) → AreIdleChannels t.after.slots → RoseBy (faults_told turns + broken_off t.before.slots) first.faults t.before.files.faults → RoseBy (count_in_answer faults_of_answer t.answer + 1) t.before.files.faults t.after.files.faults
+    → HasUntoldFault t.after.slots (logger_turn t.transition t.order t.dump t.answer ∷ turns) first t.after.files
+untold_now t first turns idle before rose =
+    let told : ℕ = count_in_answer faults_of_answer t.answer in
+    let later : List MemberTurn = logger_turn t.transition t.order t.dump t.answer ∷ turns in
+    let all : faults_told later ≡ told + faults_told turns = sum_by-cons (λ (u : MemberTurn). count_in_answer faults_of_answer u.answer) (logger_turn t.transition t.order t.dump t.answer) turns in
+    let off : broken_off t.after.slots ≡ 0 = idle_off t.after.slots idle in
+    RoseBy-fewer (faults_told later + broken_off t.after.slots + 1) (faults_told turns + broken_off t.before.slots + (told + 1)) first.faults t.after.files.faults (omega (arith, all, off))
+    (RoseBy-then (faults_told turns + broken_off t.before.slots) (told + 1) first.faults t.before.files.faults t.after.files.faults before rose)
+
+-- what a turn undoes
+turn_undoes : (t : LoggerTurn) (first : FilesTold) (turns : List MemberTurn) → IsLoggerReady t.before.slots t.before.ports t.before.files.seen → LoggerStands t.run t.dumps t.before.slots t.before.ports turns t.before.files.seen → RoseBy (faults_told turns + broken_off t.before.slots) first.faults t.before.files.faults
+    → Undoes (IsNameLeft (HasUntoldFault t.after.slots (logger_turn t.transition t.order t.dump t.answer ∷ turns) first t.after.files) (specs_in t.before.slots) (logger_turn t.transition t.order t.dump t.answer ∷ turns) first.seen)
+    (IsUndoneName (specs_in t.before.slots) (logger_turn t.transition t.order t.dump t.answer ∷ turns)) t
+turn_undoes t first turns ready stands faults =
+    let now : MemberTurn = logger_turn t.transition t.order t.dump t.answer in
+    let later : List MemberTurn = now ∷ turns in
+    let specs : List (Option ChannelSpec) = specs_in t.before.slots in
+    let Untold : Type 0 = HasUntoldFault t.after.slots later first t.after.files in
+    record {
+      refused = λ starts why answered i spec there. record {
+        number = i;
+        spec = spec;
+        there = there;
+        run = t.order.run;
+        undone = record { begin = now; stands = inl refl; is = starts; number = refl; undone = inl (why, answered) };
+        sub = 0;
+        few = omega arith;
+        is = refl;
+      };
+      off = λ aborts is name o.
+          let port : (a : Access) × (slice_get t.before.ports o.channel.spec.buffer ≡ Some a) = there_is t.before.ports o.channel.spec.buffer (stands.holds.served o.number o.channel o.there) in
+          let h : HeadStart turns o.opened = head_start t.run t.dumps t.before.slots t.before.ports turns t.before.files.seen stands.holds o.number o.channel o.opened port.0 o.there port.1 o.of in
+          let its : (r : LoggedRun) × (t.run ≡ Some r) × (o.opened.start ≡ r.start) = its_run t.run turns port.0.own o.channel.stage o.opened (stands.holds.stages o.number o.channel port.0 o.there port.1) o.of in
+          let of : (its.0.start == t.order.start) ≡ true = subst (λ (r : Option LoggedRun). is_of_start r t.order.start ≡ true) its.1 is in
+          let few = ready.few o.number o.channel o.there in
+          let made = o.made in
+          record {
+            number = o.number;
+            spec = o.channel.spec;
+            there = spec_at t.before.slots o.number o.channel o.there;
+            run = o.opened.run;
+            undone = record {
+              begin = h.begin;
+              stands = inr h.is_start.is_start.stands;
+              is = h.is_start.is_start.is;
+              number = h.number;
+              undone = inr (now, record { stands = inl refl; is = aborts; of = sym (h.is_start.is_start.of ∙ (its.2 ∙ eqb-true its.0.start t.order.start of)) });
+            };
+            sub = o.sub;
+            few = omega (arith, few, made);
+            is = o.is;
+          };
+      loose = λ idle rose name undone none x.
+          let untold : Untold = untold_now t first turns idle faults rose in
+          inr (free_name Untold specs later first.seen name none, inr (untold, undone));
+    }
+
+pub turns_keep_names : FileChanges → TurnsKeepNames
+turns_keep_names laws t first turns takes ready idle stands gives keeps =
+    let leaves = turn_leaves laws (t.order.run ∷ []) t takes (λ starts. (0, omega arith, refl)) in
+    let now : MemberTurn = logger_turn t.transition t.order t.dump t.answer in
+    let later : List MemberTurn = now ∷ turns in
+    let specs : List (Option ChannelSpec) = specs_in t.before.slots in
+    let before : Type 0 = HasUntoldFault t.before.slots turns first t.before.files in
+    let behind : Type 0 = HasUntoldFault t.after.slots later first t.after.files in
+    let more : before → behind = untold_more (count_in_answer faults_of_answer t.answer) (count_in_answer clashes_of_answer t.answer) t.before.slots t.after.slots turns now first t.before.files t.after.files refl (turn_counted t takes) in
+    record {
+      told = leaves.names ∙ keeps.told;
+      names = λ tells.
+          let told : IsTrue t.before.files.seen.names = subst (λ (b : Bool). IsTrue b) (sym keeps.told) tells in
+          let had : NamesLeft (IsNameLeft behind specs later first.seen) t.before.slots t.before.files.seen =
+          left_more (IsNameLeft before specs turns first.seen) (IsNameLeft behind specs later first.seen) t.before.slots t.before.files.seen
+          (name_more specs turns later first.seen (record { untold = more; stopped = turn_more now turns; undone = turn_undone now turns })) (keeps.names tells) in
+          subst (λ (l : List (Option ChannelSpec)). NamesLeft (IsNameLeft behind l later first.seen) t.after.slots t.after.files.seen) (sym leaves.specs)
+          (turn_left laws.aborts (IsNameLeft behind specs later first.seen) (IsUndoneName specs later) t takes idle told (turn_undoes t first turns ready stands gives.faults) had);
+      found = λ tells.
+          let told : IsTrue t.before.files.seen.names = subst (λ (b : Bool). IsTrue b) (sym keeps.told) tells in
+          let made : AreEngineTurns turns → (name : List ℕ) → IsStoppedName specs turns name → IsSome (t.before.files.seen.at name) = λ are name stopped. stopped_there t.run t.dumps t.before.slots t.before.ports turns t.before.files.seen stands told are name stopped in
+          subst (λ (l : List (Option ChannelSpec)). EachFindsNames behind l first.seen later) (sym leaves.specs)
+          (found_more specs first.seen later more (turn_found before turns first.seen t idle told (keeps.names tells) made takes, keeps.found tells));
+      first_fault = turn_fault t first turns takes idle leaves.specs (turn_more now turns) keeps.first_fault;
+    }
+
+-- A pull.
+
+same_untold : (clashes : ℕ) (slots later : List (Option Channel)) (turns : List MemberTurn) (first old new : FilesTold) → CountsKept 0 clashes slots later old new → HasUntoldFault slots turns first old → HasUntoldFault later turns first new
+same_untold clashes slots later turns first old new kept untold =
+    RoseBy-fewer (faults_told turns + broken_off later + 1) (0 + (faults_told turns + 1) + broken_off later) first.faults new.faults (omega arith)
+    (more_faults (faults_told turns + 1) 0 clashes slots later first old new kept (RoseBy-fewer (faults_told turns + 1 + broken_off slots) (faults_told turns + broken_off slots + 1) first.faults old.faults (omega arith) untold))
+
+pub pulls_keep_names : FileChanges → PullsKeepNames
+pulls_keep_names laws dump number answer a b first turns pulls ready keeps =
+    let leaves = pull_leaves laws.pulls [] dump number answer a b pulls ready.files in
+    let specs : List (Option ChannelSpec) = specs_in a.slots in
+    let before : Type 0 = HasUntoldFault a.slots turns first a.files in
+    let behind : Type 0 = HasUntoldFault b.slots turns first b.files in
+    let more : before → behind = same_untold 0 a.slots b.slots turns first a.files b.files (pull_counted dump number answer a b pulls) in
+    record {
+      told = leaves.names ∙ keeps.told;
+      names = λ tells.
+          let told : IsTrue a.files.seen.names = subst (λ (t : Bool). IsTrue t) (sym keeps.told) tells in
+          let had : NamesLeft (IsNameLeft behind specs turns first.seen) a.slots a.files.seen =
+          left_more (IsNameLeft before specs turns first.seen) (IsNameLeft behind specs turns first.seen) a.slots a.files.seen (name_more specs turns turns first.seen (record { untold = more; stopped = λ run ends is. is; undone = λ run is. is })) (keeps.names tells) in
+          subst (λ (l : List (Option ChannelSpec)). NamesLeft (IsNameLeft behind l turns first.seen) b.slots b.files.seen) (sym leaves.specs)
+          (pull_left laws.pulls (IsNameLeft behind specs turns first.seen) dump number answer a b pulls ready.files told had);
+      found = λ tells. subst (λ (l : List (Option ChannelSpec)). EachFindsNames behind l first.seen turns) (sym leaves.specs) (found_more specs first.seen turns more (keeps.found tells));
+      first_fault = pull_fault laws.pulls dump number answer a b first turns ready.files leaves.specs pulls keeps.first_fault;
+    }
+
+-- A call to finish.
+
+answered_more : (order : Order) (dump : Option (List ℕ)) (told : List ChannelEnd) (earlier : List MemberTurn) (run : ℕ) (ends : List ChannelEnd) → IsStoppedRunOf (logger_turn Stop order dump None ∷ earlier) run ends → IsStoppedRunOf (stop_answered order dump told earlier) run ends
+answered_more order dump told earlier run ends is = record {
+  begin = is.begin;
+  stop = is.stop;
+  is_start = across order dump None (Some (Yes (Channels told))) earlier is.stop.order.start is.begin is.is_start;
+  number = is.number;
+  stands = elim is.stands as (λ w. HasTurn (stop_answered order dump told earlier) is.stop) [
+    | inl same ↦ absurd (let none : None ≡ is.stop.answer = ap (λ (u : MemberTurn). u.answer) same in let some = is.answered in cc (none, some))
+    | inr old ↦ inr old
+  ];
+  is = is.is;
+  answered = is.answered;
+}
+
+-- The run that is stopped.
 
 pub standing_has_started : StandingHasStarted
 standing_has_started run dumps slots ports turns seen stands are number c opened there of =
@@ -299,14 +398,28 @@ told_below slots files time dump (suc k) b few turns = told_one slots time dump 
 
 -- The names that are stopped.
 
+-- the run of a channel is one that is stopped now
+stopped_now : (f : LoggerFinish) (time : ℕ) (ends : EndsFiles f time) → (turns : List MemberTurn) (stops : StopsOpenRuns f.dumps.stop f.slots turns) → (n : ℕ) (c : Channel) (opened : ChannelRun) → slot_at f.slots n ≡ Some c → channel_run c.stage ≡ Some opened
+    → IsStoppedRunOf (stop_answered stops.order f.dumps.stop ends.told stops.earlier) opened.run ends.told
+stopped_now f time ends turns stops n c opened there of =
+    let order : Order = stops.order in
+    let dump : Option (List ℕ) = f.dumps.stop in
+    let found = stops.runs n c opened there of in
+    let begun : IsAcceptedStart (logger_turn Stop order dump None ∷ stops.earlier) order.start found.0 = subst (λ (l : List MemberTurn). IsAcceptedStart l order.start found.0) stops.latest found.1 in
+    record {
+      begin = found.0;
+      stop = logger_turn Stop order dump (Some (Yes (Channels ends.told)));
+      is_start = across order dump None (Some (Yes (Channels ends.told))) stops.earlier order.start found.0 begun;
+      number = found.2;
+      stands = inl refl;
+      is = refl;
+      answered = refl;
+    }
+
 open_stopped : (f : LoggerFinish) (time : ℕ) (ends : EndsFiles f time) → length f.slots ≤ channel_limit → (turns : List MemberTurn) (stops : StopsOpenRuns f.dumps.stop f.slots turns) (name : List ℕ) → IsOpenName f.slots name
     → IsStoppedName (specs_in f.slots) (stop_answered stops.order f.dumps.stop ends.told stops.earlier) name
 open_stopped f time ends few turns stops name o =
-    let order : Order = stops.order in
-    let dump : Option (List ℕ) = f.dumps.stop in
-    let found = stops.runs o.number o.channel o.opened o.there o.of in
-    let begun : IsAcceptedStart (logger_turn Stop order dump None ∷ stops.earlier) order.start found.0 = subst (λ (l : List MemberTurn). IsAcceptedStart l order.start found.0) stops.latest found.1 in
-    let told : ToldBelow f.slots (length f.slots) (ending_of f.later_slots f.later_files ends.told) = told_below f.slots f.files time dump (length f.slots) _ few ends.ends in
+    let told : ToldBelow f.slots (length f.slots) (ending_of f.later_slots f.later_files ends.told) = told_below f.slots f.files time f.dumps.stop (length f.slots) _ few ends.ends in
     let its = told.told o.number o.channel (slot_within f.slots o.number o.channel o.there) o.there in
     record {
       number = o.number;
@@ -314,15 +427,7 @@ open_stopped f time ends few turns stops name o =
       there = spec_at f.slots o.number o.channel o.there;
       run = o.opened.run;
       ends = ends.told;
-      stopped = record {
-        begin = found.0;
-        stop = logger_turn Stop order dump (Some (Yes (Channels ends.told)));
-        is_start = across order dump None (Some (Yes (Channels ends.told))) stops.earlier order.start found.0 begun;
-        number = found.2;
-        stands = inl refl;
-        is = refl;
-        answered = refl;
-      };
+      stopped = stopped_now f time ends turns stops o.number o.channel o.opened o.there o.of;
       told = its.0;
       at = its.1;
       sub = o.sub;
@@ -330,29 +435,55 @@ open_stopped f time ends few turns stops name o =
       is = o.is;
     }
 
+answered_undone : (order : Order) (dump : Option (List ℕ)) (told : List ChannelEnd) (earlier : List MemberTurn) (run : ℕ) → IsUndoneRun (logger_turn Stop order dump None ∷ earlier) run → IsUndoneRun (stop_answered order dump told earlier) run
+answered_undone order dump told earlier run is = record {
+  begin = is.begin;
+  stands = kept is.begin Start (λ e. cc (e)) is.stands is.is;
+  is = is.is;
+  number = is.number;
+  undone = elim is.undone as (λ w. ((why : Why) × (is.begin.answer ≡ Some (No why))) ⊎ ((off : MemberTurn) × HasTurnOf (stop_answered order dump told earlier) StartAbort is.begin.order.start off)) [
+    | inl refused ↦ inl refused
+    | inr off ↦ inr (off.0, record { stands = kept off.0 StartAbort (λ e. cc (e)) off.1.stands off.1.is; is = off.1.is; of = off.1.of })
+  ];
+}
+  where
+    kept : (t : MemberTurn) (kind : Transition) → Stop ≢ kind → HasTurn (logger_turn Stop order dump None ∷ earlier) t → t.transition ≡ kind → HasTurn (stop_answered order dump told earlier) t
+    kept t kind other (inl same) is_kind = absurd (other (ap (λ (u : MemberTurn). u.transition) same ∙ is_kind))
+    kept t kind other (inr old) is_kind = inr old
+
 finished_names : FileChanges → (f : LoggerFinish) (first : FilesTold) (turns : List MemberTurn) (time : ℕ) → FinishesLogger f → length f.slots ≤ channel_limit → HaveFilesOpen f.slots f.files.seen → EndsFiles f time → StopsOpenRuns f.dumps.stop f.slots turns → KeepsNames f.slots first f.files turns
     → KeepsNames f.later_slots first f.later_files (latest_answered turns f.answer)
 finished_names laws f first turns time finishes few open_files ends stops keeps =
     let dump : Option (List ℕ) = f.dumps.stop in
-    let before : List MemberTurn = logger_turn Stop stops.order dump None ∷ stops.earlier in
-    let later : List MemberTurn = stop_answered stops.order dump ends.told stops.earlier in
-    let kept : KeepsNames f.slots first f.files before = subst (λ (l : List MemberTurn). KeepsNames f.slots first f.files l) stops.latest keeps in
+    let earlier : List MemberTurn = stops.earlier in
+    let old : List MemberTurn = logger_turn Stop stops.order dump None ∷ earlier in
+    let later : List MemberTurn = stop_answered stops.order dump ends.told earlier in
+    let kept : KeepsNames f.slots first f.files old = subst (λ (l : List MemberTurn). KeepsNames f.slots first f.files l) stops.latest keeps in
     let leaves = finish_leaves laws [] f finishes open_files in
     let specs : List (Option ChannelSpec) = specs_in f.slots in
-    let stays : StaysOrRose f.files.faults f.later_files.faults = (finish_faults f finishes).count in
+    let before : Type 0 = HasUntoldFault f.slots old first f.files in
+    let behind : Type 0 = HasUntoldFault f.later_slots later first f.later_files in
+    let none_told : faults_told old ≡ 0 + faults_told earlier = sum_by-cons (λ (u : MemberTurn). count_in_answer faults_of_answer u.answer) (logger_turn Stop stops.order dump None) earlier in
+    let undone_old : starts_undone old ≡ 0 + starts_undone earlier = sum_by-cons (λ (u : MemberTurn). undone_by u.transition u.answer) (logger_turn Stop stops.order dump None) earlier in
+    let undone_later : starts_undone later ≡ 0 + starts_undone earlier = sum_by-cons (λ (u : MemberTurn). undone_by u.transition u.answer) (logger_turn Stop stops.order dump (Some (Yes (Channels ends.told)))) earlier in
+    let more : before → behind = λ untold.
+    untold_more (sum_by faults_of_end ends.told) 0 f.slots f.later_slots earlier (logger_turn Stop stops.order dump (Some (Yes (Channels ends.told)))) first f.files f.later_files refl (ends_all f time ends)
+    (RoseBy-fewer (faults_told earlier + broken_off f.slots + 1) (faults_told old + broken_off f.slots + 1) first.faults f.files.faults (omega (arith, none_told)) untold) in
     let done : KeepsNames f.later_slots first f.later_files later = record {
       told = leaves.names ∙ keeps.told;
-      names = λ tells none.
-          let before_none : NoneRose first f.files = none_first first.faults f.files.faults f.later_files.faults none stays in
-          let left : NamesLeft (IsNameLeft specs later first.seen) f.slots f.files.seen =
-          left_more (IsNameLeft specs before first.seen) (IsNameLeft specs later first.seen) f.slots f.files.seen (name_more specs before later first.seen (answered_more stops.order dump ends.told stops.earlier)) (kept.names tells before_none) in
-          subst (λ (s : List (Option ChannelSpec)). NamesLeft (IsNameLeft s later first.seen) f.later_slots f.later_files.seen) (sym leaves.specs)
-          (ends_left laws.closes (IsNameLeft specs later first.seen) f time ends open_files (λ name open_ x. inl (open_stopped f time ends few turns stops name open_, free_name specs later first.seen name (left.fresh name open_))) left);
-      taken = λ tells none.
-          let before_none : NoneRose first f.files = none_first first.faults f.files.faults f.later_files.faults none stays in
-          subst (λ (s : List (Option ChannelSpec)). AreTaken s first.seen later) (sym leaves.specs) ((λ number e. absurd (cc (e))), (kept.taken tells before_none).1);
+      names = λ tells.
+          let left : NamesLeft (IsNameLeft behind specs later first.seen) f.slots f.files.seen =
+          left_more (IsNameLeft before specs old first.seen) (IsNameLeft behind specs later first.seen) f.slots f.files.seen
+          (name_more specs old later first.seen (record { untold = more; stopped = answered_more stops.order dump ends.told earlier; undone = answered_undone stops.order dump ends.told earlier })) (kept.names tells) in
+          subst (λ (s : List (Option ChannelSpec)). NamesLeft (IsNameLeft behind s later first.seen) f.later_slots f.later_files.seen) (sym leaves.specs)
+          (ends_left laws.closes (IsNameLeft behind specs later first.seen) f time ends open_files
+          (λ name open_ x. inr (free_name behind specs later first.seen name (left.fresh name open_), inl (open_stopped f time ends few turns stops name open_))) left);
+      found = λ tells.
+          subst (λ (s : List (Option ChannelSpec)). EachFindsNames behind s first.seen later) (sym leaves.specs)
+          (found_more specs first.seen later more (record { taken = λ number e. absurd (cc (e)); free = λ starts tally e. absurd (cc (starts)) }, (kept.found tells).1));
+      first_fault = finish_fault f time ends few first old later (undone_later ∙ sym undone_old) (answered_more stops.order dump ends.told earlier) (λ n c opened there of. stopped_now f time ends turns stops n c opened there of) leaves.specs kept.first_fault;
     } in
-    let answered : KeepsNames f.later_slots first f.later_files (latest_answered before (Some (Yes (Channels ends.told)))) = done in
+    let answered : KeepsNames f.later_slots first f.later_files (latest_answered old (Some (Yes (Channels ends.told)))) = done in
     rw ends.answer_is (subst (λ (l : List MemberTurn). KeepsNames f.later_slots first f.later_files (latest_answered l (Some (Yes (Channels ends.told))))) (sym stops.latest) answered)
 
 finish_by : FileChanges → (f : LoggerFinish) (first : FilesTold) (turns : List MemberTurn) (settled : Bool) (stop : Option ℕ) → FinishesLogger f → waiting_stop f.run ≡ stop → length f.slots ≤ channel_limit → HaveFilesOpen f.slots f.files.seen → FinishesBy settled stop f

@@ -182,6 +182,10 @@ refused_kept order dump why n before a b there s =
     (refused_faults why a.files.faults b.files.faults s.step.faults (noted_count before.failed s.after.failed a.files.faults b.files.faults s.step.failed))
     (refused_clashes why a.files.clashes b.files.clashes s.step.clashes)
 
+-- a refusal that tells of a fault had one
+pub refusal_rose : (order : Order) (dump : List ℕ) (why : Why) (n : ℕ) (before : Channel) (a b : LoggerMoment) → StepsChannel (OpensChannel order dump (Err why)) n before a b → RoseBy (faults_of_refusal why) a.files.faults b.files.faults
+refusal_rose order dump why n before a b s = refused_faults why a.files.faults b.files.faults s.step.faults (noted_count before.failed s.after.failed a.files.faults b.files.faults s.step.failed)
+
 pub refused_stays : (why : Why) (a b : LoggerMoment) → KeptRefused why a b → StaysOrRose a.files.faults b.files.faults
 refused_stays why a b kept = kept_faults (faults_of_refusal why) (clashes_of_answer (No why)) a.slots b.slots a.files b.files kept
 
@@ -304,7 +308,7 @@ undone_begins_kept order dump why begun a b undoes =
     subst (λ (w : Why). KeptRefused w a b) (sym undoes.why_is) kept
 
 -- what this answer tells of the faults and the clashes that were counted
-abbrev KeptAnswered : Option Answer → (a b : LoggerMoment) → Type 0
+abbrev pub KeptAnswered : Option Answer → (a b : LoggerMoment) → Type 0
 KeptAnswered answer a b = KeptSo (count_in_answer faults_of_answer answer) (count_in_answer clashes_of_answer answer) a b
 
 starts_kept : (result : Result ⊤ Why) (order : Order) (dump : List ℕ) (begun : ℕ) (a b : LoggerMoment) → StartsSo result order dump begun a b → KeptAnswered (Some (start_answer result)) a b
@@ -454,7 +458,7 @@ ends_slot slots files time dump n (Some before) a b there ends since =
     subst (λ (l : List (Option Channel)). CountsKept (sum_by faults_of_end b.told) 0 slots l files b.files) (sym ends.slots)
     (subst (λ (l : List ChannelEnd). CountsKept (sum_by faults_of_end l) 0 slots (slice_set a.slots n (Some c)) files b.files) (sym ends.at) both)
 
-ends_all : (f : LoggerFinish) (time : ℕ) (ends : EndsFiles f time) → EndedSince f.slots f.files (ending_of f.later_slots f.later_files ends.told)
+pub ends_all : (f : LoggerFinish) (time : ℕ) (ends : EndsFiles f time) → EndedSince f.slots f.files (ending_of f.later_slots f.later_files ends.told)
 ends_all f time ends = turns_keep (λ k. EndsSlotAt time f.dumps.stop k) (EndedSince f.slots f.files) (length f.slots) (ending_of f.slots f.files ends_idle) (ending_of f.later_slots f.later_files ends.told)
     (λ k x y step since. ends_slot f.slots f.files time f.dumps.stop k (slot_at x.slots k) x y refl step since) ends.ends (kept_same f.slots f.files)
 
@@ -481,7 +485,7 @@ few_later slots later same few =
     omega (arith, many, few, length-map later (option_map (λ (c : Channel). c.spec)), length-map slots (option_map (λ (c : Channel). c.spec)))
 
 -- A call in which so much more is told.
-more_faults : (many told clashes : ℕ) (slots later : List (Option Channel)) (first old new : FilesTold) → CountsKept told clashes slots later old new → RoseBy (many + broken_off slots) first.faults old.faults → RoseBy (told + many + broken_off later) first.faults new.faults
+pub more_faults : (many told clashes : ℕ) (slots later : List (Option Channel)) (first old new : FilesTold) → CountsKept told clashes slots later old new → RoseBy (many + broken_off slots) first.faults old.faults → RoseBy (told + many + broken_off later) first.faults new.faults
 more_faults many told clashes slots later first old new kept rose =
     let off = kept.off in
     RoseBy-fewer (told + many + broken_off later) (many + broken_off slots + kept.more) first.faults new.faults (omega (arith, off))
@@ -551,6 +555,13 @@ turn_more_reasons slots later ports more first old new turns t kept rises fits s
         | inr before ↦ stay (gives.buffers u before is)
       ];
     }
+
+-- what each call tells of faults was counted
+pub turn_counted : (t : LoggerTurn) → TakesTurn t → KeptAnswered t.answer t.before t.after
+turn_counted t takes = (let turned : Turned t.transition t = turned_by t.transition t takes in turned.kept)
+
+pub pull_counted : (dump : List ℕ) (n : ℕ) (answer : Pulled) (a b : LoggerMoment) → PullsNumbered dump n answer a b → Kept a b
+pull_counted dump n answer a b pulls = pulled_kept dump n answer (slot_at a.slots n) a b refl pulls
 
 pub turn_reasons : (t : LoggerTurn) (first : FilesTold) (turns : List MemberTurn) → TakesTurn t → GivesReasons t.before.slots t.before.ports first t.before.files turns
     → GivesReasons t.after.slots t.after.ports first t.after.files (logger_turn t.transition t.order t.dump t.answer ∷ turns)

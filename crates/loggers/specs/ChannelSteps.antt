@@ -86,4 +86,4 @@ pub record EndsChannel (time : ℕ) (dump : Option (List ℕ)) (told : ChannelEn
       files.faults later_files.faults
   pub failed : NotesFault before.failed after.failed files.faults later_files.faults
   pub clashes : later_files.clashes ≡ files.clashes
-  pub first : EndNames before.spec (drained_run before.stage) files.first later_files.first
+  pub first : EndNames before.spec (drained_run before.stage) told.state files.first later_files.first

@@ -1,10 +1,12 @@
--- Which names of run files a logger leaves as they were at first, where no call on the files failed: all but those of the
--- runs that were stopped, and of the run that it has.
-use Rattle.std.specs.Prelude.{◌≡◌, ◌≢◌, ◌<◌, ◌≤◌, ℕ, IsTrue, IsSome, List, [], ◌∷◌, length, slice_get, Option, Some, None, ⊤, ◌⊎◌}
+-- Which names of run files a logger leaves as they were at first: all but those of the runs that were stopped, of the run that it has,
+-- and of runs whose start was undone, where a fault was counted.
+use Rattle.std.specs.Prelude.{◌≡◌, ◌≢◌, ◌<◌, ◌≤◌, ◌+◌, ℕ, IsTrue, IsSome, List, [], ◌∷◌, length, slice_get, Option, Some, None, ⊤, ◌⊎◌}
 use Rattle.daq_types.specs.declared.runs.Order.{Order}
-use Rattle.daq_types.specs.declared.runs.Transition.TheVariants.{Stop, StartAbort}
+use Rattle.daq_types.specs.declared.runs.ChannelState.TheVariants.{Broken as IsBroken}
+use Rattle.daq_types.specs.declared.runs.Transition.TheVariants.{Start, Stop, StartAbort}
+use Rattle.daq_types.specs.declared.runs.Why.{Why}
 use Rattle.daq_types.specs.declared.runs.Why.TheVariants.{Exists}
-use Rattle.daq_io.specs.Counts.{Rose}
+use Rattle.daq_io.specs.Counts.{Rose, RoseBy}
 use Rattle.daq_io.specs.Seen.{Seen, Stored}
 use Rattle.daq_io.specs.Told.{FilesTold}
 use Rattle.buffer_core.specs.Ports.{Access}
@@ -12,13 +14,18 @@ use Rattle.buffer_core.specs.Slots.{slot_at}
 use Rattle.daq_types.specs.declared.runs.ChannelEnd.{ChannelEnd}
 use Rattle.transitions.specs.declared.answers.Answer.TheVariants.{Yes, No}
 use Rattle.transitions.specs.declared.answers.Tally.TheVariants.{Channels}
-use Rattle.member_model.specs.Turns.{MemberTurn, HasTurn, IsAcceptedStart, latest_answered, AreEngineTurns}
+use Rattle.member_model.specs.RunEngines.{Tally}
+use Rattle.member_model.specs.Turns.{MemberTurn, HasTurn, HasTurnOf, IsAcceptedStart, latest_answered, AreEngineTurns}
 use Rattle.mid_logger.specs.declared.channel.Channel.{Channel}
 use Rattle.mid_logger.specs.declared.channel_spec.ChannelSpec.{ChannelSpec}
 use Rattle.mid_logger.specs.declared.pulled.Pulled.{Pulled}
+use Rattle.mid_logger.specs.declared.stage.BegunRun.{BegunRun}
 use Rattle.mid_logger.specs.declared.stage.ChannelRun.{ChannelRun}
+use Rattle.mid_logger.specs.declared.stage.ChannelStage.TheVariants.{Broken}
+use Rattle.sub_files.specs.declared.open_file.Fallen.{Fallen}
 use Rattle.mid_logger.specs.Patterns.{file_name_by}
 use Rattle.mid_logger.specs.Channels.{channel_run, files_by as files_made}
+use Rattle.sub_files.specs.Cuts.{last_number}
 use Rattle.sub_files.specs.Patterns.{piece_name_by}
 use Rattle.loggers.specs.declared.logged_run.LoggedRun.{LoggedRun}
 use Rattle.loggers.specs.declared.logged_run.RunDumps.{RunDumps}
@@ -29,6 +36,7 @@ use Rattle.loggers.specs.Finishing.{LoggerFinish, FinishesLogger, waiting_stop}
 use Rattle.loggers.specs.LoggerStands.{LoggerStands, logger_turn}
 use Rattle.loggers.specs.OtherFiles.{specs_in}
 use Rattle.loggers.specs.Reasons.{GivesReasons}
+use Rattle.loggers.specs.ToldCounts.{faults_told, broken_off, starts_undone}
 
 -- the name is that of a file that one of these channels made in the run that it writes, or broke off
 pub record IsOpenName (slots : List (Option Channel)) (name : List ℕ) : Type 0 where
@@ -75,12 +83,40 @@ pub record IsStoppedName (specs : List (Option ChannelSpec)) (turns : List Membe
   pub made : sub < told.files
   pub is : piece_name_by spec.pattern run sub ≡ name
 
--- what stands under the name is as it was at first; or the name is that of a file of a run that was stopped, and there was no
--- file of this name at first
-abbrev pub IsNameLeft : List (Option ChannelSpec) → List MemberTurn → (first : Seen) → (name : List ℕ) → Option Stored →
-    Type 0
-IsNameLeft specs turns first name stored =
-    (IsStoppedName specs turns name × (first.at name ≡ None)) ⊎ (stored ≡ first.at name)
+-- A start of the run with this number is among these turns, and was undone: it was refused, or it was called off.
+pub record IsUndoneRun (turns : List MemberTurn) (run : ℕ) : Type 0 where
+  pub begin : MemberTurn
+  pub stands : HasTurn turns begin
+  pub is : begin.transition ≡ Start
+  pub number : begin.order.run ≡ run
+  pub undone : ((why : Why) × (begin.answer ≡ Some (No why)))
+      ⊎ ((off : MemberTurn) × HasTurnOf turns StartAbort begin.order.start off)
+
+-- the name is one that one of these channels gives to a file, of whatever number, in such a run
+pub record IsUndoneName (specs : List (Option ChannelSpec)) (turns : List MemberTurn) (name : List ℕ) : Type 0 where
+  pub number : ℕ
+  pub spec : ChannelSpec
+  pub there : slot_at specs number ≡ Some spec
+  pub run : ℕ
+  pub undone : IsUndoneRun turns run
+  pub sub : ℕ
+  pub few : sub ≤ last_number
+  pub is : piece_name_by spec.pattern run sub ≡ name
+
+-- More faults were counted than the answers to these turns and the channels that broke off tell: one was where a start was undone.
+abbrev pub HasUntoldFault : List (Option Channel) → List MemberTurn → (first now : FilesTold) → Type 0
+HasUntoldFault slots turns first now = RoseBy (faults_told turns + broken_off slots + 1) first.faults now.faults
+
+-- The name is that of a file of a run that was stopped; or it is one of a run whose start was undone, of which a file may be left where
+-- its removing failed, which no answer tells.
+abbrev pub IsNameMade : (Untold : Type 0) → List (Option ChannelSpec) → List MemberTurn → (name : List ℕ) → Type 0
+IsNameMade Untold specs turns name = IsStoppedName specs turns name ⊎ (Untold × IsUndoneName specs turns name)
+
+-- what stands under the name is as it was at first; or there was no file of this name at first, and it is a name of such a run
+abbrev pub IsNameLeft : (Untold : Type 0) → List (Option ChannelSpec) → List MemberTurn → (first : Seen) → (name : List ℕ) →
+    Option Stored → Type 0
+IsNameLeft Untold specs turns first name stored =
+    (stored ≡ first.at name) ⊎ ((first.at name ≡ None) × IsNameMade Untold specs turns name)
 
 -- a channel of a lower place gives the name to its first file in the same run
 pub record IsGivenBefore (specs : List (Option ChannelSpec)) (place run : ℕ) (name : List ℕ) : Type 0 where
@@ -90,37 +126,94 @@ pub record IsGivenBefore (specs : List (Option ChannelSpec)) (place run : ℕ) (
   pub there : slot_at specs lower ≡ Some spec
   pub is : file_name_by spec.pattern run ≡ name
 
+-- The name that the channel at this place gives to its first file in this run is free behind these turns: no file had it at first, no
+-- run that was stopped has it, and no channel of a lower place gives it.
+pub record IsNameFree (specs : List (Option ChannelSpec)) (turns : List MemberTurn) (first : Seen) (place run : ℕ) (name : List ℕ) : Type 0 where
+  pub first_none : first.at name ≡ None
+  pub none_made : AreEngineTurns turns → IsStoppedName specs turns name → ⊥
+  pub none_gives : IsGivenBefore specs place run name → ⊥
+
+-- so it is with each channel at a lower place than this
+abbrev pub AreNamesFree : List (Option ChannelSpec) → List MemberTurn → (first : Seen) → (run place : ℕ) → Type 0
+AreNamesFree specs turns first run place =
+    (lower : ℕ) → (spec : ChannelSpec) → lower < place → slot_at specs lower ≡ Some spec →
+    IsNameFree specs turns first lower run (file_name_by spec.pattern run)
+
 -- The name that a channel with this number gives to its first file in this run is taken behind these turns: a file had it at first,
--- or a run that was stopped has it, or another channel of that run.
-pub record IsNameTaken (specs : List (Option ChannelSpec)) (turns : List MemberTurn) (first : Seen) (run number : ℕ) : Type 0 where
+-- or it is one of a run that was stopped, or of one whose start was undone, or another channel of that run gives it. The channels of
+-- lower places found theirs free.
+pub record IsNameTaken (Untold : Type 0) (specs : List (Option ChannelSpec)) (turns : List MemberTurn) (first : Seen) (run number : ℕ) : Type 0 where
   pub place : ℕ
   pub spec : ChannelSpec
   pub there : slot_at specs place ≡ Some spec
   pub number_is : spec.number ≡ number
   pub by : IsSome (first.at (file_name_by spec.pattern run))
-      ⊎ (IsStoppedName specs turns (file_name_by spec.pattern run)
+      ⊎ (IsNameMade Untold specs turns (file_name_by spec.pattern run)
       ⊎ IsGivenBefore specs place run (file_name_by spec.pattern run))
+  pub least : AreNamesFree specs turns first run place
 
--- each start that was refused for a name came where that was taken; the latest turn stands first
-abbrev pub AreTaken : List (Option ChannelSpec) → (first : Seen) → List MemberTurn → Type 0
-AreTaken specs first [] = ⊤
-AreTaken specs first (t ∷ ts) =
-    ((number : ℕ) → t.answer ≡ Some (No (Exists number)) → IsNameTaken specs ts first t.order.run number)
-    × AreTaken specs first ts
+-- A start behind these turns was refused for a name only where that was taken, and accepted only where the names of all channels were
+-- free.
+pub record FindsNames (Untold : Type 0) (specs : List (Option ChannelSpec)) (turns : List MemberTurn) (first : Seen) (t : MemberTurn) : Type 0 where
+  pub taken : (number : ℕ) → t.answer ≡ Some (No (Exists number)) → IsNameTaken Untold specs turns first t.order.run number
+  pub free : t.transition ≡ Start → (tally : Tally) → t.answer ≡ Some (Yes tally) →
+      AreNamesFree specs turns first t.order.run (length specs)
 
--- A logger with these channels and these turns, whose run files were so at first, and are so now: where names are told, and
--- no fault was counted, it left all names so but those of the runs that it has. A start that was refused, or called off,
--- left nothing; and it was refused for a name only where that was taken.
+-- so it is with each of these turns, of which the latest stands first
+abbrev pub EachFindsNames : (Untold : Type 0) → List (Option ChannelSpec) → (first : Seen) → List MemberTurn → Type 0
+EachFindsNames Untold specs first [] = ⊤
+EachFindsNames Untold specs first (t ∷ ts) = FindsNames Untold specs ts first t × EachFindsNames Untold specs first ts
+
+-- The name is that of a file of one of these channels in a run that was stopped, of which it was told that it broke off; or of the one
+-- behind those that were made, which could not be.
+pub record IsBrokenName (specs : List (Option ChannelSpec)) (turns : List MemberTurn) (name : List ℕ) : Type 0 where
+  pub number : ℕ
+  pub spec : ChannelSpec
+  pub there : slot_at specs number ≡ Some spec
+  pub run : ℕ
+  pub ends : List ChannelEnd
+  pub stopped : IsStoppedRunOf turns run ends
+  pub told : ChannelEnd
+  pub at : slice_get ends number ≡ Some told
+  pub broken : told.state ≡ IsBroken
+  pub sub : ℕ
+  pub few : sub ≤ told.files
+  pub is : piece_name_by spec.pattern run sub ≡ name
+
+-- the same of a channel that broke off in a run that is not settled
+pub record IsBrokenOffName (slots : List (Option Channel)) (name : List ℕ) : Type 0 where
+  pub number : ℕ
+  pub channel : Channel
+  pub run : BegunRun
+  pub fallen : Fallen
+  pub there : slot_at slots number ≡ Some channel
+  pub of : channel.stage ≡ Broken run fallen
+  pub sub : ℕ
+  pub few : sub ≤ fallen.files
+  pub is : piece_name_by channel.spec.pattern run.opened.run sub ≡ name
+
+-- Where no fault was named at first, and no turn undid what was opened, the file of the first fault is that of a channel that broke off.
+abbrev pub IsFaultTold : List (Option Channel) → List MemberTurn → (first now : FilesTold) → Type 0
+IsFaultTold slots turns first now =
+    first.first ≡ None → starts_undone turns ≡ 0 → (name : List ℕ) → now.first ≡ Some name →
+    IsBrokenName (specs_in slots) turns name ⊎ IsBrokenOffName slots name
+
+-- A logger with these channels and these turns, whose run files were so at first, and are so now: where names are told, it left all
+-- names so but those of the runs that it has. A start that was refused, or called off, left nothing, unless a fault was counted that no
+-- answer tells; and it was refused for a name only where that was taken. And where no turn undid what was opened, the file of the first
+-- fault is that of a channel that broke off.
 pub record KeepsNames (slots : List (Option Channel)) (first now : FilesTold) (turns : List MemberTurn) : Type 0 where
   pub told : now.seen.names ≡ first.seen.names
-  pub names : IsTrue first.seen.names → NoneRose first now →
-      NamesLeft (IsNameLeft (specs_in slots) turns first.seen) slots now.seen
-  pub taken : IsTrue first.seen.names → NoneRose first now → AreTaken (specs_in slots) first.seen turns
+  pub names : IsTrue first.seen.names →
+      NamesLeft (IsNameLeft (HasUntoldFault slots turns first now) (specs_in slots) turns first.seen) slots now.seen
+  pub found : IsTrue first.seen.names → EachFindsNames (HasUntoldFault slots turns first now) (specs_in slots) first.seen turns
+  pub first_fault : IsFaultTold slots turns first now
 
 -- A turn and a pull keep that.
 abbrev pub TurnsKeepNames : Type 0
 TurnsKeepNames = (t : LoggerTurn) → (first : FilesTold) → (turns : List MemberTurn) → TakesTurn t →
-    IsIdleOutside t.run t.before.slots →
+    IsLoggerReady t.before.slots t.before.ports t.before.files.seen → IsIdleOutside t.run t.before.slots →
+    LoggerStands t.run t.dumps t.before.slots t.before.ports turns t.before.files.seen →
     GivesReasons t.before.slots t.before.ports first t.before.files turns → KeepsNames t.before.slots first t.before.files turns →
     KeepsNames t.after.slots first t.after.files (logger_turn t.transition t.order t.dump t.answer ∷ turns)
 

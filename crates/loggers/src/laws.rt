@@ -78,9 +78,11 @@ pub fn reasons_given()
     ensures names { ClashesAreTold }
 {}
 
-/// Where no fault is counted, all names of run files are as they were at first but those of the runs that were stopped, and
-/// of the run that the logger has, and each call keeps that: a start that is refused or called off leaves nothing, and the
-/// files that a call to finish ends are those of the run that was stopped.
+/// All names of run files are as they were at first but those of the runs that were stopped, of the run that the logger has, and, where
+/// more faults were counted than are told, of runs whose start was undone; and each call keeps that: a start that is refused or called
+/// off leaves nothing, and the files that a call to finish ends are those of the run that was stopped. A start is refused for a name
+/// only where that is taken, and accepted only where all are free. Where none was undone, the file of the first fault is one of a channel
+/// that broke off.
 pub fn names_kept()
     ensures turns { TurnsKeepNames }
     ensures pulls { PullsKeepNames }

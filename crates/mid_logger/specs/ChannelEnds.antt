@@ -14,7 +14,7 @@ use Rattle.buffer_core.specs.Ports.{Access, GotEvent}
 use Rattle.sub_files.specs.declared.open_file.Fallen.{Fallen}
 use Rattle.sub_files.specs.Patterns.{piece_name_by}
 use Rattle.sub_files.specs.Pieces.{HasRun, HasPart}
-use Rattle.sub_files.specs.RecordFiles.{AreGone, ClosesAnyhow, ClosesPart, LeavesForFaults, NamesMore, NamesOneOf, RemovesNames}
+use Rattle.sub_files.specs.RecordFiles.{AreGone, ClosesAnyhow, ClosesPart, LeavesForFaults, NamesOneOf, RemovesNames}
 use Rattle.sub_files.specs.Rolls.{fallen_at}
 use Rattle.mid_logger.specs.declared.channel_spec.ChannelSpec.{ChannelSpec}
 use Rattle.mid_logger.specs.declared.stage.ChannelRun.{ChannelRun}
@@ -112,10 +112,10 @@ abbrev pub ClosesFile : Option BegunRun → ChannelStage → ChannelState → (t
 ClosesFile (Some run) stage state time dump a b faults later = ClosesRead state run time dump a b faults later
 ClosesFile None stage state time dump a b faults later = (state ≡ state_otherwise stage) × (b ≡ a) × (later ≡ faults)
 
--- the first fault is that of the file that was ended, where there was none before
-abbrev pub EndNames : ChannelSpec → (drained : Option BegunRun) → (old new : Option (List ℕ)) → Type 0
-EndNames spec None old new = new ≡ old
-EndNames spec (Some run) old new = NamesMore (piece_name_by spec.pattern run.opened.run run.opened.at.sub) old new
+-- where a file was to be ended, and the channel is told to be broken, the first fault is that of the file, where there was none before
+abbrev pub EndNames : ChannelSpec → (drained : Option BegunRun) → ChannelState → (old new : Option (List ℕ)) → Type 0
+EndNames spec (Some run) IsBroken old new = new ≡ first_of old (piece_name_by spec.pattern run.opened.run run.opened.at.sub)
+EndNames spec drained state old new = new ≡ old
 
 -- how many files of its run have both records and were closed without a fault, once the last is ended and this is told of it
 abbrev pub framed_by : ChannelStage → ChannelState → ℕ

@@ -308,7 +308,7 @@ impl Channel {
         ensures failed { NotesFault self.old.failed self.new.failed (F.told files.old).faults
             (F.told files.new).faults }
         ensures clashes { (F.told files.new).clashes ≡ (F.told files.old).clashes }
-        ensures first { EndNames self.old.spec (drained_run self.old.stage)
+        ensures first { EndNames self.old.spec (drained_run self.old.stage) result.state
             (F.told files.old).first (F.told files.new).first }
         ensures left { (head : FileHead) → (own : List BufferEntry) → (got : List GotEvent) →
             ChannelStands self.old.spec self.old.client self.old.stage head own got
@@ -342,7 +342,7 @@ impl Channel {
         ensures failed { NotesFault self.old.failed self.new.failed (F.told files.old).faults
             (F.told files.new).faults }
         ensures clashes { (F.told files.new).clashes ≡ (F.told files.old).clashes }
-        ensures first { EndNames self.old.spec (drained_run self.old.stage)
+        ensures first { EndNames self.old.spec (drained_run self.old.stage) result
             (F.told files.old).first (F.told files.new).first }
     {
         let stage = self.stage;
