@@ -7,3 +7,4 @@ pub mod Playing
 pub mod Closing
 pub mod DatabaseStages
 pub mod DatabaseLines
+pub mod LineLoops

@@ -1,7 +1,6 @@
-ghost use Rattle.std.specs.Prelude.{◌≡◌, ◌≤◌, ◌+◌, ℕ, List, Option, false};
+ghost use Rattle.std.specs.Prelude.{◌≡◌, ℕ, List, Option};
 ghost use Rattle.daq_io.specs.Told.{SourceTold};
-ghost use Rattle.odb_script.specs.declared.commands.Command.{Command};
-ghost use Rattle.odb_script.specs.Forms.{Read};
+ghost use Rattle.console.specs.LineLoops.{CanPlayOut};
 ghost use Rattle.console.specs.Playing.{HasLine};
 ghost use Rattle.console.specs.Closing.{EndCounts, Finished, Finishes, MayFail, SinkBehind};
 
@@ -59,8 +58,7 @@ pub fn play_out<R: Wait, A: Answerer, S: Source, O: Sink>(
     source: &mut S,
     out: &mut O,
 ) -> (Ending, Option<Halt>)
-    requires fits { line_loop.old.number + 1 ≤ line_loop.old.reader.taken }
-    requires own { (line : Read Command) → A.leaves line ≡ false }
+    requires ready { CanPlayOut A.leaves line_loop.old }
     ensures finished { (first : A.Stage) (source_first : SourceTold) (told_first : Option (List ℕ))
         → HasLine A.does A.breaks first source_first (S.told source.old) told_first
         (O.told out.old).written line_loop.old.reader line_loop.old.last (A.stage answerer.old)

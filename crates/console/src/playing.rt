@@ -1,7 +1,6 @@
 ghost use Rattle.std.specs.Prelude.{◌≡◌, ◌≤◌, ◌+◌, ℕ, List, Option};
-ghost use Rattle.odb_script.specs.Lines.{no_line_read};
-ghost use Rattle.console.specs.Endings.{SourceCounts, SinkCounts};
-ghost use Rattle.console.specs.Playing.{PlaysTo, PlaysOn, FitsOn, LeftLine};
+ghost use Rattle.console.specs.LineLoops.{EndsLines, IsUnreadScript};
+ghost use Rattle.console.specs.Playing.{PlaysOn, PlaysTo};
 
 use crate::answerer::Answerer;
 use crate::endings::Ending;
@@ -29,10 +28,8 @@ pub fn play_on<R: Wait, A: Answerer, S: Source, O: Sink>(
         (O.told out.old).written (O.told out.new).written line_loop.old.reader line_loop.new.reader line_loop.old.last
         line_loop.new.last (A.stage answerer.old) (A.stage answerer.new) line_loop.old.refusals
         line_loop.new.refusals line_loop.old.number line_loop.new.number }
-    ensures fits { FitsOn result line_loop.new.number line_loop.new.reader.taken }
-    ensures left { LeftLine A.leaves result }
-    ensures source { SourceCounts result (S.told source.old).faults (S.told source.new).faults }
-    ensures sink { SinkCounts result (O.told out.old).faults (O.told out.new).faults }
+    ensures ends { EndsLines A.leaves result line_loop.new (S.told source.old) (S.told source.new)
+        (O.told out.old) (O.told out.new) }
     ensures stays { A.stays answerer.old answerer.new }
 {
     for line in 0..SCRIPT_LINES {
@@ -66,15 +63,12 @@ pub fn play_script<R: Wait, A: Answerer, S: Source, O: Sink>(
     source: &mut S,
     out: &mut O,
 ) -> PlayEnd
-    requires unread { line_loop.old.reader ≡ no_line_read }
-    requires none { line_loop.old.refusals ≡ record { count = 0; first = 0 } }
-    requires zero { line_loop.old.number ≡ 0 }
+    requires unread { IsUnreadScript line_loop.old }
     ensures did { PlaysTo A.does A.breaks A.leaves (A.stage answerer.old) (S.told source.old)
         (O.told out.old).written result (S.told source.new) (O.told out.new).written line_loop.new.reader
         line_loop.new.last (A.stage answerer.new) line_loop.new.refusals line_loop.new.number }
-    ensures fits { FitsOn result line_loop.new.number line_loop.new.reader.taken }
-    ensures source { SourceCounts result (S.told source.old).faults (S.told source.new).faults }
-    ensures sink { SinkCounts result (O.told out.old).faults (O.told out.new).faults }
+    ensures ends { EndsLines A.leaves result line_loop.new (S.told source.old) (S.told source.new)
+        (O.told out.old) (O.told out.new) }
     ensures stays { A.stays answerer.old answerer.new }
 {
     match line_loop.next_line(source) {

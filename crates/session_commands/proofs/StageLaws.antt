@@ -52,9 +52,8 @@ forget a b on = (on.0, on.1)
 more_kept : FitLaws → (d : Declared) (runs : RunsSeen) (a b : DatabaseAccess) → Grows a b → RunsKept d (own_watched a) runs → RunsKept d (own_watched b) runs
 more_kept laws d runs a b grows kept = subst (λ (own : List WatchEntry). RunsKept d own runs) (sym grows.1) (record {
   opened = kept.opened;
-  fronts = kept.fronts;
+  members = kept.members;
   channels = kept.channels;
-  analyzers = kept.analyzers;
   later = kept.later;
   begins = kept.begins;
   steers = kept.steers;
@@ -86,9 +85,8 @@ kept_closed s is = subst (λ (r : Option RunsSeen). MayKeep s.declared (own_watc
 steered_kept : (d : Declared) (old new : RunsSeen) (own later : List WatchEntry) → SteersOn old new → RunsFit new later → RunsKept d own old → RunsKept d later new
 steered_kept d old new own later on fit kept = record {
   opened = kept.opened;
-  fronts = on.fronts ∙ kept.fronts;
+  members = on.members ∙ kept.members;
   channels = on.channels ∙ kept.channels;
-  analyzers = on.analyzers ∙ kept.analyzers;
   later = kept.later ++ on.more;
   begins = on.calls ∙ (ap (λ (xs : List _). xs ++ on.more) kept.begins ∙ append_assoc _ kept.later on.more);
   steers = all_steer kept.later on.more kept.steers on.steers;
@@ -130,9 +128,8 @@ resume_command laws before old reply new c kept = command_kept ResumesBy before 
 opened_kept : FitLaws → (old ready : SessionStage) → OpensSession old ready → StageKept ready
 opened_kept laws old ready opens = kept_open ready (opened_runs old.quota ready.declared opens.engine) opens.runs (record {
   opened = ap (λ (d : Declared). d.opened) opens.declared;
-  fronts = refl;
+  members = refl;
   channels = refl;
-  analyzers = refl;
   later = [];
   begins = sym (append-nil _);
   steers = tt;
@@ -170,9 +167,8 @@ quota_runs : (count : ℕ) (d : Declared) (own : List WatchEntry) (runs : Option
 quota_runs count d own None kept = tt
 quota_runs count d own (Some runs) kept = record {
   opened = kept.opened;
-  fronts = kept.fronts;
+  members = kept.members;
   channels = kept.channels;
-  analyzers = kept.analyzers;
   later = kept.later;
   begins = kept.begins;
   steers = kept.steers;

@@ -25,11 +25,10 @@ use Rattle.session_commands.proofs.CallsOn.{both_on, none_on}
 use Rattle.session_commands.proofs.SaveLaws.{SavedOn, begin_saved, call_saved, entries_saved, sets_saved, stop_saved}
 use Rattle.session_commands.proofs.SpareLaws.{SpareLaws, SparesOn, begin_spares, entries_on, later_on, one_on, same_on, sets_spare, stop_spares}
 
--- The names and the channels stay, and the new calls of the main thread steer the engine.
+-- The members and the channels stay, and the new calls of the main thread steer the engine.
 pub record SteersOn (old new : RunsSeen) : Type 0 where
-  pub fronts : new.fronts ≡ old.fronts
+  pub members : new.members ≡ old.members
   pub channels : new.channels ≡ old.channels
-  pub analyzers : new.analyzers ≡ old.analyzers
   pub more : List EngineEntry
   pub calls : new.main.own ≡ old.main.own ++ more
   pub steers : AllByRecursion SteersEngine more
@@ -44,25 +43,20 @@ going_steer (suc n) outcome tallies = (tt, going_steer n outcome tallies)
 
 same_steers : (old new : RunsSeen) → new ≡ old → SteersOn old new
 same_steers old new same = record {
-  fronts = ap (λ (s : RunsSeen). s.fronts) same;
+  members = ap (λ (s : RunsSeen). s.members) same;
   channels = ap (λ (s : RunsSeen). s.channels) same;
-  analyzers = ap (λ (s : RunsSeen). s.analyzers) same;
   more = [];
   calls = ap (λ (s : RunsSeen). s.main.own) same ∙ sym (append-nil old.main.own);
   steers = tt;
 }
 
-start_fronts : (s : RunsSeen) (r : CurrentRun) (outcome : StartOutcome) → (behind_start s r outcome).fronts ≡ s.fronts
-start_fronts s r Completed = refl
-start_fronts s r (Refused client why) = refl
+start_members : (s : RunsSeen) (r : CurrentRun) (outcome : StartOutcome) → (behind_start s r outcome).members ≡ s.members
+start_members s r Completed = refl
+start_members s r (Refused client why) = refl
 
 start_channels : (s : RunsSeen) (r : CurrentRun) (outcome : StartOutcome) → (behind_start s r outcome).channels ≡ s.channels
 start_channels s r Completed = refl
 start_channels s r (Refused client why) = refl
-
-start_analyzers : (s : RunsSeen) (r : CurrentRun) (outcome : StartOutcome) → (behind_start s r outcome).analyzers ≡ s.analyzers
-start_analyzers s r Completed = refl
-start_analyzers s r (Refused client why) = refl
 
 -- What is answered makes calls on the database that remove nothing of `/Runinfo`, and gets the text where it asks for it.
 pub record AnsweredOn (a b : DatabaseAccess) : Type 0 where
@@ -94,9 +88,8 @@ module _ {M : Type 0} (laws : SpareLaws) (round : M → M → Type 0) where
 
   begins_steers : (run : ℕ) (outcome : StartOutcome) (before after : AheadTold) (old new : CommandPoint M) → BeginsRun round run outcome before after old new → SteersOn old.runs new.runs
   begins_steers run outcome before after old new b = record {
-    fronts = ap (λ (s : RunsSeen). s.fronts) b.kept ∙ start_fronts old.runs _ outcome;
+    members = ap (λ (s : RunsSeen). s.members) b.kept ∙ start_members old.runs _ outcome;
     channels = ap (λ (s : RunsSeen). s.channels) b.kept ∙ start_channels old.runs _ outcome;
-    analyzers = ap (λ (s : RunsSeen). s.analyzers) b.kept ∙ start_analyzers old.runs _ outcome;
     more = _;
     calls = b.drives.calls;
     steers = (tt, going_steer b.drives.rounds outcome b.tallies);
@@ -129,9 +122,8 @@ module _ {M : Type 0} (laws : SpareLaws) (round : M → M → Type 0) where
   stopped_moves : (r : CurrentRun) (saved : Result (List ℕ) NoMemory) (before after : AheadTold) (old new : CommandPoint M) → MakesStop round r saved before after old new → MovesUnsaved old new
   stopped_moves r saved before after old new m = record {
     steers = record {
-      fronts = ap (λ (s : RunsSeen). s.fronts) m.kept;
+      members = ap (λ (s : RunsSeen). s.members) m.kept;
       channels = ap (λ (s : RunsSeen). s.channels) m.kept;
-      analyzers = ap (λ (s : RunsSeen). s.analyzers) m.kept;
       more = _;
       calls = m.drives.calls;
       steers = (tt, going_steer m.drives.rounds Completed m.tallies);
@@ -153,9 +145,8 @@ module _ {M : Type 0} (laws : SpareLaws) (round : M → M → Type 0) where
   changed_moves : (t : Transition) (r : CurrentRun) (old new : CommandPoint M) → MakesChange round t r old new → MovesOn old new
   changed_moves t r old new m = record {
     steers = record {
-      fronts = ap (λ (s : RunsSeen). s.fronts) m.kept;
+      members = ap (λ (s : RunsSeen). s.members) m.kept;
       channels = ap (λ (s : RunsSeen). s.channels) m.kept;
-      analyzers = ap (λ (s : RunsSeen). s.analyzers) m.kept;
       more = _;
       calls = m.drives.calls;
       steers = (tt, going_steer m.drives.rounds Completed m.tallies);

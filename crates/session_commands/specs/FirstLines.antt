@@ -1,20 +1,11 @@
 -- The lines of a script up to its first start.
-use Rattle.std.specs.Prelude.{◌≡◌, ℕ}
 use Rattle.daq_io.specs.Told.{SinkTold, SourceTold}
-use Rattle.odb_script.specs.Lines.{no_line_read}
 use Rattle.session_lines.specs.ScriptLines.{BreaksScriptLine, DoesScriptLine, opens_session}
-use Rattle.console.specs.declared.line_loop.LineLoop.{LineLoop}
 use Rattle.console.specs.declared.play_end.PlayEnd.{PlayEnd}
 use Rattle.console.specs.Playing.{PlaysTo}
 use Rattle.session_commands.specs.declared.unopened.Unopened.{Unopened}
 use Rattle.session_commands.specs.declared.script.Script.{Script}
 use Rattle.session_commands.specs.Finishing.{SideTold, stage_unopened}
-
--- No line of the script was read yet, and none was refused or answered.
-pub record IsUnreadScript (line_loop : LineLoop) : Type 0 where
-  pub reader : line_loop.reader ≡ no_line_read
-  pub refusals : line_loop.refusals ≡ record { count = 0; first = 0 }
-  pub number : line_loop.number ≡ 0
 
 -- The lines up to the first start were played, or all of them, of a session that is not open: `now` is the session and `before` the
 -- script in front of these lines, `later` and `after` are they behind them.

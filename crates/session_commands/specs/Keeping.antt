@@ -11,17 +11,15 @@ use Rattle.session_runs.specs.Members.{registrations}
 use Rattle.session_setup.specs.Setup.{Declared}
 use Rattle.session_runs.specs.KeptRuns.{IsInStep, RunsSeen, channels_of}
 use Rattle.session_runs.specs.RunsFit.{RunsFit, SteersEngine}
-use Rattle.session_lines.specs.Stages.{SessionStage, analyzer_names, front_names, members_declared}
+use Rattle.session_lines.specs.Stages.{SessionStage, members_declared}
 use Rattle.odb_commands.specs.WatchSpares.{SparesWatched}
 
--- The main thread keeps the names of the declared front-ends, the declared channels and the names of the declared analyzers; it
--- registered the members on the engine, and made transitions behind that; and the records of the runs fit its calls on the engine
--- and on the database.
+-- The main thread keeps the declared members and channels; it registered the members on the engine, and made transitions behind
+-- that; and the records of the runs fit its calls on the engine and on the database.
 pub record RunsKept (declared : Declared) (database : List WatchEntry) (runs : RunsSeen) : Type 0 where
   pub opened : declared.opened ≡ true
-  pub fronts : runs.fronts ≡ front_names declared
+  pub members : runs.members ≡ members_declared declared
   pub channels : runs.channels ≡ channels_of declared.channels
-  pub analyzers : runs.analyzers ≡ analyzer_names declared
   pub later : List EngineEntry
   pub begins : runs.main.own ≡ registrations 0 (members_declared declared) ++ later
   pub steers : AllByRecursion SteersEngine later

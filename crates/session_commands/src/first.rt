@@ -1,11 +1,9 @@
 // The lines of a script before a first start.
-ghost use Rattle.std.specs.Prelude.{◌≡◌};
-ghost use Rattle.daq_types.specs.Callers.{main_caller};
 ghost use Rattle.odb_watch.specs.DatabasePorts.{IsSamePort};
-ghost use Rattle.console.specs.Endings.{SinkCounts, SourceCounts};
-ghost use Rattle.console.specs.Playing.{FitsOn};
+ghost use Rattle.console.specs.LineLoops.{EndsLines, IsUnreadScript};
+ghost use Rattle.session_lines.specs.ScriptLines.{opens_session};
 ghost use Rattle.session_commands.specs.Finishing.{side_told};
-ghost use Rattle.session_commands.specs.FirstLines.{IsUnreadScript, PlaysFirst};
+ghost use Rattle.session_commands.specs.FirstLines.{PlaysFirst};
 
 use crate::script::Script;
 use crate::unopened::Unopened;
@@ -22,14 +20,12 @@ pub fn play_first<R: Wait, D: WatchPort, S: Source, O: Sink, E: Files, C: Clock>
     unopened: &mut Unopened<D, E, C>,
     script: &mut Script<S, O>,
 ) -> PlayEnd
-    requires caller { (D.access unopened.old.side.database.access).caller ≡ main_caller }
     requires unread { IsUnreadScript script.old.line_loop }
     ensures played { PlaysFirst
         (side_told D.access E.told C.told) S.told O.told
         unopened.old script.old result unopened.new script.new }
-    ensures fits { FitsOn result script.new.line_loop.number script.new.line_loop.reader.taken }
-    ensures source { SourceCounts result (S.told script.old.src).faults (S.told script.new.src).faults }
-    ensures sink { SinkCounts result (O.told script.old.out).faults (O.told script.new.out).faults }
+    ensures ends { EndsLines opens_session result script.new.line_loop
+        (S.told script.old.src) (S.told script.new.src) (O.told script.old.out) (O.told script.new.out) }
     ensures same { IsSamePort (D.access unopened.old.side.database.access)
         (D.access unopened.new.side.database.access) }
 {

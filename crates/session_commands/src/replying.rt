@@ -1,14 +1,13 @@
 // The replies to the commands of runs, with the names that were declared and what the records keep.
-ghost use Rattle.std.specs.Prelude.{◌≡◌, ◌≢◌, ◌++◌, ◌∷◌, [], ℕ, map, slice_get, IfOk, OnErr};
-ghost use Rattle.std.specs.Option.{unwrap_or};
+ghost use Rattle.std.specs.Prelude.{◌≡◌, ◌≢◌, ◌++◌, ◌∷◌, [], ℕ, map, IfOk, OnErr};
 ghost use Rattle.mid_logger.specs.ChannelTurns.{logger_name};
 ghost use Rattle.session_lines.specs.RunLines.{record_fronts, record_files, record_reports, latest_record, member_name, reply_for, report_line, tally_line};
 
 use console::Reply;
 use daq_types::{BoundedList, Bytes, Name, NoMemory};
 use session_runs::{
-    ChannelFiles, FileRecords, FrontTally, ReportLine, ReportLines, ReportTally, RunRecord,
-    RunReply, Runs, SentLine, SentLines,
+    ChannelFiles, FileRecords, FrontTally, MemberName, ReportLine, ReportLines, ReportTally,
+    RunRecord, RunReply, Runs, SentLine, SentLines,
 };
 use std::alloc::Global;
 
@@ -22,43 +21,28 @@ fn logger_name() -> Name
     }
 }
 
-/// The name of the client at this place behind the front-ends: of the logger, or of an analyzer behind it.
-fn name_behind(analyzers: &[Name], place: usize) -> Name
-    ensures { result ≡ unwrap_or (slice_get (logger_name ∷ analyzers.now) place) logger_name }
+/// The name of the member with this client number.
+fn member_name(members: &[MemberName], client: u32) -> Name
+    ensures { result ≡ member_name members.now client }
 {
-    if place == 0 {
-        return logger_name();
-    }
-    match analyzers.get(place - 1) {
-        Some(name) => *name,
+    match members.get(client as usize) {
+        Some(member) => member.name,
         None => logger_name(),
     }
-}
-
-/// The name of a client.
-fn member_name(fronts: &[Name], analyzers: &[Name], client: u32) -> Name
-    ensures { result ≡ member_name fronts.now analyzers.now client }
-{
-    let client = client as usize;
-    if client < fronts.len() {
-        return fronts[client];
-    }
-    name_behind(analyzers, client - fronts.len())
 }
 
 /// What the console tells of the front-ends.
 fn sent_lines(
     alloc: Global,
-    fronts: &[Name],
-    analyzers: &[Name],
+    members: &[MemberName],
     tallies: &[FrontTally],
 ) -> Result<SentLines, NoMemory>
-    ensures { IfOk result (λ lines. lines ≡ map (tally_line fronts.now analyzers.now) tallies.now) }
+    ensures { IfOk result (λ lines. lines ≡ map (tally_line members.now) tallies.now) }
 {
     let mut lines = BoundedList::new(alloc)?;
     for tally in tallies {
         lines.try_push(SentLine {
-            name: member_name(fronts, analyzers, tally.client),
+            name: member_name(members, tally.client),
             sent: tally.sent,
         })?;
     }
@@ -89,13 +73,12 @@ fn line_start(alloc: Global, name: &[u8]) -> Result<Bytes, NoMemory>
 /// What the console tells of an analyzer.
 fn report_line(
     alloc: Global,
-    fronts: &[Name],
-    analyzers: &[Name],
+    members: &[MemberName],
     tally: &ReportTally,
 ) -> Result<ReportLine, NoMemory>
-    ensures { IfOk result (λ line. line ≡ report_line fronts.now analyzers.now tally.now) }
+    ensures { IfOk result (λ line. line ≡ report_line members.now tally.now) }
 {
-    let name = member_name(fronts, analyzers, tally.client);
+    let name = member_name(members, tally.client);
     let start = line_start(alloc, name.as_slice())?;
     let report = tally.report.copied(alloc)?;
     Ok(ReportLine { start, report })
@@ -104,16 +87,15 @@ fn report_line(
 /// What it tells of the analyzers.
 fn report_lines(
     alloc: Global,
-    fronts: &[Name],
-    analyzers: &[Name],
+    members: &[MemberName],
     tallies: &[ReportTally],
 ) -> Result<ReportLines, NoMemory>
     ensures { IfOk result (λ lines. lines
-        ≡ map (report_line fronts.now analyzers.now) tallies.now) }
+        ≡ map (report_line members.now) tallies.now) }
 {
     let mut lines = BoundedList::new(alloc)?;
     for tally in tallies {
-        let line = report_line(alloc, fronts, analyzers, tally)?;
+        let line = report_line(alloc, members, tally)?;
         lines.try_push(line)?;
     }
     Ok(lines)
@@ -122,15 +104,14 @@ fn report_lines(
 /// The reply to a stop of the run of this number, of which these are the records.
 fn stop_reply(
     alloc: Global,
-    fronts: &[Name],
-    analyzers: &[Name],
+    members: &[MemberName],
     records: &[RunRecord],
     run: u32,
 ) -> Result<Reply, NoMemory>
     ensures { IfOk result (λ reply. reply ≡ Reply.Stopped run
-        (map (tally_line fronts.now analyzers.now) (record_fronts (latest_record records.now)))
+        (map (tally_line members.now) (record_fronts (latest_record records.now)))
         (record_files (latest_record records.now))
-        (map (report_line fronts.now analyzers.now) (record_reports (latest_record records.now)))) }
+        (map (report_line members.now) (record_reports (latest_record records.now)))) }
 {
     let Some(record) = records.last() else {
         let fronts = BoundedList::new(alloc)?;
@@ -143,8 +124,8 @@ fn stop_reply(
             reports,
         });
     };
-    let reports = report_lines(alloc, fronts, analyzers, record.reports.as_slice())?;
-    let fronts = sent_lines(alloc, fronts, analyzers, record.fronts.as_slice())?;
+    let reports = report_lines(alloc, members, record.reports.as_slice())?;
+    let fronts = sent_lines(alloc, members, record.fronts.as_slice())?;
     let files = copied_files(alloc, record.files.as_slice())?;
     Ok(Reply::Stopped {
         run,
@@ -164,7 +145,7 @@ pub fn plain_reply(runs: &Runs<'_>, answer: RunReply) -> Reply
         RunReply::LastStart => Reply::LastStart,
         RunReply::RunNumber { have } => Reply::RunNumber { have },
         RunReply::StartRefused { client, why } => {
-            let client = member_name(runs.fronts(), runs.analyzers(), client);
+            let client = member_name(runs.members(), client);
             Reply::StartRefused { client, why }
         }
         RunReply::Started { run } => Reply::Started { run },
@@ -180,7 +161,7 @@ pub fn reply_for(alloc: Global, runs: &Runs<'_>, answer: RunReply) -> Result<Rep
     ensures stopped { OnErr result ((run : ℕ) × (answer ≡ RunReply.Stopped run)) }
 {
     if let RunReply::Stopped { run } = answer {
-        return stop_reply(alloc, runs.fronts(), runs.analyzers(), runs.records(), run);
+        return stop_reply(alloc, runs.members(), runs.records(), run);
     }
     Ok(plain_reply(runs, answer))
 }

@@ -1,6 +1,6 @@
 -- What the commands of runs do, and what they are answered.
 use Rattle.std.specs.Prelude.{◌≡◌, ℕ, ◌-◌, ◌++◌, ◌⊎◌, List, [], ◌∷◌, map, take, length, slice_get, Option, Some, None, Result, Err}
-use Rattle.std.specs.Option.{unwrap_or}
+use Rattle.std.specs.Option.{option_map, unwrap_or}
 use Rattle.daq_types.specs.declared.runs.RunState.TheVariants.{Stopped}
 use Rattle.daq_types.specs.declared.runs.Transition.TheVariants.{Pause, Resume}
 use Rattle.mid_logger.specs.ChannelTurns.{logger_name}
@@ -12,6 +12,7 @@ use Rattle.odb_runinfo.specs.RunSets.{sent_key_made}
 use Rattle.transition_lock.specs.declared.shared.SharedEngine.{SharedEngine}
 use Rattle.transition_lock.specs.SharedEngines.{first_engine}
 use Rattle.transitions.specs.Engines.{engine_opening}
+use Rattle.session_runs.specs.declared.opening.MemberName.{MemberName}
 use Rattle.session_runs.specs.declared.records.RunRecord.{RunRecord}
 use Rattle.session_runs.specs.declared.records.FrontTally.{FrontTally}
 use Rattle.session_runs.specs.declared.records.ChannelFiles.{ChannelFiles}
@@ -30,18 +31,17 @@ use Rattle.session_lines.specs.Stages.{SessionStage, front_names, open_stage, op
 
 -- Replies.
 
--- the name of a client: those of the front-ends come first, then the logger's, and then those of the analyzers
-abbrev pub member_name : (fronts analyzers : List (List ℕ)) → (client : ℕ) → List ℕ
-member_name fronts analyzers client = unwrap_or (slice_get (fronts ++ logger_name ∷ analyzers) client) logger_name
+-- the name of the member with this client number
+abbrev pub member_name : List MemberName → (client : ℕ) → List ℕ
+member_name members client = unwrap_or (option_map (λ (m : MemberName). m.name) (slice_get members client)) logger_name
 
 -- what the console tells of a front-end
-abbrev pub tally_line : (fronts analyzers : List (List ℕ)) → FrontTally → SentLine
-tally_line fronts analyzers tally = record { name = member_name fronts analyzers tally.client; sent = tally.sent }
+abbrev pub tally_line : List MemberName → FrontTally → SentLine
+tally_line members tally = record { name = member_name members tally.client; sent = tally.sent }
 
 -- what it tells of an analyzer: its report, with its name and a blank before each line
-abbrev pub report_line : (fronts analyzers : List (List ℕ)) → ReportTally → ReportLine
-report_line fronts analyzers tally =
-    record { start = member_name fronts analyzers tally.client ++ 32 ∷ []; report = tally.report }
+abbrev pub report_line : List MemberName → ReportTally → ReportLine
+report_line members tally = record { start = member_name members tally.client ++ 32 ∷ []; report = tally.report }
 
 -- the last of some records, if there is any
 abbrev pub latest_record : List RunRecord → Option RunRecord
@@ -64,13 +64,13 @@ abbrev pub reply_for : RunsSeen → RunReply → Reply
 reply_for runs (answer.WrongState state) = WrongState state
 reply_for runs answer.LastStart = LastStart
 reply_for runs (answer.RunNumber have) = RunNumber have
-reply_for runs (answer.StartRefused client why) = StartRefused (member_name runs.fronts runs.analyzers client) why
+reply_for runs (answer.StartRefused client why) = StartRefused (member_name runs.members client) why
 reply_for runs (answer.Started run) = run_started run
 reply_for runs (answer.Paused run) = run_paused run
 reply_for runs (answer.Resumed run) = run_resumed run
 reply_for runs (answer.Stopped run) =
-    run_stopped run (map (tally_line runs.fronts runs.analyzers) (record_fronts (latest_record runs.runs)))
-    (record_files (latest_record runs.runs)) (map (report_line runs.fronts runs.analyzers) (record_reports (latest_record runs.runs)))
+    run_stopped run (map (tally_line runs.members) (record_fronts (latest_record runs.runs)))
+    (record_files (latest_record runs.runs)) (map (report_line runs.members) (record_reports (latest_record runs.runs)))
 
 -- Commands of an open session, by the main thread's own calls. What its members did meanwhile is not said here.
 

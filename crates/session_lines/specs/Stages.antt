@@ -66,23 +66,18 @@ with_quota count s = record s { quota = count; runs = option_map (runs_with_quot
 abbrev pub front_names : Declared → List (List ℕ)
 front_names d = map (λ front. front.name) d.fronts
 
--- the names of the declared analyzers
-abbrev pub analyzer_names : Declared → List (List ℕ)
-analyzer_names d = map (λ analyzer. analyzer.name) d.analyzers
-
 -- the members of a session of these declarations, as they are registered
 abbrev pub members_declared : Declared → List MemberName
-members_declared d = members_named (front_names d) logger_name (analyzer_names d)
+members_declared d = members_named (front_names d) logger_name (map (λ analyzer. analyzer.name) d.analyzers)
 
--- what the main thread keeps as a session opens: no run yet, the front-ends, channels and analyzers as they were declared, and the
--- engine, on which it registered the members
+-- what the main thread keeps as a session opens: no run yet, the members and the channels as they were declared, and the engine,
+-- on which it registered the members
 abbrev pub opened_runs : (quota : ℕ) → Declared → SharedEngine → RunsSeen
 opened_runs quota d engine = record {
   quota = quota;
   runs = [];
-  fronts = front_names d;
+  members = members_declared d;
   channels = channels_of d.channels;
-  analyzers = analyzer_names d;
   on = None;
   main = record { engine = engine; own = registrations 0 (members_declared d) };
 }

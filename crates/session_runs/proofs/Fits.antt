@@ -1,6 +1,6 @@
 -- Records of runs go on fitting where calls come behind, and a run command's calls fit its record.
 use Rattle.daq_io.specs.Told.{AheadTold}
-use Rattle.std.specs.Prelude.{◌≡◌, ℕ, zero, suc, List, [], ◌∷◌, ◌++◌, length, map, Option, Some, None, Result, Ok, refl}
+use Rattle.std.specs.Prelude.{◌≡◌, ℕ, zero, suc, List, [], ◌∷◌, ◌++◌, map, Option, Some, None, Result, Ok, refl}
 use Rattle.std.specs.List.{AllByRecursion}
 use Rattle.std.specs.Option.{option_map, option_to_list}
 use Rattle.std.proofs.Common.{ap, sym, subst, ◌∙◌, append_assoc, append-nil}
@@ -21,7 +21,7 @@ use Rattle.session_runs.specs.declared.records.RunRecord.{RunRecord}
 use Rattle.session_runs.specs.MainKnowledge.{known_from}
 use Rattle.session_runs.specs.MadeTransitions.{TransitionIn, going_checks, done_check, DrivesTransition}
 use Rattle.session_runs.specs.declared.opening.MemberName.{MemberName}
-use Rattle.session_runs.specs.Members.{registrations}
+use Rattle.session_runs.specs.Members.{registrations, reporter_count, sender_count}
 use Rattle.session_runs.specs.declared.on.CurrentRun.{CurrentRun}
 use Rattle.session_runs.specs.declared.replies.RunReply.{RunReply}
 use Rattle.session_runs.specs.declared.replies.RunReply.TheVariants.{WrongState, LastStart, RunNumber, StartRefused, Started as run_started, Paused as run_paused, Resumed as run_resumed, Stopped as run_stopped}
@@ -132,7 +132,7 @@ more_fit s own more fits =
     record {
       each_start = fits.each_start;
       runs = subst (λ (o : MainOwn). AllByRecursion (FitsRun (run_clients s) o) s.runs) is (all_more (run_clients s) (own_of s own) silent s.runs fits.runs);
-      on = subst (λ (o : MainOwn). FitsCurrent (length s.analyzers) o s.on) is (on_more (length s.analyzers) (own_of s own) silent s.on fits.on);
+      on = subst (λ (o : MainOwn). FitsCurrent (reporter_count s.members) o s.on) is (on_more (reporter_count s.members) (own_of s own) silent s.on fits.on);
     }
 
 -- where no run is on, the records alone fit
@@ -148,7 +148,7 @@ opening_fits s own empty idle none = record {
   each_start = ap (λ (rs : List RunRecord). map start_of rs ++ option_to_list (option_map start_on s.on)) empty
       ∙ (ap (λ (o : Option CurrentRun). option_to_list (option_map start_on o)) idle ∙ sym none);
   runs = subst (λ (rs : List RunRecord). AllByRecursion (FitsRun (run_clients s) (own_of s own)) rs) (sym empty) tt;
-  on = subst (λ (o : Option CurrentRun). FitsCurrent (length s.analyzers) (own_of s own) o) (sym idle) tt;
+  on = subst (λ (o : Option CurrentRun). FitsCurrent (reporter_count s.members) (own_of s own) o) (sym idle) tt;
 }
 
 -- registrations begin no start
@@ -225,12 +225,12 @@ module _ {M : Type 0} (round : M → M → Type 0) where
 
   -- behind a start that ended so all fit
   started : (s : RunsSeen) (own : List WatchEntry) (r : CurrentRun) (outcome : StartOutcome) (later : MainOwn) (more : MainOwn) → later ≡ calls_joined (own_of s own) more → s.on ≡ None
-      → starts_begun later.engine ≡ starts_begun s.main.own ++ r.start ∷ [] → FitsStart (length s.analyzers) (calls_joined (own_of s own) more) r outcome → RunsFit s own
+      → starts_begun later.engine ≡ starts_begun s.main.own ++ r.start ∷ [] → FitsStart (reporter_count s.members) (calls_joined (own_of s own) more) r outcome → RunsFit s own
       → RunsFit (with_calls (behind_start s r outcome) later.engine) later.database
   started s own r Completed later more is idle starts start fits = record {
     each_start = ap (λ (l : List ℕ). l ++ r.start ∷ []) (so_far s own idle fits) ∙ sym starts;
     runs = subst (λ (o : MainOwn). AllByRecursion (FitsRun (run_clients s) o) s.runs) (sym is) (all_more (run_clients s) (own_of s own) more s.runs fits.runs);
-    on = subst (λ (o : MainOwn). FitsStart (length s.analyzers) o r Completed) (sym is) start;
+    on = subst (λ (o : MainOwn). FitsStart (reporter_count s.members) o r Completed) (sym is) start;
   }
   started s own r (Refused client why) later more is idle starts start fits =
       let rec : RunRecord = refused_start r (Refused client why) in
@@ -242,7 +242,7 @@ module _ {M : Type 0} (round : M → M → Type 0) where
             ∙ (append-nil (map start_of (s.runs ++ rec ∷ []))
             ∙ (starts_snoc s.runs rec ∙ (ap (λ (l : List ℕ). l ++ r.start ∷ []) (so_far s own idle fits) ∙ sym starts)));
         runs = subst (λ (o : MainOwn). AllByRecursion (FitsRun (run_clients s) o) (s.runs ++ rec ∷ [])) (sym is) all;
-        on = subst (λ (o : MainOwn). FitsCurrent (length s.analyzers) o s.on) (sym is) (on_more (length s.analyzers) (own_of s own) more s.on fits.on);
+        on = subst (λ (o : MainOwn). FitsCurrent (reporter_count s.members) o s.on) (sym is) (on_more (reporter_count s.members) (own_of s own) more s.on fits.on);
       }
 
   -- the run number was got
@@ -257,14 +257,14 @@ module _ {M : Type 0} (round : M → M → Type 0) where
       let own : List WatchEntry = own_watched old.database in
       let asked : WatchEntry = Call (number_asked got.number.got) in
       let entries : List WatchEntry = asked ∷ begins.entries in
-      let sheet : Sheet = start_sheet (length s.analyzers) run begins.time s.quota begins.dump in
+      let sheet : Sheet = start_sheet (reporter_count s.members) run begins.time s.quota begins.dump in
       let whole : AddsEntries old.database new.database entries = (ready.database, got.number.called, begins.adds) in
       let are : StartCalls run begins.time outcome begins.dump entries = record { got = got.number.got; settled = got.number.settled; number = sym got.number.run_is; rest = begins.entries; begins = begins.calls; are = refl } in
       let more : MainOwn = fresh Start sheet begins.start outcome begins.tallies begins.drives.rounds entries in
       let is : own_of new.runs (own_watched new.database) ≡ calls_joined (own_of s own) more = same_own _ _ _ _ begins.drives.calls (grows old.database new.database entries whole) in
       subst (λ (x : RunsSeen). RunsFit x (own_watched new.database)) (sym begins.kept)
       (started s own r outcome (own_of new.runs (own_watched new.database)) more is begins.idle
-      (starts_behind s.main.own new.runs.main.own Start sheet begins.start outcome begins.tallies begins.drives.rounds begins.drives.calls) (start_fits (length s.analyzers) (own_of s own) r outcome begins.dump begins.tallies begins.drives.rounds entries are) (got_fits grows run old ready got fits))
+      (starts_behind s.main.own new.runs.main.own Start sheet begins.start outcome begins.tallies begins.drives.rounds begins.drives.calls) (start_fits (reporter_count s.members) (own_of s own) r outcome begins.dump begins.tallies begins.drives.rounds entries are) (got_fits grows run old ready got fits))
 
   lacks_fits : OwnGrows → (have : _) (old new : CommandPoint M) → LacksNumber have old new → RunsFit old.runs (own_watched old.database) → RunsFit new.runs (own_watched new.database)
   lacks_fits grows have old new lacks fits =
@@ -315,13 +315,13 @@ module _ {M : Type 0} (round : M → M → Type 0) where
       let more : MainOwn = fresh Stop (later_sheet r stops.time (dump_saved saved)) r.start Completed stops.tallies stops.drives.rounds stops.entries in
       let later : MainOwn = own_of new.runs (own_watched new.database) in
       let is : later ≡ calls_joined own more = grown grows old new Stop (later_sheet r stops.time (dump_saved saved)) r.start Completed stops.tallies stops.entries stops.drives stops.adds in
-      let rec : RunRecord = record_of (length s.fronts) s.channels (length s.analyzers) r stops.time stops.tallies in
+      let rec : RunRecord = record_of (sender_count s.members) s.channels (reporter_count s.members) r stops.time stops.tallies in
       let state : RunState = (known_from s.main.own).state in
       let whole : FitsWhole clients (calls_joined own more) r rec = record {
         early = own;
         late = more;
         calls = refl;
-        start = on_start (length s.analyzers) own s.on r stops.on fits.on;
+        start = on_start (reporter_count s.members) own s.on r stops.on fits.on;
         stop = stop_fits clients r stops.time stops.tallies state saved stops.drives.rounds stops.entries stops.calls;
         state_is = ap (λ (l : List EngineEntry). (known_from l).state) (sym (append-nil s.main.own));
       } in
@@ -363,7 +363,7 @@ module _ {M : Type 0} (round : M → M → Type 0) where
       subst (λ (x : RunsSeen). RunsFit x (own_watched new.database)) (sym makes.kept) (record {
         each_start = fits.each_start ∙ sym starts;
         runs = subst (λ (o : MainOwn). AllByRecursion (FitsRun (run_clients s) o) s.runs) (sym is) (all_more (run_clients s) own more s.runs fits.runs);
-        on = subst (λ (o : MainOwn). FitsCurrent (length s.analyzers) o s.on) (sym is) (on_more (length s.analyzers) own more s.on fits.on);
+        on = subst (λ (o : MainOwn). FitsCurrent (reporter_count s.members) o s.on) (sym is) (on_more (reporter_count s.members) own more s.on fits.on);
       })
 
   pub answered_pause : OwnGrows → (reply : RunReply) (old new : CommandPoint M) → AnswersPause round reply old new → RunsFit old.runs (own_watched old.database) → RunsFit new.runs (own_watched new.database)

@@ -3,6 +3,7 @@ mod KnownCalls
 mod MadeLaws
 mod SeatLaws
 mod Calls
+mod Counted
 mod Steps
 mod Fits
 mod Lists

@@ -1,6 +1,6 @@
 -- A start and a stop, put together.
 use Rattle.daq_io.specs.Told.{AheadTold}
-use Rattle.std.specs.Prelude.{◌≡◌, ◌≢◌, ℕ, Bool, true, false, List, [], ◌∷◌, ◌++◌, length, Option, Some, None, Result, Ok, Err, is_err, IsOk, IfOk, OnErr, refl}
+use Rattle.std.specs.Prelude.{◌≡◌, ◌≢◌, ℕ, Bool, true, false, List, [], ◌∷◌, ◌++◌, Option, Some, None, Result, Ok, Err, is_err, IsOk, IfOk, OnErr, refl}
 use Rattle.std.proofs.Common.{ap, sym, subst, ◌∙◌, inr}
 use Rattle.daq_types.specs.declared.memory.NoMemory.{NoMemory}
 use Rattle.daq_types.specs.declared.runs.StartOutcome.{StartOutcome}
@@ -21,6 +21,8 @@ use Rattle.session_runs.specs.MadeTransitions.{DrivesTransition}
 use Rattle.session_runs.specs.MainSeats.{StandsFree, MainSeen}
 use Rattle.session_runs.specs.declared.channels.RunChannel.{RunChannel}
 use Rattle.session_runs.specs.declared.on.CurrentRun.{CurrentRun}
+use Rattle.session_runs.specs.declared.opening.MemberName.{MemberName}
+use Rattle.session_runs.specs.Members.{reporter_count, sender_count}
 use Rattle.session_runs.specs.declared.replies.RunReply.{RunReply}
 use Rattle.session_runs.specs.declared.replies.RunReply.TheVariants.{WrongState, LastStart, RunNumber, StartRefused, Started as run_started, Paused as run_paused, Resumed as run_resumed, Stopped as run_stopped}
 use Rattle.session_runs.specs.KeptRuns.{RunsSeen, IsInStep, behind_start, behind_stop, record_of, refused_start, with_calls}
@@ -30,15 +32,15 @@ use Rattle.session_runs.proofs.Calls.{CallsAreEntries, begin_calls, stop_calls}
 use Rattle.session_runs.proofs.Steps.{stop_begins}
 
 -- what is seen of the runs, in parts
-abbrev pub seen_of : (quota : ℕ) → List RunRecord → List (List ℕ) → List RunChannel → List (List ℕ) → Option CurrentRun → MainSeen → RunsSeen
-seen_of quota runs fronts channels analyzers on main = record { quota = quota; runs = runs; fronts = fronts; channels = channels; analyzers = analyzers; on = on; main = main }
+abbrev pub seen_of : (quota : ℕ) → List RunRecord → List MemberName → List RunChannel → Option CurrentRun → MainSeen → RunsSeen
+seen_of quota runs members channels on main = record { quota = quota; runs = runs; members = members; channels = channels; on = on; main = main }
 
-seen_same : (quota : ℕ) (runs later : List RunRecord) (fronts : List (List ℕ)) (channels : List RunChannel) (analyzers : List (List ℕ)) (on then_on : Option CurrentRun) (main after : MainSeen) → runs ≡ later → on ≡ then_on → main ≡ after
-    → seen_of quota runs fronts channels analyzers on main ≡ seen_of quota later fronts channels analyzers then_on after
-seen_same quota runs later fronts channels analyzers on then_on main after are on_is is =
-    ap (λ (l : List RunRecord). seen_of quota l fronts channels analyzers on main) are
-    ∙ (ap (λ (o : Option CurrentRun). seen_of quota later fronts channels analyzers o main) on_is
-    ∙ ap (λ (m : MainSeen). seen_of quota later fronts channels analyzers then_on m) is)
+seen_same : (quota : ℕ) (runs later : List RunRecord) (members : List MemberName) (channels : List RunChannel) (on then_on : Option CurrentRun) (main after : MainSeen) → runs ≡ later → on ≡ then_on → main ≡ after
+    → seen_of quota runs members channels on main ≡ seen_of quota later members channels then_on after
+seen_same quota runs later members channels on then_on main after are on_is is =
+    ap (λ (l : List RunRecord). seen_of quota l members channels on main) are
+    ∙ (ap (λ (o : Option CurrentRun). seen_of quota later members channels o main) on_is
+    ∙ ap (λ (m : MainSeen). seen_of quota later members channels then_on m) is)
 
 abbrev main_of : SharedEngine → List EngineEntry → MainSeen
 main_of engine own = record { engine = engine; own = own }
@@ -48,26 +50,26 @@ main_same : (before after : MainSeen) → after.engine ≡ before.engine → aft
 main_same before after is = ap (λ (e : SharedEngine). main_of e after.own) is
 
 -- a run is on
-pub kept_on : (quota : ℕ) (runs later : List RunRecord) (fronts : List (List ℕ)) (channels : List RunChannel) (analyzers : List (List ℕ)) (on : Option CurrentRun) (main after : MainSeen) (r : CurrentRun) → later ≡ runs → after.engine ≡ main.engine
-    → seen_of quota later fronts channels analyzers (Some r) after ≡ with_calls (behind_start (seen_of quota runs fronts channels analyzers on main) r Completed) after.own
-kept_on quota runs later fronts channels analyzers on main after r are engine = seen_same quota later runs fronts channels analyzers (Some r) (Some r) after (main_of main.engine after.own) are refl (main_same main after engine)
+pub kept_on : (quota : ℕ) (runs later : List RunRecord) (members : List MemberName) (channels : List RunChannel) (on : Option CurrentRun) (main after : MainSeen) (r : CurrentRun) → later ≡ runs → after.engine ≡ main.engine
+    → seen_of quota later members channels (Some r) after ≡ with_calls (behind_start (seen_of quota runs members channels on main) r Completed) after.own
+kept_on quota runs later members channels on main after r are engine = seen_same quota later runs members channels (Some r) (Some r) after (main_of main.engine after.own) are refl (main_same main after engine)
 
 -- a start was refused
-pub kept_refused : (quota : ℕ) (runs between later : List RunRecord) (fronts : List (List ℕ)) (channels : List RunChannel) (analyzers : List (List ℕ)) (on : Option CurrentRun) (main after : MainSeen) (r : CurrentRun) (outcome : StartOutcome) (client : ℕ) (why : Why)
+pub kept_refused : (quota : ℕ) (runs between later : List RunRecord) (members : List MemberName) (channels : List RunChannel) (on : Option CurrentRun) (main after : MainSeen) (r : CurrentRun) (outcome : StartOutcome) (client : ℕ) (why : Why)
     (rec : RunRecord) → between ≡ runs → later ≡ between ++ rec ∷ [] → rec ≡ refused_start r outcome → outcome ≡ Refused client why → after.engine ≡ main.engine
-    → seen_of quota later fronts channels analyzers on after ≡ with_calls (behind_start (seen_of quota runs fronts channels analyzers on main) r (Refused client why)) after.own
-kept_refused quota runs between later fronts channels analyzers on main after r outcome client why rec same are is done engine =
+    → seen_of quota later members channels on after ≡ with_calls (behind_start (seen_of quota runs members channels on main) r (Refused client why)) after.own
+kept_refused quota runs between later members channels on main after r outcome client why rec same are is done engine =
     let all : later ≡ runs ++ refused_start r (Refused client why) ∷ [] =
     are ∙ (ap (λ (l : List RunRecord). l ++ rec ∷ []) same ∙ ap (λ (x : RunRecord). runs ++ x ∷ []) (is ∙ ap (refused_start r) done)) in
-    seen_same quota later (runs ++ refused_start r (Refused client why) ∷ []) fronts channels analyzers on on after (main_of main.engine after.own) all refl (main_same main after engine)
+    seen_same quota later (runs ++ refused_start r (Refused client why) ∷ []) members channels on on after (main_of main.engine after.own) all refl (main_same main after engine)
 
 -- a run was stopped
-pub kept_stopped : (quota : ℕ) (runs later : List RunRecord) (fronts : List (List ℕ)) (channels : List RunChannel) (analyzers : List (List ℕ)) (on then_on : Option CurrentRun) (main after : MainSeen) (r : CurrentRun) (time : ℕ) (told : List ClientTally)
-    (rec : RunRecord) → later ≡ runs ++ rec ∷ [] → rec ≡ record_of (length fronts) channels (length analyzers) r time told → then_on ≡ None → after.engine ≡ main.engine
-    → seen_of quota later fronts channels analyzers then_on after ≡ with_calls (behind_stop (seen_of quota runs fronts channels analyzers on main) r time told) after.own
-kept_stopped quota runs later fronts channels analyzers on then_on main after r time told rec are is off engine =
-    let whole : RunRecord = record_of (length fronts) channels (length analyzers) r time told in
-    seen_same quota later (runs ++ whole ∷ []) fronts channels analyzers then_on None after (main_of main.engine after.own) (are ∙ ap (λ (x : RunRecord). runs ++ x ∷ []) is) off (main_same main after engine)
+pub kept_stopped : (quota : ℕ) (runs later : List RunRecord) (members : List MemberName) (channels : List RunChannel) (on then_on : Option CurrentRun) (main after : MainSeen) (r : CurrentRun) (time : ℕ) (told : List ClientTally)
+    (rec : RunRecord) → later ≡ runs ++ rec ∷ [] → rec ≡ record_of (sender_count members) channels (reporter_count members) r time told → then_on ≡ None → after.engine ≡ main.engine
+    → seen_of quota later members channels then_on after ≡ with_calls (behind_stop (seen_of quota runs members channels on main) r time told) after.own
+kept_stopped quota runs later members channels on then_on main after r time told rec are is off engine =
+    let whole : RunRecord = record_of (sender_count members) channels (reporter_count members) r time told in
+    seen_same quota later (runs ++ whole ∷ []) members channels then_on None after (main_of main.engine after.own) (are ∙ ap (λ (x : RunRecord). runs ++ x ∷ []) is) off (main_same main after engine)
 
 -- the record, from what it was made of
 pub recorded : (count fronts : ℕ) (listed channels : List RunChannel) (others analyzers : ℕ) (r : CurrentRun) (time : ℕ) (told : List ClientTally) (rec : RunRecord) → rec ≡ record_of count listed others r time told → count ≡ fronts → listed ≡ channels
@@ -125,7 +127,7 @@ on_begins r on own is step between = stop_begins r (known_from own) between.open
 
 module _ {M : Type 0} (round : M → M → Type 0) where
   pub begins_run : CallsAreEntries → (run start : ℕ) (outcome ended : StartOutcome) (sheet : Sheet) (before after : AheadTold) (s later : RunsSeen)
-      (a b c : DatabaseAccess) (members turned : M) → s.on ≡ None → begin_known (known_from s.main.own) Start ≡ Ok start → AnnouncesRun run s.quota (length s.analyzers) before after a b sheet
+      (a b c : DatabaseAccess) (members turned : M) → s.on ≡ None → begin_known (known_from s.main.own) Start ≡ Ok start → AnnouncesRun run s.quota (reporter_count s.members) before after a b sheet
       → SetsNumbers b c (outcome_sets run ended) → ended ≡ outcome
       → ((told : List ClientTally) × DrivesTransition round Start sheet start ended told s.main.own later.main.own members turned)
       → later ≡ with_calls (behind_start s (run_by_start s run start sheet.time) outcome) later.main.own
@@ -135,7 +137,7 @@ module _ {M : Type 0} (round : M → M → Type 0) where
       let dump = announced.dump in
       let last : SetsNumbers b c (outcome_sets run outcome) = subst (λ (o : StartOutcome). SetsNumbers b c (outcome_sets run o)) done sets in
       let whole : (entries : List WatchEntry) × BeginCalls run time outcome dump entries × AddsEntries a c entries = begin_calls are a b c run time outcome dump announced.entries announced.calls announced.adds last in
-      let drives : DrivesTransition round Start (start_sheet (length s.analyzers) run time s.quota dump) start ended made.0 s.main.own later.main.own members turned =
+      let drives : DrivesTransition round Start (start_sheet (reporter_count s.members) run time s.quota dump) start ended made.0 s.main.own later.main.own members turned =
       subst (λ (x : Sheet). DrivesTransition round Start x start ended made.0 s.main.own later.main.own members turned) announced.is made.1 in
       record {
         idle = idle;
@@ -148,7 +150,7 @@ module _ {M : Type 0} (round : M → M → Type 0) where
         calls = whole.1;
         adds = whole.2;
         tallies = made.0;
-        drives = subst (λ (o : StartOutcome). DrivesTransition round Start (start_sheet (length s.analyzers) run time s.quota dump) start o made.0 s.main.own later.main.own members turned) done drives;
+        drives = subst (λ (o : StartOutcome). DrivesTransition round Start (start_sheet (reporter_count s.members) run time s.quota dump) start o made.0 s.main.own later.main.own members turned) done drives;
         kept = kept;
       }
 

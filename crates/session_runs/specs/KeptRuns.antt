@@ -1,5 +1,5 @@
 -- What the main thread keeps of a session's runs.
-use Rattle.std.specs.Prelude.{◌≡◌, ◌≢◌, ℕ, zero, suc, ◌+◌, ◌==◌, if◌then◌else◌, List, [], ◌∷◌, ◌++◌, length, Option, Some, None}
+use Rattle.std.specs.Prelude.{◌≡◌, ◌≢◌, ℕ, zero, suc, ◌+◌, ◌==◌, if◌then◌else◌, List, [], ◌∷◌, ◌++◌, Option, Some, None}
 use Rattle.std.specs.Option.{option_or, option_to_list}
 use Rattle.daq_types.specs.declared.runs.RunState.TheVariants.{Stopped}
 use Rattle.daq_types.specs.declared.runs.StartOutcome.{StartOutcome}
@@ -11,18 +11,18 @@ use Rattle.session_runs.specs.MainKnowledge.{MainKnows}
 use Rattle.session_runs.specs.MainSeats.{MainSeen}
 use Rattle.session_runs.specs.declared.channels.RunChannel.{RunChannel}
 use Rattle.session_runs.specs.declared.on.CurrentRun.{CurrentRun}
+use Rattle.session_runs.specs.declared.opening.MemberName.{MemberName}
+use Rattle.session_runs.specs.Members.{reporter_count, sender_count}
 use Rattle.session_runs.specs.ToldTallies.{fronts_told, ends_told, files_of, reports_told}
 
 -- What the main thread keeps: how many events each front-end has to send in the runs that are started from here on; the
--- records of the runs so far, but for that of the run that is on; the names of the front-ends, which are the first
--- clients; the channels of the logger, which is the client behind them; the names of the analyzers, which are the clients
--- behind that; the run that is on; and its calls on the engine.
+-- records of the runs so far, but for that of the run that is on; the members as it registered them, in the order of their
+-- client numbers; the channels of the logger; the run that is on; and its calls on the engine.
 pub record RunsSeen : Type 0 where
   pub quota : ℕ
   pub runs : List RunRecord
-  pub fronts : List (List ℕ)
+  pub members : List MemberName
   pub channels : List RunChannel
-  pub analyzers : List (List ℕ)
   pub on : Option CurrentRun
   pub main : MainSeen
 
@@ -95,5 +95,5 @@ behind_start s r (Refused client why) = record s { runs = s.runs ++ refused_star
 abbrev pub behind_stop : RunsSeen → CurrentRun → (time : ℕ) → List ClientTally → RunsSeen
 behind_stop s r time tallies = record s {
   on = None;
-  runs = s.runs ++ record_of (length s.fronts) s.channels (length s.analyzers) r time tallies ∷ [];
+  runs = s.runs ++ record_of (sender_count s.members) s.channels (reporter_count s.members) r time tallies ∷ [];
 }

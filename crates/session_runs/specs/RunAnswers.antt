@@ -1,6 +1,6 @@
 -- What the main thread's run commands do, by their replies.
 use Rattle.daq_io.specs.Told.{AheadTold}
-use Rattle.std.specs.Prelude.{◌≡◌, ◌⊎◌, ℕ, ◌+◌, ℤ, Bool, IsTrue, length, List, Some, None, Result, Ok, Err, is_err, IsOk}
+use Rattle.std.specs.Prelude.{◌≡◌, ◌⊎◌, ℕ, ◌+◌, ℤ, Bool, IsTrue, List, Some, None, Result, Ok, Err, is_err, IsOk}
 use Rattle.daq_types.specs.declared.memory.NoMemory.{NoMemory}
 use Rattle.daq_types.specs.declared.runs.StartOutcome.{StartOutcome}
 use Rattle.daq_types.specs.declared.runs.StartOutcome.TheVariants.{Completed, Refused}
@@ -20,6 +20,7 @@ use Rattle.session_runs.specs.declared.on.CurrentRun.{CurrentRun}
 use Rattle.session_runs.specs.declared.replies.RunReply.{RunReply}
 use Rattle.session_runs.specs.declared.replies.RunReply.TheVariants.{WrongState, LastStart, RunNumber, StartRefused, Started as run_started, Paused as run_paused, Resumed as run_resumed, Stopped as run_stopped}
 use Rattle.session_runs.specs.KeptRuns.{RunsSeen, behind_start, behind_stop, with_calls}
+use Rattle.session_runs.specs.Members.{reporter_count}
 use Rattle.session_runs.specs.RunEntries.{AnnounceCalls, BeginCalls, StopCalls, start_sheet, later_sheet, dump_saved}
 
 -- Where the main thread stands between two commands: what it keeps of its runs, its access to the database, and the
@@ -115,7 +116,7 @@ module _ {M : Type 0} (round : M → M → Type 0) where
     pub calls : BeginCalls run time outcome dump entries
     pub adds : AddsEntries old.database new.database entries
     pub tallies : List ClientTally
-    pub drives : DrivesTransition round Start (start_sheet (length old.runs.analyzers) run time old.runs.quota dump) start outcome tallies
+    pub drives : DrivesTransition round Start (start_sheet (reporter_count old.runs.members) run time old.runs.quota dump) start outcome tallies
         old.runs.main.own new.runs.main.own old.members new.members
     pub kept : new.runs ≡ with_calls (behind_start old.runs (run_by_start old.runs run start time) outcome) new.runs.main.own
 

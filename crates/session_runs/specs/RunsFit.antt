@@ -1,5 +1,5 @@
 -- How the record of a run stands to the main thread's own calls on the engine and on the online database.
-use Rattle.std.specs.Prelude.{◌≡◌, ℕ, ◌+◌, List, [], ◌∷◌, ◌++◌, length, map, Option, Some, None, Result, Ok, ⊤}
+use Rattle.std.specs.Prelude.{◌≡◌, ℕ, ◌+◌, List, [], ◌∷◌, ◌++◌, map, Option, Some, None, Result, Ok, ⊤}
 use Rattle.std.specs.Option.{option_map, option_to_list}
 use Rattle.std.specs.List.{AllByRecursion}
 use Rattle.daq_types.specs.declared.memory.NoMemory.{NoMemory}
@@ -16,6 +16,7 @@ use Rattle.session_runs.specs.MadeTransitions.{TransitionIn}
 use Rattle.session_runs.specs.declared.channels.RunChannel.{RunChannel}
 use Rattle.session_runs.specs.declared.on.CurrentRun.{CurrentRun}
 use Rattle.session_runs.specs.KeptRuns.{RunsSeen}
+use Rattle.session_runs.specs.Members.{reporter_count, sender_count}
 use Rattle.session_runs.specs.ToldTallies.{fronts_told, ends_told, files_of, reports_told}
 use Rattle.session_runs.specs.RunEntries.{StartCalls, StopCalls, start_sheet, later_sheet, dump_saved}
 
@@ -28,7 +29,7 @@ pub record RunClients : Type 0 where
 
 -- those of the main thread's runs
 abbrev pub run_clients : RunsSeen → RunClients
-run_clients s = record { fronts = length s.fronts; channels = s.channels; analyzers = length s.analyzers }
+run_clients s = record { fronts = sender_count s.members; channels = s.channels; analyzers = reporter_count s.members }
 
 -- the call begins a transition, checks one, or closes the engine
 abbrev pub SteersEngine : EngineEntry → Type 0
@@ -144,4 +145,4 @@ pub record RecordsFit (clients : RunClients) (own : MainOwn) (records : List Run
 pub record RunsFit (s : RunsSeen) (database : List WatchEntry) : Type 0 where
   pub each_start : map start_of s.runs ++ option_to_list (option_map start_on s.on) ≡ starts_begun s.main.own
   pub runs : AllByRecursion (FitsRun (run_clients s) (record { engine = s.main.own; database = database })) s.runs
-  pub on : FitsCurrent (length s.analyzers) (record { engine = s.main.own; database = database }) s.on
+  pub on : FitsCurrent (reporter_count s.members) (record { engine = s.main.own; database = database }) s.on

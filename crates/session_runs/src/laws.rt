@@ -4,7 +4,7 @@ ghost use Rattle.std.specs.Prelude.{◌≡◌, ◌++◌, [], ℕ, List, None};
 ghost use Rattle.odb_watch.specs.DatabasePorts.{own_watched};
 ghost use Rattle.odb_watch.specs.declared.entry.WatchEntry.{WatchEntry};
 ghost use Rattle.session_runs.specs.declared.opening.MemberName.{MemberName};
-ghost use Rattle.session_runs.specs.Members.{registrations};
+ghost use Rattle.session_runs.specs.Members.{MembersCounted, registrations};
 ghost use Rattle.session_runs.specs.declared.replies.RunReply.{RunReply};
 ghost use Rattle.session_runs.specs.FileRows.{ChannelsEnd};
 ghost use Rattle.session_runs.specs.KeptRuns.{RunsSeen};
@@ -54,6 +54,11 @@ pub fn runs_fit()
     ensures records { (s : RunsSeen) (own : List WatchEntry) → RunsFit s own → s.on ≡ None
         → RecordsFit (run_clients s)
         (record { engine = s.main.own; database = own }) s.runs }
+{}
+
+/// How many members of a session send events, and how many count in reports.
+pub fn members_counted()
+    ensures { MembersCounted }
 {}
 
 /// A channel ended in a run exactly where each of its files in the record did.

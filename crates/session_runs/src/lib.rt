@@ -13,6 +13,7 @@ mod pausing;
 mod records;
 mod refusing;
 mod replies;
+mod run_keys;
 mod runs;
 mod seat;
 mod starting;
@@ -28,5 +29,5 @@ pub use records::{
     ReportTally, RunRecord, SentLine, SentLines,
 };
 pub use replies::RunReply;
-pub use runs::{AnalyzerNames, FrontNames, Runs};
+pub use runs::Runs;
 pub use seat::MainSeat;

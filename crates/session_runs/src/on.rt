@@ -1,9 +1,9 @@
 // The run that is on, with all that its end needs.
 ghost use Rattle.std.specs.Prelude.{◌≡◌, [], IfOk};
 
+use crate::run_keys::RunKeys;
 use crate::{FileRecords, FrontTallies, ReportTallies};
 use daq_types::{BoundedList, NoMemory};
-use odb_runinfo::KeyPaths;
 use std::alloc::Global;
 
 /// The run that is on.
@@ -19,13 +19,13 @@ pub struct CurrentRun {
     pub quota: u32,
 }
 
-/// What a run needs that takes memory, made before it begins: the lists of its record, and the paths of what is set.
+/// What a run needs that takes memory, made before it begins: the lists of its record, and the keys that are set.
 #[derive(Drop)]
 pub(crate) struct RunRooms {
     pub fronts: FrontTallies,
     pub files: FileRecords,
     pub reports: ReportTallies,
-    pub paths: KeyPaths,
+    pub keys: RunKeys,
     ghost no_fronts: { fronts ≡ [] },
     ghost no_files: { files ≡ [] },
     ghost no_reports: { reports ≡ [] },
@@ -44,12 +44,12 @@ impl RunRooms {
         let fronts = BoundedList::new(alloc)?;
         let files = BoundedList::new(alloc)?;
         let reports = BoundedList::new(alloc)?;
-        let paths = KeyPaths::new(alloc)?;
+        let keys = RunKeys::new(alloc)?;
         Ok(RunRooms {
             fronts,
             files,
             reports,
-            paths,
+            keys,
         })
     }
 }

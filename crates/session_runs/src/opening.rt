@@ -7,7 +7,7 @@ ghost use Rattle.transitions.specs.Engines.{engine_opening};
 ghost use Rattle.transitions.specs.Limits.{most_clients};
 ghost use Rattle.transition_lock.specs.SharedEngines.{engine_lock_of, first_engine};
 ghost use Rattle.session_runs.specs.MainKnowledge.{known_from};
-ghost use Rattle.session_runs.specs.Members.{gets_dumps, gets_reports, registration, registrations};
+ghost use Rattle.session_runs.specs.Members.{gets_dumps, gets_reports, registration, registrations, sends_events};
 
 use daq_types::Name;
 use std::sync::Wait;
@@ -28,8 +28,15 @@ fn wants_dump(role: Role) -> bool
     matches!(role, Role::Logger)
 }
 
+/// Whether a member in this role sends events of its own.
+pub(crate) fn sends_events(role: Role) -> bool
+    ensures { result ≡ sends_events role }
+{
+    matches!(role, Role::FrontEnd)
+}
+
 /// Whether a member in this role counts in a report.
-fn wants_report(role: Role) -> bool
+pub(crate) fn wants_report(role: Role) -> bool
     ensures { result ≡ gets_reports role }
 {
     matches!(role, Role::Analyzer)

@@ -15,7 +15,6 @@ use odb_watch::WatchPort;
 use odb_watch::port_laws::calls_add_up;
 use std::alloc::Global;
 use std::sync::Wait;
-use transitions::after;
 
 impl<'a> Runs<'a> {
     /// Pauses the run that is on, or resumes it: its number, or the reply where the engine would refuse that.
@@ -43,7 +42,6 @@ impl<'a> Runs<'a> {
             unreachable!();
         };
         calls_add_up();
-        let state = after(self.seat.state(), transition);
         let sheet = sheet_for(alloc, open.run.run, open.run.time, open.run.quota, None);
         let _ = make_untold(
             rt,
@@ -53,7 +51,7 @@ impl<'a> Runs<'a> {
             &mut self.tallies,
             members,
         );
-        open.rooms.paths.set_state(rt, alloc, database, state);
+        open.rooms.keys.set_state(rt, alloc, database, &self.seat);
         Ok(open.run.run)
     }
 

@@ -1,35 +1,30 @@
 // What the main thread keeps of a session's runs.
-ghost use Rattle.std.specs.Prelude.{◌≡◌, ◌≤◌, [], length, None, IfOk};
+ghost use Rattle.std.specs.Prelude.{◌≡◌, ◌≤◌, [], None, IfOk};
 ghost use Rattle.daq_types.specs.declared.runs.RunState.TheVariants.{Stopped};
 ghost use Rattle.session_runs.specs.MainKnowledge.{known_from};
 ghost use Rattle.session_runs.specs.KeptRuns.{IsInStep, channels_of};
+ghost use Rattle.session_runs.specs.Members.{gets_reports, reporter_count, sender_count, sends_events};
 
 use crate::channels::{RunChannels, channels_of};
 use crate::on::{CurrentRun, OpenRun};
+use crate::opening::{MemberName, sends_events, wants_report};
 use crate::{MainSeat, RunRecord};
-use daq_types::{BoundedList, Journal, Name, NoMemory};
+use daq_types::{BoundedList, Journal, NoMemory};
 use member_model::Tallies;
 use mid_logger::ChannelSpec;
 use std::alloc::Global;
 use std::marker::Model;
 
-/// The names of the front-ends, which are the first clients, in the order of their numbers.
-pub type FrontNames = BoundedList<Name, 32>;
-
-/// The names of the analyzers, which are the clients behind the logger, in the order of their numbers.
-pub type AnalyzerNames = BoundedList<Name, 8>;
-
-/// What the main thread keeps of a session's runs: the quota of the runs to come, the records, the run that is on with all
-/// that its end needs, and the main thread's place at the engine. By its own calls there it knows what the engine allows, so
-/// a run is on exactly where the engine's state is not stopped.
+/// What the main thread keeps of a session's runs: the quota of the runs to come, the records, the members by their client numbers,
+/// the run that is on with all that its end needs, and the main thread's place at the engine. By its own calls there it knows what
+/// the engine allows, so a run is on exactly where the engine's state is not stopped.
 #[derive(Drop)]
 pub struct Runs<'a> {
     pub(crate) seat: MainSeat<'a>,
     pub(crate) quota: u32,
     pub(crate) runs: Vec<RunRecord>,
-    pub(crate) fronts: FrontNames,
+    pub(crate) members: Vec<MemberName>,
     pub(crate) channels: RunChannels,
-    pub(crate) analyzers: AnalyzerNames,
     pub(crate) tallies: Tallies,
     pub(crate) on: Option<OpenRun>,
 }
@@ -39,47 +34,65 @@ impl<'a> Model for Runs<'a> {
     ghost use Rattle.std.specs.Option.{option_map, ForSome};
     ghost use Rattle.session_runs.specs.MainKnowledge.{known_from};
     ghost use Rattle.session_runs.specs.KeptRuns.{RunsSeen, IsInStep};
+    ghost use Rattle.session_runs.specs.Members.{reporter_count, sender_count};
 
     ghost Value = { RunsSeen };
 
     ghost view = { λ r. record {
       quota = r.quota;
       runs = r.runs.items;
-      fronts = r.fronts;
+      members = r.members.items;
       channels = r.channels;
-      analyzers = r.analyzers;
       on = option_map (λ o. o.run) r.on;
       main = r.seat;
     } };
 
     ghost invariant = { λ r. (r.tallies ≡ [])
-        × (length r.fronts ≤ 32)
+        × (sender_count r.members.items ≤ 32)
         × (length r.channels ≤ 16)
-        × (length r.analyzers ≤ 8)
+        × (reporter_count r.members.items ≤ 8)
         × ForSome r.on (λ _. vec_len r.runs < vec_capacity r.runs)
         × IsInStep (option_map (λ o. o.run) r.on) (known_from r.seat.own) };
 }
 
+/// How many of these members send events.
+pub(crate) fn sender_count(members: &[MemberName]) -> usize
+    ensures { result ≡ sender_count members.now }
+{
+    members
+        .iter()
+        .filter(|member| sends_events(member.role))
+        .count()
+}
+
+/// How many of these members count in a report.
+pub(crate) fn reporter_count(members: &[MemberName]) -> usize
+    ensures { result ≡ reporter_count members.now }
+{
+    members
+        .iter()
+        .filter(|member| wants_report(member.role))
+        .count()
+}
+
 impl<'a> Runs<'a> {
-    /// No run yet, with this quota. The front-ends are the first clients of the engine, the logger of these channels is the
-    /// client behind them, and the analyzers are those behind that.
+    /// No run yet, with this quota, of these members, which are the engine's clients in this order, and whose logger has these
+    /// channels. The front-ends are the first of them, the logger is the one behind them, and the analyzers come behind that.
     pub fn new(
         alloc: Global,
         seat: MainSeat<'a>,
         quota: u32,
-        fronts: FrontNames,
+        members: Vec<MemberName>,
         channels: &[ChannelSpec],
-        analyzers: AnalyzerNames,
     ) -> Result<Runs<'a>, NoMemory>
         requires stopped { (known_from seat.own).state ≡ Stopped }
-        requires few { length fronts ≤ 32 }
-        requires few_analyzers { length analyzers ≤ 8 }
+        requires few { sender_count members.items ≤ 32 }
+        requires few_reports { reporter_count members.items ≤ 8 }
         ensures { IfOk result (λ runs. runs ≡ record {
           quota = quota;
           runs = [];
-          fronts = fronts;
+          members = members.items;
           channels = channels_of channels.now;
-          analyzers = analyzers;
           on = None;
           main = seat.entry;
         }) }
@@ -90,9 +103,8 @@ impl<'a> Runs<'a> {
             seat,
             quota,
             runs: Vec::new(alloc),
-            fronts,
+            members,
             channels,
-            analyzers,
             tallies,
             on: None,
         })
@@ -113,18 +125,11 @@ impl<'a> Runs<'a> {
         self.on.as_ref().map(|open| open.run)
     }
 
-    /// The names of the front-ends.
-    pub fn fronts(&self) -> &[Name]
-        ensures { result.now ≡ self.now.fronts }
+    /// The members, in the order of their client numbers.
+    pub fn members(&self) -> &[MemberName]
+        ensures { result.now ≡ self.now.members }
     {
-        self.fronts.as_slice()
-    }
-
-    /// The names of the analyzers.
-    pub fn analyzers(&self) -> &[Name]
-        ensures { result.now ≡ self.now.analyzers }
-    {
-        self.analyzers.as_slice()
+        self.members.as_slice()
     }
 
     /// The records so far.

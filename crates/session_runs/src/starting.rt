@@ -5,6 +5,8 @@ ghost use Rattle.odb_text.specs.Dumps.{dump_limit};
 ghost use Rattle.odb_watch.specs.declared.entry.WatchEntry.{WatchEntry};
 ghost use Rattle.odb_watch.specs.DatabasePorts.{AddsEntries};
 ghost use Rattle.odb_runinfo.specs.RunSets.{SetsNumbers};
+ghost use Rattle.daq_types.specs.declared.runs.RunState.TheVariants.{Running};
+ghost use Rattle.daq_types.specs.declared.runs.StartOutcome.TheVariants.{Completed};
 ghost use Rattle.daq_types.specs.declared.runs.Transition.TheVariants.{Start};
 ghost use Rattle.session_runs.specs.MainKnowledge.{known_from, begin_known};
 ghost use Rattle.member_model.specs.RunEngines.{IsSheet};
@@ -12,17 +14,18 @@ ghost use Rattle.session_runs.specs.KeptRuns.{refused_start};
 ghost use Rattle.session_runs.specs.RunEntries.{AnnounceCalls, outcome_sets};
 ghost use Rattle.session_runs.specs.RunAnswers.{AnnouncesRun, AnswersStart, CutsAnnouncing, CutsStart, AnswersBegin, CutsBegin, ReadsClock, point_of};
 
-use crate::RunRecord;
 use crate::making::{blank_reports, make_untold, start_sheet};
 use crate::on::{CurrentRun, OpenRun, RunRooms};
 use crate::refusing::refusal_of;
 use crate::replies::RunReply;
-use crate::runs::Runs;
+use crate::run_keys::RunKeys;
+use crate::runs::{Runs, reporter_count};
+use crate::{MainSeat, RunRecord};
 use daq_io::Clock;
-use daq_types::{Bytes, NoMemory, RunState, StartOutcome, Transition};
+use daq_types::{Bytes, NoMemory, StartOutcome, Transition};
 use member_crew::Rounds;
 use member_model::Sheet;
-use odb_runinfo::{KeyPaths, RunNumber, next_run};
+use odb_runinfo::{RunNumber, next_run};
 use odb_watch::WatchPort;
 use odb_watch::port_laws::{calls_add_up, entries_add_up};
 use std::alloc::Global;
@@ -33,7 +36,7 @@ use std::sync::Wait;
 fn announce<R: Wait, D: WatchPort, C: Clock>(
     rt: &R,
     alloc: Global,
-    paths: &KeyPaths,
+    keys: &RunKeys,
     database: &mut D,
     clock: &mut C,
     run: u32,
@@ -47,7 +50,7 @@ fn announce<R: Wait, D: WatchPort, C: Clock>(
 {
     calls_add_up();
     let time = clock.now();
-    paths.set_starting(rt, alloc, database, run, time);
+    keys.set_starting(rt, alloc, database, run, time);
     let saved = database.save(rt, alloc);
     (time, saved)
 }
@@ -75,30 +78,32 @@ fn announce_run<R: Wait, D: WatchPort, C: Clock>(
 {
     let rooms = RunRooms::new(alloc)?;
     let blanks = blank_reports(alloc, count)?;
-    let (time, saved) = announce(rt, alloc, &rooms.paths, database, clock, run);
+    let (time, saved) = announce(rt, alloc, &rooms.keys, database, clock, run);
     let Ok(dump) = saved else {
         return Err(NoMemory);
     };
     Ok((rooms, start_sheet(run, time, quota, dump, blanks)))
 }
 
-/// Sets what a start that ended so sets last.
+/// Sets what a start that ended so sets last, as the main thread knows by then.
 fn set_outcome<R: Wait, D: WatchPort>(
     rt: &R,
     alloc: Global,
-    paths: &KeyPaths,
+    keys: &RunKeys,
     database: &mut D,
+    seat: &MainSeat<'_>,
     run: u32,
     outcome: StartOutcome,
 )
     requires first { 1 ≤ run }
     requires small { run < 2 ^ 31 }
+    requires known { outcome ≡ Completed → (known_from seat.now.own).state ≡ Running }
     ensures { SetsNumbers (D.access database.old) (D.access database.new)
         (outcome_sets run outcome) }
 {
     match outcome {
-        StartOutcome::Completed => paths.set_state(rt, alloc, database, RunState::Running),
-        StartOutcome::Refused { .. } => paths.set_back(rt, alloc, database, run),
+        StartOutcome::Completed => keys.set_state(rt, alloc, database, seat),
+        StartOutcome::Refused { .. } => keys.set_back(rt, alloc, database, run),
     }
 }
 
@@ -159,7 +164,7 @@ impl<'a> Runs<'a> {
     {
         self.runs.reserve(1)?;
         let quota = self.quota;
-        let count = self.analyzers.len();
+        let count = reporter_count(&self.members);
         let (rooms, sheet) = announce_run(rt, alloc, database, clock, run, quota, count)?;
         let time = sheet.time;
         calls_add_up();
@@ -171,7 +176,8 @@ impl<'a> Runs<'a> {
             &mut self.tallies,
             members,
         );
-        set_outcome(rt, alloc, &rooms.paths, database, run, made.outcome);
+        let (keys, seat) = (&rooms.keys, &self.seat);
+        set_outcome(rt, alloc, keys, database, seat, run, made.outcome);
         let current = CurrentRun {
             run,
             start: made.start,

@@ -6,21 +6,22 @@ ghost use Rattle.odb_watch.specs.DatabasePorts.{AddsEntries};
 ghost use Rattle.daq_types.specs.declared.runs.StartOutcome.TheVariants.{Completed};
 ghost use Rattle.daq_types.specs.declared.runs.Transition.TheVariants.{Stop};
 ghost use Rattle.session_runs.specs.KeptRuns.{record_of};
+ghost use Rattle.session_runs.specs.MainKnowledge.{known_from};
 ghost use Rattle.session_runs.specs.RunEntries.{AnnouncesStop, dump_saved};
 ghost use Rattle.session_runs.specs.RunAnswers.{AnswersStop, StopsUnsaved, ReadsClock, point_of};
 
-use crate::RunRecord;
 use crate::channels::RunChannel;
 use crate::making::sheet_for;
 use crate::on::{CurrentRun, OpenRun, RunRooms};
 use crate::replies::RunReply;
-use crate::runs::Runs;
+use crate::run_keys::RunKeys;
+use crate::runs::{Runs, reporter_count, sender_count};
 use crate::tallied::{take_files, take_fronts, take_reports};
+use crate::{MainSeat, RunRecord};
 use daq_io::Clock;
-use daq_types::{Bytes, NoMemory, RunState, StartOutcome, Transition};
+use daq_types::{Bytes, NoMemory, StartOutcome, Transition};
 use member_crew::Rounds;
 use member_model::Tallies;
-use odb_runinfo::KeyPaths;
 use odb_watch::WatchPort;
 use odb_watch::port_laws::calls_add_up;
 use std::alloc::Global;
@@ -31,20 +32,20 @@ use std::sync::Wait;
 fn announce_stop<R: Wait, D: WatchPort, C: Clock>(
     rt: &R,
     alloc: Global,
-    paths: &KeyPaths,
+    keys: &RunKeys,
     database: &mut D,
     clock: &mut C,
-    state: RunState,
+    seat: &MainSeat<'_>,
 ) -> (u32, Result<Bytes, NoMemory>)
     ensures reading { ReadsClock (C.told clock.old)
         (C.told clock.new) result.0 }
-    ensures calls { (entries : List WatchEntry) × AnnouncesStop state result.0 result.1 entries
+    ensures calls { (entries : List WatchEntry) × AnnouncesStop (known_from seat.now.own).state result.0 result.1 entries
         × AddsEntries (D.access database.old) (D.access database.new) entries }
     ensures dump { IfOk result.1 (λ dump. length dump ≤ dump_limit) }
 {
     calls_add_up();
     let time = clock.now();
-    paths.set_stopping(rt, alloc, database, state, time);
+    keys.set_stopping(rt, alloc, database, seat, time);
     let saved = database.save(rt, alloc);
     (time, saved)
 }
@@ -141,17 +142,17 @@ impl<'a> Runs<'a> {
         };
         calls_add_up();
         let CurrentRun { run, quota, .. } = open.run;
-        let paths = &open.rooms.paths;
-        let (time, saved) = announce_stop(rt, alloc, paths, database, clock, state);
+        let keys = &open.rooms.keys;
+        let (time, saved) = announce_stop(rt, alloc, keys, database, clock, &self.seat);
         let lacking = saved.is_err();
         let sheet = sheet_for(alloc, run, time, quota, dump_saved(saved));
         let tallies = &mut self.tallies;
         let _ = self
             .seat
             .make(rt, Transition::Stop, sheet, tallies, members);
-        paths.set_state(rt, alloc, database, RunState::Stopped);
-        let count = self.fronts.len() as u32;
-        let analyzers = self.analyzers.len() as u32;
+        keys.set_state(rt, alloc, database, &self.seat);
+        let count = sender_count(&self.members) as u32;
+        let analyzers = reporter_count(&self.members) as u32;
         self.runs.push_reserved(record_of(
             open,
             time,

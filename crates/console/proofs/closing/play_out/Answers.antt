@@ -11,5 +11,5 @@ returns-clause-stays g c = g.met.A.Answerer.stays_on _ _ _ c.play_on.ensures.sta
 
 pub unreachable-requires : goal.unreachable-requires
 unreachable-requires g c =
-    let left = c.in-Opens.ensures.left in
-    cc (sym left.1 ∙ c.requires.own left.0)
+    let left = c.in-Opens.ensures.ends.left in
+    cc (sym left.1 ∙ c.requires.ready.own left.0)

@@ -1,6 +1,8 @@
-use Rattle.std.proofs.Common.{◌≡◌, Some, None, ap, sym, ◌∙◌, arith}
+use Rattle.std.proofs.Common.{◌≡◌, ℕ, Some, None, ap, sym, subst, ◌∙◌, arith}
 use Rattle.std.specs.Prelude.{Ok}
+use Rattle.odb_script.specs.Lines.{Reading}
 use Rattle.console.specs.declared.going.Going.TheVariants as going
+use Rattle.console.specs.Halts.{SinkBy}
 use Rattle.console.proofs.PlayingEnds.{halted_at, stopped_at, goes_next, ends_next, left_next}
 use Rattle.console.proofs.playing.play_on.Goals as goal
 
@@ -57,8 +59,24 @@ returns-in-Ok-End-clause-stays g c = g.met.A.Answerer.stays_on _ _ _ c.loop-line
 pub returns-in-Some-clause-stays : goal.returns-in-Some-clause-stays
 returns-in-Some-clause-stays g c = g.met.A.Answerer.stays_on _ _ _ c.loop-line.invariant.stays c.handle.ensures.stays
 
-pub returns-in-Ok-Opens-clause-left : goal.returns-in-Ok-Opens-clause-left
-returns-in-Ok-Opens-clause-left g c =
+pub returns-in-Err-clause-ends : goal.returns-in-Err-clause-ends
+returns-in-Err-clause-ends g c =
+    let now = (g.O.Sink.told c.handle.new.out).faults in
+    record {
+      fits = tt;
+      left = tt;
+      source_counts = c.loop-line.invariant.source;
+      sink_counts = subst (λ (n : ℕ). SinkBy c.in-Err.halt n now) c.loop-line.invariant.sink c.in-Err.ensures.sink.halted;
+    }
+
+pub returns-in-Ok-Opens-clause-ends : goal.returns-in-Ok-Opens-clause-ends
+returns-in-Ok-Opens-clause-ends g c =
     let opens = c.in-Ok-Opens.field-0-is in
     let given : c.handle.result ≡ Ok going.Opens = c.in-Ok-Opens.is ∙ ap Ok opens in
-    (_, (rw given at c.handle.ensures.did).left)
+    let number = rw given at c.handle.ensures.number in
+    record {
+      fits = omega (arith, c.loop-line.invariant.fits, number, ap (λ (r : Reading). r.taken) c.handle.ensures.reader);
+      left = (_, (rw given at c.handle.ensures.did).left);
+      source_counts = c.loop-line.invariant.source;
+      sink_counts = (rw given at c.handle.ensures.sink.done) ∙ c.loop-line.invariant.sink;
+    }
