@@ -1,5 +1,5 @@
 -- The members of a session in one list, by their client numbers.
-use Rattle.std.proofs.Common.{◌≡◌, ◌≢◌, ◌∙◌, ◌⊎◌, ℕ, zero, suc, ◌+◌, ◌<◌, ◌++◌, ◌∷◌, false, List, [], length, map, ap, sym, refl, subst, inl, inr, ⊎_elim, arith, eq-eqb, length-append}
+use Rattle.std.proofs.Common.{◌≡◌, ◌≢◌, ◌∙◌, ◌⊎◌, ℕ, zero, suc, ◌+◌, ◌<◌, ◌≤◌, ◌++◌, ◌∷◌, false, List, [], length, map, ap, sym, refl, subst, inl, inr, ⊎_elim, arith, eq-eqb, length-append}
 use Rattle.std.specs.Prelude.{slice_get, Option, Some, None}
 use Rattle.std.specs.Option.{option_map}
 use Rattle.std.proofs.lemmas.List.{length-map}
@@ -112,10 +112,10 @@ no_account (w ∷ ws) [] n none = refl
 no_account (w ∷ ws) (x ∷ xs) zero none = absurd (cc (none))
 no_account (w ∷ ws) (x ∷ xs) (suc n) none = no_account ws xs n none
 
-pub accounts_count : {F : Type 0} (wanted : List MemberDeclared) (members : List (MemberSeen Generator F)) → length members ≡ length wanted → length (accounts_of wanted members) ≡ length wanted
-accounts_count [] members same = refl
-accounts_count (w ∷ ws) [] same = absurd (omega arith)
-accounts_count (w ∷ ws) (x ∷ xs) same = ap suc (accounts_count ws xs (omega arith))
+pub accounts_count : {F : Type 0} (wanted : List MemberDeclared) (members : List (MemberSeen Generator F)) → length members ≤ length wanted → length (accounts_of wanted members) ≡ length members
+accounts_count [] members few = omega arith
+accounts_count (w ∷ ws) [] few = refl
+accounts_count (w ∷ ws) (x ∷ xs) few = ap suc (accounts_count ws xs (omega arith))
 
 -- What is left by members is what the first logger among them leaves.
 first_left : {F : Type 0} (members : List (MemberSeen Generator F)) (n : ℕ) (logger : LoggerSeen F) → slice_get members n ≡ Some (Logger logger) →
@@ -124,6 +124,23 @@ first_left [] n logger at none = absurd (cc (at))
 first_left {F} (m ∷ ms) zero logger at none = ap (λ (x : MemberSeen Generator F). left_also (end_of_member x) (left_among ms)) (some_same m (Logger logger) at)
 first_left {F} (m ∷ ms) (suc n) logger at none =
     ap (λ (o : Option (LoggerEnd F)). left_also o (left_among ms)) (none 0 m (omega arith) refl) ∙ first_left ms n logger at (λ k x l there. none (suc k) x (omega arith) there)
+
+-- What is left is left by a logger among them;
+pub left_one : {F : Type 0} (members : List (MemberSeen Generator F)) (end : LoggerEnd F) → left_among members ≡ Some end →
+    (n : ℕ) × (logger : LoggerSeen F) × (slice_get members n ≡ Some (Logger logger)) × (end ≡ logger_end logger)
+left_one [] end is = absurd (cc is)
+left_one (FrontEnd front ∷ ms) end is = let more = left_one ms end is in (suc more.0, more.1, more.2, more.3)
+left_one (Logger logger ∷ ms) end is = (0, logger, refl, some_same end (logger_end logger) (sym is))
+left_one (Analyzer analyzer ∷ ms) end is = let more = left_one ms end is in (suc more.0, more.1, more.2, more.3)
+
+-- and where nothing is left none of them is a logger.
+pub none_left : {F : Type 0} (members : List (MemberSeen Generator F)) (n : ℕ) (logger : LoggerSeen F) → slice_get members n ≡ Some (Logger logger) → left_among members ≡ None → ⊥
+none_left [] n logger at none = cc at
+none_left (FrontEnd front ∷ ms) zero logger at none = cc at
+none_left (FrontEnd front ∷ ms) (suc n) logger at none = none_left ms n logger at none
+none_left (Logger other ∷ ms) n logger at none = cc none
+none_left (Analyzer analyzer ∷ ms) zero logger at none = cc at
+none_left (Analyzer analyzer ∷ ms) (suc n) logger at none = none_left ms n logger at none
 
 module _ {D F : Type 0} (lists : DeclaredLists) (objects : SessionObjects) (shared : SharedOdb D) (members : List (MemberSeen Generator F)) (are : AreMembersOf lists objects shared members) where
   -- One of them is the logger,

@@ -23,13 +23,12 @@ use Rattle.session_objects.specs.declared.objects.SessionBuffer.{SessionBuffer}
 use Rattle.session_objects.specs.declared.objects.SessionObjects.{SessionObjects}
 use Rattle.session_objects.specs.declared.passes.SessionPasses.{SessionPasses}
 use Rattle.session_objects.specs.Rosters.{ChangesAt, KeepsPasses, PutsBack}
-use Rattle.session_objects.specs.DeclaredMembers.{calls_buffer, calls_database, declared_members, member_count}
-use Rattle.session_objects.specs.Kept.{OutNumbers, HasFreshBut, out_to, out_to_members, ports_out}
+use Rattle.session_objects.specs.DeclaredMembers.{calls_buffer, calls_database, declared_members}
+use Rattle.session_objects.specs.Kept.{OutNumbers, HasFreshBut, out_to, ports_out}
 use Rattle.session_objects.specs.Calls.{Account, SessionCalls, account_at, account_or_none, told_of_engine, told_of_database, told_of_buffer, told_through}
-use Rattle.session_objects.specs.Objects.{HaveCallers}
 use Rattle.session_objects.specs.Members.{HasAccount, IsOwnPort, CalledAt, AreCalledAt}
 use Rattle.session_objects.specs.Records.{none_out, HasCalls, HasCallsBut}
-use Rattle.session_objects.proofs.RosterLaws.{at_first, fresh_tells, puts_keep, room_for}
+use Rattle.session_objects.proofs.RosterLaws.{at_first, puts_keep, room_for, unseen_tells}
 use Rattle.session_objects.proofs.ChangeLaws.{changed_keep, some_same, there_below}
 use Rattle.session_objects.proofs.ListedLaws.{no_database, no_port}
 use Rattle.session_objects.proofs.OutLaws.{down_all, down_others, engine_one, database_one, own_port, own_beside, port_here, port_now, port_beside}
@@ -206,49 +205,56 @@ module _ {D : Type 0} {gd : _} (calls : SessionCalls) (objects : SessionObjects)
 
 -- What is told of passes by which no call was made, where these members are all that have others.
 module _ {D F : Type 0} (calls : SessionCalls) (objects : SessionObjects) (database : SharedOdb D) (lists : DeclaredLists) (members : List (MemberSeen Generator F))
-    (called : AreCalledAt lists objects database calls members) (many : length members ≡ member_count lists) (accounts : length calls.members ≡ member_count lists) where
-  member_at : (client : ℕ) → client < (member_count lists) → (m : MemberSeen Generator F) × CalledAt lists objects database calls client m
+    (called : AreCalledAt lists objects database calls members) (count : ℕ) (many : length members ≡ count) (accounts : length calls.members ≡ count) where
+  member_at : (client : ℕ) → client < count → (m : MemberSeen Generator F) × CalledAt lists objects database calls client m
   member_at client l = let m = there_below members client (omega arith) in (m.0, called client m.0 m.1)
 
-  engine_untold : (k : ℕ) → k < suc (member_count lists) → ¬ Contains (out_to_members lists).engine k → told_of_engine calls k []
-  engine_untold zero l absent = absurd (absent (down_others (λ n. true) (0 ∷ []) (member_count lists) 0 (at_first 0 [] 0 refl)))
-  engine_untold (suc client) l absent = absurd (absent (down_all (λ n. true) (0 ∷ []) (member_count lists) client (omega arith) refl))
+  none_at : (client : ℕ) → count ≤ client → slice_get calls.members client ≡ nothing
+  none_at client past = slice_get_past calls.members client (omega arith)
 
-  database_untold : (k : ℕ) → ¬ Contains (out_to_members lists).database k → told_of_database calls k []
-  database_untold zero absent = absurd (absent (down_others (λ n. calls_database (slice_get (declared_members lists) n)) (0 ∷ []) (member_count lists) 0 (at_first 0 [] 0 refl)))
-  database_untold (suc client) absent = dite (dec_le (member_count lists) client)
-      (λ l. ap (λ (o : Option Account). (account_or_none o).database) (sym (slice_get_past calls.members client (omega arith))))
+  engine_untold : (k : ℕ) → ¬ Contains (out_to lists count).engine k → told_of_engine calls k []
+  engine_untold zero absent = absurd (absent (down_others (λ n. true) (0 ∷ []) count 0 (at_first 0 [] 0 refl)))
+  engine_untold (suc client) absent = dite (dec_le count client)
+      (λ past. ap (λ (o : Option Account). (account_or_none o).engine) (sym (none_at client past)))
+      (λ no. absurd (absent (down_all (λ n. true) (0 ∷ []) count client (omega arith) refl)))
+
+  database_untold : (k : ℕ) → ¬ Contains (out_to lists count).database k → told_of_database calls k []
+  database_untold zero absent = absurd (absent (down_others (λ n. calls_database (slice_get (declared_members lists) n)) (0 ∷ []) count 0 (at_first 0 [] 0 refl)))
+  database_untold (suc client) absent = dite (dec_le count client)
+      (λ past. ap (λ (o : Option Account). (account_or_none o).database) (sym (none_at client past)))
       (λ no. one (omega arith) (calls_database (slice_get (declared_members lists) client)) refl)
     where
-      one : client < (member_count lists) → (b : Bool) → calls_database (slice_get (declared_members lists) client) ≡ b → told_of_database calls (suc client) []
-      one l true is = absurd (absent (down_all (λ n. calls_database (slice_get (declared_members lists) n)) (0 ∷ []) (member_count lists) client l is))
+      one : client < count → (b : Bool) → calls_database (slice_get (declared_members lists) client) ≡ b → told_of_database calls (suc client) []
+      one l true is = absurd (absent (down_all (λ n. calls_database (slice_get (declared_members lists) n)) (0 ∷ []) count client l is))
       one l false is =
           let m = member_at client l in
           sym (ap (λ (o : Option Account). (account_or_none o).database) m.1.account.told
           ∙ no_database objects database lists.channels client m.1.is (ap calls_database (sym m.1.account.has_wanted) ∙ is))
 
-  buffer_untold : (buffer size k : ℕ) → k < suc (member_count lists) → ¬ Contains ((out_to_members lists).buffers buffer) k → told_of_buffer calls buffer size k []
-  buffer_untold buffer size zero l absent = refl
-  buffer_untold buffer size (suc client) l absent = one (omega arith) (calls_buffer buffer (slice_get (declared_members lists) client)) refl
+  buffer_untold : (buffer size k : ℕ) → ¬ Contains ((out_to lists count).buffers buffer) k → told_of_buffer calls buffer size k []
+  buffer_untold buffer size zero absent = refl
+  buffer_untold buffer size (suc client) absent = dite (dec_le count client)
+      (λ past.
+      let P : Option Access → Type 0 = λ o. told_through size (suc client) o [] in
+      subst P (sym (ap (λ (o : Option Account). (account_or_none o).port buffer) (none_at client past))) refl)
+      (λ no. one (omega arith) (calls_buffer buffer (slice_get (declared_members lists) client)) refl)
     where
-      one : client < (member_count lists) → (b : Bool) → calls_buffer buffer (slice_get (declared_members lists) client) ≡ b → told_of_buffer calls buffer size (suc client) []
-      one l true is = absurd (absent (down_all (λ n. calls_buffer buffer (slice_get (declared_members lists) n)) [] (member_count lists) client l is))
+      one : client < count → (b : Bool) → calls_buffer buffer (slice_get (declared_members lists) client) ≡ b → told_of_buffer calls buffer size (suc client) []
+      one l true is = absurd (absent (down_all (λ n. calls_buffer buffer (slice_get (declared_members lists) n)) [] count client l is))
       one l false is =
           let m = member_at client l in
           let P : Option Access → Type 0 = λ o. told_through size (suc client) o [] in
           subst P (sym (ap (λ (o : Option Account). (account_or_none o).port buffer) m.1.account.told
           ∙ no_port objects database lists.channels client buffer m.1.is (ap (calls_buffer buffer) (sym m.1.account.has_wanted) ∙ is))) refl
 
-  pub untold : {gd : _} (passes : SessionPasses D gd) → HaveCallers lists objects database →
-      HasFreshBut (out_to_members lists) objects database passes → HasCallsBut (out_to_members lists) calls objects database passes
-  untold passes have fresh = record {
-    engine = fresh_tells (told_of_engine calls) (out_to_members lists).engine (engine_lock_of objects.engine) passes.engine
-        (λ k below absent. engine_untold k (subst (λ (n : ℕ). k < n) have.engine below) absent) fresh.engine;
+  pub untold : {gd : _} (passes : SessionPasses D gd) → HasFreshBut (out_to lists count) objects database passes → HasCallsBut (out_to lists count) calls objects database passes
+  untold passes fresh = record {
+    engine = unseen_tells (told_of_engine calls) (out_to lists count).engine (engine_lock_of objects.engine) passes.engine
+        (λ k absent. engine_untold k absent) fresh.engine.keeps;
     many = fresh.many;
     buffers = λ number buffer roster at there.
-        fresh_tells (told_of_buffer calls number buffer.size) ((out_to_members lists).buffers number) (lock_of buffer.shared) roster
-        (λ k below absent. buffer_untold number buffer.size k (subst (λ (n : ℕ). k < n) (have.buffers number buffer at) below) absent)
-        (fresh.buffers number buffer roster at there);
-    database = fresh_tells (told_of_database calls) (out_to_members lists).database (odb_lock_of database) passes.database
-        (λ k below absent. database_untold k absent) fresh.database;
+        unseen_tells (told_of_buffer calls number buffer.size) ((out_to lists count).buffers number) (lock_of buffer.shared) roster
+        (λ k absent. buffer_untold number buffer.size k absent) (fresh.buffers number buffer roster at there).keeps;
+    database = unseen_tells (told_of_database calls) (out_to lists count).database (odb_lock_of database) passes.database
+        (λ k absent. database_untold k absent) fresh.database.keeps;
   }

@@ -157,24 +157,28 @@ module _ {M D E : Type 0} {g : _} where
         seen = had.seen;
       }
 
-  -- what is told of passes that made no call
-  pub fresh_tells : (told : ℕ → List (ℕ × E) → Type 0) (out : List ℕ) (lock : Turns M D E) (passes : Passes M D E g) →
-      ((number : ℕ) → number < passes_of lock → ¬ Contains out number → told number []) → KeepsFresh out lock passes →
-      KeepsPasses told out lock passes
-  fresh_tells told out lock passes untold k = record {
-    own = k.keeps.own;
-    idle = k.keeps.idle;
-    count = k.keeps.count;
-    rest = λ n below absent. tells n (untold n below absent) (k.keeps.rest n below absent);
+  -- what is told of each pass may be said in another way
+  pub tells_so : (told said : ℕ → List (ℕ × E) → Type 0) (out : List ℕ) (lock : Turns M D E) (passes : Passes M D E g) →
+      ((number : ℕ) → ¬ Contains out number → (seen : List (ℕ × E)) → told number seen → said number seen) → KeepsPasses told out lock passes →
+      KeepsPasses said out lock passes
+  tells_so told said out lock passes so k = record {
+    own = k.own;
+    idle = k.idle;
+    count = k.count;
+    rest = λ n below absent. let had = k.rest n below absent in record {
+      pass = had.pass;
+      among = had.among;
+      is = had.is;
+      seen = so n absent (seen_by had.pass) had.seen;
+    };
   }
-    where
-      tells : (n : ℕ) → told n [] → HasPass passes n (nothing_seen n) → HasPass passes n (told n)
-      tells n holds had = record {
-        pass = had.pass;
-        among = had.among;
-        is = had.is;
-        seen = (let R : List (ℕ × E) → Type 0 = told n in subst R (sym had.seen) holds);
-      }
+
+  -- so it is of passes by which nothing was seen
+  pub unseen_tells : (told : ℕ → List (ℕ × E) → Type 0) (out : List ℕ) (lock : Turns M D E) (passes : Passes M D E g) →
+      ((number : ℕ) → ¬ Contains out number → told number []) → KeepsPasses nothing_seen out lock passes →
+      KeepsPasses told out lock passes
+  unseen_tells told out lock passes untold k = tells_so nothing_seen told out lock passes
+      (λ n absent seen none. let R : List (ℕ × E) → Type 0 = told n in subst R (sym none) (untold n absent)) k
 
   -- a pass that is not out is among the numbers
   pub is_kept : (told : ℕ → List (ℕ × E) → Type 0) (out : List ℕ) (lock : Turns M D E) (passes : Passes M D E g) (n : ℕ) →

@@ -21,8 +21,8 @@ use Rattle.session_objects.proofs.ChangeLaws.{each_pushed, get_before, get_last}
 
 -- what is seen of a front-end is told by its parts
 pub seen_same : (f g : FrontSeen Generator) → f.engine ≡ g.engine → f.client ≡ g.client → f.name ≡ g.name → f.equipment ≡ g.equipment →
-    f.run ≡ g.run → f.calls ≡ g.calls → f.port ≡ g.port → f.database ≡ g.database → f.stood ≡ g.stood → f ≡ g
-seen_same f g engine client name equipment run calls port database stood = λ j. record {
+    f.run ≡ g.run → f.calls ≡ g.calls → f.port ≡ g.port → f.moments ≡ g.moments → f.database ≡ g.database → f.stood ≡ g.stood → f ≡ g
+seen_same f g engine client name equipment run calls port moments database stood = λ j. record {
   engine = engine j;
   client = client j;
   name = name j;
@@ -30,6 +30,7 @@ seen_same f g engine client name equipment run calls port database stood = λ j.
   run = run j;
   calls = calls j;
   port = port j;
+  moments = moments j;
   database = database j;
   stood = stood j;
 }
@@ -38,14 +39,14 @@ seen_same f g engine client name equipment run calls port database stood = λ j.
 pub front_stands_yet : (client : ℕ) (name : List ℕ) (equipment : Generator) (front : FrontState Generator) (calls : List EngineEntry) (own : List BufferEntry)
     (sets : List WatchEntry) → front ≡ record { equipment = equipment; run = None } → calls ≡ [] → own ≡ [] → sets ≡ [] →
     FrontStands (generator_takes equipment) (generator_makes equipment) front.run [] [] → KeepsMoments [] [] [] →
-    FrontMemberStands client name (generator_takes front.equipment) (generator_makes front.equipment) front.run calls own sets
+    FrontMemberStands client name (generator_takes front.equipment) (generator_makes front.equipment) front.run calls own [] sets
 front_stands_yet client name equipment front calls own sets is none_called none_own none_set stands kept =
-    let A : List EngineEntry → Type 0 = λ cs. FrontMemberStands client name (generator_takes front.equipment) (generator_makes front.equipment) front.run cs own sets in
-    let B : List BufferEntry → Type 0 = λ bs. FrontMemberStands client name (generator_takes front.equipment) (generator_makes front.equipment) front.run [] bs sets in
-    let C : List WatchEntry → Type 0 = λ ws. FrontMemberStands client name (generator_takes front.equipment) (generator_makes front.equipment) front.run [] [] ws in
-    let D : Generator → Type 0 = λ q. FrontMemberStands client name (generator_takes q) (generator_makes q) front.run [] [] [] in
+    let A : List EngineEntry → Type 0 = λ cs. FrontMemberStands client name (generator_takes front.equipment) (generator_makes front.equipment) front.run cs own [] sets in
+    let B : List BufferEntry → Type 0 = λ bs. FrontMemberStands client name (generator_takes front.equipment) (generator_makes front.equipment) front.run [] bs [] sets in
+    let C : List WatchEntry → Type 0 = λ ws. FrontMemberStands client name (generator_takes front.equipment) (generator_makes front.equipment) front.run [] [] [] ws in
+    let D : Generator → Type 0 = λ q. FrontMemberStands client name (generator_takes q) (generator_makes q) front.run [] [] [] [] in
     subst A (sym none_called) (subst B (sym none_own) (subst C (sym none_set)
-    (subst D (sym (ap (λ (f : FrontState Generator). f.equipment) is)) (record { stands = stands; moments = []; kept = kept; told = λ are. refl }))))
+    (subst D (sym (ap (λ (f : FrontState Generator). f.equipment) is)) (record { stands = stands; kept = kept; told = λ are. refl }))))
 
 -- what is seen of an analyzer is told by its parts
 pub analyzer_same : (a b : AnalyzerSeen) → a.engine ≡ b.engine → a.client ≡ b.client → a.analyzer ≡ b.analyzer → a.calls ≡ b.calls → a.port ≡ b.port → a.stood ≡ b.stood → a ≡ b
@@ -87,11 +88,3 @@ module _ {X : Type 0} (Holds : ℕ → X → Type 0) where
         many = ap length pushed ∙ length-append before (seat ∷ []) ∙ ap (λ (n : ℕ). n + 1) seated.many;
         each = subst At (sym pushed) (each_pushed Holds before seat seated.each (subst Last (sym seated.many) holds));
       }
-
-  -- one less is taken
-  pub one_unseated : (count : ℕ) (before after : List X) (seat : X) → AreSeated Holds count before → before ≡ after ++ seat ∷ [] →
-      AreSeated Holds (length after) after × Holds (length after) seat
-  one_unseated count before after seat seated popped = (
-    record { many = refl; each = λ place x at. seated.each place x (ap (λ (xs : List X). slice_get xs place) popped ∙ get_before after seat x place at) },
-    seated.each (length after) seat (ap (λ (xs : List X). slice_get xs (length after)) popped ∙ get_last after seat),
-  )

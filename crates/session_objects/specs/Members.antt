@@ -257,6 +257,7 @@ new_front objects shared client declared buffer = record {
   run = None;
   calls = [];
   port = new_port buffer.shared (caller_of_client client);
+  moments = [];
   database = new_access shared (caller_of_client client);
   stood = new_access shared (caller_of_client client);
 }
@@ -346,11 +347,6 @@ pub record HasNewMembers {D F : Type 0} (lists : DeclaredLists) (objects : Sessi
   pub first : logger.first ≡ files
   pub has_files : logger.files ≡ files
   pub failed : HasFailed logger.slots → ⊥
-
--- the run files that this member has, if it has any
-abbrev pub run_files_of : {F : Type 0} → MemberSeen Generator F → Option F
-run_files_of (Logger logger) = Some logger.files
-run_files_of member = None
 
 -- the run files, once so many members are made: the logger has them once it is made, which has this client number
 abbrev pub files_left : {F : Type 0} → (logger clients : ℕ) → F → Option F

@@ -1,16 +1,18 @@
 // Making the members of a session.
-ghost use Rattle.std.specs.Prelude.{◌≡◌, ◌≤◌, ◌<◌, ◌+◌, ◌-◌, ◌≢◌, [], length, map, min, slice_get, Contains, Some, None, IfOk, OnOk, OnErr, IfErr};
-ghost use Rattle.daq_types.specs.Callers.{caller_of_client};
+ghost use Rattle.std.specs.Prelude.{◌≡◌, ◌≤◌, ◌<◌, ◌+◌, ◌-◌, ◌≢◌, ◌∷◌, [], length, map, min, slice_get, Contains, Some, None, IfOk, OnOk, OnErr, IfErr};
+ghost use Rattle.daq_types.specs.Callers.{caller_of_client, main_caller};
 ghost use Rattle.turn_lock.specs.Roster.{numbers_of};
 ghost use Rattle.buffer_lock.specs.SharedPorts.{access_by};
 ghost use Rattle.odb_lock.specs.SharedAccesses.{access_by_pass};
+ghost use Rattle.odb_lock.specs.SharedOdbs.{odb_lock_of};
 ghost use Rattle.analyzers.specs.AnalyzerKept.{AnalyzerStands, AnalyzerTells};
 ghost use Rattle.loggers.specs.NewLoggers.{HaveNumbers};
 ghost use Rattle.session_objects.specs.declared.membership.MemberDeclared.TheVariants.{FrontEnd as WantedFront, Logger as WantedLogger, Analyzer as WantedAnalyzer};
 ghost use Rattle.session_objects.specs.DeclaredMembers.{declared_members, logger_number, member_count};
 ghost use Rattle.session_objects.specs.Objects.{HaveBuffers, SuitMembers};
+ghost use Rattle.session_objects.specs.Rosters.{KeepsPasses, nothing_seen};
 ghost use Rattle.session_objects.specs.Kept.{OutNumbers, out_to, out_to_members, ports_out, engine_out, database_out, buffer_out, HasFreshBut};
-ghost use Rattle.session_objects.specs.Members.{ring_window, new_ports, new_access, generator_of, event_room_of, event_rooms, idle_analyzer, files_left, run_files_of, IsNewPort, IsNewFront, IsNewLogger, IsNewAnalyzer, IsNewMemberAt, IsMadeLogger, AreSeated, HasNewMembers};
+ghost use Rattle.session_objects.specs.Members.{ring_window, new_ports, new_access, generator_of, event_room_of, event_rooms, idle_analyzer, files_left, IsNewPort, IsNewFront, IsNewLogger, IsNewAnalyzer, IsNewMemberAt, IsMadeLogger, AreSeated, HasNewMembers};
 
 use crate::membership::{MemberDeclared, Membership};
 use crate::objects::SessionBuffer;
@@ -131,36 +133,6 @@ fn make_analyzer(
     Ok(analyzer)
 }
 
-/// The run files of a logger that is let go.
-fn logger_files<'a, F: Files + Drop>(logger: SessionLogger<'a, F>) -> F
-    ensures { result ≡ logger.entry.files }
-{
-    logger.into_parts().files
-}
-
-/// Lets a front-end go.
-fn let_front_go<'a, D: Database>(_front: SessionFront<'a, D>) {}
-
-/// Lets an analyzer go.
-fn let_analyzer_go<'a>(_analyzer: SessionAnalyzer<'a>) {}
-
-/// The run files that this member has: the logger has some.
-fn run_files_of<'a, D: Database, F: Files + Drop>(member: SessionMember<'a, D, F>) -> Option<F>
-    ensures { result ≡ run_files_of member.entry }
-{
-    match member.into_kind() {
-        MemberKind::FrontEnd(front) => {
-            let_front_go(front);
-            None
-        }
-        MemberKind::Logger(logger) => Some(logger_files(logger)),
-        MemberKind::Analyzer(analyzer) => {
-            let_analyzer_go(analyzer);
-            None
-        }
-    }
-}
-
 impl<'a, 's, D: Database> Membership<'a, 's, D> {
     /// A port of this client to the buffer of this number, with its pass of that, by which no call was made.
     fn take_port(
@@ -236,6 +208,7 @@ impl<'a, 's, D: Database> Membership<'a, 's, D> {
             self.now.objects.now self.now.database.now passes.new) }
         ensures front { IfOk result (IsNewFront self.now.objects.now self.now.database.now client
             declared.now) }
+        ensures same { OnErr result (passes.new ≡ passes.old) }
     {
         let key = SentKey::new(alloc, declared.name)?;
         let front = FrontEnd::new(alloc, generator_of(declared))?;
@@ -261,6 +234,7 @@ impl<'a, 's, D: Database> Membership<'a, 's, D> {
             self.now.database.now passes.new) }
         ensures ports { IfOk result (λ ports. map (access_by ring_window) ports
             ≡ new_ports self.now.objects.now.buffers.items (caller_of_client client)) }
+        ensures same { OnErr result (passes.new ≡ passes.old) }
     {
         let mut ports = BoundedList::new(alloc)?;
         for number in 0..self.objects.buffers.len() {
@@ -288,6 +262,7 @@ impl<'a, 's, D: Database> Membership<'a, 's, D> {
             self.now.objects.now client self.now.lists.now.channels given) }
         ensures files { OnOk result (files.new ≡ None) }
         ensures kept { OnErr result (files.new ≡ files.old) }
+        ensures same { OnErr result (passes.new ≡ passes.old) }
     {
         let channels = copied_channels(alloc, self.lists.channels.as_slice())?;
         let logger = make_logger(alloc, &self.objects.buffers, channels)?;
@@ -315,6 +290,7 @@ impl<'a, 's, D: Database> Membership<'a, 's, D> {
         ensures out { OnOk result (HasFreshBut (out_to self.now.lists.now (client + 1))
             self.now.objects.now self.now.database.now passes.new) }
         ensures analyzer { IfOk result (IsNewAnalyzer self.now.objects.now client declared.now) }
+        ensures same { OnErr result (passes.new ≡ passes.old) }
     {
         let analyzer = make_analyzer(alloc, &self.objects.buffers, declared)?;
         let port = self.take_port(client, declared.buffer as usize, passes);
@@ -345,6 +321,7 @@ impl<'a, 's, D: Database> Membership<'a, 's, D> {
             ≡ files_left (logger_number self.now.lists.now) client given → OnOk result (files.new
             ≡ files_left (logger_number self.now.lists.now) (client + 1) given) }
         ensures kept { OnErr result (files.new ≡ files.old) }
+        ensures same { OnErr result (passes.new ≡ passes.old) }
     {
         match self.declared(client as usize) {
             MemberDeclared::FrontEnd(declared) => {
@@ -362,33 +339,9 @@ impl<'a, 's, D: Database> Membership<'a, 's, D> {
         }
     }
 
-    /// The run files, where so many members are made: they are here, or with the logger among these members.
-    fn files_back<F: Files + Drop>(
-        &self,
-        mut members: SessionMembers<'a, D, F>,
-        files: Option<F>,
-    ) -> F
-        requires files { (given : F) × (files ≡ files_left (logger_number self.now.lists.now)
-            (length members) given) × AreSeated (IsNewMemberAt self.now.lists.now
-            self.now.objects.now self.now.database.now given) (length members) members }
-        ensures { (given : F) → files ≡ files_left (logger_number self.now.lists.now)
-            (length members.entry) given → AreSeated (IsNewMemberAt self.now.lists.now
-            self.now.objects.now self.now.database.now given) (length members.entry) members.entry
-            → result ≡ given }
-    {
-        let mut found = files;
-        while let Some(member) = members.pop() {
-            if let Some(files) = run_files_of(member) {
-                found = Some(files);
-            }
-        }
-        let Some(files) = found else { unreachable!() };
-        files
-    }
-
     /// The members of a session, by their client numbers, none of which made a call: its front-ends, in their order, the logger, and
-    /// its analyzers, in their order. Their passes are taken out of those that are kept. The run files come back where memory is
-    /// wanting for the members.
+    /// its analyzers, in their order. Their passes are taken out of those that are kept. Where memory is wanting for the members the
+    /// run files come back, and so do the passes of the members that were made.
     pub fn members<F: Files + Drop>(
         &self,
         alloc: Global,
@@ -403,6 +356,8 @@ impl<'a, 's, D: Database> Membership<'a, 's, D> {
         ensures out { OnOk result (HasFreshBut (out_to_members self.now.lists.now)
             self.now.objects.now self.now.database.now passes.new) }
         ensures files { IfErr result (λ back. back ≡ files) }
+        ensures back { OnErr result (KeepsPasses nothing_seen (main_caller ∷ [])
+            (odb_lock_of self.now.database.now) passes.new.database) }
     {
         let Ok(mut members) = BoundedList::new(alloc) else {
             return Err(files);
@@ -411,7 +366,9 @@ impl<'a, 's, D: Database> Membership<'a, 's, D> {
         for client in 0..self.count() {
             match self.make_member(alloc, client, passes, &mut run_files) {
                 Ok(member) => members.push(member),
-                Err(NoMemory) => return Err(self.files_back(members, run_files)),
+                Err(NoMemory) => {
+                    return Err(self.take_back_made(members, run_files, passes));
+                }
             }
         }
         Ok(members)

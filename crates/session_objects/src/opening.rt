@@ -1,10 +1,11 @@
 // Opening the objects of a session.
-ghost use Rattle.std.specs.Prelude.{◌≡◌, ◌≤◌, ◌<◌, ◌∷◌, [], ℕ, All, IsTrue, length, slice_get, Some, IfOk};
+ghost use Rattle.std.specs.Prelude.{◌≡◌, ◌≤◌, ◌<◌, ◌∷◌, [], ℕ, All, IsTrue, length, slice_get, Some, IfErr, IfOk};
 ghost use Rattle.daq_types.specs.Callers.{main_caller};
-ghost use Rattle.turn_lock.specs.Passes.{number_of, IsOf};
+ghost use Rattle.turn_lock.specs.Passes.{number_of, passes_of, IsOf};
 ghost use Rattle.turn_lock.specs.Roster.{IsFresh};
 ghost use Rattle.buffer_lock.specs.SharedBuffers.{lock_of};
-ghost use Rattle.transition_lock.specs.SharedEngines.{engine_lock_of};
+ghost use Rattle.transitions.specs.Engines.{engine_opening};
+ghost use Rattle.transition_lock.specs.SharedEngines.{engine_lock_of, first_engine};
 ghost use Rattle.odb_lock.specs.declared.shared.SharedOdb.{SharedOdb as DatabaseShared};
 ghost use Rattle.odb_lock.specs.SharedOdbs.{odb_lock_of};
 ghost use Rattle.session_setup.specs.Setup.{declared_by, is_buffer_size, AreSound};
@@ -23,7 +24,7 @@ use odb_watch::WatchEntry;
 use ring_buffer::{Ring, RingBuffer};
 use session_setup::{BufferDeclared, DeclaredLists};
 use std::alloc::Global;
-use transition_lock::{EnginePass, SharedEngine};
+use transition_lock::{EnginePass, EnginePasses, SharedEngine};
 use turn_lock::Machine;
 
 /// How many callers an object has besides the front-ends and the analyzers: the main thread and the logger.
@@ -47,6 +48,14 @@ where
 struct OpenedBuffers {
     buffers: Vec<SessionBuffer>,
     passes: Vec<BufferPasses<RingBuffer>>,
+}
+
+/// An engine with its passes: the main thread's, and the others.
+#[derive(Drop)]
+struct OpenedEngine {
+    engine: SharedEngine,
+    main: EnginePass,
+    passes: EnginePasses,
 }
 
 /// A buffer as it was declared, which so many callers share, with their passes.
@@ -98,15 +107,36 @@ fn open_buffers(
     Ok(OpenedBuffers { buffers, passes })
 }
 
+/// An engine that is new, which so many callers share, with their passes.
+fn open_engine(alloc: Global, callers: u32) -> Result<OpenedEngine, NoMemory>
+    requires some { 0 < callers }
+    requires few { callers ≤ 256 }
+    ensures first { IfOk result (λ opened. first_engine opened.engine ≡ engine_opening) }
+    ensures count { IfOk result (λ opened. passes_of (engine_lock_of opened.engine) ≡ callers) }
+    ensures passes { IfOk result (λ opened. KeepsFresh (main_caller ∷ [])
+        (engine_lock_of opened.engine) opened.passes) }
+    ensures main { IfOk result (λ opened. number_of opened.main ≡ main_caller) }
+    ensures own { IfOk result (λ opened. IsOf (engine_lock_of opened.engine) opened.main) }
+    ensures fresh { IfOk result (λ opened. IsFresh opened.main) }
+{
+    let (engine, mut passes) = SharedEngine::new(alloc, Engine::new(alloc)?, callers)?;
+    let main = take_main(&mut passes);
+    Ok(OpenedEngine {
+        engine,
+        main,
+        passes,
+    })
+}
+
 impl SessionObjects {
     /// The objects of a session of these declarations, which its main thread and its members call. All memory that they need
-    /// is taken here. The passes of the database, of which the main thread has its own, are kept with the
-    /// others.
+    /// is taken here. The passes of the database, of which the main thread has its own, are kept with the others; they come back
+    /// where memory is wanting for the objects.
     pub fn open<D: Database>(
         alloc: Global,
         lists: &DeclaredLists,
         database: OdbPasses<D>,
-    ) -> Result<OpenedObjects<D>, NoMemory>
+    ) -> Result<OpenedObjects<D>, OdbPasses<D>>
         requires { AreSound (declared_by lists.now) }
         ensures objects { IfOk result (λ opened. AreObjectsOf lists.now opened.objects) }
         ensures passes { IfOk result (λ opened. (shared : DatabaseShared D) →
@@ -118,28 +148,28 @@ impl SessionObjects {
         ensures own { IfOk result (λ opened. IsOf (engine_lock_of opened.objects.engine)
             opened.main) }
         ensures fresh { IfOk result (λ opened. IsFresh opened.main) }
+        ensures back { IfErr result (λ back. back ≡ database) }
     {
         let callers = lists.fronts.len() as u32 + OTHER_CALLERS + lists.analyzers.len() as u32;
-        let OpenedBuffers { buffers, passes } = open_buffers(
-            alloc,
-            lists.buffers.as_slice(),
-            callers,
-        )?;
-        let (engine, mut engine_passes) = SharedEngine::new(alloc, Engine::new(alloc)?, callers)?;
-        let main = take_main(&mut engine_passes);
-        let records = BoundedList::new(alloc)?;
+        let (Ok(buffers), Ok(engine), Ok(records)) = (
+            open_buffers(alloc, lists.buffers.as_slice(), callers),
+            open_engine(alloc, callers),
+            BoundedList::new(alloc),
+        ) else {
+            return Err(database);
+        };
         Ok(OpenedObjects {
             objects: SessionObjects {
-                buffers,
-                engine,
+                buffers: buffers.buffers,
+                engine: engine.engine,
                 records,
             },
             passes: SessionPasses {
-                buffers: passes,
-                engine: engine_passes,
+                buffers: buffers.passes,
+                engine: engine.passes,
                 database,
             },
-            main,
+            main: engine.main,
         })
     }
 }

@@ -1,18 +1,17 @@
 // Taking the passes of a session's objects back from its members.
-ghost use Rattle.std.specs.Prelude.{◌≡◌, ◌+◌, Some, length, slice_get, map};
-ghost use Rattle.daq_types.specs.Callers.{caller_of_client};
+ghost use Rattle.std.specs.Prelude.{◌≡◌, ◌+◌, ◌∷◌, [], Some, length, slice_get, map};
+ghost use Rattle.daq_types.specs.Callers.{caller_of_client, main_caller};
 ghost use Rattle.turn_lock.specs.Passes.{seen_by, own_entries};
 ghost use Rattle.buffer_lock.specs.SharedPorts.{access_by};
 ghost use Rattle.transition_lock.specs.SharedEngines.{engine_lock_of};
 ghost use Rattle.odb_lock.specs.SharedOdbs.{odb_lock_of};
-ghost use Rattle.session_objects.specs.Rosters.{IsMainPass};
+ghost use Rattle.session_objects.specs.Rosters.{IsMainPass, KeepsPasses, nothing_seen};
 ghost use Rattle.session_objects.specs.Calls.{SessionCalls, account_at};
 ghost use Rattle.session_objects.specs.declared.membership.MemberDeclared.TheVariants.{FrontEnd, Logger, Analyzer};
-ghost use Rattle.session_objects.specs.DeclaredMembers.{declared_members};
+ghost use Rattle.session_objects.specs.DeclaredMembers.{declared_members, logger_number};
 ghost use Rattle.session_objects.specs.Kept.{out_to, out_to_members, ports_out, HasFreshBut};
 ghost use Rattle.session_objects.specs.Records.{HasCallsBut, HasCalls};
-ghost use Rattle.session_objects.specs.Objects.{HaveCallers};
-ghost use Rattle.session_objects.specs.Members.{ring_window, front_account, logger_account, analyzer_account, ArePortsTo, IsFrontOf, IsLoggerOf, IsAnalyzerOf, AreMembersOf, HasAccount, IsOwnPort, CalledAt, AreCalledAt, session_calls};
+ghost use Rattle.session_objects.specs.Members.{ring_window, front_account, logger_account, analyzer_account, ArePortsTo, IsFrontOf, IsLoggerOf, IsAnalyzerOf, AreMembersOf, HasAccount, IsOwnPort, CalledAt, AreCalledAt, session_calls, files_left, AreSeated, IsNewMemberAt};
 ghost use Rattle.session_objects.specs.Returns.{ComesBack, left_also, left_among, end_of_member, logger_end};
 
 use crate::membership::Membership;
@@ -212,6 +211,33 @@ impl<'a, 's, D: Database> Membership<'a, 's, D> {
         left
     }
 
+    /// Takes the passes of these members back, none of which made a call, and the run files: they are here, or with the logger among
+    /// these members.
+    pub(crate) fn take_back_made<F: Files + Drop>(
+        &self,
+        members: SessionMembers<'a, D, F>,
+        files: Option<F>,
+        passes: &mut SessionPasses<D>,
+    ) -> F
+        requires made { (given : F) × (files ≡ files_left (logger_number self.now.lists.now)
+            (length members) given) × AreSeated (IsNewMemberAt self.now.lists.now
+            self.now.objects.now self.now.database.now given) (length members) members }
+        requires out { HasFreshBut (out_to self.now.lists.now (length members)) self.now.objects.now
+            self.now.database.now passes.old }
+        ensures files { (given : F) → files ≡ files_left (logger_number self.now.lists.now)
+            (length members.entry) given → AreSeated (IsNewMemberAt self.now.lists.now
+            self.now.objects.now self.now.database.now given) (length members.entry) members.entry
+            → result ≡ given }
+        ensures back { KeepsPasses nothing_seen (main_caller ∷ [])
+            (odb_lock_of self.now.database.now) passes.new.database }
+    {
+        match (self.take_back_members(members, passes), files) {
+            (Some(end), _) => end.files,
+            (None, Some(files)) => files,
+            (None, None) => unreachable!(),
+        }
+    }
+
     /// Takes all passes back, by which these calls were made.
     fn take_back_all<F: Files + Drop>(
         &self,
@@ -223,8 +249,6 @@ impl<'a, 's, D: Database> Membership<'a, 's, D> {
         ghost calls: { SessionCalls }
         requires calls { calls ≡ session_calls self.now.lists.now
             (own_entries main_engine) (seen_by main_database) members }
-        requires callers { HaveCallers self.now.lists.now
-            self.now.objects.now self.now.database.now }
         requires members { AreMembersOf self.now.lists.now self.now.objects.now self.now.database.now
             members }
         requires out { HasFreshBut (out_to_members self.now.lists.now) self.now.objects.now
@@ -251,8 +275,6 @@ impl<'a, 's, D: Database> Membership<'a, 's, D> {
         main_engine: EnginePass,
         main_database: OdbPass<D>,
     ) -> Returned<D, F>
-        requires callers { HaveCallers self.now.lists.now
-            self.now.objects.now self.now.database.now }
         requires members { AreMembersOf self.now.lists.now self.now.objects.now self.now.database.now
             members }
         requires out { HasFreshBut (out_to_members self.now.lists.now) self.now.objects.now

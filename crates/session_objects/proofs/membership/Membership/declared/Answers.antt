@@ -1,1 +1,0 @@
-use Rattle.session_objects.proofs.membership.Membership.declared.Goals as goal

@@ -1,13 +1,9 @@
 use Rattle.std.proofs.Common.{rules, ◌≡◌, ◌∙◌, ◌<◌, ◌+◌, ◌-◌, ◌≤◌, ◌∷◌, min, ℕ, List, length, ap, sym, refl, subst, arith, add-one}
 use Rattle.std.specs.Prelude.{slice_get, Option}
-use Rattle.std.proofs.lemmas.Option.{slice_get_within}
 use Rattle.event.specs.Events.{event_limit}
 use Rattle.buffer_core.specs.Window.{Window}
 use Rattle.buffer_core.specs.Ports.{Access}
-use Rattle.turn_lock.specs.Passes.{passes_of}
-use Rattle.buffer_lock.specs.SharedBuffers.{lock_of}
 use Rattle.buffer_lock.specs.SharedPorts.{access_by}
-use Rattle.transition_lock.specs.SharedEngines.{engine_lock_of}
 use Rattle.analyzers.specs.declared.analyzer_run.AnalyzerRun.{AnalyzerRun}
 use Rattle.analyzers.specs.Analyzers.{AnalyzerState, IsWithinGot}
 use Rattle.daq_members.specs.OwnTurns.{are_calls_for}

@@ -1,11 +1,6 @@
-use Rattle.std.proofs.Common.{◌≡◌, ◌∙◌, ◌+◌, ◌<◌, ◌≤◌, ◌∷◌, ℕ, length, ap, sym, refl, subst, arith, add-one}
-use Rattle.std.proofs.lemmas.Option.{slice_get_within}
-use Rattle.turn_lock.specs.Passes.{passes_of}
+use Rattle.std.proofs.Common.{◌∙◌, ◌+◌, ◌≤◌, ◌∷◌, ℕ, ap, sym, refl, subst, add-one}
 use Rattle.buffer_core.specs.Window.{Window}
 use Rattle.buffer_core.specs.Ports.{Access}
-use Rattle.buffer_lock.specs.SharedBuffers.{lock_of}
-use Rattle.transition_lock.specs.SharedEngines.{engine_lock_of}
-use Rattle.odb_lock.specs.SharedOdbs.{odb_lock_of}
 use Rattle.daq_members.specs.OwnTurns.{are_calls_for}
 use Rattle.odb_watch.specs.DatabasePorts.{DatabaseAccess, own_watched}
 use Rattle.front_ends.specs.FrontIds.{IsFrontId}
@@ -109,5 +104,5 @@ returns-clause-front g c =
           asks.engine asks.client c.in_ok-key.ensures
           (ap (λ (f : FrontState Generator). f.equipment) made.made ∙ c.generator_of.ensures)
           (ap (λ (f : FrontState Generator). f.run) made.made)
-          asks.calls port.is access access;
+          asks.calls port.is refl access access;
     }

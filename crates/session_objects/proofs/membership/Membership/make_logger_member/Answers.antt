@@ -1,8 +1,6 @@
-use Rattle.std.proofs.Common.{rules, ◌≡◌, ◌∙◌, ◌+◌, ◌≤◌, ◌∷◌, ℕ, List, length, map, ap, sym, refl, subst, arith, add-one}
+use Rattle.std.proofs.Common.{rules, ◌≡◌, ◌∙◌, ◌+◌, ◌≤◌, ◌∷◌, ℕ, List, length, map, ap, sym, refl, subst, add-one}
 use Rattle.std.specs.Prelude.{Option}
-use Rattle.turn_lock.specs.Passes.{passes_of}
 use Rattle.buffer_lock.specs.SharedPorts.{access_by}
-use Rattle.transition_lock.specs.SharedEngines.{engine_lock_of}
 use Rattle.loggers.specs.declared.logged_run.LoggedRun.{LoggedRun}
 use Rattle.loggers.specs.Turning.{buffers_begun}
 use Rattle.session_objects.specs.declared.membership.MemberDeclared.TheVariants.{Logger as WantedLogger}

@@ -1,4 +1,5 @@
 use Rattle.std.proofs.Common.{rules, ◌≡◌, ◌∙◌, ℕ, length, ap, sym, subst}
+use Rattle.session_objects.specs.declared.passes.SessionPasses.{SessionPasses}
 use Rattle.session_objects.specs.DeclaredMembers.{logger_number, member_count}
 use Rattle.session_objects.specs.Kept.{out_to, HasFreshBut}
 use Rattle.session_objects.specs.Members.{AreSeated, IsNewMemberAt, files_left}
@@ -17,18 +18,24 @@ loop-client-init g c =
 pub make_member-requires-clause-files : goal.make_member-requires-clause-files
 make_member-requires-clause-files g c = (c.args.files, c.loop-client.invariant.files)
 
-pub files_back-requires : goal.files_back-requires
-files_back-requires g c =
+pub take_back_made-requires-clause-made : goal.take_back_made-requires-clause-made
+take_back_made-requires-clause-made g c =
     let m = c.args.self.now in
     let seated = c.loop-client.invariant.seated in
     let many : length c.loop-client.members ≡ c.loop-client.client = seated.many in
-    let S : ℕ → Type 0 = λ n. AreSeated (IsNewMemberAt m.lists.now m.objects.now m.database.now c.args.files) n c.loop-client.members in record {
-      files = (
-        c.args.files,
-        c.in-Err.ensures.kept ∙ c.loop-client.invariant.files ∙ ap (λ (n : ℕ). files_left (logger_number m.lists.now) n c.args.files) (sym many),
-        subst S (sym many) seated,
-      );
-    }
+    let S : ℕ → Type 0 = λ n. AreSeated (IsNewMemberAt m.lists.now m.objects.now m.database.now c.args.files) n c.loop-client.members in (
+      c.args.files,
+      c.in-Err.ensures.kept ∙ c.loop-client.invariant.files ∙ ap (λ (n : ℕ). files_left (logger_number m.lists.now) n c.args.files) (sym many),
+      subst S (sym many) seated,
+    )
+
+pub take_back_made-requires-clause-out : goal.take_back_made-requires-clause-out
+take_back_made-requires-clause-out g c =
+    let m = c.args.self.now in
+    let many : length c.loop-client.members ≡ c.loop-client.client = c.loop-client.invariant.seated.many in
+    let O : ℕ → SessionPasses _ _ → Type 0 = λ n passes. HasFreshBut (out_to m.lists.now n) m.objects.now m.database.now passes in
+    subst (λ (n : ℕ). O n c.make_member.new.passes) (sym many)
+    (subst (λ (passes : SessionPasses _ _). O c.loop-client.client passes) (sym c.in-Err.ensures.same) c.loop-client.invariant.out)
 
 pub loop-client-preserved : goal.loop-client-preserved
 loop-client-preserved g c =

@@ -5,7 +5,7 @@ use Rattle.session_objects.proofs.ListedLaws.{logger_left}
 use Rattle.session_objects.proofs.membership.Membership.take_back.Goals as goal
 
 pub take_back_all-requires : goal.take_back_all-requires
-take_back_all-requires g c = λ κs bounds. (bounds.0, (bounds.1, (refl, (c.requires.callers, (c.requires.members, (c.requires.out, (c.requires.engine, c.requires.database)))))))
+take_back_all-requires g c = λ κs bounds. (bounds.0, (bounds.1, (refl, (c.requires.members, (c.requires.out, (c.requires.engine, c.requires.database))))))
 
 pub returns : goal.returns
 returns g c =

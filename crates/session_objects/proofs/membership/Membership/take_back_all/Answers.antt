@@ -1,4 +1,4 @@
-use Rattle.std.proofs.Common.{◌≡◌, ◌∙◌, ◌<◌, [], ℕ, length, ap, sym, subst}
+use Rattle.std.proofs.Common.{◌≡◌, ◌∙◌, ◌<◌, [], ℕ, length, ap, sym, subst, arith}
 use Rattle.turn_lock.specs.Roster.{items_of, room_of}
 use Rattle.turn_lock.specs.declared.roster.Passes.{Passes}
 use Rattle.transition_lock.specs.SharedEngines.{engine_lock_of}
@@ -17,23 +17,23 @@ pub take_back_members-requires : goal.take_back_members-requires
 take_back_members-requires g c =
     let m = c.args.self.now in
     let lists = m.lists.now in
-    let are = c.requires.1.1.1.1.0 in
+    let are = c.requires.1.1.1.0 in
     let told : g.calls.members ≡ accounts_of (declared_members lists) c.args.members = ap (λ (k : SessionCalls). k.members) c.requires.1.1.0 in
-    let accounts : length g.calls.members ≡ member_count lists = ap length told ∙ accounts_count (declared_members lists) c.args.members are.many in
+    let accounts : length g.calls.members ≡ member_count lists = ap length told ∙ accounts_count (declared_members lists) c.args.members (omega (arith, are.many)) ∙ are.many in
     let called : AreCalledAt lists m.objects.now m.database.now g.calls c.args.members = all_called lists m.objects.now m.database.now c.args.members are g.calls told in
     let O : ℕ → Type 0 = λ n. HasCallsBut (out_to lists n) g.calls m.objects.now m.database.now c.args.passes in
     λ κs bounds. (
       bounds.0,
       (
         bounds.1,
-        (called, subst O (sym are.many) (untold g.calls m.objects.now m.database.now lists c.args.members called are.many accounts c.args.passes c.requires.1.1.1.0 c.requires.1.1.1.1.1.0)),
+        (called, subst O (sym are.many) (untold g.calls m.objects.now m.database.now lists c.args.members called (member_count lists) are.many accounts c.args.passes c.requires.1.1.1.1.0)),
       ),
     )
 
 pub unreachable-requires : goal.unreachable-requires
 unreachable-requires g c =
     let m = c.args.self.now in
-    let are = c.requires.1.1.1.1.0 in
+    let are = c.requires.1.1.1.0 in
     let there = logger_there m.lists.now m.objects.now m.database.now c.args.members are in
     c.in_default.not-Some _ (c.take_back_members.ensures.left ∙ logger_left m.lists.now m.objects.now m.database.now c.args.members are there.0 there.1)
 
@@ -53,8 +53,8 @@ pub returns-clause-calls : goal.returns-clause-calls
 returns-clause-calls g c =
     let m = c.args.self.now in
     let calls = c.requires.1.1.0 in
-    let engine = c.requires.1.1.1.1.1.1.0 in
-    let database = c.requires.1.1.1.1.1.1.1 in
+    let engine = c.requires.1.1.1.1.1.0 in
+    let database = c.requires.1.1.1.1.1.1 in
     main_back g.calls m.objects.now m.database.now m.lists.now c.take_back_members.new.passes c.put_to_engine.new.self c.put_to_database.new.self
     c.args.main_engine c.args.main_database c.take_back_members.ensures.out
     c.put_to_engine.ensures.put c.put_to_engine.ensures.buffers c.put_to_engine.ensures.database

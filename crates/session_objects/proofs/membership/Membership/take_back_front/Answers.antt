@@ -1,4 +1,4 @@
-use Rattle.std.proofs.Common.{◌≡◌, ◌∙◌, ◌+◌, ◌<◌, ℕ, length, ap, sym, refl, subst, arith}
+use Rattle.std.proofs.Common.{◌∙◌, ◌+◌, ◌<◌, ℕ, length, ap, sym, refl, subst, arith}
 use Rattle.turn_lock.specs.Passes.{number_of, seen_by, IsOf}
 use Rattle.turn_lock.specs.Roster.{items_of, room_of}
 use Rattle.turn_lock.specs.declared.roster.Passes.{Passes}
