@@ -24,7 +24,6 @@ use Rattle.member_model.specs.LoggerKept.{LoggerChannel, IsStateSo}
 use Rattle.loggers.specs.LoggerStands.{logger_channels}
 use Rattle.loggers.specs.OtherFiles.{specs_in}
 use Rattle.loggers.specs.Reasons.{AreEndsSo, AreAnswersSo, NamesRefuser, AnswerFits, ReasonsTell}
-use Rattle.loggers.specs.LeftNames.{NoneRose}
 use Rattle.analyzers.specs.AnalyzerKept.{IsAnalyzerReason}
 use Rattle.session_laws.specs.BlankLaws.{BlanksSuffice}
 use Rattle.history_laws.specs.BegunTurns.{HasTransition, IsRefusedTurn, IsTallyOfTurn}
@@ -48,7 +47,7 @@ use Rattle.session_laws.proofs.NoneRefused.{AskLaws, logger_granted, analyzer_gr
 use Rattle.session_laws.proofs.BlanksGiven.{few_blanks}
 use Rattle.session_laws.proofs.RunsMade.{has_made}
 use Rattle.session_laws.specs.OtherNames.{AreStartsOver, IsTakenName}
-use Rattle.session_laws.proofs.TakenNames.{taken_name}
+use Rattle.session_laws.proofs.TakenNames.{taken_name, free_names}
 use Rattle.session_laws.proofs.RunTurns.{TurnLaws}
 use Rattle.session_laws.proofs.UndoneNames.{firsts_stay, undone_stay}
 
@@ -86,7 +85,7 @@ front_refuses laws c ends first now sheet start why tallies n f at client is tur
     let same : client ≡ n = omega (arith, is) in
     let mine : HasTransition c.engine Start sheet start (Refused n why) tallies = subst (λ (k : ℕ). HasTransition c.engine Start sheet start (Refused k why) tallies) same has in
     let composed = laws.composed c ends in
-    let so = composed.1.fronts_refuse (session_front n f (composed.0 n)) (n, front_listed c composed.0 n f at) sheet start why tallies mine in
+    let so = composed.fronts_refuse (session_front n f (ends.moments n)) (n, front_listed c ends.moments n f at) sheet start why tallies mine in
     inl (record { front = f; stands = subst (λ (k : ℕ). slice_get c.fronts k ≡ Some f) (sym same) at; why_is = so.0; no_part = so.1 })
 
 -- each answer of the logger rests on what was counted
@@ -152,7 +151,7 @@ started_so : CountLaws → (c : ClosedSession) → MembersAtEnd c → (sheet : S
     → f.takes (order_for sheet start Stopped) ≡ true
 started_so laws c ends sheet start tallies made client f at =
     let composed = laws.composed c ends in
-    composed.1.fronts_take sheet start tallies (has_made laws.main c.engine Start sheet start Completed tallies ends.engine made) (session_front client f (composed.0 client)) (client, front_listed c composed.0 client f at)
+    composed.fronts_take sheet start tallies (has_made laws.main c.engine Start sheet start Completed tallies ends.engine made) (session_front client f (ends.moments client)) (client, front_listed c ends.moments client f at)
 
 -- Channels.
 
@@ -184,20 +183,20 @@ ended_so : CountLaws → (c : ClosedSession) (ends : MembersAtEnd c) (first now 
     → slice_get (logger_channels (λ number. 0) c.slots) index ≡ Some channel → (told : ChannelEnd) → ToldChannel (session_of c moments) r channel told → told.state ≡ state_by_dump r.last.dump
 ended_so laws c ends first now reasons stays moments r made index channel at told tells =
     let composed = laws.composed c ends in
-    let s : Session = session_of c composed.0 in
+    let s : Session = session_of c ends.moments in
     let run : IsStoppedRun s r = laws.stopped s ends.engine r made in
     let here : ToldChannel s r channel told = record { index = tells.index; ends = tells.ends; tells = tells.tells; at = tells.at } in
-    state_is s composed.1 r run index channel at told here (λ broken. stays (broken_so laws c ends first now reasons composed.0 r made channel told here broken)) told.state refl (composed.1.ends_so r run index channel at told here).state
+    state_is s composed r run index channel at told here (λ broken. stays (broken_so laws c ends first now reasons ends.moments r made channel told here broken)) told.state refl (composed.ends_so r run index channel at told here).state
 
 -- Names that were taken.
 
-taken_so : CountLaws → (c : ClosedSession) (ends : MembersAtEnd c) (first now : FilesTold) → LoggerReasons c ends first now → LoggerNames c ends first now → IsTrue first.seen.names → NoneRose first now → AreStartsOver (engine_calls c main_caller)
-    → (sheet : Sheet) (start number : ℕ) (tallies : List ClientTally) → TransitionIn (engine_calls c main_caller) Start sheet start (Refused (logger_client c) (Exists number)) tallies → IsTakenName c first.seen sheet.run start number
-taken_so laws c ends first now reasons names tells none over sheet start number tallies made =
+taken_so : CountLaws → (c : ClosedSession) (ends : MembersAtEnd c) (first now : FilesTold) → LoggerReasons c ends first now → LoggerNames c ends first now → IsTrue first.seen.names → AreStartsOver (engine_calls c main_caller)
+    → (sheet : Sheet) (start number : ℕ) (tallies : List ClientTally) → TransitionIn (engine_calls c main_caller) Start sheet start (Refused (logger_client c) (Exists number)) tallies → IsTakenName c first now sheet.run start number
+taken_so laws c ends first now reasons names tells over sheet start number tallies made =
     let n : ℕ = logger_client c in
     let has : HasTransition c.engine Start sheet start (Refused n (Exists number)) tallies = has_made laws.main c.engine Start sheet start (Refused n (Exists number)) tallies ends.engine made in
     let r = refused_turn laws c ends sheet start n (Exists number) tallies has in
-    taken_name laws.turns laws.over c ends first now names tells none over r.turn r.stands r.starts number r.answered sheet.run start (ap (λ (o : Order). o.run) r.of_begin.order) (ap (λ (o : Order). o.start) r.of_begin.order)
+    taken_name laws.turns laws.over c ends first now names tells over r.turn r.stands r.starts number r.answered sheet.run start (ap (λ (o : Order). o.run) r.of_begin.order) (ap (λ (o : Order). o.start) r.of_begin.order)
 
 pub counts_tell : CountLaws → CountsTell
 counts_tell laws c ends first now reasons names = record {
@@ -208,4 +207,5 @@ counts_tell laws c ends first now reasons names = record {
   names = undone_stay laws.turns c ends first now names;
   kept = firsts_stay laws.turns c ends first now names;
   taken = taken_so laws c ends first now reasons names;
+  free = free_names laws.turns laws.over c ends first now names;
 }

@@ -39,7 +39,7 @@ use Rattle.session_objects.specs.Members.{IsMemberOf, FrontIs, LoggerIs, Analyze
 use Rattle.session_laws.specs.ClosedSessions.{ClosedAnalyzer, ClosedBuffer, ClosedFront, ClosedSession, analyzer_client, last_caller, logger_client, logger_caller, size_in, history_in, got_from_buffer, engine_calls, calls_on_buffer, calls_on_database}
 use Rattle.session_laws.specs.CountedFaults.{LoggerReasons, LoggerNames}
 use Rattle.session_laws.specs.MembersAtEnd.{AnalyzerAtEnd, FrontAtEnd, IsAccessTo, LoggerAtEnd, MembersAtEnd}
-use Rattle.session_laws.specs.EndedSessions.{closed_analyzer, closed_buffer, closed_front, session_with, SessionEnded}
+use Rattle.session_laws.specs.EndedSessions.{closed_analyzer, closed_buffer, closed_front, moments_among, moments_of, session_with, SessionEnded}
 use Rattle.session_laws.proofs.LoggerEnd.{GotAll}
 use Rattle.session_laws.proofs.RunTurns.{there_within}
 
@@ -98,6 +98,7 @@ module _ {D F : Type 0} {g : _} (read : F → FilesTold) (lists : DeclaredLists)
   -- the member that was declared so keeps its contract, and these are its calls
   record MemberAt (client : ℕ) (d : MemberDeclared) : Type 0 where
     member : MemberSeen Generator F
+    there : slice_get ended.members client ≡ Some member
     is : IsMemberOf ended.objects ended.shared lists.channels client d member
     keeps : KeepsContract (members_told read) member
     account : account_at calls client ≡ account_of d member
@@ -107,6 +108,7 @@ module _ {D F : Type 0} {g : _} (read : F → FilesTold) (lists : DeclaredLists)
       let m = there_within ended.members client (omega (arith, ended.are.many, slice_get_within wanted client d at)) in
       record {
         member = m.0;
+        there = m.1;
         is = ended.are.each client d m.0 at m.1;
         keeps = ended.keep client m.0 m.1;
         account = ap account_or_none (account_there wanted ended.members client d m.0 at m.1);
@@ -230,7 +232,7 @@ module _ {D F : Type 0} {g : _} (read : F → FilesTold) (lists : DeclaredLists)
   -- Each kind of member.
 
   front_ends : (client : ℕ) (d : FrontDeclared) → slice_get wanted client ≡ Some (WantedFront d) → {member : MemberSeen Generator F} → IsMemberOf ended.objects ended.shared lists.channels client (WantedFront d) member
-      → KeepsContract (members_told read) member → account_at calls client ≡ account_of (WantedFront d) member → FrontAtEnd closed client (closed_front d)
+      → KeepsContract (members_told read) member → account_at calls client ≡ account_of (WantedFront d) member → FrontAtEnd closed client (closed_front d) (moments_of (Some member))
   front_ends client d at (FrontIs {front = front} is) keeps account =
       let by : ℕ = caller_of_client client in
       let port = own_port client (WantedFront d) d.buffer front.port at refl (ap (λ (a : Account). a.port d.buffer) account ∙ rw (eq-eqb d.buffer d.buffer refl) refl) in
@@ -293,12 +295,13 @@ module _ {D F : Type 0} {g : _} (read : F → FilesTold) (lists : DeclaredLists)
 
   -- All together.
 
-  front_at_end : (client : ℕ) (f : ClosedFront) → slice_get closed.fronts client ≡ Some f → FrontAtEnd closed client f
+  front_at_end : (client : ℕ) (f : ClosedFront) → slice_get closed.fronts client ≡ Some f → FrontAtEnd closed client f (moments_among ended.members client)
   front_at_end client f at =
       let d = mapped closed_front lists.fronts client f at in
       let there = at_front WantedFront WantedLogger WantedAnalyzer lists.fronts lists.analyzers client d.0 d.1 in
       let m = member_at client (WantedFront d.0) there in
-      subst (FrontAtEnd closed client) d.2 (front_ends client d.0 there m.is m.keeps m.account)
+      subst (λ (x : ClosedFront). FrontAtEnd closed client x (moments_among ended.members client)) d.2
+      (subst (λ (o : Option (MemberSeen Generator F)). FrontAtEnd closed client (closed_front d.0) (moments_of o)) (sym m.there) (front_ends client d.0 there m.is m.keeps m.account))
 
   analyzer_at_end : GotAll → (place : ℕ) (a : ClosedAnalyzer) → slice_get closed.analyzers place ≡ Some a → AnalyzerAtEnd closed (analyzer_client closed place) a
   analyzer_at_end all place a at =
@@ -311,6 +314,7 @@ module _ {D F : Type 0} {g : _} (read : F → FilesTold) (lists : DeclaredLists)
   -- what the laws ask for, with what the logger's answers rest on and the names that it left
   pub record EndsMet : Type 0 where
     pub ends : MembersAtEnd closed
+    pub moments : ends.moments ≡ moments_among ended.members
     pub reasons : LoggerReasons closed ends (read logger.first) (read logger.files)
     pub names : LoggerNames closed ends (read logger.first) (read logger.files)
 
@@ -322,6 +326,7 @@ module _ {D F : Type 0} {g : _} (read : F → FilesTold) (lists : DeclaredLists)
       engine = rw ended.opening at ended.histories.engine;
       database = (_, ended.histories.database);
       speaks = speaks;
+      moments = moments_among ended.members;
       fronts = front_at_end;
       logger = logger_ends;
       analyzers = analyzer_at_end all;
@@ -338,6 +343,7 @@ module _ {D F : Type 0} {g : _} (read : F → FilesTold) (lists : DeclaredLists)
         database = no_database_by;
       };
     };
+    moments = refl;
     reasons = rw turns at logger_keeps.reasons;
     names = λ none. rw turns at (logger_keeps.names none);
   }

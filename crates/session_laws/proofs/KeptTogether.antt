@@ -23,16 +23,15 @@ use Rattle.member_model.specs.RunEngines.{EngineEntry}
 use Rattle.history_laws.specs.BegunTurns.{IsAlone, OneWantsDump, OneHasNumber}
 use Rattle.composition.specs.Sessions.{Session, SessionAnalyzer, SessionFront, HasAnalyzer, HasFront, NamesOwnClient, IsMemberCaller, IsRegistered, MembersKeep}
 use Rattle.daq_members.specs.OwnTurns.{is_call_for}
-use Rattle.daq_members.specs.FrontTaken.{FrontKeeps}
+use Rattle.daq_members.specs.FrontTaken.{FrontKeeps, KeepsFrontMember}
 use Rattle.session_runs.specs.RunsFit.{SteersEngine}
-use Rattle.session_laws.specs.ClosedSessions.{ClosedAnalyzer, ClosedFront, ClosedSession, analyzer_client, logger_client, logger_caller, size_of_buffer, history_of_buffer, engine_calls, calls_on_buffer, got_from_buffer, session_analyzer, session_front, session_of}
+use Rattle.session_laws.specs.ClosedSessions.{ClosedAnalyzer, ClosedFront, ClosedSession, analyzer_client, logger_client, logger_caller, size_of_buffer, history_of_buffer, engine_calls, calls_on_buffer, calls_on_database, got_from_buffer, session_analyzer, session_front, session_of}
 use Rattle.session_laws.specs.MembersAtEnd.{AnalyzerAtEnd, FrontAtEnd, MembersAtEnd}
 use Rattle.session_laws.proofs.EachCaller.{by_caller, each_call}
 use Rattle.session_laws.proofs.Registrations.{analyzer_at, front_at, IsOfLogger, logger_alone, alone_wants, alone_numbered}
 use Rattle.session_laws.proofs.MainFirst.{logger_called, registered}
 use Rattle.session_laws.proofs.GotSent.{got_sent, legal_buffer}
 use Rattle.session_laws.proofs.LoggerEnd.{GotAll, logger_keeps}
-use Rattle.session_laws.proofs.FrontsEnd.{FrontKept, front_kept, choose}
 use Rattle.session_laws.proofs.MembersListed.{analyzer_listed, front_listed, front_of, numbered_is}
 
 -- On the engine each names its own client.
@@ -76,7 +75,7 @@ one_number c ends = one_logger (λ (k : Registered). sequence_for k.sequences St
 abbrev MayCall : ClosedSession → (moments : ℕ → List ℕ) → (buffer by : ℕ) → Type 0
 MayCall c moments buffer by = (calls_on_buffer c by buffer ≡ []) ⊎ IsMemberCaller (session_of c moments) buffer by
 
-front_calls : (c : ClosedSession) (moments : ℕ → List ℕ) (client : ℕ) (f : ClosedFront) → slice_get c.fronts client ≡ Some f → FrontAtEnd c client f → (buffer : ℕ) → MayCall c moments buffer (caller_of_client client)
+front_calls : (c : ClosedSession) (moments : ℕ → List ℕ) (client : ℕ) (f : ClosedFront) → slice_get c.fronts client ≡ Some f → FrontAtEnd c client f (moments client) → (buffer : ℕ) → MayCall c moments buffer (caller_of_client client)
 front_calls c moments client f at ends buffer = elim (eqb_tells f.buffer buffer) as (λ w. MayCall c moments buffer (caller_of_client client)) [
   | inl same ↦
       inr (inr (inl (record { front = session_front client f (moments client); stands = (client, front_listed c moments client f at); buffer_is = same.1; caller_is = refl })))
@@ -90,13 +89,13 @@ analyzer_calls c moments place a at ends buffer = elim (eqb_tells a.buffer buffe
   | inr differs ↦ inl (ends.elsewhere buffer (λ is. differs.1 (sym is)))
 ]
 
-member_callers : (c : ClosedSession) → MembersAtEnd c → (moments : ℕ → List ℕ) → (buffer by : ℕ) → MayCall c moments buffer by
-member_callers c ends moments buffer =
-    by_caller (MayCall c moments buffer) c
+member_callers : (c : ClosedSession) → (ends : MembersAtEnd c) → (buffer by : ℕ) → MayCall c ends.moments buffer by
+member_callers c ends buffer =
+    by_caller (MayCall c ends.moments buffer) c
     (inl (ends.main.buffers buffer))
-    (λ client f at. front_calls c moments client f at (ends.fronts client f at) buffer)
+    (λ client f at. front_calls c ends.moments client f at (ends.fronts client f at) buffer)
     (inr (inl refl))
-    (λ place a at. analyzer_calls c moments place a at (ends.analyzers place a at) buffer)
+    (λ place a at. analyzer_calls c ends.moments place a at (ends.analyzers place a at) buffer)
     (λ by past. inl (ends.others.buffers by past buffer))
 
 -- The members are registered.
@@ -128,36 +127,38 @@ each_analyzer : (c : ClosedSession) (moments : ℕ → List ℕ) (P : SessionAna
     → (a : SessionAnalyzer) → HasAnalyzer (session_of c moments) a → P a
 each_analyzer c moments P each a has = (let of = numbered_is (session_analyzer c) (suc (length c.fronts)) has.0 (analyzer_client c has.0) c.analyzers a refl has.1 in subst P (sym of.2) (each has.0 of.0 of.1))
 
+-- what the front-end with this client number keeps, with the moments of its turns
+front_kept : FrontKeeps → (c : ClosedSession) (client : ℕ) (f : ClosedFront) (moments : List ℕ) → FrontAtEnd c client f moments
+    → KeepsFrontMember f.name f.takes f.makes (member_turns client (engine_calls c (caller_of_client client))) (calls_on_buffer c (caller_of_client client) f.buffer) moments (calls_on_database c (caller_of_client client))
+front_kept law c client f moments ends =
+    law client f.name f.takes f.makes ends.run (engine_calls c (caller_of_client client)) (calls_on_buffer c (caller_of_client client) f.buffer) moments (calls_on_database c (caller_of_client client)) ends.stands
+
 analyzer_keeps : MemberAnalyzersKeep → (c : ClosedSession) (client : ℕ) (a : ClosedAnalyzer) → AnalyzerAtEnd c client a
     → KeepsAnalyzer a.wanted (calls_on_buffer c (caller_of_client client) a.buffer) (got_from_buffer c (caller_of_client client) a.buffer) (member_turns client (engine_calls c (caller_of_client client)))
 analyzer_keeps law c client a ends =
     subst (λ (w : EventRequest). KeepsAnalyzer w (calls_on_buffer c (caller_of_client client) a.buffer) (got_from_buffer c (caller_of_client client) a.buffer) (member_turns client (engine_calls c (caller_of_client client)))) ends.wanted
     (law client ends.analyzer (engine_calls c (caller_of_client client)) (calls_on_buffer c (caller_of_client client) a.buffer) (got_from_buffer c (caller_of_client client) a.buffer) ends.stands)
 
-pub members_keep : PortTells → GotAll → StandingLoggerKeeps → FrontKeeps → MemberAnalyzersKeep → (c : ClosedSession) → MembersAtEnd c → (moments : ℕ → List ℕ) × MembersKeep (session_of c moments)
+pub members_keep : PortTells → GotAll → StandingLoggerKeeps → FrontKeeps → MemberAnalyzersKeep → (c : ClosedSession) → (ends : MembersAtEnd c) → MembersKeep (session_of c ends.moments)
 members_keep tells all stands keeps reads c ends =
-    let chosen = choose c.fronts (FrontKept c) (λ client f at. front_kept keeps c client f (ends.fronts client f at)) in
-    let moments : ℕ → List ℕ = chosen.0 in
-    let s : Session = session_of c moments in (
-      moments,
-      record {
-        buffers_legal = legal_buffer c ends;
-        engine_legal = ends.engine;
-        own_clients = names_own c ends;
-        callers = member_callers c ends moments;
-        fronts_keep = each_front c moments (λ f. _) (λ client f at. (chosen.1 client f at).keeps);
-        fronts_moments = each_front c moments (λ f. _) (λ client f at. (chosen.1 client f at).kept);
-        fronts_set = each_front c moments (λ f. _) (λ client f at. (chosen.1 client f at).told);
-        logger_keeps = logger_keeps stands all c ends;
-        logger_got = λ buffer. got_sent tells _ (logger_caller c) (history_of_buffer c buffer) (legal_buffer c ends buffer);
-        analyzers_keep = each_analyzer c moments (λ a. _) (λ place a at. analyzer_keeps reads c (analyzer_client c place) a (ends.analyzers place a at));
-        analyzers_got = each_analyzer c moments (λ a. _) (λ place a at. (
-          got_sent tells (size_of_buffer c a.buffer) (caller_of_client (analyzer_client c place)) (history_of_buffer c a.buffer) (legal_buffer c ends a.buffer),
-          record { named_so = sym (named_in (caller_of_client (analyzer_client c place)) (opening (size_of_buffer c a.buffer)) (history_of_buffer c a.buffer)) },
-        ));
-        fronts_registered = each_front c moments (λ f. _) (front_registered c ends moments);
-        analyzers_registered = each_analyzer c moments (λ a. _) (analyzer_registered c ends moments);
-        logger_registered = logger_registered c ends moments;
-        one_dump = one_dump c ends;
-      },
-    )
+    let moments : ℕ → List ℕ = ends.moments in
+    record {
+      buffers_legal = legal_buffer c ends;
+      engine_legal = ends.engine;
+      own_clients = names_own c ends;
+      callers = member_callers c ends;
+      fronts_keep = each_front c moments (λ f. _) (λ client f at. (front_kept keeps c client f (moments client) (ends.fronts client f at)).keeps);
+      fronts_moments = each_front c moments (λ f. _) (λ client f at. (front_kept keeps c client f (moments client) (ends.fronts client f at)).kept);
+      fronts_set = each_front c moments (λ f. _) (λ client f at. (front_kept keeps c client f (moments client) (ends.fronts client f at)).told);
+      logger_keeps = logger_keeps stands all c ends;
+      logger_got = λ buffer. got_sent tells _ (logger_caller c) (history_of_buffer c buffer) (legal_buffer c ends buffer);
+      analyzers_keep = each_analyzer c moments (λ a. _) (λ place a at. analyzer_keeps reads c (analyzer_client c place) a (ends.analyzers place a at));
+      analyzers_got = each_analyzer c moments (λ a. _) (λ place a at. (
+        got_sent tells (size_of_buffer c a.buffer) (caller_of_client (analyzer_client c place)) (history_of_buffer c a.buffer) (legal_buffer c ends a.buffer),
+        record { named_so = sym (named_in (caller_of_client (analyzer_client c place)) (opening (size_of_buffer c a.buffer)) (history_of_buffer c a.buffer)) },
+      ));
+      fronts_registered = each_front c moments (λ f. _) (front_registered c ends moments);
+      analyzers_registered = each_analyzer c moments (λ a. _) (analyzer_registered c ends moments);
+      logger_registered = logger_registered c ends moments;
+      one_dump = one_dump c ends;
+    }

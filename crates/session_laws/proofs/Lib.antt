@@ -9,7 +9,6 @@ pub mod NoneTaken
 pub mod GotSent
 pub mod LoggerEnd
 pub mod MembersListed
-pub mod FrontsEnd
 pub mod KeptTogether
 pub mod RunsMade
 pub mod NamesStay

@@ -42,7 +42,7 @@ own_keep : (by : ℕ) (es : List BufferEntry) → AllByRecursion (DetachesNone b
 own_keep by [] = tt
 own_keep by (e ∷ es) = ((λ differs client. absurd (differs refl)), own_keep by es)
 
-front_keeps : (c : ClosedSession) (client : ℕ) (f : ClosedFront) → FrontAtEnd c client f → (buffer : ℕ) → AllByRecursion (DetachesNone (logger_caller c) (caller_of_client client)) (calls_on_buffer c (caller_of_client client) buffer)
+front_keeps : (c : ClosedSession) (client : ℕ) (f : ClosedFront) {moments : List ℕ} → FrontAtEnd c client f moments → (buffer : ℕ) → AllByRecursion (DetachesNone (logger_caller c) (caller_of_client client)) (calls_on_buffer c (caller_of_client client) buffer)
 front_keeps c client f ends =
     let by : ℕ = caller_of_client client in
     at_own c by f.buffer ends.elsewhere (AllByRecursion (DetachesNone (logger_caller c) by)) (sends_keep (logger_caller c) by (calls_on_buffer c by f.buffer) ends.stands.stands.keeps.only_sends) tt

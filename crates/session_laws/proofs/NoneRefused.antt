@@ -156,7 +156,7 @@ module _ (laws : TurnLaws) (asking : AskLaws) (c : ClosedSession) (ends : Member
   front_counted buffer client f at =
       let keep = laws.keep c ends in
       let by : ℕ = caller_of_client client in
-      let sends : EachCall IsSendInRun (calls_on_buffer c by f.buffer) = (keep.1.fronts_keep (session_front client f (keep.0 client)) (client, front_listed c keep.0 client f at)).only_sends in
+      let sends : EachCall IsSendInRun (calls_on_buffer c by f.buffer) = (keep.fronts_keep (session_front client f (ends.moments client)) (client, front_listed c ends.moments client f at)).only_sends in
       inr (at_own c by f.buffer (ends.fronts client f at).elsewhere (λ own. attaches_made own ≡ 0) (sends_none (calls_on_buffer c by f.buffer) sends) refl buffer)
 
   counted : (buffer by : ℕ) → Counted buffer by
@@ -202,7 +202,7 @@ module _ (laws : TurnLaws) (asking : AskLaws) (c : ClosedSession) (ends : Member
   clients : (buffer : ℕ) → HaveOwnClients (history_of_buffer c buffer)
   clients buffer =
       let keep = laws.keep c ends in
-      (asking.fits (history_of_buffer c buffer) (each_reads_or_sends (session_of c keep.0) keep.1 buffer)).0
+      (asking.fits (history_of_buffer c buffer) (each_reads_or_sends (session_of c ends.moments) keep buffer)).0
 
   -- Who makes each request for a client that has none, and is refused no begin, is refused nothing.
   granted : (buffer by : ℕ) → AreLoneRequests (calls_after [] (calls_on_buffer c by buffer)) → ((start : ℕ) → (why : MarkRefusal) → Among (calls_on_buffer c by buffer) (Begin start (Err why)) → ⊥) → (e : BufferEntry) → Among (calls_on_buffer c by buffer) e → IsRefusedAsk e → ⊥
@@ -261,7 +261,7 @@ module _ (laws : TurnLaws) (asking : AskLaws) (c : ClosedSession) (ends : Member
       let fair : IsFairBegin ends.logger.ports turns (calls_after [] a.before) start =
       fair_at ends.logger.ports turns (calls_on_buffer c by buffer) (Begin start (Err had.why)) a
       (subst (λ (l : List BufferEntry). AreFairBegins ends.logger.ports turns (calls_after [] l)) (sym own) (stands.asks.begins buffer had.port had.at)) in
-      let causes = asking.begins (size_of_buffer c buffer) (history_of_buffer c buffer) by (legal_buffer c ends buffer) (logger_marks_alone asking.senders (session_of c keep.0) keep.1 buffer) a.before a.after start had.why a.is in
+      let causes = asking.begins (size_of_buffer c buffer) (history_of_buffer c buffer) by (legal_buffer c ends buffer) (logger_marks_alone asking.senders (session_of c ends.moments) keep buffer) a.before a.after start had.why a.is in
       elim causes as (λ w. ⊥) [
         | inl none ↦
             let new : IsNewStart fair.at.turn.order.start fair.earlier = new_at turns fair.at.later fair.at.turn fair.earlier fair.at.are (are_turns laws c ends) fair.at.starts in

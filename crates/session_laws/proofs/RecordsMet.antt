@@ -13,7 +13,6 @@ use Rattle.odb_lock.specs.SharedOdbs.{first_database}
 use Rattle.sub_files.specs.Patterns.{NamePattern, piece_name_by}
 use Rattle.mid_logger.specs.declared.channel.Channel.{Channel}
 use Rattle.loggers.specs.LoggerStands.{logger_channel, logger_channels}
-use Rattle.loggers.specs.LeftNames.{NoneRose}
 use Rattle.loggers.specs.OtherFiles.{specs_in}
 use Rattle.session_setup.specs.declared.declared.DeclaredLists.{DeclaredLists}
 use Rattle.session_runs.specs.declared.records.RunRecord.{RunRecord}
@@ -28,7 +27,7 @@ use Rattle.session_laws.specs.CountedFaults.{CountsHold, CountsTell}
 use Rattle.session_laws.specs.RecordedRuns.{ChannelFilesHold, ListsChannel, clients_in, ChannelsAgree, RecordsHold}
 use Rattle.session_laws.specs.OneAnswer.{OneAnswer, OneAnswerEach, RisesTold, RisesToldEach}
 use Rattle.session_laws.specs.RefusedRecords.{RecordsRefused}
-use Rattle.session_laws.specs.OtherNames.{RefusesStart, GivesNoName, GivesOthers, AreStartsOver}
+use Rattle.session_laws.specs.OtherNames.{RefusesStart, GivesNoName, GivesOthers, AreStartsOver, IsNameKept}
 use Rattle.session_laws.specs.MadeRuns.{RunIn}
 use Rattle.composition.specs.SessionRuns.{SessionRun}
 use Rattle.session_laws.proofs.LoggerEnd.{GotAll}
@@ -96,7 +95,7 @@ module _ {D F : Type 0} {g : _} (read : F → FilesTold) (lists : DeclaredLists)
     pub rises_met : GotAll → ChannelsAgree → RisesToldEach → starts_begun more ≡ [] → RecordsFit (clients_declared lists) own r.runs → RisesTold (specs_in logger.slots) r.runs first now
     rises_met all agree each none fits =
         let met : EndsMet read lists logger r ended = ends_met read lists logger r ended all in
-        each closed met.ends first now met.reasons own more by_main none r.runs (rw (same_clients agree) at fits)
+        each closed met.ends first now met.reasons met.names own more by_main none r.runs (rw (same_clients agree) at fits)
 
     -- There is one record for each start that the main thread began, and each of a run that came about holds.
     module _ (none : starts_begun more ≡ []) (fits : RecordsFit (clients_declared lists) own r.runs) (holds : SessionHolds closed)
@@ -153,9 +152,9 @@ module _ {D F : Type 0} {g : _} (read : F → FilesTold) (lists : DeclaredLists)
             });
           }
 
-      pub names_met : CountsHold closed first now → IsTrue first.seen.names → NoneRose first now → (name : List ℕ) → IsInNoRecord r.runs name → now.seen.at name ≡ first.seen.at name
-      names_met counts tells stays name unlisted =
-          counts.names tells stays name (λ start among. (let o = of_start start among in
+      pub names_met : CountsHold closed first now → IsTrue first.seen.names → (name : List ℕ) → IsInNoRecord r.runs name → IsNameKept closed first now name
+      names_met counts tells name unlisted =
+          counts.names tells name (λ start among. (let o = of_start start among in
           elim o.1 as (λ w. RefusesStart (engine_calls closed main_caller) start ⊎ GivesNoName closed name start) [
             | inl refused ↦ inl refused
             | inr so_far ↦ inr (record {

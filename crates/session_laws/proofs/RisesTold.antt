@@ -1,11 +1,13 @@
 -- A count that rose is told by a record: where all that the logger told of a start is in the record of it.
 use Rattle.std.specs.Prelude.{◌≡◌, ◌≤◌, ℕ, zero, suc, cond, is_some, sum_by, List, [], ◌∷◌, ◌++◌, length, slice_get, Contains, Option, Some, None, refl}
+use Rattle.std.specs.Option.{option_map, option_to_list}
 use Rattle.std.proofs.Common.{ap, sym, subst, ◌∙◌, arith, inl, inr}
 use Rattle.std.proofs.lemmas.List.Sums.{sum_by-cons}
 use Rattle.daq_types.specs.Callers.{main_caller}
 use Rattle.daq_types.specs.declared.runs.ChannelEnd.{ChannelEnd}
 use Rattle.daq_types.specs.declared.runs.ChannelState.{ChannelState}
 use Rattle.daq_types.specs.declared.runs.ChannelState.TheVariants.{Broken as IsBroken}
+use Rattle.daq_types.specs.declared.runs.Order.{Order}
 use Rattle.daq_types.specs.declared.runs.StartOutcome.{StartOutcome}
 use Rattle.daq_types.specs.declared.runs.StartOutcome.TheVariants.{Completed, Refused}
 use Rattle.daq_types.specs.declared.runs.Transition.{Transition}
@@ -21,6 +23,8 @@ use Rattle.member_model.specs.RunEngines.{Sheet, Answer, EngineEntry}
 use Rattle.member_model.specs.Turns.{MemberTurn, HasTurn, AreEngineTurns}
 use Rattle.member_model.specs.TurnCalls.{member_turns}
 use Rattle.mid_logger.specs.declared.channel.Channel.{Channel}
+use Rattle.mid_logger.specs.declared.channel_spec.ChannelSpec.{ChannelSpec}
+use Rattle.sub_files.specs.Patterns.{piece_name_by}
 use Rattle.sub_files.specs.declared.open_file.Fallen.{Fallen}
 use Rattle.mid_logger.specs.declared.stage.BegunRun.{BegunRun}
 use Rattle.mid_logger.specs.declared.stage.ChannelStage.{ChannelStage}
@@ -28,7 +32,7 @@ use Rattle.mid_logger.specs.declared.stage.ChannelStage.TheVariants.{Broken}
 use Rattle.mid_logger.specs.Channels.{channel_run}
 use Rattle.mid_logger.specs.ChannelTurns.{broken_run}
 use Rattle.loggers.specs.LoggerStands.{LoggerStands, ToldSo}
-use Rattle.loggers.specs.LeftNames.{IsStartedRun}
+use Rattle.loggers.specs.LeftNames.{IsStartedRun, IsBrokenName, KeepsNames}
 use Rattle.loggers.specs.OtherFiles.{specs_in}
 use Rattle.loggers.specs.Reasons.{AnswerFits, ClashesAreTold, HaveNoLimit}
 use Rattle.loggers.specs.ToldCounts.{faults_of_state, faults_of_answer, clashes_of_answer, undone_of_answer, undone_by, count_in_answer, faults_told, starts_undone, broken_off}
@@ -41,16 +45,16 @@ use Rattle.session_runs.specs.MadeTransitions.{TransitionIn}
 use Rattle.session_runs.specs.KeptRuns.{run_channel}
 use Rattle.session_runs.specs.RunEntries.{start_sheet}
 use Rattle.session_runs.specs.RunsFit.{MainOwn, FitsWhole, RecordsFit, run_of, starts_begun}
-use Rattle.session_runs.specs.ToldTallies.{files_told, files_of, ends_told}
+use Rattle.session_runs.specs.ToldTallies.{channel_told, ended_files, files_told, files_of, ends_told}
 use Rattle.composition.specs.Sessions.{Session}
 use Rattle.composition.specs.SessionRuns.{SessionRun, IsStoppedRun}
-use Rattle.composition.proofs.SessionTurns.{one_start, speaks}
+use Rattle.composition.proofs.SessionTurns.{IsStartTurn, one_start, speaks, start_turn}
 use Rattle.session_laws.specs.ClosedSessions.{ClosedSession, logger_client, logger_caller, engine_calls, session_of}
 use Rattle.session_laws.specs.MembersAtEnd.{MembersAtEnd}
-use Rattle.session_laws.specs.CountedFaults.{LoggerReasons}
+use Rattle.session_laws.specs.CountedFaults.{LoggerReasons, LoggerNames}
 use Rattle.session_laws.specs.MadeRuns.{RunIn}
 use Rattle.session_laws.specs.RecordedRuns.{run_channels, clients_in}
-use Rattle.session_laws.specs.OneAnswer.{faults_recorded, clashes_recorded, clashes_of_outcome, NoneRefused, RisesToldEach}
+use Rattle.session_laws.specs.OneAnswer.{faults_recorded, clashes_recorded, clashes_of_outcome, NoneRefused, HasBrokenFile, RisesToldEach}
 use Rattle.session_laws.proofs.KeptTogether.{names_own, one_number}
 use Rattle.session_laws.proofs.LoggerEnd.{none_taken_back}
 use Rattle.session_laws.proofs.NamesStay.{StartBegun, start_begun, abort_begun, HasSpec, has_spec}
@@ -109,12 +113,33 @@ files_count told (Some x ∷ os) zero ch e there at broken =
 files_count told (Some x ∷ os) (suc n) ch e there at broken =
     omega (arith, files_count told os n ch e there at broken, files_first (run_channel x.spec) (files_told told (run_channels os)) (slice_get told x.spec.number))
 
+-- the files of a channel of which it was told are among those of the record
+
+behind_some : (o : Option ChannelFiles) (xs : List ChannelFiles) (place : ℕ) (x : ChannelFiles) → slice_get xs place ≡ Some x → (k : ℕ) × (slice_get (option_to_list o ++ xs) k ≡ Some x)
+behind_some None xs place x at = (place, at)
+behind_some (Some y) xs place x at = (suc place, at)
+
+files_there : (told : List ChannelEnd) (slots : List (Option Channel)) (n : ℕ) (ch : Channel) (e : ChannelEnd) → slot_at slots n ≡ Some ch → slice_get told ch.spec.number ≡ Some e
+    → (place : ℕ) × (slice_get (files_told told (run_channels slots)) place ≡ Some (ended_files (run_channel ch.spec) e))
+files_there told [] n ch e there at = absurd (cc (there))
+files_there told (None ∷ os) zero ch e there at = absurd (cc (there))
+files_there told (None ∷ os) (suc n) ch e there at = files_there told os n ch e there at
+files_there told (Some x ∷ os) zero ch e there at =
+    let same : x ≡ ch = cc (there) in
+    let here : slice_get told x.spec.number ≡ Some e = subst (λ (c : Channel). slice_get told c.spec.number ≡ Some e) (sym same) at in
+    let mine : channel_told told (run_channel x.spec) ≡ Some (ended_files (run_channel ch.spec) e) =
+    ap (λ (o : Option ChannelEnd). option_map (ended_files (run_channel x.spec)) o) here ∙ ap (λ (c : Channel). Some (ended_files (run_channel c.spec) e)) same in
+    (0, subst (λ (o : Option ChannelFiles). slice_get (option_to_list o ++ files_told told (run_channels os)) 0 ≡ Some (ended_files (run_channel ch.spec) e)) (sym mine) refl)
+files_there told (Some x ∷ os) (suc n) ch e there at =
+    let later = files_there told os n ch e there at in
+    behind_some (channel_told told (run_channel x.spec)) (files_told told (run_channels os)) later.0 (ended_files (run_channel ch.spec) e) later.1
+
 module _ (laws : RiseLaws) (c : ClosedSession) (ends : MembersAtEnd c) where
   abbrev ts : List MemberTurn
   ts = member_turns (logger_client c) (engine_calls c (logger_caller c))
 
   abbrev its : Session
-  its = session_of c (laws.turns.keep c ends).0
+  its = session_of c ends.moments
 
   are : AreEngineTurns ts
   are = are_turns laws.turns c ends
@@ -127,13 +152,14 @@ module _ (laws : RiseLaws) (c : ClosedSession) (ends : MembersAtEnd c) where
     run : SessionRun
     stopped : IsStoppedRun its run
     of : run.start ≡ r.start
+    number : run.first.run ≡ r.run
     files : r.files ≡ files_of (ends_told (logger_client c) run.last_tallies) (run_channels c.slots)
 
   run_came : (own : MainOwn) (more : List EngineEntry) → engine_calls c main_caller ≡ own.engine ++ more → (r : RunRecord) (quota : ℕ) → FitsWhole (clients_in c) own (run_of r quota) r → RunCame r
   run_came own more calls r quota fits =
       let run : SessionRun = run_recorded (clients_in c) own more (engine_calls c main_caller) calls r quota fits in
       let made : RunIn (engine_calls c main_caller) run = run_in (clients_in c) own more (engine_calls c main_caller) calls r quota fits in
-      record { run = run; stopped = made_are_stopped laws.turns.main its ends.engine run made; of = refl; files = fits.stop.tells.files }
+      record { run = run; stopped = made_are_stopped laws.turns.main its ends.engine run made; of = refl; number = refl; files = fits.stop.tells.files }
 
   turns_of_record : (r : RunRecord) → RunCame r → TurnsOf ts r.start
   turns_of_record r came = subst (λ (n : ℕ). TurnsOf ts n) came.of (turns_of_run laws.turns c ends came.run came.stopped)
@@ -183,8 +209,8 @@ module _ (laws : RiseLaws) (c : ClosedSession) (ends : MembersAtEnd c) where
     fits_as : (t : MemberTurn) (answer : Option Answer) → HasTurn ts t → t.answer ≡ answer → AnswerFits (specs_in c.slots) t.transition answer
     fits_as t answer has is = subst (λ (a : Option Answer). AnswerFits (specs_in c.slots) t.transition a) is (reasons.fits t has)
 
-    -- Where each start came about, and no file broke off.
-    module _ (all : NoneRefused runs) (quiet : sum_by faults_recorded runs ≡ 0) where
+    -- Where each start came about.
+    module _ (all : NoneRefused runs) where
       refuses_none : (t : MemberTurn) (why : Why) → HasTurn ts t → t.answer ≡ Some (No why) → ⊥
       refuses_none t why has answered =
           let starts : t.transition ≡ Start = (fits_as t (Some (No why)) has answered).kind in
@@ -196,35 +222,6 @@ module _ (laws : RiseLaws) (c : ClosedSession) (ends : MembersAtEnd c) where
           let o : OfStart t.order.start = of_start t (abort_begun laws.turns.facts.begun c ends t has aborts) in
           let turns : TurnsOf ts t.order.start = turns_at t.order.start o (all o.place o.kept o.at) in
           one_end ts t.order.start turns.begin turns.stop t are turns.starts turns.stops (record { stands = has; is = aborts; of = refl })
-
-      breaks_none : (t : MemberTurn) (told : List ChannelEnd) → HasTurn ts t → t.answer ≡ Some (Yes (Channels told)) → (k : ℕ) (e : ChannelEnd) → slice_get told k ≡ Some e → e.state ≡ IsBroken → ⊥
-      breaks_none t told has answered k e at broken =
-          let fit : AnswerFits (specs_in c.slots) t.transition (Some (Yes (Channels told))) = fits_as t (Some (Yes (Channels told))) has answered in
-          let named = fit.channels k e at broken in
-          let channel : HasSpec c.slots k named.0 = has_spec c.slots k named.0 named.1 in
-          let ch : Channel = channel.channel in
-          let holds = stands.holds in
-          let served = there_within ends.logger.ports ch.spec.buffer (holds.served k ch channel.at) in
-          let port : Access = served.0 in
-          let at_port : slice_get ends.logger.ports ch.spec.buffer ≡ Some port = served.1 in
-          let so : ToldSo ts c.slots c.files k ch port t told = holds.standing.left are t told (record { stands = has; is = fit.kind; answered = answered }) k ch port channel.at at_port in
-          let start = so.left.headed.is_start.is_start in
-          let begin : MemberTurn = so.left.headed.turn in
-          let o : OfStart begin.order.start = turn_begun begin start.stands start.is in
-          let of : o.kept.start ≡ t.order.start = o.is ∙ start.of in
-          let files : o.kept.files ≡ files_told told (run_channels c.slots) = ends_recorded o.kept (came_of begin.order.start o (all o.place o.kept o.at)) told t (record { stands = has; is = fit.kind; of = sym of }) answered in
-          let number : slice_get told ch.spec.number ≡ Some e = subst (λ (i : ℕ). slice_get told i ≡ Some e) (sym (holds.standing.numbered k ch channel.at)) at in
-          let some = files_count told c.slots k ch e channel.at number broken in
-          let same : sum_by faults_of_files o.kept.files ≡ sum_by faults_of_files (files_told told (run_channels c.slots)) = ap (λ (l : List ChannelFiles). sum_by faults_of_files l) files in
-          omega (arith, some, same, quiet, member_counts faults_recorded runs o.place o.kept o.at)
-
-      faults_none : (t : MemberTurn) → HasTurn ts t → (answer : Option Answer) → t.answer ≡ answer → count_in_answer faults_of_answer answer ≡ 0
-      faults_none t has None is = refl
-      faults_none t has (Some (No why)) is = absurd (refuses_none t why has is)
-      faults_none t has (Some (Yes Plain)) is = refl
-      faults_none t has (Some (Yes (Front sent ended))) is = refl
-      faults_none t has (Some (Yes (Channels told))) is = ends_none told (breaks_none t told has is)
-      faults_none t has (Some (Yes (Report report))) is = refl
 
       start_none : (t : MemberTurn) → HasTurn ts t → (answer : Option Answer) → t.answer ≡ answer → count_in_answer undone_of_answer answer ≡ 0
       start_none t has None is = refl
@@ -247,12 +244,83 @@ module _ (laws : RiseLaws) (c : ClosedSession) (ends : MembersAtEnd c) where
           let came : RunCame o.kept = came_of started.begin.order.start o (all o.place o.kept o.at) in
           never_open laws.turns c ends came.run came.stopped n ch run.opened there (ap channel_run is) (sym start.of ∙ (sym o.is ∙ sym came.of))
 
-      faults_so : now.faults ≡ first.faults
-      faults_so =
-          let told : faults_told ts ≡ 0 = turns_none (λ (t : MemberTurn). count_in_answer faults_of_answer t.answer) ts (λ t has. faults_none t has t.answer refl) in
-          let undone : starts_undone ts ≡ 0 = turns_none (λ (t : MemberTurn). undone_by t.transition t.answer) ts (λ t has. undone_none t has t.transition refl) in
-          let off : broken_off c.slots ≡ 0 = slots_none c.slots off_none in
-          reasons.no_fault (omega (arith, told, undone, off))
+      none_undone : starts_undone ts ≡ 0
+      none_undone = turns_none (λ (t : MemberTurn). undone_by t.transition t.answer) ts (λ t has. undone_none t has t.transition refl)
+
+      -- a channel of which it is told that it broke off is called Broken in the record of the run
+      broken_file : (name : List ℕ) → IsBrokenName (specs_in c.slots) ts name → HasBrokenFile runs name
+      broken_file name o =
+          let begin : MemberTurn = o.stopped.begin in
+          let start = o.stopped.is_start.is_start in
+          let its_record : OfStart begin.order.start = turn_begun begin start.stands start.is in
+          let r : RunRecord = its_record.kept in
+          let came : RunCame r = came_of begin.order.start its_record (all its_record.place r its_record.at) in
+          let of : r.start ≡ o.stopped.stop.order.start = its_record.is ∙ start.of in
+          let files : r.files ≡ files_told o.ends (run_channels c.slots) = ends_recorded r came o.ends o.stopped.stop (record { stands = o.stopped.stands; is = o.stopped.is; of = sym of }) o.stopped.answered in
+          let channel : HasSpec c.slots o.number o.spec = has_spec c.slots o.number o.spec o.there in
+          let ch : Channel = channel.channel in
+          let number : ch.spec.number ≡ o.number = stands.holds.standing.numbered o.number ch channel.at in
+          let found = files_there o.ends c.slots o.number ch o.told channel.at (subst (λ (i : ℕ). slice_get o.ends i ≡ Some o.told) (sym number) o.at) in
+          let turn : IsStartTurn came.run begin = start_turn laws.turns.facts its (laws.turns.keep c ends) came.run came.stopped (logger_client c) begin (record { stands = start.stands; is = start.is; of = sym its_record.is ∙ sym came.of }) in
+          let run : r.run ≡ o.run = sym came.number ∙ (sym (ap (λ (x : Order). x.run) turn.order) ∙ o.stopped.number) in
+          record {
+            number = its_record.place;
+            run = r;
+            at = its_record.at;
+            place = found.0;
+            files = ended_files (run_channel ch.spec) o.told;
+            there = subst (λ (l : List ChannelFiles). slice_get l found.0 ≡ Some (ended_files (run_channel ch.spec) o.told)) (sym files) found.1;
+            broken = o.broken;
+            sub = o.sub;
+            few = o.few;
+            is = ap (λ (s : ChannelSpec). piece_name_by s.pattern r.run o.sub) channel.is ∙ (ap (λ (n : ℕ). piece_name_by o.spec.pattern n o.sub) run ∙ o.is);
+          }
+
+      -- so it is with the file of the first fault
+      named_so : LoggerNames c ends first now → first.first ≡ None → (name : List ℕ) → now.first ≡ Some name → HasBrokenFile runs name
+      named_so names none name is =
+          let kept : KeepsNames c.slots first now ts = names (none_taken_back c ends) in
+          elim (kept.first_fault none none_undone name is) as (λ w. HasBrokenFile runs name) [
+            | inl told ↦ broken_file name told
+            | inr off ↦ absurd (off_none off.number off.channel off.run off.fallen off.there off.of)
+          ]
+
+      -- And where no file broke off.
+      module _ (quiet : sum_by faults_recorded runs ≡ 0) where
+        breaks_none : (t : MemberTurn) (told : List ChannelEnd) → HasTurn ts t → t.answer ≡ Some (Yes (Channels told)) → (k : ℕ) (e : ChannelEnd) → slice_get told k ≡ Some e → e.state ≡ IsBroken → ⊥
+        breaks_none t told has answered k e at broken =
+            let fit : AnswerFits (specs_in c.slots) t.transition (Some (Yes (Channels told))) = fits_as t (Some (Yes (Channels told))) has answered in
+            let named = fit.channels k e at broken in
+            let channel : HasSpec c.slots k named.0 = has_spec c.slots k named.0 named.1 in
+            let ch : Channel = channel.channel in
+            let holds = stands.holds in
+            let served = there_within ends.logger.ports ch.spec.buffer (holds.served k ch channel.at) in
+            let port : Access = served.0 in
+            let at_port : slice_get ends.logger.ports ch.spec.buffer ≡ Some port = served.1 in
+            let so : ToldSo ts c.slots c.files k ch port t told = holds.standing.left are t told (record { stands = has; is = fit.kind; answered = answered }) k ch port channel.at at_port in
+            let start = so.left.headed.is_start.is_start in
+            let begin : MemberTurn = so.left.headed.turn in
+            let o : OfStart begin.order.start = turn_begun begin start.stands start.is in
+            let of : o.kept.start ≡ t.order.start = o.is ∙ start.of in
+            let files : o.kept.files ≡ files_told told (run_channels c.slots) = ends_recorded o.kept (came_of begin.order.start o (all o.place o.kept o.at)) told t (record { stands = has; is = fit.kind; of = sym of }) answered in
+            let number : slice_get told ch.spec.number ≡ Some e = subst (λ (i : ℕ). slice_get told i ≡ Some e) (sym (holds.standing.numbered k ch channel.at)) at in
+            let some = files_count told c.slots k ch e channel.at number broken in
+            let same : sum_by faults_of_files o.kept.files ≡ sum_by faults_of_files (files_told told (run_channels c.slots)) = ap (λ (l : List ChannelFiles). sum_by faults_of_files l) files in
+            omega (arith, some, same, quiet, member_counts faults_recorded runs o.place o.kept o.at)
+
+        faults_none : (t : MemberTurn) → HasTurn ts t → (answer : Option Answer) → t.answer ≡ answer → count_in_answer faults_of_answer answer ≡ 0
+        faults_none t has None is = refl
+        faults_none t has (Some (No why)) is = absurd (refuses_none t why has is)
+        faults_none t has (Some (Yes Plain)) is = refl
+        faults_none t has (Some (Yes (Front sent ended))) is = refl
+        faults_none t has (Some (Yes (Channels told))) is = ends_none told (breaks_none t told has is)
+        faults_none t has (Some (Yes (Report report))) is = refl
+
+        faults_so : now.faults ≡ first.faults
+        faults_so =
+            let told : faults_told ts ≡ 0 = turns_none (λ (t : MemberTurn). count_in_answer faults_of_answer t.answer) ts (λ t has. faults_none t has t.answer refl) in
+            let off : broken_off c.slots ≡ 0 = slots_none c.slots off_none in
+            reasons.no_fault (omega (arith, told, none_undone, off))
 
     -- Where none of these starts was refused for a name.
     module _ (quiet : sum_by clashes_recorded runs ≡ 0) where
@@ -284,7 +352,8 @@ module _ (laws : RiseLaws) (c : ClosedSession) (ends : MembersAtEnd c) where
       clashes_so unlimited = laws.names c.slots ends.logger.ports first now ts reasons unlimited (turns_none (λ (t : MemberTurn). count_in_answer clashes_of_answer t.answer) ts (λ t has. clash_none t has t.answer refl))
 
 pub rises_told : RiseLaws → RisesToldEach
-rises_told laws c ends first now reasons own more calls none_more runs fits = record {
+rises_told laws c ends first now reasons names own more calls none_more runs fits = record {
   clashes = λ unlimited quiet. clashes_so laws c ends first now reasons own more calls none_more runs fits quiet unlimited;
   faults = faults_so laws c ends first now reasons own more calls none_more runs fits;
+  named = λ all. named_so laws c ends first now reasons own more calls none_more runs fits all names;
 }

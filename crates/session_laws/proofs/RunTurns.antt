@@ -172,7 +172,7 @@ module _ (laws : TurnLaws) (c : ClosedSession) (ends : MembersAtEnd c) where
   turns = member_turns (logger_client c) (engine_calls c (logger_caller c))
 
   abbrev its : Session
-  its = session_of c (laws.keep c ends).0
+  its = session_of c ends.moments
 
   pub are_turns : AreEngineTurns turns
   are_turns = laws.facts.gives (logger_caller c) (logger_client c) c.engine ends.engine (speaks (logger_client c) c.engine (names_own c ends))
@@ -181,7 +181,7 @@ module _ (laws : TurnLaws) (c : ClosedSession) (ends : MembersAtEnd c) where
   turns_of_run run came =
       let facts : EngineFacts = laws.facts in
       let n : ℕ = logger_client c in
-      let keep = (laws.keep c ends).1 in
+      let keep = laws.keep c ends in
       let first : HasStartTally its run came n = start_tally facts its keep run came n keep.logger_registered.0 in
       let b = first.told in
       let is : b.turn.transition ≡ Start = b.completed refl in
@@ -208,14 +208,14 @@ module _ (laws : TurnLaws) (c : ClosedSession) (ends : MembersAtEnd c) where
   -- what the logger told of its channels in the end of the stop is what it answered to it
   pub told_is : (run : SessionRun) → IsStoppedRun its run → (index : ℕ) (told : List ChannelEnd) → slice_get run.last_tallies index ≡ Some (record { client = logger_client c; tally = Channels told }) → (stop : MemberTurn) → Turned turns Stop run.start stop → stop.answer ≡ Some (Yes (Channels told))
   told_is run came index told at stop stops =
-      let s : StopTally its run came (logger_client c) (Channels told) = stop_tally laws.facts its (laws.keep c ends).1 run came (logger_client c) index (Channels told) at in
+      let s : StopTally its run came (logger_client c) (Channels told) = stop_tally laws.facts its (laws.keep c ends) run came (logger_client c) index (Channels told) at in
       at_stop run came (Channels told) s stop stops ∙ ap (λ (a : Answer). Some a) (yes_channels s.answer told s.tally_is)
 
   -- and what it answered stands there
   pub told_there : (run : SessionRun) → IsStoppedRun its run → (stop : MemberTurn) → Turned turns Stop run.start stop → (told : List ChannelEnd) → stop.answer ≡ Some (Yes (Channels told)) → (index : ℕ) × (slice_get run.last_tallies index ≡ Some (record { client = logger_client c; tally = Channels told }))
   told_there run came stop stops told answered =
       let n : ℕ = logger_client c in
-      let keep = (laws.keep c ends).1 in
+      let keep = laws.keep c ends in
       let last : HasTally n run.last_tallies = last_tally laws.facts its keep run came n keep.logger_registered.1 in
       let s : StopTally its run came n last.1 = stop_tally laws.facts its keep run came n last.0 last.1 last.2 in
       let both : Some (Yes (Channels told)) ≡ Some s.answer = sym answered ∙ at_stop run came last.1 s stop stops in

@@ -1,22 +1,27 @@
--- The logger of a closed session refused a start for a name only where that was taken.
-use Rattle.std.specs.Prelude.{◌≡◌, ◌<◌, ℕ, IsTrue, IsSome, List, [], ◌∷◌, slice_get, Contains, Option, Some, refl, ◌⊎◌}
-use Rattle.std.proofs.Common.{ap, sym, subst, ◌∙◌, inl, inr}
+-- The logger of a closed session refused a start for a name only where that was taken, and accepted one only where all were free.
+use Rattle.std.specs.Option.{option_map}
+use Rattle.std.proofs.lemmas.List.{length-map}
+use Rattle.std.specs.Prelude.{◌≡◌, ◌<◌, ◌≤◌, ℕ, IsTrue, IsSome, List, [], ◌∷◌, length, slice_get, Contains, Option, Some, refl, ◌⊎◌}
+use Rattle.std.proofs.Common.{ap, sym, subst, ◌∙◌, arith, inl, inr}
 use Rattle.daq_types.specs.Callers.{main_caller}
 use Rattle.daq_types.specs.declared.runs.Order.{Order}
-use Rattle.daq_types.specs.declared.runs.Transition.TheVariants.{Start, Stop}
+use Rattle.daq_types.specs.declared.runs.Transition.{Transition}
+use Rattle.daq_types.specs.declared.runs.Transition.TheVariants.{Start, Stop, Pause, Resume, StartAbort}
 use Rattle.daq_types.specs.declared.runs.Why.TheVariants.{Exists}
 use Rattle.daq_io.specs.Seen.{Seen}
 use Rattle.daq_io.specs.Told.{FilesTold}
-use Rattle.transitions.specs.declared.answers.Answer.TheVariants.{No}
-use Rattle.member_model.specs.RunEngines.{EngineEntry}
-use Rattle.member_model.specs.Turns.{MemberTurn, HasTurn}
+use Rattle.transitions.specs.declared.answers.Answer.TheVariants.{Yes, No}
+use Rattle.transitions.specs.declared.answers.Tally.TheVariants.{Plain}
+use Rattle.member_model.specs.RunEngines.{EngineEntry, Tally}
+use Rattle.member_model.specs.Turns.{MemberTurn, HasTurn, HasTurnOf, IsNextTurn, IsOfRun, AreEngineTurns, current_run}
 use Rattle.member_model.specs.TurnCalls.{member_turns}
 use Rattle.sub_files.specs.Patterns.{piece_name_by}
 use Rattle.mid_logger.specs.declared.channel.Channel.{Channel}
 use Rattle.mid_logger.specs.declared.channel_spec.ChannelSpec.{ChannelSpec}
 use Rattle.mid_logger.specs.Patterns.{file_name_by}
 use Rattle.loggers.specs.OtherFiles.{specs_in}
-use Rattle.loggers.specs.LeftNames.{NoneRose, IsStoppedName, IsGivenBefore, IsNameTaken, AreTaken, KeepsNames}
+use Rattle.loggers.specs.LeftNames.{HasUntoldFault, IsStoppedName, IsGivenBefore, IsNameMade, AreNamesFree, IsNameTaken, FindsNames, EachFindsNames, KeepsNames}
+use Rattle.loggers.proofs.FilesLeft.{spec_at}
 use Rattle.history_laws.specs.BegunTurns.{StartsComeLast}
 use Rattle.history_laws.specs.EngineLaws.{RunsAreOver}
 use Rattle.session_runs.specs.RunsFit.{starts_begun}
@@ -24,34 +29,96 @@ use Rattle.composition.specs.SessionRuns.{SessionRun, IsStoppedRun}
 use Rattle.composition.proofs.SessionTurns.{IsStartTurn, start_turn, speaks}
 use Rattle.session_laws.specs.ClosedSessions.{ClosedSession, logger_client, logger_caller, engine_calls, session_of}
 use Rattle.session_laws.specs.MembersAtEnd.{MembersAtEnd}
-use Rattle.session_laws.specs.OtherNames.{AreStartsOver, HasMadeBefore, GivesNameBefore, IsTakenName}
+use Rattle.session_laws.specs.MadeRuns.{RunIn}
+use Rattle.session_laws.specs.OtherNames.{AreStartsOver, HasMadeBefore, IsMadeName, GivesNameBefore, AreFreeNames, IsTakenName}
 use Rattle.session_laws.specs.CountedFaults.{LoggerNames}
 use Rattle.session_laws.proofs.KeptTogether.{names_own}
 use Rattle.session_laws.proofs.LoggerEnd.{none_taken_back}
 use Rattle.session_laws.proofs.LoggerRefusals.{always_called}
 use Rattle.session_laws.proofs.NamesStay.{StartBegun, start_begun, HasSpec, has_spec}
 use Rattle.session_laws.proofs.RunsMade.{made_are_stopped}
-use Rattle.session_laws.proofs.RunTurns.{TurnLaws, Turned, one_end, are_turns, told_there}
-use Rattle.session_laws.proofs.UndoneNames.{started_in, called_off}
+use Rattle.session_laws.proofs.RunTurns.{TurnLaws, Turned, TurnsOf, one_end, are_turns, turns_of_run, told_is, told_there}
+use Rattle.session_laws.proofs.UndoneNames.{started_in, called_off, undone_name}
 
 -- The turns before one of them.
 
-record Before (specs : List (Option ChannelSpec)) (first : Seen) (ts : List MemberTurn) (t : MemberTurn) : Type 0 where
+-- what is told of names at a turn, by the turns before it
+record Before (Untold : Type 0) (specs : List (Option ChannelSpec)) (first : Seen) (ts : List MemberTurn) (t : MemberTurn) : Type 0 where
   older : List MemberTurn
+  are : AreEngineTurns older
   among : (u : MemberTurn) → HasTurn older u → HasTurn ts u
   above : (u : MemberTurn) → HasTurn older u → u.order.start < t.order.start
-  taken : (number : ℕ) → t.answer ≡ Some (No (Exists number)) → IsNameTaken specs older first t.order.run number
+  starts : (u : MemberTurn) → HasTurn ts u → u.transition ≡ Start → u.order.start < t.order.start → HasTurn older u
+  stops : (begin u : MemberTurn) → HasTurn ts u → u.transition ≡ Stop → u.order.start < t.order.start → HasTurnOf older Start u.order.start begin → HasTurn older u
+  found : FindsNames Untold specs older first t
 
-before : (specs : List (Option ChannelSpec)) (first : Seen) (ts : List MemberTurn) (t : MemberTurn) → AreTaken specs first ts → StartsComeLast ts → HasTurn ts t → t.transition ≡ Start → Before specs first ts t
-before specs first [] t taken last has starts = absurd has
-before specs first (u ∷ us) t taken last has starts = elim has as (λ w. Before specs first (u ∷ us) t) [
-  | inl same ↦ record {
-    older = us;
-    among = λ v is. inr is;
-    above = λ v is. subst (λ (n : ℕ). v.order.start < n) (ap (λ (x : MemberTurn). x.order.start) same) ((last.0 (ap (λ (x : MemberTurn). x.transition) same ∙ starts)).above v is);
-    taken = λ number answered. subst (λ (run : ℕ). IsNameTaken specs us first run number) (ap (λ (x : MemberTurn). x.order.run) same) (taken.0 number (ap (λ (x : MemberTurn). x.answer) same ∙ answered));
-  }
-  | inr old ↦ (let b : Before specs first us t = before specs first us t taken.1 last.1 old starts in record { older = b.older; among = λ v is. inr (b.among v is); above = b.above; taken = b.taken })
+-- the run that is on behind turns is that of the last start
+last_is : (ts : List MemberTurn) (t : MemberTurn) (start : ℕ) → StartsComeLast ts → HasTurn ts t → t.transition ≡ Start → current_run ts ≡ Some start → t.order.start ≤ start
+last_is [] t start last has starts on = absurd has
+last_is (u ∷ us) t start last has starts on = by_kind u.transition refl on (λ old still. last_is us t start last.1 old starts still)
+  where
+    by_kind : (kind : Transition) → u.transition ≡ kind → current_run (record u { transition = kind } ∷ us) ≡ Some start → (HasTurn us t → current_run us ≡ Some start → t.order.start ≤ start) → t.order.start ≤ start
+    by_kind Start kind on earlier =
+        let number : u.order.start ≡ start = cc (on) in
+        elim has as (λ w. t.order.start ≤ start) [
+          | inl same ↦ (let is : u.order.start ≡ t.order.start = ap (λ (x : MemberTurn). x.order.start) same in omega (arith, is, number))
+          | inr old ↦ (let low = (last.0 kind).above t old in omega (arith, low, number))
+        ]
+    by_kind Stop kind on earlier = absurd (cc (on))
+    by_kind StartAbort kind on earlier = absurd (cc (on))
+    by_kind Pause kind on earlier = elim has as (λ w. t.order.start ≤ start) [
+      | inl same ↦ absurd (let both : Pause ≡ Start = sym kind ∙ (ap (λ (x : MemberTurn). x.transition) same ∙ starts) in cc (both))
+      | inr old ↦ earlier old on
+    ]
+    by_kind Resume kind on earlier = elim has as (λ w. t.order.start ≤ start) [
+      | inl same ↦ absurd (let both : Resume ≡ Start = sym kind ∙ (ap (λ (x : MemberTurn). x.transition) same ∙ starts) in cc (both))
+      | inr old ↦ earlier old on
+    ]
+
+before : (Untold : Type 0) (specs : List (Option ChannelSpec)) (first : Seen) (ts : List MemberTurn) (t : MemberTurn) → EachFindsNames Untold specs first ts → AreEngineTurns ts → StartsComeLast ts → HasTurn ts t → t.transition ≡ Start → Before Untold specs first ts t
+before Untold specs first [] t found are last has starts = absurd has
+before Untold specs first (u ∷ us) t found are last has starts = elim has as (λ w. Before Untold specs first (u ∷ us) t) [
+  | inl same ↦
+      let number : u.order.start ≡ t.order.start = ap (λ (x : MemberTurn). x.order.start) same in
+      let lower : (v : MemberTurn) → HasTurn (u ∷ us) v → v.order.start < t.order.start → HasTurn us v = λ v is less. elim is as (λ w. HasTurn us v) [
+        | inl here ↦ absurd (let its : u.order.start ≡ v.order.start = ap (λ (x : MemberTurn). x.order.start) here in omega (arith, its, number, less))
+        | inr old ↦ old
+      ] in
+      record {
+        older = us;
+        are = are.1;
+        among = λ v is. inr is;
+        above = λ v is. subst (λ (n : ℕ). v.order.start < n) number ((last.0 (ap (λ (x : MemberTurn). x.transition) same ∙ starts)).above v is);
+        starts = λ v is kind less. lower v is less;
+        stops = λ begin v is kind less of. lower v is less;
+        found = subst (λ (x : MemberTurn). FindsNames Untold specs us first x) same found.0;
+      }
+  | inr old ↦
+      let b : Before Untold specs first us t = before Untold specs first us t found.1 are.1 last.1 old starts in
+      record {
+        older = b.older;
+        are = b.are;
+        among = λ v is. inr (b.among v is);
+        above = b.above;
+        starts = λ v is kind less. elim is as (λ w. HasTurn b.older v) [
+          | inl here ↦ absurd (
+              let low : t.order.start < u.order.start = (last.0 (ap (λ (x : MemberTurn). x.transition) here ∙ kind)).above t old in
+              let its : u.order.start ≡ v.order.start = ap (λ (x : MemberTurn). x.order.start) here in
+              omega (arith, low, its, less))
+          | inr earlier ↦ b.starts v earlier kind less
+        ];
+        stops = λ begin v is kind less of. elim is as (λ w. HasTurn b.older v) [
+          | inl here ↦ absurd (
+              let its : u.order.start ≡ v.order.start = ap (λ (x : MemberTurn). x.order.start) here in
+              let next : IsOfRun u.order.start us = subst (λ (k : Transition). IsNextTurn k u.order.start us) (ap (λ (x : MemberTurn). x.transition) here ∙ kind) are.0 in
+              elim next as (λ w. ⊥) [
+                | inl on ↦ (let low = last_is us t u.order.start last.1 old starts on in omega (arith, low, its, less))
+                | inr none ↦ none begin (b.among begin of.stands) of.is (of.of ∙ sym its)
+              ])
+          | inr earlier ↦ b.stops begin v earlier kind less of
+        ];
+        found = b.found;
+      }
 ]
 
 module _ (laws : TurnLaws) (over_law : RunsAreOver) (c : ClosedSession) (ends : MembersAtEnd c) where
@@ -80,8 +147,8 @@ module _ (laws : TurnLaws) (over_law : RunsAreOver) (c : ClosedSession) (ends : 
             let keep = laws.keep c ends in
             let ch : Channel = channel.channel in
             let r : SessionRun = came.0 in
-            let run : IsStoppedRun (session_of c keep.0) r = made_are_stopped laws.main (session_of c keep.0) ends.engine r came.1 in
-            let turn : IsStartTurn r begin = start_turn laws.facts (session_of c keep.0) keep.1 r run (logger_client c) begin (record { stands = has; is = first.is; of = sym came.2 }) in
+            let run : IsStoppedRun (session_of c ends.moments) r = made_are_stopped laws.main (session_of c ends.moments) ends.engine r came.1 in
+            let turn : IsStartTurn r begin = start_turn laws.facts (session_of c ends.moments) keep r run (logger_client c) begin (record { stands = has; is = first.is; of = sym came.2 }) in
             let stops : Turned turns Stop r.start o.stopped.stop = record { stands = among o.stopped.stop o.stopped.stands; is = o.stopped.is; of = sym first.of ∙ sym came.2 } in
             let there = told_there laws c ends r run o.stopped.stop stops o.ends o.stopped.answered in
             let number : o.number ≡ ch.spec.number = sym ((ends.logger.stands (none_taken_back c ends)).holds.standing.numbered o.number ch channel.at) in
@@ -107,30 +174,109 @@ module _ (laws : TurnLaws) (over_law : RunsAreOver) (c : ClosedSession) (ends : 
       let channel : HasSpec c.slots g.lower g.spec = has_spec c.slots g.lower g.spec g.there in
       record { lower = g.lower; channel = channel.channel; below = g.below; there = channel.at; is = ap (λ (s : ChannelSpec). file_name_by s.pattern run) channel.is ∙ g.is }
 
-  taken_so : AreStartsOver (engine_calls c main_caller) → (first : Seen) (older : List MemberTurn) (run start number : ℕ) → ((u : MemberTurn) → HasTurn older u → HasTurn turns u) → ((u : MemberTurn) → HasTurn older u → u.order.start < start) → IsNameTaken (specs_in c.slots) older first run number
-      → IsTakenName c first run start number
-  taken_so over first older run start number among above t =
-      let channel : HasSpec c.slots t.place t.spec = has_spec c.slots t.place t.spec t.there in
-      let name : file_name_by t.spec.pattern run ≡ file_name_by channel.channel.spec.pattern run = ap (λ (s : ChannelSpec). file_name_by s.pattern run) (sym channel.is) in
+  -- a name that channels of runs that were stopped before gave not, no run that came about before has
+  none_made : (older : List MemberTurn) (start : ℕ) (name : List ℕ) → AreEngineTurns older
+      → ((u : MemberTurn) → HasTurn turns u → u.transition ≡ Start → u.order.start < start → HasTurn older u)
+      → ((begin u : MemberTurn) → HasTurn turns u → u.transition ≡ Stop → u.order.start < start → HasTurnOf older Start u.order.start begin → HasTurn older u)
+      → (AreEngineTurns older → IsStoppedName (specs_in c.slots) older name → ⊥) → HasMadeBefore c start name → ⊥
+  none_made older start name are starts stops none made =
+      let r : SessionRun = made.run in
+      let run : IsStoppedRun (session_of c ends.moments) r = made_are_stopped laws.main (session_of c ends.moments) ends.engine r made.made in
+      let t : TurnsOf turns r.start = turns_of_run laws c ends r run in
+      let stands = (ends.logger.stands (none_taken_back c ends)).holds in
+      let began : HasTurn older t.begin = starts t.begin t.starts.stands t.starts.is (subst (λ (n : ℕ). n < start) (sym t.starts.of) made.before) in
+      let stop_of : t.stop.order.start ≡ r.start = t.stops.of in
+      let ended : HasTurn older t.stop = stops t.begin t.stop t.stops.stands t.stops.is (subst (λ (n : ℕ). n < start) (sym stop_of) made.before) (record { stands = began; is = t.starts.is; of = t.starts.of ∙ sym stop_of }) in
+      let tally : t.tally ≡ Plain = stands.starts t.begin (Yes t.tally) t.starts.stands t.starts.is t.accepted in
+      let turn : IsStartTurn r t.begin = start_turn laws.facts (session_of c ends.moments) (laws.keep c ends) r run (logger_client c) t.begin (record { stands = t.starts.stands; is = t.starts.is; of = t.starts.of }) in
+      let number : made.channel.spec.number ≡ made.place = stands.standing.numbered made.place made.channel made.there in
+      none are (record {
+        number = made.place;
+        spec = made.channel.spec;
+        there = spec_at c.slots made.place made.channel made.there;
+        run = r.first.run;
+        ends = made.tells.ends;
+        stopped = record {
+          begin = t.begin;
+          stop = t.stop;
+          is_start = record { is_start = record { stands = began; is = t.starts.is; of = t.starts.of ∙ sym stop_of }; accepted = t.accepted ∙ ap (λ (x : Tally). Some (Yes x)) tally };
+          number = ap (λ (o : Order). o.run) turn.order;
+          stands = ended;
+          is = t.stops.is;
+          answered = told_is laws c ends r run made.tells.index made.tells.ends made.tells.tells t.stop t.stops;
+        };
+        told = made.told;
+        at = subst (λ (n : ℕ). slice_get made.tells.ends n ≡ Some made.told) number made.tells.at;
+        sub = made.sub;
+        made = made.has;
+        is = made.is;
+      })
+
+  given_told : (place run : ℕ) (name : List ℕ) → GivesNameBefore c place run name → IsGivenBefore (specs_in c.slots) place run name
+  given_told place run name g = record { lower = g.lower; spec = g.channel.spec; below = g.below; there = spec_at c.slots g.lower g.channel g.there; is = g.is }
+
+  free_so : (Untold : Type 0) (first : Seen) (t : MemberTurn) (b : Before Untold (specs_in c.slots) first turns t) (run place : ℕ) → AreNamesFree (specs_in c.slots) b.older first run place → AreFreeNames c first run t.order.start place
+  free_so Untold first t b run place free lower channel below there =
+      let one = free lower channel.spec below (spec_at c.slots lower channel there) in
       record {
-        place = t.place;
-        channel = channel.channel;
-        there = channel.at;
-        number_is = ap (λ (s : ChannelSpec). s.number) channel.is ∙ t.number_is;
-        by = subst (λ (l : List ℕ). IsSome (first.at l) ⊎ (HasMadeBefore c start l ⊎ GivesNameBefore c t.place run l)) name
-            (elim t.by as (λ w. IsSome (first.at (file_name_by t.spec.pattern run)) ⊎ (HasMadeBefore c start (file_name_by t.spec.pattern run) ⊎ GivesNameBefore c t.place run (file_name_by t.spec.pattern run))) [
-              | inl there ↦ inl there
-              | inr later ↦ elim later as (λ w. IsSome (first.at (file_name_by t.spec.pattern run)) ⊎ (HasMadeBefore c start (file_name_by t.spec.pattern run) ⊎ GivesNameBefore c t.place run (file_name_by t.spec.pattern run))) [
-                | inl stopped ↦ inr (inl (made_before over older start (file_name_by t.spec.pattern run) among above stopped))
-                | inr given ↦ inr (inr (given_before t.place run (file_name_by t.spec.pattern run) given))
-              ]
-            ]);
+        first_none = one.first_none;
+        none_made = none_made b.older t.order.start (file_name_by channel.spec.pattern run) b.are b.starts b.stops one.none_made;
+        none_gives = λ given. one.none_gives (given_told lower run (file_name_by channel.spec.pattern run) given);
       }
 
-  pub taken_name : (first now : FilesTold) → LoggerNames c ends first now → IsTrue first.seen.names → NoneRose first now → AreStartsOver (engine_calls c main_caller) → (turn : MemberTurn) → HasTurn turns turn → turn.transition ≡ Start → (number : ℕ) → turn.answer ≡ Some (No (Exists number))
-      → (run start : ℕ) → turn.order.run ≡ run → turn.order.start ≡ start → IsTakenName c first.seen run start number
-  taken_name first now names tells none over turn has starts number answered run start run_is start_is =
+  abbrev TakenBy : (first now : FilesTold) → (run start place : ℕ) → (name : List ℕ) → Type 0
+  TakenBy first now run start place name = IsSome (first.seen.at name) ⊎ (IsMadeName c first now start name ⊎ GivesNameBefore c place run name)
+
+  made_so : AreStartsOver (engine_calls c main_caller) → (first now : FilesTold) (older : List MemberTurn) (start : ℕ) (name : List ℕ) → ((u : MemberTurn) → HasTurn older u → HasTurn turns u) → ((u : MemberTurn) → HasTurn older u → u.order.start < start)
+      → IsNameMade (HasUntoldFault c.slots turns first now) (specs_in c.slots) older name → IsMadeName c first now start name
+  made_so over first now older start name among above (inl stopped) = inl (made_before over older start name among above stopped)
+  made_so over first now older start name among above (inr undone) = inr (undone.0, undone_name laws c ends older name among start above over undone.1)
+
+  taken_so : AreStartsOver (engine_calls c main_caller) → (first now : FilesTold) (t : MemberTurn) (b : Before (HasUntoldFault c.slots turns first now) (specs_in c.slots) first.seen turns t) (number : ℕ) → IsNameTaken (HasUntoldFault c.slots turns first now) (specs_in c.slots) b.older first.seen t.order.run number
+      → IsTakenName c first now t.order.run t.order.start number
+  taken_so over first now t b number taken =
+      let run : ℕ = t.order.run in
+      let start : ℕ = t.order.start in
+      let channel : HasSpec c.slots taken.place taken.spec = has_spec c.slots taken.place taken.spec taken.there in
+      let its : List ℕ = file_name_by taken.spec.pattern run in
+      let name : its ≡ file_name_by channel.channel.spec.pattern run = ap (λ (s : ChannelSpec). file_name_by s.pattern run) (sym channel.is) in
+      let by_its : TakenBy first now run start taken.place its = elim taken.by as (λ w. TakenBy first now run start taken.place its) [
+        | inl there ↦ inl there
+        | inr later ↦ elim later as (λ w. TakenBy first now run start taken.place its) [
+          | inl made ↦ inr (inl (made_so over first now b.older start its b.among b.above made))
+          | inr given ↦ inr (inr (given_before taken.place run its given))
+        ]
+      ] in
+      record {
+        place = taken.place;
+        channel = channel.channel;
+        there = channel.at;
+        number_is = ap (λ (s : ChannelSpec). s.number) channel.is ∙ taken.number_is;
+        by = subst (λ (l : List ℕ). TakenBy first now run start taken.place l) name by_its;
+        least = free_so (HasUntoldFault c.slots turns first now) first.seen t b run taken.place taken.least;
+      }
+
+  -- what is told of names at a start turn
+  before_turn : (first now : FilesTold) → LoggerNames c ends first now → IsTrue first.seen.names → (turn : MemberTurn) → HasTurn turns turn → turn.transition ≡ Start → Before (HasUntoldFault c.slots turns first now) (specs_in c.slots) first.seen turns turn
+  before_turn first now names tells turn has starts =
       let kept : KeepsNames c.slots first now turns = names (none_taken_back c ends) in
-      let b : Before (specs_in c.slots) first.seen turns turn = before (specs_in c.slots) first.seen turns turn (kept.taken tells none) last has starts in
-      let so : IsTakenName c first.seen turn.order.run turn.order.start number = taken_so over first.seen b.older turn.order.run turn.order.start number b.among b.above (b.taken number answered) in
-      subst (λ (n : ℕ). IsTakenName c first.seen n start number) run_is (subst (λ (n : ℕ). IsTakenName c first.seen turn.order.run n number) start_is so)
+      before (HasUntoldFault c.slots turns first now) (specs_in c.slots) first.seen turns turn (kept.found tells) (are_turns laws c ends) last has starts
+
+  pub taken_name : (first now : FilesTold) → LoggerNames c ends first now → IsTrue first.seen.names → AreStartsOver (engine_calls c main_caller) → (turn : MemberTurn) → HasTurn turns turn → turn.transition ≡ Start → (number : ℕ) → turn.answer ≡ Some (No (Exists number))
+      → (run start : ℕ) → turn.order.run ≡ run → turn.order.start ≡ start → IsTakenName c first now run start number
+  taken_name first now names tells over turn has starts number answered run start run_is start_is =
+      let b : Before (HasUntoldFault c.slots turns first now) (specs_in c.slots) first.seen turns turn = before_turn first now names tells turn has starts in
+      let so : IsTakenName c first now turn.order.run turn.order.start number = taken_so over first now turn b number (b.found.taken number answered) in
+      subst (λ (n : ℕ). IsTakenName c first now n start number) run_is (subst (λ (n : ℕ). IsTakenName c first now turn.order.run n number) start_is so)
+
+  -- the names of a run that came about were free
+  pub free_names : (first now : FilesTold) → LoggerNames c ends first now → IsTrue first.seen.names → (r : SessionRun) → RunIn (engine_calls c main_caller) r → AreFreeNames c first.seen r.first.run r.start (length c.slots)
+  free_names first now names tells r made =
+      let run : IsStoppedRun (session_of c ends.moments) r = made_are_stopped laws.main (session_of c ends.moments) ends.engine r made in
+      let t : TurnsOf turns r.start = turns_of_run laws c ends r run in
+      let turn : IsStartTurn r t.begin = start_turn laws.facts (session_of c ends.moments) (laws.keep c ends) r run (logger_client c) t.begin (record { stands = t.starts.stands; is = t.starts.is; of = t.starts.of }) in
+      let b : Before (HasUntoldFault c.slots turns first now) (specs_in c.slots) first.seen turns t.begin = before_turn first now names tells t.begin t.starts.stands t.starts.is in
+      let free : AreNamesFree (specs_in c.slots) b.older first.seen t.begin.order.run (length c.slots) =
+      subst (λ (n : ℕ). AreNamesFree (specs_in c.slots) b.older first.seen t.begin.order.run n) (length-map c.slots (option_map (λ (x : Channel). x.spec))) (b.found.free t.starts.is t.tally t.accepted) in
+      subst (λ (n : ℕ). AreFreeNames c first.seen n r.start (length c.slots)) (ap (λ (o : Order). o.run) turn.order)
+      (subst (λ (n : ℕ). AreFreeNames c first.seen t.begin.order.run n (length c.slots)) t.starts.of (free_so (HasUntoldFault c.slots turns first now) first.seen t.begin b t.begin.order.run (length c.slots) free))

@@ -21,13 +21,13 @@ use Rattle.loggers.specs.LoggerStands.{logger_channels}
 use Rattle.loggers.specs.NewLoggers.{NoneTakenBack}
 use Rattle.loggers.specs.OtherFiles.{specs_in}
 use Rattle.loggers.specs.Reasons.{GivesReasons, IsChannelNumber}
-use Rattle.loggers.specs.LeftNames.{NoneRose, KeepsNames}
+use Rattle.loggers.specs.LeftNames.{KeepsNames}
 use Rattle.composition.specs.SessionRuns.{SessionRun, ToldChannel}
 use Rattle.session_laws.specs.ClosedSessions.{ClosedFront, ClosedSession, logger_client, logger_caller, engine_calls, session_of, ClosedAnalyzer, analyzer_client}
 use Rattle.session_laws.specs.MembersAtEnd.{MembersAtEnd}
 use Rattle.session_runs.specs.MadeTransitions.{TransitionIn}
 use Rattle.session_laws.specs.MadeRuns.{RunIn}
-use Rattle.session_laws.specs.OtherNames.{AreStartsOver, IsTakenName, IsUnmadeName}
+use Rattle.session_laws.specs.OtherNames.{AreFreeNames, AreStartsOver, IsTakenName, IsUnmadeName, IsNameKept}
 
 -- What the logger of a closed session answered rests on the counts of the run files, which were so as it took its seat, and
 -- are so now, and on its calls on the buffers.
@@ -35,8 +35,8 @@ abbrev pub LoggerReasons : (c : ClosedSession) → MembersAtEnd c → (first now
 LoggerReasons c ends first now =
     GivesReasons c.slots ends.logger.ports first now (member_turns (logger_client c) (engine_calls c (logger_caller c)))
 
--- Which names of run files it left as they were as it took its seat, where names are told, no fault was counted, and no client
--- of it is known to be detached by another.
+-- Which names of run files it left as they were as it took its seat, where names are told, and no client of it is known to be detached
+-- by another.
 abbrev pub LoggerNames : (c : ClosedSession) → MembersAtEnd c → (first now : FilesTold) → Type 0
 LoggerNames c ends first now = NoneTakenBack ends.logger.ports →
     KeepsNames c.slots first now (member_turns (logger_client c) (engine_calls c (logger_caller c)))
@@ -81,9 +81,10 @@ state_by_dump (Some dump) = Ended
 -- What the main thread was told of starts and of channels, where the counts of the run files were so at first, and are so
 -- now: why a start was refused; that each front-end takes part in a run that was started; that a channel broke off only
 -- where a fault was counted; so that where none was, all that was told of a channel of a run is that it ended, or that the
--- stop's sheet had no dump. And where none was, each name is there where it was there, with the same bytes, that no file of a run
--- has that came about, once each start is over: a start that was refused leaves no file. Nor is any file written over that was
--- there at first; and the logger refuses a start for a name only where that is taken.
+-- stop's sheet had no dump. And, where names are told, whatever faults were counted: each name is there where it was there, with the same
+-- bytes, that no file of a run has that came about, once each start is over, and a start that was refused leaves no file, unless more
+-- faults were counted than are told; no file is lost or changed that was there at first; the logger refuses a start for a name only
+-- where that is taken, and those of all channels before it were free; and where a run came about, the names of all channels were free.
 pub record CountsHold (c : ClosedSession) (first now : FilesTold) : Type 0 where
   pub refused : (sheet : Sheet) → (start client : ℕ) → (why : Why) → (tallies : List ClientTally) →
       TransitionIn (engine_calls c main_caller) Start sheet start (Refused client why) tallies →
@@ -99,14 +100,15 @@ pub record CountsHold (c : ClosedSession) (first now : FilesTold) : Type 0 where
       (moments : (client : ℕ) → List ℕ) → (r : SessionRun) → RunIn (engine_calls c main_caller) r →
       (index : ℕ) → (channel : LoggerChannel) → slice_get (logger_channels (λ number. 0) c.slots) index ≡ Some channel →
       (told : ChannelEnd) → ToldChannel (session_of c moments) r channel told → told.state ≡ state_by_dump r.last.dump
-  pub names : IsTrue first.seen.names → NoneRose first now → (name : List ℕ) → IsUnmadeName c name →
-      now.seen.at name ≡ first.seen.at name
-  pub kept : IsTrue first.seen.names → NoneRose first now → (name : List ℕ) → (file : Stored) →
+  pub names : IsTrue first.seen.names → (name : List ℕ) → IsUnmadeName c name → IsNameKept c first now name
+  pub kept : IsTrue first.seen.names → (name : List ℕ) → (file : Stored) →
       first.seen.at name ≡ Some file → now.seen.at name ≡ Some file
-  pub taken : IsTrue first.seen.names → NoneRose first now → AreStartsOver (engine_calls c main_caller) →
+  pub taken : IsTrue first.seen.names → AreStartsOver (engine_calls c main_caller) →
       (sheet : Sheet) → (start number : ℕ) → (tallies : List ClientTally) →
       TransitionIn (engine_calls c main_caller) Start sheet start (Refused (logger_client c) (Exists number)) tallies →
-      IsTakenName c first.seen sheet.run start number
+      IsTakenName c first now sheet.run start number
+  pub free : IsTrue first.seen.names → (r : SessionRun) → RunIn (engine_calls c main_caller) r →
+      AreFreeNames c first.seen r.first.run r.start (length c.slots)
 
 -- So it is with a closed session, by what the logger's answers rest on and by the names that it left.
 abbrev pub CountsTell : Type 0

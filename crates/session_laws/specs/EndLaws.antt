@@ -11,16 +11,14 @@ use Rattle.session_laws.specs.MembersAtEnd.{MembersAtEnd}
 use Rattle.session_laws.specs.MadeRuns.{RunIn, RunHolds}
 use Rattle.session_laws.specs.OtherNames.{IsOtherName}
 
--- What is known of a session when its objects are closed is all that the law of composition asks for: there are moments of
--- the front-ends' turns for which each member keeps its contract.
+-- What is known of a session when its objects are closed is all that the law of composition asks for: each member keeps its
+-- contract, a front-end with the moments of its turns.
 abbrev pub EndsKeep : Type 0
-EndsKeep = (c : ClosedSession) → MembersAtEnd c →
-    (moments : (client : ℕ) → List ℕ) × MembersKeep (session_of c moments)
+EndsKeep = (c : ClosedSession) → (ends : MembersAtEnd c) → MembersKeep (session_of c ends.moments)
 
 -- So all that it says is so.
 abbrev pub EndsComposed : Type 0
-EndsComposed = (c : ClosedSession) → MembersAtEnd c →
-    (moments : (client : ℕ) → List ℕ) × IsComposed (session_of c moments)
+EndsComposed = (c : ClosedSession) → (ends : MembersAtEnd c) → IsComposed (session_of c ends.moments)
 
 -- The members of a closed session stand under their client numbers, whatever the moments of the front-ends' turns.
 abbrev pub MembersListed : Type 0
@@ -55,5 +53,6 @@ pub record SessionHolds (c : ClosedSession) : Type 0 where
   pub others : (name : List ℕ) → IsOtherName c name → c.files.at name ≡ c.first_files.at name
   pub callers : (by : ℕ) → length c.fronts < by → calls_on_database c by ≡ []
 
+-- So it is with a session whose objects are closed, with the moments that are known of its front-ends.
 abbrev pub EndsHold : Type 0
-EndsHold = (c : ClosedSession) → MembersAtEnd c → SessionHolds c
+EndsHold = (c : ClosedSession) → (ends : MembersAtEnd c) → (holds : SessionHolds c) × (holds.moments ≡ ends.moments)

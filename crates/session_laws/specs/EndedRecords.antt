@@ -8,7 +8,6 @@ use Rattle.daq_io.specs.Told.{FilesTold}
 use Rattle.member_model.specs.RunEngines.{EngineEntry}
 use Rattle.odb_lock.specs.SharedOdbs.{first_database}
 use Rattle.loggers.specs.OtherFiles.{specs_in}
-use Rattle.loggers.specs.LeftNames.{NoneRose}
 use Rattle.session_setup.specs.declared.declared.DeclaredLists.{DeclaredLists}
 use Rattle.session_runs.specs.declared.records.RunRecord.{RunRecord}
 use Rattle.session_runs.specs.FileRows.{HasFileNamed}
@@ -21,7 +20,7 @@ use Rattle.session_laws.specs.ClosedSessions.{ClosedSession, engine_calls, sessi
 use Rattle.session_laws.specs.EndLaws.{SessionHolds}
 use Rattle.session_laws.specs.CountedFaults.{CountsHold}
 use Rattle.session_laws.specs.OneAnswer.{OneAnswer, RisesTold}
-use Rattle.session_laws.specs.OtherNames.{AreStartsOver}
+use Rattle.session_laws.specs.OtherNames.{AreStartsOver, IsNameKept}
 use Rattle.session_laws.specs.RecordedRuns.{RecordHolds, clients_in}
 use Rattle.session_laws.specs.RefusedRecords.{IsRefusedRecord}
 use Rattle.session_laws.specs.EndedSessions.{session_with, SessionEnded}
@@ -73,16 +72,15 @@ abbrev pub IsInNoRecord : List RunRecord → (name : List ℕ) → Type 0
 IsInNoRecord records name = (place : ℕ) → (r : RunRecord) → slice_get records place ≡ Some r →
     HasFileNamed r.run r.files name → ⊥
 
--- Where there is one record for each start that the main thread began, names are told, and no fault was counted: each name that
--- is in no record is there where it was as the logger took its seat, with the same bytes.
+-- Where there is one record for each start that the main thread began, and names are told: each name that is in no record is there
+-- where it was as the logger took its seat, with the same bytes, but where a start was refused and the removing of its file failed.
 abbrev pub NamesSo : {D F : Type 0} {g : _} → (read : F → FilesTold) → SessionRecord D g → Type 0
 NamesSo {D} {F} read r = (lists : DeclaredLists) → (logger : LoggerSeen F) →
     (ended : SessionEnded read lists logger r) →
     (own : MainOwn) → (more : List EngineEntry) → ended.own ≡ own.engine ++ more → starts_begun more ≡ [] →
     RecordsFit (clients_declared lists) own r.runs →
-    IsTrue (read logger.first).seen.names → NoneRose (read logger.first) (read logger.files) →
-    (name : List ℕ) → IsInNoRecord r.runs name →
-    (read logger.files).seen.at name ≡ (read logger.first).seen.at name
+    IsTrue (read logger.first).seen.names → (name : List ℕ) → IsInNoRecord r.runs name →
+    IsNameKept (session_with read (first_database ended.shared) lists logger r) (read logger.first) (read logger.files) name
 
 -- One fault gives one answer: where the records fit the main thread's own calls up to some point, what they tell of faults and
 -- of clashes was each counted for itself.

@@ -1,5 +1,5 @@
 -- A session behind its end: the record of its objects, with its members, as the laws of closed sessions see it.
-use Rattle.std.specs.Prelude.{◌≡◌, ℕ, ◌≤◌, List, ◌++◌, length, map, Option}
+use Rattle.std.specs.Prelude.{◌≡◌, ℕ, ◌≤◌, List, [], ◌++◌, length, map, slice_get, Option, Some}
 use Rattle.std.specs.List.{AllByRecursion}
 use Rattle.daq_io.specs.Seen.{Seen}
 use Rattle.daq_io.specs.Told.{FilesTold}
@@ -18,7 +18,7 @@ use Rattle.session_setup.specs.declared.declared.DeclaredLists.{DeclaredLists}
 use Rattle.session_setup.specs.declared.declared.FrontDeclared.{FrontDeclared}
 use Rattle.session_runs.specs.Members.{registrations}
 use Rattle.daq_members.specs.LoggerSeats.{LoggerSeen}
-use Rattle.daq_members.specs.Members.{MemberSeen}
+use Rattle.daq_members.specs.Members.{MemberSeen, FrontEnd}
 use Rattle.daq_members.specs.Stay.{KeepContracts}
 use Rattle.session_runs.specs.RunsFit.{SteersEngine}
 use Rattle.session_objects.specs.declared.objects.SessionObjects.{SessionObjects}
@@ -91,12 +91,23 @@ pub record SessionEnded {D F : Type 0} {g : _} (read : F → FilesTold) (lists :
   pub begins : own ≡ registrations 0 (member_names lists) ++ later
   pub steers : AllByRecursion SteersEngine later
 
--- That is what the laws of closed sessions ask for.
+-- the moments of the turns of a member, which a front-end has
+abbrev pub moments_of : {E F : Type 0} → Option (MemberSeen E F) → List ℕ
+moments_of (Some (FrontEnd front)) = front.moments
+moments_of member = []
+
+-- by the client numbers of these members
+abbrev pub moments_among : {E F : Type 0} → List (MemberSeen E F) → (client : ℕ) → List ℕ
+moments_among members client = moments_of (slice_get members client)
+
+-- That is what the laws of closed sessions ask for, with the moments of its front-ends' turns.
 abbrev pub ClosedEndsSo : {D F : Type 0} {g : _} → (read : F → FilesTold) → SessionRecord D g → Type 0
 ClosedEndsSo {D} {F} read r = (lists : DeclaredLists) → (logger : LoggerSeen F) →
-    (ended : SessionEnded read lists logger r) → MembersAtEnd (session_with read (first_database ended.shared) lists logger r)
+    (ended : SessionEnded read lists logger r) →
+    (ends : MembersAtEnd (session_with read (first_database ended.shared) lists logger r)) × (ends.moments ≡ moments_among ended.members)
 
--- So all that these laws say of it is so.
+-- So all that these laws say of it is so, with these moments.
 abbrev pub HoldsSo : {D F : Type 0} {g : _} → (read : F → FilesTold) → SessionRecord D g → Type 0
 HoldsSo {D} {F} read r = (lists : DeclaredLists) → (logger : LoggerSeen F) →
-    (ended : SessionEnded read lists logger r) → SessionHolds (session_with read (first_database ended.shared) lists logger r)
+    (ended : SessionEnded read lists logger r) →
+    (holds : SessionHolds (session_with read (first_database ended.shared) lists logger r)) × (holds.moments ≡ moments_among ended.members)

@@ -28,12 +28,12 @@ use Rattle.analyzers.specs.Analyzers.{AnalyzerState}
 use Rattle.daq_members.specs.AnalyzerTaken.{AnalyzerMemberStands}
 use Rattle.session_laws.specs.ClosedSessions.{ClosedAnalyzer, ClosedBuffer, ClosedFront, ClosedSession, logger_client, logger_caller, analyzer_client, last_caller, registered_members, engine_calls, calls_on_buffer, calls_on_database, got_from_buffer}
 
--- The front-end with this client number: it keeps its contract over its calls on the engine, on its buffer and on the database;
--- and it called on no other buffer.
-pub record FrontAtEnd (c : ClosedSession) (client : ℕ) (f : ClosedFront) : Type 0 where
+-- The front-end with this client number, with these moments of its turns: it keeps its contract over its calls on the engine, on its
+-- buffer and on the database; and it called on no other buffer.
+pub record FrontAtEnd (c : ClosedSession) (client : ℕ) (f : ClosedFront) (moments : List ℕ) : Type 0 where
   pub run : Option FrontRun
   pub stands : FrontMemberStands client f.name f.takes f.makes run (engine_calls c (caller_of_client client))
-      (calls_on_buffer c (caller_of_client client) f.buffer) (calls_on_database c (caller_of_client client))
+      (calls_on_buffer c (caller_of_client client) f.buffer) moments (calls_on_database c (caller_of_client client))
   pub elsewhere : (buffer : ℕ) → buffer ≢ f.buffer → calls_on_buffer c (caller_of_client client) buffer ≡ []
 
 -- What this caller's port to the buffer told it: a beginning of the buffer's history, with all of its own calls.
@@ -83,14 +83,16 @@ pub record NoOthers (c : ClosedSession) : Type 0 where
   pub buffers : (by : ℕ) → last_caller c < by → (buffer : ℕ) → calls_on_buffer c by buffer ≡ []
   pub database : (by : ℕ) → length c.fronts < by → calls_on_database c by ≡ []
 
--- All that; and on the engine each client polls and answers for itself alone.
+-- All that, with the moments of each front-end's turns, by its client number; and on the engine each client polls and answers for
+-- itself alone.
 pub record MembersAtEnd (c : ClosedSession) : Type 0 where
   pub buffers : (number : ℕ) → (b : ClosedBuffer) → slice_get c.buffers number ≡ Some b →
       IsLegal (opening b.size) b.history
   pub engine : IsLegalEngine engine_opening c.engine
   pub database : IsLegalDatabase c.opened c.database
   pub speaks : (client : ℕ) → are_calls_for client (engine_calls c (caller_of_client client)) ≡ true
-  pub fronts : (client : ℕ) → (f : ClosedFront) → slice_get c.fronts client ≡ Some f → FrontAtEnd c client f
+  pub moments : (client : ℕ) → List ℕ
+  pub fronts : (client : ℕ) → (f : ClosedFront) → slice_get c.fronts client ≡ Some f → FrontAtEnd c client f (moments client)
   pub logger : LoggerAtEnd c
   pub analyzers : (place : ℕ) → (a : ClosedAnalyzer) → slice_get c.analyzers place ≡ Some a →
       AnalyzerAtEnd c (analyzer_client c place) a

@@ -1,7 +1,8 @@
 -- One fault gives one answer: what the records of a closed session's starts tell of faults and of clashes of names was each
 -- counted for itself. And none is counted without an answer: a count rose only where one of the records tells why.
-use Rattle.std.specs.Prelude.{◌≡◌, ◌+◌, ℕ, sum_by, List, [], ◌++◌, slice_get, Option, Some}
+use Rattle.std.specs.Prelude.{◌≡◌, ◌≤◌, ◌+◌, ℕ, sum_by, List, [], ◌++◌, slice_get, Option, Some, None}
 use Rattle.daq_types.specs.Callers.{main_caller}
+use Rattle.daq_types.specs.declared.runs.ChannelState.TheVariants.{Broken}
 use Rattle.daq_types.specs.declared.runs.StartOutcome.{StartOutcome}
 use Rattle.daq_types.specs.declared.runs.StartOutcome.TheVariants.{Completed, Refused}
 use Rattle.daq_types.specs.declared.runs.Why.TheVariants.{Exists}
@@ -12,6 +13,8 @@ use Rattle.mid_logger.specs.declared.channel_spec.ChannelSpec.{ChannelSpec}
 use Rattle.loggers.specs.OtherFiles.{specs_in}
 use Rattle.loggers.specs.Reasons.{HaveNoLimit}
 use Rattle.loggers.specs.ToldCounts.{faults_of_state, faults_of_refusal}
+use Rattle.sub_files.specs.Patterns.{piece_name_by}
+use Rattle.session_runs.specs.declared.records.ChannelFiles.{ChannelFiles}
 use Rattle.session_runs.specs.declared.records.RunRecord.{RunRecord}
 use Rattle.session_runs.specs.RunsFit.{MainOwn, RecordsFit, starts_begun}
 use Rattle.session_laws.specs.ClosedSessions.{ClosedSession, engine_calls}
@@ -54,16 +57,33 @@ OneAnswerEach = (c : ClosedSession) → (ends : MembersAtEnd c) → (first now :
 abbrev pub NoneRefused : List RunRecord → Type 0
 NoneRefused runs = (number : ℕ) → (r : RunRecord) → slice_get runs number ≡ Some r → r.outcome ≡ Completed
 
+-- One of these records calls a channel Broken, and its files in that run have the name, or the next one behind them, which could not be
+-- made.
+pub record HasBrokenFile (runs : List RunRecord) (name : List ℕ) : Type 0 where
+  pub number : ℕ
+  pub run : RunRecord
+  pub at : slice_get runs number ≡ Some run
+  pub place : ℕ
+  pub files : ChannelFiles
+  pub there : slice_get run.files place ≡ Some files
+  pub broken : files.told.state ≡ Broken
+  pub sub : ℕ
+  pub few : sub ≤ files.told.files
+  pub is : piece_name_by files.pattern run.run sub ≡ name
+
 -- Where the run files of a logger with these channels were so at first, and are so now, each rise of a count is told. No clash was
 -- counted where no record tells of one, and no channel has a limit: one with a limit may find the name of a next file taken. And no
 -- fault was counted where no start was refused, and no channel broke off: a start that is refused is undone, and what fails then is
--- not told.
+-- not told. Where no start was refused, and no fault was named at first, the file of the first fault is that of a channel which is
+-- called Broken.
 pub record RisesTold (specs : List (Option ChannelSpec)) (runs : List RunRecord) (first now : FilesTold) : Type 0 where
   pub clashes : HaveNoLimit specs → sum_by clashes_recorded runs ≡ 0 → now.clashes ≡ first.clashes
   pub faults : NoneRefused runs → sum_by faults_recorded runs ≡ 0 → now.faults ≡ first.faults
+  pub named : NoneRefused runs → first.first ≡ None → (name : List ℕ) → now.first ≡ Some name → HasBrokenFile runs name
 
 -- So it is with a closed session, where there is one record for each start that the main thread began, and they fit its calls.
 abbrev pub RisesToldEach : Type 0
 RisesToldEach = (c : ClosedSession) → (ends : MembersAtEnd c) → (first now : FilesTold) → LoggerReasons c ends first now →
-    (own : MainOwn) → (more : List EngineEntry) → engine_calls c main_caller ≡ own.engine ++ more → starts_begun more ≡ [] →
+    LoggerNames c ends first now → (own : MainOwn) → (more : List EngineEntry) →
+    engine_calls c main_caller ≡ own.engine ++ more → starts_begun more ≡ [] →
     (runs : List RunRecord) → RecordsFit (clients_in c) own runs → RisesTold (specs_in c.slots) runs first now

@@ -1,23 +1,26 @@
 -- The names of run files that channels give in runs of the session, and those that none gives.
-use Rattle.std.specs.Prelude.{◌≡◌, ◌≢◌, ◌≤◌, ◌<◌, ◌⊎◌, ℕ, IsSome, List, [], ◌∷◌, ◌++◌, Contains, Some, Ok}
+use Rattle.std.specs.Prelude.{◌≡◌, ◌≢◌, ◌≤◌, ◌<◌, ◌⊎◌, ℕ, IsSome, List, [], ◌∷◌, ◌++◌, Contains, Some, None, Ok}
 use Rattle.daq_types.specs.Callers.{main_caller}
 use Rattle.daq_types.specs.declared.runs.ChannelEnd.{ChannelEnd}
 use Rattle.daq_types.specs.declared.runs.StartOutcome.TheVariants.{Refused}
 use Rattle.daq_types.specs.declared.runs.Transition.TheVariants.{Start}
 use Rattle.daq_types.specs.declared.runs.Why.{Why}
 use Rattle.daq_io.specs.Seen.{Seen}
+use Rattle.daq_io.specs.Told.{FilesTold}
 use Rattle.buffer_core.specs.Slots.{slot_at}
 use Rattle.member_model.specs.RunEngines.{Sheet, ClientTally, EngineEntry}
+use Rattle.member_model.specs.TurnCalls.{member_turns}
 use Rattle.transitions.specs.declared.entry.EngineEntry.TheVariants.{Begin}
 use Rattle.sub_files.specs.Cuts.{last_number}
 use Rattle.sub_files.specs.Patterns.{piece_name_by}
 use Rattle.mid_logger.specs.declared.channel.Channel.{Channel}
 use Rattle.mid_logger.specs.Patterns.{file_name_by}
+use Rattle.loggers.specs.LeftNames.{HasUntoldFault}
 use Rattle.loggers.specs.LoggerStands.{logger_channel}
 use Rattle.composition.specs.SessionRuns.{SessionRun, ToldChannel}
 use Rattle.session_runs.specs.MadeTransitions.{TransitionIn}
 use Rattle.session_runs.specs.RunsFit.{starts_begun}
-use Rattle.session_laws.specs.ClosedSessions.{ClosedSession, engine_calls, session_of}
+use Rattle.session_laws.specs.ClosedSessions.{ClosedSession, engine_calls, logger_caller, logger_client, session_of}
 use Rattle.session_laws.specs.MadeRuns.{RunIn}
 
 -- among these calls on the engine is the begin of a start of this run, whatever came of it
@@ -74,16 +77,61 @@ pub record GivesNameBefore (c : ClosedSession) (place run : ℕ) (name : List �
   pub there : slot_at c.slots lower ≡ Some channel
   pub is : file_name_by channel.spec.pattern run ≡ name
 
+-- A start of a run that the main thread began was refused, and a channel gives the name to a file of that run, of whatever number.
+pub record HasUndoneName (c : ClosedSession) (name : List ℕ) : Type 0 where
+  pub run : ℕ
+  pub begun : BeginsStartOf (engine_calls c main_caller) run
+  pub refused : RefusesStart (engine_calls c main_caller) begun.start
+  pub place : ℕ
+  pub channel : Channel
+  pub there : slot_at c.slots place ≡ Some channel
+  pub sub : ℕ
+  pub few : sub ≤ last_number
+  pub is : piece_name_by channel.spec.pattern run sub ≡ name
+
+-- More faults of the run files were counted than the logger tells: one was where a start was undone.
+abbrev pub HasLoggerUntold : ClosedSession → (first now : FilesTold) → Type 0
+HasLoggerUntold c first now =
+    HasUntoldFault c.slots (member_turns (logger_client c) (engine_calls c (logger_caller c))) first now
+
+-- A run that came about before the start with this number has a file of this name; or a start before it, whose run has the name, was
+-- refused, and its file may have stayed where its removing failed, which was counted and is not told.
+abbrev pub IsMadeName : ClosedSession → (first now : FilesTold) → (start : ℕ) → (name : List ℕ) → Type 0
+IsMadeName c first now start name =
+    HasMadeBefore c start name
+    ⊎ (HasLoggerUntold c first now × ((undone : HasUndoneName c name) × (undone.begun.start < start)))
+
+-- The name that the channel at this place gives to its first file in the run of this number, whose start has that start number, is
+-- free: no file had it at first, no run that came about before has it, and no channel of a lower place gives it.
+pub record IsFreeName (c : ClosedSession) (first : Seen) (run start place : ℕ) (name : List ℕ) : Type 0 where
+  pub first_none : first.at name ≡ None
+  pub none_made : HasMadeBefore c start name → ⊥
+  pub none_gives : GivesNameBefore c place run name → ⊥
+
+-- so it is with each channel at a lower place than this
+abbrev pub AreFreeNames : ClosedSession → (first : Seen) → (run start place : ℕ) → Type 0
+AreFreeNames c first run start place =
+    (lower : ℕ) → (channel : Channel) → lower < place → slot_at c.slots lower ≡ Some channel →
+    IsFreeName c first run start lower (file_name_by channel.spec.pattern run)
+
 -- The name that the channel with this number gives to its first file in the run of this number, whose start has that start number, is
--- taken: a file had it at first, a run that came about before has it, or another channel of that run.
-pub record IsTakenName (c : ClosedSession) (first : Seen) (run start number : ℕ) : Type 0 where
+-- taken: a file had it at first, a run that was begun before has it, or another channel of that run. It is the first such channel.
+pub record IsTakenName (c : ClosedSession) (first now : FilesTold) (run start number : ℕ) : Type 0 where
   pub place : ℕ
   pub channel : Channel
   pub there : slot_at c.slots place ≡ Some channel
   pub number_is : channel.spec.number ≡ number
-  pub by : IsSome (first.at (file_name_by channel.spec.pattern run))
-      ⊎ (HasMadeBefore c start (file_name_by channel.spec.pattern run)
+  pub by : IsSome (first.seen.at (file_name_by channel.spec.pattern run))
+      ⊎ (IsMadeName c first now start (file_name_by channel.spec.pattern run)
       ⊎ GivesNameBefore c place run (file_name_by channel.spec.pattern run))
+  pub least : AreFreeNames c first.seen run start place
+
+-- What stands under the name is as it was at first; or there was no file of it, and a start whose run has the name was refused, and more
+-- faults were counted than are told.
+abbrev pub IsNameKept : ClosedSession → (first now : FilesTold) → (name : List ℕ) → Type 0
+IsNameKept c first now name =
+    (now.seen.at name ≡ first.seen.at name)
+    ⊎ ((first.seen.at name ≡ None) × (HasLoggerUntold c first now × HasUndoneName c name))
 
 -- The logger told of the channel at the stop of the run, and gave the name to none of so many files.
 pub record GivesOthers (c : ClosedSession) (run : SessionRun) (channel : Channel) (name : List ℕ) : Type 0 where

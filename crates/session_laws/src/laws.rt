@@ -85,7 +85,9 @@ pub fn channels_agree()
 /// no part in the run; by the logger, for a name only where a clash was counted, and for a fault only where one was; or by an
 /// analyzer as NotReady, only where the sheet had fewer blank reports than there are analyzers. No start was refused for a
 /// buffer. Each front-end's equipment takes part in a run that was started; and where no fault was counted each channel of each
-/// run ended, or the stop's sheet had no dump, and each name that no file of a run has that came about is as it was.
+/// run ended, or the stop's sheet had no dump. Whatever failed, each file that was there stays, and each name that no file of a run has
+/// that came about is as it was, but for one of a refused start where more faults were counted than the logger told; a start is refused
+/// for a name only where that is taken, and the names of a run that came about were free.
 pub fn counts_tell()
     ensures { CountsTell }
 {
@@ -134,7 +136,8 @@ pub fn one_answer()
 }
 
 /// And none is counted without an answer: no clash, where no record tells of one and no channel has a limit; and no fault, where no
-/// start was refused and no channel broke off.
+/// start was refused and no channel broke off. Where no start was refused, the file of the first fault is one of a channel that a record
+/// calls Broken.
 pub fn rises_told()
     ensures { RisesToldEach }
 {

@@ -61,7 +61,8 @@ where
     records_end::<D, F>(kept);
 }
 
-/// Where there is a record for each start, and no fault of the run files was counted, each name that is in no record is as it was.
+/// Where there is a record for each start, each name that is in no record is as it was, but for one of a refused start where more faults
+/// of the run files were counted than the logger told.
 pub fn names_end<D: Database, F: Files>(kept: &SessionRecord<D>)
 where
     LockedDatabase<D>: Machine<State = WatchedSeen, Entry = WatchEntry>,
