@@ -7,16 +7,9 @@ use Rattle.std.proofs.lemmas.Bool.Decides.{eqb_tells}
 use Rattle.std.proofs.Math.Logic.{⊎_elim}
 use Rattle.buffer_core.proofs.SlotLaws.{split}
 use Rattle.daq_types.specs.Callers.{entries_by, main_caller}
-use Rattle.frontend_kit.specs.declared.generator.Generator.{Generator}
 use Rattle.odb_watch.specs.declared.entry.WatchEntry.{WatchEntry}
-use Rattle.odb_lock.specs.declared.shared.SharedOdb.{SharedOdb}
-use Rattle.daq_members.specs.Members.{MemberTold}
 use Rattle.session_objects.specs.Calls.{HoldsParts}
-use Rattle.session_lines.specs.Stages.{SessionStage}
-use Rattle.console.specs.declared.endings.Ending.{Ending}
-use Rattle.daq_session.specs.declared.left.LeftBehind.{LeftBehind}
-use Rattle.daq_session.specs.declared.left.LeftBehind.TheVariants.{Session, Unopened, Nothing}
-use Rattle.daq_session.specs.Played.{IsMainAlone, SessionEnds, seen_by_main}
+use Rattle.daq_session.specs.Played.{seen_by_main}
 
 itself : (n : ℕ) → (n == n) ≡ true
 itself n = elim (eqb_tells n n) as (λ w. (n == n) ≡ true) [ inl hit ↦ hit.0 | inr never ↦ absurd (never.1 refl) ]
@@ -57,10 +50,3 @@ main_alone callers seen history some holds =
     let begins = first.1.begins in
     let whole : seen ++ begins.0 ≡ history = ap (λ (s : List (ℕ × WatchEntry)). s ++ begins.0) (sym first.2) ∙ begins.1 in
     all_main seen begins.0 (λ by other. ap (entries_by by) whole ∙ others_none callers seen history holds by other)
-
--- What a script leaves that opened no session.
-pub unopened_ends : {D F : Type 0} {g : _} (told : MemberTold Generator F) (shared : SharedOdb D) (first_files : F) (final : SessionStage) (ending : Ending) (run_files : F) (left : LeftBehind D g)
-    → final.runs ≡ None → run_files ≡ first_files → IsMainAlone shared final.database.access.seen left → SessionEnds told shared first_files final ending run_files left
-unopened_ends told shared first_files final ending run_files (Session ended) closed files alone = absurd alone
-unopened_ends told shared first_files final ending run_files (Unopened passes) closed files alone = (closed, files, alone)
-unopened_ends told shared first_files final ending run_files Nothing closed files alone = absurd alone

@@ -18,7 +18,6 @@ use Rattle.session_runs.specs.KeptRuns.{RunsSeen}
 use Rattle.session_runs.specs.RunsFit.{MainOwn, start_begun, start_of, starts_begun}
 use Rattle.session_lines.specs.Stages.{SessionStage}
 use Rattle.session_commands.specs.Quotas.{quota_begun, quotas_begun, quotas_so_far}
-use Rattle.daq_session.specs.declared.ends.ScriptEnd.{ScriptEnd}
 use Rattle.daq_session.specs.Sessions.{KeepsSession, KeptRunsAsked, RunsAsked, SessionKept}
 use Rattle.daq_session.proofs.ToldRuns.{mapped}
 
@@ -108,6 +107,6 @@ module _ {D F : Type 0} {g : _} (told : MemberTold Generator F) (first_files : F
         (made_at keeps.last.main.own keeps.last.main.own [] _ run.start run.outcome start.tallies (sym (append-nil keeps.last.main.own)) start.made);
   }
 
-  pub kept_asked : (end : ScriptEnd) (kept : Option (SessionRecord D g)) (keeps : SessionKept told first_files final end run_files kept) → KeptRunsAsked told first_files final end run_files asked kept keeps
-  kept_asked end None keeps = tt
-  kept_asked end (Some r) keeps = runs_asked r keeps
+  pub kept_asked : (kept : Option (SessionRecord D g)) (keeps : SessionKept told first_files final run_files kept) → KeptRunsAsked told first_files final run_files asked kept keeps
+  kept_asked None keeps = tt
+  kept_asked (Some r) keeps = runs_asked r keeps

@@ -1,5 +1,5 @@
 -- What is left of a session, closed.
-use Rattle.std.proofs.Common.{◌≡◌, ◌≢◌, ℕ, List, ◌∙◌, subst, Option, Some, None, ap, refl}
+use Rattle.std.proofs.Common.{◌≡◌, ◌≢◌, ℕ, List, ◌∙◌, subst, Option, ap}
 use Rattle.frontend_kit.specs.declared.generator.Generator.{Generator}
 use Rattle.daq_session.specs.SessionRows.{session_rows}
 use Rattle.odb_watch.specs.Steps.{unwatched}
@@ -23,16 +23,15 @@ use Rattle.daq_session.specs.declared.ends.ScriptEnd.TheVariants.{NoMemory}
 use Rattle.daq_session.specs.Endings.{script_end}
 use Rattle.daq_session.specs.declared.left.EndedObjects.{EndedObjects}
 use Rattle.daq_session.specs.declared.left.LeftBehind.{LeftBehind}
-use Rattle.daq_session.specs.declared.left.LeftBehind.TheVariants.{Session, Unopened, Nothing}
+use Rattle.daq_session.specs.declared.left.LeftBehind.TheVariants.{Session, Unopened}
 use Rattle.session_commands.specs.Keeping.{EndsOver, MayKeep, StageKept, StageSpares}
 use Rattle.daq_session.specs.Played.{IsBack, IsEndedSession, IsSessionRecord, SessionEnds}
 
 module _ {D F : Type 0} {g : _} (told : MemberTold Generator F) (shared : SharedOdb D) (first_files : F) (final : SessionStage) (run_files : F) where
   -- The passes of what a script leaves are back.
-  pub is_back : (ending : Ending) (left : LeftBehind D g) → SessionEnds told shared first_files final ending run_files left → IsBack shared left
-  is_back ending (Session ended) ends = (_, ends.ends.calls)
-  is_back ending (Unopened passes) ends = (final.database.access.seen, ends.2)
-  is_back ending Nothing ends = tt
+  pub is_back : (left : LeftBehind D g) → SessionEnds told shared first_files final run_files left → IsBack shared left
+  is_back (Session ended) ends = (_, ends.ends.calls)
+  is_back (Unopened passes) ends = (final.database.access.seen, ends.alone)
 
   -- The record of its objects is that of the session.
   pub recorded : (ended : EndedObjects D g) (r : SessionRecord D g) → first_database shared ≡ unwatched session_rows → StageKept final → EndsOver final → StageSpares final
@@ -67,17 +66,7 @@ module _ {D F : Type 0} {g : _} (told : MemberTold Generator F) (shared : Shared
     calls = calls _ is.ends.calls;
   }
 
--- a script that ended for want of memory ends so whatever else holds
-ended_so : (closing : Option Halt) → ended_by (Halted no_memory) closing ≡ Halted no_memory
-ended_so None = refl
-ended_so (Some halt) = refl
-
-pub memory_ends : (ending : Ending) (closing : Option Halt) (faulted : Option (List ℕ)) (refusals : Refusals) (end : ScriptEnd) → end ≡ script_end (ended_by ending closing) faulted refusals
-    → ending ≡ Halted no_memory → end ≡ NoMemory
-memory_ends ending closing faulted refusals end is halted =
-    is ∙ ap (λ (e : Ending). script_end (ended_by e closing) faulted refusals) halted ∙ ap (λ (e : Ending). script_end e faulted refusals) (ended_so closing)
-
--- and one that ended otherwise did not
+-- a script that did not end for want of memory had lines that did not
 pub memory_found : (ending : Ending) (closing : Option Halt) (faulted : Option (List ℕ)) (refusals : Refusals) (end : ScriptEnd) → end ≡ script_end (ended_by ending closing) faulted refusals
     → end ≢ NoMemory → ended_by ending closing ≢ Halted no_memory
 memory_found ending closing faulted refusals end is other = λ halted. other (is ∙ ap (λ (e : Ending). script_end e faulted refusals) halted)

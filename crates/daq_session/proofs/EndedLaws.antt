@@ -18,7 +18,6 @@ use Rattle.session_laws.specs.ClosedSessions.{ClosedSession}
 use Rattle.session_laws.specs.CountedFaults.{state_by_dump}
 use Rattle.session_laws.specs.EndedRecords.{RecordSo}
 use Rattle.session_commands.specs.Keeping.{AllSaved, SavesDump, StageSaved}
-use Rattle.daq_session.specs.declared.ends.ScriptEnd.{ScriptEnd}
 use Rattle.daq_session.specs.Sessions.{KeepsSession, KeptRunsEnded, RunsEnded, SessionKept}
 use Rattle.daq_session.proofs.ToldRuns.{all_behind, all_first}
 
@@ -53,6 +52,6 @@ module _ {D F : Type 0} {g : _} (told : MemberTold Generator F) (first_files : F
         tells.ended none place file file_at ∙ ended_by_dump tells.so.fits.stop.saved (record_saved _ _ _ run tells.so all);
   }
 
-  pub kept_ended : (end : ScriptEnd) (kept : Option (SessionRecord D g)) (keeps : SessionKept told first_files final end run_files kept) → KeptRunsEnded told first_files final end run_files kept keeps
-  kept_ended end None keeps = tt
-  kept_ended end (Some r) keeps = runs_ended r keeps
+  pub kept_ended : (kept : Option (SessionRecord D g)) (keeps : SessionKept told first_files final run_files kept) → KeptRunsEnded told first_files final run_files kept keeps
+  kept_ended None keeps = tt
+  kept_ended (Some r) keeps = runs_ended r keeps

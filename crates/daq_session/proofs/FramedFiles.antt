@@ -11,11 +11,11 @@ use Rattle.daq_session.specs.Environments.{OutsideTold}
 use Rattle.daq_session.specs.Sessions.{RunsScript, SessionKept}
 use Rattle.daq_session.specs.FramedFiles.{ClosesFramedFiles, KeptFramedFiles}
 
-files_framed : {D F : Type 0} {g : _} → (told : MemberTold Generator F) → (first_files : F) → (final : SessionStage) → (end : ScriptEnd) →
-    (run_files : F) → (kept : Option (SessionRecord D g)) → (keeps : SessionKept told first_files final end run_files kept) →
-    KeptFramedFiles told first_files final end run_files kept keeps
-files_framed told first_files final end run_files None keeps = tt
-files_framed told first_files final end run_files (Some r) keeps = record {
+files_framed : {D F : Type 0} {g : _} → (told : MemberTold Generator F) → (first_files : F) → (final : SessionStage) →
+    (run_files : F) → (kept : Option (SessionRecord D g)) → (keeps : SessionKept told first_files final run_files kept) →
+    KeptFramedFiles told first_files final run_files kept keeps
+files_framed told first_files final run_files None keeps = tt
+files_framed told first_files final run_files (Some r) keeps = record {
   are = λ number run at whole place written here ended.
       let tells = keeps.tells.runs number run at whole in
       let closed = tells.files place written here ended in
@@ -47,5 +47,5 @@ files_ran told before after end replies kept ran = record {
   end = end;
   replies = replies;
   ran = ran;
-  files = files_framed told.crew before.run_files ran.final end after.run_files kept ran.keeps;
+  files = files_framed told.crew before.run_files ran.final after.run_files kept ran.keeps;
 }

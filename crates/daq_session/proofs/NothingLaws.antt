@@ -95,7 +95,7 @@ nothing_ran told outside replies none =
         fault_replies = λ asks. absurd (cc asks);
         one_reply = subst (λ (came : List (ℕ × FileReply)). OneReply came before.odb_files before.odb_files) (sym none) (record { faults = omega arith; clashes = omega arith });
       };
-      keeps = record { closed = refl; files = refl; alone = λ other. absurd (other refl) };
+      keeps = record { closed = refl; files = refl; alone = tt };
       asked = tt;
       ended = λ other. tt;
     }

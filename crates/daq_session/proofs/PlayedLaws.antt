@@ -1,12 +1,16 @@
 -- The end of a session that was open, or that was to open.
 use Rattle.daq_io.specs.Told.{AheadTold}
 use Rattle.std.proofs.Common.{◌≡◌, ℕ, List, length, refl, sym, ap, subst, inl, arith}
-use Rattle.std.specs.Prelude.{Some, None}
+use Rattle.std.specs.Prelude.{Some, Err}
 use Rattle.std.proofs.lemmas.List.{take_all}
 use Rattle.transitions.specs.Engines.{engine_opening}
 use Rattle.transition_lock.specs.declared.shared.SharedEngine.{SharedEngine}
 use Rattle.transition_lock.specs.SharedEngines.{first_engine}
+use Rattle.turn_lock.specs.declared.roster.Passes.{Passes}
+use Rattle.odb_tree.specs.Noting.{Watched}
 use Rattle.odb_watch.specs.DatabasePorts.{DatabaseAccess}
+use Rattle.odb_watch.specs.declared.entry.WatchEntry.{WatchEntry}
+use Rattle.odb_lock.specs.declared.locked.LockedDatabase.{LockedDatabase}
 use Rattle.odb_lock.specs.declared.access.SharedAccess.{SharedAccess}
 use Rattle.odb_lock.specs.SharedAccesses.{access_by_pass}
 use Rattle.console.specs.DatabaseStages.{DatabaseStage}
@@ -25,7 +29,7 @@ use Rattle.daq_session.specs.declared.places.Places.{Places}
 use Rattle.daq_session.specs.declared.places.Scene.{Scene}
 use Rattle.daq_session.specs.Environments.{OutsideTold}
 use Rattle.daq_session.specs.Opened.{FrontKeysCut}
-use Rattle.daq_session.specs.Played.{PlaysObjects, TellsScriptEnd, side_of, unopened_lines}
+use Rattle.daq_session.specs.Played.{IsMainAlone, PlaysObjects, TellsScriptEnd, side_of, unopened_lines}
 
 -- keys that were all made are cut behind the last
 pub keys_cut : (fronts : List (List ℕ)) (old new : DatabaseAccess) → KeysMade fronts old new → CutsKeys fronts old new
@@ -78,13 +82,13 @@ cut_tells told side scene final files_are replies_are clock_is = record {
 
 -- So its script ended there, with the front-ends' keys that were made.
 pub cut_plays : {D S O F E C K G : Type 0} {g : _} {d : _} {e : _} (told : OutsideTold S O F E C) (places : Places D G) (side : MainSide (SharedAccess D g) E C d e) (access : DatabaseAccess) (scene : Scene S O F K G)
-    → CutFinish → FrontKeysCut places.lists.now (access_by_pass side.database.access) access
-    → PlaysObjects told places side scene (record { lines = unopened_lines (Halted no_memory) side scene; session = None })
-cut_plays told places side access scene cut keys = λ declared opened.
+    (passes : Passes (LockedDatabase D) Watched WatchEntry g) → CutFinish → FrontKeysCut places.lists.now (access_by_pass side.database.access) access → IsMainAlone places.shared.now access.seen passes
+    → PlaysObjects told places side scene (record { lines = unopened_lines (Halted no_memory) side scene; session = Err passes })
+cut_plays told places side access scene passes cut keys alone = λ declared opened.
     let database : DatabaseStage = database_at (side_of told) side in
     record {
       final = unopened_stage places.quota declared (record database { access = access }) (told.clock side.clock);
       tells = cut_tells told side scene _ refl refl refl;
-      ends = (refl, refl, refl);
+      ends = record { closed = refl; files = refl; alone = alone };
       finishes = cut _ _ _ (opening_cut places.quota declared places.lists.now database access (told.clock side.clock) opened keys);
     }

@@ -1,9 +1,13 @@
 -- A whole script, from the parts that play it.
 use Rattle.daq_io.specs.Told.{AheadTold}
 use Rattle.std.proofs.Common.{◌≡◌, ℕ, ◌<◌, List, [], refl, subst, inl, arith, length}
-use Rattle.std.specs.Prelude.{Option, Some, None}
+use Rattle.std.specs.Prelude.{Result, Ok, Err}
 use Rattle.frontend_kit.specs.declared.generator.Generator.{Generator}
 use Rattle.turn_lock.specs.Passes.{passes_of}
+use Rattle.turn_lock.specs.declared.roster.Passes.{Passes}
+use Rattle.odb_tree.specs.Noting.{Watched}
+use Rattle.odb_watch.specs.declared.entry.WatchEntry.{WatchEntry}
+use Rattle.odb_lock.specs.declared.locked.LockedDatabase.{LockedDatabase}
 use Rattle.odb_lock.specs.declared.shared.SharedOdb.{SharedOdb}
 use Rattle.odb_lock.specs.SharedOdbs.{odb_lock_of}
 use Rattle.daq_members.specs.Members.{MemberTold}
@@ -16,12 +20,9 @@ use Rattle.session_objects.specs.Objects.{AreObjectsOf, HaveCallers}
 use Rattle.console.specs.DatabaseStages.{DatabaseStage}
 use Rattle.session_lines.specs.Stages.{SessionStage, unopened_stage}
 use Rattle.session_lines.specs.RunLines.{CutsOpening}
-use Rattle.console.specs.declared.endings.Ending.{Ending}
-use Rattle.console.specs.declared.endings.Ending.TheVariants.{Halted}
-use Rattle.console.specs.declared.halts.Halt.TheVariants.{NoMemory as no_memory}
 use Rattle.daq_session.specs.declared.left.EndedObjects.{EndedObjects}
 use Rattle.daq_session.specs.NewDatabases.{database_passes}
-use Rattle.daq_session.specs.Played.{IsEndedSession, ObjectsEnd}
+use Rattle.daq_session.specs.Played.{IsEndedSession, NoneOpened, ObjectsEnd}
 
 -- the database has a pass for each front-end
 pub few_fronts : {D : Type 0} (shared : SharedOdb D) (lists : DeclaredLists) → passes_of (odb_lock_of shared) ≡ database_passes → AreSound (declared_by lists) → length lists.fronts < passes_of (odb_lock_of shared)
@@ -43,18 +44,18 @@ nothing_opened quota declared database clock = record {
 }
 
 -- The objects of an open session, behind its script.
-module _ {D F : Type 0} {g : _} (told : MemberTold Generator F) (lists : DeclaredLists) (objects : SessionObjects) (shared : SharedOdb D) (first_files : F) (final : SessionStage) (ending : Ending) (run_files : F) where
-  pub none_ended : (session : Option (SessionPasses D g × List RunRecord)) → session ≡ None → ObjectsEnd told lists objects shared first_files final ending run_files session → (final.runs ≡ None) × (run_files ≡ first_files) × (ending ≡ Halted no_memory)
-  none_ended session is ends = subst (ObjectsEnd told lists objects shared first_files final ending run_files) is ends
+module _ {D F : Type 0} {g : _} (told : MemberTold Generator F) (lists : DeclaredLists) (objects : SessionObjects) (shared : SharedOdb D) (first_files : F) (final : SessionStage) (run_files : F) where
+  pub none_ended : (session : Result (SessionPasses D g × List RunRecord) (Passes (LockedDatabase D) Watched WatchEntry g)) (passes : Passes (LockedDatabase D) Watched WatchEntry g) → session ≡ Err passes → ObjectsEnd told lists objects shared first_files final run_files session → NoneOpened shared first_files final run_files passes
+  none_ended session passes is ends = subst (ObjectsEnd told lists objects shared first_files final run_files) is ends
 
   abbrev objects_left : SessionPasses D g → List RunRecord → EndedObjects D g
   objects_left passes records = record { objects = objects; passes = passes; runs = records }
 
-  pub some_ended : (session : Option (SessionPasses D g × List RunRecord)) (passes : SessionPasses D g) (records : List RunRecord) → session ≡ Some (passes, records)
+  pub some_ended : (session : Result (SessionPasses D g × List RunRecord) (Passes (LockedDatabase D) Watched WatchEntry g)) (passes : SessionPasses D g) (records : List RunRecord) → session ≡ Ok (passes, records)
       → AreSound (declared_by lists) → AreObjectsOf lists objects → HaveCallers lists objects shared
-      → ObjectsEnd told lists objects shared first_files final ending run_files session → IsEndedSession told shared first_files final run_files (objects_left passes records)
+      → ObjectsEnd told lists objects shared first_files final run_files session → IsEndedSession told shared first_files final run_files (objects_left passes records)
   some_ended session passes records is sound are callers ends =
-      let all = subst (ObjectsEnd told lists objects shared first_files final ending run_files) is ends in
+      let all = subst (ObjectsEnd told lists objects shared first_files final run_files) is ends in
       record {
         lists = lists;
         declared = all.0;

@@ -20,10 +20,12 @@ use Rattle.odb_watch.specs.declared.entry.WatchEntry.{WatchEntry}
 use Rattle.odb_lock.specs.SharedOdbs.{first_database}
 use Rattle.session_setup.specs.Setup.{Declared}
 use Rattle.session_setup.specs.declared.declared.BufferDeclared.{BufferDeclared}
+use Rattle.session_setup.specs.declared.declared.AnalyzerDeclared.{AnalyzerDeclared}
 use Rattle.session_setup.specs.declared.declared.DeclaredLists.{DeclaredLists}
+use Rattle.session_setup.specs.declared.declared.FrontDeclared.{FrontDeclared}
 use Rattle.session_runs.specs.declared.opening.MemberName.{MemberName}
-use Rattle.session_runs.specs.Members.{registrations}
-use Rattle.loggers.specs.LeftNames.{NoneRose}
+use Rattle.session_runs.specs.Members.{MembersCounted, registrations, reporter_count, sender_count}
+use Rattle.mid_logger.specs.ChannelTurns.{logger_name}
 use Rattle.loggers.specs.OtherFiles.{AreDeclared, specs_in}
 use Rattle.session_runs.specs.declared.records.RunRecord.{RunRecord}
 use Rattle.session_runs.specs.declared.on.CurrentRun.{CurrentRun}
@@ -38,7 +40,7 @@ use Rattle.session_laws.specs.CountedFaults.{CountsHold}
 use Rattle.session_laws.specs.EndLaws.{SessionHolds}
 use Rattle.session_laws.specs.MembersAtEnd.{MembersAtEnd}
 use Rattle.session_laws.specs.OneAnswer.{OneAnswer, RisesTold}
-use Rattle.session_laws.specs.OtherNames.{AreStartsOver}
+use Rattle.session_laws.specs.OtherNames.{AreStartsOver, IsNameKept}
 use Rattle.session_laws.specs.EndedSessions.{ClosedEndsSo, SessionEnded, HoldsSo, closed_session}
 use Rattle.session_laws.specs.EndedRecords.{CountsSo, IsInNoRecord, NamesSo, OneAnswerSo, RecordSo, RecordsSo, RefusalSo, RefusalsSo, RisesToldSo, StartsOverSo, clients_declared}
 use Rattle.session_commands.specs.Endings.{closing_calls}
@@ -57,11 +59,12 @@ all_joined P (x ∷ xs) ys first second = (first.0, all_joined P xs ys first.1 s
 record LawsHold (c : ClosedSession) (first now : FilesTold) (own : MainOwn) (runs : List RunRecord) : Type 0 where
   members : MembersAtEnd c
   holds : SessionHolds c
+  moments : holds.moments ≡ members.moments
   over : AreStartsOver (engine_calls c main_caller)
   counts : CountsHold c first now
   one : OneAnswer runs first now
   rises : RisesTold (specs_in c.slots) runs first now
-  left : IsTrue first.seen.names → NoneRose first now → (name : List ℕ) → IsInNoRecord runs name → now.seen.at name ≡ first.seen.at name
+  left : IsTrue first.seen.names → (name : List ℕ) → IsInNoRecord runs name → IsNameKept c first now name
   so : (number : ℕ) → (run : RunRecord) → slice_get runs number ≡ Some run → run.outcome ≡ Completed → RecordSo c holds.moments own run
   refused : (number : ℕ) → (run : RunRecord) → slice_get runs number ≡ Some run → (client : ℕ) → (why : Why) → run.outcome ≡ Refused client why → RefusalSo c first now own run client why
 
@@ -78,7 +81,7 @@ pub record EndedLaws {D F : Type 0} {g : _} (read : F → FilesTold) (r : Sessio
   pub refusals : RefusalsSo read r
 
 module _ {D F : Type 0} {g : _} (read : F → FilesTold) (first_files : F) (final : SessionStage) (run_files : F) (r : SessionRecord D g)
-    (kept : IsSessionRecord (members_told read) first_files final run_files r) where
+    (kept : IsSessionRecord (members_told read) first_files final run_files r) (counted : MembersCounted) where
   names : members_declared final.declared ≡ member_names kept.lists
   names = ap members_declared (sym kept.declared)
 
@@ -129,7 +132,15 @@ module _ {D F : Type 0} {g : _} (read : F → FilesTold) (first_files : F) (fina
   its_clients = clients_declared kept.lists
 
   same_clients : run_clients kept.last ≡ its_clients
-  same_clients = rw (kept.fits.fronts, kept.fits.channels, kept.fits.analyzers, ← kept.declared) (simp length-map)
+  same_clients =
+      let named : kept.last.members ≡ member_names kept.lists = kept.fits.members ∙ names in
+      let fronts = map (λ (f : FrontDeclared). f.name) kept.lists.fronts in
+      let analyzers = map (λ (a : AnalyzerDeclared). a.name) kept.lists.analyzers in
+      let senders : sender_count kept.last.members ≡ length kept.lists.fronts =
+      ap sender_count named ∙ (counted.senders fronts logger_name analyzers ∙ length-map kept.lists.fronts (λ (f : FrontDeclared). f.name)) in
+      let reporters : reporter_count kept.last.members ≡ length kept.lists.analyzers =
+      ap reporter_count named ∙ (counted.reporters fronts logger_name analyzers ∙ length-map kept.lists.analyzers (λ (a : AnalyzerDeclared). a.name)) in
+      rw (senders, reporters, kept.fits.channels, ← kept.declared) refl
 
   fit : AllByRecursion (FitsRun its_clients own) r.runs
   fit =
@@ -152,16 +163,18 @@ module _ {D F : Type 0} {g : _} (read : F → FilesTold) (first_files : F) (fina
 
   laws_first : EndedLaws read r → Laws (first_database kept.shared) kept.lists kept.logger.first kept.logger.files
   laws_first laws =
+      let ends = laws.ends kept.lists kept.logger ended in
       let holds = laws.holds kept.lists kept.logger ended in
       record {
-        members = laws.ends kept.lists kept.logger ended;
-        holds = holds;
+        members = ends.0;
+        holds = holds.0;
+        moments = holds.1 ∙ sym ends.1;
         over = laws.starts kept.lists kept.logger ended own (Close (Ok tt) ∷ []) refl refl lists_fit;
         counts = laws.counts kept.lists kept.logger ended;
         one = laws.one_answer kept.lists kept.logger ended own (Close (Ok tt) ∷ []) refl lists_fit;
         rises = laws.rises kept.lists kept.logger ended own (Close (Ok tt) ∷ []) refl refl lists_fit;
         left = laws.names kept.lists kept.logger ended own (Close (Ok tt) ∷ []) refl refl lists_fit;
-        so = laws.records kept.lists kept.logger ended holds own (Close (Ok tt) ∷ []) refl fit;
+        so = laws.records kept.lists kept.logger ended holds.0 own (Close (Ok tt) ∷ []) refl fit;
         refused = laws.refusals kept.lists kept.logger ended own (Close (Ok tt) ∷ []) refl fit;
       }
 
@@ -261,6 +274,7 @@ module _ {D F : Type 0} {g : _} (read : F → FilesTold) (first_files : F) (fina
           channels = channels;
           members = laws.members;
           holds = laws.holds;
+          moments = laws.moments;
           over = laws.over;
           counts = laws.counts;
           one_answer = laws.one;

@@ -62,10 +62,10 @@ pub record HoldsFramedFiles {D F : Type 0} {g : _} (told : MemberTold Generator 
 
 -- so it is with the session of which this is kept, if one was opened
 abbrev pub KeptFramedFiles : {D F : Type 0} {g : _} → (told : MemberTold Generator F) → (first_files : F) → (final : SessionStage) →
-    (end : ScriptEnd) → (run_files : F) → (kept : Option (SessionRecord D g)) →
-    SessionKept told first_files final end run_files kept → Type 0
-KeptFramedFiles told first_files final end run_files None keeps = ⊤
-KeptFramedFiles told first_files final end run_files (Some r) keeps = HoldsFramedFiles told first_files final run_files r keeps
+    (run_files : F) → (kept : Option (SessionRecord D g)) →
+    SessionKept told first_files final run_files kept → Type 0
+KeptFramedFiles told first_files final run_files None keeps = ⊤
+KeptFramedFiles told first_files final run_files (Some r) keeps = HoldsFramedFiles told first_files final run_files r keeps
 
 -- A script was played, and of the session that it declared the run files are such.
 pub record ClosesFramedFiles {D S O F E C K : Type 0} {g : _} (told : OutsideTold S O F E C) (before after : Outside S O F E C K)
@@ -73,4 +73,4 @@ pub record ClosesFramedFiles {D S O F E C K : Type 0} {g : _} (told : OutsideTol
   pub end : ScriptEnd
   pub replies : List (ℕ × FileReply)
   pub ran : RunsScript told before after end replies kept
-  pub files : KeptFramedFiles told.crew before.run_files ran.final end after.run_files kept ran.keeps
+  pub files : KeptFramedFiles told.crew before.run_files ran.final after.run_files kept ran.keeps

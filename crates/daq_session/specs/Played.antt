@@ -1,5 +1,5 @@
 -- How a script is played, part by part: what each part leaves to the next.
-use Rattle.std.specs.Prelude.{◌≡◌, ℕ, zero, suc, false, List, [], Option, Some, None, ⊤}
+use Rattle.std.specs.Prelude.{◌≡◌, ℕ, zero, suc, false, List, [], Option, Some, None, Result, Ok, Err}
 use Rattle.std.specs.List.{AllByRecursion}
 use Rattle.daq_types.specs.Callers.{main_caller}
 use Rattle.frontend_kit.specs.declared.generator.Generator.{Generator}
@@ -33,8 +33,6 @@ use Rattle.session_objects.specs.Rosters.{KeepsPasses}
 use Rattle.session_runs.specs.KeptRuns.{RunsSeen}
 use Rattle.session_lines.specs.Stages.{SessionStage, first_stage}
 use Rattle.console.specs.declared.endings.Ending.{Ending}
-use Rattle.console.specs.declared.endings.Ending.TheVariants.{Halted}
-use Rattle.console.specs.declared.halts.Halt.TheVariants.{NoMemory as no_memory}
 use Rattle.console.specs.Closing.{EndCounts}
 use Rattle.session_commands.specs.declared.main_play.MainPlay.{MainPlay}
 use Rattle.session_commands.specs.declared.script.Script.{Script}
@@ -43,11 +41,9 @@ use Rattle.session_commands.specs.declared.unopened.Unopened.{Unopened as Setup}
 use Rattle.session_commands.specs.Endings.{NotesFailed, closing_calls}
 use Rattle.session_commands.specs.Finishing.{FinishedAt, FinishesLine, FinishesOpening, ScriptAt, SideTold, script_point, stage_open, stage_unopened}
 use Rattle.session_commands.specs.Keeping.{EndsOver, KnowsRuns, RunsKept, StageKept, StageSpares}
-use Rattle.daq_session.specs.declared.ends.ScriptEnd.{ScriptEnd}
-use Rattle.daq_session.specs.declared.ends.ScriptEnd.TheVariants.{NoMemory}
 use Rattle.daq_session.specs.declared.left.EndedObjects.{EndedObjects}
 use Rattle.daq_session.specs.declared.left.LeftBehind.{LeftBehind}
-use Rattle.daq_session.specs.declared.left.LeftBehind.TheVariants.{Session, Unopened, Nothing}
+use Rattle.daq_session.specs.declared.left.LeftBehind.TheVariants.{Session, Unopened}
 use Rattle.daq_session.specs.declared.places.Places.{Places}
 use Rattle.daq_session.specs.declared.places.Scene.{Scene}
 use Rattle.daq_session.specs.declared.played.LinesEnd.{LinesEnd}
@@ -91,6 +87,22 @@ pub record TellsScriptEnd {S O F E C K : Type 0} (told : OutsideTold S O F E C) 
   pub replies_are : final.database.replies ≡ lines.replies.replies
   pub clock_is : final.clock ≡ told.clock lines.clock
 
+-- The database of a session.
+
+-- what the main thread has seen of a database that nobody else called
+abbrev pub seen_by_main : (calls : List (ℕ × WatchEntry)) → ℕ → List (ℕ × WatchEntry) → Type 0
+seen_by_main calls zero seen = seen ≡ calls
+seen_by_main calls (suc number) seen = seen ≡ []
+
+-- All passes of the database are here; the main thread's has seen these calls, and the others have seen nothing.
+abbrev pub IsMainAlone : {D : Type 0} {g : _} → SharedOdb D → List (ℕ × WatchEntry) → Passes (LockedDatabase D) Watched WatchEntry g → Type 0
+IsMainAlone shared calls passes = KeepsPasses (seen_by_main calls) [] (odb_lock_of shared) passes
+
+-- Where what these passes have seen is the main thread's, all calls are its own.
+abbrev pub MainCalledAlone : {D : Type 0} {g : _} → SharedOdb D → Passes (LockedDatabase D) Watched WatchEntry g → Type 0
+MainCalledAlone shared passes = (seen : List (ℕ × WatchEntry)) → IsMainAlone shared seen passes →
+    AllByRecursion (λ call. call.0 ≡ main_caller) seen
+
 -- The objects of a session.
 
 -- Behind the script of an open session, as the main thread knows it: its members are those of its declarations, and each keeps
@@ -112,15 +124,22 @@ pub record OpenedEnds {D F : Type 0} {g : _} (told : MemberTold Generator F) (li
   pub first : logger.first ≡ first_files
   pub files : logger.files ≡ run_files
 
--- All passes are back, and the records of the runs; or there are none, where memory was wanting to open the session, and the run
--- files are what they were.
+-- No session was opened: the run files are what they were, and all passes of the database are here, which the main thread alone
+-- called.
+pub record NoneOpened {D F : Type 0} {g : _} (shared : SharedOdb D) (first_files : F) (final : SessionStage) (run_files : F)
+    (passes : Passes (LockedDatabase D) Watched WatchEntry g) : Type 0 where
+  pub closed : final.runs ≡ None
+  pub files : run_files ≡ first_files
+  pub alone : IsMainAlone shared final.database.access.seen passes
+
+-- All passes are back, and the records of the runs; or, where memory was wanting to open the session, those of the database.
 abbrev pub ObjectsEnd : {D F : Type 0} {g : _} → MemberTold Generator F → DeclaredLists → SessionObjects → SharedOdb D →
-    (first_files : F) → (final : SessionStage) → Ending → (run_files : F) → Option (SessionPasses D g × List RunRecord) → Type 0
-ObjectsEnd told lists objects shared first_files final ending run_files None =
-    (final.runs ≡ None) × (run_files ≡ first_files) × (ending ≡ Halted no_memory)
-ObjectsEnd told lists objects shared first_files final ending run_files (Some (passes, records)) =
+    (first_files : F) → (final : SessionStage) → (run_files : F) →
+    Result (SessionPasses D g × List RunRecord) (Passes (LockedDatabase D) Watched WatchEntry g) → Type 0
+ObjectsEnd told lists objects shared first_files final run_files (Ok (passes, records)) =
     (declared_by lists ≡ final.declared) × ((last : RunsSeen) × (final.runs ≡ Some last)
     × OpenedEnds told lists objects shared first_files final.database.access last passes records run_files)
+ObjectsEnd told lists objects shared first_files final run_files (Err passes) = NoneOpened shared first_files final run_files passes
 
 -- Parts of a script.
 
@@ -140,8 +159,7 @@ abbrev pub PlaysOpened : {D S O F E C K G : Type 0} {g : _} {s : _} {o : _} {d :
 PlaysOpened {F = F} told places members main end = (first_files : F) →
     HasNewMembers places.lists.now places.objects.now places.shared.now first_files members →
     PlaysThrough told main.script first_files end.lines
-    (λ final. ObjectsEnd told.crew places.lists.now places.objects.now places.shared.now first_files final end.lines.ending
-    end.lines.run_files end.session)
+    (λ final. ObjectsEnd told.crew places.lists.now places.objects.now places.shared.now first_files final end.lines.run_files end.session)
     (λ final. FinishesLine (lines_at told main.script) (lines_at told end.lines.script)
     (stage_open (side_of told) places.lists.now main.runs main.side) final end.lines.ending end.lines.closing)
 
@@ -151,7 +169,7 @@ abbrev pub PlaysObjects : {D S O F E C K G : Type 0} {g : _} {d : _} {e : _} →
     MainSide (SharedAccess D g) E C d e → Scene S O F K G → OpenedEnd D S O E C F K g → Type 0
 PlaysObjects told places side scene end = (declared : Declared) → opened_with_defaults declared ≡ declared_by places.lists.now →
     PlaysThrough told scene.script scene.members.run_files end.lines
-    (λ final. ObjectsEnd told.crew places.lists.now places.objects.now places.shared.now scene.members.run_files final end.lines.ending
+    (λ final. ObjectsEnd told.crew places.lists.now places.objects.now places.shared.now scene.members.run_files final
     end.lines.run_files end.session)
     (λ final. FinishesOpening (lines_at told scene.script) (lines_at told end.lines.script)
     (stage_unopened (side_of told) places.quota declared side) final end.lines.ending end.lines.closing)
@@ -170,39 +188,18 @@ pub record IsEndedSession {D F : Type 0} {g : _} (told : MemberTold Generator F)
   pub is_open : final.runs ≡ Some last
   pub ends : OpenedEnds told lists ended.objects shared first_files final.database.access last ended.passes ended.runs run_files
 
--- what the main thread has seen of a database that nobody else called
-abbrev pub seen_by_main : (calls : List (ℕ × WatchEntry)) → ℕ → List (ℕ × WatchEntry) → Type 0
-seen_by_main calls zero seen = seen ≡ calls
-seen_by_main calls (suc number) seen = seen ≡ []
-
--- Where what these passes have seen is the main thread's, all calls are its own.
-abbrev pub MainCalledAlone : {D : Type 0} {g : _} → SharedOdb D → Passes (LockedDatabase D) Watched WatchEntry g → Type 0
-MainCalledAlone shared passes = (seen : List (ℕ × WatchEntry)) → KeepsPasses (seen_by_main seen) [] (odb_lock_of shared) passes →
-    AllByRecursion (λ call. call.0 ≡ main_caller) seen
-
--- The passes of the database are left, and all but the main thread's have seen nothing.
-abbrev pub IsMainAlone : {D : Type 0} {g : _} → SharedOdb D → List (ℕ × WatchEntry) → LeftBehind D g → Type 0
-IsMainAlone shared calls (Session ended) = ⊥
-IsMainAlone shared calls (Unopened passes) = KeepsPasses (seen_by_main calls) [] (odb_lock_of shared) passes
-IsMainAlone shared calls Nothing = ⊥
-
--- What is left behind a script that ended so: the objects of its session; or the database alone, which only the main thread
--- called; or nothing, where there was no memory to open a session. Where none was opened, the run files are what they were.
+-- What is left behind a script: the objects of its session; or the database alone, where none was opened.
 abbrev pub SessionEnds : {D F : Type 0} {g : _} → MemberTold Generator F → SharedOdb D → (first_files : F) → (final : SessionStage) →
-    Ending → (run_files : F) → LeftBehind D g → Type 0
-SessionEnds told shared first_files final ending run_files (Session ended) =
-    IsEndedSession told shared first_files final run_files ended
-SessionEnds told shared first_files final ending run_files (Unopened passes) =
-    (final.runs ≡ None) × (run_files ≡ first_files) × IsMainAlone shared final.database.access.seen (Unopened passes)
-SessionEnds told shared first_files final ending run_files Nothing =
-    (final.runs ≡ None) × (run_files ≡ first_files) × (ending ≡ Halted no_memory)
+    (run_files : F) → LeftBehind D g → Type 0
+SessionEnds told shared first_files final run_files (Session ended) = IsEndedSession told shared first_files final run_files ended
+SessionEnds told shared first_files final run_files (Unopened passes) = NoneOpened shared first_files final run_files passes
 
 -- A session of these declarations was to be opened, and its script was played to the end from its first start on.
 abbrev pub PlaysSession : {D S O F E C K G : Type 0} {g : _} {d : _} {e : _} {c : _} → OutsideTold S O F E C → SharedOdb D →
     Setup (SharedAccess D g) E C d e c → Scene S O F K G → LinesEnd S O E C F K × LeftBehind D g → Type 0
 PlaysSession told shared setup scene end =
     PlaysThrough told scene.script scene.members.run_files end.0
-    (λ final. SessionEnds told.crew shared scene.members.run_files final end.0.ending end.0.run_files end.1)
+    (λ final. SessionEnds told.crew shared scene.members.run_files final end.0.run_files end.1)
     (λ final. FinishesOpening (lines_at told scene.script) (lines_at told end.0.script)
     (stage_unopened (side_of told) setup.quota setup.declarations setup.side) final end.0.ending end.0.closing)
 
@@ -212,7 +209,7 @@ abbrev pub PlaysAll : {D S O F E C K G : Type 0} {g : _} {d : _} {e : _} {c : _}
     Setup (SharedAccess D g) E C d e c → Scene S O F K G → LinesEnd S O E C F K × LeftBehind D g → Type 0
 PlaysAll told shared setup scene end =
     PlaysThrough told scene.script scene.members.run_files end.0
-    (λ final. SessionEnds told.crew shared scene.members.run_files final end.0.ending end.0.run_files end.1)
+    (λ final. SessionEnds told.crew shared scene.members.run_files final end.0.run_files end.1)
     (λ final. FinishedAt
     (first_stage (shared_access (odb_identity shared) main_caller []) (told.dumps setup.side.database.files) (told.clock setup.side.clock))
     (told.source scene.script.src) (told.sink scene.script.out).written end.0.ending end.0.closing (lines_at told end.0.script) final)
@@ -222,8 +219,7 @@ PlaysAll told shared setup scene end =
 -- the passes of what is left are all here
 abbrev pub IsBack : {D : Type 0} {g : _} → SharedOdb D → LeftBehind D g → Type 0
 IsBack shared (Session ended) = (calls : SessionCalls) × HasCalls calls ended.objects shared ended.passes
-IsBack shared (Unopened passes) = (calls : List (ℕ × WatchEntry)) × IsMainAlone shared calls (Unopened passes)
-IsBack shared Nothing = ⊤
+IsBack shared (Unopened passes) = (calls : List (ℕ × WatchEntry)) × IsMainAlone shared calls passes
 
 -- The record of a session: the histories of its objects, which are those of its declarations, and hold the calls of its main
 -- thread and of its members, each of which keeps its contract; and the records of its runs. Its logger took its seat at the
@@ -261,10 +257,8 @@ abbrev pub RecordsKeep : {D F : Type 0} {g : _} → MemberTold Generator F → S
 RecordsKeep {D} {F} told r = (first_files : F) → (final : SessionStage) → (run_files : F) →
     IsSessionRecord told first_files final run_files r → KeepsSession told first_files final run_files r
 
--- This is what is kept of a script, by what it left: its last stage is one that a script leaves, and it ended for want of memory
--- where its lines did.
+-- This is what is kept of a script, by what it left: its last stage is one that a script leaves.
 abbrev pub KeepsLeft : {D F : Type 0} {g : _} → MemberTold Generator F → SharedOdb D → LeftBehind D g → Option (SessionRecord D g) → Type 0
-KeepsLeft {D} {F} told shared left kept = (first_files : F) → (final : SessionStage) → (ending : Ending) → (end : ScriptEnd) → (run_files : F) →
+KeepsLeft {D} {F} told shared left kept = (first_files : F) → (final : SessionStage) → (run_files : F) →
     first_database shared ≡ unwatched session_rows → StageKept final → EndsOver final → StageSpares final →
-    (ending ≡ Halted no_memory → end ≡ NoMemory) → SessionEnds told shared first_files final ending run_files left →
-    SessionKept told first_files final end run_files kept
+    SessionEnds told shared first_files final run_files left → SessionKept told first_files final run_files kept

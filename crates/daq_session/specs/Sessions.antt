@@ -50,18 +50,17 @@ pub record KeepsSession {D F : Type 0} {g : _} (told : MemberTold Generator F) (
   pub kept : r.runs ≡ last.runs
   pub tells : RecordTells told final.declared (main_own final last) first_files run_files r
 
--- No session was opened: the run files are what they were; and where memory was not wanting, all calls that were made on the
--- database are the main thread's.
-pub record LacksSession {F : Type 0} (first_files : F) (final : SessionStage) (end : ScriptEnd) (run_files : F) : Type 0 where
+-- No session was opened: the run files are what they were; and all calls that were made on the database are the main thread's.
+pub record LacksSession {F : Type 0} (first_files : F) (final : SessionStage) (run_files : F) : Type 0 where
   pub closed : final.runs ≡ None
   pub files : run_files ≡ first_files
-  pub alone : end ≢ NoMemory → AllByRecursion (λ call. call.0 ≡ main_caller) final.database.access.seen
+  pub alone : AllByRecursion (λ call. call.0 ≡ main_caller) final.database.access.seen
 
 -- There is a record exactly where a session was opened.
-abbrev pub SessionKept : {D F : Type 0} {g : _} → MemberTold Generator F → (first_files : F) → (final : SessionStage) → ScriptEnd →
+abbrev pub SessionKept : {D F : Type 0} {g : _} → MemberTold Generator F → (first_files : F) → (final : SessionStage) →
     (run_files : F) → Option (SessionRecord D g) → Type 0
-SessionKept told first_files final end run_files None = LacksSession first_files final end run_files
-SessionKept told first_files final end run_files (Some r) = KeepsSession told first_files final run_files r
+SessionKept told first_files final run_files None = LacksSession first_files final run_files
+SessionKept told first_files final run_files (Some r) = KeepsSession told first_files final run_files r
 
 -- Of the runs of a session that came about, each had its dump saved as it was stopped; and where no fault of the run files was
 -- counted, each channel ended in them.
@@ -75,10 +74,10 @@ pub record RunsEnded {D F : Type 0} {g : _} (told : MemberTold Generator F) (fir
 
 -- So it is with the session of which this is kept, if one was opened.
 abbrev pub KeptRunsEnded : {D F : Type 0} {g : _} → (told : MemberTold Generator F) → (first_files : F) → (final : SessionStage) →
-    (end : ScriptEnd) → (run_files : F) → (kept : Option (SessionRecord D g)) →
-    SessionKept told first_files final end run_files kept → Type 0
-KeptRunsEnded told first_files final end run_files None keeps = ⊤
-KeptRunsEnded told first_files final end run_files (Some r) keeps = RunsEnded told first_files final run_files r keeps
+    (run_files : F) → (kept : Option (SessionRecord D g)) →
+    SessionKept told first_files final run_files kept → Type 0
+KeptRunsEnded told first_files final run_files None keeps = ⊤
+KeptRunsEnded told first_files final run_files (Some r) keeps = RunsEnded told first_files final run_files r keeps
 
 -- Each record of a session is of a start that was begun with the quota that stands at its place among these.
 pub record RunsAsked {D F : Type 0} {g : _} (told : MemberTold Generator F) (first_files : F) (final : SessionStage) (run_files : F)
@@ -91,10 +90,10 @@ pub record RunsAsked {D F : Type 0} {g : _} (told : MemberTold Generator F) (fir
 
 -- So it is with the session of which this is kept, if one was opened.
 abbrev pub KeptRunsAsked : {D F : Type 0} {g : _} → (told : MemberTold Generator F) → (first_files : F) → (final : SessionStage) →
-    (end : ScriptEnd) → (run_files : F) → (asked : List ℕ) → (kept : Option (SessionRecord D g)) →
-    SessionKept told first_files final end run_files kept → Type 0
-KeptRunsAsked told first_files final end run_files asked None keeps = ⊤
-KeptRunsAsked told first_files final end run_files asked (Some r) keeps = RunsAsked told first_files final run_files asked r keeps
+    (run_files : F) → (asked : List ℕ) → (kept : Option (SessionRecord D g)) →
+    SessionKept told first_files final run_files kept → Type 0
+KeptRunsAsked told first_files final run_files asked None keeps = ⊤
+KeptRunsAsked told first_files final run_files asked (Some r) keeps = RunsAsked told first_files final run_files asked r keeps
 
 -- The lines of a script, from the main thread's first access to the database on, and what is behind them.
 pub record PlaysLines (access : DatabaseAccess) (before after : Environment) (ending : Ending) (closing : Option Halt)
@@ -142,7 +141,7 @@ pub record RunsScript {D S O F E C K : Type 0} {g : _} (told : OutsideTold S O F
     (end : ScriptEnd) (replies : List (ℕ × FileReply)) (kept : Option (SessionRecord D g)) : Type 0 where
   pub final : SessionStage
   pub plays : PlaysScript (environment told before) (environment told after) end replies final
-  pub keeps : SessionKept told.crew before.run_files final end after.run_files kept
-  pub asked : KeptRunsAsked told.crew before.run_files final end after.run_files
+  pub keeps : SessionKept told.crew before.run_files final after.run_files kept
+  pub asked : KeptRunsAsked told.crew before.run_files final after.run_files
       (quotas_asked 0 plays.lines.finished.lines plays.lines.finished.replies) kept keeps
-  pub ended : end ≢ NoMemory → KeptRunsEnded told.crew before.run_files final end after.run_files kept keeps
+  pub ended : end ≢ NoMemory → KeptRunsEnded told.crew before.run_files final after.run_files kept keeps

@@ -62,7 +62,7 @@ use Rattle.session_laws.specs.EndLaws.{SessionHolds}
 use Rattle.session_laws.specs.MadeRuns.{ReportHolds}
 use Rattle.session_laws.specs.MembersAtEnd.{MembersAtEnd}
 use Rattle.session_laws.specs.OneAnswer.{OneAnswer, RisesTold}
-use Rattle.session_laws.specs.OtherNames.{AreStartsOver}
+use Rattle.session_laws.specs.OtherNames.{AreStartsOver, IsNameKept}
 use Rattle.session_laws.specs.EndedRecords.{IsInNoRecord, RecordSo, RefusalSo, clients_declared}
 use Rattle.session_laws.specs.EndedSessions.{closed_session}
 use Rattle.daq_session.specs.RunNumbers.{GivesNumber, IsNumberBefore}
@@ -236,11 +236,13 @@ session_told told declared slots first_files files r =
 -- What the record of a session of these declarations tells, in which these are the main thread's calls: the histories of its
 -- objects; one record for each start that was begun, in order, each of which fits these calls, and no two of one start; each answer
 -- that the run number got; the channels of its logger, which are those that were declared; who called, and that each member kept
--- its contract over its own calls; all that the laws say of the session, of its runs, its files, its front-ends and its callers;
+-- its contract over its own calls, a front-end with the moments of its turns; all that the laws say of the session, of its runs, its
+-- files, its front-ends, with these same moments, and its callers;
 -- that each start is over; what the counts of its run files tell; that one fault of these gives one answer, and that no clash is
--- counted without one where no channel has a limit, and no fault but where a start was refused; that each run file that is in no
--- record is as it was, where no fault was counted; each of its runs that came about; and that each other start was refused by a
--- front-end whose equipment takes no part in the run, or by the logger for a fault or a clash of names that was counted.
+-- counted without one where no channel has a limit, and no fault but where a start was refused, nor the first one without a channel
+-- that is called Broken; that each run file that is in no record is as it was, but one of a start that was refused, where more faults
+-- were counted than are told; each of its runs that came about; and that each other start was refused by a front-end whose equipment
+-- takes no part in the run, or by the logger for a fault or a clash of names that was counted.
 pub record RecordTells {D F : Type 0} {g : _} (told : MemberTold Generator F) (declared : Declared) (own : MainOwn)
     (first_files files : F) (r : SessionRecord D g) : Type 0 where
   pub histories : AreHistoriesOf declared r
@@ -253,13 +255,13 @@ pub record RecordTells {D F : Type 0} {g : _} (told : MemberTold Generator F) (d
   pub channels : AreDeclared declared.channels slots
   pub members : MembersAtEnd (session_told told declared slots first_files files r)
   pub holds : SessionHolds (session_told told declared slots first_files files r)
+  pub moments : holds.moments ≡ members.moments
   pub over : AreStartsOver (engine_calls (session_told told declared slots first_files files r) main_caller)
   pub counts : CountsHold (session_told told declared slots first_files files r) (told.read first_files) (told.read files)
   pub one_answer : OneAnswer r.runs (told.read first_files) (told.read files)
   pub rises : RisesTold (specs_in slots) r.runs (told.read first_files) (told.read files)
-  pub left : IsTrue (told.read first_files).seen.names → NoneRose (told.read first_files) (told.read files) →
-      (name : List ℕ) → IsInNoRecord r.runs name →
-      (told.read files).seen.at name ≡ (told.read first_files).seen.at name
+  pub left : IsTrue (told.read first_files).seen.names → (name : List ℕ) → IsInNoRecord r.runs name →
+      IsNameKept (session_told told declared slots first_files files r) (told.read first_files) (told.read files) name
   pub runs : (number : ℕ) → (run : RunRecord) → slice_get r.runs number ≡ Some run → run.outcome ≡ Completed →
       RunTells (session_told told declared slots first_files files r) holds.moments own declared r.buffers
       (told.read first_files) (told.read files) run

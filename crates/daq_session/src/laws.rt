@@ -15,6 +15,7 @@ use session_laws::record_laws::{
     session_ended, starts_end,
 };
 use session_objects::SessionRecord;
+use session_runs::laws::members_counted;
 use turn_lock::Machine;
 
 /// Of a session of which a record is kept, all laws of closed sessions hold, and the record tells what they say.
@@ -29,6 +30,7 @@ where
     own_calls_spare();
     sent_by();
     members_listed();
+    members_counted();
     starts_differ();
     members_end::<D, F>(kept);
     session_ended::<D, F>(kept);

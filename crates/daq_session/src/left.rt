@@ -6,8 +6,8 @@ ghost use Rattle.odb_lock.specs.SharedAccesses.{access_by_pass, odb_identity};
 ghost use Rattle.odb_lock.specs.SharedOdbs.{odb_lock_of};
 ghost use Rattle.session_objects.specs.Members.{members_told};
 ghost use Rattle.session_objects.specs.Records.{AreAllPasses};
-ghost use Rattle.session_objects.specs.Rosters.{KeepsFresh, KeepsPasses};
-ghost use Rattle.daq_session.specs.Played.{IsBack, IsMainAlone, KeepsLeft, MainCalledAlone, seen_by_main, unopened_lines};
+ghost use Rattle.session_objects.specs.Rosters.{KeepsPasses, nothing_seen};
+ghost use Rattle.daq_session.specs.Played.{IsBack, IsMainAlone, KeepsLeft, MainCalledAlone, unopened_lines};
 
 use crate::laws::sessions_hold;
 use crate::places::Scene;
@@ -42,8 +42,6 @@ where
     Session { ended: EndedObjects<D> },
     /// None was opened: the passes of the database are all here.
     Unopened { passes: OdbPasses<D> },
-    /// There was no memory to open one.
-    Nothing,
 }
 
 /// All passes of the database, with the main thread's, by which alone calls were made.
@@ -54,16 +52,15 @@ fn all_passes<'a, D: Database>(
 ) -> OdbPasses<D>
     requires caller { (access_by_pass access).caller ≡ main_caller }
     requires database { (access_by_pass access).database ≡ odb_identity _shared.now }
-    requires others { KeepsFresh (main_caller ∷ []) (odb_lock_of _shared.now) passes }
-    ensures { KeepsPasses (seen_by_main (access_by_pass access.entry).seen) []
-        (odb_lock_of _shared.now) result }
+    requires others { KeepsPasses nothing_seen (main_caller ∷ []) (odb_lock_of _shared.now) passes }
+    ensures { IsMainAlone _shared.now (access_by_pass access.entry).seen result }
 {
     let pass = access.into_pass();
     passes.push(pass);
     passes
 }
 
-/// What a script came to that opened no session, and what is left of it.
+/// What a script came to that opened no session, and all passes of its database.
 pub fn leave_unopened<
     'a,
     S: Source,
@@ -80,11 +77,11 @@ pub fn leave_unopened<
     passes: OdbPasses<D>,
     ending: Ending,
     scene: Scene<'a, S, O, F, K, G>,
-) -> (LinesEnd<S, O, E, C, F, K>, LeftBehind<D>)
+) -> (LinesEnd<S, O, E, C, F, K>, OdbPasses<D>)
     requires database { (access_by_pass side.database.access).database ≡ odb_identity shared.now }
-    requires others { KeepsFresh (main_caller ∷ []) (odb_lock_of shared.now) passes }
+    requires others { KeepsPasses nothing_seen (main_caller ∷ []) (odb_lock_of shared.now) passes }
     ensures lines { result.0 ≡ unopened_lines ending side.entry scene.entry }
-    ensures left { IsMainAlone shared.now (access_by_pass side.entry.database.access).seen result.1 }
+    ensures alone { IsMainAlone shared.now (access_by_pass side.entry.database.access).seen result.1 }
 {
     let MainSide { database, clock } = side;
     let Scene { script, members } = scene;
@@ -105,7 +102,7 @@ pub fn leave_unopened<
         pick: members.pick,
         script,
     };
-    (lines, LeftBehind::Unopened { passes })
+    (lines, passes)
 }
 
 /// Closes the database of a script that opened no session. All calls that were made on it are the main thread's.
@@ -152,6 +149,5 @@ pub fn close_left<D: Database, F: Files>(
             close_database(shared, passes);
             None
         }
-        LeftBehind::Nothing => None,
     }
 }

@@ -1,14 +1,16 @@
 // The opening of a session, with its first start.
-ghost use Rattle.std.specs.Prelude.{◌≡◌, ◌≤◌, IfErr, IfOk, OnErr, OnOk, length};
+ghost use Rattle.std.specs.Prelude.{◌≡◌, ◌≤◌, ◌∷◌, [], IfErr, IfOk, OnErr, OnOk, length};
 ghost use Rattle.daq_types.specs.Callers.{main_caller};
 ghost use Rattle.turn_lock.specs.Passes.{number_of, IsOf};
 ghost use Rattle.turn_lock.specs.Roster.{IsFresh};
 ghost use Rattle.odb_watch.specs.DatabasePorts.{IsSamePort};
 ghost use Rattle.odb_lock.specs.SharedAccesses.{access_by_pass};
+ghost use Rattle.odb_lock.specs.SharedOdbs.{odb_lock_of};
 ghost use Rattle.transitions.specs.Engines.{engine_opening};
 ghost use Rattle.transition_lock.specs.SharedEngines.{engine_lock_of, first_engine};
-ghost use Rattle.session_lines.specs.Stages.{analyzer_names, front_names, opened_runs};
+ghost use Rattle.session_lines.specs.Stages.{front_names, opened_runs};
 ghost use Rattle.session_setup.specs.Setup.{declared_by};
+ghost use Rattle.session_objects.specs.Rosters.{KeepsPasses, nothing_seen};
 ghost use Rattle.daq_session.specs.NewDatabases.{IsNewDatabase};
 ghost use Rattle.daq_session.specs.Opened.{AreOpenFor, FrontKeysCut, FrontKeysMade, OpensMembers};
 
@@ -31,7 +33,8 @@ use session_commands::make_keys;
 use session_objects::{
     Membership, SessionMembers, SessionObjects, SessionPasses, member_names, take_main,
 };
-use session_runs::{AnalyzerNames, FrontNames, MainSeat, Runs};
+use session_runs::laws::members_counted;
+use session_runs::{MainSeat, Runs};
 use session_setup::DeclaredLists;
 use std::alloc::Global;
 use std::sync::Wait;
@@ -73,25 +76,13 @@ pub fn open_database(alloc: Global) -> Result<OpenDatabase<SessionTree>, NoMemor
 }
 
 /// The names of the front-ends.
-fn front_names(alloc: Global, lists: &DeclaredLists) -> Result<FrontNames, NoMemory>
+fn front_names(alloc: Global, lists: &DeclaredLists) -> Result<BoundedList<Name, 32>, NoMemory>
     ensures { IfOk result (λ names. names ≡ front_names (declared_by lists.now)) }
 {
     let fronts = lists.fronts.as_slice();
     let mut names = BoundedList::new(alloc)?;
     for front in fronts {
         names.try_push(front.name)?;
-    }
-    Ok(names)
-}
-
-/// The names of the analyzers.
-fn analyzer_names(alloc: Global, lists: &DeclaredLists) -> Result<AnalyzerNames, NoMemory>
-    ensures { IfOk result (λ names. names ≡ analyzer_names (declared_by lists.now)) }
-{
-    let analyzers = lists.analyzers.as_slice();
-    let mut names = BoundedList::new(alloc)?;
-    for analyzer in analyzers {
-        names.try_push(analyzer.name)?;
     }
     Ok(names)
 }
@@ -167,23 +158,15 @@ fn open_runs<'a, R: Wait>(
     ensures { IfOk result (λ runs. runs ≡ opened_runs quota (declared_by lists.now)
         objects.now.engine) }
 {
-    let fronts = front_names(alloc, lists)?;
-    let analyzers = analyzer_names(alloc, lists)?;
     let members = member_names(alloc, lists)?;
+    members_counted();
     let mut seat = MainSeat::new(&objects.engine, main);
     seat.register_all(rt, &members);
-    Runs::new(
-        alloc,
-        seat,
-        quota,
-        fronts,
-        lists.channels.as_slice(),
-        analyzers,
-    )
+    Runs::new(alloc, seat, quota, members, lists.channels.as_slice())
 }
 
 /// What the main thread keeps of the runs of a session that opens, its members, and their pick; or what the members were to meet
-/// outside, where there is no memory for them.
+/// outside, where there is no memory for them: then the passes of the database are all here but the main thread's.
 pub fn open_members<'a, R: Wait, D: Database, F: Files + Drop, K: Pick, G: Gate>(
     rt: &R,
     alloc: Global,
@@ -196,6 +179,7 @@ pub fn open_members<'a, R: Wait, D: Database, F: Files + Drop, K: Pick, G: Gate>
     ensures opened { IfOk result (λ opened. OpensMembers places.now side.entry passes.new opened) }
     ensures files { IfErr result (λ back. back.run_files ≡ side.entry.run_files) }
     ensures pick { IfErr result (λ back. back.pick ≡ side.entry.pick) }
+    ensures back { OnErr result (KeepsPasses nothing_seen (main_caller ∷ []) (odb_lock_of places.now.shared.now) passes.new.database) }
 {
     let (objects, lists) = (places.objects, places.lists);
     let Ok(runs) = open_runs(rt, alloc, objects, main, lists, places.quota) else {

@@ -7,8 +7,9 @@ ghost use Rattle.session_commands.specs.Finishing.{side_told};
 ghost use Rattle.daq_session.specs.Environments.{outside_told};
 ghost use Rattle.daq_session.specs.LinesEnded.{outside_left};
 ghost use Rattle.daq_session.specs.Opened.{AreOpenFor, HasMembersAt, IsMainOf, PlaysMain};
-ghost use Rattle.daq_session.specs.Played.{PlaysObjects, PlaysOpened, unopened_lines};
+ghost use Rattle.daq_session.specs.Played.{PlaysObjects, PlaysOpened};
 
+use crate::left::leave_unopened;
 use crate::opening::{SessionRoom, let_go, open_keys, open_members};
 use crate::places::{OpenedPasses, Places, Scene};
 use buffer_core::BufferPort;
@@ -17,7 +18,7 @@ use daq_io::{Clock, Files, Gate, Outside, Pick, Sink, Source};
 use daq_members::{MemberRoom, Members, play_members};
 use front_ends::Equipment;
 use odb_commands::FileReplies;
-use odb_lock::{LockedDatabase, SharedAccess, WatchedSeen};
+use odb_lock::{LockedDatabase, OdbPasses, SharedAccess, WatchedSeen};
 use odb_tree::Database;
 use odb_watch::{WatchEntry, WatchPort};
 use session_commands::laws::first_start_opens;
@@ -80,52 +81,15 @@ where
     LockedDatabase<D>: Machine<State = WatchedSeen, Entry = WatchEntry>,
 {
     pub lines: LinesEnd<S, O, E, C, F, K>,
-    /// All passes of the objects, and the records of the runs; none where there was no memory to open the session.
-    pub session: Option<(SessionPasses<D>, RunRecords)>,
+    /// All passes of the objects, and the records of the runs; or those of the database, where there was no memory to open the
+    /// session.
+    pub session: Result<(SessionPasses<D>, RunRecords), OdbPasses<D>>,
 }
 
 /// Where there is no memory to open a session.
 pub const NO_MEMORY: Ending = Ending::Halted {
     halt: Halt::NoMemory,
 };
-
-/// What a session that was not opened came to.
-pub fn end_unopened<
-    'a,
-    S: Source,
-    O: Sink,
-    D: Database,
-    E: Files,
-    C: Clock,
-    F: Files,
-    K: Pick,
-    G: Gate,
->(
-    ending: Ending,
-    side: MainSide<SharedAccess<'a, D>, E, C>,
-    scene: Scene<'a, S, O, F, K, G>,
-) -> LinesEnd<S, O, E, C, F, K>
-    ensures { result ≡ unopened_lines ending side.entry scene.entry }
-{
-    let MainSide { database, clock } = side;
-    let Scene { script, members } = scene;
-    let DatabaseConsole {
-        files: odb_files,
-        replies,
-        ..
-    } = database;
-    LinesEnd {
-        ending,
-        closing: None,
-        failed: false,
-        replies,
-        odb_files,
-        clock,
-        run_files: members.run_files,
-        pick: members.pick,
-        script,
-    }
-}
 
 /// Plays the main thread's part of an open session with these members. At a session's own types a call with `MainPlay` would have its
 /// laws stated once more, so this is over any types.
@@ -222,7 +186,7 @@ fn play_opened<
             pick,
             script,
         },
-        session: Some((passes, records)),
+        session: Ok((passes, records)),
     }
 }
 
@@ -259,9 +223,11 @@ pub fn play_objects<
     let database = &mut side.database;
     let access = &mut database.access;
     let Ok(room) = open_keys(rt, alloc, scene.members.cooperative, access, places.lists) else {
+        let passes = passes.database;
+        let (lines, passes) = leave_unopened(places.shared, side, passes, NO_MEMORY, scene);
         return OpenedEnd {
-            lines: end_unopened(NO_MEMORY, side, scene),
-            session: None,
+            lines,
+            session: Err(passes),
         };
     };
     let Scene { script, members } = scene;
@@ -278,9 +244,12 @@ pub fn play_objects<
         }
         Err(members) => {
             let_go(room);
+            let scene = Scene { script, members };
+            let passes = passes.database;
+            let (lines, passes) = leave_unopened(places.shared, side, passes, NO_MEMORY, scene);
             OpenedEnd {
-                lines: end_unopened(NO_MEMORY, side, Scene { script, members }),
-                session: None,
+                lines,
+                session: Err(passes),
             }
         }
     }

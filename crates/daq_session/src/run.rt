@@ -8,7 +8,7 @@ ghost use Rattle.odb_lock.specs.SharedOdbs.{odb_lock_of};
 ghost use Rattle.session_setup.specs.Setup.{AreSound, declared_by, nothing_declared};
 ghost use Rattle.session_setup.specs.SetupLines.{opened_with_defaults};
 ghost use Rattle.session_objects.specs.Rosters.{KeepsFresh};
-ghost use Rattle.session_commands.specs.FirstLines.{IsUnreadScript};
+ghost use Rattle.console.specs.LineLoops.{IsUnreadScript};
 ghost use Rattle.daq_session.specs.Environments.{outside_told};
 ghost use Rattle.daq_session.specs.NewDatabases.{IsNewDatabase, IsNewSession, IsUnopenedSession, database_passes};
 ghost use Rattle.daq_session.specs.Played.{PlaysAll, PlaysSession};
@@ -19,7 +19,7 @@ use crate::ends::{ScriptEnd, end_of};
 use crate::left::{EndedObjects, LeftBehind, close_left, leave_unopened};
 use crate::opening::{OpenDatabase, SessionTree, open_database};
 use crate::places::{MemberSide, OpenedPasses, Places, Scene};
-use crate::played::{LinesEnd, NO_MEMORY, OpenedEnd, end_unopened, play_objects};
+use crate::played::{LinesEnd, NO_MEMORY, OpenedEnd, play_objects};
 use console::{DatabaseConsole, LineLoop, PlayEnd};
 use daq_io::{Clock, Files, Gate, Outside, Pick, Sink, Source};
 use odb_commands::FileReplies;
@@ -29,7 +29,7 @@ use odb_watch::WatchEntry;
 use session_commands::laws::{first_start_opens, scripts_keep};
 use session_commands::{MainSide, Script, Unopened, play_first};
 use session_objects::laws::members_suit;
-use session_objects::{OpenedObjects, SessionObjects, SessionRecord};
+use session_objects::{SessionObjects, SessionRecord};
 use session_setup::{Declarations, DeclaredLists};
 use std::alloc::Global;
 use std::sync::Wait;
@@ -78,14 +78,14 @@ fn open_and_play<
         side,
     } = setup;
     let lists = open_lists(declarations);
-    let Ok(opened) = SessionObjects::open(alloc, &lists, passes) else {
-        return (end_unopened(NO_MEMORY, side, scene), LeftBehind::Nothing);
+    let opened = match SessionObjects::open(alloc, &lists, passes) {
+        Ok(opened) => opened,
+        Err(passes) => {
+            let (lines, passes) = leave_unopened(shared, side, passes, NO_MEMORY, scene);
+            return (lines, LeftBehind::Unopened { passes });
+        }
     };
-    let OpenedObjects {
-        objects,
-        passes,
-        main,
-    } = opened;
+    let objects = opened.objects;
     members_suit(&lists, &objects, shared);
     let places = Places {
         shared,
@@ -95,13 +95,13 @@ fn open_and_play<
         quota,
     };
     let passes = OpenedPasses {
-        main,
-        others: passes,
+        main: opened.main,
+        others: opened.passes,
     };
     let OpenedEnd { lines, session } = play_objects(rt, alloc, &places, passes, side, scene);
     match session {
-        None => (lines, LeftBehind::Nothing),
-        Some((passes, runs)) => {
+        Err(passes) => (lines, LeftBehind::Unopened { passes }),
+        Ok((passes, runs)) => {
             let ended = EndedObjects {
                 objects,
                 passes,
@@ -138,7 +138,10 @@ fn play_all<
 {
     first_start_opens::<D, E, C>(shared);
     match play_first(rt, alloc, &mut setup, &mut scene.script) {
-        PlayEnd::Ended { ending } => leave_unopened(shared, setup.side, passes, ending, scene),
+        PlayEnd::Ended { ending } => {
+            let (lines, passes) = leave_unopened(shared, setup.side, passes, ending, scene);
+            (lines, LeftBehind::Unopened { passes })
+        }
         PlayEnd::Opens => open_and_play(rt, alloc, shared, passes, setup, scene),
     }
 }

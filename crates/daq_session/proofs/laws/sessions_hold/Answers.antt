@@ -25,4 +25,4 @@ returns g c = λ first_files final run_files is.
       records = c.records_end.ensures;
       refusals = c.refusals_end.ensures;
     } in
-    keeps _ first_files final run_files c.args.kept.now is numbers laws
+    keeps _ first_files final run_files c.args.kept.now is c.members_counted.ensures numbers laws

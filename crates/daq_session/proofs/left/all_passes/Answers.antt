@@ -4,7 +4,7 @@ use Rattle.turn_lock.specs.Passes.{number_of, seen_by}
 use Rattle.odb_watch.specs.declared.entry.WatchEntry.{WatchEntry}
 use Rattle.odb_lock.specs.SharedAccesses.{access_by_pass}
 use Rattle.odb_lock.specs.SharedOdbs.{odb_lock_of}
-use Rattle.session_objects.proofs.RosterLaws.{at_first, fresh_tells, puts_keep, room_for}
+use Rattle.session_objects.proofs.RosterLaws.{at_first, puts_keep, room_for, unseen_tells}
 use Rattle.daq_session.specs.Played.{seen_by_main}
 use Rattle.daq_session.proofs.left.all_passes.Goals as goal
 
@@ -13,7 +13,7 @@ untold calls zero absent = absurd (absent (at_first 0 [] 0 refl))
 untold calls (suc number) absent = refl
 
 pub push-requires : goal.push-requires
-push-requires g c = room_for _ (odb_lock_of c.args._shared.now) _ 0 [] c.requires.others.keeps
+push-requires g c = room_for _ (odb_lock_of c.args._shared.now) _ 0 [] c.requires.others
 
 pub returns : goal.returns
 returns g c =
@@ -25,4 +25,4 @@ returns g c =
     (c.into_pass-pass.ensures.told c.args._shared.now c.requires.database)
     c.into_pass-pass.ensures.idle
     (ap seen_by c.into_pass-pass.ensures.pass)
-    (fresh_tells (seen_by_main calls) (0 ∷ []) lock c.args.passes (λ number below absent. untold calls number absent) c.requires.others)
+    (unseen_tells (seen_by_main calls) (0 ∷ []) lock c.args.passes (λ number absent. untold calls number absent) c.requires.others)

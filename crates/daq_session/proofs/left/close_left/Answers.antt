@@ -14,20 +14,13 @@ close_database-requires-clause-all g c =
 
 pub returns-in-Session : goal.returns-in-Session
 returns-in-Session g c = record {
-  kept = λ first_files final ending end run_files rows kept over spares memory ends.
-      c.close_objects.ensures.kept first_files final ending end run_files rows kept over spares memory (subst (SessionEnds _ c.args.shared first_files final ending run_files) c.in-Session.is ends);
+  kept = λ first_files final run_files rows kept over spares ends.
+      c.close_objects.ensures.kept first_files final run_files rows kept over spares (subst (SessionEnds _ c.args.shared first_files final run_files) c.in-Session.is ends);
 }
 
 pub returns-in-Unopened : goal.returns-in-Unopened
 returns-in-Unopened g c = record {
-  kept = λ first_files final ending end run_files rows kept over spares memory ends.
-      let unopened = subst (SessionEnds _ c.args.shared first_files final ending run_files) c.in-Unopened.is ends in
-      record { closed = unopened.0; files = unopened.1; alone = λ other. c.close_database.ensures.alone final.database.access.seen unopened.2 };
-}
-
-pub returns-in-Nothing : goal.returns-in-Nothing
-returns-in-Nothing g c = record {
-  kept = λ first_files final ending end run_files rows kept over spares memory ends.
-      let nothing = subst (SessionEnds _ c.args.shared first_files final ending run_files) c.in-Nothing.is ends in
-      record { closed = nothing.0; files = nothing.1; alone = λ other. absurd (other (memory nothing.2)) };
+  kept = λ first_files final run_files rows kept over spares ends.
+      let unopened = subst (SessionEnds _ c.args.shared first_files final run_files) c.in-Unopened.is ends in
+      record { closed = unopened.closed; files = unopened.files; alone = c.close_database.ensures.alone final.database.access.seen unopened.alone };
 }

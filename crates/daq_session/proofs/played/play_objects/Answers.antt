@@ -8,9 +8,13 @@ use Rattle.daq_session.proofs.played.play_objects.Goals as goal
 pub open_keys-requires : goal.open_keys-requires
 open_keys-requires g c = record { main = c.args.side.database.main }
 
+pub leave_unopened-lines-requires-clause-others : goal.leave_unopened-lines-requires-clause-others
+leave_unopened-lines-requires-clause-others g c = c.requires.«open».out.database.keeps
+
 pub returns-in_default : goal.returns-in_default
 returns-in_default g c =
-    rw c.end_unopened.ensures (cut_plays _ c.args.places.now c.args.side (access_by_pass c.open_keys.new.access) c.args.scene c.first_start_opens.ensures.cut c.in_default.ensures.cut)
+    let left = c.leave_unopened-lines.ensures in
+    rw left.lines (cut_plays _ c.args.places.now c.args.side (access_by_pass c.open_keys.new.access) c.args.scene _ c.first_start_opens.ensures.cut c.in_default.ensures.cut left.alone)
 
 pub play_opened-requires-clause-main : goal.play_opened-requires-clause-main
 play_opened-requires-clause-main g c = λ κs lives. record {
@@ -44,5 +48,6 @@ returns-in-Ok-open_members g c = λ declared opened.
 pub returns-in-Err : goal.returns-in-Err
 returns-in-Err g c =
     let keys = keys_cut _ (access_by_pass c.args.side.database.access) (access_by_pass c.open_keys.new.access) c.in-Ok.ensures.made in
-    rw (c.end_unopened-in-Err.ensures, c.in-Err.ensures.files, c.in-Err.ensures.pick)
-    (cut_plays _ c.args.places.now c.args.side (access_by_pass c.open_keys.new.access) c.args.scene c.first_start_opens.ensures.cut keys)
+    let left = c.leave_unopened-lines-in-Err.ensures in
+    rw (left.lines, c.in-Err.ensures.files, c.in-Err.ensures.pick)
+    (cut_plays _ c.args.places.now c.args.side (access_by_pass c.open_keys.new.access) c.args.scene _ c.first_start_opens.ensures.cut keys left.alone)

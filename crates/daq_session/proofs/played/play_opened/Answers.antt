@@ -20,9 +20,6 @@ play_main-end-requires-clause-few g c =
     let has = c.requires.members.1 in
     omega (arith, has.suit.few, has.suit.few_analyzers, has.new.are.many, many_members c.args.places.now.lists.now)
 
-pub take_back-passes-requires-clause-callers : goal.take_back-passes-requires-clause-callers
-take_back-passes-requires-clause-callers g c = c.requires.members.1.suit.callers
-
 pub take_back-passes-requires-clause-out : goal.take_back-passes-requires-clause-out
 take_back-passes-requires-clause-out g c = c.requires.members.1.out
 

@@ -19,24 +19,28 @@ play_objects-lines-requires-clause-open g c = λ κs lives.
       out = opened.passes c.args.shared.now c.requires.others;
     }
 
-pub returns-in_default : goal.returns-in_default
-returns-in_default g c =
+pub leave_unopened-lines-requires-clause-others : goal.leave_unopened-lines-requires-clause-others
+leave_unopened-lines-requires-clause-others g c = rw c.in-Err.ensures.back c.requires.others.keeps
+
+pub returns-in-Err : goal.returns-in-Err
+returns-in-Err g c =
     let setup = c.args.setup in
     let told = side_told access_by_pass g.E.Files.told g.C.Clock.told in
-    rw c.end_unopened.ensures (record {
+    let left = c.leave_unopened-lines.ensures in
+    rw left.lines (record {
       final = _;
       tells = cut_tells _ setup.side c.args.scene _ refl refl refl;
-      ends = (refl, refl, refl);
+      ends = record { closed = refl; files = refl; alone = left.alone };
       finishes = c.first_start_opens.ensures.cut _ _ _ (nothing_opened setup.quota setup.declarations (database_at told setup.side) (g.C.Clock.told setup.side.clock));
     })
 
-pub returns-in-None : goal.returns-in-None
-returns-in-None g c =
+pub returns-in-Err-session : goal.returns-in-Err-session
+returns-in-Err-session g c =
     let played = c.play_objects-lines.ensures c.args.setup.declarations c.open_lists-lists.ensures.are in
     record {
       final = played.final;
       tells = played.tells;
-      ends = none_ended _ c.open_lists-lists.result _ c.args.shared.now c.args.scene.members.run_files played.final _ _ _ c.in-None.is played.ends;
+      ends = none_ended _ c.open_lists-lists.result _ c.args.shared.now c.args.scene.members.run_files played.final _ _ _ c.in-Err-session.is played.ends;
       finishes = played.finishes;
     }
 
@@ -47,7 +51,7 @@ returns g c =
     record {
       final = played.final;
       tells = played.tells;
-      ends = some_ended _ lists.result _ c.args.shared.now c.args.scene.members.run_files played.final _ _ _ _ _ c.in-Some.is lists.ensures.sound
+      ends = some_ended _ lists.result _ c.args.shared.now c.args.scene.members.run_files played.final _ _ _ _ c.in-Ok-session.is lists.ensures.sound
           c.in-Ok.ensures.objects c.members_suit.ensures.callers played.ends;
       finishes = played.finishes;
     }

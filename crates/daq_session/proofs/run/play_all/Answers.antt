@@ -2,22 +2,21 @@ use Rattle.std.proofs.Common.{refl, arith, ap, ◌∙◌}
 use Rattle.odb_watch.specs.DatabasePorts.{DatabaseAccess}
 use Rattle.odb_lock.specs.SharedAccesses.{access_by_pass}
 use Rattle.session_commands.specs.Finishing.{side_told, stage_unopened}
-use Rattle.daq_session.proofs.AloneLaws.{unopened_ends}
 use Rattle.daq_session.proofs.run.play_all.Goals as goal
 
 pub returns-in-Ended : goal.returns-in-Ended
 returns-in-Ended g c =
     let first = c.play_first.new.unopened in
-    let left = c.leave_unopened.ensures in
+    let left = c.leave_unopened-lines.ensures in
     let new = c.requires.session.unopened in
     rw left.lines (record {
       final = stage_unopened (side_told access_by_pass g.E.Files.told g.C.Clock.told) first.quota first.declarations first.side;
       tells = record {
         counts = record {
           may = tt;
-          source_counts = rw c.in-Ended.is at c.play_first.ensures.source;
+          source_counts = rw c.in-Ended.is at c.play_first.ensures.ends.source_counts;
           lines = (g.O.Sink.told c.play_first.new.script.out).faults;
-          sink_counts = rw c.in-Ended.is at c.play_first.ensures.sink;
+          sink_counts = rw c.in-Ended.is at c.play_first.ensures.ends.sink_counts;
           behind = refl;
         };
         failed = omega arith;
@@ -25,7 +24,7 @@ returns-in-Ended g c =
         replies_are = refl;
         clock_is = refl;
       };
-      ends = unopened_ends _ c.args.shared.now c.args.scene.members.run_files _ _ _ _ refl refl left.left;
+      ends = record { closed = refl; files = refl; alone = left.alone };
       finishes = c.first_start_opens.ensures.unopened _ _ _ _ _ _ _ _ (rw (new.quota, new.nothing, new.access, new.replies, c.in-Ended.is) at c.play_first.ensures.played) refl;
     })
 
@@ -33,8 +32,8 @@ pub returns-in-Opens : goal.returns-in-Opens
 returns-in-Opens g c =
     let played = c.open_and_play.ensures in
     let new = c.requires.session.unopened in
-    let source = rw c.in-Opens.is at c.play_first.ensures.source in
-    let sink = rw c.in-Opens.is at c.play_first.ensures.sink in
+    let source = rw c.in-Opens.is at c.play_first.ensures.ends.source_counts in
+    let sink = rw c.in-Opens.is at c.play_first.ensures.ends.sink_counts in
     record {
       final = played.final;
       tells = record {
@@ -48,14 +47,11 @@ returns-in-Opens g c =
       finishes = played.finishes _ _ _ (rw (new.quota, new.nothing, new.access, new.replies, c.in-Opens.is) at c.play_first.ensures.played);
     }
 
-pub play_first-requires-clause-caller : goal.play_first-requires-clause-caller
-play_first-requires-clause-caller g c = c.args.setup.side.database.main
-
 pub open_and_play-requires-clause-database : goal.open_and_play-requires-clause-database
 open_and_play-requires-clause-database g c = λ κs lives. c.play_first.ensures.same.database ∙ ap (λ (a : DatabaseAccess). a.database) c.requires.session.unopened.access
 
-pub leave_unopened-requires-clause-others : goal.leave_unopened-requires-clause-others
-leave_unopened-requires-clause-others g c = c.requires.session.others
+pub leave_unopened-lines-requires-clause-others : goal.leave_unopened-lines-requires-clause-others
+leave_unopened-lines-requires-clause-others g c = c.requires.session.others.keeps
 
 pub open_and_play-requires-clause-callers : goal.open_and_play-requires-clause-callers
 open_and_play-requires-clause-callers g c = λ κs lives. c.requires.session.callers

@@ -6,7 +6,7 @@ use Rattle.session_lines.specs.Stages.{SessionStage}
 use Rattle.session_commands.specs.Keeping.{StageSaved}
 use Rattle.daq_session.specs.declared.ends.ScriptEnd.TheVariants.{NoMemory}
 use Rattle.daq_session.proofs.AskedLaws.{kept_asked}
-use Rattle.daq_session.proofs.ClosedLaws.{is_back, memory_ends, memory_found}
+use Rattle.daq_session.proofs.ClosedLaws.{is_back, memory_found}
 use Rattle.daq_session.proofs.EndedLaws.{kept_ended}
 use Rattle.daq_session.proofs.LeftLaws.{lines_left}
 use Rattle.daq_session.proofs.run.run_session.Goals as goal
@@ -17,8 +17,7 @@ close_left-record-requires-clause-some g c = omega (arith, c.requires.database.c
 pub close_left-record-requires-clause-back : goal.close_left-record-requires-clause-back
 close_left-record-requires-clause-back g c =
     let played = c.play_all-lines.ensures in
-    let lines = c.play_all-lines.result.0 in
-    is_back _ c.args.session.database.shared c.args.outside.run_files played.final lines.run_files lines.ending _ played.ends
+    is_back _ c.args.session.database.shared c.args.outside.run_files played.final c.play_all-lines.result.0.run_files _ played.ends
 
 pub returns : goal.returns
 returns g c =
@@ -34,10 +33,8 @@ returns g c =
     let end = c.end_of-end.ensures (g.F.Files.told outside.run_files).faults (g.E.Files.told outside.odb_files).faults in
     let faults = end (λ asks. (played.tells.failed, rw (played.tells.replies_are, played.tells.files_are) at kept.faults refl asks)) in
     let saved : c.end_of-end.result ≢ NoMemory → StageSaved final = λ other. kept.saved (memory_found lines.ending lines.closing faults.0 refusals c.end_of-end.result faults.2 other) tt in
-    let keeps = c.close_left-record.ensures.kept outside.run_files final lines.ending c.end_of-end.result lines.run_files c.requires.database.rows
-    (kept.kept tt) kept.over (kept.spares tt)
-    (memory_ends lines.ending lines.closing faults.0 refusals c.end_of-end.result faults.2)
-    played.ends in
+    let keeps = c.close_left-record.ensures.kept outside.run_files final lines.run_files c.requires.database.rows
+    (kept.kept tt) kept.over (kept.spares tt) played.ends in
     record {
       ran = lines_left _ outside lines _ _ _ _ c.into_outside-replies.ensures.outside c.into_outside-replies.ensures.replies (record {
         final = final;
@@ -67,7 +64,7 @@ returns g c =
           one_reply = rw (played.tells.replies_are, played.tells.files_are) at kept.one_reply refl;
         };
         keeps = keeps;
-        asked = kept_asked _ outside.run_files final lines.run_files _ (kept.quotas refl) c.end_of-end.result c.close_left-record.result keeps;
-        ended = λ other. kept_ended _ outside.run_files final lines.run_files (saved other) c.end_of-end.result c.close_left-record.result keeps;
+        asked = kept_asked _ outside.run_files final lines.run_files _ (kept.quotas refl) c.close_left-record.result keeps;
+        ended = λ other. kept_ended _ outside.run_files final lines.run_files (saved other) c.close_left-record.result keeps;
       });
     }
