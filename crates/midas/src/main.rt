@@ -2,8 +2,10 @@
 #![tactic(auto)]
 
 use midas_cli::run_program;
+use std::env;
 use std::process::ExitCode;
 
 fn main(rt: HostRuntime) -> ExitCode {
-    run_program(&rt, rt)
+    let (_called, code) = run_program(&rt, rt, env::args(&rt));
+    code
 }

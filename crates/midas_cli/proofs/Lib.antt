@@ -1,3 +1,4 @@
 mod Calls
 mod Forms
+mod Given
 mod Parts

@@ -11,5 +11,5 @@ mod usage;
 
 pub use causes::Cause;
 pub use outcome::{Outcome, Summary};
-pub use real::run_program;
+pub use real::{Called, NotCalled, run_program};
 pub use top::midas;
