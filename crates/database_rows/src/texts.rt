@@ -183,7 +183,7 @@ const TEXTS: &[Row] = &[
     // Keys that a database refuses.
     (
         "",
-        "x = INT[65537] :\n",
+        "x = INT32[65537] :\n",
         Err(KeyRefused {
             line: 1,
             why: TOO_MANY,

@@ -23,7 +23,7 @@ use crate::database_rows::DATABASE_ROWS;
 use crate::dump_fault_rows::DUMP_FAULT_ROWS;
 use crate::fault_rows::FAULT_ROWS;
 use crate::manners::{FIRST_FIRST, Manner, OTHERS};
-use crate::meeting::{MeetingGate, add_meeting};
+use crate::meeting::{MeetingGate, add_meeting, add_rounds};
 use crate::page::Page;
 use crate::piece_rows::{PIECE_FAULT_ROWS, PIECE_ROWS};
 use crate::playing::tell_row;
@@ -35,6 +35,7 @@ use daq_io::write_all;
 use daq_std::StdSink;
 use midas_cli::run_program;
 use std::alloc::Global;
+use std::env;
 use std::process::ExitCode;
 use std::sync::Wait;
 use std::thread::Threads;
@@ -161,6 +162,7 @@ fn all_rows<R: Threads + Wait + Sync>(rt: &R, alloc: Global) -> Page {
     add_tool_faults(rt, alloc, &mut page);
     add_databases(rt, alloc, &mut page);
     add_meeting(rt, alloc, &mut page);
+    add_rounds(rt, alloc, &mut page);
     add_longest(rt, alloc, &mut page);
     page
 }
@@ -180,7 +182,10 @@ fn print_rows<R: Threads + Wait + Sync>(threads: &R, rt: HostRuntime) -> Result<
 
 fn main(rt: HostRuntime) -> ExitCode {
     match print_rows(&rt, rt) {
-        Ok(()) => run_program(&rt, rt),
+        Ok(()) => {
+            let (_called, code) = run_program(&rt, rt, env::args(&rt));
+            code
+        }
         Err(status) => ExitCode::from(status),
     }
 }

@@ -1,8 +1,8 @@
 //! Starts that are refused, pauses, and lines that come in the wrong state.
-use crate::rows::{PLAIN, Row};
+use crate::rows::{PLAIN, Repeated, Row};
 
 /// The rows.
-pub static START_ROWS: [Row; 14] = [
+pub static START_ROWS: [Row; 16] = [
     Row {
         title: "A start that is refused for a taken name",
         script: "start\nget \"/Runinfo/Run number\"\n",
@@ -42,6 +42,11 @@ pub static START_ROWS: [Row; 14] = [
         ..PLAIN
     },
     Row {
+        title: "A watch on all, over a run that is paused and goes on",
+        script: "watch /\nevents 2\nstart\npause\nnotes 0\nresume\nstop\nnotes 0\n",
+        ..PLAIN
+    },
+    Row {
         title: "A run that is stopped from a pause",
         script: "events 5\nstart\npause\nstop\n",
         run_files: &["run00001.mid"],
@@ -61,6 +66,16 @@ pub static START_ROWS: [Row; 14] = [
     Row {
         title: "A line that is no command",
         script: "frob\n",
+        ..PLAIN
+    },
+    Row {
+        title: "A quote that is not closed, a line that is too long, and the lines behind it",
+        script: "set \"/A\n",
+        repeated: Some(Repeated {
+            line: " ",
+            times: 4097,
+            behind: "\nls /\nfrob\n",
+        }),
         ..PLAIN
     },
     Row {
