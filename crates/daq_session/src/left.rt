@@ -1,12 +1,12 @@
 // What is left behind a script, and what is kept of it.
-ghost use Rattle.std.specs.Prelude.{◌≡◌, ◌<◌, ◌∷◌, [], Some};
+ghost use Rattle.std.specs.Prelude.{◌≡◌, ◌<◌, Some};
 ghost use Rattle.daq_types.specs.Callers.{main_caller};
 ghost use Rattle.turn_lock.specs.Passes.{passes_of};
 ghost use Rattle.odb_lock.specs.SharedAccesses.{access_by_pass, odb_identity};
 ghost use Rattle.odb_lock.specs.SharedOdbs.{odb_lock_of};
+ghost use Rattle.session_objects.specs.Kept.{OthersSawNothing};
 ghost use Rattle.session_objects.specs.Members.{members_told};
 ghost use Rattle.session_objects.specs.Records.{AreAllPasses};
-ghost use Rattle.session_objects.specs.Rosters.{KeepsPasses, nothing_seen};
 ghost use Rattle.daq_session.specs.Played.{IsBack, IsMainAlone, KeepsLeft, MainCalledAlone, unopened_lines};
 
 use crate::laws::sessions_hold;
@@ -52,7 +52,7 @@ fn all_passes<'a, D: Database>(
 ) -> OdbPasses<D>
     requires caller { (access_by_pass access).caller ≡ main_caller }
     requires database { (access_by_pass access).database ≡ odb_identity _shared.now }
-    requires others { KeepsPasses nothing_seen (main_caller ∷ []) (odb_lock_of _shared.now) passes }
+    requires others { OthersSawNothing _shared.now passes }
     ensures { IsMainAlone _shared.now (access_by_pass access.entry).seen result }
 {
     let pass = access.into_pass();
@@ -79,7 +79,7 @@ pub fn leave_unopened<
     scene: Scene<'a, S, O, F, K, G>,
 ) -> (LinesEnd<S, O, E, C, F, K>, OdbPasses<D>)
     requires database { (access_by_pass side.database.access).database ≡ odb_identity shared.now }
-    requires others { KeepsPasses nothing_seen (main_caller ∷ []) (odb_lock_of shared.now) passes }
+    requires others { OthersSawNothing shared.now passes }
     ensures lines { result.0 ≡ unopened_lines ending side.entry scene.entry }
     ensures alone { IsMainAlone shared.now (access_by_pass side.entry.database.access).seen result.1 }
 {

@@ -1,16 +1,15 @@
 // The opening of a session, with its first start.
-ghost use Rattle.std.specs.Prelude.{◌≡◌, ◌≤◌, ◌∷◌, [], IfErr, IfOk, OnErr, OnOk, length};
+ghost use Rattle.std.specs.Prelude.{◌≡◌, ◌≤◌, IfErr, IfOk, OnErr, OnOk, length};
 ghost use Rattle.daq_types.specs.Callers.{main_caller};
 ghost use Rattle.turn_lock.specs.Passes.{number_of, IsOf};
 ghost use Rattle.turn_lock.specs.Roster.{IsFresh};
 ghost use Rattle.odb_watch.specs.DatabasePorts.{IsSamePort};
 ghost use Rattle.odb_lock.specs.SharedAccesses.{access_by_pass};
-ghost use Rattle.odb_lock.specs.SharedOdbs.{odb_lock_of};
 ghost use Rattle.transitions.specs.Engines.{engine_opening};
 ghost use Rattle.transition_lock.specs.SharedEngines.{engine_lock_of, first_engine};
 ghost use Rattle.session_lines.specs.Stages.{front_names, opened_runs};
 ghost use Rattle.session_setup.specs.Setup.{declared_by};
-ghost use Rattle.session_objects.specs.Rosters.{KeepsPasses, nothing_seen};
+ghost use Rattle.session_objects.specs.Kept.{OthersSawNothing};
 ghost use Rattle.daq_session.specs.NewDatabases.{IsNewDatabase};
 ghost use Rattle.daq_session.specs.Opened.{AreOpenFor, FrontKeysCut, FrontKeysMade, OpensMembers};
 
@@ -179,7 +178,7 @@ pub fn open_members<'a, R: Wait, D: Database, F: Files + Drop, K: Pick, G: Gate>
     ensures opened { IfOk result (λ opened. OpensMembers places.now side.entry passes.new opened) }
     ensures files { IfErr result (λ back. back.run_files ≡ side.entry.run_files) }
     ensures pick { IfErr result (λ back. back.pick ≡ side.entry.pick) }
-    ensures back { OnErr result (KeepsPasses nothing_seen (main_caller ∷ []) (odb_lock_of places.now.shared.now) passes.new.database) }
+    ensures back { OnErr result (OthersSawNothing places.now.shared.now passes.new.database) }
 {
     let (objects, lists) = (places.objects, places.lists);
     let Ok(runs) = open_runs(rt, alloc, objects, main, lists, places.quota) else {

@@ -1,8 +1,12 @@
 -- The passes that the main thread keeps of the session's objects, while others are with the members.
 use Rattle.std.specs.Prelude.{◌≡◌, ℕ, zero, suc, ◌+◌, ◌==◌, ◌∷◌, [], Bool, true, false, if◌then◌else◌, nat_lt, List, slice_get, length, Some}
 use Rattle.daq_types.specs.Callers.{main_caller}
+use Rattle.turn_lock.specs.declared.roster.Passes.{Passes}
 use Rattle.buffer_lock.specs.SharedBuffers.{lock_of}
 use Rattle.transition_lock.specs.SharedEngines.{engine_lock_of}
+use Rattle.odb_tree.specs.Noting.{Watched}
+use Rattle.odb_watch.specs.declared.entry.WatchEntry.{WatchEntry}
+use Rattle.odb_lock.specs.declared.locked.LockedDatabase.{LockedDatabase}
 use Rattle.odb_lock.specs.declared.shared.SharedOdb.{SharedOdb}
 use Rattle.odb_lock.specs.SharedOdbs.{odb_lock_of}
 use Rattle.session_setup.specs.declared.declared.DeclaredLists.{DeclaredLists}
@@ -10,7 +14,7 @@ use Rattle.session_objects.specs.declared.membership.MemberDeclared.{MemberDecla
 use Rattle.session_objects.specs.declared.objects.SessionBuffer.{SessionBuffer}
 use Rattle.session_objects.specs.declared.objects.SessionObjects.{SessionObjects}
 use Rattle.session_objects.specs.declared.passes.SessionPasses.{SessionPasses}
-use Rattle.session_objects.specs.Rosters.{KeepsFresh}
+use Rattle.session_objects.specs.Rosters.{KeepsFresh, KeepsPasses, nothing_seen}
 use Rattle.session_objects.specs.DeclaredMembers.{calls_buffer, calls_database, declared_members, member_count}
 
 -- The numbers of the passes that are with those that call by them: of the engine; of each buffer, by its number; and of
@@ -68,3 +72,7 @@ pub record HasFreshBut {D : Type 0} {g : _} (out : OutNumbers) (objects : Sessio
       slice_get objects.buffers.items number ≡ Some buffer → slice_get passes.buffers.items number ≡ Some roster →
       KeepsFresh (out.buffers number) (lock_of buffer.shared) roster
   pub database : KeepsFresh out.database (odb_lock_of shared) passes.database
+
+-- All passes of the database but the main thread's are here, and none of these has seen a call.
+abbrev pub OthersSawNothing : {D : Type 0} {g : _} → SharedOdb D → Passes (LockedDatabase D) Watched WatchEntry g → Type 0
+OthersSawNothing shared passes = KeepsPasses nothing_seen (main_caller ∷ []) (odb_lock_of shared) passes

@@ -1,18 +1,16 @@
 // Making the members of a session.
-ghost use Rattle.std.specs.Prelude.{◌≡◌, ◌≤◌, ◌<◌, ◌+◌, ◌-◌, ◌≢◌, ◌∷◌, [], length, map, min, slice_get, Contains, Some, None, IfOk, OnOk, OnErr, IfErr};
-ghost use Rattle.daq_types.specs.Callers.{caller_of_client, main_caller};
+ghost use Rattle.std.specs.Prelude.{◌≡◌, ◌≤◌, ◌<◌, ◌+◌, ◌-◌, ◌≢◌, [], length, map, min, slice_get, Contains, Some, None, IfOk, OnOk, OnErr, IfErr};
+ghost use Rattle.daq_types.specs.Callers.{caller_of_client};
 ghost use Rattle.turn_lock.specs.Roster.{numbers_of};
 ghost use Rattle.buffer_lock.specs.SharedPorts.{access_by};
 ghost use Rattle.odb_lock.specs.SharedAccesses.{access_by_pass};
-ghost use Rattle.odb_lock.specs.SharedOdbs.{odb_lock_of};
 ghost use Rattle.analyzers.specs.AnalyzerKept.{AnalyzerStands, AnalyzerTells};
 ghost use Rattle.loggers.specs.NewLoggers.{HaveNumbers};
 ghost use Rattle.session_objects.specs.declared.membership.MemberDeclared.TheVariants.{FrontEnd as WantedFront, Logger as WantedLogger, Analyzer as WantedAnalyzer};
 ghost use Rattle.session_objects.specs.DeclaredMembers.{declared_members, logger_number, member_count};
 ghost use Rattle.session_objects.specs.Objects.{HaveBuffers, SuitMembers};
-ghost use Rattle.session_objects.specs.Rosters.{KeepsPasses, nothing_seen};
-ghost use Rattle.session_objects.specs.Kept.{OutNumbers, out_to, out_to_members, ports_out, engine_out, database_out, buffer_out, HasFreshBut};
-ghost use Rattle.session_objects.specs.Members.{ring_window, new_ports, new_access, generator_of, event_room_of, event_rooms, idle_analyzer, files_left, IsNewPort, IsNewFront, IsNewLogger, IsNewAnalyzer, IsNewMemberAt, IsMadeLogger, AreSeated, HasNewMembers};
+ghost use Rattle.session_objects.specs.Kept.{OutNumbers, out_to, out_to_members, ports_out, engine_out, database_out, buffer_out, HasFreshBut, OthersSawNothing};
+ghost use Rattle.session_objects.specs.Members.{ring_window, new_ports, new_access, generator_of, event_room_of, event_rooms, idle_analyzer, files_left, IsNewPort, IsNewFront, IsNewLogger, IsNewAnalyzer, IsNewMemberAt, IsMadeLogger, HasNewMembers};
 
 use crate::membership::{MemberDeclared, Membership};
 use crate::objects::SessionBuffer;
@@ -356,8 +354,7 @@ impl<'a, 's, D: Database> Membership<'a, 's, D> {
         ensures out { OnOk result (HasFreshBut (out_to_members self.now.lists.now)
             self.now.objects.now self.now.database.now passes.new) }
         ensures files { IfErr result (λ back. back ≡ files) }
-        ensures back { OnErr result (KeepsPasses nothing_seen (main_caller ∷ [])
-            (odb_lock_of self.now.database.now) passes.new.database) }
+        ensures back { OnErr result (OthersSawNothing self.now.database.now passes.new.database) }
     {
         let Ok(mut members) = BoundedList::new(alloc) else {
             return Err(files);

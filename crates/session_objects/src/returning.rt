@@ -1,15 +1,15 @@
 // Taking the passes of a session's objects back from its members.
-ghost use Rattle.std.specs.Prelude.{◌≡◌, ◌+◌, ◌∷◌, [], Some, length, slice_get, map};
-ghost use Rattle.daq_types.specs.Callers.{caller_of_client, main_caller};
+ghost use Rattle.std.specs.Prelude.{◌≡◌, ◌+◌, Some, length, slice_get, map};
+ghost use Rattle.daq_types.specs.Callers.{caller_of_client};
 ghost use Rattle.turn_lock.specs.Passes.{seen_by, own_entries};
 ghost use Rattle.buffer_lock.specs.SharedPorts.{access_by};
 ghost use Rattle.transition_lock.specs.SharedEngines.{engine_lock_of};
 ghost use Rattle.odb_lock.specs.SharedOdbs.{odb_lock_of};
-ghost use Rattle.session_objects.specs.Rosters.{IsMainPass, KeepsPasses, nothing_seen};
+ghost use Rattle.session_objects.specs.Rosters.{IsMainPass};
 ghost use Rattle.session_objects.specs.Calls.{SessionCalls, account_at};
 ghost use Rattle.session_objects.specs.declared.membership.MemberDeclared.TheVariants.{FrontEnd, Logger, Analyzer};
 ghost use Rattle.session_objects.specs.DeclaredMembers.{declared_members, logger_number};
-ghost use Rattle.session_objects.specs.Kept.{out_to, out_to_members, ports_out, HasFreshBut};
+ghost use Rattle.session_objects.specs.Kept.{out_to, out_to_members, ports_out, HasFreshBut, OthersSawNothing};
 ghost use Rattle.session_objects.specs.Records.{HasCallsBut, HasCalls};
 ghost use Rattle.session_objects.specs.Members.{ring_window, front_account, logger_account, analyzer_account, ArePortsTo, IsFrontOf, IsLoggerOf, IsAnalyzerOf, AreMembersOf, HasAccount, IsOwnPort, CalledAt, AreCalledAt, session_calls, files_left, AreSeated, IsNewMemberAt};
 ghost use Rattle.session_objects.specs.Returns.{ComesBack, left_also, left_among, end_of_member, logger_end};
@@ -228,8 +228,7 @@ impl<'a, 's, D: Database> Membership<'a, 's, D> {
             (length members.entry) given → AreSeated (IsNewMemberAt self.now.lists.now
             self.now.objects.now self.now.database.now given) (length members.entry) members.entry
             → result ≡ given }
-        ensures back { KeepsPasses nothing_seen (main_caller ∷ [])
-            (odb_lock_of self.now.database.now) passes.new.database }
+        ensures back { OthersSawNothing self.now.database.now passes.new.database }
     {
         match (self.take_back_members(members, passes), files) {
             (Some(end), _) => end.files,
