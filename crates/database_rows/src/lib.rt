@@ -9,6 +9,8 @@ mod dumps;
 #[cfg(test)]
 mod lines;
 #[cfg(test)]
+mod link_tests;
+#[cfg(test)]
 mod link_texts;
 #[cfg(test)]
 mod ports;

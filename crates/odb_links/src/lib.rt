@@ -7,8 +7,6 @@
 mod leading;
 mod links;
 mod making;
-#[cfg(test)]
-mod tests;
 mod tree;
 
 pub use tree::LinkTree;

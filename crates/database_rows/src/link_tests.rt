@@ -1,6 +1,6 @@
 //! Rows of calls on a database with links, each with the reply that it must get.
-use crate::tree::LinkTree;
 use daq_types::Tid;
+use odb_links::LinkTree;
 use odb_tree::{Database, NewKey, OdbRefusal, PlainTree};
 use odb_value::{Item, Path, Value};
 use std::alloc::Global;
