@@ -1,5 +1,5 @@
 -- Lines of keys have one reading.
-use Rattle.std.proofs.Common.{◌≡◌, ℕ, zero, suc, ◌<◌, ◌≤◌, Bool, true, false, cond, List, [], ◌∷◌, ◌++◌, length, take, drop, get_or, Option, Some, None, Result, Ok, Err, IfOk, IfNone, refl, sym, ap, ◌∙◌, subst, arith}
+use Rattle.std.proofs.Common.{◌≡◌, ℕ, zero, suc, ◌<◌, ◌≤◌, Bool, true, false, cond, List, [], ◌∷◌, ◌++◌, length, take, drop, get_or, Option, Some, None, Result, Ok, Err, IsOk, IfOk, IfNone, refl, sym, ap, ◌∙◌, subst, arith}
 use Rattle.std.specs.List.{AllByRecursion}
 use Rattle.std.specs.Str.Parse.{digits_value}
 use Rattle.daq_types.specs.declared.types.Tid.{Tid}
@@ -9,7 +9,10 @@ use Rattle.daq_text.specs.Numbers.{front, behind, is_blank}
 use Rattle.odb_text.specs.LineForms.{AreBlanks, HasNo, behind_blank, IsBracketed, without_blanks, is_of_word, IsKeyLine, IsSingle, IsArray}
 use Rattle.odb_value.specs.declared.items.Item.{Item}
 use Rattle.odb_value.specs.ItemTexts.{item_read}
-use Rattle.odb_text.specs.ItemLines.{is_string, IsFrontNumber, IsItemLine}
+use Rattle.odb_value.specs.declared.refusals.ItemRefusal.{ItemRefusal}
+use Rattle.odb_text.specs.ItemLines.{is_string, IsFrontNumber, IsItemLine, IsAloneText}
+use Rattle.odb_text.specs.TextFaults.{IsSomeItemLine}
+use Rattle.odb_text.specs.Blocks.{IsSomeAlone}
 use Rattle.odb_text.proofs.Splitting.{parted, not_parted, digits_no, bracketed_once}
 
 -- the first word
@@ -73,3 +76,24 @@ pub if_ok_none : {X P Q E : Type 0} (r : Result (Option X) E) → (P → Q) → 
 if_ok_none (Ok None) f h = f h
 if_ok_none (Ok (Some x)) f h = h
 if_ok_none (Err e) f h = h
+
+-- Where a text spells an item, its line is that of one.
+
+pub read_ok : (r : Result Item ItemRefusal) → IsOk r → (item : Item) × (r ≡ Ok item)
+read_ok (Ok item) h = (item, refl)
+read_ok (Err why) h = absurd (cc)
+
+pub some_item : (type : Tid) (index : ℕ) (line digits rest : List ℕ) (size : ℕ) → IsBracketed line digits rest → IsFrontNumber (is_string type) index digits size → IsOk (item_read type (behind_blank rest))
+    → IsSomeItemLine type index line
+some_item type index line digits rest size b n ok =
+    let found = read_ok (item_read type (behind_blank rest)) ok in
+    (size, found.0, record { digits = digits; rest = rest; bracketed = b; number = n; spells = found.1 })
+
+-- and so is the one item of a key
+pub alone_string : (type : Tid) (text : List ℕ) → is_string type ≡ true → IsSomeItemLine type 0 (behind_blank text) → IsSomeAlone type text
+alone_string type text string h = (h.0, h.1, subst (λ (b : Bool). IsAloneText b type (behind_blank text) h.0 h.1) (sym string) h.2)
+
+pub alone_number : (type : Tid) (text : List ℕ) → is_string type ≡ false → IsOk (item_read type (behind_blank text)) → IsSomeAlone type text
+alone_number type text number ok =
+    let found = read_ok (item_read type (behind_blank text)) ok in
+    (0, found.0, subst (λ (b : Bool). IsAloneText b type (behind_blank text) 0 found.0) (sym number) (found.1, refl))

@@ -1,6 +1,6 @@
 -- The lines of links: their values, and what is wrong with them.
 use Rattle.std.proofs.Common.{◌≡◌, ℕ, ◌+◌, ◌<◌, ◌≤◌, Bool, true, false, cond, ◌&&◌, List, [], ◌∷◌, ◌++◌, length, Option, Some, None, Result, Ok, Err, refl, sym, ap, ◌∙◌, subst, arith, inl, inr, le-ltb, lt-ltb}
-use Rattle.std.specs.Prelude.{nat_lt, ◌==◌, ◌||◌, All, IsTrue, IfOk, IfNone}
+use Rattle.std.specs.Prelude.{nat_lt, ◌==◌, ◌||◌, ◌↔◌, not, position, All, IsTrue, IfNone}
 use Rattle.std.specs.List.{AllByRecursion, slice_split, onto_first}
 use Rattle.std.proofs.lemmas.List.Elements.{All-from_recursion, recursion_from_All}
 use Rattle.daq_types.specs.Names.{IsName, is_outside}
@@ -8,12 +8,11 @@ use Rattle.odb_value.specs.ItemBytes.{is_text_byte, IsText}
 use Rattle.odb_value.specs.declared.path_refusals.PathRefusal.{PathRefusal}
 use Rattle.odb_value.specs.PathText.{names_behind, names_of, first_fault, names_or, names_start, path_reply}
 use Rattle.odb_value.proofs.PathAgain.{or_false, above_blank, NoneOutside, name_none_outside}
-use Rattle.daq_types.specs.declared.memory.NoMemory.{NoMemory}
 use Rattle.std.specs.Option.{option_or}
 use Rattle.std.proofs.lemmas.Bool.Decides.{nat_tests}
 use Rattle.daq_types.specs.declared.types.Tid.{Tid}
 use Rattle.daq_types.specs.declared.types.Tid.TheVariants as tid
-use Rattle.daq_text.specs.Numbers.{up_to}
+use Rattle.daq_text.specs.Numbers.{up_to, mapped}
 use Rattle.odb_value.specs.Paths.{depth_limit}
 use Rattle.odb_value.specs.declared.items.Item.{Item}
 use Rattle.odb_value.specs.declared.items.Item.TheVariants.{Text}
@@ -24,13 +23,16 @@ use Rattle.odb_tree.specs.declared.refusals.OdbRefusal.{OdbRefusal}
 use Rattle.odb_tree.specs.declared.refusals.OdbRefusal.TheVariants.{Limit}
 use Rattle.odb_tree.specs.declared.refusals.What.TheVariants.{Size}
 use Rattle.odb_tree.specs.Rows.{Rows}
-use Rattle.odb_text.specs.LineForms.{IsPassed, IsDirLine, IsSingle, behind_blank}
-use Rattle.odb_text.specs.ItemLines.{IsItemAlone, IsPathText, IsLinkAlone}
+use Rattle.odb_text.specs.LineForms.{IsPassed, IsDirLine, IsSingle, IsBracketed, behind_blank}
+use Rattle.odb_text.specs.ItemLines.{IsItemLine, IsItemAlone, IsPathText, IsLinkAlone}
 use Rattle.odb_text.specs.declared.acts.Act.TheVariants.{Write}
 use Rattle.odb_text.specs.declared.links.ReadLink.{ReadLink}
 use Rattle.odb_text.specs.TextSteps.{wide_fault, rows_fault}
 use Rattle.odb_text.specs.Grammar.{SizedItem, IsKeyIn, link_size, held_link, is_skipped}
-use Rattle.odb_text.specs.Blocks.{ReadsLink, IsBlock, IsBadAt, IsRefusedAlways}
+use Rattle.odb_text.specs.Blocks.{ReadsLink, IsBlock, IsBadAt, IsRefusedAlways, IsBegunAt, IsSomeAlone}
+use Rattle.odb_value.specs.ItemTexts.{item_read, text_found, text_limit}
+use Rattle.odb_value.specs.declared.refusals.ItemRefusal.TheVariants.{OutOfRange}
+use Rattle.odb_text.proofs.Splitting.{digits_no, bracketed_once}
 use Rattle.odb_text.proofs.KeyLines.{single_once}
 use Rattle.odb_text.proofs.ReadSound.{path_sound}
 use Rattle.odb_text.proofs.Beginnings.{GoesOnNowhere, begins_nothing}
@@ -145,11 +147,39 @@ link_once text size given item link h k =
     ap (λ (x : SizedItem). x.item) (alone_once true tid.Text (behind_blank text) (record { size = size; item = item }) (record { size = given; item = Text link }) h k.item)
 
 -- so where no link is read of the item, none stands there
-pub none_read : (r : Result (Option ReadLink) NoMemory) (text : List ℕ) (size : ℕ) (item : Item) → IsItemAlone tid.Text text size item → IfOk r (λ found. IfNone found ((t : List ℕ) → item ≡ Text t → IsPathText t → ⊥))
-    → IfOk r (λ found. IfNone found ((given : ℕ) (link : List ℕ) → IsLinkAlone text given link → ⊥))
-none_read (Ok None) text size item i h = λ (given : ℕ) (link : List ℕ) (a : IsLinkAlone text given link). h link (link_once text size given item link i a) a.path
-none_read (Ok (Some read)) text size item i h = tt
-none_read (Err e) text size item i h = tt
+pub none_read : (found : Option ReadLink) (text : List ℕ) (size : ℕ) (item : Item) → IsItemAlone tid.Text text size item → IfNone found ((t : List ℕ) → item ≡ Text t → IsPathText t → ⊥)
+    → IfNone found ((given : ℕ) (link : List ℕ) → IsLinkAlone text given link → ⊥)
+none_read None text size item i h = λ (given : ℕ) (link : List ℕ) (a : IsLinkAlone text given link). h link (link_once text size given item link i a) a.path
+none_read (Some read) text size item i h = tt
+
+-- The text of an item that is a text is what stands behind its size.
+
+text_spelled : (read : List ℕ) (item : Item) → item_read tid.Text read ≡ Ok item → item ≡ Text read
+text_spelled read item e = found (position (λ b. not (is_text_byte b)) read) e
+  where
+    short : (b : Bool) → mapped Text (cond b (Err OutOfRange) (Ok read)) ≡ Ok item → item ≡ Text read
+    short true k = absurd (cc)
+    short false k = cc
+
+    found : (o : Option ℕ) → mapped Text (text_found read o) ≡ Ok item → item ≡ Text read
+    found (Some at) k = absurd (cc)
+    found None k = short (nat_lt text_limit (length read)) k
+
+pub path_behind : (text digits rest : List ℕ) (size : ℕ) (link : List ℕ) → IsBracketed (behind_blank text) digits rest → IsItemAlone tid.Text text size (Text link) → behind_blank rest ≡ link
+path_behind text digits rest size link b h =
+    let same = bracketed_once (behind_blank text) digits rest h.digits h.rest b.spelled (digits_no digits b.numeral.1) h.bracketed in
+    let is : Text link ≡ Text (behind_blank h.rest) = text_spelled (behind_blank h.rest) (Text link) h.spells in
+    let link_is : link ≡ behind_blank h.rest = cc in
+    ap behind_blank same.1 ∙ sym link_is
+
+-- where the item is there and its text is that of a path, there is a link
+pub link_there : (has : Bool) (text : List ℕ) → ((size : ℕ) (link : List ℕ) → IsItemAlone tid.Text text size (Text link) → IsTrue has ↔ IsPathText link) → has ≡ true → IsSomeAlone tid.Text text
+    → (size : ℕ) × (link : List ℕ) × IsLinkAlone text size link
+link_there has text tells right h =
+    let line : IsItemLine tid.Text 0 (behind_blank text) h.0 h.1 = h.2 in
+    let is : h.1 ≡ Text (behind_blank line.rest) = text_spelled (behind_blank line.rest) h.1 line.spells in
+    let item : IsItemAlone tid.Text text h.0 (Text (behind_blank line.rest)) = subst (λ (x : Item). IsItemLine tid.Text 0 (behind_blank text) h.0 x) is line in
+    (h.0, behind_blank line.rest, record { item = item; path = (tells h.0 (behind_blank line.rest) item).0 right })
 
 -- the line of a link that was read
 
@@ -239,4 +269,20 @@ reads_link links dir line name type rest text size read key is single alone give
       size = size;
       key = record { rest = rest; key = subst (λ (t : Tid). IsKeyIn dir line name t rest) link key; text = text; single = single; alone = alone };
       given = given;
+    }
+
+-- the line of a link is in the grammar
+pub link_begun : (links : Bool) (dir : List (List ℕ)) (line name : List ℕ) (type : Tid) (rest text : List ℕ) (behind : List (List ℕ)) (size : ℕ) (link : List ℕ)
+    → IsKeyIn dir line name type rest → (links && is_link_type type) ≡ true → IsSingle rest text → IsLinkAlone text size link → IsBegunAt links dir (line ∷ behind)
+link_begun links dir line name type rest text behind size link key kept single alone =
+    let read : ReadLink = record { size = up_to size_limit size; text = link } in
+    let reads : ReadsLink dir line name read = reads_link links dir line name type rest text size read key kept single alone refl in
+    record {
+      opened = line ∷ [];
+      rest = behind;
+      whole = refl;
+      begins = inl (
+        Write (dir ++ name ∷ []) (held_link reads.size link),
+        (name, inr (line, reads.size, link, and_left links (is_link_type type) kept, refl, reads.key, refl), refl),
+      );
     }

@@ -20,10 +20,11 @@ use Rattle.odb_tree.specs.declared.refusals.OdbRefusal.TheVariants.{NoKey, Exist
 use Rattle.odb_value.specs.Values.{items_limit}
 use Rattle.odb_text.specs.declared.faults.BlockFault.{BlockFault}
 use Rattle.odb_text.specs.declared.faults.BlockFault.TheVariants.{Bad, Refused, NoMemory as no_memory}
-use Rattle.odb_text.specs.Blocks.{IsBlock, IsBadAt, IsBlockFault}
+use Rattle.odb_text.specs.Blocks.{IsBlock, IsBadAt, IsBegunAt, IsBlockFault}
 use Rattle.odb_text.specs.TextSteps.{TextStep, run_steps, or_refused, act_fault, rows_fault, after_act, changes_of_act, changes_in_steps, written, skipped, dir_after, dirs_after}
 use Rattle.odb_text.specs.Grammar.{SizedItem, AreItemLines, SpellsAct, SpellsSteps, ArePassed}
-use Rattle.odb_text.specs.TextFaults.{IsBegunArray, IsBegunSkipped, LeavesGrammar, IsRefused, IsTextFault}
+use Rattle.odb_text.specs.TextFaults.{IsBegunArray, IsBegunSkipped, LeavesGrammar, IsRefused, BeginsStep, IsTextFault}
+use Rattle.odb_text.proofs.Written.{block_begun}
 use Rattle.odb_text.specs.Loads.{IsLoaded, watched_as, IsLoadedTo, counts_with, Place, IsPassedOver, DoesStep, AdvancesText, RefusesFirst, IsTextFaultAt, place_at, IsRoomy, IsNear, broken_at, refused_at}
 
 -- one line more is passed over
@@ -194,7 +195,19 @@ fault_found s lines at now (KeyRefused n why) h f =
       omega (arith, f.1, h.line_is),
       subst (λ (d : List (List ℕ)). IsRefused s.rows.links now.rows d r.opened why) h.dir_is r.refused,
     )
-fault_found s lines at now NoMemory h f = tt
+fault_found s lines at now NoMemory h f = (
+  record {
+    front = h.front;
+    opened = f.opened;
+    rest = f.rest;
+    whole = h.whole ∙ ap (λ (l : List (List ℕ)). h.front ++ l) f.whole;
+    steps = h.so_far.steps;
+    reads = h.so_far.reads;
+    now = now.rows;
+    ran = h.so_far.ran;
+  },
+  subst (λ (d : List (List ℕ)). BeginsStep s.rows.links d f.opened) h.dir_is f.begins,
+)
 
 -- what the next lines do
 
@@ -202,11 +215,19 @@ broken_bad : (links : Bool) (bytes : List ℕ) (line : ℕ) (dir : List (List �
     → IsTextFaultAt links (place_at bytes line dir loaded) now (BadLine (line + place))
 broken_bad links bytes line dir loaded now ls place e b = (place, subst (λ (l : List (List ℕ)). IsBadAt links dir l place) (sym e) b, refl)
 
+begun_same : (links : Bool) (dir own ls : List (List ℕ)) → own ≡ ls → IsBegunAt links dir ls → IsBegunAt links dir own
+begun_same links dir own ls e b = subst (IsBegunAt links dir) (sym e) b
+
+-- memory was wanting at a step
+pub wanting_at : (links : Bool) (bytes : List ℕ) (line : ℕ) (dir : List (List ℕ)) (loaded : Loaded) (now : Rows) (ls rest : List (List ℕ)) (act : Act) (count : ℕ) → lines bytes ≡ ls → IsBlock links dir ls act rest count
+    → IsTextFaultAt links (place_at bytes line dir loaded) now NoMemory
+wanting_at links bytes line dir loaded now ls rest act count e b = begun_same links dir (lines bytes) ls e (block_begun links dir ls act rest count b)
+
 pub broken_fault : (links : Bool) (bytes : List ℕ) (line : ℕ) (dir : List (List ℕ)) (loaded : Loaded) (now : Rows) (ls : List (List ℕ)) (fault : BlockFault) → lines bytes ≡ ls → IsBlockFault links dir ls fault
     → IsTextFaultAt links (place_at bytes line dir loaded) now (broken_at line fault)
 broken_fault links bytes line dir loaded now ls (Bad place) e b = broken_bad links bytes line dir loaded now ls place e b
 broken_fault links bytes line dir loaded now ls (Refused why) e b = (record { opened = b.opened; left = b.rest; whole = e ∙ b.whole; refused = b.refused now }, refl)
-broken_fault links bytes line dir loaded now ls no_memory e b = tt
+broken_fault links bytes line dir loaded now ls no_memory e b = begun_same links dir (lines bytes) ls e b
 
 first_refused : (links : Bool) (bytes : List ℕ) (line : ℕ) (dir : List (List ℕ)) (loaded : Loaded) (now : Rows) (ls rest : List (List ℕ)) (act : Act) (count : ℕ) (why : OdbRefusal) → lines bytes ≡ ls
     → IsBlock links dir ls act rest count → rows_fault now act ≡ Some why → RefusesFirst links (place_at bytes line dir loaded) now why
@@ -228,7 +249,7 @@ refused_fault links bytes line dir loaded now ls rest act count (BadIndex len) e
 refused_fault links bytes line dir loaded now ls rest act count (Limit what) e b h = (first_refused links bytes line dir loaded now ls rest act count (Limit what) e b (h (λ (k : (Limit what) ≡ none_left). absurd (cc))), refl)
 refused_fault links bytes line dir loaded now ls rest act count (NotKept kind) e b h = (first_refused links bytes line dir loaded now ls rest act count (NotKept kind) e b (h (λ (k : (NotKept kind) ≡ none_left). absurd (cc))), refl)
 refused_fault links bytes line dir loaded now ls rest act count (BadLink steps) e b h = (first_refused links bytes line dir loaded now ls rest act count (BadLink steps) e b (h (λ (k : (BadLink steps) ≡ none_left). absurd (cc))), refl)
-refused_fault links bytes line dir loaded now ls rest act count none_left e b h = tt
+refused_fault links bytes line dir loaded now ls rest act count none_left e b h = wanting_at links bytes line dir loaded now ls rest act count e b
 
 pub refused_at-is : (line : ℕ) (why : OdbRefusal) → why ≢ none_left → refused_at line why ≡ KeyRefused line why
 refused_at-is line NoKey h = refl

@@ -1,5 +1,5 @@
 -- Parts of a line are told apart by a byte that does not stand in the first.
-use Rattle.std.proofs.Common.{◌≡◌, ℕ, zero, suc, ◌+◌, ◌<◌, ◌≤◌, ◌==◌, Bool, true, false, not, cond, List, [], ◌∷◌, ◌++◌, length, take, get_or, Option, Some, None, Result, Ok, Err, IsTrue, IfNone, refl, sym, ap, ◌∙◌, subst, arith, ne_eqb}
+use Rattle.std.proofs.Common.{◌≡◌, ℕ, zero, suc, ◌+◌, ◌<◌, ◌≤◌, ◌==◌, Bool, true, false, not, cond, List, [], ◌∷◌, ◌++◌, length, take, get_or, Option, Some, None, Result, Ok, Err, IsOk, IsTrue, IfNone, refl, sym, ap, ◌∙◌, subst, arith, ne_eqb}
 use Rattle.std.specs.Char.{digit_value}
 use Rattle.std.specs.Str.Parse.{AllDigits, IsNumeral}
 use Rattle.std.proofs.lemmas.Bool.Decides.{nat_tests}
@@ -106,6 +106,10 @@ no_line line inside behind_ p e h never d =
 
 pub no_path : (reply : Result (List (List ℕ)) PathRefusal) (refusal : PathRefusal) (p : List (List ℕ)) → reply ≡ Err refusal → reply ≡ Ok p → ⊥
 no_path reply refusal p e f = cc
+
+pub path_read : (reply : Result (List (List ℕ)) PathRefusal) → IsOk reply → (p : List (List ℕ)) × (reply ≡ Ok p)
+path_read (Ok p) h = (p, refl)
+path_read (Err refusal) h = absurd (cc)
 
 pub if_none : {X P Q : Type 0} (r : Option X) → (P → Q) → IfNone r P → IfNone r Q
 if_none None f h = f h

@@ -27,9 +27,9 @@ use Rattle.odb_text.specs.declared.acts.Act.TheVariants.{Make, Write, Skip}
 use Rattle.odb_text.specs.declared.faults.ItemsFault.{ItemsFault}
 use Rattle.odb_text.specs.declared.faults.ItemsFault.TheVariants.{BadItem, WideItem, NoMemory}
 use Rattle.odb_text.specs.TextSteps.{own_limit, rows_fault, many_fault, wide_fault}
-use Rattle.odb_text.specs.Grammar.{SizedItem, size_given, size_for, held_with, IsKeyIn, IsArrayHead, is_skipped}
-use Rattle.odb_text.specs.TextFaults.{NextIsNot, IsSomeItemLine, BeginsNothing}
-use Rattle.odb_text.specs.Blocks.{IsBlock, IsBadAt, IsRefusedAlways, IsBlockFault, block_fault, AreRead, StopsAtItem, IsAloneRead, IsAloneFault, AreSkipped, SkipsOnlyTo, TakesItem, IsTakeFault}
+use Rattle.odb_text.specs.Grammar.{SizedItem, AreItemLines, size_given, size_for, held_with, IsKeyIn, IsArrayHead, is_skipped}
+use Rattle.odb_text.specs.TextFaults.{NextIsNot, NextIs, IsSomeItemLine, BeginsNothing}
+use Rattle.odb_text.specs.Blocks.{IsBlock, IsBadAt, IsRefusedAlways, IsBegunAt, IsBlockFault, block_fault, AreRead, StopsAtItem, IsAloneRead, IsAloneFault, AreSkipped, SkipsOnlyTo, TakesItem, IsTakeFault}
 use Rattle.std.proofs.lemmas.List.{length_push, length-map, append_assoc}
 use Rattle.odb_text.specs.ItemLines.{IsItemLine, IsAloneText}
 use Rattle.odb_text.specs.LineForms.{behind_blank}
@@ -197,6 +197,40 @@ array_block links dir line name type n behind items size rest h many a =
       within = no_own_limit (dir ++ name ∷ []) (record { tid = type; size = size_for (is_string type) type size; items = items }) (omega (arith, len, many)) (size_is_small type size a.within);
     }
 
+-- the lines of a step are in the grammar
+pub block_begun : (links : Bool) (dir lines : List (List ℕ)) (act : Act) (rest : List (List ℕ)) (count : ℕ) → IsBlock links dir lines act rest count → IsBegunAt links dir lines
+block_begun links dir lines act rest count b = record { opened = b.own; rest = rest; whole = b.whole; begins = inl (act, b.spells) }
+
+-- and so are those of an array up to its next item
+begun_at : (links : Bool) (dir : List (List ℕ)) (line name : List ℕ) (type : Tid) (n : ℕ) (behind : List (List ℕ)) (index : ℕ) (own : List (List ℕ)) (xs : List SizedItem) (rest : List (List ℕ))
+    → IsArrayHead dir line name type n → n ≤ items_limit → behind ≡ own ++ rest → AreItemLines type 0 own xs → length xs ≡ index → index < n → size_given xs ≤ size_limit
+    → NextIs (IsSomeItemLine type index) rest → IsBegunAt links dir (line ∷ behind)
+begun_at links dir line name type n behind index own xs [] h many whole spell count inside within next = absurd next
+begun_at links dir line name type n behind index own xs (own_line ∷ more) h many whole spell count inside within next =
+    let x : SizedItem = record { size = next.0; item = next.1 } in
+    record {
+      opened = line ∷ (own ++ own_line ∷ []);
+      rest = more;
+      whole = ap (λ (l : List (List ℕ)). line ∷ l) (whole ∙ sym (append_assoc own (own_line ∷ []) more));
+      begins = inr (
+        type,
+        xs,
+        x,
+        n,
+        record {
+          head = line;
+          more = own ++ own_line ∷ [];
+          spelled = refl;
+          name = name;
+          array = h;
+          many = many;
+          items = lines_push type 0 own xs own_line x spell (subst (λ (k : ℕ). IsItemLine type k own_line next.0 next.1) (let e : index ≡ 0 + length xs = omega (arith, count) in e) next.2);
+        },
+        omega (arith, count, inside),
+        within,
+      );
+    }
+
 pub array_fault : (links : Bool) (dir : List (List ℕ)) (line name : List ℕ) (type : Tid) (n : ℕ) (behind : List (List ℕ)) (fault : ItemsFault)
     → IsArrayHead dir line name type n → n ≤ items_limit → StopsAtItem type behind n fault → IsBlockFault links dir (line ∷ behind) (block_fault fault)
 array_fault links dir line name type n behind (BadItem at) h many b =
@@ -244,7 +278,9 @@ array_fault links dir line name type n behind WideItem h many b =
         refl,
       ));
     }
-array_fault links dir line name type n behind NoMemory h many b = tt
+array_fault links dir line name type n behind NoMemory h many b =
+    let a = b.read in
+    begun_at links dir line name type n behind b.index a.own a.xs b.rest h many a.whole a.spell a.as_many b.inside (omega (arith, a.size_is, a.within)) b.fault_is
 
 -- a key of one item
 
@@ -306,7 +342,17 @@ single_fault links dir line name type rest text behind WideItem key kept single 
         ap (λ (o : Option OdbRefusal). option_or o (rows_fault s (Write (dir ++ name ∷ []) v))) (wide v.size (omega (arith, size, raised_least a.x.size a.x.item, a.wide))),
       );
     }
-single_fault links dir line name type rest text behind NoMemory key kept single no_pass no_dir a = tt
+single_fault links dir line name type rest text behind NoMemory key kept single no_pass no_dir a =
+    let x : SizedItem = record { size = a.0; item = a.1 } in
+    record {
+      opened = line ∷ [];
+      rest = behind;
+      whole = refl;
+      begins = inl (
+        Write (dir ++ name ∷ []) (held_with type (x ∷ [])),
+        (name, inl (type, x ∷ [], inl (x, record { rest = rest; key = key; kept = kept; text = text; single = single; item = a.2 }, refl, refl), refl), refl),
+      );
+    }
 
 -- too many items
 
@@ -458,4 +504,4 @@ alone_fault type text given size item (BadItem at) i e h = absurd h
 alone_fault type text given size item WideItem i e h =
     let wide : size_limit < size = count_none size_limit size (sym h ∙ e) in
     record { x = record { size = size; item = item }; spells = i; wide = wide; string = wide_is_string type text size item i wide }
-alone_fault type text given size item NoMemory i e h = tt
+alone_fault type text given size item NoMemory i e h = (size, item, i)

@@ -20,7 +20,7 @@ use Rattle.odb_text.specs.declared.faults.ItemsFault.{ItemsFault}
 use Rattle.odb_text.specs.declared.faults.ItemsFault.TheVariants.{BadItem, WideItem, NoMemory as no_memory}
 use Rattle.odb_text.specs.TextSteps.{own_limit}
 use Rattle.odb_text.specs.Grammar.{SizedItem, AreItemLines, size_given, BeginsBracketed, IsLinkKey, SpellsAct}
-use Rattle.odb_text.specs.TextFaults.{NextIsNot, IsSomeItemLine, LeavesGrammar, IsRefused}
+use Rattle.odb_text.specs.TextFaults.{NextIsNot, NextIs, IsSomeItemLine, LeavesGrammar, IsRefused, BeginsStep}
 
 -- The first lines of the text are those of this step, which no limit of its own refuses, and the rest follows them.
 pub record IsBlock (links : Bool) (dir lines : List (List ℕ)) (act : Act) (rest : List (List ℕ)) (count : ℕ) : Type 0 where
@@ -45,10 +45,17 @@ pub record IsRefusedAlways (links : Bool) (dir lines : List (List ℕ)) (why : O
   pub whole : lines ≡ opened ++ rest
   pub refused : (s : Rows) → IsRefused links s dir opened why
 
+-- The first lines are in the grammar, as far as they were read.
+pub record IsBegunAt (links : Bool) (dir lines : List (List ℕ)) : Type 0 where
+  pub opened : List (List ℕ)
+  pub rest : List (List ℕ)
+  pub whole : lines ≡ opened ++ rest
+  pub begins : BeginsStep links dir opened
+
 abbrev pub IsBlockFault : (links : Bool) → (dir lines : List (List ℕ)) → BlockFault → Type 0
 IsBlockFault links dir lines (Bad at) = IsBadAt links dir lines at
 IsBlockFault links dir lines (Refused why) = IsRefusedAlways links dir lines why
-IsBlockFault links dir lines NoMemory = Unit {0}
+IsBlockFault links dir lines NoMemory = IsBegunAt links dir lines
 
 -- the fault of a key whose items are at fault
 abbrev pub block_fault : ItemsFault → BlockFault
@@ -109,7 +116,7 @@ pub record IsWideLine (type : Tid) (index : ℕ) (lines : List (List ℕ)) : Typ
 abbrev pub IsItemFault : Tid → (index : ℕ) → (lines : List (List ℕ)) → ItemsFault → Type 0
 IsItemFault type index lines (BadItem at) = (at ≡ index + 1) × NextIsNot (IsSomeItemLine type index) lines
 IsItemFault type index lines WideItem = IsWideLine type index lines
-IsItemFault type index lines no_memory = Unit {0}
+IsItemFault type index lines no_memory = NextIs (IsSomeItemLine type index) lines
 
 -- what is wrong with the first line that is none of an item, or has too great a size
 pub record StopsAtItem (type : Tid) (lines : List (List ℕ)) (count : ℕ) (fault : ItemsFault) : Type 0 where
@@ -157,10 +164,14 @@ pub record IsWideAlone (type : Tid) (text : List ℕ) : Type 0 where
   pub wide : size_limit < x.size
   pub string : is_string type ≡ true
 
+-- some item stands there
+abbrev pub IsSomeAlone : Tid → (text : List ℕ) → Type 0
+IsSomeAlone type text = (size : ℕ) × (item : Item) × IsItemAlone type text size item
+
 abbrev pub IsAloneFault : Tid → (text : List ℕ) → ItemsFault → Type 0
 IsAloneFault type text (BadItem at) = (at ≡ 0) × ((size : ℕ) (item : Item) → IsItemAlone type text size item → ⊥)
 IsAloneFault type text WideItem = IsWideAlone type text
-IsAloneFault type text no_memory = Unit {0}
+IsAloneFault type text no_memory = IsSomeAlone type text
 
 -- The line is that of a link, which was read from it.
 pub record ReadsLink (dir : List (List ℕ)) (line name : List ℕ) (read : ReadLink) : Type 0 where

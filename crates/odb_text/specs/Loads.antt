@@ -17,7 +17,7 @@ use Rattle.odb_tree.specs.declared.refusals.OdbRefusal.TheVariants.{NoKey, Exist
 use Rattle.odb_text.specs.declared.faults.BlockFault.{BlockFault}
 use Rattle.odb_text.specs.declared.faults.BlockFault.TheVariants.{Bad, Refused, NoMemory as no_memory}
 use Rattle.odb_text.specs.Dumps.{dump_limit}
-use Rattle.odb_text.specs.Blocks.{IsBadAt}
+use Rattle.odb_text.specs.Blocks.{IsBadAt, IsBegunAt}
 
 -- The lines are those of some steps, none of which is refused from these rows; they lead to those rows, and each watch has
 -- noted the changes of each step in turn. So many keys are written, and so many are skipped.
@@ -88,7 +88,7 @@ pub record RefusesFirst (links : Bool) (at : Place) (now : Rows) (why : OdbRefus
 abbrev pub IsTextFaultAt : (links : Bool) → Place → (now : Rows) → LoadRefusal → Type 0
 IsTextFaultAt links at now (BadLine n) = (place : ℕ) × IsBadAt links at.dir at.rest place × (n ≡ at.line + place)
 IsTextFaultAt links at now (KeyRefused n why) = RefusesFirst links at now why × (n ≡ at.line)
-IsTextFaultAt links at now NoMemory = Unit {0}
+IsTextFaultAt links at now NoMemory = IsBegunAt links at.dir at.rest
 
 -- The place in a text of which these bytes are left.
 abbrev pub place_at : (bytes : List ℕ) → (line : ℕ) → (dir : List (List ℕ)) → Loaded → Place

@@ -54,6 +54,11 @@ abbrev pub NextIsNot : (List ℕ → Type 0) → List (List ℕ) → Type 0
 NextIsNot form [] = Unit {0}
 NextIsNot form (line ∷ more) = form line → ⊥
 
+-- the next line is there, and is of this form
+abbrev pub NextIs : (List ℕ → Type 0) → List (List ℕ) → Type 0
+NextIs form [] = ⊥
+NextIs form (line ∷ more) = form line
+
 -- an item of an array: some item stands in the line
 abbrev pub IsSomeItemLine : Tid → (index : ℕ) → List ℕ → Type 0
 IsSomeItemLine type index line = (size : ℕ) × (item : Item) × IsItemLine type index line size item
@@ -83,6 +88,13 @@ IsRefused links s dir opened why =
     ⊎ (HasManyItems links dir opened × (why ≡ Limit Items))
     ⊎ (HasWideItem dir opened × (why ≡ Limit Size))
 
+-- The lines are in the grammar: they are those of a step, or the first ones of an array up to that of some item, before
+-- which no item has too great a size.
+abbrev pub BeginsStep : (links : Bool) → (dir opened : List (List ℕ)) → Type 0
+BeginsStep links dir opened =
+    ((act : Act) × SpellsAct links dir opened act)
+    ⊎ ((type : Tid) × (xs : List SizedItem) × (x : SizedItem) × (n : ℕ) × IsBegunArray dir opened type (xs ++ x ∷ []) n × (length xs < n) × (size_given xs ≤ size_limit))
+
 -- The first lines ask for steps none of which is refused. Behind them stand some lines with which something begins, and the
 -- rest.
 pub record FaultPlace (rows : Rows) (lines : List (List ℕ)) : Type 0 where
@@ -95,10 +107,11 @@ pub record FaultPlace (rows : Rows) (lines : List (List ℕ)) : Type 0 where
   pub now : Rows
   pub ran : run_steps steps rows ≡ Ok now
 
--- The first line at fault, and what is wrong with it.
+-- The first line at fault, and what is wrong with it. Want of memory excuses no fault of the lines before: it comes at a
+-- step, the lines of which are in the grammar as far as they were read.
 abbrev pub IsTextFault : Rows → (lines : List (List ℕ)) → LoadRefusal → Type 0
 IsTextFault rows lines (BadLine n) =
     (at : FaultPlace rows lines) × (n ≡ length at.front + length at.opened + 1) × LeavesGrammar rows.links (dirs_after [] at.steps) at.opened at.rest
 IsTextFault rows lines (KeyRefused n why) =
     (at : FaultPlace rows lines) × (n ≡ length at.front + 1) × IsRefused rows.links at.now (dirs_after [] at.steps) at.opened why
-IsTextFault rows lines NoMemory = Unit {0}
+IsTextFault rows lines NoMemory = (at : FaultPlace rows lines) × BeginsStep rows.links (dirs_after [] at.steps) at.opened

@@ -1,4 +1,4 @@
-ghost use Rattle.std.specs.Prelude.{◌≢◌, ℕ, List, OnOk, IfOk, IfSome, IfNone};
+ghost use Rattle.std.specs.Prelude.{◌≡◌, ◌≢◌, ℕ, List, OnOk, OnErr, IfOk, IfSome, IfNone};
 ghost use Rattle.odb_text.specs.LineForms.{IsDirLine};
 
 use crate::words::{are_blanks, in_brackets};
@@ -7,8 +7,9 @@ use odb_value::{Path, PathRefusal};
 use std::alloc::Global;
 
 /// That a refused path's text has a fault, or that memory was wanting.
-pub fn has_fault(refusal: PathRefusal) -> Result<(), NoMemory>
-    ensures { OnOk result (refusal ≢ PathRefusal.NoMemory) }
+fn has_fault(refusal: PathRefusal) -> Result<(), NoMemory>
+    ensures fault { OnOk result (refusal ≢ PathRefusal.NoMemory) }
+    ensures memory { OnErr result (refusal ≡ PathRefusal.NoMemory) }
 {
     match refusal {
         PathRefusal::NoMemory => Err(NoMemory),
@@ -21,6 +22,7 @@ pub fn read_dir_line(alloc: Global, line: &[u8]) -> Result<Option<Path>, NoMemor
     ensures some { IfOk result (λ found. IfSome found (IsDirLine line.now)) }
     ensures none { IfOk result (λ found. IfNone found ((p : List (List ℕ))
         → IsDirLine line.now p → ⊥)) }
+    ensures memory { OnErr result ((p : List (List ℕ)) × IsDirLine line.now p) }
 {
     let Some((text, behind)) = in_brackets(line) else {
         return Ok(None);

@@ -1,4 +1,4 @@
-ghost use Rattle.std.specs.Prelude.{◌≡◌, ◌≢◌, ◌↔◌, ℕ, Ok, IsTrue, OnOk, IfOk, IfSome, IfNone};
+ghost use Rattle.std.specs.Prelude.{◌≡◌, ◌≢◌, ◌↔◌, ℕ, Ok, IsOk, IsTrue, OnOk, OnErr, IfOk, IfSome, IfNone};
 ghost use Rattle.std.specs.Fmt.{decimal};
 ghost use Rattle.std.specs.Str.Parse.{IsNumeral};
 ghost use Rattle.daq_text.specs.Numbers.{up_to};
@@ -7,6 +7,8 @@ ghost use Rattle.odb_value.specs.ItemTexts.{item_read};
 ghost use Rattle.odb_value.specs.Values.{size_limit};
 ghost use Rattle.odb_text.specs.LineForms.{behind_blank};
 ghost use Rattle.odb_text.specs.ItemLines.{is_string, IsFrontNumber, IsItemLine, IsAloneText, IsItemAlone};
+ghost use Rattle.odb_text.specs.TextFaults.{IsSomeItemLine};
+ghost use Rattle.odb_text.specs.Blocks.{IsSomeAlone};
 
 use crate::words::{behind_blank, bracketed, spelled};
 use daq_types::{NoMemory, Tid};
@@ -27,7 +29,8 @@ pub struct ReadItem {
 
 /// That a refused item's text is at fault, or that memory was wanting.
 fn is_at_fault(refusal: ItemRefusal) -> Result<(), NoMemory>
-    ensures { OnOk result (refusal ≢ ItemRefusal.NoMemory) }
+    ensures fault { OnOk result (refusal ≢ ItemRefusal.NoMemory) }
+    ensures memory { OnErr result (refusal ≡ ItemRefusal.NoMemory) }
 {
     match refusal {
         ItemRefusal::NoMemory => Err(NoMemory),
@@ -40,6 +43,7 @@ fn read_item(alloc: Global, tid: Tid, text: &[u8]) -> Result<Option<Item>, NoMem
     ensures some { IfOk result (λ found. IfSome found (λ item. item_read tid text.now ≡ Ok item)) }
     ensures none { IfOk result (λ found. IfNone found ((item : Item) → item_read tid text.now
         ≡ Ok item → ⊥)) }
+    ensures memory { OnErr result (IsOk (item_read tid text.now)) }
 {
     match parse_item(alloc, tid, text) {
         Ok(item) => Ok(Some(item)),
@@ -94,6 +98,7 @@ fn sized(
     ensures size { IfOk result (λ found. IfSome found (λ read. read.size ≡ size)) }
     ensures none { IfOk result (λ found. IfNone found ((item : Item) → item_read tid text.now
         ≡ Ok item → ⊥)) }
+    ensures memory { OnErr result (IsOk (item_read tid text.now)) }
 {
     match read_item(alloc, tid, text) {
         Ok(Some(item)) => Ok(Some(ReadItem { size, item })),
@@ -113,6 +118,7 @@ pub fn item_line(
         × (IsItemLine tid index line.now size read.item × (read.size ≡ up_to size_limit size)))) }
     ensures none { IfOk result (λ found. IfNone found ((size : ℕ) (item : Item)
         → IsItemLine tid index line.now size item → ⊥)) }
+    ensures memory { OnErr result (IsSomeItemLine tid index line.now) }
 {
     match bracketed(line) {
         None => Ok(None),
@@ -129,6 +135,7 @@ pub fn item_alone(alloc: Global, tid: Tid, text: &[u8]) -> Result<Option<ReadIte
         × (IsItemAlone tid text.now size read.item × (read.size ≡ up_to size_limit size)))) }
     ensures none { IfOk result (λ found. IfNone found ((size : ℕ) (item : Item)
         → IsItemAlone tid text.now size item → ⊥)) }
+    ensures memory { OnErr result (IsSomeAlone tid text.now) }
 {
     if is_string(tid) {
         return item_line(alloc, tid, 0, behind_blank(text));

@@ -1,16 +1,16 @@
-ghost use Rattle.std.specs.Prelude.{◌≡◌, ◌↔◌, ℕ, List, IsTrue, IfOk, IfSome, IfNone};
+ghost use Rattle.std.specs.Prelude.{◌≡◌, ◌↔◌, ℕ, List, IsTrue, OnErr, IfOk, IfSome, IfNone};
 ghost use Rattle.daq_types.specs.declared.types.Tid.{Tid};
 ghost use Rattle.daq_text.specs.Numbers.{up_to};
 ghost use Rattle.odb_value.specs.declared.items.Item.TheVariants.{Text};
 ghost use Rattle.odb_value.specs.Values.{size_limit};
 ghost use Rattle.odb_value.specs.LinkValues.{IsLink};
-ghost use Rattle.odb_text.specs.ItemLines.{IsPathText, IsLinkAlone};
+ghost use Rattle.odb_text.specs.ItemLines.{IsItemAlone, IsPathText, IsLinkAlone};
 ghost use Rattle.odb_text.specs.Grammar.{held_link};
 
-use crate::directories::has_fault;
+use crate::words::{behind_blank, bracketed};
 use crate::{ReadItem, item_alone};
 use daq_types::{NoMemory, Tid};
-use odb_value::{Item, Items, Path, TextBytes, Value};
+use odb_value::{Item, Items, TextBytes, Value, path_fault};
 use std::alloc::Global;
 
 /// A link as it stands in a line.
@@ -23,34 +23,38 @@ pub struct ReadLink {
 }
 
 /// Whether the text is that of a path.
-fn is_path(alloc: Global, text: &[u8]) -> Result<bool, NoMemory>
-    ensures { IfOk result (λ is. IsTrue is ↔ IsPathText text.now) }
+fn is_path(text: &[u8]) -> bool
+    ensures { IsTrue result ↔ IsPathText text.now }
 {
-    match Path::read(alloc, text) {
-        Ok(_) => Ok(true),
-        Err(refusal) => {
-            has_fault(refusal)?;
-            Ok(false)
-        }
+    path_fault(text).is_none()
+}
+
+/// Whether the text is that of a path which stands behind the size of a link.
+fn has_path(text: &[u8]) -> bool
+    ensures { (size : ℕ) (link : List ℕ) → IsItemAlone Tid.Text text.now size (Text link)
+        → (IsTrue result ↔ IsPathText link) }
+{
+    match bracketed(behind_blank(text)) {
+        None => false,
+        Some((_, rest)) => is_path(behind_blank(rest)),
     }
 }
 
 /// The link with the text of an item that was read; None exactly where it is no text, or that of no path.
-fn link_of(alloc: Global, read: ReadItem) -> Result<Option<ReadLink>, NoMemory>
-    ensures size { IfOk result (λ found. IfSome found (λ link. link.size ≡ read.size)) }
-    ensures text { IfOk result (λ found. IfSome found (λ link. read.item ≡ Text link.text)) }
-    ensures path { IfOk result (λ found. IfSome found (λ link. IsPathText link.text)) }
-    ensures none { IfOk result (λ found. IfNone found ((text : List ℕ) → read.item ≡ Text text
-        → IsPathText text → ⊥)) }
+fn link_of(read: ReadItem) -> Option<ReadLink>
+    ensures size { IfSome result (λ link. link.size ≡ read.size) }
+    ensures text { IfSome result (λ link. read.item ≡ Text link.text) }
+    ensures path { IfSome result (λ link. IsPathText link.text) }
+    ensures none { IfNone result ((text : List ℕ) → read.item ≡ Text text → IsPathText text → ⊥) }
 {
     let ReadItem { size, item } = read;
     let Item::Text(text) = item else {
-        return Ok(None);
+        return None;
     };
-    if is_path(alloc, text.as_slice())? {
-        Ok(Some(ReadLink { size, text }))
+    if is_path(text.as_slice()) {
+        Some(ReadLink { size, text })
     } else {
-        Ok(None)
+        None
     }
 }
 
@@ -60,11 +64,12 @@ pub fn read_link(alloc: Global, text: &[u8]) -> Result<Option<ReadLink>, NoMemor
         × (IsLinkAlone text.now size read.text × (read.size ≡ up_to size_limit size)))) }
     ensures none { IfOk result (λ found. IfNone found ((size : ℕ) (link : List ℕ)
         → IsLinkAlone text.now size link → ⊥)) }
+    ensures memory { OnErr result ((size : ℕ) × (link : List ℕ) × IsLinkAlone text.now size link) }
 {
     match item_alone(alloc, Tid::Text, text) {
-        Err(error) => Err(error),
+        Err(error) => { if has_path(text) { Err(error) } else { Ok(None) } }
         Ok(None) => Ok(None),
-        Ok(Some(read)) => link_of(alloc, read),
+        Ok(Some(read)) => Ok(link_of(read)),
     }
 }
 

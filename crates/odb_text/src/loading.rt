@@ -1,5 +1,6 @@
 ghost use Rattle.std.specs.Prelude.{◌≡◌, ◌≢◌, ◌≤◌, ◌<◌, ◌+◌, ◌∷◌, ◌++◌, [], ◌^◌, true, false, None, Some, length, IfOk, IfErr, OnOk, OnErr};
 ghost use Rattle.std.specs.Str.Lines.{lines};
+ghost use Rattle.odb_tree.specs.Rows.{Rows};
 ghost use Rattle.odb_value.specs.Paths.{depth_limit};
 ghost use Rattle.odb_tree.specs.Lookups.{seek_key};
 ghost use Rattle.odb_tree.specs.Links.{resolved, through};
@@ -354,12 +355,68 @@ fn load_into<D: Database>(
     Ok(at.loaded)
 }
 
+/// The refusal of the first step of a text, from this line on, where there was no memory for a copy of the database: a
+/// fault of its lines, or want of memory.
+fn refused_first<'a>(
+    alloc: Global,
+    links: bool,
+    at: &Cursor<'a>,
+    line: &'a [u8],
+    behind: &'a [u8],
+) -> LoadRefusal
+    requires first { lines at.now.rest.now ≡ line.now ∷ lines behind.now }
+    requires read { IsPassed line.now → ⊥ }
+    requires room { IsRoomy at.now.line (length at.now.rest.now) at.now.loaded }
+    ensures { (s : Rows) → IsTextFaultAt links (place_at at.now.rest.now at.now.line at.now.dir
+        at.now.loaded) s result }
+{
+    match read_block(alloc, links, &at.dir, line, behind) {
+        Err(fault) => broken_at(at.line, fault),
+        Ok(_block) => LoadRefusal::NoMemory,
+    }
+}
+
+/// What is told of a text where there was no memory for a copy of the database: one that asks for nothing is loaded, and
+/// any other is refused at its first step.
+fn load_uncopied<D: Database>(
+    alloc: Global,
+    database: &D,
+    text: &[u8],
+) -> Result<Loaded, LoadRefusal>
+    requires { length text.now ≤ dump_limit }
+    ensures loaded { IfOk result (λ loaded. IsLoaded
+        (watched_as (D.rows database.now) (D.watches database.now)) (lines text.now) loaded
+        (watched_as (D.rows database.now) (D.watches database.now))) }
+    ensures fault { IfErr result (IsTextFault (D.rows database.now) (lines text.now)) }
+{
+    let mut at = Cursor {
+        rest: text,
+        line: 1,
+        dir: Path::root(alloc),
+        loaded: Loaded {
+            keys: 0,
+            skipped: 0,
+        },
+    };
+    let links = database.keeps_links();
+    while let Some((line, behind)) = split_line(at.rest) {
+        if !is_passed(line) {
+            return Err(refused_first(alloc, links, &at, line, behind));
+        }
+        at.rest = behind;
+        at.line += 1;
+    }
+    Ok(at.loaded)
+}
+
 /// Loads a text of at most 268,435,456 bytes: makes the directories and writes the keys that it asks for, in its order.
 /// Each directory is made at its path after its links, and each key is put at its path as it is. Keys of the types FLOAT,
 /// DOUBLE and BITFIELD are skipped, and those of type LINK where the database keeps no links. The lines of a text that is
 /// loaded are those of steps none of which is refused, and watches of the database note each key that is written, item by
 /// item. Else a line at fault is told: the lines before it are those of steps none of which is refused, and there the text
-/// leaves the grammar, or what it asks for is refused; the database and its watches are as they were.
+/// leaves the grammar, or what it asks for is refused. Want of memory excuses no fault: it is told at a step before which
+/// nothing is at fault, and whose own lines are in the grammar as far as they were read. The database and its watches are
+/// then as they were.
 #[tactic(auto, using(crate::proofs::Loads::loaded_from))]
 pub fn load<D: Database>(
     alloc: Global,
@@ -374,7 +431,9 @@ pub fn load<D: Database>(
     ensures kept { OnErr result (D.rows database.new ≡ D.rows database.old) }
     ensures unnoted { OnErr result (D.watches database.new ≡ D.watches database.old) }
 {
-    let mut copy = database.copy(alloc)?;
+    let Ok(mut copy) = database.copy(alloc) else {
+        return load_uncopied(alloc, database, text);
+    };
     let loaded = load_into(alloc, &mut copy, text)?;
     *database = copy;
     Ok(loaded)

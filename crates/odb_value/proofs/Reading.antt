@@ -1,5 +1,5 @@
 -- Reading a path: what has been read, and what is left.
-use Rattle.std.proofs.Common.{◌≡◌, ℕ, ◌+◌, ◌*◌, ◌<◌, ◌≤◌, Bool, true, false, cond, eqb, ltb, List, [], ◌∷◌, ◌++◌, length, take, drop, Option, Some, None, Ok, Err, position, refl, sym, ap, ◌∙◌, subst, arith}
+use Rattle.std.proofs.Common.{◌≡◌, ℕ, ◌+◌, ◌-◌, ◌*◌, ◌<◌, ◌≤◌, Bool, true, false, cond, eqb, ltb, List, [], ◌∷◌, ◌++◌, length, take, drop, Option, Some, None, Result, Ok, Err, IsOk, IfSome, IfNone, position, refl, sym, ap, ◌∙◌, subst, arith}
 use Rattle.std.specs.Option.{option_or}
 use Rattle.std.specs.List.{position_or_len}
 use Rattle.std.proofs.lemmas.List.{append_assoc, length-append, length-take-le}
@@ -18,6 +18,12 @@ pub record IsRead (body : List ℕ) (start : ℕ) (names : List (List ℕ)) (res
   pub faults_are : first_fault start 0 (pieces body) ≡ first_fault place (length names) (pieces rest)
   pub bound : place ≤ 1 + 32 * length names
   pub few : length names ≤ depth_limit
+
+-- so many names have been read off the text
+pub record IsReadTo (body : List ℕ) (start depth : ℕ) (rest : List ℕ) (place : ℕ) : Type 0 where
+  pub names : List (List ℕ)
+  pub read : IsRead body start names rest place
+  pub many : depth ≡ length names
 
 pub read_none : (body : List ℕ) (start : ℕ) → start ≤ 1 → IsRead body start [] body start
 read_none body start h = record { names_are = refl; faults_are = refl; bound = omega arith; few = omega arith }
@@ -132,3 +138,47 @@ not_empty text body empty e f g = ap (λ (x : List ℕ). eqb (length x) 0) (sym 
 pub no_slash : (found : Option ℕ) (rest : List ℕ) → found ≡ position (λ b. eqb b 47) rest → ((at : ℕ) → found ≡ Some at → ⊥) → position (λ b. eqb b 47) rest ≡ None
 no_slash None rest e h = sym e
 no_slash (Some at) rest e h = absurd (h at refl)
+
+-- The same, where the names are counted alone.
+
+-- one slash at most stands in front of the first name
+pub start_small : (text : List ℕ) → names_start text ≤ 1
+start_small [] = omega arith
+start_small (b ∷ bs) = cases (eqb b 47)
+  where
+    cases : (slash : Bool) → length (b ∷ bs) - length (cond slash bs (b ∷ bs)) ≤ 1
+    cases true = omega arith
+    cases false = omega arith
+
+pub none_read : (body : List ℕ) (start : ℕ) → start ≤ 1 → IsReadTo body start 0 body start
+none_read body start h = record { names = []; read = read_none body start h; many = refl }
+
+pub reads_on : (body : List ℕ) (start depth : ℕ) (rest name behind : List ℕ) (place at : ℕ) (found : Option PathRefusal) → IsReadTo body start depth rest place
+    → position (λ b. eqb b 47) rest ≡ Some at → at < length rest → name ≡ take at rest → behind ≡ drop (at + 1) rest
+    → found ≡ add_fault place depth name → found ≡ None → length name ≤ 31 → depth < depth_limit
+    → IsReadTo body start (depth + 1) behind (place + (at + 1))
+reads_on body start depth rest name behind place at found h p w is left fault none short room = record {
+  names = h.names ++ name ∷ [];
+  read = read_next body start h.names (h.names ++ name ∷ []) rest name behind place at h.read p w is left refl
+      (ap (λ (n : ℕ). add_fault place n name) (sym h.many) ∙ (sym fault ∙ none)) short (omega (arith, room, h.many));
+  many = omega (arith, h.many, length-append h.names (name ∷ []));
+}
+
+pub faults_at : (text : List ℕ) (depth : ℕ) (rest name : List ℕ) (place at : ℕ) (found : Option PathRefusal) (refusal : PathRefusal) → eqb (length (behind_slash text)) 0 ≡ false
+    → IsReadTo (behind_slash text) (names_start text) depth rest place
+    → position (λ b. eqb b 47) rest ≡ Some at → name ≡ take at rest → found ≡ add_fault place depth name → found ≡ Some refusal → path_reply text ≡ Err refusal
+faults_at text depth rest name place at found refusal some h p is fault bad =
+    replies_fault text h.names rest name place at refusal some h.read p is (ap (λ (n : ℕ). add_fault place n name) (sym h.many) ∙ (sym fault ∙ bad))
+
+pub ends_read : (text : List ℕ) (depth : ℕ) (rest : List ℕ) (place : ℕ) (found : Option PathRefusal) → eqb (length (behind_slash text)) 0 ≡ false
+    → IsReadTo (behind_slash text) (names_start text) depth rest place
+    → position (λ b. eqb b 47) rest ≡ None → found ≡ add_fault place depth rest
+    → IfSome found (λ refusal. path_reply text ≡ Err refusal) × IfNone found (IsOk (path_reply text))
+ends_read text depth rest place None some h p fault =
+    (tt, is_ok (path_reply text) (h.names ++ rest ∷ []) (replies_path text h.names rest place some h.read p (ap (λ (n : ℕ). add_fault place n rest) (sym h.many) ∙ sym fault)))
+  where
+    is_ok : (reply : Result (List (List ℕ)) PathRefusal) (names : List (List ℕ)) → reply ≡ Ok names → IsOk reply
+    is_ok (Ok path) names e = refl
+    is_ok (Err refusal) names e = absurd (cc)
+ends_read text depth rest place (Some refusal) some h p fault =
+    (replies_last_fault text h.names rest place refusal some h.read p (ap (λ (n : ℕ). add_fault place n rest) (sym h.many) ∙ sym fault), tt)

@@ -1,5 +1,5 @@
 -- The text of a path, both ways, and what is wrong with a text that is no path.
-use Rattle.std.specs.Prelude.{◌≡◌, ◌≢◌, ℕ, ◌+◌, ◌-◌, ◌==◌, List, [], ◌∷◌, length, Option, Some, None, Result, Ok, Err, nat_lt, if◌then◌else◌, codes}
+use Rattle.std.specs.Prelude.{◌≡◌, ◌≢◌, ℕ, ◌+◌, ◌-◌, ◌==◌, List, [], ◌∷◌, length, Option, Some, None, Result, Ok, Err, IsOk, nat_lt, if◌then◌else◌, codes}
 use Rattle.std.specs.Option.{option_or}
 use Rattle.std.specs.List.{slice_split, flat_map}
 use Rattle.daq_types.specs.Names.{breaks_name}
@@ -67,10 +67,10 @@ names_start text = length text - length (behind_slash text)
 abbrev pub path_reply : List ℕ → Result (List (List ℕ)) PathRefusal
 path_reply text = names_or (names_of text) (first_fault (names_start text) 0 (names_of text))
 
--- a reply is this one, where memory was not wanting
-abbrev pub GivesNames : Result (List (List ℕ)) PathRefusal → Result (List (List ℕ)) PathRefusal → Type 0
-GivesNames (Ok path) reply = reply ≡ Ok path
-GivesNames (Err refusal) reply = refusal ≢ NoMemory → reply ≡ Err refusal
+-- The reply is the one that is due, or memory was wanting, which excuses no fault: it is so only where the text is a path's.
+abbrev pub GivesNames : Result (List (List ℕ)) PathRefusal → (due : Result (List (List ℕ)) PathRefusal) → Type 0
+GivesNames (Ok path) due = due ≡ Ok path
+GivesNames (Err refusal) due = (refusal ≢ NoMemory → due ≡ Err refusal) × (refusal ≡ NoMemory → IsOk due)
 
 -- the text of a path: its names from the root down, each behind a slash; the root is a slash alone
 abbrev pub path_text : List (List ℕ) → List ℕ

@@ -21,7 +21,7 @@ pub use key_texts::print_key;
 pub use parts::{CharByte, TextBytes};
 pub use path_refusals::PathRefusal;
 pub use path_texts::print_path;
-pub use paths::{MAX_DEPTH, Path};
+pub use paths::{MAX_DEPTH, Path, path_fault};
 pub use refusals::ItemRefusal;
 pub use texts::{parse_item, print_item};
 pub use values::{Items, Value};

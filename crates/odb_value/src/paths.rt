@@ -1,4 +1,4 @@
-ghost use Rattle.std.specs.Prelude.{◌≡◌, ◌≢◌, ◌+◌, ◌-◌, ◌*◌, ◌<◌, ◌≤◌, ◌∷◌, ◌++◌, [], ℕ, IfOk, IfErr, OnOk, OnErr, IfSome, None, Some, length, take, drop, position, ◌==◌};
+ghost use Rattle.std.specs.Prelude.{◌≡◌, ◌≢◌, ◌+◌, ◌-◌, ◌*◌, ◌<◌, ◌≤◌, ◌∷◌, ◌++◌, [], ℕ, IfOk, IfErr, OnOk, OnErr, IfSome, IfNone, IsOk, None, Some, length, take, drop, position, ◌==◌};
 ghost use Rattle.odb_value.specs.Paths.{depth_limit, IsPath};
 ghost use Rattle.odb_value.specs.PathText.{behind_slash, name_fault, add_fault, path_reply, GivesNames};
 ghost use Rattle.odb_value.specs.declared.path_refusals.PathRefusal.TheVariants.{NoMemory as no_memory};
@@ -65,6 +65,7 @@ fn read_name(text: &[u8], place: usize) -> Result<Name, PathRefusal>
     ensures right { OnOk result (name_fault place text.now ≡ None) }
     ensures short { OnOk result (length text.now ≤ 31) }
     ensures refused { IfErr result (λ refusal. name_fault place text.now ≡ Some refusal) }
+    ensures no_memory { IfErr result (λ refusal. refusal ≢ no_memory) }
 {
     match Name::new(text) {
         Ok(name) => Ok(name),
@@ -74,6 +75,51 @@ fn read_name(text: &[u8], place: usize) -> Result<Name, PathRefusal>
             at: place as u32 + at,
         }),
     }
+}
+
+/// What is wrong with a name that begins at this place of a path's text and has so many names in front.
+fn add_fault(text: &[u8], place: usize, depth: usize) -> Option<PathRefusal>
+    requires { place ≤ 1 + 32 * depth_limit }
+    ensures fault { result ≡ add_fault place depth text.now }
+    ensures no_memory { IfSome result (λ refusal. refusal ≢ no_memory) }
+    ensures short { IfNone result (length text.now ≤ 31) }
+    ensures room { IfNone result (depth < depth_limit) }
+{
+    match read_name(text, place) {
+        Err(refusal) => Some(refusal),
+        Ok(_) => {
+            if depth < MAX_DEPTH {
+                None
+            } else {
+                Some(PathRefusal::TooDeep)
+            }
+        }
+    }
+}
+
+/// What is wrong with the text of a path; None exactly where it is one. Takes no memory.
+pub fn path_fault(text: &[u8]) -> Option<PathRefusal>
+    ensures fault { IfSome result (λ refusal. path_reply text.now ≡ Err refusal) }
+    ensures no_memory { IfSome result (λ refusal. refusal ≢ no_memory) }
+    ensures none { IfNone result (IsOk (path_reply text.now)) }
+{
+    let body = behind_slash(text);
+    if body.is_empty() {
+        return None;
+    }
+    let mut rest = body;
+    let mut place = text.len() - body.len();
+    let mut depth = 0;
+    while let Some(at) = slash_in(rest) {
+        let (name, behind) = cut(rest, at);
+        if let Some(refusal) = add_fault(name, place, depth) {
+            return Some(refusal);
+        }
+        place += at + 1;
+        depth += 1;
+        rest = behind;
+    }
+    add_fault(rest, place, depth)
 }
 
 impl Path {
@@ -102,9 +148,21 @@ impl Path {
 
     /// The path of a text: names between slashes, where a first slash may be absent; a slash alone and the empty text
     /// are the root. Else the first name with a fault is refused, and of its faults the first in the order of
-    /// `PathRefusal`.
+    /// `PathRefusal`. Memory is taken only where the text is that of a path.
     pub fn read(alloc: Global, text: &[u8]) -> Result<Path, PathRefusal>
         ensures { GivesNames result (path_reply text.now) }
+    {
+        if let Some(refusal) = path_fault(text) {
+            return Err(refusal);
+        }
+        Path::read_names(alloc, text)
+    }
+
+    /// The same, where memory is taken name by name.
+    fn read_names(alloc: Global, text: &[u8]) -> Result<Path, PathRefusal>
+        ensures path { IfOk result (λ path. path_reply text.now ≡ Ok path) }
+        ensures refused { IfErr result (λ refusal. refusal ≢ no_memory
+            → path_reply text.now ≡ Err refusal) }
     {
         let mut path = Path::root(alloc);
         let body = behind_slash(text);

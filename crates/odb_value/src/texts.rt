@@ -1,4 +1,4 @@
-ghost use Rattle.std.specs.Prelude.{◌≡◌, ◌≢◌, ◌≤◌, ◌-◌, ◌^◌, ◌++◌, IfOk, IfErr, OnOk, OnErr, IsTrue};
+ghost use Rattle.std.specs.Prelude.{◌≡◌, ◌≢◌, ◌≤◌, ◌-◌, ◌^◌, ◌++◌, IfOk, IfErr, OnOk, OnErr, IsOk, IsTrue};
 ghost use Rattle.daq_types.specs.declared.types.Tid.{Tid};
 ghost use Rattle.odb_value.specs.ItemTexts.{char_read, char_text, is_within, item_read, item_text, signed_read, stopped, text_read, truth_read, unsigned_read};
 
@@ -99,6 +99,8 @@ fn text_bytes(alloc: Global, text: &[u8]) -> Result<TextBytes, ItemRefusal>
     ensures read { IfOk result (λ bytes. text_read text.now ≡ Ok bytes) }
     ensures refused { IfErr result (λ refusal. refusal ≢ ItemRefusal.NoMemory → text_read text.now
         ≡ Err refusal) }
+    ensures memory { IfErr result (λ refusal. refusal ≡ ItemRefusal.NoMemory
+        → IsOk (text_read text.now)) }
 {
     if let Some(at) = TextBytes::bad_place(text) {
         return Err(ItemRefusal::BadText { at: at as u64 });
@@ -123,12 +125,14 @@ fn copied(alloc: Global, bytes: &[u8]) -> Result<Vec<u8>, NoMemory>
 /// The refusals, in the order in which they are tested: `NotKept` for a type of which the database keeps no values,
 /// `BadText` at the first byte where the form of the type cannot go on, or at the text's length where it ends too
 /// early, and `OutOfRange` for a number outside its type's range and for a text of more than 1,023 bytes. `NoMemory`
-/// comes for texts alone.
+/// comes for texts alone, and only where the text spells one.
 pub fn parse_item(alloc: Global, tid: Tid, text: &[u8]) -> Result<Item, ItemRefusal>
     ensures item { IfOk result (λ item. item_read tid text.now ≡ Ok item) }
     ensures refused { IfErr result (λ refusal. refusal ≢ ItemRefusal.NoMemory
         → item_read tid text.now ≡ Err refusal) }
     ensures memory { IfErr result (λ refusal. refusal ≡ ItemRefusal.NoMemory → tid ≡ Tid.Text) }
+    ensures spelled { IfErr result (λ refusal. refusal ≡ ItemRefusal.NoMemory
+        → IsOk (item_read tid text.now)) }
 {
     match tid {
         Tid::UInt8 => Ok(Item::UInt8(unsigned_up_to(text, u8::MAX as u64)? as u8)),

@@ -7,7 +7,7 @@ use Rattle.odb_text.specs.declared.links.ReadLink.{ReadLink}
 use Rattle.odb_text.specs.LineForms.{IsSingle}
 use Rattle.odb_text.specs.ItemLines.{IsLinkAlone}
 use Rattle.odb_text.proofs.DumpItems.{at_some, at_none}
-use Rattle.odb_text.proofs.LinkKeys.{and_left, bad_link, no_link_there, reads_link}
+use Rattle.odb_text.proofs.LinkKeys.{and_left, bad_link, no_link_there, reads_link, link_begun}
 use Rattle.odb_text.proofs.blocks.link_key.Goals as goal
 
 pub returns-in-None-clause-fault : goal.returns-in-None-clause-fault
@@ -15,6 +15,12 @@ returns-in-None-clause-fault c =
     bad_link c.args.head.now.links c.args.dir.now c.args.head.now.line.now c.args.head.now.name c.args.head.now.tid c.args.head.now.rest.now (lines c.args.head.now.behind.now)
     c.requires.key c.requires.link c.requires.no_pass c.requires.no_dir
     (λ (text : List ℕ) (size : ℕ) (link : List ℕ) (s : IsSingle c.args.head.now.rest.now text) (a : IsLinkAlone text size link). c.in-None.ensures.none text s)
+
+pub returns-in-Err-clause-fault : goal.returns-in-Err-clause-fault
+returns-in-Err-clause-fault c =
+    let there = c.in-Err.ensures.memory in
+    link_begun c.args.head.now.links c.args.dir.now c.args.head.now.line.now c.args.head.now.name c.args.head.now.tid c.args.head.now.rest.now c.in-Some.text.now (lines c.args.head.now.behind.now) there.0 there.1
+    c.requires.key c.requires.link c.in-Some.ensures.some there.2
 
 pub returns-in-Ok-None-clause-fault : goal.returns-in-Ok-None-clause-fault
 returns-in-Ok-None-clause-fault c =

@@ -1,0 +1,10 @@
+use Rattle.std.proofs.Common.{length}
+use Rattle.odb_value.specs.PathText.{behind_slash, names_start}
+use Rattle.odb_value.proofs.Reading.{IsRead}
+use Rattle.odb_value.proofs.paths.Path.read_names.Given as goal
+
+abbrev pub invariant-loop-at : goal.invariant-loop-at
+invariant-loop-at l = IsRead (behind_slash l.text) (names_start l.text) l.path l.rest l.place
+
+abbrev pub decreases-loop-at : goal.decreases-loop-at
+decreases-loop-at l = length l.rest
