@@ -25,7 +25,7 @@ use Rattle.buffer_core.proofs.HistoryLaws.{replay-push, opening_replays}
 use Rattle.buffer_core.specs.Points.{news_of}
 use Rattle.buffer_core.specs.Continued.{added_by, sent_in}
 use Rattle.buffer_core.specs.Readers.{LeavesLife, KeepsLife}
-use Rattle.ring_buffer.specs.Reads.{reads_of_receive}
+use Rattle.ring_buffer.specs.Reads.{fronts_of_receive}
 use Rattle.ring_buffer.specs.LifeReads.{reads_of_call, is_got, is_read, count_got, reads_of_client}
 
 -- What a client was given lies ahead of it.
@@ -124,23 +124,23 @@ sent_on client start w c e lives =
       few = omega arith;
     }
 
-reads_of_got : (w : Window) (o : Option Client) (c : Client) (place start : ℕ) → o ≡ Some c → reads_of_receive w o (Got place start) ≡ place + 1 - c.next + 1
-reads_of_got w o c place start lives = ap (λ (x : Option Client). reads_of_receive w x (Got place start)) lives
+fronts_of_got : (w : Window) (o : Option Client) (c : Client) (place start : ℕ) → o ≡ Some c → fronts_of_receive w o (Got place start) ≡ place + 1 - c.next
+fronts_of_got w o c place start lives = ap (λ (x : Option Client). fronts_of_receive w x (Got place start)) lives
 
-reads_of_empty : (w : Window) (o : Option Client) (c : Client) (gate : RunGate) (last : ℕ) → o ≡ Some c → reads_of_receive w o (Empty gate last) ≡ accepted_of w - c.next
-reads_of_empty w o c gate last lives = ap (λ (x : Option Client). reads_of_receive w x (Empty gate last)) lives
+fronts_of_empty : (w : Window) (o : Option Client) (c : Client) (gate : RunGate) (last : ℕ) → o ≡ Some c → fronts_of_receive w o (Empty gate last) ≡ accepted_of w - c.next
+fronts_of_empty w o c gate last lives = ap (λ (x : Option Client). fronts_of_receive w x (Empty gate last)) lives
 
 got_few : (w : Window) (client n room place start : ℕ) (c : Client) → slot_at w.clients client ≡ Some c → Got place start ≡ receive_reply_to w room (slot_at w.clients n) → n ≡ client
-    → reads_of_receive w (slot_at w.clients n) (Got place start) + c.next ≤ place + 1 + 1
+    → fronts_of_receive w (slot_at w.clients n) (Got place start) + 1 + c.next ≤ place + 1 + 1
 got_few w client n room place start c lives reply same =
     let here : slot_at w.clients n ≡ Some c = ap (λ (k : ℕ). slot_at w.clients k) same ∙ lives in
-    omega (arith, reads_of_got w (slot_at w.clients n) c place start here, got_ahead w room place start (slot_at w.clients n) c here reply)
+    omega (arith, fronts_of_got w (slot_at w.clients n) c place start here, got_ahead w room place start (slot_at w.clients n) c here reply)
 
 empty_few : (w : Window) (client n : ℕ) (gate : RunGate) (last : ℕ) (c : Client) → slot_at w.clients client ≡ Some c → c.next ≤ accepted_of w → n ≡ client
-    → reads_of_receive w (slot_at w.clients n) (Empty gate last) + c.next ≤ accepted_of w + 0
+    → fronts_of_receive w (slot_at w.clients n) (Empty gate last) + 0 + c.next ≤ accepted_of w + 0
 empty_few w client n gate last c lives within same =
     let here : slot_at w.clients n ≡ Some c = ap (λ (k : ℕ). slot_at w.clients k) same ∙ lives in
-    omega (arith, reads_of_empty w (slot_at w.clients n) c gate last here, within)
+    omega (arith, fronts_of_empty w (slot_at w.clients n) c gate last here, within)
 
 no_number : (b : Bool) → ◌≡◌ {A = ℕ} (if b then 0 else 0) 0
 no_number true = refl
@@ -162,11 +162,11 @@ step client w c (Send stated e (Err r)) is reply lives leaves = same_client clie
 step client w c (SendInRun start stated e (Ok n)) is reply lives leaves = sent_on client start w c e lives
 step client w c (SendInRun start stated e (Err r)) is reply lives leaves = same_client client w c lives
 step client w c (Receive n room (Got place start)) is reply lives leaves =
-    moved_on client n (place + 1) (reads_of_receive w (slot_at w.clients n) (Got place start)) 1 w (window_after w (Receive n room (Got place start))) c refl lives
+    moved_on client n (place + 1) (fronts_of_receive w (slot_at w.clients n) (Got place start) + 1) 1 w (window_after w (Receive n room (Got place start))) c refl lives
     (got_few w client n room place start c lives reply)
 step client w c (Receive n room (Empty gate last)) is reply lives leaves =
-    subst (λ (got : ℕ). Advances client (window_after w (Receive n room (Empty gate last))) c (if n == client then reads_of_receive w (slot_at w.clients n) (Empty gate last) else 0) got) (no_number (n == client))
-    (moved_on client n (accepted_of w) (reads_of_receive w (slot_at w.clients n) (Empty gate last)) 0 w (window_after w (Receive n room (Empty gate last))) c refl lives
+    subst (λ (got : ℕ). Advances client (window_after w (Receive n room (Empty gate last))) c (if n == client then fronts_of_receive w (slot_at w.clients n) (Empty gate last) + 0 else 0) got) (no_number (n == client))
+    (moved_on client n (accepted_of w) (fronts_of_receive w (slot_at w.clients n) (Empty gate last) + 0) 0 w (window_after w (Receive n room (Empty gate last))) c refl lives
     (empty_few w client n gate last c lives (is.clients client c lives).to))
 step client w c (Receive n room NoReader) is reply lives leaves = same_client client w c lives
 step client w c (Receive n room (SmallBuf need)) is reply lives leaves = same_client client w c lives

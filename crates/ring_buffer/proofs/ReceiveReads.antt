@@ -17,35 +17,39 @@ use Rattle.ring_buffer.specs.declared.walk.Found.{Found}
 use Rattle.ring_buffer.specs.CountedWindows.{CountedWindow}
 use Rattle.ring_buffer.specs.RingViews.{window_of, counted_of, IsRingBuffer}
 use Rattle.ring_buffer.specs.Stored.{ring_event_at}
-use Rattle.ring_buffer.specs.Reads.{ReadsFronts, reads_of_receive, data_of, bytes_of_receive}
-use Rattle.ring_buffer.specs.LifeReads.{ReadsFew}
+use Rattle.ring_buffer.specs.Reads.{ReadsFronts, fronts_of_receive, data_of}
+use Rattle.ring_buffer.specs.LifeReads.{bodies_of_call, data_of_call, ReadsFew}
 use Rattle.ring_buffer.proofs.CountLaws.{read_on, reads_few}
 use Rattle.ring_buffer.proofs.Sending.{accepted_is}
 use Rattle.ring_buffer.proofs.GivenEvents.{IsReader, IsGiven, client_is}
 
 -- few reads for the client that is there are few for the call
-client_reads : (b : Inside) (v new : CountedWindow) (ring : CountedBytes) (client room reads bytes : ℕ) (from : Position) (reply : Received) (r : IsReader b client from) → counted_of b ≡ v → IsRead b.ring ring reads bytes → ring.reads ≡ new.reads
-    → ring.bytes_read ≡ new.bytes_read → reads ≤ reads_of_receive (window_of b) (Some r.pointer.client) reply → bytes ≤ bytes_of_receive (window_of b) (Some r.pointer.client) reply → ReadsFew v new (Receive client room reply)
-client_reads b v new ring client room reads bytes from reply r view read often much few small =
+client_reads : (b : Inside) (v new : CountedWindow) (ring : CountedBytes) (client room fronts : ℕ) (from : Position) (reply : Received) (r : IsReader b client from) → counted_of b ≡ v
+    → IsRead b.ring ring (fronts + bodies_of_call (Receive client room reply)) (24 * fronts + data_of_call (window_of b) (Receive client room reply)) → ring.reads ≡ new.reads → ring.bytes_read ≡ new.bytes_read
+    → fronts ≤ fronts_of_receive (window_of b) (Some r.pointer.client) reply → ReadsFew v new (Receive client room reply)
+client_reads b v new ring client room fronts from reply r view read often much few =
     let lives : slot_at (clients_of b.clients) client ≡ Some r.pointer.client = client_is b client r.pointer r.lives in
     subst (λ (w : CountedWindow). ReadsFew w new (Receive client room reply)) view
-    (reads_few (counted_of b) new b.ring ring (Receive client room reply) reads bytes read refl refl often much
-    (subst (λ (o : Option Client). reads ≤ reads_of_receive (window_of b) o reply) (sym lives) few)
-    (subst (λ (o : Option Client). bytes ≤ bytes_of_receive (window_of b) o reply) (sym lives) small))
+    (reads_few (counted_of b) new b.ring ring (Receive client room reply) fronts read refl refl often much
+    (subst (λ (o : Option Client). fronts ≤ fronts_of_receive (window_of b) o reply) (sym lives) few))
+
+-- no data were read
+no_data : (before after : CountedBytes) (fronts : ℕ) → ReadsFronts before after fronts → IsRead before after (fronts + 0) (24 * fronts + 0)
+no_data before after fronts read = record { same = read.same; often = omega (arith, read.often); much = omega (arith, read.much) }
 
 -- nothing was found
 pub empty_reads : (b : Inside) (v new : CountedWindow) (ring : CountedBytes) (client room last : ℕ) (gate : RunGate) (from : Position) → counted_of b ≡ v → IsRingBuffer b → IsReader b client from → ReadsFronts b.ring ring (b.count - from.place)
     → ring.reads ≡ new.reads → ring.bytes_read ≡ new.bytes_read → ReadsFew v new (Receive client room (Empty gate last))
 empty_reads b v new ring client room last gate from view is r read often much =
-    client_reads b v new ring client room (b.count - from.place) (24 * (b.count - from.place)) from (Empty gate last) r view read often much
-    (omega (arith, accepted_is b is, r.place)) (omega (arith, accepted_is b is, r.place))
+    client_reads b v new ring client room (b.count - from.place) from (Empty gate last) r view (no_data b.ring ring (b.count - from.place) read) often much
+    (omega (arith, accepted_is b is, r.place))
 
 -- what was found is too long
 pub small_reads : (b : Inside) (v new : CountedWindow) (ring : CountedBytes) (client room need : ℕ) (from : Position) (f : Found) → counted_of b ≡ v → IsRingBuffer b → IsReader b client from → f.at.place < b.count → from.place ≤ f.at.place
     → ReadsFronts b.ring ring (f.at.place - from.place + 1) → ring.reads ≡ new.reads → ring.bytes_read ≡ new.bytes_read → ReadsFew v new (Receive client room (SmallBuf need))
 small_reads b v new ring client room need from f view is r early later read often much =
-    client_reads b v new ring client room (f.at.place - from.place + 1) (24 * (f.at.place - from.place + 1)) from (SmallBuf need) r view read often much
-    (omega (arith, accepted_is b is, r.place, early, later)) (omega (arith, accepted_is b is, r.place, early, later))
+    client_reads b v new ring client room (f.at.place - from.place + 1) from (SmallBuf need) r view (no_data b.ring ring (f.at.place - from.place + 1) read) often much
+    (omega (arith, accepted_is b is, r.place, early, later))
 
 -- the event is given
 pub got_reads : (b : Inside) (v new : CountedWindow) (once ring : CountedBytes) (client room start : ℕ) (from : Position) (f : Found) → counted_of b ≡ v → IsReader b client from → IsGiven b client from f
@@ -56,5 +60,6 @@ got_reads b v new once ring client room start from f view r g fronts body often 
     let size : data_of (kept_at (window_of b) f.at.place) ≡ f.front.header.data_size = ap data_of kept ∙ sym g.size in
     let both : IsRead b.ring ring (f.at.place - from.place + 1 + 1) (24 * (f.at.place - from.place + 1) + f.front.header.data_size) =
     read_on b.ring once ring (f.at.place - from.place + 1) 1 (24 * (f.at.place - from.place + 1)) f.front.header.data_size fronts body in
-    client_reads b v new ring client room (f.at.place - from.place + 1 + 1) (24 * (f.at.place - from.place + 1) + f.front.header.data_size) from (Got f.at.place start) r view both often much
-    (omega (arith, r.place, g.later)) (omega (arith, r.place, g.later, size))
+    client_reads b v new ring client room (f.at.place - from.place + 1) from (Got f.at.place start) r view
+    (subst (λ (n : ℕ). IsRead b.ring ring (f.at.place - from.place + 1 + 1) (24 * (f.at.place - from.place + 1) + n)) (sym size) both) often much
+    (omega (arith, r.place, g.later))

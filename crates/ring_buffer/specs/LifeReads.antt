@@ -1,37 +1,65 @@
 -- How often the calls of a history read the ring, and how many bytes.
-use Rattle.std.specs.Prelude.{ℕ, ◌+◌, ◌*◌, ◌==◌, Bool, false, if◌then◌else◌, List, [], ◌∷◌, count_by}
+use Rattle.std.specs.Prelude.{◌≡◌, ℕ, ◌+◌, ◌*◌, ◌≤◌, ◌==◌, Bool, false, if◌then◌else◌, List, [], ◌∷◌, count_by}
 use Rattle.buffer_core.specs.declared.replies.Received.TheVariants.{Got, Empty}
 use Rattle.buffer_core.specs.declared.entry.BufferEntry.{BufferEntry}
 use Rattle.buffer_core.specs.declared.entry.BufferEntry.TheVariants.{Send, SendInRun, Receive}
 use Rattle.buffer_core.specs.Slots.{slot_at}
-use Rattle.buffer_core.specs.Window.{Window}
+use Rattle.buffer_core.specs.Window.{Window, kept_at}
 use Rattle.buffer_core.specs.Calls.{window_after}
 use Rattle.ring_buffer.specs.RingHolds.{front_bytes}
 use Rattle.ring_buffer.specs.CountedWindows.{CountedWindow}
-use Rattle.ring_buffer.specs.Reads.{RisesAtMost, reads_of_send, reads_of_receive, bytes_of_receive}
+use Rattle.ring_buffer.specs.Rings.{Rises}
+use Rattle.ring_buffer.specs.Reads.{fronts_of_send, fronts_of_receive, data_of}
 
--- how often a call with this reply may read the ring of a buffer with this window: only sends and
--- receives do
-abbrev pub reads_of_call : Window → BufferEntry → ℕ
-reads_of_call w (Send stated e reply) = reads_of_send w e reply
-reads_of_call w (SendInRun start stated e reply) = reads_of_send w e reply
-reads_of_call w (Receive client room reply) = reads_of_receive w (slot_at w.clients client) reply
-reads_of_call w entry = 0
+-- of how many events a call with this reply reads what is in front of the data, at most: only sends and receives do
+abbrev pub fronts_of_call : Window → BufferEntry → ℕ
+fronts_of_call w (Send stated e reply) = fronts_of_send w e reply
+fronts_of_call w (SendInRun start stated e reply) = fronts_of_send w e reply
+fronts_of_call w (Receive client room reply) = fronts_of_receive w (slot_at w.clients client) reply
+fronts_of_call w entry = 0
 
--- how many bytes of the ring such a call may read
-abbrev pub bytes_of_call : Window → BufferEntry → ℕ
-bytes_of_call w (Receive client room reply) = bytes_of_receive w (slot_at w.clients client) reply
-bytes_of_call w entry = front_bytes * reads_of_call w entry
+-- of how many events it reads the data: of the one that it gives
+abbrev pub bodies_of_call : BufferEntry → ℕ
+bodies_of_call (Receive client room (Got place start)) = 1
+bodies_of_call entry = 0
 
--- between the two the ring was read no more often than this call may read it, and no more bytes than it may read
+-- how many bytes these data are
+abbrev pub data_of_call : Window → BufferEntry → ℕ
+data_of_call w (Receive client room (Got place start)) = data_of (kept_at w place)
+data_of_call w entry = 0
+
+-- between the two the ring counted just as much as reads like these come to: of what is in front of an event's data, of no
+-- more events than this call may read it of; and of the data of the event that it gives, once
 pub record ReadsFew (old new : CountedWindow) (entry : BufferEntry) : Type 0 where
-  pub often : RisesAtMost old.reads new.reads (reads_of_call old.window entry)
-  pub much : RisesAtMost old.bytes_read new.bytes_read (bytes_of_call old.window entry)
+  pub fronts : ℕ
+  pub few : fronts ≤ fronts_of_call old.window entry
+  pub often : Rises old.reads new.reads (fronts + bodies_of_call entry)
+  pub much : Rises old.bytes_read new.bytes_read (front_bytes * fronts + data_of_call old.window entry)
+
+-- how often the call reads the ring, at most
+abbrev pub reads_of_call : Window → BufferEntry → ℕ
+reads_of_call w entry = fronts_of_call w entry + bodies_of_call entry
+
+-- and how many bytes
+abbrev pub bytes_of_call : Window → BufferEntry → ℕ
+bytes_of_call w entry = front_bytes * fronts_of_call w entry + data_of_call w entry
 
 -- how often each of these calls may read the ring, one after the other
 abbrev pub reads_by_call : Window → List (ℕ × BufferEntry) → List ℕ
 reads_by_call w [] = []
 reads_by_call w (e ∷ es) = reads_of_call w e.1 ∷ reads_by_call (window_after w e.1) es
+
+-- and how many bytes
+abbrev pub bytes_by_call : Window → List (ℕ × BufferEntry) → List ℕ
+bytes_by_call w [] = []
+bytes_by_call w (e ∷ es) = bytes_of_call w e.1 ∷ bytes_by_call (window_after w e.1) es
+
+-- the buffer went from the one to the other by these calls, each of which read the ring as it may
+abbrev pub AreReadsFew : (old new : CountedWindow) → List (ℕ × BufferEntry) → Type 0
+AreReadsFew old new [] = new ≡ old
+AreReadsFew old new (e ∷ es) =
+    (now : CountedWindow) × ReadsFew old now e.1 × (now.window ≡ window_after old.window e.1)
+    × AreReadsFew now new es
 
 -- whether the client received an event by this call
 abbrev pub is_got : (client : ℕ) → BufferEntry → Bool

@@ -34,6 +34,12 @@ KeepsOtherOffsets old new off count = (o n : ℕ) → off + count ≤ o → o + 
 abbrev pub Rises : (old new by : ℕ) → Type 0
 Rises old new by = new % 2 ^ 64 ≡ (old + by) % 2 ^ 64
 
+-- or by at most so much
+pub record RisesAtMost (old new most : ℕ) : Type 0 where
+  pub by : ℕ
+  pub few : by ≤ most
+  pub rises : Rises old new by
+
 -- between the two the ring was read so often, so many bytes together, and its bytes are the same
 pub record IsRead (old new : CountedBytes) (reads bytes : ℕ) : Type 0 where
   pub same : new.bytes ≡ old.bytes

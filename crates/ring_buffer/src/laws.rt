@@ -1,5 +1,6 @@
 //! What the reads of a ring come to, over the definitions alone.
 ghost use Rattle.std.specs.Prelude.{◌≡◌, ◌≤◌, ◌+◌, ◌-◌, ℕ, List, [], ◌∷◌, ◌++◌, length, Some, Ok};
+ghost use Rattle.std.specs.List.{sum};
 ghost use Rattle.daq_types.specs.declared.runs.Kind.TheVariants.{All, NonBlocking};
 ghost use Rattle.buffer_core.specs.declared.client.Client.{Client};
 ghost use Rattle.buffer_core.specs.declared.entry.BufferEntry.TheVariants.{Attach};
@@ -8,8 +9,20 @@ ghost use Rattle.buffer_core.specs.Window.{opening};
 ghost use Rattle.buffer_core.specs.Histories.{History, IsLegal, replay};
 ghost use Rattle.buffer_core.specs.Continued.{sent_in};
 ghost use Rattle.buffer_core.specs.Readers.{KeepsLife};
-ghost use Rattle.ring_buffer.specs.LifeReads.{reads_of_client, reads_by_call, count_got};
+ghost use Rattle.ring_buffer.specs.Rings.{RisesAtMost};
+ghost use Rattle.ring_buffer.specs.CountedWindows.{CountedWindow};
+ghost use Rattle.ring_buffer.specs.LifeReads.{reads_of_client, reads_by_call, bytes_by_call, count_got, AreReadsFew};
 ghost use Rattle.ring_buffer.specs.ReadSamples.{eight_sent, dropped_and_refused, pushed_and_received, none_received};
+
+/// What a ring counts over any calls on its buffer, one after the other, is at most what each of them may read.
+pub fn reads_of_calls()
+    ensures often { (old new : CountedWindow) → (calls : History) →
+        AreReadsFew old new calls →
+        RisesAtMost old.reads new.reads (sum (reads_by_call old.window calls)) }
+    ensures much { (old new : CountedWindow) → (calls : History) →
+        AreReadsFew old new calls →
+        RisesAtMost old.bytes_read new.bytes_read (sum (bytes_by_call old.window calls)) }
+{}
 
 /// Over the life of a client its receives that gave it an event or found none read the ring at most
 /// as often as events were accepted since it was attached, and once more for each event that it
