@@ -1,7 +1,7 @@
 -- How often a call reads what is in front of an event's data, at most; and what it reads of the data.
-use Rattle.std.specs.Prelude.{ℕ, ◌+◌, ◌*◌, ◌-◌, ◌≤◌, length, Option, Some, None, Result, Ok, Err}
+use Rattle.std.specs.Prelude.{ℕ, ◌+◌, ◌*◌, ◌-◌, length, Option, Some, None, Result, Ok, Err}
 use Rattle.daq_types.specs.declared.events.Event.{Event}
-use Rattle.ring_buffer.specs.Rings.{CountedBytes, Rises, IsRead}
+use Rattle.ring_buffer.specs.Rings.{CountedBytes, IsRead}
 use Rattle.buffer_core.specs.declared.client.Client.{Client}
 use Rattle.buffer_core.specs.declared.replies.SendRefusal.{SendRefusal}
 use Rattle.buffer_core.specs.declared.replies.SendRefusal.TheVariants.{Full}
