@@ -1,9 +1,10 @@
 -- Bytes that are written piece by piece.
-use Rattle.std.proofs.Common.{◌≡◌, ℕ, List, [], ◌++◌, length, take, drop, Option, sym, ◌∙◌, ap, subst, refl, append_assoc, take-append-drop}
+use Rattle.std.proofs.Common.{◌≡◌, ◌<◌, ℕ, List, [], ◌∷◌, false, ◌++◌, length, take, drop, Option, Some, None, sym, ◌∙◌, ap, subst, refl, arith, append_assoc, take-append-drop, length-append}
+use Rattle.std.specs.Prelude.{nat_eq}
 use Rattle.std.proofs.lemmas.List.{append-nil, nil_from_length}
 use Rattle.std.proofs.Math.Seq.{take-append_seam}
 use Rattle.std.specs.Io.KnownBytes.{Appends, Keeps}
-use Rattle.daq_io.specs.Streams.{AppendsPart}
+use Rattle.daq_io.specs.Streams.{AppendsPart, LeavesOver}
 use Rattle.daq_io.proofs.StreamsLaws.{Appends-nil, Appends-trans, Appends-kept}
 
 -- All of these bytes were written but the rest.
@@ -30,3 +31,18 @@ part_written {a} {b} {rest} {bytes} c p q = record {
   count = length p.done;
   appends = Appends-kept a b c _ (subst (λ front. Appends a b front) (sym (take-append_seam p.done rest) ∙ ap (λ all. take (length p.done) all) p.whole) p.appends) q;
 }
+
+pub some_rest : (rest : List ℕ) → nat_eq (length rest) 0 ≡ false → 0 < length rest
+some_rest [] none = absurd (cc)
+some_rest (byte ∷ rest) none = omega arith
+
+-- the next write failed, before the rest of the bytes
+pub left_over : (a b c : Option (List ℕ)) (rest bytes : List ℕ) → AppendsAllBut a b rest bytes → 0 < length rest → Keeps b c → LeavesOver a c bytes
+left_over None b c rest bytes p over kept = tt
+left_over (Some first) b None rest bytes p over kept = tt
+left_over (Some first) None (Some last) rest bytes p over kept = absurd p.appends
+left_over (Some first) (Some now) (Some last) rest bytes p over kept = λ all.
+    let grown : length last ≡ length (first ++ p.done) = ap (λ (l : List ℕ). length l) (kept ∙ p.appends) in
+    let whole : length last ≡ length (first ++ bytes) = ap (λ (l : List ℕ). length l) all in
+    let parts : length (p.done ++ rest) ≡ length bytes = ap (λ (l : List ℕ). length l) p.whole in
+    omega (arith, over, grown, whole, parts, length-append first p.done, length-append first bytes, length-append p.done rest)

@@ -2,7 +2,7 @@ ghost use Rattle.std.specs.Prelude.{◌≡◌, ◌<◌, [], IfOk, OnOk, OnErr, l
 ghost use Rattle.std.specs.Io.{ReadsAtMost, WritesAtMost};
 ghost use Rattle.std.specs.Io.KnownBytes.{Appends, ReadConsumes, WriteAppends};
 ghost use Rattle.daq_io.specs.Counts.{CountsFault};
-ghost use Rattle.daq_io.specs.Streams.{AppendsPart, GaveRead};
+ghost use Rattle.daq_io.specs.Streams.{AppendsPart, GaveRead, LeavesOver};
 ghost use Rattle.daq_io.specs.Told.{SinkTold, SourceTold};
 
 use crate::faults::Failed;
@@ -39,10 +39,11 @@ pub trait Sink {
         ensures faults { CountsFault (told self.old).faults (told self.new).faults result };
 }
 
-/// Writes all of `bytes`. After a failure the front of them was written.
+/// Writes all of `bytes`. After a failure the front of them was written, and never all of them.
 pub fn write_all<O: Sink>(out: &mut O, bytes: &[u8]) -> Result<(), Failed>
     ensures all { OnOk result (Appends (O.told out.old).written (O.told out.new).written bytes.now) }
     ensures part { OnErr result (AppendsPart (O.told out.old).written (O.told out.new).written bytes.now) }
+    ensures short { OnErr result (LeavesOver (O.told out.old).written (O.told out.new).written bytes.now) }
     ensures faults { CountsFault (O.told out.old).faults (O.told out.new).faults result }
 {
     let mut rest = bytes;
