@@ -14,7 +14,7 @@ use Rattle.buffer_core.specs.Ports.{GotEvent, name_of, name_given, got_after}
 use Rattle.member_model.proofs.SentLaws.{EachCall-push}
 use Rattle.member_model.specs.OwnCalls.{calls_after, gave_number, IsOwnCall, AreOwnCalls, asks, LeavesAsking, KeepsAsking}
 use Rattle.member_model.proofs.ReadLaws.{calls_after-push}
-use Rattle.analyzers.specs.CountedRuns.{requests_by, requests_made}
+use Rattle.analyzers.specs.CountedRuns.{requests_by, requests_made, accepts_by, accepts_made}
 use Rattle.analyzers.specs.AnalyzerKept.{IsAnalyzerCall, KeepsAnalyzerCalls}
 
 pub analyzer_push : (own : List BufferEntry) (e : BufferEntry) → KeepsAnalyzerCalls own → IsAnalyzerCall e → IsOwnCall e (calls_after [] own) → KeepsAnalyzerCalls (own ++ e ∷ [])
@@ -23,7 +23,7 @@ analyzer_push own e keeps reads is_own = record {
   own_calls = subst (λ (es : List BufferEntry). AreOwnCalls es) (sym (calls_after-push [] own e)) (is_own, keeps.own_calls);
 }
 
--- Requests.
+-- Requests, and questions how many events were taken.
 
 pub requests-push : (own : List BufferEntry) (e : BufferEntry) → requests_made (own ++ e ∷ []) ≡ requests_made own + requests_by e
 requests-push [] e = omega arith
@@ -32,6 +32,14 @@ requests-push (x ∷ own) e = omega (arith, requests-push own e)
 -- a call that makes none
 pub requests_stay : (own : List BufferEntry) (e : BufferEntry) (starts : ℕ) → requests_by e ≡ 0 → requests_made own ≡ starts → requests_made (own ++ e ∷ []) ≡ starts
 requests_stay own e starts none is = omega (arith, requests-push own e, none, is)
+
+pub accepts-push : (own : List BufferEntry) (e : BufferEntry) → accepts_made (own ++ e ∷ []) ≡ accepts_made own + accepts_by e
+accepts-push [] e = omega arith
+accepts-push (x ∷ own) e = omega (arith, accepts-push own e)
+
+-- a call that asks for no count
+pub accepts_stay : (own : List BufferEntry) (e : BufferEntry) (stops : ℕ) → accepts_by e ≡ 0 → accepts_made own ≡ stops → accepts_made (own ++ e ∷ []) ≡ stops
+accepts_stay own e stops none is = omega (arith, accepts-push own e, none, is)
 
 -- Clients.
 

@@ -25,9 +25,9 @@ use Rattle.analyzers.specs.Analyzers.{AnalyzerAt, run_in_stage, CancelsRun}
 use Rattle.analyzers.specs.AnalyzerTurns.{analyzer_turn, report_in, report_answer, run_reported}
 use Rattle.analyzers.specs.AnalyzerPulls.{ReceivesFor, EndsReading, CountsOnce, CountsIn, PullsBy, drains_by, ends_reading}
 use Rattle.member_model.specs.GotRuns.{events_of_start}
-use Rattle.analyzers.specs.CountedRuns.{CountRequest, IsCounted, IsWhollyCounted, requests_made}
-use Rattle.analyzers.specs.AnalyzerKept.{KeepsAnalyzerCalls, HasOwnClient, AsksForNone, starts_accepted, HasTurnBehind, IsReportOfRun, ReportsHold, IsStopOpen, StageCounts, CountsRun, CountsSoFar, count_request}
-use Rattle.analyzers.proofs.OwnCallSteps.{analyzer_push, requests_stay, client_stays, given_by_reply, got_after_is, given_named}
+use Rattle.analyzers.specs.CountedRuns.{CountRequest, IsCounted, IsWhollyCounted, requests_made, accepts_made}
+use Rattle.analyzers.specs.AnalyzerKept.{KeepsAnalyzerCalls, HasOwnClient, AsksForNone, starts_accepted, stops_reported, HasTurnBehind, IsReportOfRun, ReportsHold, IsStopOpen, StageCounts, CountsRun, CountsSoFar, count_request}
+use Rattle.analyzers.proofs.OwnCallSteps.{analyzer_push, requests_stay, accepts_stay, client_stays, given_by_reply, got_after_is, given_named}
 use Rattle.analyzers.proofs.CountSteps.{CountsGiven, given_counted, count_push, cancelled_asks_none, wholly_counted}
 use Rattle.analyzers.proofs.ReportSteps.{reports_calls, report_turns}
 use Rattle.analyzers.proofs.TurnSteps.{StandsBy, run_client, reports_quiet}
@@ -44,6 +44,7 @@ record ReceivedFor (wanted : EventRequest) (client : Option ℕ) (r counted : An
   pub own_calls : KeepsAnalyzerCalls own
   pub gave : HasOwnClient (Some r.client) own
   pub once : requests_made own ≡ starts_accepted turns
+  pub asked : accepts_made own ≡ stops_reported turns
   pub reports : ReportsHold wanted own got turns
   pub client_is : client ≡ Some r.client
   pub begin_turn : MemberTurn
@@ -68,6 +69,7 @@ receive_lists wanted client r counted room a b turns reply calls stands on count
       own_calls = analyzer_push a.own call stands.calls tt gave;
       gave = client_stays a.own call r.client gave;
       once = requests_stay a.own call (starts_accepted turns) refl stands.once;
+      asked = accepts_stay a.own call (stops_reported turns) refl stands.asked;
       reports = reports_calls wanted a.own a.got turns (call ∷ []) given stands.reports;
       client_is = on.client_is;
       begin_turn = on.begin_turn;
@@ -87,6 +89,7 @@ reads_on stage wanted client r counted own got turns calls is at counts = record
   calls = at.own_calls;
   own_client = subst (λ (c : Option ℕ). HasOwnClient c own) (sym at.client_is) at.gave;
   once = at.once;
+  asked = at.asked;
   reports = at.reports;
   counts = record {
     client_is = rw at.run_is.client at.client_is;
@@ -117,6 +120,7 @@ reads_no_more wanted client r counted a b turns room accepted reply reading drai
       calls = analyzer_push a.own cancel at.own_calls tt at.gave;
       own_client = subst (λ (c : Option ℕ). HasOwnClient c (a.own ++ cancel ∷ [])) (sym at.client_is) (client_stays a.own cancel r.client at.gave);
       once = requests_stay a.own cancel (starts_accepted turns) refl at.once;
+      asked = accepts_stay a.own cancel (stops_reported turns) refl at.asked;
       reports = reports_quiet wanted a.own a.got turns cancel at.reports;
       counts = record {
         client_is = rw at.run_is.client at.client_is;
@@ -239,6 +243,7 @@ reported dump wanted client r own got order earlier requests events began same n
       calls = stands.calls;
       own_client = stands.own_client;
       once = omega (arith, stands.once);
+      asked = omega (arith, stands.asked);
       reports = λ u told here is. elim here as (λ w. (u.transition ≡ Stop) × IsReportOfRun wanted own got (t ∷ earlier) u.order.start told) [
         | inl same_turn ↦
             let tells : Some (Yes (Report r.report)) ≡ Some (Yes (Report told)) = ap (λ (v : MemberTurn). v.answer) same_turn ∙ is in

@@ -15,7 +15,7 @@ use Rattle.analyzers.specs.declared.analyzer_run.AnalyzerRun.{AnalyzerRun}
 use Rattle.analyzers.specs.declared.analyzer_run.AnalyzerStage.{AnalyzerStage}
 use Rattle.analyzers.specs.declared.analyzer_run.AnalyzerStage.TheVariants.{Counting, Draining, Drained}
 use Rattle.analyzers.specs.CountedRuns.{CountRequest}
-use Rattle.analyzers.specs.AnalyzerKept.{accepted_by, HasTurnBehind, IsReportOfRun, ReportsHold, IsStopOpen, StageCounts, RunCounts, CountsSoFar, count_request}
+use Rattle.analyzers.specs.AnalyzerKept.{accepted_by, reported_by, HasTurnBehind, IsReportOfRun, ReportsHold, IsStopOpen, StageCounts, RunCounts, CountsSoFar, count_request}
 use Rattle.analyzers.proofs.CountSteps.{wholly_push}
 
 -- one report
@@ -93,13 +93,14 @@ run_more wanted client (Some r) own got turns t none answer counts = record {
   stage_is = stage_more r.stage own got turns t (count_request wanted r.client r.request r.start counts.earlier) counts.events none answer counts.stage_is;
 }
 
--- a turn that is answered at once, without a report, and leaves the run; no start that is accepted
+-- a turn that is answered at once, without a report, and leaves the run; no start that is accepted, and no stop of a run
 pub plain_more : (wanted : EventRequest) (client : Option ℕ) (run : Option AnalyzerRun) (own : List BufferEntry) (got : List GotEvent) (turns : List MemberTurn) (t : MemberTurn) → NoneOpen turns → HasAnswer t.answer
-    → accepted_by t.transition t.answer ≡ 0 → ((report : Totals) → t.answer ≢ Some (Yes (Report report))) → CountsSoFar wanted client run own got turns → CountsSoFar wanted client run own got (t ∷ turns)
-plain_more wanted client run own got turns t none answer begins other stands = record {
+    → accepted_by t.transition t.answer ≡ 0 → reported_by t.transition t.answer ≡ 0 → ((report : Totals) → t.answer ≢ Some (Yes (Report report))) → CountsSoFar wanted client run own got turns → CountsSoFar wanted client run own got (t ∷ turns)
+plain_more wanted client run own got turns t none answer begins waits other stands = record {
   calls = stands.calls;
   own_client = stands.own_client;
   once = omega (arith, stands.once, begins);
+  asked = omega (arith, stands.asked, waits);
   reports = reports_more wanted own got turns t other stands.reports;
   counts = run_more wanted client run own got turns t none answer stands.counts;
 }

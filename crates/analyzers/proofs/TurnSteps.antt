@@ -27,8 +27,8 @@ use Rattle.analyzers.specs.declared.analyzer_run.AnalyzerStage.TheVariants.{Coun
 use Rattle.analyzers.specs.Analyzers.{AnalyzerAt, run_in_stage}
 use Rattle.analyzers.specs.AnalyzerTurns.{analyzer_turn, analyzer_name, StaysAt, CancelsIn, DropsRun, GetsClient, BeginsBy, RequestsRun, StartsAnalyzer, StopsRun, StopsOwn, StopsAnalyzer, TurnsBy, begun_count}
 use Rattle.analyzers.specs.CountedRuns.{CountRequest, IsCounted, requests_made}
-use Rattle.analyzers.specs.AnalyzerKept.{HasOwnClient, AsksForNone, accepted_by, starts_accepted, ReportsHold, StageCounts, CountsRun, CountsSoFar, count_request}
-use Rattle.analyzers.proofs.OwnCallSteps.{analyzer_push, requests-push, requests_stay, client_stays, none_stays, client_given, new_asks_none}
+use Rattle.analyzers.specs.AnalyzerKept.{HasOwnClient, AsksForNone, accepted_by, starts_accepted, reported_by, stops_reported, ReportsHold, StageCounts, CountsRun, CountsSoFar, count_request}
+use Rattle.analyzers.proofs.OwnCallSteps.{analyzer_push, requests-push, requests_stay, accepts-push, accepts_stay, client_stays, none_stays, client_given, new_asks_none}
 use Rattle.analyzers.proofs.CountSteps.{count_made, count_push, cancelled_asks_none}
 use Rattle.analyzers.proofs.ReportSteps.{reports_calls, reports_more, none_stops, plain_more}
 
@@ -66,6 +66,7 @@ drop_counting wanted client r own got turns reply earlier calls events none coun
       calls = analyzer_push own cancel stands.calls tt gave;
       own_client = subst (λ (c : Option ℕ). HasOwnClient c (own ++ cancel ∷ [])) (sym on.client_is) (client_stays own cancel r.client gave);
       once = requests_stay own cancel (starts_accepted turns) refl stands.once;
+      asked = accepts_stay own cancel (stops_reported turns) refl stands.asked;
       reports = reports_quiet wanted own got turns cancel stands.reports;
       counts = (none, subst (λ (c : Option ℕ). AsksForNone c (own ++ cancel ∷ [])) (sym on.client_is) (cancelled_asks_none own got (count_request wanted r.client r.request r.start earlier) calls events reply counted));
     }
@@ -93,6 +94,7 @@ client_kept wanted None (Some n) a b turns gets stands =
       calls = analyzer_push a.own attach stands.calls tt tt;
       own_client = client_given a.own analyzer_name n;
       once = requests_stay a.own attach (starts_accepted turns) refl stands.once;
+      asked = accepts_stay a.own attach (stops_reported turns) refl stands.asked;
       reports = reports_quiet wanted a.own a.got turns attach stands.reports;
       counts = (stands.counts.0, λ k. new_asks_none a.own analyzer_name n k stands.calls (stands.own_client n));
     } in
@@ -103,6 +105,7 @@ client_kept wanted None None a b turns gets stands =
       calls = analyzer_push a.own attach stands.calls tt tt;
       own_client = none_stays a.own attach (λ past n. refl) stands.own_client;
       once = requests_stay a.own attach (starts_accepted turns) refl stands.once;
+      asked = accepts_stay a.own attach (stops_reported turns) refl stands.asked;
       reports = reports_quiet wanted a.own a.got turns attach stands.reports;
       counts = (stands.counts.0, tt);
     } in
@@ -120,6 +123,7 @@ request_kept dump (Ok number) wanted order blank client run answer own got turns
       calls = analyzer_push own request stands.calls tt stands.own_client;
       own_client = client_stays own request client stands.own_client;
       once = omega (arith, requests-push own request, stands.once);
+      asked = omega (arith, accepts-push own request, stands.asked);
       reports = reports_more wanted (own ++ request ∷ []) got turns t (λ report tells. cc (tells)) (reports_quiet wanted own got turns request stands.reports);
       counts = record {
         client_is = refl;
@@ -141,6 +145,7 @@ request_kept dump (Err why) wanted order blank client run answer own got turns n
       calls = analyzer_push own request stands.calls tt stands.own_client;
       own_client = client_stays own request client stands.own_client;
       once = omega (arith, requests-push own request, stands.once);
+      asked = omega (arith, accepts-push own request, stands.asked);
       reports = reports_more wanted (own ++ request ∷ []) got turns t (λ report tells. cc (tells)) (reports_quiet wanted own got turns request stands.reports);
       counts = (tt, λ n. subst (λ (es : List BufferEntry). asks es client n ≡ false) (sym (calls_after-push [] own request)) (stands.counts.1 n));
     } in
@@ -150,17 +155,17 @@ begin_kept : (dump : Option (List ℕ)) (wanted : EventRequest) (order : Order) 
     → StandsBy wanted client None a turns → StandsBy wanted client run b (analyzer_turn dump Start order (Some answer) ∷ turns)
 begin_kept dump wanted order blank None run answer a b turns none is_blank requests stands =
     rw (requests.0, requests.1, requests.2)
-    (plain_more wanted None None a.own a.got turns (analyzer_turn dump Start order (Some (No BufferRefused))) none tt refl (λ report tells. cc (tells)) stands)
+    (plain_more wanted None None a.own a.got turns (analyzer_turn dump Start order (Some (No BufferRefused))) none tt refl refl (λ report tells. cc (tells)) stands)
 begin_kept dump wanted order blank (Some client) run answer a b turns none is_blank requests stands =
     rw (requests.1.own, requests.1.got_is) (request_kept dump requests.0 wanted order blank client run answer a.own a.got turns none is_blank requests.2 stands)
 
 -- Turns that change nothing.
 
-stays_kept : (wanted : EventRequest) (a b : AnalyzerAt) (turns : List MemberTurn) (t : MemberTurn) → StaysAt a b → NoneOpen turns → accepted_by t.transition t.answer ≡ 0 → ((report : Totals) → t.answer ≢ Some (Yes (Report report))) → (given : Answer) → t.answer ≡ Some given
+stays_kept : (wanted : EventRequest) (a b : AnalyzerAt) (turns : List MemberTurn) (t : MemberTurn) → StaysAt a b → NoneOpen turns → accepted_by t.transition t.answer ≡ 0 → reported_by t.transition t.answer ≡ 0 → ((report : Totals) → t.answer ≢ Some (Yes (Report report))) → (given : Answer) → t.answer ≡ Some given
     → StandsBy wanted a.client a.run a.port turns → StandsBy wanted b.client b.run b.port (t ∷ turns)
-stays_kept wanted a b turns t stays none begins other given is stands =
+stays_kept wanted a b turns t stays none begins waits other given is stands =
     rw (stays.0, stays.1, stays.2)
-    (plain_more wanted a.client a.run a.port.own a.port.got turns t none (answers t.answer is) begins other stands)
+    (plain_more wanted a.client a.run a.port.own a.port.got turns t none (answers t.answer is) begins waits other stands)
   where
     answers : (answer : Option Answer) → answer ≡ Some given → NoneOpen (record t { answer = answer } ∷ turns)
     answers (Some x) e = tt
@@ -169,7 +174,7 @@ stays_kept wanted a b turns t stays none begins other given is stands =
 start_kept : (dump : Option (List ℕ)) (wanted : EventRequest) (order : Order) (blank : Option Totals) (a b : AnalyzerAt) (answer : Answer) (turns : List MemberTurn) → IfSome blank (λ (report : Totals). report ≡ report_of []) → NoneOpen turns → StartsAnalyzer blank wanted order.start a b answer
     → StandsBy wanted a.client a.run a.port turns → StandsBy wanted b.client b.run b.port (analyzer_turn dump Start order (Some answer) ∷ turns)
 start_kept dump wanted order None a b answer turns is_blank none starts stands =
-    rw starts.0 (stays_kept wanted a b turns (analyzer_turn dump Start order (Some (No NotReady))) starts.1 none refl (λ report tells. cc (tells)) (No NotReady) refl stands)
+    rw starts.0 (stays_kept wanted a b turns (analyzer_turn dump Start order (Some (No NotReady))) starts.1 none refl refl (λ report tells. cc (tells)) (No NotReady) refl stands)
 start_kept dump wanted order (Some blank) a b answer turns is_blank none starts stands =
     begin_kept dump wanted order blank b.client b.run answer starts.attached b.port turns none is_blank starts.request
     (client_kept wanted a.client b.client starts.dropped starts.attached turns starts.client
@@ -188,6 +193,7 @@ stop_stage dump Counting wanted client r later order a b turns on same none coun
       calls = analyzer_push a.own call stands.calls tt tt;
       own_client = subst (λ (c : Option ℕ). HasOwnClient c (a.own ++ call ∷ [])) (sym on.client_is) (client_stays a.own call r.client gave);
       once = omega (arith, requests_stay a.own call (starts_accepted turns) refl stands.once);
+      asked = omega (arith, accepts-push a.own call, stands.asked);
       reports = reports_more wanted (a.own ++ call ∷ []) a.got turns t (λ report tells. cc (tells)) (reports_quiet wanted a.own a.got turns call stands.reports);
       counts = record {
         client_is = on.client_is;
@@ -213,13 +219,13 @@ stop_own dump true wanted client r order port b answer turns same none stops sta
     (stop_stage dump r.stage wanted client r stops.later order port b.port turns on (same refl) none on.stage_is on.report_is stops.stops stands)
 stop_own dump false wanted client r order port b answer turns same none stops stands =
     rw stops.0
-    (stays_kept wanted (record { client = client; run = Some r; port = port }) b turns (analyzer_turn dump Stop order (Some (Yes Plain))) stops.1 none refl (λ report tells. cc (tells)) (Yes Plain) refl stands)
+    (stays_kept wanted (record { client = client; run = Some r; port = port }) b turns (analyzer_turn dump Stop order (Some (Yes Plain))) stops.1 none refl refl (λ report tells. cc (tells)) (Yes Plain) refl stands)
 
 stop_kept : (dump : Option (List ℕ)) (wanted : EventRequest) (client : Option ℕ) (run : Option AnalyzerRun) (order : Order) (port : Access) (b : AnalyzerAt) (answer : Option Answer) (turns : List MemberTurn) → NoneOpen turns
     → StopsAnalyzer run order.start (record { client = client; run = run; port = port }) b answer → StandsBy wanted client run port turns → StandsBy wanted b.client b.run b.port (analyzer_turn dump Stop order answer ∷ turns)
 stop_kept dump wanted client None order port b answer turns none stops stands =
     rw stops.0
-    (stays_kept wanted (record { client = client; run = None; port = port }) b turns (analyzer_turn dump Stop order (Some (Yes Plain))) stops.1 none refl (λ report tells. cc (tells)) (Yes Plain) refl stands)
+    (stays_kept wanted (record { client = client; run = None; port = port }) b turns (analyzer_turn dump Stop order (Some (Yes Plain))) stops.1 none refl refl (λ report tells. cc (tells)) (Yes Plain) refl stands)
 stop_kept dump wanted client (Some r) order port b answer turns none stops stands =
     stop_own dump (r.start == order.start) wanted client r order port b answer turns (λ e. eqb-true r.start order.start e) none stops stands
 
@@ -232,11 +238,11 @@ turn_kept dump Start wanted order blank client run port b answer turns is_blank 
 turn_kept dump Stop wanted order blank client run port b answer turns is_blank none by stands = stop_kept dump wanted client run order port b answer turns none by stands
 turn_kept dump Pause wanted order blank client run port b answer turns is_blank none by stands =
     rw by.0
-    (stays_kept wanted (record { client = client; run = run; port = port }) b turns (analyzer_turn dump Pause order (Some (Yes Plain))) by.1 none refl (λ report tells. cc (tells)) (Yes Plain) refl stands)
+    (stays_kept wanted (record { client = client; run = run; port = port }) b turns (analyzer_turn dump Pause order (Some (Yes Plain))) by.1 none refl refl (λ report tells. cc (tells)) (Yes Plain) refl stands)
 turn_kept dump Resume wanted order blank client run port b answer turns is_blank none by stands =
     rw by.0
-    (stays_kept wanted (record { client = client; run = run; port = port }) b turns (analyzer_turn dump Resume order (Some (Yes Plain))) by.1 none refl (λ report tells. cc (tells)) (Yes Plain) refl stands)
+    (stays_kept wanted (record { client = client; run = run; port = port }) b turns (analyzer_turn dump Resume order (Some (Yes Plain))) by.1 none refl refl (λ report tells. cc (tells)) (Yes Plain) refl stands)
 turn_kept dump StartAbort wanted order blank client run port b answer turns is_blank none by stands =
     let dropped : StandsBy wanted client None b.port turns = drop_kept wanted client run port b.port turns none by.3 stands in
     rw (by.0, by.1, by.2)
-    (plain_more wanted client None b.port.own b.port.got turns (analyzer_turn dump StartAbort order (Some (Yes Plain))) none tt refl (λ report tells. cc (tells)) dropped)
+    (plain_more wanted client None b.port.own b.port.got turns (analyzer_turn dump StartAbort order (Some (Yes Plain))) none tt refl refl (λ report tells. cc (tells)) dropped)

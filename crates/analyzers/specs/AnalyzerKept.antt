@@ -23,7 +23,7 @@ use Rattle.analyzers.specs.declared.analyzer_run.AnalyzerRun.{AnalyzerRun}
 use Rattle.analyzers.specs.declared.analyzer_run.AnalyzerStage.{AnalyzerStage}
 use Rattle.analyzers.specs.declared.analyzer_run.AnalyzerStage.TheVariants.{Counting, Draining, Drained}
 use Rattle.analyzers.specs.AnalyzerTurns.{analyzer_turn}
-use Rattle.analyzers.specs.CountedRuns.{CountRequest, IsCounted, IsWhollyCounted, requests_made}
+use Rattle.analyzers.specs.CountedRuns.{CountRequest, IsCounted, IsWhollyCounted, requests_made, accepts_made}
 
 -- a call that sends nothing, makes no mark and detaches no client
 abbrev pub IsAnalyzerCall : BufferEntry → Type 0
@@ -63,6 +63,17 @@ accepted_by transition answer = 0
 abbrev pub starts_accepted : List MemberTurn → ℕ
 starts_accepted [] = 0
 starts_accepted (t ∷ turns) = accepted_by t.transition t.answer + starts_accepted turns
+
+-- one, where the turn is a stop that waits for its report, or was answered with it
+abbrev pub reported_by : Transition → Option Answer → ℕ
+reported_by Stop None = 1
+reported_by Stop (Some (Yes (Report report))) = 1
+reported_by transition answer = 0
+
+-- how many of these turns are such stops
+abbrev pub stops_reported : List MemberTurn → ℕ
+stops_reported [] = 0
+stops_reported (t ∷ turns) = reported_by t.transition t.answer + stops_reported turns
 
 -- the turn stands among these, and so many starts were accepted before it
 abbrev pub HasTurnBehind : List MemberTurn → MemberTurn → (starts : ℕ) → Type 0
@@ -121,11 +132,13 @@ RunCounts wanted client None own got turns = NoneOpen turns × AsksForNone clien
 RunCounts wanted client (Some r) own got turns = CountsRun wanted client r own got turns
 
 -- An analyzer that wants these events, with its client, in this run or in none, with its own calls, what it got, and its turns: it
--- has made one request for each start that it accepted, and no others.
+-- has made one request for each start that it accepted, and no others; and it has asked once, at each stop of a run that it
+-- counted, how many events the buffer took, and never else.
 pub record CountsSoFar (wanted : EventRequest) (client : Option ℕ) (run : Option AnalyzerRun) (own : List BufferEntry) (got : List GotEvent) (turns : List MemberTurn) : Type 0 where
   pub calls : KeepsAnalyzerCalls own
   pub own_client : HasOwnClient client own
   pub once : requests_made own ≡ starts_accepted turns
+  pub asked : accepts_made own ≡ stops_reported turns
   pub reports : ReportsHold wanted own got turns
   pub counts : RunCounts wanted client run own got turns
 
@@ -193,11 +206,13 @@ pub record AnalyzerTells (run : Option AnalyzerRun) (turns : List MemberTurn) : 
   pub current : AreEngineTurns turns → CountsCurrent run turns
 
 -- What holds at every moment: on its port the analyzer sends nothing and makes no mark, and names only clients that an attach of
--- its own gave; it has made one request for each start that it accepted, and no others; each report that it told is that of a run
--- whose start it accepted, from the request of that start on; and it told one at each stop of such a run.
+-- its own gave; it has made one request for each start that it accepted, and no others; it has asked how many events its buffer
+-- took as often as it was given a stop of a run that it counted; each report that it told is that of a run whose start it
+-- accepted, from the request of that start on; and it told one at each stop of such a run.
 pub record KeepsAnalyzer (wanted : EventRequest) (own : List BufferEntry) (got : List GotEvent) (turns : List MemberTurn) : Type 0 where
   pub calls : KeepsAnalyzerCalls own
   pub once : requests_made own ≡ starts_accepted turns
+  pub asked : accepts_made own ≡ stops_reported turns
   pub reports : ReportsHold wanted own got turns
   pub starts : StartsPlain turns
   pub stops : AreEngineTurns turns → StopsReported turns

@@ -21,6 +21,16 @@ abbrev pub requests_made : List BufferEntry → ℕ
 requests_made [] = 0
 requests_made (e ∷ es) = requests_by e + requests_made es
 
+-- one, where the call asks how many events the buffer took
+abbrev pub accepts_by : BufferEntry → ℕ
+accepts_by (Accepted reply) = 1
+accepts_by entry = 0
+
+-- how often these calls asked that
+abbrev pub accepts_made : List BufferEntry → ℕ
+accepts_made [] = 0
+accepts_made (e ∷ es) = accepts_by e + accepts_made es
+
 -- the request by which a run is counted: what is wanted, the client, the request's number, the run's start number, and how
 -- many requests were made before it
 pub record CountRequest : Type 0 where

@@ -194,6 +194,7 @@ counting_keeps : (told : Event) → KeepsAnalyzer (counted_analyzer told).wanted
 counting_keeps told = record {
   calls = record { only_reads = (tt, (tt, (tt, (tt, (tt, (tt, tt)))))); own_calls = (refl, (refl, (tt, (refl, (refl, (tt, tt)))))) };
   once = refl;
+  asked = refl;
   reports = reports;
   starts = start_answer (counting_stop told) counting_start refl refl;
   stops = λ are start begin stop answer accepted stops is. told_so stop answer stops.stands stops.is is;

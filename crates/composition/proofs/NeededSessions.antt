@@ -506,6 +506,7 @@ idle_analyzer : KeepsAnalyzer (sample_analyzer 7).wanted [] [] []
 idle_analyzer = record {
   calls = record { only_reads = tt; own_calls = tt };
   once = refl;
+  asked = refl;
   reports = λ t report has. absurd has;
   starts = λ start answer has. absurd has;
   stops = λ are start begin stop answer accepted. absurd accepted.is_start.stands;

@@ -128,6 +128,7 @@ pub member_keeps : (client : ℕ) (a : AnalyzerState) (calls : List EngineEntry)
 member_keeps client a calls own got member = record {
   calls = member.stands.holds.calls;
   once = member.stands.holds.once;
+  asked = member.stands.holds.asked;
   reports = member.stands.holds.reports;
   starts = member.tells.starts;
   stops = member.tells.stops;
