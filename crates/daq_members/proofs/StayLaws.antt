@@ -12,7 +12,7 @@ use Rattle.daq_members.specs.LoggerSeats.{LoggerSeen, logger_taken}
 use Rattle.daq_members.specs.SeatedAnalyzers.{AnalyzerSeen, IsSameAnalyzer}
 use Rattle.daq_members.proofs.LoggerLaws.{same_ports, same_then}
 use Rattle.daq_members.proofs.LoggerSeatLaws.{NotedLaws, notes_same, taken_noted}
-use Rattle.member_crew.specs.Turns.{HadTurns}
+use Rattle.member_crew.specs.Turns.{CameBack}
 use Rattle.member_crew.proofs.TurnLaws.{all_keep}
 use Rattle.daq_members.specs.Members.{MemberSeen, MemberTold, FrontEnd, Logger, Analyzer, TurnsMember, FrontTurn, LoggerTurn, AnalyzerTurn, StaysLogger, KeepsContract, IsSameMember, SameFront, SameLogger, SameAnalyzer}
 use Rattle.daq_members.specs.Stay.{MembersStay}
@@ -114,7 +114,7 @@ module _ {E F : Type 0} (told : MemberTold E F) where
       SameLogger (record { same = same; faults = taken_noted laws (logger_taken told.read a b turned) takes })
   one_turn laws (AnalyzerTurn takes same) = SameAnalyzer same
 
-  members_same : NotedLaws → (before after : List (MemberSeen E F)) → AllZip (HadTurns (TurnsMember told)) before after → AllZip (IsSameMember told) before after
+  members_same : NotedLaws → (before after : List (MemberSeen E F)) → CameBack (TurnsMember told) before after → AllZip (IsSameMember told) before after
   members_same laws = all_keep (TurnsMember told) (IsSameMember told) same_member (λ a b c first then_. member_then laws first then_) (λ a b turned turn. one_turn laws turn)
 
   -- A logger stays one, at its place.
@@ -131,7 +131,7 @@ module _ {E F : Type 0} (told : MemberTold E F) where
 
   pub members_stay_so : NotedLaws → MembersStay told
   members_stay_so laws before after back all =
-      let same = members_same laws before after back.had in
+      let same = members_same laws before after back in
       record {
         same = same;
         keep = λ client member at. each_of (KeepsContract told) after client member all at;

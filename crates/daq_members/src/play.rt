@@ -10,7 +10,7 @@ use buffer_core::BufferPort;
 use daq_io::{Files, Gate, Pick};
 use daq_types::NoMemory;
 use front_ends::Equipment;
-use member_crew::{Crew, CrewParts, MemberList, Playing, TakesTurns, ThreadRoom, play};
+use member_crew::{CrewParts, MemberList, Playing, TakesTurns, ThreadRoom, play};
 use odb_watch::WatchPort;
 use std::alloc::Global;
 use std::sync::Wait;
@@ -52,8 +52,8 @@ fn thread_room<M: TakesTurns + Drop>(
 }
 
 /// Plays the main thread's part with these members, each by its client number: each in a thread of its own where there is room
-/// for that, else all in rounds of the main thread. Each comes back behind turns of its own, of which the last came to `Ended`, is
-/// the same one and keeps its contract.
+/// for that, else all in rounds of the main thread. Each comes back behind turns of its own, of which the last came to `Ended`, and
+/// no other, is the same one and keeps its contract.
 pub fn play_members<
     'a,
     R: Threads + Wait + Sync,
@@ -79,8 +79,8 @@ pub fn play_members<
         (member_told X.takes X.makes F.told)) members.entry result.1 }
     ensures stay { StayMembers (member_told X.takes X.makes F.told) members.entry result.1 }
 {
-    let crew = Crew::new(members, pick, gate);
-    let (played, parts) = play(rt, room.threads, crew, main);
+    let parts = CrewParts { members, pick };
+    let (played, parts) = play(rt, room.threads, parts, gate, main);
     let CrewParts { members, pick } = parts;
     ask_all(members.as_slice());
     members_stay(members.as_slice());

@@ -1,6 +1,6 @@
 -- A crew behind the turns of a round, and behind rounds.
 use Rattle.daq_io.specs.Told.{AheadTold}
-use Rattle.std.specs.Prelude.{◌≡◌, ◌≢◌, ℕ, zero, suc, ◌+◌, ◌-◌, ◌<◌, ◌≤◌, ◌%◌, Bool, IsTrue, List, [], ◌∷◌, slice_get, slice_set, length, Some, refl}
+use Rattle.std.specs.Prelude.{◌≡◌, ◌≢◌, ℕ, zero, suc, ◌+◌, ◌-◌, ◌<◌, ◌≤◌, ◌%◌, Bool, false, IsTrue, List, [], ◌∷◌, slice_get, slice_set, length, replicate, Some, refl}
 use Rattle.std.specs.List.{AllZip}
 use Rattle.std.proofs.Common.{◌⊎◌, ap, sym, subst, ◌∙◌, arith, inl, inr, add-one}
 use Rattle.std.proofs.Math.Nat.{mod-eq_of_lt, mod-eq-sub-mod}
@@ -9,9 +9,10 @@ use Rattle.std.proofs.lemmas.Option.{slice_get_within}
 use Rattle.std.proofs.lemmas.Bool.Decides.{eqb_tells, leb_tells}
 use Rattle.member_crew.specs.Rounds.{HadRounds}
 use Rattle.member_crew.specs.declared.turned.Turned.{Turned}
-use Rattle.member_crew.specs.Turns.{HadSoMany, TurnsAt}
-use Rattle.member_crew.specs.Crews.{CrewInRounds, KeptByRounds, ReadsPick, TakesRound, TurnFrom}
+use Rattle.member_crew.specs.Turns.{CameBack, ChangesPlace, EndsFrom, GoesOn, HadSoMany, IsSoFar, MemberSoFar, TurnsAt, TurnsOn, TurnsToEnd, so_far}
+use Rattle.member_crew.specs.Crews.{CrewInRounds, KeptByRounds, ReadsPick, TakesRound, TurnFrom, before_turns, members_so_far}
 use Rattle.member_crew.proofs.ListLaws.{zip_follows, zip_stays}
+use Rattle.member_crew.proofs.TurnLaws.{ends_so, stays, turns_on}
 
 -- Lists.
 
@@ -190,3 +191,94 @@ module _ {M K : Type 0} (turns : M → M → Turned → Type 0) (tell : K → Ah
         had = zip_follows (HadSoMany turns n) (OneTurn turns) (HadSoMany turns (suc n)) (λ x y z had one. (y, one.0, had, one.1)) before.members all.0.members after.members so_far.had turned;
         pick = more_read tell n before.pick all.0.pick after.pick so_far.pick round.picks.reads;
       }
+
+-- What is noted of each member.
+
+pub so_far_count : {M : Type 0} (members : List M) (ended : List Bool) → length (members_so_far members ended) ≡ length members
+so_far_count [] ended = refl
+so_far_count (m ∷ ms) [] = ap (λ (n : ℕ). suc n) (so_far_count ms [])
+so_far_count (m ∷ ms) (e ∷ es) = ap (λ (n : ℕ). suc n) (so_far_count ms es)
+
+-- while nothing is noted
+pub none_yet : {M : Type 0} (members : List M) (n : ℕ) → members_so_far members (replicate n false) ≡ before_turns members
+none_yet [] n = refl
+none_yet {M = M} (m ∷ ms) zero = ap (λ (l : List (MemberSoFar M)). so_far m false ∷ l) (none_yet ms zero)
+none_yet {M = M} (m ∷ ms) (suc n) = ap (λ (l : List (MemberSoFar M)). so_far m false ∷ l) (none_yet ms n)
+
+-- the member at a place
+so_far_at : {M : Type 0} (members : List M) (ended : List Bool) (place : ℕ) (member : M) (e : Bool) → slice_get members place ≡ Some member → slice_get ended place ≡ Some e
+    → slice_get (members_so_far members ended) place ≡ Some (so_far member e)
+so_far_at [] ended place member e at noted = absurd (cc (at))
+so_far_at (m ∷ ms) [] place member e at noted = absurd (cc (noted))
+so_far_at {M = M} (m ∷ ms) (x ∷ es) zero member e at noted =
+    let same : m ≡ member = cc (at) in
+    let also : x ≡ e = cc (noted) in
+    ap (λ (a : M). Some (so_far a x)) same ∙ ap (λ (b : Bool). Some (so_far member b)) also
+so_far_at (m ∷ ms) (x ∷ es) (suc n) member e at noted = so_far_at ms es n member e at noted
+
+-- what is noted where the member at a place is another, and what is noted of it
+so_far_set : {M : Type 0} (members : List M) (ended : List Bool) (place : ℕ) (member : M) (e : Bool) → place < length ended
+    → members_so_far (slice_set members place member) (slice_set ended place e) ≡ slice_set (members_so_far members ended) place (so_far member e)
+so_far_set [] ended place member e within = refl
+so_far_set (m ∷ ms) [] place member e within = absurd (omega (arith, within))
+so_far_set (m ∷ ms) (x ∷ es) zero member e within = refl
+so_far_set {M = M} (m ∷ ms) (x ∷ es) (suc n) member e within = ap (λ (l : List (MemberSoFar M)). so_far m x ∷ l) (so_far_set ms es n member e (omega (arith, within)))
+
+-- where nothing else is noted of it
+so_far_kept : {M : Type 0} (members : List M) (ended : List Bool) (place : ℕ) (member : M) (e : Bool) → slice_get ended place ≡ Some e
+    → members_so_far (slice_set members place member) ended ≡ slice_set (members_so_far members ended) place (so_far member e)
+so_far_kept [] ended place member e noted = refl
+so_far_kept (m ∷ ms) [] place member e noted = absurd (cc (noted))
+so_far_kept (m ∷ ms) (x ∷ es) zero member e noted = let same : x ≡ e = cc (noted) in ap (λ (b : Bool). so_far member b ∷ members_so_far ms es) same
+so_far_kept {M = M} (m ∷ ms) (x ∷ es) (suc n) member e noted = ap (λ (l : List (MemberSoFar M)). so_far m x ∷ l) (so_far_kept ms es n member e noted)
+
+module _ {M : Type 0} (turns : M → M → Turned → Type 0) where
+  -- one turn of the member at a place
+  pub turned_at : (members : List M) (ended : List Bool) (place : ℕ) (member later : M) (e e_later : Bool) (turned : Turned) → slice_get members place ≡ Some member → slice_get ended place ≡ Some e
+      → TurnsOn turns (so_far member e) (so_far later e_later) turned
+      → TurnsAt (TurnsOn turns) place (members_so_far members ended) (members_so_far (slice_set members place later) (slice_set ended place e_later)) turned
+  turned_at members ended place member later e e_later turned at noted on = record {
+    was = so_far member e;
+    later = so_far later e_later;
+    stands = so_far_at members ended place member e at noted;
+    changes = on;
+    is = so_far_set members ended place later e_later (slice_get_within ended place e noted);
+  }
+
+  -- The member has turns until one comes to Ended.
+  abbrev pub Ends : (was later : MemberSoFar M) → Type 0
+  Ends was later = EndsFrom turns was.ended was.member later.member
+
+  pub ended_at : (members : List M) (ended : List Bool) (place : ℕ) (member later : M) (e : Bool) → slice_get members place ≡ Some member → slice_get ended place ≡ Some e → EndsFrom turns e member later
+      → ChangesPlace Ends place (members_so_far members ended) (members_so_far (slice_set members place later) ended)
+  ended_at members ended place member later e at noted ends = record {
+    was = so_far member e;
+    later = so_far later e;
+    stands = so_far_at members ended place member e at noted;
+    changes = ends;
+    is = so_far_kept members ended place later e noted;
+  }
+
+  -- the members alone
+  pub all_ended : (before : List (MemberSoFar M)) (members : List M) (ended : List Bool) → AllZip Ends before (members_so_far members ended) → AllZip (λ (was : MemberSoFar M) (later : M). EndsFrom turns was.ended was.member later) before members
+  all_ended [] [] ended all = tt
+  all_ended [] (m ∷ ms) [] all = absurd all
+  all_ended [] (m ∷ ms) (e ∷ es) all = absurd all
+  all_ended (x ∷ xs) [] ended all = absurd all
+  all_ended (x ∷ xs) (m ∷ ms) [] all = (all.0, all_ended xs ms [] all.1)
+  all_ended (x ∷ xs) (m ∷ ms) (e ∷ es) all = (all.0, all_ended xs ms es all.1)
+
+  -- a member behind rounds
+  rounds_on : (n : ℕ) (member : M) (x : MemberSoFar M) → HadSoMany (TurnsOn turns) n (so_far member false) x → IsSoFar turns x.ended member x.member
+  rounds_on zero member x same = subst (λ (y : MemberSoFar M). IsSoFar turns y.ended member y.member) (sym same) (stays (GoesOn turns) member)
+  rounds_on (suc n) member x had = turns_on turns member had.0 x had.1 (rounds_on n member had.0 had.2) had.3
+
+  -- the members came back behind rounds and their last turns
+  pub rounds_back : (n : ℕ) (members : List M) (between : List (MemberSoFar M)) (after : List M) → AllZip (HadSoMany (TurnsOn turns) n) (before_turns members) between
+      → AllZip (λ (was : MemberSoFar M) (later : M). EndsFrom turns was.ended was.member later) between after → CameBack turns members after
+  rounds_back n [] [] [] had ends = tt
+  rounds_back n [] [] (y ∷ ys) had ends = ends
+  rounds_back n [] (x ∷ xs) after had ends = absurd had
+  rounds_back n (m ∷ ms) [] after had ends = absurd had
+  rounds_back n (m ∷ ms) (x ∷ xs) [] had ends = ends
+  rounds_back n (m ∷ ms) (x ∷ xs) (y ∷ ys) had ends = (ends_so turns x.ended m x.member y (rounds_on n m x had.0) ends.0, rounds_back n ms xs ys had.1 ends.1)

@@ -1,10 +1,10 @@
 -- Turns of a member, one behind the other, and of members side by side.
-use Rattle.std.specs.Prelude.{ℕ, zero, suc, List, [], ◌∷◌, All, refl}
+use Rattle.std.specs.Prelude.{◌≡◌, ℕ, zero, suc, Bool, true, false, List, [], ◌∷◌, refl}
 use Rattle.std.specs.List.{AllZip}
 use Rattle.std.proofs.Common.{sym, subst}
-use Rattle.std.proofs.lemmas.List.Elements.{All-nil, All-cons}
 use Rattle.member_crew.specs.declared.turned.Turned.{Turned}
-use Rattle.member_crew.specs.Turns.{CameBack, EndsMember, HadSoMany, HadTurns, HasEnded}
+use Rattle.member_crew.specs.declared.turned.Turned.TheVariants.{Worked, Idle, Ended}
+use Rattle.member_crew.specs.Turns.{CameBack, EndsFrom, GoesOn, HadSoMany, HadTurns, IsSoFar, MemberSoFar, TurnsOn, TurnsToEnd, is_end, so_far}
 use Rattle.member_crew.proofs.ListLaws.{zip_follows, zip_then}
 
 module _ {M : Type 0} (turns : M → M → Turned → Type 0) where
@@ -14,7 +14,7 @@ module _ {M : Type 0} (turns : M → M → Turned → Type 0) where
 
   -- one turn more
   pub turn_more : (before between after : M) (turned : Turned) → HadTurns turns before between → turns between after turned → HadTurns turns before after
-  turn_more before between after turned so_far turn = record { count = suc so_far.count; had = (between, turned, so_far.had, turn) }
+  turn_more before between after turned had turn = record { count = suc had.count; had = (between, turned, had.had, turn) }
 
   -- turns behind turns
   so_many_follow : (n : ℕ) (before between after : M) → HadTurns turns before between → HadSoMany turns n between after → HadTurns turns before after
@@ -25,44 +25,39 @@ module _ {M : Type 0} (turns : M → M → Turned → Type 0) where
   pub turns_follow : (before between after : M) → HadTurns turns before between → HadTurns turns between after → HadTurns turns before after
   turns_follow before between after first then_ = so_many_follow then_.count before between after first then_.had
 
-  pub ends_behind : (before between after : M) → HadTurns turns before between → EndsMember turns between after → EndsMember turns before after
-  ends_behind before between after first ends = record { had = turns_follow before between after first ends.had; ended = ends.ended }
+-- Until one comes to Ended.
+module _ {M : Type 0} (turns : M → M → Turned → Type 0) where
+  -- one turn more, but none behind the last
+  turn_so_far : (before member after : M) (turned : Turned) → HadTurns (GoesOn turns) before member → turns member after turned → IsSoFar turns (is_end turned) before after
+  turn_so_far before member after Worked had turn = turn_more (GoesOn turns) before member after Worked had (turn, λ (e : Worked ≡ Ended). cc (e))
+  turn_so_far before member after Idle had turn = turn_more (GoesOn turns) before member after Idle had (turn, λ (e : Idle ≡ Ended). cc (e))
+  turn_so_far before member after Ended had turn = record { between = member; on = had; last = turn }
 
-  -- Side by side.
+  on_from : (ended : Bool) (before member : M) (later : MemberSoFar M) (turned : Turned) → IsSoFar turns ended before member → TurnsOn turns (so_far member ended) later turned → IsSoFar turns later.ended before later.member
+  on_from true before member later turned had on = subst (λ (x : MemberSoFar M). IsSoFar turns x.ended before x.member) (sym on.0) had
+  on_from false before member later turned had on = subst (λ (e : Bool). IsSoFar turns e before later.member) (sym on.1) (turn_so_far before member later.member turned had on.0)
 
-  ended_all : (before after : List M) → AllZip (EndsMember turns) before after → All (HasEnded turns) after
-  ended_all [] [] ends = All-nil (HasEnded turns)
-  ended_all [] (y ∷ ys) ends = absurd ends
-  ended_all (x ∷ xs) [] ends = absurd ends
-  ended_all (x ∷ xs) (y ∷ ys) ends = All-cons (HasEnded turns) y ys ends.0.ended (ended_all xs ys ends.1)
+  pub turns_on : (before : M) (x y : MemberSoFar M) (turned : Turned) → IsSoFar turns x.ended before x.member → TurnsOn turns x y turned → IsSoFar turns y.ended before y.member
+  turns_on before x y turned had on = on_from x.ended before x.member y turned had on
 
-  -- where each member had its last turns, all came back
-  pub all_ended : (before after : List M) → AllZip (EndsMember turns) before after → CameBack turns before after
-  all_ended before after ends = record {
-    had = zip_then (EndsMember turns) (HadTurns turns) (λ x y end. end.had) before after ends;
-    ended = ended_all before after ends;
+  -- the last turns of a member that had turns
+  pub ends_so : (ended : Bool) (before member after : M) → IsSoFar turns ended before member → EndsFrom turns ended member after → TurnsToEnd turns before after
+  ends_so true before member after had ends = subst (λ (m : M). TurnsToEnd turns before m) (sym ends) had
+  ends_so false before member after had ends = record {
+    between = ends.between;
+    on = turns_follow (GoesOn turns) before member ends.between had ends.on;
+    last = ends.last;
   }
-
-  pub back_behind : (before between after : List M) → AllZip (HadTurns turns) before between → CameBack turns between after → CameBack turns before after
-  back_behind before between after first back = record {
-    had = zip_follows (HadTurns turns) (HadTurns turns) (HadTurns turns) turns_follow before between after first back.had;
-    ended = back.ended;
-  }
-
-  -- so many turns are turns
-  pub so_many_had : (count : ℕ) (before after : List M) → AllZip (HadSoMany turns count) before after → AllZip (HadTurns turns) before after
-  so_many_had count before after had =
-      zip_then (HadSoMany turns count) (HadTurns turns) (λ x y so_many. record { count = count; had = so_many }) before after had
 
 -- What each turn keeps, turns keep.
 module _ {M : Type 0} (turns : M → M → Turned → Type 0) (Same : M → M → Type 0) (none : (m : M) → Same m m) (follow : (a b c : M) → Same a b → Same b c → Same a c) (one : (a b : M) → (turned : Turned) → turns a b turned → Same a b) where
-  kept_so : (n : ℕ) (before after : M) → HadSoMany turns n before after → Same before after
+  kept_so : (n : ℕ) (before after : M) → HadSoMany (GoesOn turns) n before after → Same before after
   kept_so zero before after same = subst (λ (m : M). Same before m) (sym same) (none before)
-  kept_so (suc n) before after had = follow before had.0 after (kept_so n before had.0 had.2) (one had.0 after had.1 had.3)
+  kept_so (suc n) before after had = follow before had.0 after (kept_so n before had.0 had.2) (one had.0 after had.1 had.3.0)
 
-  pub turns_keep : (before after : M) → HadTurns turns before after → Same before after
-  turns_keep before after had = kept_so had.count before after had.had
+  turns_keep : (before after : M) → TurnsToEnd turns before after → Same before after
+  turns_keep before after had = follow before had.between after (kept_so had.on.count before had.between had.on.had) (one had.between after Ended had.last)
 
   -- and so do the turns of members side by side
-  pub all_keep : (before after : List M) → AllZip (HadTurns turns) before after → AllZip Same before after
-  all_keep before after had = zip_then (HadTurns turns) Same turns_keep before after had
+  pub all_keep : (before after : List M) → CameBack turns before after → AllZip Same before after
+  all_keep before after had = zip_then (TurnsToEnd turns) Same turns_keep before after had

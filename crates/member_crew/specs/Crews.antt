@@ -1,14 +1,25 @@
 -- The members of a session with the pick, and their rounds.
-use Rattle.std.specs.Prelude.{◌≡◌, ℕ, zero, suc, ◌+◌, ◌<◌, ◌%◌, Bool, IsTrue, List, length}
+use Rattle.std.specs.Prelude.{◌≡◌, ℕ, zero, suc, ◌+◌, ◌<◌, ◌%◌, Bool, false, IsTrue, List, [], ◌∷◌, length}
 use Rattle.std.specs.List.{AllZip}
 use Rattle.daq_io.specs.Told.{AheadTold}
 use Rattle.member_crew.specs.declared.turned.Turned.{Turned}
-use Rattle.member_crew.specs.Turns.{HadSoMany, TurnsAt}
+use Rattle.member_crew.specs.Turns.{HadSoMany, MemberSoFar, TurnsAt, so_far}
 
 -- A crew: the members by their numbers, and the choice of the member that has the first turn of a round.
 pub record CrewInRounds (M K : Type 0) : Type 0 where
   pub members : List M
   pub pick : K
+
+-- the members, by what is noted of each number, whether a turn came to Ended
+abbrev pub members_so_far : {M : Type 0} → List M → (ended : List Bool) → List (MemberSoFar M)
+members_so_far [] ended = []
+members_so_far (member ∷ members) [] = so_far member false ∷ members_so_far members []
+members_so_far (member ∷ members) (ended ∷ more) = so_far member ended ∷ members_so_far members more
+
+-- members none of which had a turn
+abbrev pub before_turns : {M : Type 0} → List M → List (MemberSoFar M)
+before_turns [] = []
+before_turns (member ∷ members) = so_far member false ∷ before_turns members
 
 -- By what a pick tells of its choices.
 module _ {K : Type 0} (told : K → AheadTold) where

@@ -74,7 +74,7 @@ impl<'s, 'a, M: TakesTurns, G: Gate> Model for MemberHandles<'s, 'a, M, G> {
 impl<'s, 'a, M: TakesTurns + Drop, G: Gate> MemberHandles<'s, 'a, M, G> {
     ghost use Rattle.member_crew.specs.MemberHandles.{CameFrom};
 
-    /// One turn of the member at this place, if it is here. Says whether it worked.
+    /// One turn of the member at this place, if it is here and has not ended. Says whether it worked.
     fn turn_at<R: Wait>(&mut self, rt: &R, place: usize) -> bool
         requires { place < length self.old }
         ensures { ChangesPlace (TurnsIfHere M.turns) place self.old self.new }
@@ -85,7 +85,8 @@ impl<'s, 'a, M: TakesTurns + Drop, G: Gate> MemberHandles<'s, 'a, M, G> {
         handle.turn(rt, self.context.gate)
     }
 
-    /// One turn of each member that is here, and of no other, in order. Those that worked are counted. Says whether one did.
+    /// One turn of each member that is here and has not ended, and of no other, in order. Those that worked are counted. Says
+    /// whether one did.
     fn turn_all<R: Wait>(&mut self, rt: &R) -> bool
         ensures { AllZip (TurnsIfHere M.turns) self.old self.new }
     {
@@ -99,7 +100,8 @@ impl<'s, 'a, M: TakesTurns + Drop, G: Gate> MemberHandles<'s, 'a, M, G> {
         worked
     }
 
-    /// The members come back in order, each behind its last turn. They stand in this room, which is empty.
+    /// The members come back in order, each behind its last turn: one that ended while it was away has none more. They stand in
+    /// this room, which is empty.
     pub(crate) fn call_back<R: Threads + Wait>(&mut self, rt: &R, back: &mut MemberList<M>)
         requires { back.old ≡ [] }
         ensures { AllZip (CameFrom M.turns) self.old back.new }
@@ -107,11 +109,11 @@ impl<'s, 'a, M: TakesTurns + Drop, G: Gate> MemberHandles<'s, 'a, M, G> {
         self.context.activity.call();
         while let Some(handle) = self.handles.take_first() {
             let MemberHandle { thread } = handle;
-            let member = match thread {
+            let came = match thread {
                 Ok(thread) => thread.join(rt),
-                Err(member) => member,
+                Err(here) => here,
             };
-            back.push(finish(rt, self.context, member));
+            back.push(finish(rt, self.context, came));
         }
     }
 }
@@ -122,8 +124,8 @@ impl<'s, 'a, M: TakesTurns + Drop, G: Gate> Rounds for MemberHandles<'s, 'a, M, 
 
     ghost round = { AllZip (TurnsIfHere M.turns) };
 
-    /// One turn of each member that is here, and of no other, in order. Where none of them worked, the main thread waits for the
-    /// others.
+    /// One turn of each member that is here and has not ended, and of no other, in order. Where none of them worked, the main
+    /// thread waits for the others.
     fn round<R: Wait>(&mut self, rt: &R) {
         if self.turn_all(rt) {
             self.still = 0;

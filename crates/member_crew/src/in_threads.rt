@@ -4,7 +4,7 @@ ghost use Rattle.member_crew.specs.Turns.{CameBack};
 
 use crate::context::TurnContext;
 use crate::handles::{HandleList, send_all};
-use crate::{Crew, CrewParts, MemberList, Playing, TakesTurns};
+use crate::{CrewParts, MemberList, Playing, TakesTurns};
 use daq_io::{Gate, Pick};
 use daq_types::{BoundedList, NoMemory};
 use std::alloc::Global;
@@ -63,7 +63,7 @@ where
 }
 
 /// Plays the main thread's part while each member has its turns in a thread of its own, or here, where no thread could be had
-/// for it, until its turn comes to `Ended`. The pick stays as it is, since there are no rounds of all members. Takes no memory but
+/// for it, until its turn comes to `Ended`, and none behind that. The pick stays as it is, since there are no rounds of all members. Takes no memory but
 /// what threads take.
 pub fn play_in_threads<
     'a,
@@ -72,14 +72,21 @@ pub fn play_in_threads<
     K: Pick + Drop,
     G: Gate + Sync,
     B: Playing + Drop,
->(rt: &R, room: ThreadRoom<M>, crew: Crew<'a, M, K, G>, main: B) -> (B::Played, CrewParts<M, K>)
+>(
+    rt: &R,
+    room: ThreadRoom<M>,
+    parts: CrewParts<M, K>,
+    gate: &'a G,
+    main: B,
+) -> (B::Played, CrewParts<M, K>)
+    requires few { length parts.members ≤ 64 }
     ensures played { B.plays main result.0 }
-    ensures back { CameBack M.turns crew.entry.members result.1.members }
-    ensures pick { result.1.pick ≡ crew.entry.pick }
+    ensures back { CameBack M.turns parts.members result.1.members }
+    ensures pick { result.1.pick ≡ parts.pick }
 {
-    let context = TurnContext::new(crew.gate());
+    let context = TurnContext::new(gate);
     let context = &context;
-    let CrewParts { members, pick } = crew.into_parts();
+    let CrewParts { members, pick } = parts;
     let (played, members) = thread::scope(
         thread::scope_env(),
         rt,

@@ -1,57 +1,27 @@
 // A session whose members have their turns in rounds of the main thread.
-ghost use Rattle.std.specs.Prelude.{◌≡◌, ◌<◌, ℕ, length};
-ghost use Rattle.member_crew.specs.Turns.{CameBack, ChangesPlace, EndsMember};
+ghost use Rattle.std.specs.Prelude.{◌<◌, ◌≤◌, ℕ, length};
+ghost use Rattle.member_crew.specs.Turns.{CameBack};
 ghost use Rattle.member_crew.specs.Crews.{ReadsPick};
 
-use crate::context::TurnContext;
-use crate::member::until_ended;
-use crate::{Crew, CrewParts, MemberList, Playing, TakesTurns};
+use crate::crew::Crew;
+use crate::{CrewParts, Playing, TakesTurns};
 use daq_io::{Gate, Pick};
 use std::sync::Wait;
 
-/// The last turns of the member at this place.
-fn end_at<R: Wait, M: TakesTurns, G: Gate>(
-    rt: &R,
-    context: &TurnContext<G>,
-    members: &mut MemberList<M>,
-    place: usize,
-)
-    requires { place < length members.old }
-    ensures { ChangesPlace (EndsMember M.turns) place members.old members.new }
-{
-    let Some(member) = members.get_mut(place) else {
-        unreachable!()
-    };
-    until_ended(rt, context, member);
-}
-
-/// The last turns of each of these members, in order.
-fn end_all<R: Wait, M: TakesTurns, G: Gate>(
-    rt: &R,
-    context: &TurnContext<G>,
-    members: &mut MemberList<M>,
-)
-    ensures { CameBack M.turns members.old members.new }
-{
-    for place in 0..members.len() {
-        end_at(rt, context, members, place);
-    }
-}
-
 /// Plays the main thread's part, in whose rounds the members have their turns; the pick is read in these rounds alone. Behind it
-/// each has turns until one comes to `Ended`.
+/// each has turns until one comes to `Ended`, if none did yet.
 pub fn play_in_turns<'a, R: Wait, M: TakesTurns, K: Pick, G: Gate, B: Playing>(
     rt: &R,
-    crew: Crew<'a, M, K, G>,
+    parts: CrewParts<M, K>,
+    gate: &'a G,
     main: B,
 ) -> (B::Played, CrewParts<M, K>)
+    requires some { 0 < length parts.members }
+    requires few { length parts.members ≤ 64 }
     ensures played { B.plays main result.0 }
-    ensures back { CameBack M.turns crew.entry.members result.1.members }
-    ensures pick { (rounds : ℕ) × ReadsPick K.told rounds crew.entry.pick result.1.pick }
+    ensures back { CameBack M.turns parts.members result.1.members }
+    ensures pick { (rounds : ℕ) × ReadsPick K.told rounds parts.pick result.1.pick }
 {
-    let (played, crew) = main.play(rt, crew);
-    let context = TurnContext::new(crew.gate());
-    let CrewParts { mut members, pick } = crew.into_parts();
-    end_all(rt, &context, &mut members);
-    (played, CrewParts { members, pick })
+    let (played, crew) = main.play(rt, Crew::new(parts, gate));
+    (played, crew.into_ended(rt))
 }

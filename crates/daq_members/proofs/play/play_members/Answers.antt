@@ -1,7 +1,6 @@
 use Rattle.std.proofs.Common.{List, subst}
 use denote.Param.Send.{sendable}
-use Rattle.member_crew.specs.Turns.{CameBack}
-use Rattle.daq_members.specs.Members.{MemberSeen, KeepsContract, TurnsMember, member_told}
+use Rattle.daq_members.specs.Members.{MemberSeen, KeepsContract, member_told}
 use Rattle.std.specs.Prelude.{All}
 use Rattle.daq_members.proofs.SendLaws.{member_send}
 use Rattle.daq_members.proofs.play.play_members.Goals as goal
@@ -10,10 +9,7 @@ pub play-played-requires-send-M : goal.play-played-requires-send-M
 play-played-requires-send-M g c κs within = search (sendable, member_send)
 
 pub returns-clause-back : goal.returns-clause-back
-returns-clause-back g c =
-    let told = member_told g.X.Equipment.takes g.X.Equipment.makes g.F.Files.told in
-    let P : List (MemberSeen _ _) → Type 0 = λ before. CameBack (TurnsMember told) before c.play-played.result.1.members in
-    subst P c.new-crew.ensures.members c.play-played.ensures.back
+returns-clause-back g c = c.play-played.ensures.back
 
 pub returns-clause-stay : goal.returns-clause-stay
 returns-clause-stay g c =
