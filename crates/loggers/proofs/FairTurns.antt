@@ -71,11 +71,11 @@ refusal_quietly spec name (Exists channel) a b refuses = quietly_same a.port b.p
 refusal_quietly spec name (Fault channel) a b refuses = quietly_same a.port b.port a.client b.client refuses.1.port refuses.1.client
 refusal_quietly spec name BufferRefused a b refuses = asks_quietly spec a.client b.client None a.port b.port refuses.0
 
-opens_quietly : (spec : ChannelSpec) (order : Order) (dump : List ℕ) (r : Result ⊤ Why) (a b : ChannelAt) → OpensBy r spec order dump a b → CallsQuietly a.port b.port a.client b.client
+pub opens_quietly : (spec : ChannelSpec) (order : Order) (dump : List ℕ) (r : Result ⊤ Why) (a b : ChannelAt) → OpensBy r spec order dump a b → CallsQuietly a.port b.port a.client b.client
 opens_quietly spec order dump (Ok done) a b opens = asks_quietly spec a.client b.client (Some opens.asks.request) a.port b.port opens.asks.asks
 opens_quietly spec order dump (Err why) a b opens = refusal_quietly spec _ why a b opens.1
 
-cancels_quietly : (client : Option ℕ) (standing : Option ChannelRun) (a b : Access) → CancelsStanding standing a b → CallsQuietly a b client client
+pub cancels_quietly : (client : Option ℕ) (standing : Option ChannelRun) (a b : Access) → CancelsStanding standing a b → CallsQuietly a b client client
 cancels_quietly client None a b cancels = quietly_same a b client client cancels refl
 cancels_quietly client (Some opened) a b cancels = quietly_call a b _ _ client client cancels.1 tt (omega arith)
 
@@ -97,7 +97,7 @@ reply_quietly client p run (Empty gate last) e taken = none_quietly client p run
 reply_quietly client p run NoClient e taken = quietly_same p.port p.later_port client client taken.port refl
 reply_quietly client p run (SmallBuf need) e taken = absurd taken
 
-pulls_quietly : (client : Option ℕ) (p : PullOf) (room : ℕ) (reads : Option BegunRun) → PullsIn reads p room → CallsQuietly p.port p.later_port client client
+pub pulls_quietly : (client : Option ℕ) (p : PullOf) (room : ℕ) (reads : Option BegunRun) → PullsIn reads p room → CallsQuietly p.port p.later_port client client
 pulls_quietly client p room None pulls = quietly_same p.port p.later_port client client pulls.port refl
 pulls_quietly client p room (Some run) pulls =
     quietly_then p.port pulls.middle p.later_port client client client (quietly_call p.port pulls.middle _ _ client client pulls.received tt (omega arith))

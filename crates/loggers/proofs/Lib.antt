@@ -42,3 +42,4 @@ pub mod RefusedAsks
 pub mod NamesTaken
 pub mod FairPorts
 pub mod FairTurns
+pub mod MarksMade

@@ -85,7 +85,7 @@ accepted_earlier t turns start begin other accepted = record { is_start = HasTur
 
 -- The run of the logger.
 
-in_started : (run : Option LoggedRun) (start : ℕ) → IsInStarted run start → is_started run start ≡ true
+pub in_started : (run : Option LoggedRun) (start : ℕ) → IsInStarted run start → is_started run start ≡ true
 in_started None start is = absurd is
 in_started (Some r) start is = subst (λ (p : RunPart). is_started (Some (record r { part = p })) start ≡ true) (sym is.1) (eq-eqb r.start start is.0)
 

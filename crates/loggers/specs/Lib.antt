@@ -3,6 +3,7 @@ pub mod ChannelSteps
 pub mod Turning
 pub mod Finishing
 pub mod FairAsks
+pub mod TurnMarks
 pub mod LoggerStands
 pub mod NewLoggers
 pub mod SlotPulls

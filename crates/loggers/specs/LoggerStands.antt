@@ -36,6 +36,7 @@ use Rattle.loggers.specs.declared.logged_run.RunPart.{RunPart}
 use Rattle.loggers.specs.declared.logged_run.RunPart.TheVariants.{Refused, Started, Stopping}
 use Rattle.loggers.specs.Moments.{HaveNumbersApart, channel_limit}
 use Rattle.loggers.specs.FairAsks.{HasStart, AsksFairly}
+use Rattle.loggers.specs.TurnMarks.{MarksAsAsked}
 
 -- The logger as its contract sees it.
 
@@ -297,10 +298,12 @@ pub record LoggerHolds (run : Option LoggedRun) (dumps : RunDumps) (slots : List
   pub going : AreEngineTurns turns → IsStillGoing run turns
   pub unready : AreEngineTurns turns → AreUnreadyInRuns turns
 
--- A logger between its calls: it keeps all that, and gives no buffer a cause to refuse a call of it.
+-- A logger between its calls: it keeps all that, and gives no buffer a cause to refuse a call of it; and it marked each pause and
+-- each resume of its runs in every buffer, and nothing else as one.
 pub record LoggerStands (run : Option LoggedRun) (dumps : RunDumps) (slots : List (Option Channel)) (ports : List Access) (turns : List MemberTurn) (seen : Seen) : Type 0 where
   pub holds : LoggerHolds run dumps slots ports turns seen
   pub asks : AsksFairly run slots ports turns
+  pub marks : AreEngineTurns turns → MarksAsAsked ports turns
 
 -- It keeps the logger's contract, whatever numbers stand for clients that are not attached yet.
 abbrev pub StandingLoggerKeeps : Type 0

@@ -1,5 +1,6 @@
 use Rattle.loggers.proofs.FinishedLogger.{EndingLaws, finish_stands}
 use Rattle.loggers.proofs.FairTurns.{finish_fair}
+use Rattle.loggers.proofs.MarksMade.{finish_marks}
 use Rattle.loggers.proofs.laws.finishes_keep.Goals as goal
 
 pub returns : goal.returns
@@ -15,4 +16,5 @@ returns c =
     λ f ports turns finishes in_use stands. record {
       holds = finish_stands laws f ports turns finishes in_use stands.holds;
       asks = finish_fair f ports turns finishes stands.asks;
+      marks = finish_marks turns f.answer ports stands.marks;
     }

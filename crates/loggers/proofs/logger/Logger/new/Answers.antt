@@ -4,6 +4,7 @@ use Rattle.loggers.specs.LoggerStands.{LoggerStands}
 use Rattle.loggers.specs.Turning.{no_dumps}
 use Rattle.loggers.proofs.NewStands.{new_stands, new_room, new_own, new_failed}
 use Rattle.loggers.proofs.FairTurns.{new_fair}
+use Rattle.loggers.proofs.MarksMade.{new_marks}
 use Rattle.loggers.proofs.ReasonsKept.{idle_reasons, new_idle}
 use Rattle.loggers.proofs.logger.Logger.new.Goals as goal
 
@@ -12,6 +13,7 @@ returns-clause-stands c = λ ports seen served unused.
     let stands : LoggerStands None no_dumps c.in_ok-channels.channels ports [] seen = record {
       holds = new_stands c.args.specs c.args.rooms.now c.in_ok-channels.channels ports seen c.in_ok-channels.ensures served unused;
       asks = new_fair c.in_ok-channels.channels ports unused;
+      marks = λ are. new_marks ports unused;
     } in
     subst (λ (dumps : RunDumps). LoggerStands None dumps c.in_ok-channels.channels ports [] seen) (sym c.without_dumps.ensures) stands
 
