@@ -92,11 +92,11 @@ noted_off place buffer c run fallen is = by_hit (c.spec.buffer == buffer)
     by_hit false = (run, is, refl)
 
 -- The first fault is the same, and a channel that broke off has not changed.
-record Quiet (a b : LoggerMoment) : Type 0 where
-  first : b.files.first ≡ a.files.first
-  off : (name : List ℕ) → IsBrokenOffName a.slots name → IsBrokenOffName b.slots name
+pub record Quiet (a b : LoggerMoment) : Type 0 where
+  pub first : b.files.first ≡ a.files.first
+  pub off : (name : List ℕ) → IsBrokenOffName a.slots name → IsBrokenOffName b.slots name
 
-quiet_same : (a b : LoggerMoment) → b ≡ a → Quiet a b
+pub quiet_same : (a b : LoggerMoment) → b ≡ a → Quiet a b
 quiet_same a b same = subst (λ (m : LoggerMoment). Quiet a m) (sym same) (record { first = refl; off = λ name o. o })
 
 quiet_then : (a b c : LoggerMoment) → Quiet a b → Quiet b c → Quiet a c
@@ -134,20 +134,20 @@ quiet_end start k a b ends =
 
 -- A start that was accepted.
 
-none_off : (slots : List (Option Channel)) (name : List ℕ) → AreIdleChannels slots → IsBrokenOffName slots name → ⊥
+pub none_off : (slots : List (Option Channel)) (name : List ℕ) → AreIdleChannels slots → IsBrokenOffName slots name → ⊥
 none_off slots name idle o = (let is : Idle ≡ Broken o.run o.fallen = sym (idle o.number o.channel o.there) ∙ o.of in cc (is))
 
 open_first : (order : Order) (dump : List ℕ) (n : ℕ) (slot : Option Channel) (a b : LoggerMoment) → slot_at a.slots n ≡ slot → StepsSlot (OpensChannel order dump (Ok tt)) n slot a b → b.files.first ≡ a.files.first
 open_first order dump n None a b there same = ap (λ (m : LoggerMoment). m.files.first) same
 open_first order dump n (Some before) a b there s = s.step.first
 
-opens_first : (order : Order) (dump : List ℕ) (n : ℕ) (a b : LoggerMoment) → OpensBelow order dump n a b → b.files.first ≡ a.files.first
+pub opens_first : (order : Order) (dump : List ℕ) (n : ℕ) (a b : LoggerMoment) → OpensBelow order dump n a b → b.files.first ≡ a.files.first
 opens_first order dump n a b opens = turns_keep (λ k. StepsAt (OpensChannel order dump (Ok tt)) k) (λ m. m.files.first ≡ a.files.first) n a b (λ k x y step same. open_first order dump k (slot_at x.slots k) x y refl step ∙ same) opens refl
 
 begins_first : (start n : ℕ) (a b : LoggerMoment) → BeginsBelow start n a b → b.files.first ≡ a.files.first
 begins_first start n a b begins = turns_keep (λ k. BeginsBuffer start k) (λ m. m.files.first ≡ a.files.first) n a b (λ k x y step same. ap (λ (f : FilesTold). f.first) step.1.marks.files ∙ same) begins refl
 
-starts_quiet : (result : Result ⊤ Why) (order : Order) (dump : List ℕ) (begun : ℕ) (a b : LoggerMoment) → StartsSo result order dump begun a b → AreIdleChannels a.slots → undone_of_answer (start_answer result) ≡ 0 → Quiet a b
+pub starts_quiet : (result : Result ⊤ Why) (order : Order) (dump : List ℕ) (begun : ℕ) (a b : LoggerMoment) → StartsSo result order dump begun a b → AreIdleChannels a.slots → undone_of_answer (start_answer result) ≡ 0 → Quiet a b
 starts_quiet (Ok done) order dump begun a b starts idle undone = record {
   first = begins_first order.start (length a.ports) starts.opened b starts.begins ∙ opens_first order dump (length a.slots) a starts.opened starts.opens;
   off = λ name o. absurd (none_off a.slots name idle o);
@@ -167,15 +167,15 @@ start_quiet true t idle takes undone = quiet_same t.before t.after takes.moment
 start_quiet false t idle takes undone =
     starts_quiet takes.result t.order _ takes.begun t.before t.after takes.starts (idle refl) (sym (ap (count_in_answer undone_of_answer) takes.answer_is) ∙ undone)
 
-stop_quiet : (of : Bool) (t : LoggerTurn) → TakesStop of t → Quiet t.before t.after
+pub stop_quiet : (of : Bool) (t : LoggerTurn) → TakesStop of t → Quiet t.before t.after
 stop_quiet true t takes = quiet_turns (λ k. EndsBuffer t.order.start k) (length t.before.ports) t.before t.after (λ k x y step. quiet_end t.order.start k x y step) takes.ends
 stop_quiet false t takes = quiet_same t.before t.after takes.moment
 
-pause_quiet : (of : Bool) (t : LoggerTurn) → TakesMark PausesBuffer of t → Quiet t.before t.after
+pub pause_quiet : (of : Bool) (t : LoggerTurn) → TakesMark PausesBuffer of t → Quiet t.before t.after
 pause_quiet true t takes = quiet_turns (λ k. PausesBuffer t.order.start k) (length t.before.ports) t.before t.after (λ k x y step. quiet_call _ k x y step.1) takes.marks
 pause_quiet false t takes = quiet_same t.before t.after takes.moment
 
-resume_quiet : (of : Bool) (t : LoggerTurn) → TakesMark ResumesBuffer of t → Quiet t.before t.after
+pub resume_quiet : (of : Bool) (t : LoggerTurn) → TakesMark ResumesBuffer of t → Quiet t.before t.after
 resume_quiet true t takes = quiet_turns (λ k. ResumesBuffer t.order.start k) (length t.before.ports) t.before t.after (λ k x y step. quiet_call _ k x y step.1) takes.marks
 resume_quiet false t takes = quiet_same t.before t.after takes.moment
 
@@ -264,49 +264,81 @@ pull_named Broke name next x old new of is = elim (one_named name next x old new
   | inr now ↦ inr (refl, now)
 ]
 
-pulled_fault : PullsChange → (dump : List ℕ) (number : ℕ) (answer : Pulled) (before : Channel) (a b : LoggerMoment) (first : FilesTold) (turns : List MemberTurn) → slot_at a.slots number ≡ Some before → HaveFilesOpen a.slots a.files.seen → specs_in b.slots ≡ specs_in a.slots
-    → StepsChannel (PullsChannel dump answer) number before a b → IsFaultTold a.slots turns first a.files → IsFaultTold b.slots turns first b.files
-pulled_fault change dump number answer before a b first turns there open_files specs s told none undone name is =
-    elim (pull_named answer (open_name before.spec (written_run before.stage)) (name_behind before.spec (written_run before.stage)) name a.files.first b.files.first s.step.first is) as (λ w. IsBrokenName (specs_in b.slots) turns name ⊎ IsBrokenOffName b.slots name) [
-      | inl was ↦ elim (told none undone name was) as (λ w. IsBrokenName (specs_in b.slots) turns name ⊎ IsBrokenOffName b.slots name) [
-        | inl broken ↦ inl (subst (λ (l : List (Option ChannelSpec)). IsBrokenName l turns name) (sym specs) broken)
-        | inr off ↦ inr (subst (λ (l : List (Option Channel)). IsBrokenOffName l name) (sym s.slots) (off_set a.slots number before s.after name there s.step.spec (λ run fallen at. pull_still _ before.event.room run fallen s.step.pulls at) off))
-      ]
-      | inr now ↦
-          let off = broke _ before.event.room (reading_run before.stage) refl s.step.pulls now.0 in
-          let run : BegunRun = off.0 in
-          let fallen : Fallen = off.2.0 in
-          let at : s.after.stage ≡ Broken run fallen = off.2.1 in
-          let reads = reading_is before.stage run off.1 in
-          let changes = change _ before.event.room s.step.pulls (open_files.files number before there) in
-          let made : files_made before.stage ≤ files_made s.after.stage = changes.1.made in
-          let files : files_made s.after.stage ≡ fallen.files = ap files_made at in
-          let pattern : (sub : ℕ) → piece_name_by s.after.spec.pattern run.opened.run sub ≡ piece_name_by before.spec.pattern run.opened.run sub = λ sub. ap (λ (x : ChannelSpec). piece_name_by x.pattern run.opened.run sub) s.step.spec in
-          let so : (sub : ℕ) → sub ≤ fallen.files → piece_name_by before.spec.pattern run.opened.run sub ≡ name → IsBrokenOffName b.slots name = λ sub few named. subst (λ (l : List (Option Channel)). IsBrokenOffName l name) (sym s.slots) (record {
-            number = number;
-            channel = s.after;
-            run = run;
-            fallen = fallen;
-            there = put_there a.slots number before s.after there;
-            of = at;
-            sub = sub;
-            few = few;
-            is = pattern sub ∙ named;
-          }) in
-          inr (elim now.1 as (λ w. IsBrokenOffName b.slots name) [
-            | inl here ↦ so run.opened.at.sub (omega (arith, made, files, reads.1)) (sym (ap (open_name before.spec) reads.0) ∙ here)
-            | inr next ↦ so (run.opened.at.sub + 1) (omega (arith, made, files, reads.1)) (sym (ap (name_behind before.spec) reads.0) ∙ next)
-          ])
-    ]
+-- The first fault stays; one that is named now is that of a channel that broke off; and a channel that broke off has not changed.
+pub record OffNamed (a b : LoggerMoment) : Type 0 where
+  pub stays : (name : List ℕ) → a.files.first ≡ Some name → b.files.first ≡ Some name
+  pub named : (name : List ℕ) → b.files.first ≡ Some name → (a.files.first ≡ Some name) ⊎ IsBrokenOffName b.slots name
+  pub off : (name : List ℕ) → IsBrokenOffName a.slots name → IsBrokenOffName b.slots name
 
-pull_by : PullsChange → (dump : List ℕ) (number : ℕ) (answer : Pulled) (slot : Option Channel) (a b : LoggerMoment) (first : FilesTold) (turns : List MemberTurn) → slot_at a.slots number ≡ slot → HaveFilesOpen a.slots a.files.seen → specs_in b.slots ≡ specs_in a.slots → PullsSlot dump slot number answer a b
-    → IsFaultTold a.slots turns first a.files → IsFaultTold b.slots turns first b.files
-pull_by change dump number answer None a b first turns there open_files specs pulls told = subst (λ (m : LoggerMoment). IsFaultTold m.slots turns first m.files) (sym pulls.1) told
-pull_by change dump number answer (Some before) a b first turns there open_files specs s told = pulled_fault change dump number answer before a b first turns there open_files specs s told
+pub first_stays : (old : Option (List ℕ)) (name x : List ℕ) → old ≡ Some x → first_of old name ≡ Some x
+first_stays None name x is = absurd (cc (is))
+first_stays (Some before) name x is = is
+
+pull_stays : (answer : Pulled) (name next x : List ℕ) (old new : Option (List ℕ)) → PullNames answer name next old new → old ≡ Some x → new ≡ Some x
+pull_stays NoChannel name next x old new same is = same ∙ is
+pull_stays Nothing name next x old new same is = same ∙ is
+pull_stays (Dropped place) name next x old new same is = same ∙ is
+pull_stays (Wrote place) name next x old new same is = same ∙ is
+pull_stays Broke name next x old new of is = elim of as (λ w. new ≡ Some x) [
+  | inl e ↦ e ∙ first_stays old name x is
+  | inr e ↦ e ∙ first_stays old next x is
+]
+
+pulled_off : PullsChange → (dump : List ℕ) (number : ℕ) (answer : Pulled) (before : Channel) (a b : LoggerMoment) → slot_at a.slots number ≡ Some before → HaveFilesOpen a.slots a.files.seen → StepsChannel (PullsChannel dump answer) number before a b → OffNamed a b
+pulled_off change dump number answer before a b there open_files s = record {
+  stays = λ name is. pull_stays answer (open_name before.spec (written_run before.stage)) (name_behind before.spec (written_run before.stage)) name a.files.first b.files.first s.step.first is;
+  named = λ name is. elim (pull_named answer (open_name before.spec (written_run before.stage)) (name_behind before.spec (written_run before.stage)) name a.files.first b.files.first s.step.first is) as (λ w. (a.files.first ≡ Some name) ⊎ IsBrokenOffName b.slots name) [
+    | inl was ↦ inl was
+    | inr now ↦
+        let off = broke _ before.event.room (reading_run before.stage) refl s.step.pulls now.0 in
+        let run : BegunRun = off.0 in
+        let fallen : Fallen = off.2.0 in
+        let at : s.after.stage ≡ Broken run fallen = off.2.1 in
+        let reads = reading_is before.stage run off.1 in
+        let changes = change _ before.event.room s.step.pulls (open_files.files number before there) in
+        let made : files_made before.stage ≤ files_made s.after.stage = changes.1.made in
+        let files : files_made s.after.stage ≡ fallen.files = ap files_made at in
+        let pattern : (sub : ℕ) → piece_name_by s.after.spec.pattern run.opened.run sub ≡ piece_name_by before.spec.pattern run.opened.run sub = λ sub. ap (λ (x : ChannelSpec). piece_name_by x.pattern run.opened.run sub) s.step.spec in
+        let so : (sub : ℕ) → sub ≤ fallen.files → piece_name_by before.spec.pattern run.opened.run sub ≡ name → IsBrokenOffName b.slots name = λ sub few named. subst (λ (l : List (Option Channel)). IsBrokenOffName l name) (sym s.slots) (record {
+          number = number;
+          channel = s.after;
+          run = run;
+          fallen = fallen;
+          there = put_there a.slots number before s.after there;
+          of = at;
+          sub = sub;
+          few = few;
+          is = pattern sub ∙ named;
+        }) in
+        inr (elim now.1 as (λ w. IsBrokenOffName b.slots name) [
+          | inl here ↦ so run.opened.at.sub (omega (arith, made, files, reads.1)) (sym (ap (open_name before.spec) reads.0) ∙ here)
+          | inr next ↦ so (run.opened.at.sub + 1) (omega (arith, made, files, reads.1)) (sym (ap (name_behind before.spec) reads.0) ∙ next)
+        ])
+  ];
+  off = λ name off. subst (λ (l : List (Option Channel)). IsBrokenOffName l name) (sym s.slots) (off_set a.slots number before s.after name there s.step.spec (λ run fallen at. pull_still _ before.event.room run fallen s.step.pulls at) off);
+}
+
+off_same : (a b : LoggerMoment) → b ≡ a → OffNamed a b
+off_same a b same = subst (λ (m : LoggerMoment). OffNamed a m) (sym same) (record { stays = λ name is. is; named = λ name is. inl is; off = λ name o. o })
+
+off_by : PullsChange → (dump : List ℕ) (number : ℕ) (answer : Pulled) (slot : Option Channel) (a b : LoggerMoment) → slot_at a.slots number ≡ slot → HaveFilesOpen a.slots a.files.seen → PullsSlot dump slot number answer a b → OffNamed a b
+off_by change dump number answer None a b there open_files pulls = off_same a b pulls.1
+off_by change dump number answer (Some before) a b there open_files s = pulled_off change dump number answer before a b there open_files s
+
+pub pull_off : PullsChange → (dump : List ℕ) (number : ℕ) (answer : Pulled) (a b : LoggerMoment) → HaveFilesOpen a.slots a.files.seen → PullsNumbered dump number answer a b → OffNamed a b
+pull_off change dump number answer a b open_files pulls = off_by change dump number answer (slot_at a.slots number) a b refl open_files pulls
 
 pub pull_fault : PullsChange → (dump : List ℕ) (number : ℕ) (answer : Pulled) (a b : LoggerMoment) (first : FilesTold) (turns : List MemberTurn) → HaveFilesOpen a.slots a.files.seen → specs_in b.slots ≡ specs_in a.slots → PullsNumbered dump number answer a b
     → IsFaultTold a.slots turns first a.files → IsFaultTold b.slots turns first b.files
-pull_fault change dump number answer a b first turns open_files specs pulls told = pull_by change dump number answer (slot_at a.slots number) a b first turns refl open_files specs pulls told
+pull_fault change dump number answer a b first turns open_files specs pulls told none undone name is =
+    let moved : OffNamed a b = pull_off change dump number answer a b open_files pulls in
+    elim (moved.named name is) as (λ w. IsBrokenName (specs_in b.slots) turns name ⊎ IsBrokenOffName b.slots name) [
+      | inl was ↦ elim (told none undone name was) as (λ w. IsBrokenName (specs_in b.slots) turns name ⊎ IsBrokenOffName b.slots name) [
+        | inl broken ↦ inl (subst (λ (l : List (Option ChannelSpec)). IsBrokenName l turns name) (sym specs) broken)
+        | inr off ↦ inr (moved.off name off)
+      ]
+      | inr off ↦ inr off
+    ]
 
 -- A call to finish.
 
@@ -432,31 +464,63 @@ telling slots files time dump zero b few same = subst (λ (m : EndingMoment). Te
     (record { wide = refl; still = λ n from. refl; told = λ n c early at. absurd (omega (arith, early)); named = λ name is. inl is })
 telling slots files time dump (suc k) b few turns = telling_one slots files.first time dump k (slot_at turns.0.slots k) turns.0 b few refl turns.2 (telling slots files time dump k turns.0 few turns.1)
 
+-- Where the run of each channel is one that is stopped now.
+module _ (f : LoggerFinish) (time : ℕ) (ends : EndsFiles f time) (few : length f.slots ≤ channel_limit) (later : List MemberTurn) (stopped : (n : ℕ) (c : Channel) (opened : ChannelRun) → slot_at f.slots n ≡ Some c → channel_run c.stage ≡ Some opened → IsStoppedRunOf later opened.run ends.told) where
+  all : Telling f.slots f.files.first (length f.slots) (ending_of f.later_slots f.later_files ends.told)
+  all = telling f.slots f.files time f.dumps.stop (length f.slots) _ few ends.ends
+
+  broken : (name : List ℕ) (n : ℕ) (c : Channel) (opened : ChannelRun) (end : ChannelEnd) (sub : ℕ) → slot_at f.slots n ≡ Some c → channel_run c.stage ≡ Some opened → slice_get ends.told n ≡ Some end → end.state ≡ IsBroken → sub ≤ end.files → piece_name_by c.spec.pattern opened.run sub ≡ name
+      → IsBrokenName (specs_in f.slots) later name
+  broken name n c opened end sub there of at state below is_name =
+      record { number = n; spec = c.spec; there = spec_at f.slots n c there; run = opened.run; ends = ends.told; stopped = stopped n c opened there of; told = end; at = at; broken = state; sub = sub; few = below; is = is_name }
+
+  -- a channel that broke off is told to be broken
+  pub finish_off : (name : List ℕ) → IsBrokenOffName f.slots name → IsBrokenName (specs_in f.slots) later name
+  finish_off name off =
+      let its = all.told off.number off.channel (slot_within f.slots off.number off.channel off.there) off.there in
+      let files : its.0.files ≡ off.fallen.files = its.2.files ∙ ap files_made off.of in
+      broken name off.number off.channel off.run.opened its.0 off.sub off.there (ap channel_run off.of) its.1 (its.2.off off.run off.fallen off.of) (subst (λ (n : ℕ). off.sub ≤ n) (sym files) off.few) off.is
+
+  -- and so is one whose file has the first fault now
+  pub finish_named : (name : List ℕ) → f.later_files.first ≡ Some name → (f.files.first ≡ Some name) ⊎ IsBrokenName (specs_in f.slots) later name
+  finish_named name is = elim (all.named name is) as (λ w. (f.files.first ≡ Some name) ⊎ IsBrokenName (specs_in f.slots) later name) [
+    | inl was ↦ inl was
+    | inr n ↦
+        let its = all.told n.number n.channel n.below n.there in
+        let same : its.0 ≡ n.end = (let mine = its.1 in let at = n.at in cc (mine, at)) in
+        let run : BegunRun = n.named.run in
+        let files : n.end.files ≡ run.opened.at.sub + 1 = sym (ap (λ (e : ChannelEnd). e.files) same) ∙ (its.2.files ∙ drained_is n.channel.stage run n.named.of) in
+        inr (broken name n.number n.channel run.opened n.end run.opened.at.sub n.there (drained_has n.channel.stage run n.named.of) n.at n.named.broken (omega (arith, files)) n.named.is)
+  ]
+
 -- what a call to finish leaves of it, where the run of each channel is one that is stopped now
 pub finish_fault : (f : LoggerFinish) (time : ℕ) (ends : EndsFiles f time) → length f.slots ≤ channel_limit → (first : FilesTold) (turns later : List MemberTurn) → starts_undone later ≡ starts_undone turns
     → ((run : ℕ) (told : List ChannelEnd) → IsStoppedRunOf turns run told → IsStoppedRunOf later run told) → ((n : ℕ) (c : Channel) (opened : ChannelRun) → slot_at f.slots n ≡ Some c → channel_run c.stage ≡ Some opened → IsStoppedRunOf later opened.run ends.told)
     → specs_in f.later_slots ≡ specs_in f.slots → IsFaultTold f.slots turns first f.files → IsFaultTold f.later_slots later first f.later_files
 finish_fault f time ends few first turns later undone_same more stopped specs told none undone name is =
-    inl (subst (λ (l : List (Option ChannelSpec)). IsBrokenName l later name) (sym specs) (elim (all.named name is) as (λ w. IsBrokenName (specs_in f.slots) later name) [
+    inl (subst (λ (l : List (Option ChannelSpec)). IsBrokenName l later name) (sym specs) (elim (finish_named f time ends few later stopped name is) as (λ w. IsBrokenName (specs_in f.slots) later name) [
       | inl was ↦ elim (told none (sym undone_same ∙ undone) name was) as (λ w. IsBrokenName (specs_in f.slots) later name) [
-        | inl broken ↦ broken_more (specs_in f.slots) turns later name more broken
-        | inr off ↦
-            let its = all.told off.number off.channel (slot_within f.slots off.number off.channel off.there) off.there in
-            let files : its.0.files ≡ off.fallen.files = its.2.files ∙ ap files_made off.of in
-            broken off.number off.channel off.run.opened its.0 off.sub off.there (ap channel_run off.of) its.1 (its.2.off off.run off.fallen off.of) (subst (λ (n : ℕ). off.sub ≤ n) (sym files) off.few) off.is
+        | inl old ↦ broken_more (specs_in f.slots) turns later name more old
+        | inr off ↦ finish_off f time ends few later stopped name off
       ]
-      | inr n ↦
-          let its = all.told n.number n.channel n.below n.there in
-          let same : its.0 ≡ n.end = (let mine = its.1 in let at = n.at in cc (mine, at)) in
-          let run : BegunRun = n.named.run in
-          let files : n.end.files ≡ run.opened.at.sub + 1 = sym (ap (λ (e : ChannelEnd). e.files) same) ∙ (its.2.files ∙ drained_is n.channel.stage run n.named.of) in
-          broken n.number n.channel run.opened n.end run.opened.at.sub n.there (drained_has n.channel.stage run n.named.of) n.at n.named.broken (omega (arith, files)) n.named.is
+      | inr now ↦ now
     ]))
-  where
-    all : Telling f.slots f.files.first (length f.slots) (ending_of f.later_slots f.later_files ends.told)
-    all = telling f.slots f.files time f.dumps.stop (length f.slots) _ few ends.ends
 
-    broken : (n : ℕ) (c : Channel) (opened : ChannelRun) (end : ChannelEnd) (sub : ℕ) → slot_at f.slots n ≡ Some c → channel_run c.stage ≡ Some opened → slice_get ends.told n ≡ Some end → end.state ≡ IsBroken → sub ≤ end.files → piece_name_by c.spec.pattern opened.run sub ≡ name
-        → IsBrokenName (specs_in f.slots) later name
-    broken n c opened end sub there of at state below is_name =
-        record { number = n; spec = c.spec; there = spec_at f.slots n c there; run = opened.run; ends = ends.told; stopped = stopped n c opened there of; told = end; at = at; broken = state; sub = sub; few = below; is = is_name }
+end_stays : (spec : ChannelSpec) (drained : Option BegunRun) (state : ChannelState) (old new : Option (List ℕ)) (x : List ℕ) → EndNames spec drained state old new → old ≡ Some x → new ≡ Some x
+end_stays spec None state old new x same is = same ∙ is
+end_stays spec (Some run) IsIdle old new x same is = same ∙ is
+end_stays spec (Some run) IsWriting old new x same is = same ∙ is
+end_stays spec (Some run) Ended old new x same is = same ∙ is
+end_stays spec (Some run) NoEnd old new x same is = same ∙ is
+end_stays spec (Some run) NoMark old new x same is = same ∙ is
+end_stays spec (Some run) IsBroken old new x of is = of ∙ first_stays old (piece_name_by spec.pattern run.opened.run run.opened.at.sub) x is
+
+ends_stay : (time : ℕ) (dump : Option (List ℕ)) (n : ℕ) (slot : Option Channel) (a b : EndingMoment) (x : List ℕ) → EndsSlot time dump n slot a b → a.files.first ≡ Some x → b.files.first ≡ Some x
+ends_stay time dump n None a b x same is = ap (λ (m : EndingMoment). m.files.first) same ∙ is
+ends_stay time dump n (Some before) a b x ends is = end_stays before.spec (drained_run before.stage) ends.told.state a.files.first b.files.first x ends.ends.first is
+
+-- the first fault stays where files are ended
+pub finish_stays : (f : LoggerFinish) (time : ℕ) → EndsFiles f time → (name : List ℕ) → f.files.first ≡ Some name → f.later_files.first ≡ Some name
+finish_stays f time ends name is =
+    turns_keep (λ n. EndsSlotAt time f.dumps.stop n) (λ (m : EndingMoment). m.files.first ≡ Some name) (length f.slots) (ending_of f.slots f.files ends_idle) (ending_of f.later_slots f.later_files ends.told)
+    (λ k a b step kept. ends_stay time f.dumps.stop k (slot_at a.slots k) a b name step kept) ends.ends is

@@ -37,6 +37,7 @@ pub mod ReasonsKept
 pub mod NamesOpened
 pub mod NamesUndone
 pub mod FirstNamed
+pub mod FaultsNamed
 pub mod NamesKept
 pub mod RefusedAsks
 pub mod NamesTaken

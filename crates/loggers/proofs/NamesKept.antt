@@ -41,7 +41,8 @@ use Rattle.loggers.specs.LoggerStands.{LoggerHolds, LoggerStands, logger_turn, C
 use Rattle.loggers.specs.OtherFiles.{specs_in}
 use Rattle.loggers.specs.LeftNames.{IsOpenName, NamesLeft, IsStoppedRunOf, IsStoppedName, IsUndoneRun, IsUndoneName, HasUntoldFault, IsNameMade, IsNameLeft, EachFindsNames, KeepsNames, StopsOpenRuns, HaveStoppedRuns, StandingHasStarted, StandingHasStopped, PullsKeepStopped, TurnsKeepNames, PullsKeepNames, FinishesKeepNames}
 use Rattle.loggers.proofs.FilesLeft.{FileChanges, spec_at, no_run, same_run, turn_leaves, pull_leaves, finish_leaves}
-use Rattle.loggers.proofs.FirstNamed.{turn_fault, pull_fault, finish_fault}
+use Rattle.loggers.proofs.FirstNamed.{turn_fault, pull_off, pull_fault, finish_off, finish_named, finish_stays, finish_fault}
+use Rattle.loggers.proofs.FaultsNamed.{OffRuns, turn_faults, pull_faults, finish_faults}
 use Rattle.loggers.proofs.FinishedLogger.{Waits, run_waits}
 use Rattle.loggers.proofs.NamesTaken.{found_more, free_name, turn_found}
 use Rattle.loggers.proofs.SlotLists.{same_or_other, one_changed, got_there, kept_there, many_set}
@@ -182,6 +183,22 @@ untold_now t first turns idle before rose =
     RoseBy-fewer (faults_told later + broken_off t.after.slots + 1) (faults_told turns + broken_off t.before.slots + (told + 1)) first.faults t.after.files.faults (omega (arith, all, off))
     (RoseBy-then (faults_told turns + broken_off t.before.slots) (told + 1) first.faults t.before.files.faults t.after.files.faults before rose)
 
+-- the run of a channel whose start is called off
+off_run : (t : LoggerTurn) (turns : List MemberTurn) → LoggerStands t.run t.dumps t.before.slots t.before.ports turns t.before.files.seen → OffRuns t turns
+off_run t turns stands aborts is n c opened there of =
+    let now : MemberTurn = logger_turn t.transition t.order t.dump t.answer in
+    let port : (a : Access) × (slice_get t.before.ports c.spec.buffer ≡ Some a) = there_is t.before.ports c.spec.buffer (stands.holds.served n c there) in
+    let h : HeadStart turns opened = head_start t.run t.dumps t.before.slots t.before.ports turns t.before.files.seen stands.holds n c opened port.0 there port.1 of in
+    let its : (r : LoggedRun) × (t.run ≡ Some r) × (opened.start ≡ r.start) = its_run t.run turns port.0.own c.stage opened (stands.holds.stages n c port.0 there port.1) of in
+    let same : (its.0.start == t.order.start) ≡ true = subst (λ (r : Option LoggedRun). is_of_start r t.order.start ≡ true) its.1 is in
+    record {
+      begin = h.begin;
+      stands = inr h.is_start.is_start.stands;
+      is = h.is_start.is_start.is;
+      number = h.number;
+      undone = inr (now, record { stands = inl refl; is = aborts; of = sym (h.is_start.is_start.of ∙ (its.2 ∙ eqb-true its.0.start t.order.start same)) });
+    }
+
 -- what a turn undoes
 turn_undoes : (t : LoggerTurn) (first : FilesTold) (turns : List MemberTurn) → IsLoggerReady t.before.slots t.before.ports t.before.files.seen → LoggerStands t.run t.dumps t.before.slots t.before.ports turns t.before.files.seen → RoseBy (faults_told turns + broken_off t.before.slots) first.faults t.before.files.faults
     → Undoes (IsNameLeft (HasUntoldFault t.after.slots (logger_turn t.transition t.order t.dump t.answer ∷ turns) first t.after.files) (specs_in t.before.slots) (logger_turn t.transition t.order t.dump t.answer ∷ turns) first.seen)
@@ -203,10 +220,6 @@ turn_undoes t first turns ready stands faults =
         is = refl;
       };
       off = λ aborts is name o.
-          let port : (a : Access) × (slice_get t.before.ports o.channel.spec.buffer ≡ Some a) = there_is t.before.ports o.channel.spec.buffer (stands.holds.served o.number o.channel o.there) in
-          let h : HeadStart turns o.opened = head_start t.run t.dumps t.before.slots t.before.ports turns t.before.files.seen stands.holds o.number o.channel o.opened port.0 o.there port.1 o.of in
-          let its : (r : LoggedRun) × (t.run ≡ Some r) × (o.opened.start ≡ r.start) = its_run t.run turns port.0.own o.channel.stage o.opened (stands.holds.stages o.number o.channel port.0 o.there port.1) o.of in
-          let of : (its.0.start == t.order.start) ≡ true = subst (λ (r : Option LoggedRun). is_of_start r t.order.start ≡ true) its.1 is in
           let few = ready.few o.number o.channel o.there in
           let made = o.made in
           record {
@@ -214,13 +227,7 @@ turn_undoes t first turns ready stands faults =
             spec = o.channel.spec;
             there = spec_at t.before.slots o.number o.channel o.there;
             run = o.opened.run;
-            undone = record {
-              begin = h.begin;
-              stands = inr h.is_start.is_start.stands;
-              is = h.is_start.is_start.is;
-              number = h.number;
-              undone = inr (now, record { stands = inl refl; is = aborts; of = sym (h.is_start.is_start.of ∙ (its.2 ∙ eqb-true its.0.start t.order.start of)) });
-            };
+            undone = off_run t turns stands aborts is o.number o.channel o.opened o.there o.of;
             sub = o.sub;
             few = omega (arith, few, made);
             is = o.is;
@@ -238,6 +245,7 @@ turns_keep_names laws t first turns takes ready idle stands gives keeps =
     let specs : List (Option ChannelSpec) = specs_in t.before.slots in
     let before : Type 0 = HasUntoldFault t.before.slots turns first t.before.files in
     let behind : Type 0 = HasUntoldFault t.after.slots later first t.after.files in
+    let faults = turn_faults t first turns takes idle (off_run t turns stands) leaves.specs (turn_more now turns) (turn_undone now turns) keeps.fault_known keeps.faults_named in
     let more : before → behind = untold_more (count_in_answer faults_of_answer t.answer) (count_in_answer clashes_of_answer t.answer) t.before.slots t.after.slots turns now first t.before.files t.after.files refl (turn_counted t takes) in
     record {
       told = leaves.names ∙ keeps.told;
@@ -254,6 +262,8 @@ turns_keep_names laws t first turns takes ready idle stands gives keeps =
           subst (λ (l : List (Option ChannelSpec)). EachFindsNames behind l first.seen later) (sym leaves.specs)
           (found_more specs first.seen later more (turn_found before turns first.seen t idle told (keeps.names tells) made takes, keeps.found tells));
       first_fault = turn_fault t first turns takes idle leaves.specs (turn_more now turns) keeps.first_fault;
+      fault_known = faults.0;
+      faults_named = faults.1;
     }
 
 -- A pull.
@@ -269,6 +279,7 @@ pulls_keep_names laws dump number answer a b first turns pulls ready keeps =
     let specs : List (Option ChannelSpec) = specs_in a.slots in
     let before : Type 0 = HasUntoldFault a.slots turns first a.files in
     let behind : Type 0 = HasUntoldFault b.slots turns first b.files in
+    let faults = pull_faults a b first turns (pull_off laws.pulls dump number answer a b ready.files pulls) leaves.specs keeps.fault_known keeps.faults_named in
     let more : before → behind = same_untold 0 a.slots b.slots turns first a.files b.files (pull_counted dump number answer a b pulls) in
     record {
       told = leaves.names ∙ keeps.told;
@@ -280,6 +291,8 @@ pulls_keep_names laws dump number answer a b first turns pulls ready keeps =
           (pull_left laws.pulls (IsNameLeft behind specs turns first.seen) dump number answer a b pulls ready.files told had);
       found = λ tells. subst (λ (l : List (Option ChannelSpec)). EachFindsNames behind l first.seen turns) (sym leaves.specs) (found_more specs first.seen turns more (keeps.found tells));
       first_fault = pull_fault laws.pulls dump number answer a b first turns ready.files leaves.specs pulls keeps.first_fault;
+      fault_known = faults.0;
+      faults_named = faults.1;
     }
 
 -- A call to finish.
@@ -469,6 +482,9 @@ finished_names laws f first turns time finishes few open_files ends stops keeps 
     let more : before → behind = λ untold.
     untold_more (sum_by faults_of_end ends.told) 0 f.slots f.later_slots earlier (logger_turn Stop stops.order dump (Some (Yes (Channels ends.told)))) first f.files f.later_files refl (ends_all f time ends)
     (RoseBy-fewer (faults_told earlier + broken_off f.slots + 1) (faults_told old + broken_off f.slots + 1) first.faults f.files.faults (omega (arith, none_told)) untold) in
+    let ended : (n : ℕ) (c : Channel) (opened : ChannelRun) → slot_at f.slots n ≡ Some c → channel_run c.stage ≡ Some opened → IsStoppedRunOf later opened.run ends.told = λ n c opened there of. stopped_now f time ends turns stops n c opened there of in
+    let faults = finish_faults f first (logger_turn Stop stops.order dump None) (logger_turn Stop stops.order dump (Some (Yes (Channels ends.told)))) earlier (finish_stays f time ends) (finish_named f time ends few later ended) (finish_off f time ends few later ended) leaves.specs
+    (answered_more stops.order dump ends.told earlier) (answered_undone stops.order dump ends.told earlier) (λ why e. cc (e)) kept.fault_known kept.faults_named in
     let done : KeepsNames f.later_slots first f.later_files later = record {
       told = leaves.names ∙ keeps.told;
       names = λ tells.
@@ -482,6 +498,8 @@ finished_names laws f first turns time finishes few open_files ends stops keeps 
           subst (λ (s : List (Option ChannelSpec)). EachFindsNames behind s first.seen later) (sym leaves.specs)
           (found_more specs first.seen later more (record { taken = λ number e. absurd (cc (e)); free = λ starts tally e. absurd (cc (starts)) }, (kept.found tells).1));
       first_fault = finish_fault f time ends few first old later (undone_later ∙ sym undone_old) (answered_more stops.order dump ends.told earlier) (λ n c opened there of. stopped_now f time ends turns stops n c opened there of) leaves.specs kept.first_fault;
+      fault_known = faults.0;
+      faults_named = faults.1;
     } in
     let answered : KeepsNames f.later_slots first f.later_files (latest_answered old (Some (Yes (Channels ends.told)))) = done in
     rw ends.answer_is (subst (λ (l : List MemberTurn). KeepsNames f.later_slots first f.later_files (latest_answered l (Some (Yes (Channels ends.told))))) (sym stops.latest) answered)

@@ -152,7 +152,7 @@ map_at note buffer [] n c there = absurd (cc (there))
 map_at note buffer (o ∷ os) zero c there = ap (option_map (noted_channel note buffer)) there
 map_at note buffer (o ∷ os) (suc n) c there = map_at note buffer os n c there
 
-map_from : (note : ChannelStage → ChannelStage) (buffer : ℕ) (slots : List (Option Channel)) (n : ℕ) (c : Channel) → slot_at (map (option_map (noted_channel note buffer)) slots) n ≡ Some c → (d : Channel) × (slot_at slots n ≡ Some d) × (noted_channel note buffer d ≡ c)
+pub map_from : (note : ChannelStage → ChannelStage) (buffer : ℕ) (slots : List (Option Channel)) (n : ℕ) (c : Channel) → slot_at (map (option_map (noted_channel note buffer)) slots) n ≡ Some c → (d : Channel) × (slot_at slots n ≡ Some d) × (noted_channel note buffer d ≡ c)
 map_from note buffer [] n c there = absurd (cc (there))
 map_from note buffer (None ∷ os) zero c there = absurd (cc (there))
 map_from note buffer (Some d ∷ os) zero c there = (d, refl, cc (there))
@@ -172,7 +172,7 @@ noted_open note buffer c name keeps has = record {
   is = ap (λ (x : ChannelSpec). piece_name_by x.pattern has.opened.run has.sub) (noted_spec note buffer c) ∙ has.is;
 }
 
-open_noted : (note : ChannelStage → ChannelStage) (buffer : ℕ) (c : Channel) (name : List ℕ) → KeepsFiles note → HasOpen (noted_channel note buffer c) name → HasOpen c name
+pub open_noted : (note : ChannelStage → ChannelStage) (buffer : ℕ) (c : Channel) (name : List ℕ) → KeepsFiles note → HasOpen (noted_channel note buffer c) name → HasOpen c name
 open_noted note buffer c name keeps has = record {
   opened = has.opened;
   of = sym (noted_run note buffer c keeps) ∙ has.of;
@@ -405,7 +405,7 @@ same_many Good Its many m g = record { names = g.names; many_is = refl; each = g
 -- The turns.
 
 -- the names that these channels give to their first files in the run are its names
-abbrev AreIts : (Its : List ℕ → Type 0) → List (Option ChannelSpec) → (run : ℕ) → Type 0
+abbrev pub AreIts : (Its : List ℕ → Type 0) → List (Option ChannelSpec) → (run : ℕ) → Type 0
 AreIts Its specs run = (i : ℕ) → (spec : ChannelSpec) → slot_at specs i ≡ Some spec → Its (file_name_by spec.pattern run)
 
 -- one count rose by so many, and then by more

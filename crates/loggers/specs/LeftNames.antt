@@ -5,7 +5,7 @@ use Rattle.daq_types.specs.declared.runs.Order.{Order}
 use Rattle.daq_types.specs.declared.runs.ChannelState.TheVariants.{Broken as IsBroken}
 use Rattle.daq_types.specs.declared.runs.Transition.TheVariants.{Start, Stop, StartAbort}
 use Rattle.daq_types.specs.declared.runs.Why.{Why}
-use Rattle.daq_types.specs.declared.runs.Why.TheVariants.{Exists}
+use Rattle.daq_types.specs.declared.runs.Why.TheVariants.{Exists, Fault}
 use Rattle.daq_io.specs.Counts.{Rose, RoseBy}
 use Rattle.daq_io.specs.Seen.{Seen, Stored}
 use Rattle.daq_io.specs.Told.{FilesTold}
@@ -159,10 +159,14 @@ pub record FindsNames (Untold : Type 0) (specs : List (Option ChannelSpec)) (tur
   pub free : t.transition ≡ Start → (tally : Tally) → t.answer ≡ Some (Yes tally) →
       AreNamesFree specs turns first t.order.run (length specs)
 
--- so it is with each of these turns, of which the latest stands first
+-- each of these turns is so, by those before it; the latest stands first
+abbrev pub EachBehind : (Is : List MemberTurn → MemberTurn → Type 0) → List MemberTurn → Type 0
+EachBehind Is [] = ⊤
+EachBehind Is (t ∷ ts) = Is ts t × EachBehind Is ts
+
+-- so it is with each of these turns
 abbrev pub EachFindsNames : (Untold : Type 0) → List (Option ChannelSpec) → (first : Seen) → List MemberTurn → Type 0
-EachFindsNames Untold specs first [] = ⊤
-EachFindsNames Untold specs first (t ∷ ts) = FindsNames Untold specs ts first t × EachFindsNames Untold specs first ts
+EachFindsNames Untold specs first turns = EachBehind (λ ts t. FindsNames Untold specs ts first t) turns
 
 -- The name is that of a file of one of these channels in a run that was stopped, of which it was told that it broke off; or of the one
 -- behind those that were made, which could not be.
@@ -198,16 +202,60 @@ IsFaultTold slots turns first now =
     first.first ≡ None → starts_undone turns ≡ 0 → (name : List ℕ) → now.first ≡ Some name →
     IsBrokenName (specs_in slots) turns name ⊎ IsBrokenOffName slots name
 
+-- One of these channels gives the name to a file of a run whose start was undone.
+pub record IsUndoneFile (specs : List (Option ChannelSpec)) (turns : List MemberTurn) (name : List ℕ) : Type 0 where
+  pub number : ℕ
+  pub spec : ChannelSpec
+  pub there : slot_at specs number ≡ Some spec
+  pub run : ℕ
+  pub undone : IsUndoneRun turns run
+  pub sub : ℕ
+  pub is : piece_name_by spec.pattern run sub ≡ name
+
+-- The name is that of a file of a channel that is told to have broken off, of one that broke off in a run that is not settled, or of a
+-- run whose start was undone.
+abbrev pub IsFaultName : List (Option Channel) → List MemberTurn → (name : List ℕ) → Type 0
+IsFaultName slots turns name =
+    IsBrokenName (specs_in slots) turns name ⊎ (IsBrokenOffName slots name ⊎ IsUndoneFile (specs_in slots) turns name)
+
+-- Where no fault was named at first, the file of the first fault is one of these.
+abbrev pub IsFaultKnown : List (Option Channel) → List MemberTurn → (first now : FilesTold) → Type 0
+IsFaultKnown slots turns first now =
+    first.first ≡ None → (name : List ℕ) → now.first ≡ Some name → IsFaultName slots turns name
+
+-- the channel with this number gives the name to its first file in the run
+pub record IsGivenBy (specs : List (Option ChannelSpec)) (number run : ℕ) (name : List ℕ) : Type 0 where
+  pub place : ℕ
+  pub spec : ChannelSpec
+  pub there : slot_at specs place ≡ Some spec
+  pub number_is : spec.number ≡ number
+  pub is : file_name_by spec.pattern run ≡ name
+
+-- The file of the first fault is the one that the channel with this number was to make in the run; or it is one of these turns: of a
+-- channel that is told to have broken off, or of a run whose start was undone.
+pub record IsFaultOf (specs : List (Option ChannelSpec)) (turns : List MemberTurn) (now : FilesTold) (run number : ℕ) : Type 0 where
+  pub name : List ℕ
+  pub named : now.first ≡ Some name
+  pub of : IsGivenBy specs number run name ⊎ (IsBrokenName specs turns name ⊎ IsUndoneFile specs turns name)
+
+-- Where no fault was named at first, and a start behind these turns was refused for a fault of a channel, the first fault was that of
+-- this channel, or it was there before.
+abbrev pub NamesFault : List (Option ChannelSpec) → (first now : FilesTold) → List MemberTurn → MemberTurn → Type 0
+NamesFault specs first now turns t = first.first ≡ None → (number : ℕ) → t.answer ≡ Some (No (Fault number)) →
+    IsFaultOf specs turns now t.order.run number
+
 -- A logger with these channels and these turns, whose run files were so at first, and are so now: where names are told, it left all
 -- names so but those of the runs that it has. A start that was refused, or called off, left nothing, unless a fault was counted that no
 -- answer tells; and it was refused for a name only where that was taken. And where no turn undid what was opened, the file of the first
--- fault is that of a channel that broke off.
+-- fault is that of a channel that broke off; it is that of the channel for which a start was refused, where no fault was there before.
 pub record KeepsNames (slots : List (Option Channel)) (first now : FilesTold) (turns : List MemberTurn) : Type 0 where
   pub told : now.seen.names ≡ first.seen.names
   pub names : IsTrue first.seen.names →
       NamesLeft (IsNameLeft (HasUntoldFault slots turns first now) (specs_in slots) turns first.seen) slots now.seen
   pub found : IsTrue first.seen.names → EachFindsNames (HasUntoldFault slots turns first now) (specs_in slots) first.seen turns
   pub first_fault : IsFaultTold slots turns first now
+  pub fault_known : IsFaultKnown slots turns first now
+  pub faults_named : EachBehind (NamesFault (specs_in slots) first now) turns
 
 -- A turn and a pull keep that.
 abbrev pub TurnsKeepNames : Type 0
