@@ -1,4 +1,4 @@
-ghost use Rattle.std.specs.Prelude.{◌≡◌, ◌≢◌, ◌≤◌, [], OnOk, IfOk, IfErr, Ok, Err};
+ghost use Rattle.std.specs.Prelude.{◌≡◌, ◌≢◌, ◌≤◌, [], OnOk, OnErr, IfOk, IfErr, IsSome, Ok, Err};
 ghost use Rattle.daq_types.specs.Callers.{main_caller};
 ghost use Rattle.daq_types.specs.declared.types.Tid.{Tid};
 ghost use Rattle.odb_value.specs.Items.{tid_of};
@@ -83,7 +83,8 @@ fn list_twice<D: Database>(
 
 /// A path that may be there once more.
 fn clone_path(alloc: Global, path: &Option<Path>) -> Result<Option<Path>, NoMemory>
-    ensures { IfOk result (λ copy. copy ≡ path.now) }
+    ensures copy { IfOk result (λ copy. copy ≡ path.now) }
+    ensures memory { OnErr result (IsSome path.now) }
 {
     match path {
         None => Ok(None),
@@ -103,6 +104,8 @@ fn path_twice<D: Database>(
     ensures path { IfOk result (λ paths. IsRowsReply (D.rows database.now)
         (PathOf row (Ok paths.0))) }
     ensures same { IfOk result (λ paths. paths.1 ≡ paths.0) }
+    ensures memory { IfErr result (λ memory. IsRowsReply (D.rows database.now)
+        (PathOf row (Err memory))) }
 {
     let path = database.path_of(alloc, row)?;
     let copy = clone_path(alloc, &path)?;

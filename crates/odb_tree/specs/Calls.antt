@@ -1,6 +1,6 @@
 -- The calls of the database: the reply of each, and the rows after it. First each at the path as it is, where no link is
 -- followed; then as they are, at the path after its links.
-use Rattle.std.specs.Prelude.{◌≡◌, ◌≢◌, ℕ, ◌-◌, ◌==◌, ◌||◌, Bool, true, false, not, nat_lt, if◌then◌else◌, List, [], ◌∷◌, ◌++◌, length, map, slice_index_or, Option, Some, None, Result, Ok, Err, IsErr}
+use Rattle.std.specs.Prelude.{◌≡◌, ◌≢◌, ℕ, ◌-◌, ◌==◌, ◌||◌, Bool, true, false, not, nat_lt, if◌then◌else◌, List, [], ◌∷◌, ◌++◌, length, map, slice_index_or, Option, Some, None, Result, Ok, Err, IsErr, IsSome}
 use Rattle.std.specs.Option.{option_or, option_map, is_some}
 use Rattle.daq_types.specs.declared.types.Tid.{Tid}
 use Rattle.daq_types.specs.declared.types.Tid.TheVariants as tid
@@ -250,9 +250,10 @@ GivesTaking early (Ok x) due = due ≡ Ok x
 GivesTaking true (Err refusal) due = refusal ≢ no_memory → due ≡ Err refusal
 GivesTaking false (Err refusal) due = Gives (Err refusal) due
 
+-- the path is this one, or none; memory is wanting only where there is one
 abbrev pub GivesPath : Result (Option (List (List ℕ))) NoMemory → Option (List (List ℕ)) → Type 0
 GivesPath (Ok path) is = is ≡ path
-GivesPath (Err _) is = Unit {0}
+GivesPath (Err _) is = IsSome is
 
 -- memory is taken early or not at all, and then the reply is the one that is due
 abbrev pub GivesIf : {X : Type 0} → (early : Bool) → Result X OdbRefusal → (due : Result X OdbRefusal) → Type 0

@@ -122,7 +122,8 @@ pub trait Database: Drop {
         ensures numbers { numbers.new ≡ numbers_along (rows self.now).rows [] path.now
             ++ drop result numbers.old };
 
-    /// The path of the row with this number, and of the root for 0; None exactly where there is none.
+    /// The path of the row with this number, and of the root for 0; None exactly where there is none. Takes memory only
+    /// where there is one.
     fn path_of(&self, alloc: Global, row: u32) -> Result<Option<Path>, NoMemory>
         ensures { IsRowsReply (rows self.now) (PathOf row result) };
 

@@ -1,6 +1,7 @@
 //! Laws of the walk through the database, over its definitions alone.
-ghost use Rattle.std.specs.Prelude.{◌≡◌, ◌≢◌, ℕ, Bool, Result, suc, None, IsOk, List, [], ◌∷◌, ◌++◌, map, true, false, ◌≤◌, length, Some, Ok, Err, IsPermutation};
+ghost use Rattle.std.specs.Prelude.{◌≡◌, ◌≢◌, ℕ, Bool, Result, suc, None, IsOk, IsSome, List, [], ◌∷◌, ◌++◌, map, true, false, ◌≤◌, length, Some, Ok, Err, IsPermutation};
 ghost use Rattle.daq_types.specs.declared.types.Tid.{Tid};
+ghost use Rattle.daq_types.specs.declared.memory.NoMemory.{NoMemory};
 ghost use Rattle.odb_value.specs.Items.{tid_of};
 ghost use Rattle.odb_value.specs.LinkValues.{is_link_type};
 ghost use Rattle.odb_value.specs.Paths.{is_front, depth_limit, IsPath};
@@ -8,13 +9,13 @@ ghost use Rattle.odb_tree.specs.declared.rows.Row.{Row};
 ghost use Rattle.odb_tree.specs.declared.children.Child.{Child};
 ghost use Rattle.odb_tree.specs.Trees.{IsTree, IsDir, with_rows};
 ghost use Rattle.odb_tree.specs.declared.entry.DatabaseEntry.{DatabaseEntry};
-ghost use Rattle.odb_tree.specs.declared.entry.DatabaseEntry.TheVariants.{Create, Set, SetAll, Get, Find, ListDir, Resize};
+ghost use Rattle.odb_tree.specs.declared.entry.DatabaseEntry.TheVariants.{Create, Set, SetAll, Get, Find, ListDir, Resize, PathOf};
 ghost use Rattle.odb_tree.specs.declared.rows.NewKey.{NewKey};
 ghost use Rattle.odb_tree.specs.Places.{AreInserted, made_for};
 ghost use Rattle.odb_tree.specs.declared.refusals.OdbRefusal.{OdbRefusal};
 ghost use Rattle.odb_tree.specs.declared.refusals.OdbRefusal.TheVariants.{NoMemory as no_memory};
 ghost use Rattle.odb_tree.specs.Links.{is_link, links_limit, lead, first_link, resolved, meets_link};
-ghost use Rattle.odb_tree.specs.Calls.{GivesTaking, makes_link, create_reply, set_reply, set_all_reply, resize_reply, get_reply, list_reply, put_reply, after_put, IsRowsReply, child_of, rows_after, after_delete, after_set, after_set_all, after_resize, after_create, new_value};
+ghost use Rattle.odb_tree.specs.Calls.{GivesTaking, makes_link, create_reply, set_reply, set_all_reply, resize_reply, get_reply, list_reply, path_with, put_reply, after_put, IsRowsReply, child_of, rows_after, after_delete, after_set, after_set_all, after_resize, after_create, new_value};
 ghost use Rattle.odb_tree.specs.Databases.{IsHeld, IsDatabase, IsSoundCall};
 ghost use Rattle.odb_tree.specs.Histories.{IsLegalRows, rows_replay};
 ghost use Rattle.odb_tree.specs.Rows.{Rows, no_rows, is_listed, keys_in, dirs_in, rows_outside, change_at, row_at};
@@ -184,6 +185,8 @@ pub fn memory_excuses_no_refusal()
         → IsRowsReply s (Get p (Err no_memory)) → IsOk (get_reply s p) }
     ensures list { (s : Rows) (p : List (List ℕ)) → meets_link s p true ≡ false
         → IsRowsReply s (ListDir p (Err no_memory)) → IsOk (list_reply s p) }
+    ensures path_of { (s : Rows) (row : ℕ) (why : NoMemory) → IsRowsReply s (PathOf row (Err why))
+        → IsSome (path_with s.rows row) }
 {}
 
 /// The walk through a database has its rows, each once, and so at most one row at a path.

@@ -21,3 +21,6 @@ returns-clause-get c = get_excused
 
 pub returns-clause-list : goal.returns-clause-list
 returns-clause-list c = list_excused
+
+pub returns-clause-path_of : goal.returns-clause-path_of
+returns-clause-path_of c = λ s row why reply. reply

@@ -10,4 +10,4 @@ invariant_of-self g c =
 
 pub invariant_of-self-in-Err : goal.invariant_of-self-in-Err
 invariant_of-self-in-Err g c =
-    noted_next _ _ c.args.caller (PathOf c.args.row (Err c.in-Err.memory)) c.self.invariant (λ e. absurd (false≢true e)) tt tt refl c.push_reserved-in-Err.ensures.items refl
+    noted_next _ _ c.args.caller (PathOf c.args.row (Err c.in-Err.memory)) c.self.invariant (λ e. absurd (false≢true e)) tt c.in-Err.ensures.memory refl c.push_reserved-in-Err.ensures.items refl
