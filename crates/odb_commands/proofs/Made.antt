@@ -1,15 +1,13 @@
 -- Calls that a command made, and where memory cut them short.
-use Rattle.std.proofs.Common.{◌≡◌, ◌≢◌, ℕ, ◌<◌, Bool, true, false, List, [], ◌∷◌, Option, Some, None, Result, Ok, Err, refl, ap, sym, subst, ◌∙◌, inl, inr}
-use Rattle.std.specs.Prelude.{IfOk, IsSome, IsTrue, OnErr, length, slice_get}
-use Rattle.std.proofs.lemmas.Bool.{false≢true, lt-ltb}
+use Rattle.std.proofs.Common.{◌≡◌, ◌≢◌, ℕ, Bool, true, false, List, [], ◌∷◌, Option, Some, None, Result, Ok, Err, refl, ap, sym, subst, ◌∙◌, inl, inr}
+use Rattle.std.specs.Prelude.{IfOk, IsOk, IsSome, IsTrue, OnErr, length, slice_get}
+use Rattle.std.proofs.lemmas.Bool.{false≢true}
 use Rattle.std.specs.Option.{unwrap_or}
 use Rattle.std.specs.Result.{IsErr}
 use Rattle.daq_types.specs.declared.memory.NoMemory.{NoMemory}
 use Rattle.odb_value.specs.declared.path_refusals.PathRefusal.{PathRefusal}
 use Rattle.odb_value.specs.PathText.{path_reply}
 use Rattle.odb_value.specs.declared.items.Item.{Item}
-use Rattle.odb_value.specs.declared.refusals.ItemRefusal.{ItemRefusal}
-use Rattle.odb_value.specs.ItemTexts.{item_read}
 use Rattle.odb_value.specs.Values.{HeldValue}
 use Rattle.odb_tree.specs.declared.children.Child.{Child}
 use Rattle.odb_tree.specs.declared.entry.DatabaseEntry.{DatabaseEntry}
@@ -22,10 +20,10 @@ use Rattle.odb_watch.specs.DatabasePorts.{DatabaseAccess, AddsCall, AddsCalls, I
 use Rattle.odb_script.specs.declared.commands.RowCommand.{RowCommand}
 use Rattle.odb_script.specs.declared.commands.RowCommand.TheVariants as command
 use Rattle.odb_commands.specs.declared.replies.CommandRefusal.{CommandRefusal}
-use Rattle.odb_commands.specs.declared.replies.CommandRefusal.TheVariants.{Path, Protected, Item as BadItem, Database}
+use Rattle.odb_commands.specs.declared.replies.CommandRefusal.TheVariants.{Path, Protected, Database}
 use Rattle.odb_commands.specs.declared.replies.CommandReply.{CommandReply}
 use Rattle.odb_commands.specs.declared.replies.CommandReply.TheVariants.{Key, One, Refused}
-use Rattle.odb_commands.specs.Answers.{done_or, item_for, item_or, is_protected, listed_or, one_or}
+use Rattle.odb_commands.specs.Answers.{done_or, item_for, is_protected, listed_or, one_or}
 use Rattle.odb_commands.specs.CommandCalls.{Answers, AtPath, CreatesKey, CutsAnswer, EndsCommand, Gets, GetsIn, LinksTo, Lists, Names, NamesFound, Performs, RemovesIf, RemovesKey, reply_takes_memory, SaysAtOnce, Sets, SetsIn, SetsItem, Shows}
 
 -- A call that is refused only by what it finds is settled.
@@ -141,22 +139,28 @@ remove_cut_if false p = (remove_if false p, λ h. absurd (cc))
 pub cut_remove : (p : List (List ℕ)) → Some_cut (RemovesKey p)
 cut_remove p = remove_cut_if (is_protected p) p
 
-pub cut_at_path : (read : Result (List (List ℕ)) PathRefusal) (Then : List (List ℕ) → List DatabaseEntry → CommandReply → Type 0) → ((p : List (List ℕ)) → Some_cut (Then p)) → Some_cut (AtPath read Then)
-cut_at_path (Err why) Then each = (([], Refused (Path why), (refl, refl)), λ h. refl)
-cut_at_path (Ok p) Then each = each p
+-- a text that is no path was told so
+pub cut_at_path : (read : Result (List (List ℕ)) PathRefusal) (Then : List (List ℕ) → List DatabaseEntry → CommandReply → Type 0) → IsOk read → ((p : List (List ℕ)) → Some_cut (Then p)) → Some_cut (AtPath read Then)
+cut_at_path (Err why) Then path each = absurd (false≢true path)
+cut_at_path (Ok p) Then path each = each p
 
-pub cut_link : (target : List ℕ) (p : List (List ℕ)) → Some_cut (LinksTo target p)
-cut_link target p = cut_at_path (path_reply target) (λ t. CreatesKey (Link t) p) (λ t. cut_create (Link t) p)
+pub cut_link : (target : List ℕ) (p : List (List ℕ)) → IsOk (path_reply target) → Some_cut (LinksTo target p)
+cut_link target p path = cut_at_path (path_reply target) (λ t. CreatesKey (Link t) p) path (λ t. cut_create (Link t) p)
 
-item_cut_by : (p : List (List ℕ)) (index : ℕ) (read : Result Item ItemRefusal) → Some_cut (SetsItem p index (item_or read))
-item_cut_by p index (Err why) = (some_item p index (Err (BadItem why)), λ h. refl)
-item_cut_by p index (Ok item) = (some_item p index (Ok item), λ h. absurd (cc))
+-- and so was one that is no item
+pub cut_set_in : (p : List (List ℕ)) (index : ℕ) (text : List ℕ) (v : HeldValue) → IsOk (item_for v index text) → Some_cut (SetsIn p index text (Ok v))
+cut_set_in p index text v spelled = by_item (item_for v index text) spelled
+  where
+    by_item : (item : Result Item CommandRefusal) → IsOk item → Some_cut (SetsItem p index item)
+    by_item (Err why) is = absurd (false≢true is)
+    by_item (Ok item) is = (some_item p index (Ok item), λ h. absurd (cc))
 
-read_within : (v : HeldValue) (index : ℕ) (text : List ℕ) → index < length v.items → item_for v index text ≡ item_or (item_read v.tid text)
-read_within v index text within = rw (lt-ltb index (length v.items) within) refl
-
-pub cut_set_in : (p : List (List ℕ)) (index : ℕ) (text : List ℕ) (v : HeldValue) → index < length v.items → Some_cut (SetsIn p index text (Ok v))
-cut_set_in p index text v within = subst (λ (item : Result Item CommandRefusal). Some_cut (SetsItem p index item)) (sym (read_within v index text within)) (item_cut_by p index (item_read v.tid text))
+-- there was no memory for the path of a link, whose target is none
+pub target_refused : (a : DatabaseAccess) (read : Result (List (List ℕ)) PathRefusal) (target : List ℕ) (why : PathRefusal) (reply : CommandReply) → IsOk read → path_reply target ≡ Err why → reply ≡ Refused (Path why)
+    → Answers a a (AtPath read (LinksTo target)) reply
+target_refused a (Err bad) target why reply path none is = absurd (false≢true path)
+target_refused a (Ok p) target why reply path none is =
+    record { calls = []; made = refl; does = subst (λ (goes : Result (List (List ℕ)) PathRefusal). AtPath goes (λ t. CreatesKey (Link t) p) [] reply) (sym none) (refl, is) }
 
 one_cut : (p : List (List ℕ)) (len : ℕ) (item : Option Item) → IsSome item → Some_cut (SaysAtOnce (one_or len item))
 one_cut p len None some = absurd (false≢true some)

@@ -1,6 +1,6 @@
 -- Calls that a command for watches made, and where memory cut them short.
 use Rattle.std.proofs.Common.{◌≡◌, ◌≢◌, ℕ, zero, suc, ◌+◌, ◌<◌, List, [], ◌∷◌, ◌++◌, length, map, take, drop, get_or, Option, None, Result, Ok, Err, refl, ap, sym, subst, ◌∙◌, inl, inr, arith}
-use Rattle.std.specs.Prelude.{IsTrue}
+use Rattle.std.specs.Prelude.{IsOk, IsTrue}
 use Rattle.std.specs.Result.{IsErr}
 use Rattle.std.proofs.lemmas.Bool.{false≢true}
 use Rattle.daq_types.specs.declared.memory.NoMemory.{NoMemory}
@@ -115,9 +115,10 @@ abbrev pub some_on_path : (read : Result (List (List ℕ)) PathRefusal) → Some
 some_on_path (Err why) = ([], refused_for (Path why), (refl, refl))
 some_on_path (Ok p) = some_watch p
 
-pub cut_on_path : (read : Result (List (List ℕ)) PathRefusal) → Some_cut (OnPath read WatchesPath)
-cut_on_path (Err why) = (some_on_path (Err why), λ h. refl)
-cut_on_path (Ok p) = (some_watch p, λ h. absurd (cc))
+-- a text that is no path was told so
+pub cut_on_path : (read : Result (List (List ℕ)) PathRefusal) → IsOk read → Some_cut (OnPath read WatchesPath)
+cut_on_path (Err why) path = absurd (false≢true path)
+cut_on_path (Ok p) path = (some_watch p, λ h. absurd (cc))
 
 -- `notes`.
 

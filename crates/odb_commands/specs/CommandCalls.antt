@@ -102,13 +102,13 @@ pub record Answers (a b : DatabaseAccess) (Does : List DatabaseEntry → Command
   pub made : AddsCalls a b calls
   pub does : Does calls reply
 
--- whether a reply takes memory behind the last call of its command: a path or the value of the line is read for it, or an
--- item is copied
+-- Whether a reply takes memory behind the last call of its command: the path of a line is made before it is known to be
+-- protected, or an item is copied. What is wrong with a text of the line is told without memory.
 
 abbrev pub refusal_takes_memory : CommandRefusal → Bool
-refusal_takes_memory (Path why) = true
+refusal_takes_memory (Path why) = false
 refusal_takes_memory Protected = true
-refusal_takes_memory (BadItem why) = true
+refusal_takes_memory (BadItem why) = false
 refusal_takes_memory (Database why) = false
 
 abbrev pub reply_takes_memory : CommandReply → Bool

@@ -127,11 +127,9 @@ BreaksOffCalls calls [] = Unit {0}
 BreaksOffCalls [] (e ∷ made) = ⊥
 BreaksOffCalls (c ∷ calls) (e ∷ made) = ((e ≡ c) × BreaksOffCalls calls made) ⊎ ((e ≡ without_memory c) × (made ≡ []))
 
--- whether a reply takes memory behind the last call of its command: the path of the line is read for it, or a file that has
--- too many bytes
+-- whether a reply takes memory behind the last call of its command: a file is read that has too many bytes
 
 abbrev pub watch_refusal_takes_memory : WatchCommandRefusal → Bool
-watch_refusal_takes_memory (Path why) = true
 watch_refusal_takes_memory TooLong = true
 watch_refusal_takes_memory _ = false
 

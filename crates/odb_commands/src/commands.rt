@@ -11,7 +11,7 @@ use crate::replies::{CommandRefusal, CommandReply};
 use daq_types::NoMemory;
 use odb_script::RowCommand;
 use odb_tree::{Children, NewKey, OdbRefusal};
-use odb_value::{Item, Path, PathRefusal, Value};
+use odb_value::{Item, Path, PathRefusal, Value, path_fault};
 use odb_watch::DatabasePort;
 use odb_watch::port_laws::calls_add_up;
 use std::alloc::Global;
@@ -105,7 +105,8 @@ fn link_at<R: Wait, P: DatabasePort>(
     }
 }
 
-/// The command `link`: makes a link at the path of the one text to the path of the other.
+/// The command `link`: makes a link at the path of the one text to the path of the other. Where there is no memory for the
+/// one, what is wrong with the other is told all the same.
 fn link<R: Wait, P: DatabasePort>(
     rt: &R,
     alloc: Global,
@@ -117,9 +118,13 @@ fn link<R: Wait, P: DatabasePort>(
     ensures { EndsCommand (P.access port.old) (P.access port.new)
         (AtPath (path_reply path.now) (LinksTo target.now)) result }
 {
-    match read_path(alloc, path)? {
-        Err(why) => Ok(no_path(why)),
-        Ok(path) => link_at(rt, alloc, port, path, target),
+    match read_path(alloc, path) {
+        Err(wanting) => match path_fault(target) {
+            Some(why) => Ok(no_path(why)),
+            None => Err(wanting),
+        },
+        Ok(Err(why)) => Ok(no_path(why)),
+        Ok(Ok(path)) => link_at(rt, alloc, port, path, target),
     }
 }
 

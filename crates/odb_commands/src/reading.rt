@@ -1,4 +1,4 @@
-ghost use Rattle.std.specs.Prelude.{◌≡◌, ◌<◌, Err, IfOk, IsSome, OnErr, codes, length, slice_get};
+ghost use Rattle.std.specs.Prelude.{◌≡◌, Err, IfOk, IsOk, IsSome, OnErr, codes, length, slice_get};
 ghost use Rattle.odb_value.specs.Paths.{same_name};
 ghost use Rattle.odb_value.specs.PathText.{path_reply};
 ghost use Rattle.odb_tree.specs.declared.refusals.OdbRefusal.TheVariants.{NoMemory as no_memory};
@@ -24,9 +24,10 @@ pub fn settled<T: Drop>(reply: Result<T, OdbRefusal>) -> Result<Result<T, OdbRef
     }
 }
 
-/// The path of a text, or why it is none.
+/// The path of a text, or why it is none. Memory is wanting only where it is one.
 pub fn read_path(alloc: Global, text: &[u8]) -> Result<Result<Path, PathRefusal>, NoMemory>
-    ensures { IfOk result (λ path. path ≡ path_reply text.now) }
+    ensures path { IfOk result (λ path. path ≡ path_reply text.now) }
+    ensures memory { OnErr result (IsOk (path_reply text.now)) }
 {
     match Path::read(alloc, text) {
         Ok(path) => Ok(Ok(path)),
@@ -35,7 +36,8 @@ pub fn read_path(alloc: Global, text: &[u8]) -> Result<Result<Path, PathRefusal>
     }
 }
 
-/// The item that a text gives a key with this value, at this index, or why it gives none.
+/// The item that a text gives a key with this value, at this index, or why it gives none. Memory is wanting only where it
+/// gives one.
 pub(crate) fn item_for(
     alloc: Global,
     value: &Value,
@@ -43,7 +45,7 @@ pub(crate) fn item_for(
     text: &[u8],
 ) -> Result<Result<Item, CommandRefusal>, NoMemory>
     ensures item { IfOk result (λ item. item ≡ item_for value.now index text.now) }
-    ensures memory { OnErr result (index < length value.now.items) }
+    ensures memory { OnErr result (IsOk (item_for value.now index text.now)) }
 {
     let len = value.items().len();
     if index as usize >= len {

@@ -4,4 +4,4 @@ use Rattle.odb_commands.proofs.Made.{ends_cut, not_begun, cut_at_path, cut_creat
 use Rattle.odb_commands.proofs.commands.create.Goals as goal
 
 pub returns-in_err-why : goal.returns-in_err-why
-returns-in_err-why g c = ends_cut _ _ _ _ c.from_residual.ensures.0 (not_begun _ _ (cut_at_path (path_reply c.args.path.now) (CreatesKey c.args.kind) (cut_create c.args.kind)))
+returns-in_err-why g c = ends_cut _ _ _ _ c.from_residual.ensures.0 (not_begun _ _ (cut_at_path (path_reply c.args.path.now) (CreatesKey c.args.kind) c.in_err-why.ensures.memory (cut_create c.args.kind)))

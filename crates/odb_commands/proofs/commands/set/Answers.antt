@@ -4,4 +4,4 @@ use Rattle.odb_commands.proofs.Made.{ends_cut, not_begun, cut_at_path, cut_set}
 use Rattle.odb_commands.proofs.commands.set.Goals as goal
 
 pub returns-in_err-why : goal.returns-in_err-why
-returns-in_err-why g c = ends_cut _ _ _ _ c.from_residual.ensures.0 (not_begun _ _ (cut_at_path (path_reply c.args.path.now) (Sets c.args.index c.args.text.now) (cut_set c.args.index c.args.text.now)))
+returns-in_err-why g c = ends_cut _ _ _ _ c.from_residual.ensures.0 (not_begun _ _ (cut_at_path (path_reply c.args.path.now) (Sets c.args.index c.args.text.now) c.in_err-why.ensures.memory (cut_set c.args.index c.args.text.now)))
