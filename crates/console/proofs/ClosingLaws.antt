@@ -7,7 +7,7 @@ use Rattle.std.proofs.Math.Logic.{⊎_elim}
 use Rattle.std.proofs.lemmas.Bool.{cases_lt}
 use Rattle.std.specs.Io.KnownBytes.{Appends, Keeps}
 use Rattle.daq_io.specs.Counts.{Rose}
-use Rattle.daq_io.specs.Streams.{AppendsPart}
+use Rattle.daq_io.specs.Streams.{AppendsPart, LeavesOver}
 use Rattle.daq_io.specs.Told.{SourceTold}
 use Rattle.daq_io.proofs.StreamsLaws.{Appends-nil, Appends-trans, Appends-kept}
 use Rattle.odb_script.specs.declared.commands.Command.{Command}
@@ -61,7 +61,7 @@ all_but first now replies w =
 more_part : (closing : Option Halt) (first told now : Option (List ℕ)) (text : List ℕ) (behind : List Reply) → Appends first told text → WroteMore closing told now behind → AppendsPart first now (text ++ console_text 0 behind)
 more_part None first told now text behind before here =
     wrote_whole first now (text ++ console_text 0 behind) (Appends-trans first told now text (console_text 0 behind) before here)
-more_part (Some SinkFault) first told now text behind before here = part_behind first told now text (console_text 0 behind) before here
+more_part (Some SinkFault) first told now text behind before here = part_behind first told now text (console_text 0 behind) before here.0
 more_part (Some NoMemory) first told now text behind before here = part_longer first now text (console_text 0 behind) (wrote_whole first now text (Appends-kept first told now text before here))
 
 pub text_part : (ending : Ending) (closing : Option Halt) (first told now : Option (List ℕ)) (replies behind : List Reply) → Wrote ending first told replies → WroteBehind ending closing told now behind
@@ -109,16 +109,16 @@ text_whole (Halted SinkFault) closing first told now replies behind s t u may me
 
 -- The ways to close.
 
-nothing_more : (closing : Option Halt) (told : Option (List ℕ)) → WroteMore closing told told []
-nothing_more None told = Appends-nil told
-nothing_more (Some SinkFault) told = record { count = 0; appends = Appends-nil told }
-nothing_more (Some NoMemory) told = keeps_same told
+nothing_more : (closing : Option Halt) (told : Option (List ℕ)) → closing ≢ Some SinkFault → WroteMore closing told told []
+nothing_more None told other = Appends-nil told
+nothing_more (Some SinkFault) told other = absurd (other refl)
+nothing_more (Some NoMemory) told other = keeps_same told
 
-pub nothing_behind : (ending : Ending) (closing : Option Halt) (told : Option (List ℕ)) → WroteBehind ending closing told told []
-nothing_behind End closing told = nothing_more closing told
-nothing_behind TooLong closing told = nothing_more closing told
-nothing_behind SourceFault closing told = nothing_more closing told
-nothing_behind (Halted halt) closing told = keeps_same told
+pub nothing_behind : (ending : Ending) (closing : Option Halt) (told : Option (List ℕ)) → closing ≢ Some SinkFault → WroteBehind ending closing told told []
+nothing_behind End closing told other = nothing_more closing told other
+nothing_behind TooLong closing told other = nothing_more closing told other
+nothing_behind SourceFault closing told other = nothing_more closing told other
+nothing_behind (Halted halt) closing told other = keeps_same told
 
 -- nothing, as nothing more may be printed;
 pub silent_behind : (ending : Ending) (told : Option (List ℕ)) (reply : Reply) → prints ending ≡ false → WroteBehind ending None told told (reply ∷ [])
@@ -140,7 +140,9 @@ printed_behind ending told_old told_new reply printing here =
 
 cut_more : (halt : Halt) (told_old told_new : Option (List ℕ)) (reply : Reply) → Prints told_old told_new (text_of 0 reply) (Err halt) → WroteMore (Some halt) told_old told_new (reply ∷ [])
 cut_more NoMemory told_old told_new reply here = here
-cut_more SinkFault told_old told_new reply here = subst (AppendsPart told_old told_new) (sym (append-nil (text_of 0 reply))) here
+cut_more SinkFault told_old told_new reply here =
+    let all : text_of 0 reply ≡ console_text 0 (reply ∷ []) = sym (append-nil (text_of 0 reply)) in
+    (subst (AppendsPart told_old told_new) all here.0, subst (LeavesOver told_old told_new) all here.1)
 
 pub cut_behind : (ending : Ending) (halt : Halt) (told_old told_new : Option (List ℕ)) (reply : Reply) → prints ending ≡ true → Prints told_old told_new (text_of 0 reply) (Err halt) → WroteBehind ending (Some halt) told_old told_new (reply ∷ [])
 cut_behind ending halt told_old told_new reply printing here = behind_by ending (Some halt) told_old told_new (reply ∷ []) printing (cut_more halt told_old told_new reply here)

@@ -3,7 +3,7 @@ use Rattle.std.proofs.Common.{◌≡◌, ℕ, ◌+◌, Bool, true, false, List, 
 use Rattle.std.specs.Prelude.{Result, Ok, Err, ◌⊎◌}
 use Rattle.std.proofs.Math.Logic.{⊎_elim}
 use Rattle.std.specs.Io.KnownBytes.{Appends, Keeps}
-use Rattle.daq_io.specs.Streams.{AppendsPart}
+use Rattle.daq_io.specs.Streams.{AppendsPart, LeavesOver}
 use Rattle.daq_io.specs.Told.{SourceTold}
 use Rattle.daq_io.proofs.StreamsLaws.{Appends-kept}
 use Rattle.odb_script.specs.declared.commands.Command.{Command}
@@ -268,6 +268,8 @@ module _ {St : Type 0} (does : ℕ → Read Command → St → Reply → St → 
         whole = between.wrote;
         part = let behind : place ≡ 1 + length between.replies = omega (arith, is, between.is_number, between.numbered) in
             subst (λ (n : ℕ). AppendsPart told_old told_new (text_of n line_does.0)) behind line_does.2;
+        short = let behind : place ≡ 1 + length between.replies = omega (arith, is, between.is_number, between.numbered) in
+            subst (λ (n : ℕ). LeavesOver told_old told_new (text_of n line_does.0)) behind line_does.3;
       })
   halted_played leaves NoMemory last first source_first source_old left told_first told_old told_new reading_old reading_new old new was now number place line is between reads line_does = ⊎_elim
       (λ answered. behind_played (Halted NoMemory) first source_first source_old left told_first told_old told_new reading_old old new was now number place line answered.0 is between answered.1
@@ -314,7 +316,7 @@ module _ {St : Type 0} (does : ℕ → Read Command → St → Reply → St → 
       → DoesLine does breaks leaves reading.line (number + 1) last old new told_old told_new was now (Err halt) → Played does breaks first (Halted halt) source_first left told_first told_new new now
   halted_at leaves SinkFault last first source_first left told_first told_old told_new reading old new was now number has line_does =
       halted_played leaves SinkFault last first source_first has.source_old left told_first told_old told_new has.reading_old reading has.stood new was now number (number + 1) has.line refl has.between has.next
-      (line_does.0, stood_replied first source_first left told_first told_old reading last old new was now number line_does.0 has line_does.1, line_does.2)
+      (line_does.0, stood_replied first source_first left told_first told_old reading last old new was now number line_does.0 has line_does.1, line_does.2, line_does.3)
   halted_at leaves NoMemory last first source_first left told_first told_old told_new reading old new was now number has line_does =
       halted_played leaves NoMemory last first source_first has.source_old left told_first told_old told_new has.reading_old reading has.stood new was now number (number + 1) has.line refl has.between has.next
       (⊎_elim

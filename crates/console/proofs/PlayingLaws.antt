@@ -95,7 +95,7 @@ between_more does first source_first source_old source_new told_first told_old t
 -- a line was answered, and its text was not printed whole
 pub halts_line : {St : Type 0} (does : ℕ → Read Command → St → Reply → St → Type 0) (breaks : ℕ → Read Command → St → St → Type 0) (leaves : Read Command → Bool) (line : List ℕ) (number : ℕ) (last : Bool) (old new : St) (told_old told_new : Option (List ℕ)) (was now : Refusals) (reply : Reply) (halt : Halt)
     → Replied does line number reply old new was now → Prints told_old told_new (text_of number reply) (Err halt) → DoesLine does breaks leaves line number last old new told_old told_new was now (Err halt)
-halts_line does breaks leaves line number last old new told_old told_new was now reply SinkFault replied prints = (reply, replied, prints)
+halts_line does breaks leaves line number last old new told_old told_new was now reply SinkFault replied prints = (reply, replied, prints.0, prints.1)
 halts_line does breaks leaves line number last old new told_old told_new was now reply NoMemory replied prints = inl (reply, replied, prints)
 
 -- a line was answered, and its text was

@@ -1,7 +1,7 @@
 -- How a script is closed behind its last line, and how it ended with that.
 use Rattle.std.specs.Prelude.{◌≡◌, ℕ, Bool, true, false, List, [], ◌∷◌, ◌++◌, length, Option, Some, None, ⊤, ◌⊎◌}
 use Rattle.std.specs.Io.KnownBytes.{Appends, Keeps}
-use Rattle.daq_io.specs.Streams.{AppendsPart}
+use Rattle.daq_io.specs.Streams.{AppendsPart, LeavesOver}
 use Rattle.daq_io.specs.Told.{SourceTold}
 use Rattle.odb_script.specs.declared.commands.Command.{Command}
 use Rattle.odb_script.specs.Forms.{Read}
@@ -68,10 +68,11 @@ reply_list (Some reply) = reply ∷ []
 abbrev pub script_text : (replies behind : List Reply) → List ℕ
 script_text replies behind = console_text 1 replies ++ console_text 0 behind
 
--- What was written behind the lines: all; a first part where the sink failed; and nothing where there was no memory.
+-- What was written behind the lines: all; a first part, and not all, where the sink failed; and nothing where there was no memory.
 abbrev pub WroteMore : (closing : Option Halt) → (told_lines told_now : Option (List ℕ)) → (behind : List Reply) → Type 0
 WroteMore None told_lines told_now behind = Appends told_lines told_now (console_text 0 behind)
-WroteMore (Some SinkFault) told_lines told_now behind = AppendsPart told_lines told_now (console_text 0 behind)
+WroteMore (Some SinkFault) told_lines told_now behind =
+    AppendsPart told_lines told_now (console_text 0 behind) × LeavesOver told_lines told_now (console_text 0 behind)
 WroteMore (Some NoMemory) told_lines told_now behind = Keeps told_lines told_now
 
 -- Nothing at all is written behind lines that ended for want of memory or at a fault of the sink.

@@ -2,7 +2,7 @@
 -- as where it stands between two lines; what a line does to that is said by what answers.
 use Rattle.std.specs.Prelude.{◌≡◌, ℕ, ◌+◌, ◌<◌, ◌≤◌, Bool, true, false, List, [], ◌∷◌, ◌++◌, length, take, Option, Some, None, Result, Ok, Err, ◌⊎◌, ⊤}
 use Rattle.std.specs.Io.KnownBytes.{Appends, Keeps}
-use Rattle.daq_io.specs.Streams.{AppendsPart}
+use Rattle.daq_io.specs.Streams.{AppendsPart, LeavesOver}
 use Rattle.daq_io.specs.Told.{SourceTold}
 use Rattle.odb_script.specs.declared.commands.Command.{Command}
 use Rattle.odb_script.specs.Forms.{Read, command_of}
@@ -37,10 +37,10 @@ number_behind going.On number = number + 1
 number_behind going.End number = number + 1
 number_behind going.Opens number = number
 
--- a text was written; or a part of it, where the sink failed; or nothing, for want of memory
+-- a text was written; or a part of it and not all, where the sink failed; or nothing, for want of memory
 abbrev pub Prints : (told_old told_new : Option (List ℕ)) → List ℕ → Result (Unit {0}) Halt → Type 0
 Prints told_old told_new text (Ok done) = Appends told_old told_new text
-Prints told_old told_new text (Err SinkFault) = AppendsPart told_old told_new text
+Prints told_old told_new text (Err SinkFault) = AppendsPart told_old told_new text × LeavesOver told_old told_new text
 Prints told_old told_new text (Err NoMemory) = Keeps told_old told_new
 
 -- The line is left to another, and nothing happened.
@@ -119,7 +119,7 @@ pub record IsNext (source left : SourceTold) (lines : List (List ℕ)) (line : L
   pub gave : left.gave ≡ source.gave ++ came
   pub of_came : AreFirst came (lines ++ line ∷ [])
 
--- The replies but for the last were written whole, and of the last a first part.
+-- The replies but for the last were written whole, and of the last a first part, and not all of it.
 pub record WroteUpTo (told_first told_now : Option (List ℕ)) (replies : List Reply) : Type 0 where
   pub before : List Reply
   pub last : Reply
@@ -127,6 +127,7 @@ pub record WroteUpTo (told_first told_now : Option (List ℕ)) (replies : List R
   pub told : Option (List ℕ)
   pub whole : Appends told_first told (console_text 1 before)
   pub part : AppendsPart told told_now (text_of (1 + length before) last)
+  pub short : LeavesOver told told_now (text_of (1 + length before) last)
 
 -- The replies but for the last were written whole, and nothing of the last.
 pub record WroteBut (told_first told_now : Option (List ℕ)) (replies : List Reply) : Type 0 where
@@ -169,7 +170,8 @@ module _ {St : Type 0} (does : (number : ℕ) → Read Command → St → Reply 
   DoesLine leaves line number last old new told_old told_new was now (Ok going.On) = (reply : Reply) × Replied does line number reply old new was now × Appends told_old told_new (text_of number reply) × GoesBehind going.On last (command_of line)
   DoesLine leaves line number last old new told_old told_new was now (Ok going.End) = (reply : Reply) × Replied does line number reply old new was now × Appends told_old told_new (text_of number reply) × GoesBehind going.End last (command_of line)
   DoesLine leaves line number last old new told_old told_new was now (Ok going.Opens) = LeavesLine leaves line old new told_old told_new was now
-  DoesLine leaves line number last old new told_old told_new was now (Err SinkFault) = (reply : Reply) × Replied does line number reply old new was now × AppendsPart told_old told_new (text_of number reply)
+  DoesLine leaves line number last old new told_old told_new was now (Err SinkFault) =
+      (reply : Reply) × Replied does line number reply old new was now × AppendsPart told_old told_new (text_of number reply) × LeavesOver told_old told_new (text_of number reply)
   DoesLine leaves line number last old new told_old told_new was now (Err NoMemory) =
       ((reply : Reply) × Replied does line number reply old new was now × Keeps told_old told_new) ⊎ Unanswered line number old new told_old told_new was now
 

@@ -7,13 +7,13 @@ use Rattle.console.proofs.closing.close_lines.Goals as goal
 pub returns-in-Err-clause-finishes : goal.returns-in-Err-clause-finishes
 returns-in-Err-clause-finishes g c = λ first source left told_first played.
     finished _ _ _ _ first c.args.ending (Some NoMemory) source left told_first _ _ _ _ _ [] played
-    (inr (record { closing_is = refl; gave_up = c.in-Err.ensures.gave_up; is = refl })) (nothing_behind c.args.ending (Some NoMemory) _)
+    (inr (record { closing_is = refl; gave_up = c.in-Err.ensures.gave_up; is = refl })) (nothing_behind c.args.ending (Some NoMemory) _ (λ fails. cc (fails)))
 
 pub returns-in-Ok-None-clause-finishes : goal.returns-in-Ok-None-clause-finishes
 returns-in-Ok-None-clause-finishes g c = λ first source left told_first played.
     let none : c.in-Ok-None.field-0 ≡ None = c.in-Ok-None.field-0-is in
     finished _ _ _ _ first c.args.ending None source left told_first _ _ _ _ _ [] played
-    (inl (record { reply = c.in-Ok-None.field-0; closed = c.in-Ok-None.ensures.closed; is = sym (ap reply_list none) })) (nothing_behind c.args.ending None _)
+    (inl (record { reply = c.in-Ok-None.field-0; closed = c.in-Ok-None.ensures.closed; is = sym (ap reply_list none) })) (nothing_behind c.args.ending None _ (λ fails. cc (fails)))
 
 pub returns-then-not-prints-clause-finishes : goal.returns-then-not-prints-clause-finishes
 returns-then-not-prints-clause-finishes g c = λ first source left told_first played.

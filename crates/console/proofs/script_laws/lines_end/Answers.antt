@@ -10,4 +10,4 @@ returns-clause-broken g c = broken_at g.A.Answerer.does g.A.Answerer.breaks
 pub returns-clause-quiet : goal.returns-clause-quiet
 returns-clause-quiet g c = λ first now later ending source left told_first told refusals played closed.
     finished g.A.Answerer.does g.A.Answerer.breaks g.A.Answerer.closes g.A.Answerer.gives_up first ending None source left told_first told told now later refusals [] played
-    (inl (record { reply = None; closed = closed; is = refl })) (nothing_behind ending None told)
+    (inl (record { reply = None; closed = closed; is = refl })) (nothing_behind ending None told (λ fails. cc (fails)))
