@@ -1,6 +1,6 @@
 -- How the counting of a run goes on with one call more.
-use Rattle.std.specs.Prelude.{◌≡◌, ℕ, ◌==◌, Some, Bool, true, false, if◌then◌else◌, List, [], ◌∷◌, ◌++◌, map, Result, Ok, refl, ⊤}
-use Rattle.std.proofs.Common.{ap, sym, subst, ◌∙◌, inl, inr, append_assoc, ne_eqb, eq-eqb}
+use Rattle.std.specs.Prelude.{◌≡◌, ℕ, ◌+◌, ◌==◌, Some, Bool, true, false, if◌then◌else◌, List, [], ◌∷◌, ◌++◌, map, Result, Ok, refl, ⊤}
+use Rattle.std.proofs.Common.{ap, sym, subst, ◌∙◌, inl, inr, arith, append_assoc, ne_eqb, eq-eqb}
 use Rattle.std.proofs.lemmas.Bool.Decides.{eqb_tells}
 use Rattle.std.proofs.lemmas.List.{append-nil}
 use Rattle.daq_types.specs.declared.events.Event.{Event}
@@ -18,7 +18,7 @@ use Rattle.analyzers.specs.declared.analyzer_run.AnalyzerRun.{AnalyzerRun}
 use Rattle.analyzers.specs.AnalyzerPulls.{CountsOwn, CountsReply}
 use Rattle.member_model.specs.GotRuns.{events_of_start}
 use Rattle.member_model.proofs.GotRunLaws.{events_of_start-append}
-use Rattle.analyzers.specs.CountedRuns.{CountRequest, IsCounted, IsWhollyCounted, requests_made}
+use Rattle.analyzers.specs.CountedRuns.{CountRequest, IsCounted, IsWhollyCounted, requests_made, accepts_made}
 use Rattle.analyzers.specs.AnalyzerKept.{AsksForNone, count_request}
 use Rattle.analyzers.proofs.OwnCallSteps.{none_left, calls_after-append, given_by_reply}
 
@@ -40,9 +40,9 @@ one_event client start place s e b is = elim (eqb_tells client client) as (λ w.
 
 -- a request that is made when the client has none
 pub count_made : (own : List BufferEntry) (got : List GotEvent) (wanted : EventRequest) (client number start : ℕ) → AsksForNone (Some client) own
-    → IsCounted (own ++ Request client wanted.id wanted.mask wanted.kind (Ok number) ∷ []) got (count_request wanted client number start (requests_made own)) [] []
+    → IsCounted (own ++ Request client wanted.id wanted.mask wanted.kind (Ok number) ∷ []) got (count_request wanted client number start (requests_made own) (accepts_made own)) [] []
 count_made own got wanted client number start alone = record {
-  asked = record { before = own; whole = refl; alone = alone; requests = refl };
+  asked = record { before = own; whole = refl; alone = alone; requests = refl; accepts = refl };
   asks_on = tt;
   earlier = got;
   given = [];
@@ -61,6 +61,7 @@ count_push own got q calls events e gs counted leaves named = record {
         ∙ append_assoc counted.asked.before (Request q.client q.wanted.id q.wanted.mask q.wanted.kind (Ok q.number) ∷ calls) (e ∷ []);
     alone = counted.asked.alone;
     requests = counted.asked.requests;
+    accepts = counted.asked.accepts;
   };
   asks_on = KeepsAsking-push q.client calls e counted.asks_on leaves;
   earlier = counted.earlier;
@@ -69,6 +70,17 @@ count_push own got q calls events e gs counted leaves named = record {
   gives = AreGivenBy-push calls counted.given e gs counted.gives named;
   events_are = ap (λ (l : List Event). l ++ events_of_start q.client q.start gs) counted.events_are ∙ sym (events_of_start-append q.client q.start counted.given gs);
 }
+
+-- how often it was asked how many events were taken, up to a call since the request
+accepts_append : (xs ys : List BufferEntry) → accepts_made (xs ++ ys) ≡ accepts_made xs + accepts_made ys
+accepts_append [] ys = omega arith
+accepts_append (x ∷ xs) ys = omega (arith, accepts_append xs ys)
+
+pub accepts_asked : (own : List BufferEntry) (got : List GotEvent) (q : CountRequest) (calls : List BufferEntry) (events : List Event) → IsCounted own got q calls events → accepts_made own ≡ q.asked + accepts_made calls
+accepts_asked own got q calls events counted =
+    let request : BufferEntry = Request q.client q.wanted.id q.wanted.mask q.wanted.kind (Ok q.number) in
+    let whole : accepts_made own ≡ accepts_made (counted.asked.before ++ request ∷ calls) = ap (λ (es : List BufferEntry). accepts_made es) counted.asked.whole in
+    omega (arith, whole, accepts_append counted.asked.before (request ∷ calls), counted.asked.accepts)
 
 pub count_calls : (own : List BufferEntry) (got : List GotEvent) (q : CountRequest) (calls same : List BufferEntry) (events : List Event) → calls ≡ same → IsCounted own got q calls events → IsCounted own got q same events
 count_calls own got q calls same events is counted = subst (λ (es : List BufferEntry). IsCounted own got q es events) is counted
@@ -86,7 +98,7 @@ cancelled_asks_none own got q calls events reply counted = λ n.
     (none_left before calls q.client q.wanted.id q.wanted.mask q.wanted.kind q.number n reply (counted.asked.alone n) counted.asks_on)
 
 -- the receive that drains the client, and the cancelling of its request
-pub wholly_counted : (own : List BufferEntry) (got : List GotEvent) (q : CountRequest) (events : List Event) (accepted : ℕ) (reading draining : List BufferEntry) (room : ℕ) (reply : Received) (cancelled : Result ⊤ RequestRefusal) → HasDrained accepted reply
+unfoldable pub wholly_counted : (own : List BufferEntry) (got : List GotEvent) (q : CountRequest) (events : List Event) (accepted : ℕ) (reading draining : List BufferEntry) (room : ℕ) (reply : Received) (cancelled : Result ⊤ RequestRefusal) → HasDrained accepted reply
     → IsCounted own got q (reading ++ Accepted accepted ∷ (draining ++ Receive q.client room reply ∷ [])) events → IsWhollyCounted (own ++ Cancel q.client q.number cancelled ∷ []) got q events
 wholly_counted own got q events accepted reading draining room reply cancelled drains counted = record {
   accepted = accepted;
@@ -106,7 +118,7 @@ wholly_counted own got q events accepted reading draining room reply cancelled d
 }
 
 -- any calls that follow
-pub wholly_push : (own : List BufferEntry) (got : List GotEvent) (q : CountRequest) (events : List Event) (more : List BufferEntry) (gs : List GotEvent) → IsWhollyCounted own got q events → IsWhollyCounted (own ++ more) (got ++ gs) q events
+unfoldable pub wholly_push : (own : List BufferEntry) (got : List GotEvent) (q : CountRequest) (events : List Event) (more : List BufferEntry) (gs : List GotEvent) → IsWhollyCounted own got q events → IsWhollyCounted (own ++ more) (got ++ gs) q events
 wholly_push own got q events more gs has = record {
   accepted = has.accepted;
   reading = has.reading;

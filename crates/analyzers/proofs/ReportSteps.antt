@@ -1,5 +1,5 @@
 -- The reports among more calls and more turns.
-use Rattle.std.specs.Prelude.{◌≡◌, ◌≢◌, ℕ, List, ◌∷◌, ◌++◌, Option, Some, None}
+use Rattle.std.specs.Prelude.{◌≡◌, ◌≢◌, ℕ, ◌+◌, List, ◌∷◌, ◌++◌, Option, Some, None}
 use Rattle.std.proofs.Common.{ap, subst, ◌∙◌, inl, inr, arith}
 use Rattle.daq_types.specs.declared.events.Event.{Event}
 use Rattle.daq_types.specs.declared.runs.Transition.TheVariants.{Start, Stop}
@@ -14,14 +14,15 @@ use Rattle.analyzers.specs.declared.analyzer_run.EventRequest.{EventRequest}
 use Rattle.analyzers.specs.declared.analyzer_run.AnalyzerRun.{AnalyzerRun}
 use Rattle.analyzers.specs.declared.analyzer_run.AnalyzerStage.{AnalyzerStage}
 use Rattle.analyzers.specs.declared.analyzer_run.AnalyzerStage.TheVariants.{Counting, Draining, Drained}
-use Rattle.analyzers.specs.CountedRuns.{CountRequest}
-use Rattle.analyzers.specs.AnalyzerKept.{accepted_by, reported_by, HasTurnBehind, IsReportOfRun, ReportsHold, IsStopOpen, StageCounts, RunCounts, CountsSoFar, count_request}
+use Rattle.analyzers.specs.CountedRuns.{CountRequest, accepts_made}
+use Rattle.analyzers.specs.AnalyzerKept.{accepted_by, reported_by, HasTurnBehind, HasStopBehind, IsReportOfRun, ReportsHold, IsStopOpen, StageCounts, RunCounts, CountsSoFar, count_request}
 use Rattle.analyzers.proofs.CountSteps.{wholly_push}
 
 -- one report
 
 report_calls : (wanted : EventRequest) (own : List BufferEntry) (got : List GotEvent) (turns : List MemberTurn) (start : ℕ) (report : Totals) (more : List BufferEntry) (gs : List GotEvent) → IsReportOfRun wanted own got turns start report
     → IsReportOfRun wanted (own ++ more) (got ++ gs) turns start report
+unfolding wholly_push
 report_calls wanted own got turns start report more gs is = record {
   begin_turn = is.begin_turn;
   is_start = is.is_start;
@@ -30,15 +31,22 @@ report_calls wanted own got turns start report more gs is = record {
   number = is.number;
   earlier = is.earlier;
   of_start = is.of_start;
+  asked_before = is.asked_before;
   events = is.events;
-  counted = wholly_push own got (count_request wanted is.client is.number start is.earlier) is.events more gs is.counted;
+  counted = wholly_push own got (count_request wanted is.client is.number start is.earlier is.asked_before) is.events more gs is.counted;
+  stop_turn = is.stop_turn;
+  is_stop = is.is_stop;
+  answered = is.answered;
+  of_stop = is.of_stop;
   report_is = is.report_is;
 }
 
 pub report_turns : (wanted : EventRequest) (own : List BufferEntry) (got : List GotEvent) (turns later : List MemberTurn) (start : ℕ) (report : Totals) → ((t : MemberTurn) → HasTurnOf turns Start start t → HasTurnOf later Start start t)
     → ((t : MemberTurn) (starts : ℕ) → t.transition ≡ Start → HasTurnBehind turns t starts → HasTurnBehind later t starts)
+    → ((t : MemberTurn) → t.answer ≡ Some (Yes (Report report)) → HasTurnOf turns Stop start t → HasTurnOf later Stop start t)
+    → ((t : MemberTurn) (stops : ℕ) → t.answer ≡ Some (Yes (Report report)) → HasStopBehind turns t stops → HasStopBehind later t stops)
     → IsReportOfRun wanted own got turns start report → IsReportOfRun wanted own got later start report
-report_turns wanted own got turns later start report more behind is = record {
+report_turns wanted own got turns later start report more behind more_stop behind_stop is = record {
   begin_turn = is.begin_turn;
   is_start = more is.begin_turn is.is_start;
   accepted = is.accepted;
@@ -46,8 +54,13 @@ report_turns wanted own got turns later start report more behind is = record {
   number = is.number;
   earlier = is.earlier;
   of_start = behind is.begin_turn is.earlier is.is_start.is is.of_start;
+  asked_before = is.asked_before;
   events = is.events;
   counted = is.counted;
+  stop_turn = is.stop_turn;
+  is_stop = more_stop is.stop_turn is.answered is.is_stop;
+  answered = is.answered;
+  of_stop = behind_stop is.stop_turn (is.asked_before + accepts_made is.counted.reading) is.answered is.of_stop;
   report_is = is.report_is;
 }
 
@@ -63,7 +76,7 @@ reports_more wanted own got turns t other hold = λ u report here is. elim here 
   | inl same ↦ absurd (other report (ap (λ (v : MemberTurn). v.answer) same ∙ is))
   | inr before ↦
       let old = hold u report before is in
-      (old.0, report_turns wanted own got turns (t ∷ turns) u.order.start report (λ v has. HasTurnOf-more t has) (λ v starts is_start has. inr has) old.1)
+      (old.0, report_turns wanted own got turns (t ∷ turns) u.order.start report (λ v has. HasTurnOf-more t has) (λ v starts is_start has. inr has) (λ v told has. HasTurnOf-more t has) (λ v stops told has. inr has) old.1)
 ]
 
 -- Turns that leave the run.
@@ -88,9 +101,10 @@ run_more wanted client (Some r) own got turns t none answer counts = record {
   accepted = counts.accepted;
   earlier = counts.earlier;
   of_start = inr counts.of_start;
+  asked_before = counts.asked_before;
   events = counts.events;
   report_is = counts.report_is;
-  stage_is = stage_more r.stage own got turns t (count_request wanted r.client r.request r.start counts.earlier) counts.events none answer counts.stage_is;
+  stage_is = stage_more r.stage own got turns t (count_request wanted r.client r.request r.start counts.earlier counts.asked_before) counts.events none answer counts.stage_is;
 }
 
 -- a turn that is answered at once, without a report, and leaves the run; no start that is accepted, and no stop of a run

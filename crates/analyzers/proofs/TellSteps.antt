@@ -259,4 +259,4 @@ pub finish_tells : (wanted : EventRequest) (client : Option ℕ) (run : Option A
 finish_tells wanted client None own got turns stands tells = tells
 finish_tells wanted client (Some r) own got turns stands tells =
     let on : CountsRun wanted client r own got turns = stands.counts in
-    finish_stage r.stage r own got turns (count_request wanted r.client r.request r.start on.earlier) on.events on.stage_is tells
+    finish_stage r.stage r own got turns (count_request wanted r.client r.request r.start on.earlier on.asked_before) on.events on.stage_is tells

@@ -1,6 +1,6 @@
 -- What an analyzer keeps at a turn and when it finishes.
-use Rattle.std.specs.Prelude.{◌≡◌, ◌≢◌, ℕ, ◌==◌, Bool, true, false, List, [], ◌∷◌, ◌++◌, Option, Some, None, IfSome, Result, Ok, Err, refl, ⊤}
-use Rattle.std.proofs.Common.{sym, subst, arith, inl, inr}
+use Rattle.std.specs.Prelude.{◌≡◌, ◌≢◌, ℕ, ◌+◌, ◌==◌, Bool, true, false, List, [], ◌∷◌, ◌++◌, Option, Some, None, IfSome, Result, Ok, Err, refl, ⊤}
+use Rattle.std.proofs.Common.{sym, subst, ◌∙◌, arith, inl, inr}
 use Rattle.std.proofs.lemmas.Bool.{eqb-true}
 use Rattle.std.proofs.lemmas.List.{append-nil}
 use Rattle.daq_types.specs.declared.events.Event.{Event}
@@ -26,10 +26,10 @@ use Rattle.analyzers.specs.declared.analyzer_run.AnalyzerStage.{AnalyzerStage}
 use Rattle.analyzers.specs.declared.analyzer_run.AnalyzerStage.TheVariants.{Counting, Draining, Drained}
 use Rattle.analyzers.specs.Analyzers.{AnalyzerAt, run_in_stage}
 use Rattle.analyzers.specs.AnalyzerTurns.{analyzer_turn, analyzer_name, StaysAt, CancelsIn, DropsRun, GetsClient, BeginsBy, RequestsRun, StartsAnalyzer, StopsRun, StopsOwn, StopsAnalyzer, TurnsBy, begun_count}
-use Rattle.analyzers.specs.CountedRuns.{CountRequest, IsCounted, requests_made}
+use Rattle.analyzers.specs.CountedRuns.{CountRequest, IsCounted, requests_made, accepts_made}
 use Rattle.analyzers.specs.AnalyzerKept.{HasOwnClient, AsksForNone, accepted_by, starts_accepted, reported_by, stops_reported, ReportsHold, StageCounts, CountsRun, CountsSoFar, count_request}
 use Rattle.analyzers.proofs.OwnCallSteps.{analyzer_push, requests-push, requests_stay, accepts-push, accepts_stay, client_stays, none_stays, client_given, new_asks_none}
-use Rattle.analyzers.proofs.CountSteps.{count_made, count_push, cancelled_asks_none}
+use Rattle.analyzers.proofs.CountSteps.{accepts_asked, count_made, count_push, cancelled_asks_none}
 use Rattle.analyzers.proofs.ReportSteps.{reports_calls, reports_more, none_stops, plain_more}
 
 abbrev pub StandsBy : EventRequest → Option ℕ → Option AnalyzerRun → Access → List MemberTurn → Type 0
@@ -56,9 +56,9 @@ count_quiet own got q calls events e counted leaves none =
 
 -- The run is dropped.
 
-drop_counting : (wanted : EventRequest) (client : Option ℕ) (r : AnalyzerRun) (own : List BufferEntry) (got : List GotEvent) (turns : List MemberTurn) (reply : Result ⊤ RequestRefusal) (earlier : ℕ) (calls : List BufferEntry) (events : List Event) → NoneOpen turns
-    → IsCounted own got (count_request wanted r.client r.request r.start earlier) calls events → CountsSoFar wanted client (Some r) own got turns → CountsSoFar wanted client None (own ++ Cancel r.client r.request reply ∷ []) got turns
-drop_counting wanted client r own got turns reply earlier calls events none counted stands =
+drop_counting : (wanted : EventRequest) (client : Option ℕ) (r : AnalyzerRun) (own : List BufferEntry) (got : List GotEvent) (turns : List MemberTurn) (reply : Result ⊤ RequestRefusal) (earlier asked : ℕ) (calls : List BufferEntry) (events : List Event) → NoneOpen turns
+    → IsCounted own got (count_request wanted r.client r.request r.start earlier asked) calls events → CountsSoFar wanted client (Some r) own got turns → CountsSoFar wanted client None (own ++ Cancel r.client r.request reply ∷ []) got turns
+drop_counting wanted client r own got turns reply earlier asked calls events none counted stands =
     let cancel : BufferEntry = Cancel r.client r.request reply in
     let on : CountsRun wanted client r own got turns = stands.counts in
     let gave : HasOwnClient (Some r.client) own = run_client wanted client r own got turns stands in
@@ -68,21 +68,21 @@ drop_counting wanted client r own got turns reply earlier calls events none coun
       once = requests_stay own cancel (starts_accepted turns) refl stands.once;
       asked = accepts_stay own cancel (stops_reported turns) refl stands.asked;
       reports = reports_quiet wanted own got turns cancel stands.reports;
-      counts = (none, subst (λ (c : Option ℕ). AsksForNone c (own ++ cancel ∷ [])) (sym on.client_is) (cancelled_asks_none own got (count_request wanted r.client r.request r.start earlier) calls events reply counted));
+      counts = (none, subst (λ (c : Option ℕ). AsksForNone c (own ++ cancel ∷ [])) (sym on.client_is) (cancelled_asks_none own got (count_request wanted r.client r.request r.start earlier asked) calls events reply counted));
     }
 
-drop_stage : (stage : AnalyzerStage) (wanted : EventRequest) (client : Option ℕ) (r : AnalyzerRun) (a b : Access) (turns : List MemberTurn) (earlier : ℕ) (events : List Event) → NoneOpen turns → StageCounts stage a.own a.got turns (count_request wanted r.client r.request r.start earlier) events → CancelsIn stage r a b
+drop_stage : (stage : AnalyzerStage) (wanted : EventRequest) (client : Option ℕ) (r : AnalyzerRun) (a b : Access) (turns : List MemberTurn) (earlier asked : ℕ) (events : List Event) → NoneOpen turns → StageCounts stage a.own a.got turns (count_request wanted r.client r.request r.start earlier asked) events → CancelsIn stage r a b
     → StandsBy wanted client (Some r) a turns → StandsBy wanted client None b turns
-drop_stage Counting wanted client r a b turns earlier events none counts cancels stands =
-    rw (cancels.1.own, cancels.1.got_is) (drop_counting wanted client r a.own a.got turns cancels.0 earlier counts.1.0 events none counts.1.1 stands)
-drop_stage (Draining accepted) wanted client r a b turns earlier events none counts cancels stands = absurd (none_stops r.start turns none counts.0)
-drop_stage Drained wanted client r a b turns earlier events none counts cancels stands = absurd (none_stops r.start turns none counts.0)
+drop_stage Counting wanted client r a b turns earlier asked events none counts cancels stands =
+    rw (cancels.1.own, cancels.1.got_is) (drop_counting wanted client r a.own a.got turns cancels.0 earlier asked counts.1.0 events none counts.1.1 stands)
+drop_stage (Draining accepted) wanted client r a b turns earlier asked events none counts cancels stands = absurd (none_stops r.start turns none counts.0)
+drop_stage Drained wanted client r a b turns earlier asked events none counts cancels stands = absurd (none_stops r.start turns none counts.0)
 
 pub drop_kept : (wanted : EventRequest) (client : Option ℕ) (run : Option AnalyzerRun) (a b : Access) (turns : List MemberTurn) → NoneOpen turns → DropsRun run a b → StandsBy wanted client run a turns → StandsBy wanted client None b turns
 drop_kept wanted client None a b turns none drops stands = rw drops stands
 drop_kept wanted client (Some r) a b turns none drops stands =
     let on : CountsRun wanted client r a.own a.got turns = stands.counts in
-    drop_stage r.stage wanted client r a b turns on.earlier on.events none on.stage_is drops stands
+    drop_stage r.stage wanted client r a b turns on.earlier on.asked_before on.events none on.stage_is drops stands
 
 -- A client is attached.
 
@@ -132,6 +132,7 @@ request_kept dump (Ok number) wanted order blank client run answer own got turns
         accepted = refl;
         earlier = requests_made own;
         of_start = inl (refl, sym stands.once);
+        asked_before = accepts_made own;
         events = [];
         report_is = is_blank;
         stage_is = (tt, ([], count_made own got wanted client number order.start stands.counts.1));
@@ -183,12 +184,13 @@ start_kept dump wanted order (Some blank) a b answer turns is_blank none starts 
 -- A stop.
 
 stop_stage : (dump : Option (List ℕ)) (stage : AnalyzerStage) (wanted : EventRequest) (client : Option ℕ) (r later : AnalyzerRun) (order : Order) (a b : Access) (turns : List MemberTurn) → (on : CountsRun wanted client r a.own a.got turns) → r.start ≡ order.start → NoneOpen turns
-    → StageCounts stage a.own a.got turns (count_request wanted r.client r.request r.start on.earlier) on.events → r.report ≡ report_of on.events → StopsRun stage r later a b → StandsBy wanted client (Some r) a turns → StandsBy wanted client (Some later) b (analyzer_turn dump Stop order None ∷ turns)
+    → StageCounts stage a.own a.got turns (count_request wanted r.client r.request r.start on.earlier on.asked_before) on.events → r.report ≡ report_of on.events → StopsRun stage r later a b → StandsBy wanted client (Some r) a turns → StandsBy wanted client (Some later) b (analyzer_turn dump Stop order None ∷ turns)
 stop_stage dump Counting wanted client r later order a b turns on same none counts report stops stands =
     let call : BufferEntry = Accepted stops.0 in
     let t : MemberTurn = analyzer_turn dump Stop order None in
-    let q : CountRequest = count_request wanted r.client r.request r.start on.earlier in
+    let q : CountRequest = count_request wanted r.client r.request r.start on.earlier on.asked_before in
     let gave : HasOwnClient (Some r.client) a.own = run_client wanted client r a.own a.got turns stands in
+    let behind : on.asked_before + accepts_made counts.1.0 ≡ stops_reported turns = sym (accepts_asked a.own a.got q counts.1.0 on.events counts.1.1) ∙ stands.asked in
     let now : CountsSoFar wanted client (Some (run_in_stage (Draining stops.0) r)) (a.own ++ call ∷ []) a.got (t ∷ turns) = record {
       calls = analyzer_push a.own call stands.calls tt tt;
       own_client = subst (λ (c : Option ℕ). HasOwnClient c (a.own ++ call ∷ [])) (sym on.client_is) (client_stays a.own call r.client gave);
@@ -202,9 +204,10 @@ stop_stage dump Counting wanted client r later order a b turns on same none coun
         accepted = on.accepted;
         earlier = on.earlier;
         of_start = inr on.of_start;
+        asked_before = on.asked_before;
         events = on.events;
         report_is = report;
-        stage_is = (record { order = order; dump = dump; earlier = turns; of = sym same; latest = refl }, (counts.1.0, [], count_quiet a.own a.got q counts.1.0 on.events call counts.1.1 tt refl));
+        stage_is = (record { order = order; dump = dump; earlier = turns; of = sym same; latest = refl }, (counts.1.0, [], count_quiet a.own a.got q counts.1.0 on.events call counts.1.1 tt refl, behind));
       };
     } in
     rw (stops.2, stops.1.own, stops.1.got_is) now

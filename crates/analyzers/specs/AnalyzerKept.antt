@@ -49,10 +49,10 @@ abbrev pub AsksForNone : Option ℕ → List BufferEntry → Type 0
 AsksForNone None own = ⊤
 AsksForNone (Some client) own = (n : ℕ) → asks (calls_after [] own) client n ≡ false
 
--- the request of a client for a run, behind so many earlier ones
-abbrev pub count_request : EventRequest → (client number start earlier : ℕ) → CountRequest
-count_request wanted client number start earlier =
-    record { wanted = wanted; client = client; number = number; start = start; earlier = earlier }
+-- the request of a client for a run, behind so many earlier ones, and so many questions how many events were taken
+abbrev pub count_request : EventRequest → (client number start earlier asked : ℕ) → CountRequest
+count_request wanted client number start earlier asked =
+    record { wanted = wanted; client = client; number = number; start = start; earlier = earlier; asked = asked }
 
 -- one, where the turn is a start that was accepted
 abbrev pub accepted_by : Transition → Option Answer → ℕ
@@ -80,9 +80,15 @@ abbrev pub HasTurnBehind : List MemberTurn → MemberTurn → (starts : ℕ) →
 HasTurnBehind [] t starts = ⊥
 HasTurnBehind (u ∷ turns) t starts = ((u ≡ t) × (starts_accepted turns ≡ starts)) ⊎ HasTurnBehind turns t starts
 
+-- the turn stands among these, and so many stops that wait for their report, or were answered with it, stood before it
+abbrev pub HasStopBehind : List MemberTurn → MemberTurn → (stops : ℕ) → Type 0
+HasStopBehind [] t stops = ⊥
+HasStopBehind (u ∷ turns) t stops = ((u ≡ t) × (stops_reported turns ≡ stops)) ⊎ HasStopBehind turns t stops
+
 -- A report of a run: its start was accepted, a client counted it wholly by the request of this start, behind as many earlier ones
--- as starts were accepted before this one; and the report is that of the events with its start number that the client got, in
--- order, from the request on.
+-- as starts were accepted before this one; the number up to which it counted was asked for behind as many such questions as stops
+-- were reported before that of this run, which the report answered; and the report is that of the events with its start number
+-- that the client got, in order, from the request on.
 pub record IsReportOfRun (wanted : EventRequest) (own : List BufferEntry) (got : List GotEvent) (turns : List MemberTurn) (start : ℕ) (report : Totals) : Type 0 where
   pub begin_turn : MemberTurn
   pub is_start : HasTurnOf turns Start start begin_turn
@@ -91,8 +97,13 @@ pub record IsReportOfRun (wanted : EventRequest) (own : List BufferEntry) (got :
   pub number : ℕ
   pub earlier : ℕ
   pub of_start : HasTurnBehind turns begin_turn earlier
+  pub asked_before : ℕ
   pub events : List Event
-  pub counted : IsWhollyCounted own got (count_request wanted client number start earlier) events
+  pub counted : IsWhollyCounted own got (count_request wanted client number start earlier asked_before) events
+  pub stop_turn : MemberTurn
+  pub is_stop : HasTurnOf turns Stop start stop_turn
+  pub answered : stop_turn.answer ≡ Some (Yes (Report report))
+  pub of_stop : HasStopBehind turns stop_turn (asked_before + accepts_made counted.reading)
   pub report_is : report ≡ report_of events
 
 -- each turn that was answered with a report is a stop, and the report is that of its run
@@ -108,12 +119,17 @@ pub record IsStopOpen (start : ℕ) (turns : List MemberTurn) : Type 0 where
   pub of : order.start ≡ start
   pub latest : turns ≡ analyzer_turn dump Stop order None ∷ earlier
 
--- these are the events that were counted in this stage
+-- These are the events that were counted in this stage. The number up to which it counts was asked for behind as many questions
+-- as stops were reported before this one.
 abbrev pub StageCounts : AnalyzerStage → List BufferEntry → List GotEvent → List MemberTurn → CountRequest → List Event → Type 0
 StageCounts Counting own got turns q events = NoneOpen turns × ((calls : List BufferEntry) × IsCounted own got q calls events)
 StageCounts (Draining accepted) own got turns q events =
-    IsStopOpen q.start turns × ((reading : List BufferEntry) × (draining : List BufferEntry) × IsCounted own got q (reading ++ Accepted accepted ∷ draining) events)
-StageCounts Drained own got turns q events = IsStopOpen q.start turns × AsksForNone (Some q.client) own × IsWhollyCounted own got q events
+    (stop : IsStopOpen q.start turns) × ((reading : List BufferEntry) × (draining : List BufferEntry) ×
+    IsCounted own got q (reading ++ Accepted accepted ∷ draining) events ×
+    (q.asked + accepts_made reading ≡ stops_reported stop.earlier))
+StageCounts Drained own got turns q events =
+    (stop : IsStopOpen q.start turns) × AsksForNone (Some q.client) own × (counted : IsWhollyCounted own got q events) ×
+    (q.asked + accepts_made counted.reading ≡ stops_reported stop.earlier)
 
 -- The run is counted, by the request of its start: that was accepted, and the report is that of the events that were counted.
 pub record CountsRun (wanted : EventRequest) (client : Option ℕ) (r : AnalyzerRun) (own : List BufferEntry) (got : List GotEvent) (turns : List MemberTurn) : Type 0 where
@@ -123,9 +139,10 @@ pub record CountsRun (wanted : EventRequest) (client : Option ℕ) (r : Analyzer
   pub accepted : begin_turn.answer ≡ Some (Yes Plain)
   pub earlier : ℕ
   pub of_start : HasTurnBehind turns begin_turn earlier
+  pub asked_before : ℕ
   pub events : List Event
   pub report_is : r.report ≡ report_of events
-  pub stage_is : StageCounts r.stage own got turns (count_request wanted r.client r.request r.start earlier) events
+  pub stage_is : StageCounts r.stage own got turns (count_request wanted r.client r.request r.start earlier asked_before) events
 
 abbrev pub RunCounts : EventRequest → (client : Option ℕ) → Option AnalyzerRun → List BufferEntry → List GotEvent → List MemberTurn → Type 0
 RunCounts wanted client None own got turns = NoneOpen turns × AsksForNone client own

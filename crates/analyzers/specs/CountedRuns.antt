@@ -31,14 +31,15 @@ abbrev pub accepts_made : List BufferEntry → ℕ
 accepts_made [] = 0
 accepts_made (e ∷ es) = accepts_by e + accepts_made es
 
--- the request by which a run is counted: what is wanted, the client, the request's number, the run's start number, and how
--- many requests were made before it
+-- the request by which a run is counted: what is wanted, the client, the request's number, the run's start number, how many
+-- requests were made before it, and how often it had been asked by then how many events the buffer took
 pub record CountRequest : Type 0 where
   pub wanted : EventRequest
   pub client : ℕ
   pub number : ℕ
   pub start : ℕ
   pub earlier : ℕ
+  pub asked : ℕ
 
 -- the client's request was made when it had no other, behind so many earlier ones, and these are the calls since
 pub record AskedBy (own : List BufferEntry) (q : CountRequest) (calls : List BufferEntry) : Type 0 where
@@ -46,6 +47,7 @@ pub record AskedBy (own : List BufferEntry) (q : CountRequest) (calls : List Buf
   pub whole : own ≡ before ++ Request q.client q.wanted.id q.wanted.mask q.wanted.kind (Ok q.number) ∷ calls
   pub alone : (n : ℕ) → asks (calls_after [] before) q.client n ≡ false
   pub requests : requests_made before ≡ q.earlier
+  pub accepts : accepts_made before ≡ q.asked
 
 -- The request was made, and none of the client was made or cancelled since; these are the events of the run that the client
 -- got by the calls since.

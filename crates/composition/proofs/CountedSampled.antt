@@ -150,7 +150,7 @@ counting_by = Attach [] (Ok 0) ∷ Request 0 any any All (Ok 0) ∷ Receive 0 0 
 abbrev counting_calls : List BufferEntry
 counting_calls = counting_by ++ Cancel 0 0 (Ok tt) ∷ []
 
-abbrev wholly_counted : (told : Event) → IsWhollyCounted counting_calls (got_first told ∷ []) (count_request (counted_analyzer told).wanted 0 0 1 0) (told ∷ [])
+abbrev wholly_counted : (told : Event) → IsWhollyCounted counting_calls (got_first told ∷ []) (count_request (counted_analyzer told).wanted 0 0 1 0 0) (told ∷ [])
 wholly_counted told = record {
   accepted = 1;
   reading = Receive 0 0 (Got 0 1) ∷ [];
@@ -165,7 +165,7 @@ wholly_counted told = record {
   got_later = [];
   got_is = refl;
   counted = record {
-    asked = record { before = Attach [] (Ok 0) ∷ []; whole = refl; alone = λ n. refl; requests = refl };
+    asked = record { before = Attach [] (Ok 0) ∷ []; whole = refl; alone = λ n. refl; requests = refl; accepts = refl };
     asks_on = (tt, (tt, (tt, tt)));
     earlier = [];
     given = got_first told ∷ [];
@@ -185,8 +185,13 @@ report_told told = record {
   number = 0;
   earlier = 0;
   of_start = inr (inl (refl, refl));
+  asked_before = 0;
   events = told ∷ [];
   counted = wholly_counted told;
+  stop_turn = counting_stop told;
+  is_stop = record { stands = inl refl; is = refl; of = refl };
+  answered = refl;
+  of_stop = inl (refl, refl);
   report_is = refl;
 }
 

@@ -125,7 +125,7 @@ pub saw_by : (s : Session) (r : SessionRun) (a : SessionAnalyzer) (report : Tota
 saw_by s r a report told saw =
     let c : ℕ = caller_of_client a.client in
     let h : History = s.history a.buffer in
-    let w : IsWhollyCounted (buffer_calls s a.buffer a.client) a.got (count_request a.wanted told.client told.number r.start told.earlier) told.events = told.counted in
+    let w : IsWhollyCounted (buffer_calls s a.buffer a.client) a.got (count_request a.wanted told.client told.number r.start told.earlier told.asked_before) told.events = told.counted in
     let counts : List BufferEntry = counted_calls w in
     let end : ℕ × BufferEntry = (saw.by, End r.start (Ok saw.ended)) in
     let request : BufferEntry = Request told.client a.wanted.id a.wanted.mask All (Ok told.number) in

@@ -25,6 +25,8 @@ use Rattle.member_model.specs.GotRuns.{events_of_start}
 use Rattle.member_model.specs.LoggerKept.{LoggerChannel, IsEndSo}
 use Rattle.front_ends.specs.Spans.{HasSpan}
 use Rattle.front_ends.specs.FrontKept.{made_events}
+use Rattle.analyzers.specs.CountedRuns.{accepts_made}
+use Rattle.analyzers.specs.AnalyzerKept.{stops_reported}
 use Rattle.history_laws.specs.OneCaller.{events_in}
 use Rattle.history_laws.specs.SeenRuns.{SeesRun}
 use Rattle.history_laws.specs.SentRuns.{places_sent, events_at_places}
@@ -137,7 +139,8 @@ ReportsTold s = (r : SessionRun) → IsStoppedRun s r →
     (a : SessionAnalyzer) → HasAnalyzer s a → (report : Totals) × TellsTotals r a.client report
 
 -- And that is the report of the events with the run's start number that its client got, in order, from the request of the run's
--- start on until it cancelled that: before then the buffer told it how many events it had taken, and it read all of these.
+-- start on until it cancelled that: before then the buffer told it how many events it had taken, which it asked for that stop,
+-- and it read all of these.
 abbrev pub ReportsSo : Session → Type 0
 ReportsSo s = (r : SessionRun) → IsStoppedRun s r →
     (a : SessionAnalyzer) → HasAnalyzer s a → (report : Totals) → TellsTotals r a.client report →
@@ -149,6 +152,11 @@ abbrev pub ReportsWhole : Session → Type 0
 ReportsWhole s = (r : SessionRun) →
     (a : SessionAnalyzer) → HasAnalyzer s a → (report : Totals) → (told : ReportsRun s r a report) →
     SawThrough (s.history a.buffer) (caller_of_client a.client) told → CountsAll (s.history a.buffer) told
+
+-- Each analyzer asked its buffer how many events that had taken once for each stop of a run that it counted, and never else.
+abbrev pub AskedAtStops : Session → Type 0
+AskedAtStops s = (a : SessionAnalyzer) → HasAnalyzer s a →
+    accepts_made (buffer_calls s a.buffer a.client) ≡ stops_reported (turns_of s a.client)
 
 -- All that an analyzer's client got of a run that it saw through are the events between the marks of the run that it asks
 -- for, each once and in order.
@@ -198,4 +206,5 @@ pub record IsComposed (s : Session) : Type 0 where
   pub reports_told : ReportsTold s
   pub reports_so : ReportsSo s
   pub reports_whole : ReportsWhole s
+  pub asked_at_stops : AskedAtStops s
   pub got_whole : GotWhole s

@@ -58,6 +58,7 @@ channel_holds s composed r run index channel at =
 pub report_so : (s : Session) → IsComposed s → (r : SessionRun) → IsStoppedRun s r → (a : SessionAnalyzer) → HasAnalyzer s a → (report : Totals) → TellsTotals r a.client report → ReportIsSo s r a report
 report_so s composed r run a has report tells = record {
   told = composed.reports_so r run a has report tells;
+  asks = composed.asked_at_stops a has;
   whole = composed.reports_whole r a has report (composed.reports_so r run a has report tells);
 }
 

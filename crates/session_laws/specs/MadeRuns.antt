@@ -15,7 +15,8 @@ use Rattle.member_model.specs.LoggerKept.{LoggerChannel, IsEndSo}
 use Rattle.session_runs.specs.MadeTransitions.{TransitionIn}
 use Rattle.event_report.specs.Reports.{Totals}
 use Rattle.analyzers.specs.declared.analyzer_run.EventRequest.{EventRequest}
-use Rattle.analyzers.specs.AnalyzerKept.{IsReportOfRun}
+use Rattle.analyzers.specs.CountedRuns.{accepts_made}
+use Rattle.analyzers.specs.AnalyzerKept.{IsReportOfRun, stops_reported}
 use Rattle.composition.specs.Sessions.{Session, SessionAnalyzer, SessionFront, HasAnalyzer, HasFront, buffer_calls, turns_of}
 use Rattle.composition.specs.SessionRuns.{SessionRun, IsStoppedRun, TellsFront, FrontSent, SetAtStop, ToldChannel, HoldsRunFiles, HoldsFileParts, TellsTotals, SawThrough, CountsAll}
 
@@ -49,12 +50,14 @@ pub record ChannelHolds (s : Session) (r : SessionRun) (channel : LoggerChannel)
 
 -- What was told of a run is the report of it, by the history of a buffer and a caller that asked there for events like these,
 -- got these, and has these turns on the engine: the caller made its request at the run's start, the only one that stood, was told
--- how many events the buffer had taken, and then found nothing or got an event at or behind that number, all while the request
--- stood; and the report is that of the events of the run that it got from the request on until then. And where the caller saw the
--- run through by that request, it counted all events of the run that it asked for, and got no others of the run.
+-- how many events the buffer had taken, which it asked for the stop of the run, and then found nothing or got an event at or
+-- behind that number, all while the request stood; and the report is that of the events of the run that it got from the request
+-- on until then. It asked so once for each stop of a run that it counted, and never else. And where the caller saw the run through
+-- by that request, it counted all events of the run that it asked for, and got no others of the run.
 pub record ReportHolds (history : History) (caller : ℕ) (asked : EventRequest) (got : List GotEvent) (turns : List MemberTurn)
     (start : ℕ) (report : Totals) : Type 0 where
   pub told : IsReportOfRun asked (entries_by caller history) got turns start report
+  pub asks : accepts_made (entries_by caller history) ≡ stops_reported turns
   pub whole : SawThrough history caller told → CountsAll history told
 
 -- so it is with a report of an analyzer of a session

@@ -23,5 +23,6 @@ returns c s keep = record {
   reports_told = c.reports.ensures.told s keep;
   reports_so = c.reports.ensures.so s keep;
   reports_whole = c.reports.ensures.whole s keep;
+  asked_at_stops = λ a has. (keep.analyzers_keep a has).asked;
   got_whole = c.reports.ensures.got s keep;
 }
