@@ -46,8 +46,8 @@ use Rattle.session_laws.proofs.LoggerRefusals.{never_unready}
 use Rattle.session_laws.proofs.NoneRefused.{AskLaws, logger_granted, analyzer_granted}
 use Rattle.session_laws.proofs.BlanksGiven.{few_blanks}
 use Rattle.session_laws.proofs.RunsMade.{has_made}
-use Rattle.session_laws.specs.OtherNames.{AreStartsOver, IsTakenName}
-use Rattle.session_laws.proofs.TakenNames.{taken_name, free_names}
+use Rattle.session_laws.specs.OtherNames.{AreStartsOver, HasFirstFault, IsTakenName}
+use Rattle.session_laws.proofs.TakenNames.{taken_name, free_names, first_fault}
 use Rattle.session_laws.proofs.RunTurns.{TurnLaws}
 use Rattle.session_laws.proofs.UndoneNames.{firsts_stay, undone_stay}
 
@@ -198,6 +198,16 @@ taken_so laws c ends first now reasons names tells over sheet start number talli
     let r = refused_turn laws c ends sheet start n (Exists number) tallies has in
     taken_name laws.turns laws.over c ends first now names tells over r.turn r.stands r.starts number r.answered sheet.run start (ap (λ (o : Order). o.run) r.of_begin.order) (ap (λ (o : Order). o.start) r.of_begin.order)
 
+-- Starts that were refused for a fault.
+
+faulted_so : CountLaws → (c : ClosedSession) (ends : MembersAtEnd c) (first now : FilesTold) → LoggerNames c ends first now → first.first ≡ None → AreStartsOver (engine_calls c main_caller)
+    → (sheet : Sheet) (start number : ℕ) (tallies : List ClientTally) → TransitionIn (engine_calls c main_caller) Start sheet start (Refused (logger_client c) (Fault number)) tallies → HasFirstFault c now sheet.run start number
+faulted_so laws c ends first now names none over sheet start number tallies made =
+    let n : ℕ = logger_client c in
+    let has : HasTransition c.engine Start sheet start (Refused n (Fault number)) tallies = has_made laws.main c.engine Start sheet start (Refused n (Fault number)) tallies ends.engine made in
+    let r = refused_turn laws c ends sheet start n (Fault number) tallies has in
+    first_fault laws.turns laws.over c ends first now names none over r.turn r.stands r.starts number r.answered sheet.run start (ap (λ (o : Order). o.run) r.of_begin.order) (ap (λ (o : Order). o.start) r.of_begin.order)
+
 pub counts_tell : CountLaws → CountsTell
 counts_tell laws c ends first now reasons names = record {
   refused = refused_so laws c ends first now reasons;
@@ -208,4 +218,5 @@ counts_tell laws c ends first now reasons names = record {
   kept = firsts_stay laws.turns c ends first now names;
   taken = taken_so laws c ends first now reasons names;
   free = free_names laws.turns laws.over c ends first now names;
+  faulted = faulted_so laws c ends first now names;
 }

@@ -29,3 +29,4 @@ pub mod StartsRefused
 pub mod RisesTold
 pub mod EndsMet
 pub mod RecordsMet
+pub mod MarksEnd

@@ -23,7 +23,7 @@ use Rattle.mid_logger.specs.declared.channel.Channel.{Channel}
 use Rattle.mid_logger.specs.declared.channel_spec.ChannelSpec.{ChannelSpec}
 use Rattle.loggers.specs.LoggerStands.{LoggerStands}
 use Rattle.loggers.specs.OtherFiles.{specs_in}
-use Rattle.loggers.specs.LeftNames.{HasUntoldFault, NamesLeft, IsOpenName, IsStoppedName, IsUndoneName, IsNameLeft, IsStartedRun, KeepsNames}
+use Rattle.loggers.specs.LeftNames.{HasUntoldFault, NamesLeft, IsOpenName, IsStoppedName, IsUndoneRun, IsUndoneName, IsNameLeft, IsStartedRun, KeepsNames}
 use Rattle.loggers.proofs.NamesTaken.{free_name}
 use Rattle.loggers.proofs.StoppedThere.{one_start}
 use Rattle.history_laws.specs.BegunTurns.{HasTransition, IsCalledOff, IsRegisteredIn}
@@ -34,7 +34,7 @@ use Rattle.composition.proofs.SessionTurns.{IsStartTurn, start_turn, speaks}
 use Rattle.session_laws.specs.ClosedSessions.{ClosedSession, logger_client, logger_caller, engine_calls, session_of}
 use Rattle.session_laws.specs.MembersAtEnd.{MembersAtEnd}
 use Rattle.session_laws.specs.MadeRuns.{RunIn}
-use Rattle.session_laws.specs.OtherNames.{RefusesStart, GivesNoName, GivesOthers, HasUndoneName, IsUnmadeName, IsNameKept}
+use Rattle.session_laws.specs.OtherNames.{BeginsStartOf, RefusesStart, GivesNoName, GivesOthers, HasUndoneName, IsUnmadeName, IsNameKept}
 use Rattle.session_laws.specs.CountedFaults.{LoggerNames}
 use Rattle.session_laws.proofs.KeptTogether.{names_own}
 use Rattle.session_laws.proofs.LoggerEnd.{none_taken_back}
@@ -149,40 +149,51 @@ module _ (laws : TurnLaws) (c : ClosedSession) (ends : MembersAtEnd c) where
         | inr off ↦ one_end turns run.start t.begin t.stop off.0 (are_turns laws c ends) t.starts t.stops (record { stands = off.1.stands; is = off.1.is; of = off.1.of ∙ of.of })
       ]
 
-  -- where each start is over, a name of a start that the logger undid is one of a start that was refused
-  pub undone_name : (older : List MemberTurn) (name : List ℕ) → ((u : MemberTurn) → HasTurn older u → HasTurn turns u) → (start : ℕ) → ((u : MemberTurn) → HasTurn older u → u.order.start < start)
-      → ((begun : ℕ) → Contains (starts_begun (engine_calls c main_caller)) begun → RefusesStart (engine_calls c main_caller) begun ⊎ ((run : SessionRun) × RunIn (engine_calls c main_caller) run × (run.start ≡ begun))) → IsUndoneName (specs_in c.slots) older name
-      → (undone : HasUndoneName c name) × (undone.begun.start < start)
-  undone_name older name among start above over o =
+  -- where each start is over, one that the logger undid was refused
+  pub undone_before : (older : List MemberTurn) → ((u : MemberTurn) → HasTurn older u → HasTurn turns u) → (start : ℕ) → ((u : MemberTurn) → HasTurn older u → u.order.start < start)
+      → ((begun : ℕ) → Contains (starts_begun (engine_calls c main_caller)) begun → RefusesStart (engine_calls c main_caller) begun ⊎ ((run : SessionRun) × RunIn (engine_calls c main_caller) run × (run.start ≡ begun))) → (run : ℕ) → IsUndoneRun older run
+      → (begun : BeginsStartOf (engine_calls c main_caller) run) × RefusesStart (engine_calls c main_caller) begun.start × (begun.start < start)
+  undone_before older among start above over number undone =
       let own : List EngineEntry = engine_calls c main_caller in
-      let begin : MemberTurn = o.undone.begin in
-      let has : HasTurn turns begin = among begin o.undone.stands in
-      let b : StartBegun c begin = start_begun laws.facts.begun c ends begin has o.undone.is in
+      let begin : MemberTurn = undone.begin in
+      let has : HasTurn turns begin = among begin undone.stands in
+      let b : StartBegun c begin = start_begun laws.facts.begun c ends begin has undone.is in
       let among_begun : Contains (starts_begun own) begin.order.start = subst (λ (l : List EngineEntry). Contains (starts_begun l) begin.order.start) (sym b.whole) (started_in b.before b.after b.sheet begin.order.start) in
-      let channel : HasSpec c.slots o.number o.spec = has_spec c.slots o.number o.spec o.there in
-      elim (over begin.order.start among_begun) as (λ w. (undone : HasUndoneName c name) × (undone.begun.start < start)) [
+      elim (over begin.order.start among_begun) as (λ w. (begun : BeginsStartOf own number) × RefusesStart own begun.start × (begun.start < start)) [
         | inl refused ↦ (
-          record {
-            run = o.run;
-            begun = record { sheet = b.sheet; start = begin.order.start; before = b.before; after = b.after; whole = b.whole; number = b.number ∙ o.undone.number };
-            refused = refused;
-            place = o.number;
-            channel = channel.channel;
-            there = channel.at;
-            sub = o.sub;
-            few = o.few;
-            is = ap (λ (s : ChannelSpec). piece_name_by s.pattern o.run o.sub) channel.is ∙ o.is;
-          },
-          above begin o.undone.stands,
+          record { sheet = b.sheet; start = begin.order.start; before = b.before; after = b.after; whole = b.whole; number = b.number ∙ undone.number },
+          refused,
+          above begin undone.stands,
         )
         | inr came ↦
             let run : IsStoppedRun its came.0 = made_are_stopped laws.main its ends.engine came.0 came.1 in
-            absurd (never_undone came.0 run begin (record { stands = has; is = o.undone.is; of = sym came.2 })
-            (elim o.undone.undone as (λ w. ((why : Why) × (begin.answer ≡ Some (No why))) ⊎ ((off : MemberTurn) × HasTurnOf turns StartAbort begin.order.start off)) [
+            absurd (never_undone came.0 run begin (record { stands = has; is = undone.is; of = sym came.2 })
+            (elim undone.undone as (λ w. ((why : Why) × (begin.answer ≡ Some (No why))) ⊎ ((off : MemberTurn) × HasTurnOf turns StartAbort begin.order.start off)) [
               | inl refused ↦ inl refused
               | inr off ↦ inr (off.0, record { stands = among off.0 off.1.stands; is = off.1.is; of = off.1.of })
             ]))
       ]
+
+  -- a name of such a start is one of a start that was refused
+  pub undone_name : (older : List MemberTurn) (name : List ℕ) → ((u : MemberTurn) → HasTurn older u → HasTurn turns u) → (start : ℕ) → ((u : MemberTurn) → HasTurn older u → u.order.start < start)
+      → ((begun : ℕ) → Contains (starts_begun (engine_calls c main_caller)) begun → RefusesStart (engine_calls c main_caller) begun ⊎ ((run : SessionRun) × RunIn (engine_calls c main_caller) run × (run.start ≡ begun))) → IsUndoneName (specs_in c.slots) older name
+      → (undone : HasUndoneName c name) × (undone.begun.start < start)
+  undone_name older name among start above over o =
+      let was = undone_before older among start above over o.run o.undone in
+      let channel : HasSpec c.slots o.number o.spec = has_spec c.slots o.number o.spec o.there in (
+        record {
+          run = o.run;
+          begun = was.0;
+          refused = was.1;
+          place = o.number;
+          channel = channel.channel;
+          there = channel.at;
+          sub = o.sub;
+          few = o.few;
+          is = ap (λ (s : ChannelSpec). piece_name_by s.pattern o.run o.sub) channel.is ∙ o.is;
+        },
+        was.2,
+      )
 
   pub undone_stay : (first now : FilesTold) → LoggerNames c ends first now → IsTrue first.seen.names → (name : List ℕ) → IsUnmadeName c name → IsNameKept c first now name
   undone_stay first now names tells name unmade =

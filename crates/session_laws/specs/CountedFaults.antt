@@ -27,7 +27,7 @@ use Rattle.session_laws.specs.ClosedSessions.{ClosedFront, ClosedSession, logger
 use Rattle.session_laws.specs.MembersAtEnd.{MembersAtEnd}
 use Rattle.session_runs.specs.MadeTransitions.{TransitionIn}
 use Rattle.session_laws.specs.MadeRuns.{RunIn}
-use Rattle.session_laws.specs.OtherNames.{AreFreeNames, AreStartsOver, IsTakenName, IsUnmadeName, IsNameKept}
+use Rattle.session_laws.specs.OtherNames.{AreFreeNames, AreStartsOver, HasFirstFault, IsTakenName, IsUnmadeName, IsNameKept}
 
 -- What the logger of a closed session answered rests on the counts of the run files, which were so as it took its seat, and
 -- are so now, and on its calls on the buffers.
@@ -85,6 +85,8 @@ state_by_dump (Some dump) = Ended
 -- bytes, that no file of a run has that came about, once each start is over, and a start that was refused leaves no file, unless more
 -- faults were counted than are told; no file is lost or changed that was there at first; the logger refuses a start for a name only
 -- where that is taken, and those of all channels before it were free; and where a run came about, the names of all channels were free.
+-- And where no fault was named at first, the logger refuses a start for a fault of the channel whose file the first fault names, unless
+-- that is a file of an earlier start.
 pub record CountsHold (c : ClosedSession) (first now : FilesTold) : Type 0 where
   pub refused : (sheet : Sheet) → (start client : ℕ) → (why : Why) → (tallies : List ClientTally) →
       TransitionIn (engine_calls c main_caller) Start sheet start (Refused client why) tallies →
@@ -109,6 +111,10 @@ pub record CountsHold (c : ClosedSession) (first now : FilesTold) : Type 0 where
       IsTakenName c first now sheet.run start number
   pub free : IsTrue first.seen.names → (r : SessionRun) → RunIn (engine_calls c main_caller) r →
       AreFreeNames c first.seen r.first.run r.start (length c.slots)
+  pub faulted : first.first ≡ None → AreStartsOver (engine_calls c main_caller) →
+      (sheet : Sheet) → (start number : ℕ) → (tallies : List ClientTally) →
+      TransitionIn (engine_calls c main_caller) Start sheet start (Refused (logger_client c) (Fault number)) tallies →
+      HasFirstFault c now sheet.run start number
 
 -- So it is with a closed session, by what the logger's answers rest on and by the names that it left.
 abbrev pub CountsTell : Type 0

@@ -2,11 +2,13 @@
 use Rattle.std.specs.Prelude.{◌≡◌, ◌<◌, ℕ, List, [], ◌++◌, length, slice_get, Some}
 use Rattle.daq_types.specs.Callers.{entries_by, main_caller}
 use Rattle.member_model.specs.RunEngines.{EngineEntry}
+use Rattle.member_model.specs.TurnCalls.{member_turns}
+use Rattle.loggers.specs.TurnMarks.{marks_called, marks_asked}
 use Rattle.composition.specs.Sessions.{Session, EngineLegal, MembersKeep}
 use Rattle.composition.specs.SessionRuns.{SessionRun, IsStoppedRun}
 use Rattle.composition.specs.CompositionLaws.{IsComposed}
 use Rattle.session_runs.specs.RunsFit.{starts_begun}
-use Rattle.session_laws.specs.ClosedSessions.{ClosedSession, ListsMembers, calls_on_database, engine_calls, session_of}
+use Rattle.session_laws.specs.ClosedSessions.{ClosedBuffer, ClosedSession, ListsMembers, calls_on_database, engine_calls, logger_caller, logger_client, session_of}
 use Rattle.session_laws.specs.MembersAtEnd.{MembersAtEnd}
 use Rattle.session_laws.specs.MadeRuns.{RunIn, RunHolds}
 use Rattle.session_laws.specs.OtherNames.{IsOtherName}
@@ -44,14 +46,26 @@ abbrev pub OtherNamesStay : Type 0
 OtherNamesStay = (c : ClosedSession) → MembersAtEnd c → (name : List ℕ) → IsOtherName c name →
     c.files.at name ≡ c.first_files.at name
 
+-- In the history of each buffer the logger's own calls ask for just the marks for which its turns ask, in their order: of each pause
+-- and each resume of a run whose start it accepted.
+abbrev pub MarksMade : ClosedSession → Type 0
+MarksMade c = (number : ℕ) → (b : ClosedBuffer) → slice_get c.buffers number ≡ Some b →
+    marks_called (entries_by (logger_caller c) b.history)
+    ≡ marks_asked (member_turns (logger_client c) (engine_calls c (logger_caller c)))
+
+abbrev pub EndsMark : Type 0
+EndsMark = (c : ClosedSession) → MembersAtEnd c → MarksMade c
+
 -- A closed session: the law of composition for its histories; all runs that the main thread made; the files of other names,
--- which are as they were at first; and the callers of the database, which are the main thread and the front-ends alone.
+-- which are as they were at first; the callers of the database, which are the main thread and the front-ends alone; and the marks of
+-- pauses and resumes in its buffers.
 pub record SessionHolds (c : ClosedSession) : Type 0 where
   pub moments : (client : ℕ) → List ℕ
   pub composed : IsComposed (session_of c moments)
   pub runs : (r : SessionRun) → RunIn (entries_by main_caller c.engine) r → RunHolds (session_of c moments) r
   pub others : (name : List ℕ) → IsOtherName c name → c.files.at name ≡ c.first_files.at name
   pub callers : (by : ℕ) → length c.fronts < by → calls_on_database c by ≡ []
+  pub marks : MarksMade c
 
 -- So it is with a session whose objects are closed, with the moments that are known of its front-ends.
 abbrev pub EndsHold : Type 0

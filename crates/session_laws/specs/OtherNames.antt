@@ -2,6 +2,7 @@
 use Rattle.std.specs.Prelude.{◌≡◌, ◌≢◌, ◌≤◌, ◌<◌, ◌⊎◌, ℕ, IsSome, List, [], ◌∷◌, ◌++◌, Contains, Some, None, Ok}
 use Rattle.daq_types.specs.Callers.{main_caller}
 use Rattle.daq_types.specs.declared.runs.ChannelEnd.{ChannelEnd}
+use Rattle.daq_types.specs.declared.runs.ChannelState.TheVariants.{Broken}
 use Rattle.daq_types.specs.declared.runs.StartOutcome.TheVariants.{Refused}
 use Rattle.daq_types.specs.declared.runs.Transition.TheVariants.{Start}
 use Rattle.daq_types.specs.declared.runs.Why.{Why}
@@ -125,6 +126,49 @@ pub record IsTakenName (c : ClosedSession) (first now : FilesTold) (run start nu
       ⊎ (IsMadeName c first now start (file_name_by channel.spec.pattern run)
       ⊎ GivesNameBefore c place run (file_name_by channel.spec.pattern run))
   pub least : AreFreeNames c first.seen run start place
+
+-- In a run that came about before the start with this number a channel is told to be broken, and the name is that of a file of it: of
+-- a number up to how many files were told, as the next one could not be made.
+pub record HasBrokenBefore (c : ClosedSession) (start : ℕ) (name : List ℕ) : Type 0 where
+  pub run : SessionRun
+  pub made : RunIn (engine_calls c main_caller) run
+  pub before : run.start < start
+  pub place : ℕ
+  pub channel : Channel
+  pub there : slot_at c.slots place ≡ Some channel
+  pub told : ChannelEnd
+  pub tells : ToldOf c run channel told
+  pub broken : told.state ≡ Broken
+  pub sub : ℕ
+  pub few : sub ≤ told.files
+  pub is : piece_name_by channel.spec.pattern run.first.run sub ≡ name
+
+-- A start before the one with this number was refused, and a channel gives the name to a file of its run.
+pub record HasRefusedBefore (c : ClosedSession) (start : ℕ) (name : List ℕ) : Type 0 where
+  pub run : ℕ
+  pub begun : BeginsStartOf (engine_calls c main_caller) run
+  pub refused : RefusesStart (engine_calls c main_caller) begun.start
+  pub before : begun.start < start
+  pub place : ℕ
+  pub channel : Channel
+  pub there : slot_at c.slots place ≡ Some channel
+  pub sub : ℕ
+  pub is : piece_name_by channel.spec.pattern run sub ≡ name
+
+-- the channel with this number gives the name to its first file in the run of this number
+pub record IsFirstFile (c : ClosedSession) (number run : ℕ) (name : List ℕ) : Type 0 where
+  pub place : ℕ
+  pub channel : Channel
+  pub there : slot_at c.slots place ≡ Some channel
+  pub number_is : channel.spec.number ≡ number
+  pub is : file_name_by channel.spec.pattern run ≡ name
+
+-- The file of the first fault is the one that the channel with this number was to make in the run of this number, whose start has that
+-- start number; or it is one of an earlier start: of a channel that is told to be broken, or of a run whose start was refused.
+pub record HasFirstFault (c : ClosedSession) (now : FilesTold) (run start number : ℕ) : Type 0 where
+  pub name : List ℕ
+  pub named : now.first ≡ Some name
+  pub of : IsFirstFile c number run name ⊎ (HasBrokenBefore c start name ⊎ HasRefusedBefore c start name)
 
 -- What stands under the name is as it was at first; or there was no file of it, and a start whose run has the name was refused, and more
 -- faults were counted than are told.

@@ -4,7 +4,7 @@ ghost use Rattle.session_laws.specs.CountedFaults.{CountsTell};
 ghost use Rattle.session_laws.specs.OneAnswer.{OneAnswerEach, RisesToldEach};
 ghost use Rattle.session_laws.specs.RecordedRuns.{ChannelsAgree, RecordsHold};
 ghost use Rattle.session_laws.specs.RefusedRecords.{RecordsRefused};
-ghost use Rattle.session_laws.specs.EndLaws.{EndsKeep, EndsComposed, MembersListed, MadeAreStopped, StoppedHold, StartsDiffer, OtherNamesStay, EndsHold};
+ghost use Rattle.session_laws.specs.EndLaws.{EndsKeep, EndsComposed, MembersListed, MadeAreStopped, StoppedHold, StartsDiffer, OtherNamesStay, EndsMark, EndsHold};
 
 use crate::blank_laws as blanks;
 use buffer_lock::laws as buffers;
@@ -66,10 +66,19 @@ pub fn other_names_stay()
     turns::turns_begun();
 }
 
-/// A closed session holds all that, of each run that the main thread made and of its run files.
+/// In each buffer the logger marked each pause and each resume of the runs whose starts it accepted, in order, and nothing else as
+/// one. So no event of such a run was sent between a mark of its pause that was accepted and that of its resume.
+pub fn marks_end()
+    ensures { EndsMark }
+{
+    turns::gives_turns();
+}
+
+/// A closed session holds all that, of each run that the main thread made, of its run files and of the marks in its buffers.
 pub fn session_holds()
     ensures { EndsHold }
 {
+    marks_end();
     ends_composed();
     made_are_stopped();
     stopped_hold();

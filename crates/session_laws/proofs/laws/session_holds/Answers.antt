@@ -11,6 +11,7 @@ returns c = λ closed ends.
         runs = λ r made. c.stopped_hold.ensures (session_of closed ends.moments) composed r (c.made_are_stopped.ensures (session_of closed ends.moments) ends.engine r made);
         others = λ name other. c.other_names_stay.ensures closed ends name other;
         callers = ends.others.database;
+        marks = c.marks_end.ensures closed ends;
       },
       refl,
     )
