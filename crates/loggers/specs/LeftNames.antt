@@ -103,12 +103,13 @@ pub record IsUndoneName (specs : List (Option ChannelSpec)) (turns : List Member
   pub few : sub ≤ last_number
   pub is : piece_name_by spec.pattern run sub ≡ name
 
--- More faults were counted than the answers to these turns and the channels that broke off tell: one was where a start was undone.
+-- More faults were counted than the answers to these turns and the channels that broke off tell, one for each: as where a start was
+-- undone, or a channel broke off by more than one failed call.
 abbrev pub HasUntoldFault : List (Option Channel) → List MemberTurn → (first now : FilesTold) → Type 0
 HasUntoldFault slots turns first now = RoseBy (faults_told turns + broken_off slots + 1) first.faults now.faults
 
 -- The name is that of a file of a run that was stopped; or it is one of a run whose start was undone, of which a file may be left where
--- its removing failed, which no answer tells.
+-- more faults were counted than are told.
 abbrev pub IsNameMade : (Untold : Type 0) → List (Option ChannelSpec) → List MemberTurn → (name : List ℕ) → Type 0
 IsNameMade Untold specs turns name = IsStoppedName specs turns name ⊎ (Untold × IsUndoneName specs turns name)
 

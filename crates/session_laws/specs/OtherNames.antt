@@ -90,13 +90,14 @@ pub record HasUndoneName (c : ClosedSession) (name : List ℕ) : Type 0 where
   pub few : sub ≤ last_number
   pub is : piece_name_by channel.spec.pattern run sub ≡ name
 
--- More faults of the run files were counted than the logger tells: one was where a start was undone.
+-- More faults of the run files were counted than the logger tells: as where a start was undone, or a channel broke off by more than one
+-- failed call.
 abbrev pub HasLoggerUntold : ClosedSession → (first now : FilesTold) → Type 0
 HasLoggerUntold c first now =
     HasUntoldFault c.slots (member_turns (logger_client c) (engine_calls c (logger_caller c))) first now
 
 -- A run that came about before the start with this number has a file of this name; or a start before it, whose run has the name, was
--- refused, and its file may have stayed where its removing failed, which was counted and is not told.
+-- refused, and its file may have stayed, where more faults were counted than are told.
 abbrev pub IsMadeName : ClosedSession → (first now : FilesTold) → (start : ℕ) → (name : List ℕ) → Type 0
 IsMadeName c first now start name =
     HasMadeBefore c start name
