@@ -16,7 +16,7 @@ use Rattle.session_runs.specs.MadeTransitions.{TransitionIn, done_check}
 use Rattle.session_objects.specs.declared.record.SessionRecord.{SessionRecord}
 use Rattle.session_runs.specs.KeptRuns.{RunsSeen}
 use Rattle.session_runs.specs.RunsFit.{MainOwn, start_begun, start_of, starts_begun}
-use Rattle.session_lines.specs.Stages.{SessionStage}
+use Rattle.session_commands.specs.Stages.{SessionStage}
 use Rattle.session_commands.specs.Quotas.{quota_begun, quotas_begun, quotas_so_far}
 use Rattle.daq_session.specs.Sessions.{KeepsSession, KeptRunsAsked, RunsAsked, SessionKept}
 use Rattle.daq_session.proofs.ToldRuns.{mapped}

@@ -11,7 +11,7 @@ use Rattle.session_objects.specs.declared.record.SessionRecord.{SessionRecord}
 use Rattle.session_objects.specs.Calls.{SessionCalls}
 use Rattle.session_objects.specs.Records.{HasCalls, HoldsCalls, HoldsHistories}
 use Rattle.session_runs.specs.KeptRuns.{RunsSeen}
-use Rattle.session_lines.specs.Stages.{SessionStage}
+use Rattle.session_commands.specs.Stages.{SessionStage}
 use Rattle.console.specs.declared.refusals.Refusals.{Refusals}
 use Rattle.console.specs.declared.endings.Ending.{Ending}
 use Rattle.console.specs.declared.endings.Ending.TheVariants.{Halted}

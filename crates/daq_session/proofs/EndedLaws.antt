@@ -13,7 +13,7 @@ use Rattle.daq_members.specs.Members.{MemberTold}
 use Rattle.session_objects.specs.declared.record.SessionRecord.{SessionRecord}
 use Rattle.session_runs.specs.RunEntries.{StopCalls, dump_saved}
 use Rattle.session_runs.specs.RunsFit.{MainOwn, StandCalls}
-use Rattle.session_lines.specs.Stages.{SessionStage}
+use Rattle.session_commands.specs.Stages.{SessionStage}
 use Rattle.session_laws.specs.ClosedSessions.{ClosedSession}
 use Rattle.session_laws.specs.CountedFaults.{state_by_dump}
 use Rattle.session_laws.specs.EndedRecords.{RecordSo}

@@ -12,8 +12,8 @@ use Rattle.odb_watch.specs.Steps.{unwatched}
 use Rattle.odb_watch.specs.DatabasePorts.{DatabaseAccess}
 use Rattle.odb_lock.specs.SharedAccesses.{shared_access}
 use Rattle.console.specs.declared.refusals.Refusals.{Refusals}
-use Rattle.session_lines.specs.Stages.{first_stage}
-use Rattle.session_lines.specs.ScriptLines.{BreaksScriptLine, ClosesScript, DoesScriptLine, GivesUp}
+use Rattle.session_commands.specs.Stages.{first_stage}
+use Rattle.session_commands.specs.ScriptLines.{BreaksScriptLine, ClosesScript, DoesScriptLine, GivesUp}
 use Rattle.console.specs.declared.endings.Ending.TheVariants.{Halted}
 use Rattle.console.specs.declared.halts.Halt.TheVariants.{NoMemory as no_memory}
 use Rattle.console.specs.Closing.{Finished}

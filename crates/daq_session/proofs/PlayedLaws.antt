@@ -18,8 +18,8 @@ use Rattle.session_setup.specs.Setup.{Declared, declared_by}
 use Rattle.session_setup.specs.SetupLines.{opened_with_defaults}
 use Rattle.session_setup.specs.declared.declared.DeclaredLists.{DeclaredLists}
 use Rattle.session_runs.specs.KeptRuns.{RunsSeen}
-use Rattle.session_lines.specs.Stages.{SessionStage, front_names, open_stage, opened_runs, unopened_stage}
-use Rattle.session_lines.specs.RunLines.{CutsKeys, CutsOpening, KeysMade, MakesKeys, OpensSession}
+use Rattle.session_commands.specs.Stages.{SessionStage, front_names, open_stage, opened_runs, unopened_stage}
+use Rattle.session_commands.specs.RunLines.{CutsKeys, CutsOpening, KeysMade, MakesKeys, OpensSession}
 use Rattle.console.specs.declared.endings.Ending.TheVariants.{Halted}
 use Rattle.console.specs.declared.halts.Halt.TheVariants.{NoMemory as no_memory}
 use Rattle.session_commands.specs.declared.side.MainSide.{MainSide}

@@ -18,8 +18,8 @@ use Rattle.session_objects.specs.declared.objects.SessionObjects.{SessionObjects
 use Rattle.session_objects.specs.declared.passes.SessionPasses.{SessionPasses}
 use Rattle.session_objects.specs.Objects.{AreObjectsOf, HaveCallers}
 use Rattle.console.specs.DatabaseStages.{DatabaseStage}
-use Rattle.session_lines.specs.Stages.{SessionStage, unopened_stage}
-use Rattle.session_lines.specs.RunLines.{CutsOpening}
+use Rattle.session_commands.specs.Stages.{SessionStage, unopened_stage}
+use Rattle.session_commands.specs.RunLines.{CutsOpening}
 use Rattle.daq_session.specs.declared.left.EndedObjects.{EndedObjects}
 use Rattle.daq_session.specs.NewDatabases.{database_passes}
 use Rattle.daq_session.specs.Played.{IsEndedSession, NoneOpened, ObjectsEnd}

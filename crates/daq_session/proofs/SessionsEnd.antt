@@ -30,7 +30,7 @@ use Rattle.loggers.specs.OtherFiles.{AreDeclared, specs_in}
 use Rattle.session_runs.specs.declared.records.RunRecord.{RunRecord}
 use Rattle.session_runs.specs.declared.on.CurrentRun.{CurrentRun}
 use Rattle.session_runs.specs.RunsFit.{FitsRun, MainOwn, RecordsFit, RunClients, SteersEngine, run_clients, start_of, start_on, starts_begun}
-use Rattle.session_lines.specs.Stages.{SessionStage, members_declared}
+use Rattle.session_commands.specs.Stages.{SessionStage, members_declared}
 use Rattle.session_objects.specs.declared.record.BufferRecord.{BufferRecord}
 use Rattle.session_objects.specs.declared.record.SessionRecord.{SessionRecord}
 use Rattle.session_objects.specs.Members.{members_told}

@@ -21,7 +21,7 @@ use Rattle.daq_session.specs.ToldRecords.{IsFileOfPiece, IsFrontEvent, IsSentInR
 use Rattle.frontend_kit.specs.declared.generator.Generator.{Generator}
 use Rattle.odb_commands.specs.declared.dump_replies.FileReply.{FileReply}
 use Rattle.session_runs.specs.RunEntries.{dump_saved}
-use Rattle.session_lines.specs.Stages.{SessionStage}
+use Rattle.session_commands.specs.Stages.{SessionStage}
 use Rattle.daq_members.specs.Members.{MemberTold}
 use Rattle.daq_session.specs.declared.ends.ScriptEnd.{ScriptEnd}
 use Rattle.daq_session.specs.Environments.{OutsideTold}

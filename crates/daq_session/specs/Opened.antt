@@ -21,8 +21,8 @@ use Rattle.session_objects.specs.Kept.{HasFreshBut, out_to, out_to_members}
 use Rattle.session_objects.specs.Members.{HasNewMembers}
 use Rattle.session_objects.specs.Objects.{SuitMembers}
 use Rattle.session_runs.specs.KeptRuns.{RunsSeen}
-use Rattle.session_lines.specs.RunLines.{CutsKeys, KeysMade}
-use Rattle.session_lines.specs.Stages.{front_names, opened_runs}
+use Rattle.session_commands.specs.RunLines.{CutsKeys, KeysMade}
+use Rattle.session_commands.specs.Stages.{front_names, opened_runs}
 use Rattle.console.specs.Closing.{EndCounts}
 use Rattle.session_commands.specs.declared.main_play.MainEnd.{MainEnd}
 use Rattle.session_commands.specs.declared.main_play.MainPlay.{MainPlay}

@@ -31,7 +31,7 @@ use Rattle.session_objects.specs.Objects.{AreObjectsOf, HaveCallers}
 use Rattle.session_objects.specs.Records.{HasCalls, HoldsCalls, HoldsHistories}
 use Rattle.session_objects.specs.Rosters.{KeepsPasses}
 use Rattle.session_runs.specs.KeptRuns.{RunsSeen}
-use Rattle.session_lines.specs.Stages.{SessionStage, first_stage}
+use Rattle.session_commands.specs.Stages.{SessionStage, first_stage}
 use Rattle.console.specs.declared.endings.Ending.{Ending}
 use Rattle.console.specs.Closing.{EndCounts}
 use Rattle.session_commands.specs.declared.main_play.MainPlay.{MainPlay}

@@ -7,7 +7,7 @@ ghost use Rattle.odb_watch.specs.DatabasePorts.{IsSamePort};
 ghost use Rattle.odb_lock.specs.SharedAccesses.{access_by_pass};
 ghost use Rattle.transitions.specs.Engines.{engine_opening};
 ghost use Rattle.transition_lock.specs.SharedEngines.{engine_lock_of, first_engine};
-ghost use Rattle.session_lines.specs.Stages.{front_names, opened_runs};
+ghost use Rattle.session_commands.specs.Stages.{front_names, opened_runs};
 ghost use Rattle.session_setup.specs.Setup.{declared_by};
 ghost use Rattle.session_objects.specs.Kept.{OthersSawNothing};
 ghost use Rattle.daq_session.specs.NewDatabases.{IsNewDatabase};

@@ -20,7 +20,7 @@ use Rattle.session_setup.specs.declared.declared.AnalyzerDeclared.{AnalyzerDecla
 use Rattle.session_objects.specs.declared.record.BufferRecord.{BufferRecord}
 use Rattle.session_objects.specs.declared.record.SessionRecord.{SessionRecord}
 use Rattle.session_laws.specs.ClosedSessions.{ClosedSession}
-use Rattle.session_lines.specs.Stages.{SessionStage}
+use Rattle.session_commands.specs.Stages.{SessionStage}
 use Rattle.daq_session.specs.Sessions.{KeepsSession}
 use Rattle.daq_session.specs.ToldRecords.{IsCountedInRun, RunTells}
 use Rattle.read_back.specs.FilesBack.{PrintsReport, piece_names}

@@ -6,8 +6,8 @@ use Rattle.odb_script.specs.declared.commands.Command.{Command}
 use Rattle.odb_script.specs.Forms.{Read}
 use Rattle.console.specs.declared.replies.Reply.{Reply}
 use Rattle.console.specs.declared.refusals.Refusals.{Refusals}
-use Rattle.session_lines.specs.Stages.{SessionStage}
-use Rattle.session_lines.specs.ScriptLines.{BreaksScriptLine, ClosesScript, DoesScriptLine, GivesUp}
+use Rattle.session_commands.specs.Stages.{SessionStage}
+use Rattle.session_commands.specs.ScriptLines.{BreaksScriptLine, ClosesScript, DoesScriptLine, GivesUp}
 use Rattle.console.specs.declared.endings.Ending.{Ending}
 use Rattle.console.specs.declared.endings.Ending.TheVariants.{End, TooLong, SourceFault, Halted}
 use Rattle.console.specs.declared.halts.Halt.{Halt}

@@ -7,7 +7,7 @@ use Rattle.session_setup.specs.Setup.{Declared}
 use Rattle.session_setup.specs.Refusals.{ok_unless}
 use Rattle.session_setup.specs.SetupLines.{is_limited, IsPatternRead, with_channel}
 use Rattle.console.specs.declared.replies.Reply.{Reply}
-use Rattle.session_lines.specs.SetupReplies.{SetupUnless, TakesChannel, TakesSetup, setup_reply}
+use Rattle.session_commands.specs.SetupReplies.{SetupUnless, TakesChannel, TakesSetup, setup_reply}
 
 pub unless_closed : (opened : Bool) (Then : Type 0) (old : Declared) (reply : Reply) (new : Declared) → opened ≡ false → Then → SetupUnless opened Then old reply new
 unless_closed opened Then old reply new closed this = subst (λ (o : Bool). SetupUnless o Then old reply new) (sym closed) this

@@ -25,9 +25,9 @@ use Rattle.console.specs.declared.refusals.Refusals.{Refusals}
 use Rattle.session_runs.specs.KeptRuns.{RunsSeen}
 use Rattle.console.specs.DatabaseStages.{DatabaseStage}
 use Rattle.console.specs.DatabaseLines.{BreaksDatabase, CutsDump, DoesDatabase}
-use Rattle.session_lines.specs.Stages.{SessionStage}
-use Rattle.session_lines.specs.RunLines.{BreaksStart, BreaksStop, ClosesRun, CutsOpening, DoesPause, DoesResume, DoesStart, DoesStop}
-use Rattle.session_lines.specs.ScriptLines.{BreaksScriptLine, CallsDatabase, ClosesScript, DoesScriptLine, GivesUp}
+use Rattle.session_commands.specs.Stages.{SessionStage}
+use Rattle.session_commands.specs.RunLines.{BreaksStart, BreaksStop, ClosesRun, CutsOpening, DoesPause, DoesResume, DoesStart, DoesStop}
+use Rattle.session_commands.specs.ScriptLines.{BreaksScriptLine, CallsDatabase, ClosesScript, DoesScriptLine, GivesUp}
 use Rattle.console.specs.declared.endings.Ending.{Ending}
 use Rattle.console.specs.declared.endings.Ending.TheVariants.{End, TooLong as too_long, SourceFault as source_fault, Halted}
 use Rattle.console.specs.declared.halts.Halt.{Halt}

@@ -10,8 +10,8 @@ use Rattle.odb_commands.specs.declared.dump_replies.FileReply.TheVariants as fil
 use Rattle.odb_commands.specs.WatchCalls.{FaultsIf}
 use Rattle.console.specs.declared.refusals.Refusals.{Refusals}
 use Rattle.console.specs.DatabaseLines.{file_replied}
-use Rattle.session_lines.specs.Stages.{SessionStage}
-use Rattle.session_lines.specs.ScriptLines.{BreaksScriptLine, ClosesScript, DoesScriptLine, GivesUp}
+use Rattle.session_commands.specs.Stages.{SessionStage}
+use Rattle.session_commands.specs.ScriptLines.{BreaksScriptLine, ClosesScript, DoesScriptLine, GivesUp}
 use Rattle.console.specs.declared.endings.Ending.{Ending}
 use Rattle.console.specs.declared.endings.Ending.TheVariants.{Halted}
 use Rattle.console.specs.declared.halts.Halt.{Halt}

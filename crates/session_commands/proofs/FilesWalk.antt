@@ -15,9 +15,9 @@ use Rattle.session_runs.specs.declared.replies.RunReply.{RunReply}
 use Rattle.session_runs.specs.KeptRuns.{RunsSeen}
 use Rattle.console.specs.DatabaseStages.{DatabaseStage}
 use Rattle.console.specs.DatabaseLines.{BreaksDatabase, CutsDump, DoesDatabase, file_replied}
-use Rattle.session_lines.specs.Stages.{SessionStage}
-use Rattle.session_lines.specs.RunLines.{BreaksStart, BreaksStop, ClosesRun, CutsOpening, DoesPause, DoesResume, DoesStart, DoesStop, PausesBy, ResumesBy, RunsCommand, StartsBy, StopsBy}
-use Rattle.session_lines.specs.ScriptLines.{BreaksScriptLine, ClosesScript, DoesScriptLine, GivesUp}
+use Rattle.session_commands.specs.Stages.{SessionStage}
+use Rattle.session_commands.specs.RunLines.{BreaksStart, BreaksStop, ClosesRun, CutsOpening, DoesPause, DoesResume, DoesStart, DoesStop, PausesBy, ResumesBy, RunsCommand, StartsBy, StopsBy}
+use Rattle.session_commands.specs.ScriptLines.{BreaksScriptLine, ClosesScript, DoesScriptLine, GivesUp}
 use Rattle.session_commands.proofs.LineKinds.{LineCut, CutsCalls, CutsStartLine, CutsStopLine, LineKind, CallsRows, Declares, IsPause, IsResume, IsStart, IsStill, IsStop, SetsQuota, line_cut, line_kind}
 
 module _ (Kept : List (ℕ × FileReply) → FilesTold → Type 0) where

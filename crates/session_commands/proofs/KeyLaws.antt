@@ -6,7 +6,7 @@ use Rattle.odb_tree.specs.declared.entry.DatabaseEntry.{DatabaseEntry}
 use Rattle.odb_tree.specs.declared.refusals.OdbRefusal.{OdbRefusal}
 use Rattle.odb_watch.specs.DatabasePorts.{AddsCall, AddsCalls, DatabaseAccess, IsSettled}
 use Rattle.odb_runinfo.specs.RunSets.{sent_key_made}
-use Rattle.session_lines.specs.RunLines.{MakesKeys}
+use Rattle.session_commands.specs.RunLines.{MakesKeys}
 
 pub take_next : {A : Type 0} (xs : List A) (i : ℕ) (x : A) → i < length xs → x ≡ get_or xs i x → take (i + 1) xs ≡ take i xs ++ x ∷ []
 take_next {A} xs i x within is = take_more xs i x within ∙ ap (λ (z : A). take i xs ++ z ∷ []) (sym is)

@@ -1,3 +1,5 @@
+mod PassedOverLaws
+mod CommandsKept
 pub mod LineKinds
 pub mod CallsOn
 pub mod SpareLaws

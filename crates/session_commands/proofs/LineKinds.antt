@@ -10,10 +10,10 @@ use Rattle.odb_script.specs.Forms.{Read}
 use Rattle.console.specs.declared.replies.Reply.{Reply}
 use Rattle.session_setup.specs.Setup.{Declared}
 use Rattle.console.specs.DatabaseLines.{BreaksDatabase, DoesDatabase}
-use Rattle.session_lines.specs.Stages.{SessionStage, with_quota}
-use Rattle.session_lines.specs.SetupReplies.{SetupUnless}
-use Rattle.session_lines.specs.RunLines.{BreaksStart, BreaksStop, DoesPause, DoesResume, DoesStart, DoesStop}
-use Rattle.session_lines.specs.ScriptLines.{BreaksCommand, BreaksScriptLine, CallsDatabase, DoesCommand, DoesScriptLine}
+use Rattle.session_commands.specs.Stages.{SessionStage, with_quota}
+use Rattle.session_commands.specs.SetupReplies.{SetupUnless}
+use Rattle.session_commands.specs.RunLines.{BreaksStart, BreaksStop, DoesPause, DoesResume, DoesStart, DoesStop}
+use Rattle.session_commands.specs.ScriptLines.{BreaksCommand, BreaksScriptLine, CallsDatabase, DoesCommand, DoesScriptLine}
 
 -- It changes nothing; it declares something, unless the session was opened; it sets the quota; it is a command of runs; or it calls
 -- the online database.

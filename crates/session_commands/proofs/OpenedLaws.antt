@@ -18,13 +18,13 @@ use Rattle.session_runs.specs.declared.replies.RunReply.TheVariants as answer
 use Rattle.session_runs.specs.KeptRuns.{RunsSeen}
 use Rattle.session_runs.specs.RunAnswers.{AnswersPause, AnswersResume, AnswersStart, AnswersStop, CommandPoint, CutsStart, StopsUnsaved}
 use Rattle.console.specs.DatabaseStages.{DatabaseStage}
-use Rattle.session_lines.specs.NothingSaid.{NothingSaid, own_point}
-use Rattle.session_lines.specs.Keeping.{KeptByCommand}
-use Rattle.session_lines.specs.Staying.{StaysOpen}
-use Rattle.session_lines.specs.Stages.{SessionStage, open_stage}
-use Rattle.session_lines.specs.RunLines.{BreaksStop, RunsCommand, StartsBy, StopsBy, behind_command, reply_for}
-use Rattle.session_lines.specs.ScriptLines.{BreaksScriptLine, DoesScriptLine}
-use Rattle.session_lines.proofs.StayingLaws.{rounds_more}
+use Rattle.session_commands.specs.NothingSaid.{NothingSaid, own_point}
+use Rattle.session_commands.specs.KeptByCommands.{KeptByCommand}
+use Rattle.session_commands.specs.Staying.{StaysOpen}
+use Rattle.session_commands.specs.Stages.{SessionStage, open_stage}
+use Rattle.session_commands.specs.RunLines.{BreaksStop, RunsCommand, StartsBy, StopsBy, behind_command, reply_for}
+use Rattle.session_commands.specs.ScriptLines.{BreaksScriptLine, DoesScriptLine}
+use Rattle.session_commands.specs.Staying.{rounds_more}
 
 pub on_err : {T E : Type 0} (r : Result T E) (P : Type 0) → P → OnErr r P
 on_err (Ok x) P p = tt

@@ -6,9 +6,9 @@ use Rattle.odb_script.specs.Forms.{Read}
 use Rattle.odb_script.specs.declared.commands.Command.{Command}
 use Rattle.console.specs.declared.replies.Reply.{Reply}
 use Rattle.session_runs.specs.KeptRuns.{RunsSeen}
-use Rattle.session_lines.specs.Stages.{SessionStage}
-use Rattle.session_lines.specs.RunLines.{BreaksStart, ClosesRun, CutsOpening, DoesStart, OpensSession}
-use Rattle.session_lines.specs.ScriptLines.{BreaksScriptLine, ClosesScript, DoesScriptLine, opens_session}
+use Rattle.session_commands.specs.Stages.{SessionStage}
+use Rattle.session_commands.specs.RunLines.{BreaksStart, ClosesRun, CutsOpening, DoesStart, OpensSession}
+use Rattle.session_commands.specs.ScriptLines.{BreaksScriptLine, ClosesScript, DoesScriptLine, opens_session}
 
 -- only a start opens a session
 pub opens_start : (line : Read Command) → opens_session line ≡ true → line ≡ Ok (Run Start)

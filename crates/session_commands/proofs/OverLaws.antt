@@ -19,11 +19,11 @@ use Rattle.session_runs.specs.KeptRuns.{IsInStep, RunsSeen}
 use Rattle.session_runs.specs.RunAnswers.{AnswersStop, CommandPoint, MakesStop}
 use Rattle.console.specs.declared.replies.Reply.{Reply}
 use Rattle.console.specs.declared.refusals.Refusals.{Refusals}
-use Rattle.session_lines.specs.declared.passed_over.PassedOver.{PassedOver}
-use Rattle.session_lines.specs.NothingSaid.{NothingSaid, own_point}
-use Rattle.session_lines.specs.Stages.{SessionStage}
-use Rattle.session_lines.specs.RunLines.{BreaksStop, ClosesRun, RunsCommand, StopsBy}
-use Rattle.session_lines.specs.ScriptLines.{BreaksScriptLine, ClosesScript, DoesScriptLine, GivesUp}
+use Rattle.session_commands.specs.declared.passed_over.PassedOver.{PassedOver}
+use Rattle.session_commands.specs.NothingSaid.{NothingSaid, own_point}
+use Rattle.session_commands.specs.Stages.{SessionStage}
+use Rattle.session_commands.specs.RunLines.{BreaksStop, ClosesRun, RunsCommand, StopsBy}
+use Rattle.session_commands.specs.ScriptLines.{BreaksScriptLine, ClosesScript, DoesScriptLine, GivesUp}
 use Rattle.console.specs.declared.endings.Ending.{Ending}
 use Rattle.console.specs.declared.halts.Halt.{Halt}
 use Rattle.console.specs.Closing.{Finished, GaveUp, IsClosed}

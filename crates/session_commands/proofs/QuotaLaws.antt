@@ -36,12 +36,12 @@ use Rattle.session_runs.specs.declared.replies.RunReply.TheVariants as answer
 use Rattle.session_runs.specs.KeptRuns.{RunsSeen, behind_start}
 use Rattle.session_runs.specs.RunAnswers.{AnswersPause, AnswersResume, AnswersStart, AnswersStop, BeginsRun, CommandPoint, MakesChange, MakesStart, MakesStop}
 use Rattle.console.specs.DatabaseLines.{DoesDatabase}
-use Rattle.session_lines.specs.declared.passed_over.PassedOver.{PassedOver}
-use Rattle.session_lines.specs.NothingSaid.{NothingSaid, own_point}
-use Rattle.session_lines.specs.Stages.{SessionStage, members_declared, runs_with_quota, with_quota}
-use Rattle.session_lines.specs.SetupReplies.{SetupUnless, TakesChannel, TakesDeclaration, TakesSetup}
-use Rattle.session_lines.specs.RunLines.{BreaksStart, BreaksStop, ClosesRun, CutsOpening, CutsRun, DoesPause, DoesResume, DoesStart, DoesStop, OpensSession, PausesBy, ResumesBy, RunsCommand, StartsBy, StopsBy, reply_for}
-use Rattle.session_lines.specs.ScriptLines.{BreaksScriptLine, CallsDatabase, ClosesScript, DoesCommand, DoesScriptLine, GivesUp}
+use Rattle.session_commands.specs.declared.passed_over.PassedOver.{PassedOver}
+use Rattle.session_commands.specs.NothingSaid.{NothingSaid, own_point}
+use Rattle.session_commands.specs.Stages.{SessionStage, members_declared, runs_with_quota, with_quota}
+use Rattle.session_commands.specs.SetupReplies.{SetupUnless, TakesChannel, TakesDeclaration, TakesSetup}
+use Rattle.session_commands.specs.RunLines.{BreaksStart, BreaksStop, ClosesRun, CutsOpening, CutsRun, DoesPause, DoesResume, DoesStart, DoesStop, OpensSession, PausesBy, ResumesBy, RunsCommand, StartsBy, StopsBy, reply_for}
+use Rattle.session_commands.specs.ScriptLines.{BreaksScriptLine, CallsDatabase, ClosesScript, DoesCommand, DoesScriptLine, GivesUp}
 use Rattle.console.specs.declared.endings.Ending.{Ending}
 use Rattle.console.specs.declared.halts.Halt.{Halt}
 use Rattle.console.specs.Playing.{PlaysFrom}

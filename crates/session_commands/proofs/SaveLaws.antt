@@ -28,7 +28,7 @@ use Rattle.console.specs.declared.replies.Reply.{Reply}
 use Rattle.session_runs.specs.RunEntries.{BeginCalls, StopCalls}
 use Rattle.console.specs.DatabaseStages.{DatabaseStage}
 use Rattle.console.specs.DatabaseLines.{DoesDatabase}
-use Rattle.session_lines.specs.RunLines.{KeysMade}
+use Rattle.session_commands.specs.RunLines.{KeysMade}
 use Rattle.session_commands.specs.Keeping.{AllSaved, SavesDump}
 use Rattle.session_commands.proofs.CallsOn.{CallsOn, all_both}
 use Rattle.session_commands.proofs.SpareLaws.{SpareLaws}

@@ -31,8 +31,8 @@ use Rattle.session_runs.specs.RunAnswers.{CommandPoint, CutsBegin, CutsStart}
 use Rattle.session_runs.specs.RunEntries.{BeginCalls, StopCalls, outcome_sets}
 use Rattle.console.specs.DatabaseStages.{DatabaseStage}
 use Rattle.console.specs.DatabaseLines.{BreaksDatabase, CutsDump, DoesDatabase}
-use Rattle.session_lines.specs.declared.passed_over.PassedOver.{PassedOver}
-use Rattle.session_lines.specs.RunLines.{CutsKeys, KeysMade, MakesKeys}
+use Rattle.session_commands.specs.declared.passed_over.PassedOver.{PassedOver}
+use Rattle.session_commands.specs.RunLines.{CutsKeys, KeysMade, MakesKeys}
 use Rattle.session_commands.specs.Keeping.{AllSpare}
 use Rattle.session_commands.proofs.CallsOn.{CallsOn, all_both, both_on, none_on}
 

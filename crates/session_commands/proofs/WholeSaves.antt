@@ -30,8 +30,8 @@ use Rattle.console.specs.DatabaseLines.{PerformsDump}
 use Rattle.console.specs.Playing.{PlaysFrom}
 use Rattle.console.specs.Closing.{Finished}
 use Rattle.console.proofs.KeepingLaws.{closing_keeps, cut_keeps, plays_keep}
-use Rattle.session_lines.specs.Stages.{SessionStage}
-use Rattle.session_lines.specs.ScriptLines.{BreaksScriptLine, ClosesScript, DoesScriptLine, GivesUp}
+use Rattle.session_commands.specs.Stages.{SessionStage}
+use Rattle.session_commands.specs.ScriptLines.{BreaksScriptLine, ClosesScript, DoesScriptLine, GivesUp}
 use Rattle.session_commands.specs.KeptDumps.{EachSavesWhole, IsSavedWhole}
 use Rattle.session_commands.proofs.DumpLaws.{closed_goes_on, cut_goes_on, files_seen, given_up_goes_on, line_goes_on}
 use Rattle.session_commands.proofs.SpareLaws.{SpareLaws, SparesOn}

@@ -11,8 +11,8 @@ use Rattle.session_setup.specs.Setup.{Declared, declared_by}
 use Rattle.session_runs.specs.KeptRuns.{RunsSeen}
 use Rattle.console.specs.declared.refusals.Refusals.{Refusals}
 use Rattle.console.specs.DatabaseStages.{DatabaseStage}
-use Rattle.session_lines.specs.Stages.{SessionStage, open_stage, unopened_stage}
-use Rattle.session_lines.specs.ScriptLines.{BreaksScriptLine, ClosesScript, DoesScriptLine, GivesUp, opens_session}
+use Rattle.session_commands.specs.Stages.{SessionStage, open_stage, unopened_stage}
+use Rattle.session_commands.specs.ScriptLines.{BreaksScriptLine, ClosesScript, DoesScriptLine, GivesUp, opens_session}
 use Rattle.console.specs.declared.endings.Ending.{Ending}
 use Rattle.console.specs.declared.halts.Halt.{Halt}
 use Rattle.console.specs.Playing.{HasLine, OpensAt, Played}

@@ -1,6 +1,6 @@
 -- The lines of a script up to its first start.
 use Rattle.daq_io.specs.Told.{SinkTold, SourceTold}
-use Rattle.session_lines.specs.ScriptLines.{BreaksScriptLine, DoesScriptLine, opens_session}
+use Rattle.session_commands.specs.ScriptLines.{BreaksScriptLine, DoesScriptLine, opens_session}
 use Rattle.console.specs.declared.play_end.PlayEnd.{PlayEnd}
 use Rattle.console.specs.Playing.{PlaysTo}
 use Rattle.session_commands.specs.declared.unopened.Unopened.{Unopened}

@@ -4,8 +4,8 @@ use Rattle.console.specs.declared.endings.Ending.{Ending}
 use Rattle.console.specs.declared.endings.Ending.TheVariants.{Halted}
 use Rattle.console.specs.declared.halts.Halt.{Halt}
 use Rattle.console.specs.declared.halts.Halt.TheVariants.{NoMemory as no_memory}
-use Rattle.session_lines.specs.Stages.{SessionStage}
-use Rattle.session_lines.specs.RunLines.{CutsOpening, OpensSession}
+use Rattle.session_commands.specs.Stages.{SessionStage}
+use Rattle.session_commands.specs.RunLines.{CutsOpening, OpensSession}
 use Rattle.session_commands.specs.Finishing.{FinishesLine, FinishesOpening, ScriptAt}
 
 -- What it does once its session is open it does from where the session was not open.

@@ -11,7 +11,7 @@ use Rattle.session_runs.specs.Members.{registrations}
 use Rattle.session_setup.specs.Setup.{Declared}
 use Rattle.session_runs.specs.KeptRuns.{IsInStep, RunsSeen, channels_of}
 use Rattle.session_runs.specs.RunsFit.{RunsFit, SteersEngine}
-use Rattle.session_lines.specs.Stages.{SessionStage, members_declared}
+use Rattle.session_commands.specs.Stages.{SessionStage, members_declared}
 use Rattle.odb_commands.specs.WatchSpares.{SparesWatched}
 
 -- The main thread keeps the declared members and channels; it registered the members on the engine, and made transitions behind

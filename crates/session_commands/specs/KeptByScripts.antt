@@ -10,8 +10,8 @@ use Rattle.console.specs.Closing.{Finished, ended_by}
 use Rattle.console.specs.declared.refusals.Refusals.{Refusals}
 use Rattle.console.specs.declared.replies.Reply.{Reply}
 use Rattle.odb_watch.specs.DatabasePorts.{own_watched}
-use Rattle.session_lines.specs.Stages.{SessionStage}
-use Rattle.session_lines.specs.ScriptLines.{BreaksScriptLine, ClosesScript, DoesScriptLine, GivesUp}
+use Rattle.session_commands.specs.Stages.{SessionStage}
+use Rattle.session_commands.specs.ScriptLines.{BreaksScriptLine, ClosesScript, DoesScriptLine, GivesUp}
 use Rattle.session_commands.specs.Endings.{NotesFailed, OneReply, asks_files, is_fault}
 use Rattle.session_commands.specs.Keeping.{EndsOver, StageKept, StageSaved, StageSpares}
 use Rattle.session_commands.specs.KeptDumps.{EachSavesWhole, KeepsDumps}

@@ -1,3 +1,10 @@
+pub mod NothingSaid
+pub mod Stages
+pub mod SetupReplies
+pub mod RunLines
+pub mod ScriptLines
+pub mod KeptByCommands
+pub mod Staying
 pub mod Endings
 pub mod RunReplies
 pub mod Keeping

@@ -1,7 +1,7 @@
 -- How the commands of runs are answered.
 use Rattle.daq_io.specs.Told.{AheadTold}
 use Rattle.std.specs.Prelude.{◌≡◌, ◌⊎◌, ℕ}
-use Rattle.session_lines.specs.RunLines.{reply_for}
+use Rattle.session_commands.specs.RunLines.{reply_for}
 use Rattle.console.specs.declared.replies.Reply.{Reply}
 use Rattle.session_runs.specs.declared.replies.RunReply.{RunReply}
 use Rattle.session_runs.specs.declared.replies.RunReply.TheVariants.{Stopped}

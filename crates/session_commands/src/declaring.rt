@@ -1,6 +1,6 @@
 // Declarations, in a session that is not open.
 ghost use Rattle.std.specs.Prelude.{◌≡◌, false};
-ghost use Rattle.session_lines.specs.SetupReplies.{DeclaresAnalyzer, DeclaresBuffer, DeclaresChannel, DeclaresFront, DoesDeclaration, setup_reply};
+ghost use Rattle.session_commands.specs.SetupReplies.{DeclaresAnalyzer, DeclaresBuffer, DeclaresChannel, DeclaresFront, DoesDeclaration, setup_reply};
 
 use console::Reply;
 use daq_types::Kind;

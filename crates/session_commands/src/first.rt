@@ -1,7 +1,7 @@
 // The lines of a script before a first start.
 ghost use Rattle.odb_watch.specs.DatabasePorts.{IsSamePort};
 ghost use Rattle.console.specs.LineLoops.{EndsLines, IsUnreadScript};
-ghost use Rattle.session_lines.specs.ScriptLines.{opens_session};
+ghost use Rattle.session_commands.specs.ScriptLines.{opens_session};
 ghost use Rattle.session_commands.specs.Finishing.{side_told};
 ghost use Rattle.session_commands.specs.FirstLines.{PlaysFirst};
 

@@ -2,7 +2,7 @@
 ghost use Rattle.std.specs.Prelude.{◌≡◌, OnErr, OnOk};
 ghost use Rattle.daq_types.specs.Callers.{main_caller};
 ghost use Rattle.odb_watch.specs.DatabasePorts.{IsSamePort};
-ghost use Rattle.session_lines.specs.RunLines.{CutsKeys, KeysMade};
+ghost use Rattle.session_commands.specs.RunLines.{CutsKeys, KeysMade};
 
 use daq_types::{Name, NoMemory};
 use odb_runinfo::open_front;

@@ -3,6 +3,7 @@ ghost use Rattle.session_commands.specs.Finishing.{UnopenedFinish};
 ghost use Rattle.session_commands.specs.FirstStarts.{CutFinish, ReadyFinish};
 ghost use Rattle.session_commands.specs.KeptByScripts.{ScriptsKeep};
 
+use crate::passed_over::PassedOver;
 use crate::unopened::Unopened;
 use console::script_laws::lines_end;
 use daq_io::{Clock, Files};
@@ -13,7 +14,6 @@ use odb_runinfo::laws::own_calls_spare;
 use odb_tree::Database;
 use odb_watch::WatchPort;
 use odb_watch::port_laws::{calls_add_up, entries_add_up};
-use session_lines::PassedOver;
 use session_runs::laws::{commands_fit, runs_fit};
 
 /// What the first start does once its session is open it does from where the session was not open. Where there is no memory to

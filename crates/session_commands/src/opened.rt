@@ -2,6 +2,7 @@
 ghost use Rattle.std.specs.Prelude.{◌≡◌, true, false, if◌then◌else◌};
 ghost use Rattle.member_crew.specs.Rounds.{HadRounds};
 
+use crate::command_laws::{commands_keep, members_passed_over};
 use crate::commands::{answer_pause, answer_resume, answer_start, answer_stop};
 use crate::side::MainSide;
 use console::{Answerer, Reply};
@@ -10,7 +11,6 @@ use daq_types::NoMemory;
 use member_crew::Rounds;
 use odb_script::{Command, LineRefusal, RunCommand};
 use odb_watch::WatchPort;
-use session_lines::laws::{commands_keep, members_passed_over};
 use session_runs::Runs;
 use session_setup::{DeclaredLists, SetupRefusal};
 use std::alloc::Global;
@@ -42,12 +42,11 @@ fn begin_line<R: Wait, M: Rounds>(rt: &R, members: &mut M, begun: &mut bool)
 }
 
 impl<'a, D: WatchPort, M: Rounds, E: Files, C: Clock> Answerer for Opened<'a, D, M, E, C> {
-    ghost use Rattle.session_lines.specs.Stages.{SessionStage, open_stage};
+    ghost use Rattle.session_commands.specs.Stages.{SessionStage, open_stage};
     ghost use Rattle.session_setup.specs.Setup.{declared_by};
-    ghost use Rattle.session_lines.specs.ScriptLines.{BreaksScriptLine, ClosesScript, DoesScriptLine, GivesUp};
+    ghost use Rattle.session_commands.specs.ScriptLines.{BreaksScriptLine, ClosesScript, DoesScriptLine, GivesUp};
     ghost use Rattle.console.specs.DatabaseStages.{database_stage};
-    ghost use Rattle.session_lines.specs.Staying.{StaysOpen};
-    ghost use Rattle.session_lines.proofs.StayingLaws.{stays_open, stays_open_on};
+    ghost use Rattle.session_commands.specs.Staying.{StaysOpen, stays_open, stays_open_on};
 
     ghost Stage = { SessionStage };
 

@@ -1,7 +1,7 @@
 // The replies to the commands of runs, with the names that were declared and what the records keep.
 ghost use Rattle.std.specs.Prelude.{◌≡◌, ◌≢◌, ◌++◌, ◌∷◌, [], ℕ, map, IfOk, OnErr};
 ghost use Rattle.mid_logger.specs.ChannelTurns.{logger_name};
-ghost use Rattle.session_lines.specs.RunLines.{record_fronts, record_files, record_reports, latest_record, member_name, reply_for, report_line, tally_line};
+ghost use Rattle.session_commands.specs.RunLines.{record_fronts, record_files, record_reports, latest_record, member_name, reply_for, report_line, tally_line};
 
 use console::Reply;
 use daq_types::{BoundedList, Bytes, Name, NoMemory};

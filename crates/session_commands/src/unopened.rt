@@ -23,8 +23,8 @@ pub struct Unopened<D: WatchPort, E: Files, C: Clock> {
 }
 
 impl<D: WatchPort, E: Files, C: Clock> Answerer for Unopened<D, E, C> {
-    ghost use Rattle.session_lines.specs.Stages.{SessionStage, unopened_stage};
-    ghost use Rattle.session_lines.specs.ScriptLines.{BreaksScriptLine, ClosesScript, DoesScriptLine, GivesUp, opens_session};
+    ghost use Rattle.session_commands.specs.Stages.{SessionStage, unopened_stage};
+    ghost use Rattle.session_commands.specs.ScriptLines.{BreaksScriptLine, ClosesScript, DoesScriptLine, GivesUp, opens_session};
     ghost use Rattle.console.specs.DatabaseStages.{database_stage};
     ghost use Rattle.odb_watch.specs.DatabasePorts.{IsSamePort};
     ghost use Rattle.std.proofs.Common.{refl, ◌∙◌};

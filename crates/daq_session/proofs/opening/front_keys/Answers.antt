@@ -3,8 +3,8 @@ use Rattle.std.specs.Prelude.{Result, Ok, Err, OnErr}
 use Rattle.odb_watch.specs.DatabasePorts.{DatabaseAccess}
 use Rattle.odb_lock.specs.SharedAccesses.{access_by_pass}
 use Rattle.session_setup.specs.Setup.{declared_by}
-use Rattle.session_lines.specs.Stages.{front_names}
-use Rattle.session_lines.specs.RunLines.{CutsKeys}
+use Rattle.session_commands.specs.Stages.{front_names}
+use Rattle.session_commands.specs.RunLines.{CutsKeys}
 use Rattle.daq_session.proofs.opening.front_keys.Goals as goal
 
 on_err_so : {T E : Type 0} (r : Result T E) (P : Type 0) → P → OnErr r P

@@ -2,7 +2,7 @@ use Rattle.std.proofs.Common.{refl, arith}
 use Rattle.std.specs.Prelude.{◌≢◌, []}
 use Rattle.daq_types.specs.Callers.{main_caller}
 use Rattle.odb_lock.specs.SharedAccesses.{odb_identity, shared_access}
-use Rattle.session_lines.specs.Stages.{SessionStage}
+use Rattle.session_commands.specs.Stages.{SessionStage}
 use Rattle.session_commands.specs.Keeping.{StageSaved}
 use Rattle.daq_session.specs.declared.ends.ScriptEnd.TheVariants.{NoMemory}
 use Rattle.daq_session.proofs.AskedLaws.{kept_asked}

@@ -1,5 +1,5 @@
 use Rattle.std.proofs.Common.{ℕ, List, subst}
-use Rattle.session_lines.specs.SetupReplies.{DeclaresChannel}
+use Rattle.session_commands.specs.SetupReplies.{DeclaresChannel}
 use Rattle.session_commands.proofs.DeclaringLaws.{channel_so}
 use Rattle.session_commands.proofs.declaring.declare_channel.Goals as goal
 

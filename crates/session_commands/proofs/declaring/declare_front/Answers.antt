@@ -1,5 +1,5 @@
 use Rattle.std.proofs.Common.{ℕ, List, subst}
-use Rattle.session_lines.specs.SetupReplies.{DeclaresFront}
+use Rattle.session_commands.specs.SetupReplies.{DeclaresFront}
 use Rattle.session_commands.proofs.DeclaringLaws.{taken_so}
 use Rattle.session_commands.proofs.declaring.declare_front.Goals as goal
 

@@ -1,6 +1,6 @@
 use Rattle.std.proofs.Common.{◌++◌, ◌∷◌, [], ℕ, List, take, sym, subst, ◌∙◌}
 use Rattle.odb_runinfo.specs.RunSets.{sent_key_made}
-use Rattle.session_lines.specs.RunLines.{MakesKeys}
+use Rattle.session_commands.specs.RunLines.{MakesKeys}
 use Rattle.session_commands.proofs.KeyLaws.{calls_more, keys_more, take_next}
 use Rattle.session_commands.proofs.keys.make_keys.Goals as goal
 

@@ -4,7 +4,7 @@ use Rattle.std.specs.Prelude.{take}
 use Rattle.daq_types.specs.Callers.{main_caller}
 use Rattle.odb_tree.specs.declared.entry.DatabaseEntry.{DatabaseEntry}
 use Rattle.odb_watch.specs.DatabasePorts.{AddsCalls, IsSamePort}
-use Rattle.session_lines.specs.RunLines.{MakesKeys}
+use Rattle.session_commands.specs.RunLines.{MakesKeys}
 use Rattle.session_commands.proofs.keys.make_keys.Given as goal
 
 abbrev pub invariant-loop-front : goal.invariant-loop-front

@@ -1,5 +1,5 @@
 use Rattle.console.proofs.KeepingLaws.{closing_keeps, cut_keeps, plays_keep}
-use Rattle.session_lines.specs.ScriptLines.{BreaksScriptLine, ClosesScript, DoesScriptLine, GivesUp}
+use Rattle.session_commands.specs.ScriptLines.{BreaksScriptLine, ClosesScript, DoesScriptLine, GivesUp}
 use Rattle.session_commands.specs.Keeping.{StageKept}
 use Rattle.session_commands.proofs.CountLaws.{script_counted}
 use Rattle.session_commands.proofs.DumpLaws.{script_keeps}

@@ -1,6 +1,6 @@
 -- The lines of the tallies so far.
 use Rattle.std.proofs.Common.{◌≡◌, map, take}
-use Rattle.session_lines.specs.RunLines.{report_line}
+use Rattle.session_commands.specs.RunLines.{report_line}
 use Rattle.session_commands.proofs.replying.report_lines.Given as goal
 
 abbrev pub invariant-loop-tally : goal.invariant-loop-tally

@@ -10,10 +10,10 @@ use Rattle.odb_script.specs.declared.refusals.LineRefusal.TheVariants.{BadComman
 use Rattle.odb_script.specs.Forms.{Read}
 use Rattle.console.specs.declared.replies.Reply.{Reply}
 use Rattle.console.specs.declared.replies.Reply.TheVariants.{Silent, BadCommand}
-use Rattle.session_lines.specs.Stages.{SessionStage, with_quota}
-use Rattle.session_lines.specs.SetupReplies.{DoesDeclaration}
+use Rattle.session_commands.specs.Stages.{SessionStage, with_quota}
+use Rattle.session_commands.specs.SetupReplies.{DoesDeclaration}
 use Rattle.console.specs.DatabaseLines.{BreaksDatabase, DoesDatabase}
-use Rattle.session_lines.specs.RunLines.{BreaksStart, BreaksStop, ClosesRun, DoesPause, DoesResume, DoesStart, DoesStop, runs_on}
+use Rattle.session_commands.specs.RunLines.{BreaksStart, BreaksStop, ClosesRun, DoesPause, DoesResume, DoesStart, DoesStop, runs_on}
 
 -- a declaration
 abbrev pub SetsUp : Declaration → (old : SessionStage) → Reply → (new : SessionStage) → Type 0

@@ -1,5 +1,5 @@
-use Rattle.session_lines.proofs.Kept.{start_kept, cut_kept, stops_kept, unsaved_kept, pause_kept, resume_kept}
-use Rattle.session_lines.proofs.laws.commands_keep.Goals as goal
+use Rattle.session_commands.proofs.CommandsKept.{start_kept, cut_kept, stops_kept, unsaved_kept, pause_kept, resume_kept}
+use Rattle.session_commands.proofs.command_laws.commands_keep.Goals as goal
 
 pub returns-clause-start : goal.returns-clause-start
 returns-clause-start g c = start_kept g.M.Rounds.round

@@ -15,8 +15,8 @@ use Rattle.session_runs.specs.declared.on.CurrentRun.{CurrentRun}
 use Rattle.session_runs.specs.declared.replies.RunReply.{RunReply}
 use Rattle.session_runs.specs.declared.replies.RunReply.TheVariants as answer
 use Rattle.session_runs.specs.RunAnswers.{AnswersPause, AnswersResume, AnswersStart, AnswersStop, BeginsRun, PausesOrResumes, CommandPoint, CutsBegin, CutsNumber, CutsStart, GotNumber, LacksNumber, MakesChange, MakesStart, MakesStop, StopsUnsaved}
-use Rattle.session_lines.specs.declared.passed_over.PassedOver.{PassedOver}
-use Rattle.session_lines.specs.NothingSaid.{NothingSaid, nobody, own_point}
+use Rattle.session_commands.specs.declared.passed_over.PassedOver.{PassedOver}
+use Rattle.session_commands.specs.NothingSaid.{NothingSaid, nobody, own_point}
 
 -- the point with the members passed over
 abbrev over : {M : Type 0} → CommandPoint M → CommandPoint PassedOver

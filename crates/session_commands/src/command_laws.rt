@@ -2,8 +2,8 @@
 ghost use Rattle.daq_io.specs.Told.{AheadTold};
 ghost use Rattle.session_runs.specs.declared.replies.RunReply.{RunReply};
 ghost use Rattle.session_runs.specs.RunAnswers.{AnswersPause, AnswersResume, AnswersStart, AnswersStop, CommandPoint, CutsStart, StopsUnsaved};
-ghost use Rattle.session_lines.specs.Keeping.{KeptByCommand};
-ghost use Rattle.session_lines.specs.NothingSaid.{NothingSaid, own_point};
+ghost use Rattle.session_commands.specs.KeptByCommands.{KeptByCommand};
+ghost use Rattle.session_commands.specs.NothingSaid.{NothingSaid, own_point};
 
 use member_crew::Rounds;
 

@@ -1,5 +1,5 @@
-use Rattle.session_lines.proofs.OverLaws.{start_over, cut_over, stops_over, unsaved_over, pause_over, resume_over}
-use Rattle.session_lines.proofs.laws.members_passed_over.Goals as goal
+use Rattle.session_commands.proofs.PassedOverLaws.{start_over, cut_over, stops_over, unsaved_over, pause_over, resume_over}
+use Rattle.session_commands.proofs.command_laws.members_passed_over.Goals as goal
 
 pub returns-clause-start : goal.returns-clause-start
 returns-clause-start g c = start_over g.M.Rounds.round

@@ -1,6 +1,6 @@
 -- Members of which nothing is said.
 use Rattle.std.specs.Prelude.{⊤}
-use Rattle.session_lines.specs.declared.passed_over.PassedOver.{PassedOver}
+use Rattle.session_commands.specs.declared.passed_over.PassedOver.{PassedOver}
 use Rattle.odb_watch.specs.DatabasePorts.{DatabaseAccess}
 use Rattle.session_runs.specs.KeptRuns.{RunsSeen}
 use Rattle.session_runs.specs.RunAnswers.{CommandPoint, point_of}

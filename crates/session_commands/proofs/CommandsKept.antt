@@ -17,7 +17,7 @@ use Rattle.session_runs.specs.declared.replies.RunReply.{RunReply}
 use Rattle.session_runs.specs.declared.replies.RunReply.TheVariants as answer
 use Rattle.session_runs.specs.KeptRuns.{RunsSeen, behind_start}
 use Rattle.session_runs.specs.RunAnswers.{AnswersPause, AnswersResume, AnswersStart, AnswersStop, BeginsRun, CommandPoint, CutsBegin, CutsStart, GotNumber, MakesChange, MakesStart, MakesStop, StopsUnsaved}
-use Rattle.session_lines.specs.Keeping.{KeptByCommand}
+use Rattle.session_commands.specs.KeptByCommands.{KeptByCommand}
 
 port_same : (a : DatabaseAccess) → IsSamePort a a
 port_same a = record { database = refl; caller = refl }

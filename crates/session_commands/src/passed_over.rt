@@ -6,7 +6,7 @@ use std::sync::Wait;
 pub struct PassedOver;
 
 impl Rounds for PassedOver {
-    ghost use Rattle.session_lines.specs.NothingSaid.{NothingSaid};
+    ghost use Rattle.session_commands.specs.NothingSaid.{NothingSaid};
 
     ghost round = { NothingSaid };
 

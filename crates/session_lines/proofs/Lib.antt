@@ -1,3 +1,0 @@
-mod OverLaws
-mod Kept
-pub mod StayingLaws
