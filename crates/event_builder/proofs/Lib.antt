@@ -1,0 +1,7 @@
+pub mod InputLists
+pub mod Stepped
+pub mod Readiness
+pub mod JoinedBanks
+pub mod WaitReplies
+pub mod Faulted
+pub mod Sending

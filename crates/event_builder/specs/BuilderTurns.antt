@@ -1,0 +1,76 @@
+-- What a builder does at its turns: the calls that it makes on its inputs, its answer, and the run behind it.
+use Rattle.std.specs.Prelude.{◌≡◌, ℕ, ◌==◌, Bool, true, false, Option, Some, None}
+use Rattle.daq_types.specs.declared.runs.Order.{Order}
+use Rattle.daq_types.specs.declared.runs.RunState.{RunState}
+use Rattle.daq_types.specs.declared.runs.RunState.TheVariants.{Stopped, Paused as FromPaused, Running}
+use Rattle.daq_types.specs.declared.runs.Transition.{Transition}
+use Rattle.daq_types.specs.declared.runs.Transition.TheVariants.{Start, Stop, Pause, Resume, StartAbort}
+use Rattle.daq_types.specs.declared.runs.Why.TheVariants.{BufferRefused}
+use Rattle.member_model.specs.RunEngines.{Answer}
+use Rattle.transitions.specs.declared.answers.Answer.TheVariants.{Yes, No}
+use Rattle.transitions.specs.declared.answers.Tally.TheVariants.{Plain}
+use Rattle.event_builder.specs.declared.build_run.BuiltEnd.{BuiltEnd}
+use Rattle.event_builder.specs.declared.build_run.BuiltEnd.TheVariants.{Paused}
+use Rattle.event_builder.specs.declared.build_run.BuildRun.{BuildRun}
+use Rattle.event_builder.specs.Inputs.{InputsAt, StepsInput, StepsBelow, EachInput, AsksInput, RefusesInput, CancelsInput, StopsInput}
+use Rattle.event_builder.specs.Builders.{BuilderAt, EndsRun, begun_run}
+
+-- nothing is called, and nothing changes
+abbrev pub StaysAt : BuilderAt → BuilderAt → Type 0
+StaysAt a b = (b.run ≡ a.run) × (b.at ≡ a.at)
+
+-- Starts.
+
+-- The inputs below this number were granted their requests, and this one was refused its client or its request: then the
+-- requests of those below are cancelled.
+pub record RefusesAt (number : ℕ) (a b : InputsAt) : Type 0 where
+  pub asked : InputsAt
+  pub refused : InputsAt
+  pub asks : StepsBelow AsksInput number a asked
+  pub refuses : StepsInput RefusesInput number asked refused
+  pub cancels : StepsBelow CancelsInput number refused b
+
+-- every input is granted its request, or the first that is not undoes those before it
+abbrev pub AsksAll : Answer → (start : ℕ) → (run : Option BuildRun) → (a b : InputsAt) → Type 0
+AsksAll (Yes tally) start run a b = (tally ≡ Plain) × (run ≡ Some (begun_run start)) × EachInput AsksInput a b
+AsksAll (No why) start run a b = (why ≡ BufferRefused) × (run ≡ None) × ((number : ℕ) × RefusesAt number a b)
+
+-- A start: a run that is still there is dropped, and the requests for the new one are made.
+pub record StartsBuilder (start : ℕ) (a b : BuilderAt) (answer : Answer) : Type 0 where
+  pub dropped : InputsAt
+  pub drops : EachInput CancelsInput a.at dropped
+  pub asks : AsksAll answer start b.run dropped b.at
+
+-- Stops.
+
+-- the run, once it was stopped
+abbrev pub stopped_run : BuildRun → BuildRun
+stopped_run r = record r { stopped = true }
+
+-- the run goes on, until some input was read so far, unless it was stopped while it was paused
+abbrev pub StopsFrom : RunState → BuildRun → (a b : BuilderAt) → Type 0
+StopsFrom FromPaused r a b = EndsRun Paused (stopped_run r) b.run a.at b.at
+StopsFrom Stopped r a b = (b.run ≡ Some (stopped_run r)) × EachInput StopsInput a.at b.at
+StopsFrom Running r a b = (b.run ≡ Some (stopped_run r)) × EachInput StopsInput a.at b.at
+
+-- where the run has ended already, no more is done
+abbrev pub StopsRun : Option BuiltEnd → RunState → BuildRun → (a b : BuilderAt) → Type 0
+StopsRun (Some ended) from r a b = (b.run ≡ Some (stopped_run r)) × (b.at ≡ a.at)
+StopsRun None from r a b = StopsFrom from r a b
+
+abbrev pub StopsOwn : (own : Bool) → RunState → BuildRun → (a b : BuilderAt) → Option Answer → Type 0
+StopsOwn true from r a b answer = (answer ≡ None) × StopsRun r.ended from r a b
+StopsOwn false from r a b answer = (answer ≡ Some (Yes Plain)) × StaysAt a b
+
+-- A stop of the run of which events are built waits for its answer; any other is answered at once.
+abbrev pub StopsBuilder : Option BuildRun → Order → (a b : BuilderAt) → Option Answer → Type 0
+StopsBuilder None order a b answer = (answer ≡ Some (Yes Plain)) × StaysAt a b
+StopsBuilder (Some r) order a b answer = StopsOwn (r.start == order.start) order.from r a b answer
+
+-- What a turn does. A start-abort drops the run, and a pause or resume does nothing.
+abbrev pub TurnsBuilder : Transition → Order → (a b : BuilderAt) → Option Answer → Type 0
+TurnsBuilder Start order a b answer = (given : Answer) × (answer ≡ Some given) × StartsBuilder order.start a b given
+TurnsBuilder Stop order a b answer = StopsBuilder a.run order a b answer
+TurnsBuilder Pause order a b answer = (answer ≡ Some (Yes Plain)) × StaysAt a b
+TurnsBuilder Resume order a b answer = (answer ≡ Some (Yes Plain)) × StaysAt a b
+TurnsBuilder StartAbort order a b answer = (answer ≡ Some (Yes Plain)) × (b.run ≡ None) × EachInput CancelsInput a.at b.at
