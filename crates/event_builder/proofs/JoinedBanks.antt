@@ -1,26 +1,21 @@
 -- The banks of several events: how long they are written plainly, and that a writer with room takes them.
-use Rattle.std.specs.Prelude.{◌≡◌, ◌≤◌, ◌<◌, ◌+◌, ◌*◌, ◌^◌, ◌++◌, ℕ, zero, suc, true, false, List, [], ◌∷◌, length, map, slice_get, drop, Option, Some, None, Result, Ok, Err, OnOk, IfErr, ⊤, refl}
-use Rattle.std.specs.List.{list_all}
-use Rattle.std.specs.Int.{to_le_bytes, w16, w32}
+use Rattle.std.specs.Prelude.{◌≡◌, ◌≤◌, ◌<◌, ◌+◌, ◌*◌, ◌^◌, ◌++◌, ℕ, zero, suc, false, List, [], ◌∷◌, length, slice_get, drop, Some, None, Result, Ok, Err, OnOk, IfErr, ⊤, refl}
 use Rattle.std.proofs.Common.{ap, sym, subst, ◌∙◌, arith, get_or, add-one, append_assoc, length-append}
 use Rattle.std.proofs.Math.Seq.{drop-cons}
 use Rattle.std.proofs.lemmas.Bool.{le-ltb}
 use Rattle.std.proofs.lemmas.List.{append-nil, drop_all}
-use Rattle.std.proofs.lemmas.Option.{same_Some}
-use Rattle.daq_types.specs.declared.events.Event.{Event}
 use Rattle.bank_format.specs.declared.formats.Format.{Format}
 use Rattle.bank_format.specs.declared.formats.Format.TheVariants.{Bank16, Bank32, Bank32A}
 use Rattle.bank_format.specs.declared.faults.BankRefusal.{BankRefusal}
-use Rattle.bank_format.specs.Formats.{header_len, padded, padding_len, is_past_16_bits}
-use Rattle.bank_format.specs.BankAreas.{BankValue, bank_value, IsFirst, BanksBefore, IsBankArea, field, header, plain_bank, plain_area, plain_banks}
+use Rattle.bank_format.specs.Formats.{padded, is_past_16_bits}
+use Rattle.bank_format.specs.BankAreas.{BankValue, bank_value, IsFirst, BanksBefore, field, header, plain_bank, plain_area, plain_banks}
 use Rattle.bank_format.specs.Faults.{HoldsBanks}
 use Rattle.bank_format.specs.Writing.{Written, with_bank, need_with, refusal_of}
 use Rattle.bank_format.proofs.Appending.{not_refused}
 use Rattle.bank_format.proofs.PlainLaws.{length-plain_bank, length-plain_banks}
 use Rattle.event_builder.specs.declared.inputs.BuilderInput.{BuilderInput}
 use Rattle.event_builder.specs.Joined.{JoinsBanks, IsBuiltSize}
-use Rattle.event_builder.specs.Inputs.{is_held, last_events}
-use Rattle.event_builder.proofs.InputLists.{member, each_passes}
+use Rattle.event_builder.specs.Inputs.{last_events}
 
 -- Lengths.
 

@@ -1,5 +1,5 @@
 -- What is true of every builder stays so in its calls.
-use Rattle.std.specs.Prelude.{◌≡◌, ◌≢◌, ◌≤◌, ◌<◌, ◌==◌, ◌∷◌, [], ℕ, zero, suc, Bool, true, false, List, length, map, slice_get, Option, Some, None, IfNone, ◌⊎◌, refl}
+use Rattle.std.specs.Prelude.{◌≡◌, ◌≤◌, ◌<◌, ◌∷◌, [], ℕ, zero, suc, Bool, true, false, List, length, map, slice_get, Option, Some, None, IfNone}
 use Rattle.std.specs.List.{list_all, list_any}
 use Rattle.std.proofs.Common.{ap, sym, subst, ◌∙◌, arith, inl, inr}
 use Rattle.std.proofs.lemmas.List.{length-map}
@@ -11,20 +11,17 @@ use Rattle.event.specs.Events.{event_limit}
 use Rattle.buffer_core.specs.declared.replies.Received.{Received}
 use Rattle.buffer_core.specs.declared.replies.Received.TheVariants.{Got, Empty, NoClient, SmallBuf}
 use Rattle.bank_format.specs.declared.formats.Format.TheVariants.{Bank32A}
-use Rattle.bank_format.specs.BankAreas.{BankValue}
-use Rattle.bank_format.specs.Faults.{HoldsBanks}
 use Rattle.bank_format.specs.Writing.{Written, nothing_written}
 use Rattle.event_builder.specs.declared.build_run.BuildFault.{BuildFault}
-use Rattle.event_builder.specs.declared.build_run.BuiltEnd.{BuiltEnd}
 use Rattle.event_builder.specs.declared.build_run.BuildRun.{BuildRun}
 use Rattle.event_builder.specs.declared.inputs.BuilderInput.{BuilderInput}
 use Rattle.event_builder.specs.declared.inputs.InputRequest.{InputRequest}
 use Rattle.event_builder.specs.Joined.{JoinsBanks}
 use Rattle.event_builder.specs.Inputs.{InputAt, InputsAt, IsInputAt, StepsInput, StepsBelow, EachInput, CancelsInput, AsksInput, RefusesInput, StopsInput, ReceivesInput, is_held, is_done, is_of_run, last_events, new_input}
-use Rattle.event_builder.specs.Builders.{EndsRun, EndsWhere, EndsIfDone, EndsBy, IsNextOf, HoldNext, IsJoined, IsBuilderReady}
+use Rattle.event_builder.specs.Builders.{EndsWhere, EndsIfDone, EndsBy, IsNextOf, HoldNext, IsJoined, IsBuilderReady}
 use Rattle.event_builder.specs.BuilderTurns.{RefusesAt, stopped_run}
 use Rattle.event_builder.specs.BuilderPulls.{MeetsFault, FaultsGot, FaultsReply, HoldBanksBut}
-use Rattle.event_builder.proofs.InputLists.{two_answers, same_or_other, below_or_not, member, each_passes, same_told}
+use Rattle.event_builder.proofs.InputLists.{same_or_other, below_or_not, member, each_passes, same_told}
 use Rattle.event_builder.proofs.Stepped.{at_within, left_at, stood_at, as_many, as_many_ports}
 
 -- no input holds an event

@@ -1,11 +1,10 @@
 -- The built event, and a builder behind its sending.
-use Rattle.std.specs.Prelude.{◌≡◌, ◌≤◌, ◌<◌, ◌∷◌, ℕ, zero, suc, Bool, true, false, List, [], length, map, slice_get, Option, Some, None, Result, Ok, Err, refl}
-use Rattle.std.specs.List.{list_all, list_any}
+use Rattle.std.specs.Prelude.{◌≡◌, ◌≤◌, ◌∷◌, ℕ, zero, suc, Bool, true, false, List, [], length, map, slice_get, Option, Some, Result, Ok, Err, refl}
+use Rattle.std.specs.List.{list_all}
 use Rattle.std.specs.Option.{option_map}
-use Rattle.std.proofs.Common.{ap, sym, subst, ◌∙◌, arith}
+use Rattle.std.proofs.Common.{ap, sym, subst, ◌∙◌}
 use Rattle.std.proofs.lemmas.List.{length-map}
 use Rattle.std.proofs.lemmas.Option.{slice_get-map, same_Some}
-use Rattle.daq_types.specs.declared.events.Event.{Event}
 use Rattle.event.specs.Events.{event_limit, is_reserved}
 use Rattle.event.specs.Headers.{fields_of}
 use Rattle.event.specs.declared.head.Header.{Header}
@@ -14,13 +13,13 @@ use Rattle.buffer_core.specs.declared.replies.SendRefusal.TheVariants.{NotRunnin
 use Rattle.buffer_core.specs.Ports.{Access}
 use Rattle.bank_format.specs.declared.formats.Format.{Format}
 use Rattle.bank_format.specs.declared.formats.Format.TheVariants.{Bank32A}
-use Rattle.bank_format.specs.BankAreas.{BankValue, plain_banks}
+use Rattle.bank_format.specs.BankAreas.{plain_banks}
 use Rattle.bank_format.specs.Writing.{Written}
 use Rattle.event_builder.specs.declared.answers.BuildStep.{BuildStep}
 use Rattle.event_builder.specs.declared.build_run.BuildRun.{BuildRun}
 use Rattle.event_builder.specs.declared.inputs.BuilderInput.{BuilderInput}
 use Rattle.event_builder.specs.Joined.{IsBuilt}
-use Rattle.event_builder.specs.Inputs.{InputsAt, inputs_at, is_held, last_events, let_go}
+use Rattle.event_builder.specs.Inputs.{InputsAt, is_held, last_events, let_go}
 use Rattle.event_builder.specs.Builders.{BuilderAt, IsNextOf, IsJoined, IsBuilderReady, builder_at}
 use Rattle.event_builder.specs.BuilderSends.{SendsBy, SendsBuilt, StepsHeld, StepsBuilder, run_sent, all_let_go}
 use Rattle.event_builder.proofs.InputLists.{each_passes}

@@ -1,7 +1,6 @@
 //! The requests of a builder's inputs: they are made at a start, and cancelled at its end; and a stop of the run.
 
 ghost use Rattle.std.specs.Prelude.{◌≡◌, ◌≤◌, ◌<◌, ℕ, codes, length, map, OnOk, OnErr, IfErr};
-ghost use Rattle.buffer_core.specs.Ports.{Access};
 ghost use Rattle.event_builder.specs.Inputs.{GetsClient, AsksInput, RefusesInput, CancelsInput, StopsInput, StepsInput, StepsBelow, EachInput, InputsAt, input_at, inputs_at};
 ghost use Rattle.event_builder.specs.BuilderTurns.{RefusesAt};
 

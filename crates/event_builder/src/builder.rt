@@ -1,11 +1,9 @@
-ghost use Rattle.std.specs.Prelude.{◌≡◌, ◌≤◌, ◌<◌, [], length, map, IfOk, None, Some};
+ghost use Rattle.std.specs.Prelude.{◌≡◌, ◌≤◌, ◌<◌, length, map, IfOk, None, Some};
 ghost use Rattle.event.specs.Events.{event_limit, slot_of_length};
-ghost use Rattle.event.specs.Headers.{event_of};
-ghost use Rattle.buffer_core.specs.Ports.{Access};
 ghost use Rattle.transitions.specs.declared.answers.Answer.TheVariants.{Yes};
 ghost use Rattle.transitions.specs.declared.answers.Tally.TheVariants.{Plain};
 ghost use Rattle.event_builder.specs.Inputs.{EachInput, CancelsInput, inputs_at, new_input as an_input};
-ghost use Rattle.event_builder.specs.Builders.{BuilderState, BuilderAt, built_answer, run_told, fault_in as the_fault_in, builder_at};
+ghost use Rattle.event_builder.specs.Builders.{built_answer, run_told, fault_in as the_fault_in, builder_at};
 ghost use Rattle.event_builder.specs.BuilderTurns.{TurnsBuilder, StartsBuilder, StopsBuilder, StopsRun};
 ghost use Rattle.event_builder.specs.BuilderPulls.{PullsBuilder, pull_answer};
 ghost use Rattle.event_builder.specs.BuilderSends.{StepsBuilder};

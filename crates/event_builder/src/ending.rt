@@ -2,7 +2,6 @@
 
 ghost use Rattle.std.specs.Prelude.{◌≡◌, ◌<◌, ◌+◌, ◌^◌, length, map, slice_get, slice_set, Some};
 ghost use Rattle.std.specs.List.{list_any};
-ghost use Rattle.buffer_core.specs.Ports.{Access};
 ghost use Rattle.event_builder.specs.declared.inputs.BuilderInput.{BuilderInput as an_input};
 ghost use Rattle.event_builder.specs.Inputs.{CancelsInput, EachInput, inputs_at, is_done as is_input_done, is_drained as is_stop_drained, let_go};
 ghost use Rattle.event_builder.specs.Builders.{EndsRun, EndsIfDone, EndsBy, builder_at};

@@ -1,7 +1,6 @@
 //! The banks of several events: how long they are written plainly, and their writing.
 
-ghost use Rattle.std.specs.Prelude.{◌≡◌, ◌≤◌, ◌+◌, ◌^◌, ◌++◌, ℕ, List, length, IfSome, IfNone};
-ghost use Rattle.daq_types.specs.declared.events.Event.{Event};
+ghost use Rattle.std.specs.Prelude.{◌≡◌, ◌≤◌, ◌+◌, ◌^◌, ◌++◌, List, length, IfSome, IfNone};
 ghost use Rattle.bank_format.specs.declared.formats.Format.TheVariants.{Bank32A};
 ghost use Rattle.bank_format.specs.Formats.{padded};
 ghost use Rattle.bank_format.specs.BankAreas.{BankValue, plain_area, plain_banks};

@@ -1,7 +1,6 @@
 //! One receive on one input of a builder.
 
-ghost use Rattle.std.specs.Prelude.{◌≡◌, ◌<◌, length, map, slice_get, Some};
-ghost use Rattle.buffer_core.specs.Ports.{Access};
+ghost use Rattle.std.specs.Prelude.{◌≡◌, ◌<◌, length, map, Some};
 ghost use Rattle.event_builder.specs.Inputs.{ReceivesInput, StepsInput, drains as drains_at, is_of_run, stop_behind, input_at, inputs_at};
 
 use crate::inputs::{BuilderInput, InputRequest, InputStop, Inputs, Ports};

@@ -1,5 +1,5 @@
-use Rattle.std.proofs.Common.{◌≡◌, ◌<◌, ◌++◌, List, [], length, map, take, drop, take_all, ap, sym, subst, ◌∙◌, arith, get_or}
-use Rattle.std.proofs.lemmas.List.{append-nil, length-set, drop_all}
+use Rattle.std.proofs.Common.{◌<◌, List, length, ap, ◌∙◌, arith}
+use Rattle.std.proofs.lemmas.List.{length-set}
 use Rattle.std.proofs.lemmas.List.Edits.{map_over_more}
 use Rattle.event_builder.specs.declared.inputs.BuilderInput.{BuilderInput}
 use Rattle.event_builder.specs.Inputs.{let_go}

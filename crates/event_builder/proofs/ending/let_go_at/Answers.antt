@@ -1,4 +1,4 @@
-use Rattle.std.proofs.Common.{◌≡◌, refl}
+use Rattle.std.proofs.Common.{refl}
 use Rattle.event_builder.proofs.Stepped.{lent_at}
 use Rattle.event_builder.proofs.ending.let_go_at.Goals as goal
 

@@ -1,8 +1,6 @@
-use Rattle.std.proofs.Common.{◌≡◌, ◌∙◌, sym, subst, refl, true, false, rules}
+use Rattle.std.proofs.Common.{◌≡◌, true, false, rules}
 use Rattle.std.proofs.lemmas.Option.{slice_get_within}
-use Rattle.buffer_core.specs.declared.replies.Received.{Received}
 use Rattle.event_builder.specs.Inputs.{is_of_run}
-use Rattle.event_builder.specs.BuilderPulls.{FaultsReply}
 use Rattle.event_builder.proofs.Faulted.{faults_own, faults_none, not_own_not_all}
 use Rattle.event_builder.proofs.faults.fault_of.Goals as goal
 

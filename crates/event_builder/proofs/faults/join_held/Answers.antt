@@ -1,5 +1,4 @@
-use Rattle.std.proofs.Common.{◌≡◌, ◌≤◌, List, length, sym, subst, ◌∙◌, arith, rules}
-use Rattle.bank_format.specs.BankAreas.{BankValue}
+use Rattle.std.proofs.Common.{arith, rules}
 use Rattle.event_builder.proofs.JoinedBanks.{size_fits}
 use Rattle.event_builder.proofs.faults.join_held.Goals as goal
 

@@ -1,4 +1,4 @@
-use Rattle.std.proofs.Common.{◌≡◌, ◌<◌, length, refl, arith}
+use Rattle.std.proofs.Common.{refl, arith}
 use Rattle.event_builder.proofs.JoinedBanks.{CountedTo, NextBanks, next_banks, counted_none, counted_more, counted_all}
 use Rattle.event_builder.proofs.joining.built_size.Goals as goal
 

@@ -1,10 +1,8 @@
-use Rattle.std.proofs.Common.{◌≡◌, ◌≤◌, ℕ, List, length, ap, sym, subst, ◌∙◌, refl, arith}
-use Rattle.bank_format.specs.declared.formats.Format.TheVariants.{Bank32A}
-use Rattle.bank_format.specs.BankAreas.{BankValue, IsBankArea, plain_banks}
+use Rattle.std.proofs.Common.{◌≡◌, ℕ, List, ap, sym, subst, ◌∙◌, refl, arith}
+use Rattle.bank_format.specs.BankAreas.{BankValue, IsBankArea}
 use Rattle.bank_format.specs.Places.{BankReading}
 use Rattle.bank_format.specs.Faults.{HoldsBanks}
-use Rattle.bank_format.specs.Writing.{Written}
-use Rattle.event_builder.proofs.JoinedBanks.{WrittenTo, NextBanks, next_banks, written_none, written_more, next_fits, written_all}
+use Rattle.event_builder.proofs.JoinedBanks.{NextBanks, next_banks, written_none, written_more, next_fits, written_all}
 use Rattle.event_builder.proofs.joining.join.Goals as goal
 
 pub loop-input-init : goal.loop-input-init

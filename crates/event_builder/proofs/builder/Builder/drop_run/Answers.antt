@@ -1,4 +1,4 @@
-use Rattle.std.proofs.Common.{◌≡◌, length, map, ap, refl, arith}
+use Rattle.std.proofs.Common.{length, map, ap, arith}
 use Rattle.std.proofs.lemmas.List.{length-map}
 use Rattle.event_builder.specs.Inputs.{inputs_at}
 use Rattle.event_builder.specs.Builders.{BuilderState}

@@ -1,9 +1,9 @@
-use Rattle.std.proofs.Common.{◌≡◌, ◌∙◌, ◌<◌, ◌+◌, ℕ, suc, List, length, map, ap, sym, subst, Some, get_or, arith, true, false, rules}
+use Rattle.std.proofs.Common.{◌≡◌, ◌∙◌, ◌<◌, ◌+◌, ℕ, suc, List, length, map, ap, sym, subst, Some, get_or, arith}
 use Rattle.std.specs.Prelude.{slice_get}
 use Rattle.std.proofs.lemmas.List.{length-map}
 use Rattle.event_builder.specs.declared.inputs.BuilderInput.{BuilderInput}
 use Rattle.event_builder.specs.Inputs.{InputsAt, inputs_at}
-use Rattle.event_builder.specs.Builders.{BuilderState, IsBuilderReady, builder_at}
+use Rattle.event_builder.specs.Builders.{BuilderState, IsBuilderReady}
 use Rattle.event_builder.specs.BuilderPulls.{FaultsReply, HoldBanksBut}
 use Rattle.event_builder.proofs.InputLists.{member}
 use Rattle.event_builder.proofs.Stepped.{lent_at}

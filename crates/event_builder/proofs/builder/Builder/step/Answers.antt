@@ -1,4 +1,4 @@
-use Rattle.std.proofs.Common.{◌≡◌, ◌≤◌, ◌<◌, ◌∙◌, ◌+◌, ◌^◌, ℕ, suc, List, length, map, ap, sym, subst, Some, get_or, refl, arith, true, false, rules}
+use Rattle.std.proofs.Common.{◌≡◌, ◌≤◌, ◌∙◌, suc, List, length, map, ap, sym, subst, Some, get_or, refl, arith, true, rules}
 use Rattle.std.specs.Prelude.{slice_get}
 use Rattle.std.specs.List.{list_all}
 use Rattle.std.proofs.lemmas.List.{length-map}
@@ -6,7 +6,7 @@ use Rattle.event.specs.Events.{slot_of_length}
 use Rattle.event.specs.Headers.{fields_of}
 use Rattle.event_builder.specs.declared.inputs.BuilderInput.{BuilderInput}
 use Rattle.event_builder.specs.Inputs.{inputs_at, is_held}
-use Rattle.event_builder.specs.Builders.{BuilderState, IsBuilderReady, builder_at}
+use Rattle.event_builder.specs.Builders.{BuilderState, IsBuilderReady}
 use Rattle.event_builder.proofs.Stepped.{lent_at}
 use Rattle.event_builder.proofs.WaitReplies.{slot_within, wait_reply}
 use Rattle.event_builder.proofs.Readiness.{ready_of}

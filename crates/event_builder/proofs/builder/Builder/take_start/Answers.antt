@@ -1,7 +1,6 @@
-use Rattle.std.proofs.Common.{◌≡◌, length, map, ap, refl, arith}
+use Rattle.std.proofs.Common.{length, map, ap, refl, arith}
 use Rattle.std.proofs.lemmas.List.{length-map}
-use Rattle.buffer_core.specs.Ports.{Access}
-use Rattle.event_builder.specs.Inputs.{InputsAt, inputs_at}
+use Rattle.event_builder.specs.Inputs.{inputs_at}
 use Rattle.event_builder.specs.Builders.{BuilderState}
 use Rattle.event_builder.proofs.Readiness.{ready_started, ready_not_started}
 use Rattle.event_builder.proofs.builder.Builder.take_start.Goals as goal
