@@ -66,8 +66,8 @@ pub fn other_names_stay()
     turns::turns_begun();
 }
 
-/// In each buffer the logger marked each pause and each resume of the runs whose starts it accepted, in order, and nothing else as
-/// one. So no event of such a run was sent between a mark of its pause that was accepted and that of its resume.
+/// In each buffer the logger called for a mark of each pause and each resume of the runs whose starts it accepted, in order, and for no
+/// others, whatever these calls were replied.
 pub fn marks_end()
     ensures { EndsMark }
 {
@@ -96,7 +96,8 @@ pub fn channels_agree()
 /// buffer. Each front-end's equipment takes part in a run that was started; and where no fault was counted each channel of each
 /// run ended, or the stop's sheet had no dump. Whatever failed, each file that was there stays, and each name that no file of a run has
 /// that came about is as it was, but for one of a refused start where more faults were counted than the logger told; a start is refused
-/// for a name only where that is taken, and the names of a run that came about were free.
+/// for a name only where that is taken, and the names of a run that came about were free. Where no fault was named at first, a start is
+/// refused for a fault of the channel whose file the first fault names, unless that is a file of an earlier start.
 pub fn counts_tell()
     ensures { CountsTell }
 {
