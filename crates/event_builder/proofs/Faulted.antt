@@ -20,12 +20,12 @@ use Rattle.event_builder.specs.declared.inputs.InputRequest.{InputRequest}
 use Rattle.event_builder.specs.Joined.{JoinsBanks, IsBuiltSize}
 use Rattle.event_builder.specs.Inputs.{is_held, is_of_run, last_events}
 use Rattle.event_builder.specs.Builders.{BuilderAt, IsJoined}
-use Rattle.event_builder.specs.BuilderPulls.{IsFaultOf, MeetsFault, FaultsGot, FaultsReply, HoldBanksBut, PullsOnce, PullsHeld, PullsBy, PullsInput}
+use Rattle.event_builder.specs.BuilderPulls.{IsBuildFaultOf, MeetsFault, FaultsGot, FaultsReply, HoldBanksBut, PullsOneEvent, PullsHeld, PullsByRequest, PullsInput}
 use Rattle.event_builder.proofs.InputLists.{same_or_other, each_passes}
 use Rattle.event_builder.proofs.JoinedBanks.{joined_all}
 
 -- the fault of an event by itself is its fault
-pub alone_meets : (number k : ℕ) (e : Event) (limit : ℕ) (inputs : List BuilderInput) (fault : Option BuildFault) → is_some fault ≡ true → IfSome fault (λ f. (l : ℕ) → (is : List BuilderInput) → IsFaultOf number k e l is (Some f)) → IsFaultOf number k e limit inputs fault
+pub alone_meets : (number k : ℕ) (e : Event) (limit : ℕ) (inputs : List BuilderInput) (fault : Option BuildFault) → is_some fault ≡ true → IfSome fault (λ f. (l : ℕ) → (is : List BuilderInput) → IsBuildFaultOf number k e l is (Some f)) → IsBuildFaultOf number k e limit inputs fault
 alone_meets number k e limit inputs (Some f) some is = is limit inputs
 alone_meets number k e limit inputs None some is = absurd (cc)
 
@@ -50,7 +50,7 @@ held_joins number k x inputs there good others all = joined_all inputs (λ n y a
 
 -- the fault of an event that has none by itself
 pub joined_meets : (number k limit : ℕ) (e : Event) (inputs : List BuilderInput) (written : Written) (fault : Option BuildFault) → IsGood k e → IfNone fault (list_all is_held inputs ≡ true → IsJoined inputs limit written)
-    → IfSome fault (λ f. (size : ℕ) × (f ≡ TooBig k size) × (list_all is_held inputs ≡ true) × IsBuiltSize (last_events inputs) size × (limit < size)) → IsFaultOf number k e limit inputs fault
+    → IfSome fault (λ f. (size : ℕ) × (f ≡ TooBig k size) × (list_all is_held inputs ≡ true) × IsBuiltSize (last_events inputs) size × (limit < size)) → IsBuildFaultOf number k e limit inputs fault
 joined_meets number k limit e inputs written None good joined big = (
   good.serial,
   (good.bs, good.holds),
@@ -58,8 +58,8 @@ joined_meets number k limit e inputs written None good joined big = (
 )
 joined_meets number k limit e inputs written (Some f) good joined big =
     let size : ℕ = big.0 in
-    let at_size : IsFaultOf number k e limit inputs (Some (TooBig k size)) = (refl, good.serial, big.2, big.3, big.4) in
-    subst (λ (g : BuildFault). IsFaultOf number k e limit inputs (Some g)) (sym big.1) at_size
+    let at_size : IsBuildFaultOf number k e limit inputs (Some (TooBig k size)) = (refl, good.serial, big.2, big.3, big.4) in
+    subst (λ (g : BuildFault). IsBuildFaultOf number k e limit inputs (Some g)) (sym big.1) at_size
 
 -- where the input holds no event, not all do
 pub not_own_not_all : (number start : ℕ) (reply : Received) (inputs : List BuilderInput) (x : BuilderInput) → slice_get inputs number ≡ Some x → x.held ≡ is_of_run start reply → is_of_run start reply ≡ false → list_all is_held inputs ≡ true → ⊥
@@ -91,10 +91,10 @@ faults_none NoClient start number k limit inputs own room = refl
 faults_none (SmallBuf need) start number k limit inputs own room = absurd (room need refl)
 
 -- a pull that receives
-pub pulls_once : (number limit : ℕ) (run : Option BuildRun) (r : BuildRun) (x : BuilderInput) (q : InputRequest) (a b : BuilderAt) (answer : BuildPull) → run ≡ Some r → x.request ≡ Some q → x.held ≡ false → PullsOnce number limit r q b.run a.at b.at answer → PullsInput run x number limit a b answer
+pub pulls_once : (number limit : ℕ) (run : Option BuildRun) (r : BuildRun) (x : BuilderInput) (q : InputRequest) (a b : BuilderAt) (answer : BuildPull) → run ≡ Some r → x.request ≡ Some q → x.held ≡ false → PullsOneEvent number limit r q b.run a.at b.at answer → PullsInput run x number limit a b answer
 pulls_once number limit run r x q a b answer is_run is_request free once =
     let by_held : PullsHeld x.held number limit r q a b answer = subst (λ (h : Bool). PullsHeld h number limit r q a b answer) (sym free) once in
-    let by_request : PullsBy x.request x.held number limit r a b answer = subst (λ (o : Option InputRequest). PullsBy o x.held number limit r a b answer) (sym is_request) by_held in
+    let by_request : PullsByRequest x.request x.held number limit r a b answer = subst (λ (o : Option InputRequest). PullsByRequest o x.held number limit r a b answer) (sym is_request) by_held in
     subst (λ (o : Option BuildRun). PullsInput o x number limit a b answer) (sym is_run) by_request
 
 -- a pull without a run, without a request, or where an event is held
@@ -103,11 +103,11 @@ pull_idle number limit run x a is = subst (λ (o : Option BuildRun). PullsInput 
 
 pub pull_unasked : (number limit : ℕ) (run : Option BuildRun) (r : BuildRun) (x : BuilderInput) (a : BuilderAt) → run ≡ Some r → x.request ≡ None → PullsInput run x number limit a a Nothing
 pull_unasked number limit run r x a is_run is_request =
-    let by_request : PullsBy x.request x.held number limit r a a Nothing = subst (λ (o : Option InputRequest). PullsBy o x.held number limit r a a Nothing) (sym is_request) (refl, (refl, refl)) in
+    let by_request : PullsByRequest x.request x.held number limit r a a Nothing = subst (λ (o : Option InputRequest). PullsByRequest o x.held number limit r a a Nothing) (sym is_request) (refl, (refl, refl)) in
     subst (λ (o : Option BuildRun). PullsInput o x number limit a a Nothing) (sym is_run) by_request
 
 pub pull_waits : (number limit : ℕ) (run : Option BuildRun) (r : BuildRun) (x : BuilderInput) (q : InputRequest) (a : BuilderAt) → run ≡ Some r → x.request ≡ Some q → x.held ≡ true → PullsInput run x number limit a a Waiting
 pull_waits number limit run r x q a is_run is_request holds =
     let by_held : PullsHeld x.held number limit r q a a Waiting = subst (λ (h : Bool). PullsHeld h number limit r q a a Waiting) (sym holds) (refl, (refl, refl)) in
-    let by_request : PullsBy x.request x.held number limit r a a Waiting = subst (λ (o : Option InputRequest). PullsBy o x.held number limit r a a Waiting) (sym is_request) by_held in
+    let by_request : PullsByRequest x.request x.held number limit r a a Waiting = subst (λ (o : Option InputRequest). PullsByRequest o x.held number limit r a a Waiting) (sym is_request) by_held in
     subst (λ (o : Option BuildRun). PullsInput o x number limit a a Waiting) (sym is_run) by_request

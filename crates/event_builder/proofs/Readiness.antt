@@ -18,7 +18,7 @@ use Rattle.event_builder.specs.declared.inputs.BuilderInput.{BuilderInput}
 use Rattle.event_builder.specs.declared.inputs.InputRequest.{InputRequest}
 use Rattle.event_builder.specs.Joined.{JoinsBanks}
 use Rattle.event_builder.specs.Inputs.{InputAt, InputsAt, IsInputAt, StepsInput, StepsBelow, EachInput, CancelsInput, AsksInput, RefusesInput, StopsInput, ReceivesInput, is_held, is_done, is_of_run, last_events, new_input}
-use Rattle.event_builder.specs.Builders.{EndsWhere, EndsIfDone, EndsBy, IsNextOf, HoldNext, IsJoined, IsBuilderReady}
+use Rattle.event_builder.specs.Builders.{EndsWhere, EndsIfDone, EndsAfter, IsNextOf, HoldNext, IsJoined, IsBuilderReady}
 use Rattle.event_builder.specs.BuilderTurns.{RefusesAt, stopped_run}
 use Rattle.event_builder.specs.BuilderPulls.{MeetsFault, FaultsGot, FaultsReply, HoldBanksBut}
 use Rattle.event_builder.proofs.InputLists.{same_or_other, below_or_not, member, each_passes, same_told}
@@ -239,7 +239,7 @@ ready_if_done id limit r later m b written ready many ends = ready_where (list_a
 
 -- a builder behind a pull
 pub ready_pulled : (fault : Option BuildFault) (number id limit : ℕ) (r later : BuildRun) (q : InputRequest) (reply : Received) (a m b : InputsAt) (body written : Written) → IsBuilderReady id limit a.inputs (Some r) body → length a.ports ≡ length a.inputs → StepsInput (ReceivesInput r.start q reply) number a m
-    → FaultsReply reply r.start number (suc r.sent) limit m.inputs fault → IfNone fault (list_all is_held m.inputs ≡ true → IsJoined m.inputs limit written) → written.format ≡ Bank32A → written.limit ≡ limit → EndsBy fault r (Some later) m b → IsBuilderReady id limit b.inputs (Some later) written
+    → FaultsReply reply r.start number (suc r.sent) limit m.inputs fault → IfNone fault (list_all is_held m.inputs ≡ true → IsJoined m.inputs limit written) → written.format ≡ Bank32A → written.limit ≡ limit → EndsAfter fault r (Some later) m b → IsBuilderReady id limit b.inputs (Some later) written
 ready_pulled (Some fault) number id limit r later q reply a m b body written ready many step faults joined format room ends =
     let inputs_many : length m.inputs ≡ length a.inputs = as_many (ReceivesInput r.start q reply) number a m step in
     let ports_many : length m.ports ≡ length m.inputs = as_many_ports (ReceivesInput r.start q reply) number a m step ∙ (many ∙ sym inputs_many) in

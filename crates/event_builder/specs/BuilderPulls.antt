@@ -15,29 +15,29 @@ use Rattle.event_builder.specs.declared.inputs.BuilderInput.{BuilderInput}
 use Rattle.event_builder.specs.declared.inputs.InputRequest.{InputRequest}
 use Rattle.event_builder.specs.Joined.{IsBuiltSize}
 use Rattle.event_builder.specs.Inputs.{InputsAt, StepsInput, ReceivesInput, is_held, last_events}
-use Rattle.event_builder.specs.Builders.{BuilderAt, EndsBy}
-use Rattle.event_builder.specs.BuilderTurns.{StaysAt}
+use Rattle.event_builder.specs.Builders.{BuilderAt, EndsAfter}
+use Rattle.event_builder.specs.BuilderTurns.{StaysBuilder}
 
 -- Faults.
 
 -- The fault that the k-th event of this input gives, if it gives one: its serial number is another; or its data are no bank
 -- area; or each input holds an event now, and the event built of them would be too long. They are tested in this order.
-abbrev pub IsFaultOf : (number k : ℕ) → Event → (limit : ℕ) → (inputs : List BuilderInput) → Option BuildFault → Type 0
-IsFaultOf number k e limit inputs None =
+abbrev pub IsBuildFaultOf : (number k : ℕ) → Event → (limit : ℕ) → (inputs : List BuilderInput) → Option BuildFault → Type 0
+IsBuildFaultOf number k e limit inputs None =
     (e.serial ≡ k) × ((bs : List BankValue) × HoldsBanks bs e.body)
     × (list_all is_held inputs ≡ true → (size : ℕ) × IsBuiltSize (last_events inputs) size × (size ≤ limit))
-IsFaultOf number k e limit inputs (Some (Serial input j have)) = (input ≡ number) × (j ≡ k) × (have ≡ e.serial) × (have ≢ k)
-IsFaultOf number k e limit inputs (Some (NotBanks input j)) =
+IsBuildFaultOf number k e limit inputs (Some (Serial input j have)) = (input ≡ number) × (j ≡ k) × (have ≡ e.serial) × (have ≢ k)
+IsBuildFaultOf number k e limit inputs (Some (NotBanks input j)) =
     (input ≡ number) × (j ≡ k) × (e.serial ≡ k) × ((bs : List BankValue) → HoldsBanks bs e.body → ⊥)
-IsFaultOf number k e limit inputs (Some (TooBig j size)) =
+IsBuildFaultOf number k e limit inputs (Some (TooBig j size)) =
     (j ≡ k) × (e.serial ≡ k) × (list_all is_held inputs ≡ true) × IsBuiltSize (last_events inputs) size × (limit < size)
-IsFaultOf number k e limit inputs (Some (SmallRoom input need)) = ⊥
+IsBuildFaultOf number k e limit inputs (Some (SmallRoom input need)) = ⊥
 
 -- the fault that the event gives which this input holds now
 pub record MeetsFault (number k limit : ℕ) (inputs : List BuilderInput) (fault : Option BuildFault) : Type 0 where
   pub input : BuilderInput
   pub there : slice_get inputs number ≡ Some input
-  pub fault_is : IsFaultOf number k input.event.event limit inputs fault
+  pub fault_is : IsBuildFaultOf number k input.event.event limit inputs fault
 
 -- each other input that holds an event holds one whose data are a bank area
 abbrev pub HoldBanksBut : (number : ℕ) → List BuilderInput → Type 0
@@ -65,27 +65,27 @@ pull_answer start reply None = Nothing
 
 -- One receive, and what becomes of its reply: an event of the run is held, a fault ends the run, and so it has ended where all
 -- of the input was read.
-pub record PullsOnce (number limit : ℕ) (r : BuildRun) (q : InputRequest) (later : Option BuildRun) (a b : InputsAt) (answer : BuildPull) : Type 0 where
+pub record PullsOneEvent (number limit : ℕ) (r : BuildRun) (q : InputRequest) (later : Option BuildRun) (a b : InputsAt) (answer : BuildPull) : Type 0 where
   pub reply : Received
   pub middle : InputsAt
   pub fault : Option BuildFault
   pub receives : StepsInput (ReceivesInput r.start q reply) number a middle
   pub faults : FaultsReply reply r.start number (suc r.sent) limit middle.inputs fault
-  pub ends : EndsBy fault r later middle b
+  pub ends : EndsAfter fault r later middle b
   pub answer_is : answer ≡ pull_answer r.start reply fault
 
 abbrev pub PullsHeld : (held : Bool) → (number limit : ℕ) → BuildRun → InputRequest → (a b : BuilderAt) → BuildPull → Type 0
-PullsHeld true number limit r q a b answer = (answer ≡ Waiting) × StaysAt a b
-PullsHeld false number limit r q a b answer = PullsOnce number limit r q b.run a.at b.at answer
+PullsHeld true number limit r q a b answer = (answer ≡ Waiting) × StaysBuilder a b
+PullsHeld false number limit r q a b answer = PullsOneEvent number limit r q b.run a.at b.at answer
 
-abbrev pub PullsBy : Option InputRequest → (held : Bool) → (number limit : ℕ) → BuildRun → (a b : BuilderAt) → BuildPull → Type 0
-PullsBy None held number limit r a b answer = (answer ≡ Nothing) × StaysAt a b
-PullsBy (Some q) held number limit r a b answer = PullsHeld held number limit r q a b answer
+abbrev pub PullsByRequest : Option InputRequest → (held : Bool) → (number limit : ℕ) → BuildRun → (a b : BuilderAt) → BuildPull → Type 0
+PullsByRequest None held number limit r a b answer = (answer ≡ Nothing) × StaysBuilder a b
+PullsByRequest (Some q) held number limit r a b answer = PullsHeld held number limit r q a b answer
 
 -- A pull on an input: without a run or a request nothing is called, and neither where an event of that input is held.
 abbrev pub PullsInput : Option BuildRun → (x : BuilderInput) → (number limit : ℕ) → (a b : BuilderAt) → BuildPull → Type 0
-PullsInput None x number limit a b answer = (answer ≡ Nothing) × StaysAt a b
-PullsInput (Some r) x number limit a b answer = PullsBy x.request x.held number limit r a b answer
+PullsInput None x number limit a b answer = (answer ≡ Nothing) × StaysBuilder a b
+PullsInput (Some r) x number limit a b answer = PullsByRequest x.request x.held number limit r a b answer
 
 -- a pull on the input of this number
 pub record PullsBuilder (number limit : ℕ) (a b : BuilderAt) (answer : BuildPull) : Type 0 where

@@ -13,7 +13,7 @@ use Rattle.event_builder.specs.declared.build_run.BuildRun.{BuildRun}
 use Rattle.event_builder.specs.Joined.{IsBuilt}
 use Rattle.event_builder.specs.Inputs.{InputsAt, inputs_at, is_held, last_events, let_go}
 use Rattle.event_builder.specs.Builders.{BuilderAt, EndsRun, EndsIfDone}
-use Rattle.event_builder.specs.BuilderTurns.{StaysAt}
+use Rattle.event_builder.specs.BuilderTurns.{StaysBuilder}
 
 -- the run, once one built event more was sent
 abbrev pub run_sent : BuildRun → BuildRun
@@ -34,8 +34,8 @@ IsWaitReply reply = ⊤
 -- they stay; and where the buffer is spent, the run has ended. There is no other reply.
 abbrev pub SendsBy : Result ℕ SendRefusal → BuildRun → (a b : BuilderAt) → BuildStep → Type 0
 SendsBy (Ok place) r a b answer = (answer ≡ Sent place) × EndsIfDone (run_sent r) b.run (all_let_go a.at) b.at
-SendsBy (Err (Full client place)) r a b answer = (answer ≡ Held client place) × StaysAt a b
-SendsBy (Err (NotRunning gate)) r a b answer = (answer ≡ Shut gate) × StaysAt a b
+SendsBy (Err (Full client place)) r a b answer = (answer ≡ Held client place) × StaysBuilder a b
+SendsBy (Err (NotRunning gate)) r a b answer = (answer ≡ Shut gate) × StaysBuilder a b
 SendsBy (Err (Spent total)) r a b answer = (answer ≡ Ends total) × EndsRun (EndSpent total) r b.run a.at b.at
 SendsBy (Err (BadSize stated given)) r a b answer = ⊥
 SendsBy (Err (ReservedId id)) r a b answer = ⊥
@@ -51,9 +51,9 @@ pub record SendsBuilt (id mask : ℕ) (r : BuildRun) (output later : Access) (a 
 
 abbrev pub StepsHeld : (whole : Bool) → (id mask : ℕ) → BuildRun → (output later : Access) → (a b : BuilderAt) → BuildStep → Type 0
 StepsHeld true id mask r output later a b answer = SendsBuilt id mask r output later a b answer
-StepsHeld false id mask r output later a b answer = (answer ≡ NoWork) × StaysAt a b × (later ≡ output)
+StepsHeld false id mask r output later a b answer = (answer ≡ NoWork) × StaysBuilder a b × (later ≡ output)
 
 -- A step: without a run, or where some input holds no event, nothing is done.
 abbrev pub StepsBuilder : Option BuildRun → (id mask : ℕ) → (output later : Access) → (a b : BuilderAt) → BuildStep → Type 0
-StepsBuilder None id mask output later a b answer = (answer ≡ NoWork) × StaysAt a b × (later ≡ output)
+StepsBuilder None id mask output later a b answer = (answer ≡ NoWork) × StaysBuilder a b × (later ≡ output)
 StepsBuilder (Some r) id mask output later a b answer = StepsHeld (list_all is_held a.at.inputs) id mask r output later a b answer

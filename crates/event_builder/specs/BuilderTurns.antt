@@ -16,8 +16,8 @@ use Rattle.event_builder.specs.Inputs.{InputsAt, StepsInput, StepsBelow, EachInp
 use Rattle.event_builder.specs.Builders.{BuilderAt, EndsRun, begun_run}
 
 -- nothing is called, and nothing changes
-abbrev pub StaysAt : BuilderAt → BuilderAt → Type 0
-StaysAt a b = (b.run ≡ a.run) × (b.at ≡ a.at)
+abbrev pub StaysBuilder : BuilderAt → BuilderAt → Type 0
+StaysBuilder a b = (b.run ≡ a.run) × (b.at ≡ a.at)
 
 -- Starts.
 
@@ -58,19 +58,19 @@ abbrev pub StopsRun : Option BuiltEnd → RunState → BuildRun → (a b : Build
 StopsRun (Some ended) from r a b = (b.run ≡ Some (stopped_run r)) × (b.at ≡ a.at)
 StopsRun None from r a b = StopsFrom from r a b
 
-abbrev pub StopsOwn : (own : Bool) → RunState → BuildRun → (a b : BuilderAt) → Option Answer → Type 0
-StopsOwn true from r a b answer = (answer ≡ None) × StopsRun r.ended from r a b
-StopsOwn false from r a b answer = (answer ≡ Some (Yes Plain)) × StaysAt a b
+abbrev pub StopsOwnRun : (own : Bool) → RunState → BuildRun → (a b : BuilderAt) → Option Answer → Type 0
+StopsOwnRun true from r a b answer = (answer ≡ None) × StopsRun r.ended from r a b
+StopsOwnRun false from r a b answer = (answer ≡ Some (Yes Plain)) × StaysBuilder a b
 
 -- A stop of the run of which events are built waits for its answer; any other is answered at once.
 abbrev pub StopsBuilder : Option BuildRun → Order → (a b : BuilderAt) → Option Answer → Type 0
-StopsBuilder None order a b answer = (answer ≡ Some (Yes Plain)) × StaysAt a b
-StopsBuilder (Some r) order a b answer = StopsOwn (r.start == order.start) order.from r a b answer
+StopsBuilder None order a b answer = (answer ≡ Some (Yes Plain)) × StaysBuilder a b
+StopsBuilder (Some r) order a b answer = StopsOwnRun (r.start == order.start) order.from r a b answer
 
 -- What a turn does. A start-abort drops the run, and a pause or resume does nothing.
 abbrev pub TurnsBuilder : Transition → Order → (a b : BuilderAt) → Option Answer → Type 0
 TurnsBuilder Start order a b answer = (given : Answer) × (answer ≡ Some given) × StartsBuilder order.start a b given
 TurnsBuilder Stop order a b answer = StopsBuilder a.run order a b answer
-TurnsBuilder Pause order a b answer = (answer ≡ Some (Yes Plain)) × StaysAt a b
-TurnsBuilder Resume order a b answer = (answer ≡ Some (Yes Plain)) × StaysAt a b
+TurnsBuilder Pause order a b answer = (answer ≡ Some (Yes Plain)) × StaysBuilder a b
+TurnsBuilder Resume order a b answer = (answer ≡ Some (Yes Plain)) × StaysBuilder a b
 TurnsBuilder StartAbort order a b answer = (answer ≡ Some (Yes Plain)) × (b.run ≡ None) × EachInput CancelsInput a.at b.at

@@ -51,9 +51,9 @@ abbrev pub EndsIfDone : BuildRun → (later : Option BuildRun) → (a b : Inputs
 EndsIfDone r later a b = EndsWhere (list_any is_done a.inputs) r later a b
 
 -- the run has ended with the fault, if there is one, or else where all of some input was read
-abbrev pub EndsBy : Option BuildFault → BuildRun → (later : Option BuildRun) → (a b : InputsAt) → Type 0
-EndsBy (Some fault) r later a b = EndsRun (Fault fault) r later a b
-EndsBy None r later a b = EndsIfDone r later a b
+abbrev pub EndsAfter : Option BuildFault → BuildRun → (later : Option BuildRun) → (a b : InputsAt) → Type 0
+EndsAfter (Some fault) r later a b = EndsRun (Fault fault) r later a b
+EndsAfter None r later a b = EndsIfDone r later a b
 
 -- What is told.
 

@@ -63,17 +63,17 @@ abbrev pub builder_name : List ℕ
 builder_name = codes "Builder"
 
 -- where there is a client nothing is called; where there is none, one is attached, or that is refused
-abbrev pub GetsClient : (client later : Option ℕ) → Access → Access → Type 0
-GetsClient (Some client) later a b = (later ≡ Some client) × (b ≡ a)
-GetsClient None (Some client) a b = Calls a b (Attach builder_name (Ok client))
-GetsClient None None a b = (why : NoSlot) × Calls a b (Attach builder_name (Err why))
+abbrev pub GetsInputClient : (client later : Option ℕ) → Access → Access → Type 0
+GetsInputClient (Some client) later a b = (later ≡ Some client) × (b ≡ a)
+GetsInputClient None (Some client) a b = Calls a b (Attach builder_name (Ok client))
+GetsInputClient None None a b = (why : NoSlot) × Calls a b (Attach builder_name (Err why))
 
 -- The input has a client, or gets one, and by its request for all events of the front-end it is read from now on.
 pub record AsksInput (x y : InputAt) : Type 0 where
   pub attached : Access
   pub client : ℕ
   pub number : ℕ
-  pub gets : GetsClient x.input.client (Some client) x.port attached
+  pub gets : GetsInputClient x.input.client (Some client) x.port attached
   pub asks : Calls attached y.port (Request client x.input.front any All (Ok number))
   pub input : y.input ≡ record x.input { client = Some client; request = Some (record { client = client; number = number }); stop = Open }
 
@@ -85,19 +85,19 @@ RefusesRequest (Some client) front a b = (why : RequestRefusal) × Calls a b (Re
 -- the buffer refuses the input its client or its request
 pub record RefusesInput (x y : InputAt) : Type 0 where
   pub attached : Access
-  pub gets : GetsClient x.input.client y.input.client x.port attached
+  pub gets : GetsInputClient x.input.client y.input.client x.port attached
   pub refuses : RefusesRequest y.input.client x.input.front attached y.port
   pub input : y.input ≡ record x.input { client = y.input.client }
 
 -- the request, if there is one, is cancelled, with any reply
-abbrev pub CancelsRequest : Option InputRequest → Access → Access → Type 0
-CancelsRequest None a b = b ≡ a
-CancelsRequest (Some q) a b = (reply : Result ⊤ RequestRefusal) × Calls a b (Cancel q.client q.number reply)
+abbrev pub CancelsIfAsked : Option InputRequest → Access → Access → Type 0
+CancelsIfAsked None a b = b ≡ a
+CancelsIfAsked (Some q) a b = (reply : Result ⊤ RequestRefusal) × Calls a b (Cancel q.client q.number reply)
 
 -- The input is read no more: its request is cancelled, if it lives, and what is held is let go of.
 pub record CancelsInput (x y : InputAt) : Type 0 where
   pub input : y.input ≡ record x.input { request = None; held = false }
-  pub cancels : CancelsRequest x.input.request x.port y.port
+  pub cancels : CancelsIfAsked x.input.request x.port y.port
 
 -- Reading.
 

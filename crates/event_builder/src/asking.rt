@@ -1,7 +1,7 @@
 //! The requests of a builder's inputs: they are made at a start, and cancelled at its end; and a stop of the run.
 
 ghost use Rattle.std.specs.Prelude.{◌≡◌, ◌≤◌, ◌<◌, ℕ, codes, length, map, OnOk, OnErr, IfErr};
-ghost use Rattle.event_builder.specs.Inputs.{GetsClient, AsksInput, RefusesInput, CancelsInput, StopsInput, StepsInput, StepsBelow, EachInput, InputsAt, input_at, inputs_at};
+ghost use Rattle.event_builder.specs.Inputs.{GetsInputClient, AsksInput, RefusesInput, CancelsInput, StopsInput, StepsInput, StepsBelow, EachInput, InputsAt, input_at, inputs_at};
 ghost use Rattle.event_builder.specs.BuilderTurns.{RefusesAt};
 
 use crate::inputs::{BuilderInput, InputRequest, InputStop, Inputs, Ports};
@@ -25,7 +25,7 @@ fn client_name() -> Name
 
 /// The client, or where there is none, one that is attached now, unless that is refused.
 fn attached<R: Wait, P: BufferPort>(rt: &R, port: &mut P, client: Option<u32>) -> Option<u32>
-    ensures { GetsClient client result (P.access port.old) (P.access port.new) }
+    ensures { GetsInputClient client result (P.access port.old) (P.access port.new) }
 {
     if client.is_some() {
         return client;

@@ -4,7 +4,7 @@ ghost use Rattle.std.specs.Prelude.{◌≡◌, ◌<◌, ◌+◌, ◌^◌, length
 ghost use Rattle.std.specs.List.{list_any};
 ghost use Rattle.event_builder.specs.declared.inputs.BuilderInput.{BuilderInput as an_input};
 ghost use Rattle.event_builder.specs.Inputs.{CancelsInput, EachInput, inputs_at, is_done as is_input_done, is_drained as is_stop_drained, let_go};
-ghost use Rattle.event_builder.specs.Builders.{EndsRun, EndsIfDone, EndsBy, builder_at};
+ghost use Rattle.event_builder.specs.Builders.{EndsRun, EndsIfDone, EndsAfter, builder_at};
 ghost use Rattle.event_builder.specs.BuilderSends.{SendsBy, IsWaitReply};
 
 use crate::answers::BuildStep;
@@ -88,7 +88,7 @@ pub fn end_by<R: Wait, P: BufferPort>(
     fault: Option<BuildFault>,
 ) -> BuildRun
     requires ports { length ports.old ≡ length inputs.old }
-    ensures { EndsBy fault run (Some result)
+    ensures { EndsAfter fault run (Some result)
         (inputs_at inputs.old (map P.access ports.old))
         (inputs_at inputs.new (map P.access ports.new)) }
 {

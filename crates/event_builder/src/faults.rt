@@ -10,7 +10,7 @@ ghost use Rattle.event_builder.specs.declared.build_run.BuildFault.TheVariants.{
 ghost use Rattle.event_builder.specs.Joined.{JoinsBanks, IsBuiltSize};
 ghost use Rattle.event_builder.specs.Inputs.{is_held, is_of_run, last_events};
 ghost use Rattle.event_builder.specs.Builders.{IsJoined};
-ghost use Rattle.event_builder.specs.BuilderPulls.{IsFaultOf, MeetsFault, FaultsReply, HoldBanksBut};
+ghost use Rattle.event_builder.specs.BuilderPulls.{IsBuildFaultOf, MeetsFault, FaultsReply, HoldBanksBut};
 
 use crate::build_run::BuildFault;
 use crate::inputs::BuilderInput;
@@ -32,7 +32,7 @@ fn fault_alone(event: &EventBuf, input: u32, k: u64) -> Option<BuildFault>
     ensures none { IfNone result ((event.now.event.serial ≡ k)
         × ((bs : List BankValue) × HoldsBanks bs event.now.event.body)) }
     ensures fault { IfSome result (λ fault. (limit : ℕ) → (inputs : List an_input) →
-        IsFaultOf input k event.now.event limit inputs (Some fault)) }
+        IsBuildFaultOf input k event.now.event limit inputs (Some fault)) }
 {
     let have = event.header().serial_number;
     if u64::from(have) != k {
