@@ -10,7 +10,7 @@ use Rattle.std.proofs.lemmas.Bool.Decides.{eqb_tells, leb_tells}
 use Rattle.member_crew.specs.Rounds.{HadRounds}
 use Rattle.member_crew.specs.declared.turned.Turned.{Turned}
 use Rattle.member_crew.specs.Turns.{CameBack, ChangesPlace, EndsFrom, GoesOn, HadSoMany, IsSoFar, MemberSoFar, TurnsAt, TurnsOn, TurnsToEnd, so_far}
-use Rattle.member_crew.specs.Crews.{CrewInRounds, KeptByRounds, ReadsPick, TakesRound, TurnFrom, before_turns, members_so_far}
+use Rattle.member_crew.specs.Crews.{CrewInRounds, KeptByRounds, ReadsPick, TakesRound, TurnFrom, members_so_far}
 use Rattle.member_crew.proofs.ListLaws.{zip_follows, zip_stays}
 use Rattle.member_crew.proofs.TurnLaws.{ends_so, stays, turns_on}
 
@@ -200,7 +200,7 @@ so_far_count (m ∷ ms) [] = ap (λ (n : ℕ). suc n) (so_far_count ms [])
 so_far_count (m ∷ ms) (e ∷ es) = ap (λ (n : ℕ). suc n) (so_far_count ms es)
 
 -- while nothing is noted
-pub none_yet : {M : Type 0} (members : List M) (n : ℕ) → members_so_far members (replicate n false) ≡ before_turns members
+pub none_yet : {M : Type 0} (members : List M) (n : ℕ) → members_so_far members (replicate n false) ≡ members_so_far members []
 none_yet [] n = refl
 none_yet {M = M} (m ∷ ms) zero = ap (λ (l : List (MemberSoFar M)). so_far m false ∷ l) (none_yet ms zero)
 none_yet {M = M} (m ∷ ms) (suc n) = ap (λ (l : List (MemberSoFar M)). so_far m false ∷ l) (none_yet ms n)
@@ -274,7 +274,7 @@ module _ {M : Type 0} (turns : M → M → Turned → Type 0) where
   rounds_on (suc n) member x had = turns_on turns member had.0 x had.1 (rounds_on n member had.0 had.2) had.3
 
   -- the members came back behind rounds and their last turns
-  pub rounds_back : (n : ℕ) (members : List M) (between : List (MemberSoFar M)) (after : List M) → AllZip (HadSoMany (TurnsOn turns) n) (before_turns members) between
+  pub rounds_back : (n : ℕ) (members : List M) (between : List (MemberSoFar M)) (after : List M) → AllZip (HadSoMany (TurnsOn turns) n) (members_so_far members []) between
       → AllZip (λ (was : MemberSoFar M) (later : M). EndsFrom turns was.ended was.member later) between after → CameBack turns members after
   rounds_back n [] [] [] had ends = tt
   rounds_back n [] [] (y ∷ ys) had ends = ends

@@ -10,16 +10,11 @@ pub record CrewInRounds (M K : Type 0) : Type 0 where
   pub members : List M
   pub pick : K
 
--- the members, by what is noted of each number, whether a turn came to Ended
+-- the members, by what is noted of each number, whether a turn came to Ended; where nothing is noted of a member, none of its turns did
 abbrev pub members_so_far : {M : Type 0} → List M → (ended : List Bool) → List (MemberSoFar M)
 members_so_far [] ended = []
 members_so_far (member ∷ members) [] = so_far member false ∷ members_so_far members []
 members_so_far (member ∷ members) (ended ∷ more) = so_far member ended ∷ members_so_far members more
-
--- members none of which had a turn
-abbrev pub before_turns : {M : Type 0} → List M → List (MemberSoFar M)
-before_turns [] = []
-before_turns (member ∷ members) = so_far member false ∷ before_turns members
 
 -- By what a pick tells of its choices.
 module _ {K : Type 0} (told : K → AheadTold) where

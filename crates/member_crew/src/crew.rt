@@ -17,7 +17,7 @@ pub struct CrewParts<M, K> {
 /// has its turn first. There is at least one member, and there are at most 64. Each has its place as its number. One of which a
 /// turn came to `Ended` has no turn more.
 #[derive(Drop)]
-pub(crate) struct Crew<'a, M: TakesTurns, K: Pick, G: Gate> {
+pub struct Crew<'a, M: TakesTurns, K: Pick, G: Gate> {
     members: MemberList<M>,
     /// Whether a turn of the member of this number came to `Ended`.
     ended: [bool; 64],
@@ -38,16 +38,16 @@ impl<'a, M: TakesTurns, K: Pick, G: Gate> Model for Crew<'a, M, K, G> {
 }
 
 impl<'a, M: TakesTurns, K: Pick, G: Gate> Crew<'a, M, K, G> {
-    ghost use Rattle.std.specs.Prelude.{◌≡◌, ◌<◌, ◌≤◌, length};
+    ghost use Rattle.std.specs.Prelude.{◌≡◌, ◌<◌, ◌≤◌, [], length};
     ghost use Rattle.std.specs.List.{AllZip};
     ghost use Rattle.member_crew.specs.Turns.{ChangesPlace, EndsFrom, TurnsAt, TurnsOn};
-    ghost use Rattle.member_crew.specs.Crews.{PicksMember, TurnFrom, before_turns};
+    ghost use Rattle.member_crew.specs.Crews.{PicksMember, TurnFrom, members_so_far};
 
     /// A crew of these members, who pass this gate.
-    pub(crate) fn new(parts: CrewParts<M, K>, gate: &'a G) -> Crew<'a, M, K, G>
+    pub fn new(parts: CrewParts<M, K>, gate: &'a G) -> Crew<'a, M, K, G>
         requires some { 0 < length parts.members }
         requires few { length parts.members ≤ 64 }
-        ensures members { result.members ≡ before_turns parts.members }
+        ensures members { result.members ≡ members_so_far parts.members [] }
         ensures pick { result.pick ≡ parts.pick }
     {
         let CrewParts { members, pick } = parts;
@@ -129,7 +129,7 @@ impl<'a, M: TakesTurns, K: Pick, G: Gate> Crew<'a, M, K, G> {
     }
 
     /// The members, each behind its last turn, and the pick, given back.
-    pub(crate) fn into_ended<R: Wait>(mut self, rt: &R) -> CrewParts<M, K>
+    pub fn into_ended<R: Wait>(mut self, rt: &R) -> CrewParts<M, K>
         ensures ends { AllZip (λ was later. EndsFrom M.turns was.ended was.member later)
             self.entry.members result.members }
         ensures pick { result.pick ≡ self.entry.pick }

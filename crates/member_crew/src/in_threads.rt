@@ -63,8 +63,8 @@ where
 }
 
 /// Plays the main thread's part while each member has its turns in a thread of its own, or here, where no thread could be had
-/// for it, until its turn comes to `Ended`, and none behind that. The pick stays as it is, since there are no rounds of all members. Takes no memory but
-/// what threads take.
+/// for it, until its turn comes to `Ended`, and none behind that. The pick stays as it is, since there are no rounds of all
+/// members. Takes no memory but what threads take.
 pub fn play_in_threads<
     'a,
     R: Threads + Wait + Sync,

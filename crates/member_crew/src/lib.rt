@@ -24,7 +24,7 @@ mod return_flag;
 mod rounds;
 mod turned;
 
-pub use crew::CrewParts;
+pub use crew::{Crew, CrewParts};
 pub use in_either::play;
 pub use in_threads::{ThreadRoom, play_in_threads};
 pub use in_turns::play_in_turns;

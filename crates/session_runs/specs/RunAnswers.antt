@@ -67,6 +67,10 @@ pub record GotNumber {M : Type 0} (run : ℕ) (old new : CommandPoint M) : Type 
   pub runs : new.runs ≡ old.runs
   pub members : new.members ≡ old.members
 
+-- The database's history went on by entries of which this holds.
+abbrev pub AddsSuch : (Holds : List WatchEntry → Type 0) → (old new : DatabaseAccess) → Type 0
+AddsSuch Holds old new = (entries : List WatchEntry) × Holds entries × AddsEntries old new entries
+
 -- The run of this number was announced in the database, and is begun with this sheet: with a blank report for each of so many
 -- analyzers, the quota, the time that the clock gave, and the database's text.
 pub record AnnouncesRun (run quota analyzers : ℕ) (before after : AheadTold) (old new : DatabaseAccess) (sheet : Sheet) : Type 0 where

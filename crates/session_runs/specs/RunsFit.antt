@@ -104,6 +104,7 @@ pub record FitsRefused (clients : RunClients) (own : MainOwn) (begun : CurrentRu
   pub files : r.files ≡ []
   pub reports : r.reports ≡ []
 
+-- The record of a run that was completed against the main thread's own calls, or that of one whose start was refused.
 abbrev pub FitsOutcome : RunClients → MainOwn → CurrentRun → RunRecord → StartOutcome → Type 0
 FitsOutcome clients own begun r Completed = FitsWhole clients own begun r
 FitsOutcome clients own begun r (Refused client why) = FitsRefused clients own begun r

@@ -1,9 +1,7 @@
 // A start of a run.
-ghost use Rattle.std.specs.Prelude.{◌≡◌, ◌≤◌, ◌<◌, ◌^◌, ◌∷◌, ◌++◌, [], List, length, None, Some, Ok, IsOk, IfOk, OnErr, OnOk};
+ghost use Rattle.std.specs.Prelude.{◌≡◌, ◌≤◌, ◌<◌, ◌^◌, ◌∷◌, ◌++◌, [], length, None, Some, Ok, IsOk, IfOk, OnErr, OnOk};
 ghost use Rattle.daq_types.specs.Callers.{main_caller};
 ghost use Rattle.odb_text.specs.Dumps.{dump_limit};
-ghost use Rattle.odb_watch.specs.declared.entry.WatchEntry.{WatchEntry};
-ghost use Rattle.odb_watch.specs.DatabasePorts.{AddsEntries};
 ghost use Rattle.odb_runinfo.specs.RunSets.{SetsNumbers};
 ghost use Rattle.daq_types.specs.declared.runs.RunState.TheVariants.{Running};
 ghost use Rattle.daq_types.specs.declared.runs.StartOutcome.TheVariants.{Completed};
@@ -12,7 +10,7 @@ ghost use Rattle.session_runs.specs.MainKnowledge.{known_from, begin_known};
 ghost use Rattle.member_model.specs.RunEngines.{IsSheet};
 ghost use Rattle.session_runs.specs.KeptRuns.{refused_start};
 ghost use Rattle.session_runs.specs.RunEntries.{AnnounceCalls, outcome_sets};
-ghost use Rattle.session_runs.specs.RunAnswers.{AnnouncesRun, AnswersStart, CutsAnnouncing, CutsStart, AnswersBegin, CutsBegin, ReadsClock, point_of};
+ghost use Rattle.session_runs.specs.RunAnswers.{AddsSuch, AnnouncesRun, AnswersStart, CutsAnnouncing, CutsStart, AnswersBegin, CutsBegin, ReadsClock, point_of};
 
 use crate::making::{blank_reports, make_untold, start_sheet};
 use crate::on::{CurrentRun, OpenRun, RunRooms};
@@ -44,8 +42,7 @@ fn announce<R: Wait, D: WatchPort, C: Clock>(
     requires small { run < 2 ^ 31 }
     ensures reading { ReadsClock (C.told clock.old)
         (C.told clock.new) result.0 }
-    ensures calls { (entries : List WatchEntry) × AnnounceCalls run result.0 result.1 entries
-        × AddsEntries (D.access database.old) (D.access database.new) entries }
+    ensures calls { AddsSuch (AnnounceCalls run result.0 result.1) (D.access database.old) (D.access database.new) }
     ensures dump { IfOk result.1 (λ dump. length dump ≤ dump_limit) }
 {
     calls_add_up();

@@ -1,14 +1,12 @@
 // A stop of the run that is on.
-ghost use Rattle.std.specs.Prelude.{◌≡◌, ◌≤◌, [], List, length, IfOk, OnErr};
+ghost use Rattle.std.specs.Prelude.{◌≡◌, ◌≤◌, [], length, IfOk, OnErr};
 ghost use Rattle.odb_text.specs.Dumps.{dump_limit};
-ghost use Rattle.odb_watch.specs.declared.entry.WatchEntry.{WatchEntry};
-ghost use Rattle.odb_watch.specs.DatabasePorts.{AddsEntries};
 ghost use Rattle.daq_types.specs.declared.runs.StartOutcome.TheVariants.{Completed};
 ghost use Rattle.daq_types.specs.declared.runs.Transition.TheVariants.{Stop};
 ghost use Rattle.session_runs.specs.KeptRuns.{record_of};
 ghost use Rattle.session_runs.specs.MainKnowledge.{known_from};
 ghost use Rattle.session_runs.specs.RunEntries.{AnnouncesStop, dump_saved};
-ghost use Rattle.session_runs.specs.RunAnswers.{AnswersStop, StopsUnsaved, ReadsClock, point_of};
+ghost use Rattle.session_runs.specs.RunAnswers.{AddsSuch, AnswersStop, StopsUnsaved, ReadsClock, point_of};
 
 use crate::channels::RunChannel;
 use crate::making::sheet_for;
@@ -39,8 +37,8 @@ fn announce_stop<R: Wait, D: WatchPort, C: Clock>(
 ) -> (u32, Result<Bytes, NoMemory>)
     ensures reading { ReadsClock (C.told clock.old)
         (C.told clock.new) result.0 }
-    ensures calls { (entries : List WatchEntry) × AnnouncesStop (known_from seat.now.own).state result.0 result.1 entries
-        × AddsEntries (D.access database.old) (D.access database.new) entries }
+    ensures calls { AddsSuch (AnnouncesStop (known_from seat.now.own).state result.0 result.1)
+        (D.access database.old) (D.access database.new) }
     ensures dump { IfOk result.1 (λ dump. length dump ≤ dump_limit) }
 {
     calls_add_up();
