@@ -14,7 +14,7 @@ use Rattle.loggers.specs.Turning.{IsIdleOutside}
 use Rattle.loggers.specs.LoggerStands.{LoggerStands}
 use Rattle.loggers.specs.OtherFiles.{specs_in, HaveRunsAmong, PullsLeaveFiles}
 use Rattle.loggers.specs.Reasons.{GivesReasons}
-use Rattle.loggers.specs.LeftNames.{HasUntoldFault, EachBehind, EachFindsNames, NamesFault, KeepsNames, HaveStoppedRuns, TurnsKeepNames, PullsKeepNames, FinishesKeepNames, StandingHasStopped, PullsKeepStopped}
+use Rattle.loggers.specs.LeftNames.{HasUntoldFault, EachBehind, EachFindsNames, NamesFaultOfStart, KeepsNames, HaveStoppedRuns, TurnsKeepNames, PullsKeepNames, FinishesKeepNames, StandingHasStopped, PullsKeepStopped}
 use Rattle.daq_members.specs.OwnTurns.{start_owed}
 use Rattle.daq_members.specs.StartedRuns.{started_runs}
 use Rattle.daq_members.specs.LoggerTaken.{LoggerTaken, PullsBelow, TakesLoggerBy, TakesLogger, pulled_channels}
@@ -41,7 +41,7 @@ idle_names slots told turns idle no_turns = record {
   found = λ named. subst (λ (ts : List MemberTurn). EachFindsNames (HasUntoldFault slots turns told told) (specs_in slots) told.seen ts) (sym no_turns) tt;
   first_fault = λ none undone name is. absurd (cc (none, is));
   fault_known = λ none name is. absurd (cc (none, is));
-  faults_named = subst (λ (ts : List MemberTurn). EachBehind (NamesFault (specs_in slots) told told) ts) (sym no_turns) tt;
+  faults_named = subst (λ (ts : List MemberTurn). EachBehind (NamesFaultOfStart (specs_in slots) told told) ts) (sym no_turns) tt;
 }
 
 -- what holds of a logger before its turn, and what its turn keeps

@@ -6,27 +6,27 @@ use Rattle.buffer_core.specs.Ports.{Access}
 use Rattle.member_model.specs.RunEngines.{Polled}
 use Rattle.transitions.specs.declared.replies.Polled.TheVariants.{Turn, Idle as NoTurn, Closed, NoClient}
 use Rattle.loggers.specs.Moments.{LoggerMoment, AreSamePorts}
-use Rattle.loggers.specs.NewLoggers.{NoneTakenBack}
+use Rattle.loggers.specs.NewLoggers.{GiveEachOnce}
 use Rattle.mid_logger.specs.declared.channel.Channel.{Channel}
 use Rattle.loggers.specs.LoggerFaults.{NotesFaults}
-use Rattle.loggers.specs.LoggerLaws.{TurnsLeaveKnown, PullsLeaveKnown, TurnsNote, PullsNote, FinishesNote, NotesFollow}
+use Rattle.loggers.specs.LoggerLaws.{TurnsGiveOnce, PullsGiveOnce, TurnsNote, PullsNote, FinishesNote, NotesFollow}
 use Rattle.daq_members.specs.OwnTurns.{start_owed}
 use Rattle.daq_members.specs.LoggerTaken.{LoggerTaken, HaveCaller, PullsBelow, TakesLoggerBy, TakesLogger, pulled_channels}
 
--- What was known of other callers before a turn is known behind it.
+-- What each port gave by a turn it gave behind what it gave before.
 
-pulled_known : PullsLeaveKnown → (dump : List ℕ) (n : ℕ) (got : Bool) (a b : LoggerMoment) → PullsBelow dump n got a b → NoneTakenBack b.ports → NoneTakenBack a.ports
-pulled_known pulls dump zero got a b steps none = subst (λ (m : LoggerMoment). NoneTakenBack m.ports) steps.1 none
-pulled_known pulls dump (suc n) got a b steps none = pulled_known pulls dump n steps.1 a steps.0 steps.3 (pulls dump n steps.2 steps.0 b steps.4 none)
+pulled_once : PullsGiveOnce → (dump : List ℕ) (n : ℕ) (got : Bool) (a b : LoggerMoment) → PullsBelow dump n got a b → GiveEachOnce b.ports → GiveEachOnce a.ports
+pulled_once pulls dump zero got a b steps once = subst (λ (m : LoggerMoment). GiveEachOnce m.ports) steps.1 once
+pulled_once pulls dump (suc n) got a b steps once = pulled_once pulls dump n steps.1 a steps.0 steps.3 (pulls dump n steps.2 steps.0 b steps.4 once)
 
-same_known : (a b : LoggerMoment) → b ≡ a → NoneTakenBack b.ports → NoneTakenBack a.ports
-same_known a b same none = subst (λ (m : LoggerMoment). NoneTakenBack m.ports) same none
+same_once : (a b : LoggerMoment) → b ≡ a → GiveEachOnce b.ports → GiveEachOnce a.ports
+same_once a b same once = subst (λ (m : LoggerMoment). GiveEachOnce m.ports) same once
 
-known_by : TurnsLeaveKnown → PullsLeaveKnown → (t : LoggerTaken) (reply : Polled) (owed : Option ℕ) → TakesLoggerBy reply owed t → NoneTakenBack t.after.ports → NoneTakenBack t.before.ports
-known_by turns pulls t Closed owed leaves none = same_known t.before t.after leaves.moment none
-known_by turns pulls t NoClient owed leaves none = same_known t.before t.after leaves.moment none
-known_by turns pulls t (NoTurn state) owed works none = pulled_known pulls _ pulled_channels works.got t.before t.after works.pulls none
-known_by turns pulls t (Turn transition order dump blank) None taken none = turns (record {
+once_by : TurnsGiveOnce → PullsGiveOnce → (t : LoggerTaken) (reply : Polled) (owed : Option ℕ) → TakesLoggerBy reply owed t → GiveEachOnce t.after.ports → GiveEachOnce t.before.ports
+once_by turns pulls t Closed owed leaves once = same_once t.before t.after leaves.moment once
+once_by turns pulls t NoClient owed leaves once = same_once t.before t.after leaves.moment once
+once_by turns pulls t (NoTurn state) owed works once = pulled_once pulls _ pulled_channels works.got t.before t.after works.pulls once
+once_by turns pulls t (Turn transition order dump blank) None taken once = turns (record {
   transition = transition;
   order = order;
   dump = dump;
@@ -37,12 +37,12 @@ known_by turns pulls t (Turn transition order dump blank) None taken none = turn
   later_dumps = t.later_dumps;
   before = t.before;
   after = t.after;
-}) taken.takes none
-known_by turns pulls t (Turn transition order dump blank) (Some start) ends none =
-    pulled_known pulls _ pulled_channels ends.got t.before ends.pulled ends.pulls (subst (λ (ports : List Access). NoneTakenBack ports) ends.ports none)
+}) taken.takes once
+once_by turns pulls t (Turn transition order dump blank) (Some start) ends once =
+    pulled_once pulls _ pulled_channels ends.got t.before ends.pulled ends.pulls (subst (λ (ports : List Access). GiveEachOnce ports) ends.ports once)
 
-pub known_before : TurnsLeaveKnown → PullsLeaveKnown → (t : LoggerTaken) → TakesLogger t → NoneTakenBack t.after.ports → NoneTakenBack t.before.ports
-known_before turns pulls t takes none = known_by turns pulls t takes.reply (start_owed t.client t.calls) takes.takes none
+pub once_before : TurnsGiveOnce → PullsGiveOnce → (t : LoggerTaken) → TakesLogger t → GiveEachOnce t.after.ports → GiveEachOnce t.before.ports
+once_before turns pulls t takes once = once_by turns pulls t takes.reply (start_owed t.client t.calls) takes.takes once
 
 -- Each turn notes the faults of the files.
 

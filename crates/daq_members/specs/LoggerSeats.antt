@@ -11,7 +11,7 @@ use Rattle.loggers.specs.declared.logged_run.LoggedRun.{LoggedRun}
 use Rattle.loggers.specs.declared.logged_run.RunDumps.{RunDumps}
 use Rattle.loggers.specs.declared.logger.Logger.{Logger}
 use Rattle.loggers.specs.Moments.{IsLoggerReady, AreSamePorts, AreIdleChannels}
-use Rattle.loggers.specs.NewLoggers.{NoneTakenBack}
+use Rattle.loggers.specs.NewLoggers.{GiveEachOnce}
 use Rattle.loggers.specs.SlotPulls.{HasEventRoom}
 use Rattle.loggers.specs.Turning.{IsIdleOutside, DumpsFit, buffers_begun}
 use Rattle.loggers.specs.LoggerStands.{LoggerStands}
@@ -62,7 +62,7 @@ logger_seen engine logger ports files first =
     logger_by (at_first engine (connected logger ports files)) (connected logger ports files) first
 
 -- On the engine the logger polls and answers for its own client alone; the ports are the client's own, and it is ready for
--- each turn. Where no client of it is known to be detached by another, it keeps its contract over its own calls on engine,
+-- each turn. Where its ports gave it no client that it has, it keeps its contract over its own calls on engine,
 -- buffers and files; and all files but those of its channels in the runs that it was told to start are as they were when
 -- it took its seat.
 pub record IsLoggerSeated {F : Type 0} (read : F → FilesTold) (logger : LoggerSeen F) : Type 0 where
@@ -73,10 +73,10 @@ pub record IsLoggerSeated {F : Type 0} (read : F → FilesTold) (logger : Logger
   pub idle : IsIdleOutside logger.run logger.slots
   pub begun : buffers_begun logger.run ≤ length logger.ports
   pub small : DumpsFit logger.dumps
-  pub stands : NoneTakenBack logger.ports →
+  pub stands : GiveEachOnce logger.ports →
       LoggerStands logger.run logger.dumps logger.slots logger.ports (member_turns logger.client logger.calls)
       (read logger.files).seen
-  pub others : NoneTakenBack logger.ports →
+  pub others : GiveEachOnce logger.ports →
       KeepsOtherFiles (specs_in logger.slots) (started_runs (member_turns logger.client logger.calls))
       (read logger.first).seen (read logger.files).seen
 
@@ -90,9 +90,9 @@ HasLoggerReasons read logger =
 
 -- Where names are told, the logger left all names of run files as they were when it took its seat, but those of its channels in the
 -- runs that were started and stopped in its turns, in the run that it has, and, where more faults were counted than it told, in those
--- whose start was undone. So it is where no client of it is known to be detached by another.
+-- whose start was undone. So it is where its ports gave it no client that it has.
 abbrev pub KeepsLoggerNames : {F : Type 0} → (read : F → FilesTold) → LoggerSeen F → Type 0
-KeepsLoggerNames read logger = NoneTakenBack logger.ports →
+KeepsLoggerNames read logger = GiveEachOnce logger.ports →
     KeepsNames logger.slots (read logger.first) (read logger.files) (member_turns logger.client logger.calls)
 
 -- All that.
@@ -104,7 +104,7 @@ pub record IsLoggerAtSeat {F : Type 0} (read : F → FilesTold) (logger : Logger
 -- A logger that made no call on the engine yet, and whose channels are idle, is ready for its seat: the ports are its client's own,
 -- it is ready for each turn and keeps its contract over its calls, and its answers rest on the counts of any run files.
 pub record IsFirstLogger {F : Type 0} (read : F → FilesTold) (logger : LoggerSeen F) : Type 0 where
-  pub stands : NoneTakenBack logger.ports →
+  pub stands : GiveEachOnce logger.ports →
       LoggerStands logger.run logger.dumps logger.slots logger.ports (member_turns logger.client logger.calls)
       (read logger.files).seen
   pub caller : HaveCaller (caller_of_client logger.client) logger.ports

@@ -12,7 +12,7 @@ use Rattle.mid_logger.specs.declared.pulled.Pulled.TheVariants.{Wrote, Dropped, 
 use Rattle.loggers.specs.declared.logged_run.LoggedRun.{LoggedRun}
 use Rattle.loggers.specs.declared.logged_run.RunDumps.{RunDumps}
 use Rattle.loggers.specs.Moments.{LoggerMoment}
-use Rattle.loggers.specs.NewLoggers.{NoneTakenBack}
+use Rattle.loggers.specs.NewLoggers.{GiveEachOnce}
 use Rattle.loggers.specs.LoggerStands.{LoggerStands}
 use Rattle.loggers.specs.Turning.{TakesTurn}
 use Rattle.loggers.specs.Finishing.{FinishesLogger}
@@ -65,9 +65,9 @@ pub record LoggerTaken : Type 0 where
   pub turned : Turned
 
 -- Where the logger kept its contract over the turns that its calls on the engine told before, it keeps it over those that they
--- tell behind the turn, if no client of it is known to be detached by another.
+-- tell behind the turn, if its ports gave it no client that it has.
 abbrev pub KeepsLoggerMember : LoggerTaken → Type 0
-KeepsLoggerMember t = NoneTakenBack t.after.ports →
+KeepsLoggerMember t = GiveEachOnce t.after.ports →
     LoggerStands t.run t.dumps t.before.slots t.before.ports (member_turns t.client t.calls) t.before.files.seen →
     LoggerStands t.later_run t.later_dumps t.after.slots t.after.ports (member_turns t.client t.later_calls)
     t.after.files.seen

@@ -45,6 +45,7 @@ pub record MemberTold (E F : Type 0) : Type 0 where
   pub makes : E → Order → ℕ → Event
   pub read : F → FilesTold
 
+-- What is told of members: in which runs an equipment takes part, which events it makes, and what is told of the run files.
 abbrev pub member_told : {E F : Type 0} → (takes : E → Order → Bool) → (makes : E → Order → ℕ → Event) →
     (read : F → FilesTold) → MemberTold E F
 member_told takes makes read = record { takes = takes; makes = makes; read = read }

@@ -138,7 +138,7 @@ impl<'a, P: BufferPort, F: Files> LoggerMember<'a, P, F> {
         ensures same { IsSameLogger self.old self.new }
         ensures keeps { IsLoggerAtSeat F.told self.new }
     {
-        logger_laws::still_known();
+        logger_laws::given_once();
         logger_laws::other_files();
         logger_laws::reasons_given();
         logger_laws::names_kept();

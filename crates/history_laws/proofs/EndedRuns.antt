@@ -49,13 +49,13 @@ was_right true w place told = refl
 was_right false w place told = absurd (cc (told))
 
 -- the gate is open for the run still, or the entry ended it
-abbrev IsOpenOrEnded : Window → BufferEntry → (start : ℕ) → Type 0
+abbrev pub IsOpenOrEnded : Window → BufferEntry → (start : ℕ) → Type 0
 IsOpenOrEnded w e start = (is_open (window_after w e).gate start ≡ true) ⊎ ((ended : ℕ) × (e ≡ End start (Ok ended)))
 
 opens_same : (n start : ℕ) → start ≡ n → (n == start) ≡ true
 opens_same n start is = eq-eqb n start (sym is)
 
-open_or_ended : (w : Window) (e : BufferEntry) (start : ℕ) → IsReply w e → is_open w.gate start ≡ true → IsOpenOrEnded w e start
+pub open_or_ended : (w : Window) (e : BufferEntry) (start : ℕ) → IsReply w e → is_open w.gate start ≡ true → IsOpenOrEnded w e start
 open_or_ended w (Attach name (Ok n)) start told opened = inl opened
 open_or_ended w (Attach name (Err r)) start told opened = inl opened
 open_or_ended w (Detach client (Ok u)) start told opened = inl opened

@@ -22,6 +22,7 @@ pub mod EndedRuns
 pub mod RefusedAttaches
 pub mod RefusedRequests
 pub mod RefusedBegins
+pub mod PausesKept
 pub mod Reading
 pub mod RunsRead
 pub mod FirstParts
@@ -33,6 +34,7 @@ pub mod RunsSeen
 pub mod RunsSince
 pub mod GoingOn
 pub mod PortParts
+pub mod GivenOnce
 pub mod Sampled
 pub mod SampledSeen
 pub mod SampledEnds

@@ -121,14 +121,14 @@ gave_still by c x past gave =
 
 -- A client lives on.
 
-abbrev Lives : Option Life → Type 0
+abbrev pub Lives : Option Life → Type 0
 Lives o = (l : Life) × (o ≡ Some l)
 
-lives_if : (b : Bool) (o p : Option Life) → Lives o → Lives p → Lives (if b then o else p)
+pub lives_if : (b : Bool) (o p : Option Life) → Lives o → Lives p → Lives (if b then o else p)
 lives_if true o p first second = first
 lives_if false o p first second = second
 
-lives_mapped : (f : Life → Life) (o : Option Life) → Lives o → Lives (option_map f o)
+pub lives_mapped : (f : Life → Life) (o : Option Life) → Lives o → Lives (option_map f o)
 lives_mapped f o l = (f l.0, ap (option_map f) l.1)
 
 lives_on : (news : News) (es : List BufferEntry) (count c : ℕ) (o : Option Life) → OwnNews news es → Lives o → Lives (life_after news count c o)

@@ -128,13 +128,13 @@ own_marks w (Accepted n) own told marked = quiet w (Accepted n) own tt (λ start
 
 -- Along a history in which one caller alone makes marks.
 
-abbrev OthersMark : List (ℕ × BufferEntry) → (caller : ℕ) → Type 0
+abbrev pub OthersMark : List (ℕ × BufferEntry) → (caller : ℕ) → Type 0
 OthersMark h caller = (other : ℕ) → other ≢ caller → EachCall MakesNoMark (entries_by other h)
 
-first_marks_none : (x : ℕ × BufferEntry) (h : List (ℕ × BufferEntry)) (caller : ℕ) → OthersMark (x ∷ h) caller → x.0 ≢ caller → MakesNoMark x.1
+pub first_marks_none : (x : ℕ × BufferEntry) (h : List (ℕ × BufferEntry)) (caller : ℕ) → OthersMark (x ∷ h) caller → x.0 ≢ caller → MakesNoMark x.1
 first_marks_none x h caller alone other = own_cases x.0 x h (λ es. EachCall MakesNoMark es → MakesNoMark x.1) (λ same each. each.0) (λ not each. absurd (not refl)) (alone x.0 other)
 
-rest_alone : (x : ℕ × BufferEntry) (h : List (ℕ × BufferEntry)) (caller : ℕ) → OthersMark (x ∷ h) caller → OthersMark h caller
+pub rest_alone : (x : ℕ × BufferEntry) (h : List (ℕ × BufferEntry)) (caller : ℕ) → OthersMark (x ∷ h) caller → OthersMark h caller
 rest_alone x h caller alone other differs = own_cases other x h (λ es. EachCall MakesNoMark es → EachCall MakesNoMark (entries_by other h)) (λ same each. each.1) (λ not each. each) (alone other differs)
 
 marked_step : (w : Window) (x : ℕ × BufferEntry) (past h : List (ℕ × BufferEntry)) (caller : ℕ) → OthersMark (x ∷ h) caller → IsReply w x.1 → MarkedSo w (entries_by caller past) → MarkedSo (window_after w x.1) (entries_by caller (x ∷ past))

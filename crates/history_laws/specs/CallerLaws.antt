@@ -8,13 +8,13 @@ use Rattle.daq_types.specs.declared.runs.Kind.TheVariants.{All as KindAll}
 use Rattle.event.specs.Events.{record_limit}
 use Rattle.event.specs.RunFile.{run_file, IsFileEvent, IsRunFile}
 use Rattle.buffer_core.specs.declared.entry.BufferEntry.{BufferEntry}
-use Rattle.buffer_core.specs.declared.entry.BufferEntry.TheVariants.{Request, SendInRun}
+use Rattle.buffer_core.specs.declared.entry.BufferEntry.TheVariants.{Attach, Request, SendInRun}
 use Rattle.buffer_core.specs.Window.{Sent, opening}
 use Rattle.buffer_core.specs.Histories.{History, IsLegal}
 use Rattle.buffer_core.specs.Runs.{segment}
 use Rattle.buffer_core.specs.Readers.{among, places_got, places_of, wanted}
-use Rattle.buffer_core.specs.Ports.{Access, BufferIdentity, GotEvent}
-use Rattle.buffer_core.specs.CallersView.{access_in}
+use Rattle.buffer_core.specs.Ports.{Access, BufferIdentity, GotEvent, IsGivenAt}
+use Rattle.buffer_core.specs.CallersView.{access_in, taken_back_in}
 use Rattle.member_model.specs.SentCalls.{own_sent, IsSendInRun, EachCall}
 use Rattle.member_model.specs.OwnCalls.{calls_after, IsOwnCall, AreOwnCalls, SendsNone, AreGivenBy}
 use Rattle.member_model.specs.ReadRuns.{HasReadRun}
@@ -124,6 +124,7 @@ ReadGoesOn = (own more : List BufferEntry) → (got later : List GotEvent) →
     HasReadRun own got client id mask number start begun ended events →
     HasReadRun (own ++ more) (got ++ later) client id mask number start begun ended events
 
+-- Calls more leave a run that was read only up to where it was cut one that was read so.
 abbrev pub CutGoesOn : Type 0
 CutGoesOn = (own more : List BufferEntry) → (got later : List GotEvent) →
     (client id mask number start begun ended : ℕ) → (events : List Event) →
@@ -142,6 +143,14 @@ PortTells = (size : ℕ) → (buffer : BufferIdentity) → buffer.opened ≡ ope
     (history : History) → IsLegal (opening size) history → (caller : ℕ) →
     (let told : Access = access_in buffer caller history in
     IsCallersPart history caller told.own told.got)
+
+-- Where no other caller detached a client of the caller, no attach gave it a client that it has: one that an earlier attach gave, and
+-- that it did not detach since.
+abbrev pub AttachesGiveOnce : Type 0
+AttachesGiveOnce = (size : ℕ) → (history : History) → (caller : ℕ) → IsLegal (opening size) history →
+    taken_back_in caller 0 history ≡ [] →
+    (before after : List BufferEntry) → (name : List ℕ) → (client call : ℕ) →
+    entries_by caller history ≡ before ++ Attach name (Ok client) ∷ after → IsGivenAt before call client → ⊥
 
 -- Who only sends in runs names no client of another, and sends no event but in runs.
 abbrev pub SenderHasOwn : Type 0

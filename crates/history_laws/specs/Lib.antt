@@ -5,6 +5,7 @@ pub mod OneCaller
 pub mod SeenRuns
 pub mod SentRuns
 pub mod RefusedCalls
+pub mod PausedRuns
 pub mod CallerLaws
 pub mod CallerSamples
 pub mod SeenSamples

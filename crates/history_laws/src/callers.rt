@@ -9,7 +9,8 @@ ghost use Rattle.history_laws.specs.OneCaller.{HaveRunSends, IsCallersPart, Mark
 ghost use Rattle.history_laws.specs.CallerSamples.{ReadPremise, LegalHistory, OwnClients, CallersEntries, SentEvents, RunIsRead, MeetsPremise, IsReadRight, FailsWithout, IsUnsent, read_whole, found_nothing, got_by_other, call_left_out, other_event_told, not_drained, sent_in_none, sent_in_other, asked_level, IsNotEnded, ended_by_other, end_refused};
 ghost use Rattle.history_laws.specs.SeenSamples.{SeenPremise, SeenLegal, SeenClients, SeenSends, SeenEntries, SeenPlaces, SeenGiven, SeenThrough, MeetsSeen, IsSeenRight, FailsToSee, got_of_none, event_not_told};
 ghost use Rattle.history_laws.specs.RefusedCalls.{AttachesRefused, AttachesAdd, RequestsRefused, BeginsRefused};
-ghost use Rattle.history_laws.specs.CallerLaws.{ReadPlaces, ReadEvents, CutEvents, RunFileFits, SeenEvents, SeenSince, SentByCaller, SendIsAmong, SendStands, SendsStandInOrder, PartGoesOn, ReadGoesOn, CutGoesOn, OwnGoOn, PortTells, SenderHasOwn, SenderSendsInRuns, SilentSendsInRuns, MembersFit, BegunIsEnded, SenderMakesNoMark};
+ghost use Rattle.history_laws.specs.PausedRuns.{PausesAreSet, ResumesAreSet, PausesAreKept};
+ghost use Rattle.history_laws.specs.CallerLaws.{ReadPlaces, ReadEvents, CutEvents, RunFileFits, SeenEvents, SeenSince, SentByCaller, SendIsAmong, SendStands, SendsStandInOrder, PartGoesOn, ReadGoesOn, CutGoesOn, OwnGoOn, PortTells, AttachesGiveOnce, SenderHasOwn, SenderSendsInRuns, SilentSendsInRuns, MembersFit, BegunIsEnded, SenderMakesNoMark};
 
 use buffer_core::laws;
 
@@ -124,9 +125,26 @@ pub fn refuses_for_cause()
     of_buffers();
 }
 
+/// Where one caller alone makes marks, a run that it left open is paused behind its call to pause it, whatever that was replied, and
+/// no event of the run is accepted then before the caller resumes or ends it. No run is paused behind a call to resume it.
+pub fn keeps_pauses()
+    ensures pauses { PausesAreSet }
+    ensures resumes { ResumesAreSet }
+    ensures kept { PausesAreKept }
+{
+    of_buffers();
+}
+
 /// What a port tells its caller is the caller's part of the history.
 pub fn port_tells()
     ensures { PortTells }
+{
+    of_buffers();
+}
+
+/// No attach gives a caller a client that it has, where no other caller detached one of it.
+pub fn gives_once()
+    ensures { AttachesGiveOnce }
 {
     of_buffers();
 }

@@ -23,7 +23,7 @@ use Rattle.loggers.proofs.Moved.{Moves, moved}
 use Rattle.loggers.proofs.LoneCalls.{cancels_lone}
 use Rattle.loggers.proofs.PullMoves.{GrowsOn, grows_same, grows_cancel, grown_on, port_grown, file_left, run_files_left, apart_on, goes_on, tells_same}
 
-standing_grows : (standing : Option ChannelRun) (x y : Access) → CancelsStanding standing x y → GrowsOn x y
+pub standing_grows : (standing : Option ChannelRun) (x y : Access) → CancelsStanding standing x y → GrowsOn x y
 standing_grows None x y cancels = grows_same x y cancels
 standing_grows (Some opened) x y cancels = grows_cancel x y opened cancels
 

@@ -78,7 +78,7 @@ quiet_fair : (ports : List Access) (turns : List MemberTurn) (e : BufferEntry) (
 quiet_fair ports turns (Begin start reply) es none = absurd none
 quiet_fair ports turns e es none = tt
 
-quiet_leaves : (e : BufferEntry) → MakesNoMark e → LeavesRuns e
+pub quiet_leaves : (e : BufferEntry) → MakesNoMark e → LeavesRuns e
 quiet_leaves (Begin start reply) none = absurd none
 quiet_leaves (End start reply) none = absurd none
 quiet_leaves e none = λ start before. (refl, refl)

@@ -32,7 +32,7 @@ use Rattle.loggers.specs.Finishing.{LoggerFinish}
 use Rattle.loggers.specs.Turning.{BeginsBuffer, EndsBuffer, PausesBuffer, ResumesBuffer, LoggerTurn, OpensBelow, BeginsBelow, AbortsAll, RefusesOpen, StartsSo, TakesStart, TakesStop, TakesMark, TakesAbort, TakesTurnBy, TakesTurn, IsIdleOutside, is_run_on, is_started, is_of_start, buffers_begun, start_answer}
 use Rattle.loggers.specs.LoggerStands.{logger_turn}
 use Rattle.loggers.specs.OtherFiles.{specs_in}
-use Rattle.loggers.specs.LeftNames.{IsOpenName, IsStoppedRunOf, IsUndoneRun, IsUndoneFile, IsBrokenName, IsBrokenOffName, IsFaultName, IsFaultKnown, IsFaultOf, NamesFault, EachBehind}
+use Rattle.loggers.specs.LeftNames.{IsOpenName, IsStoppedRunOf, IsUndoneRun, IsUndoneFile, IsBrokenName, IsBrokenOffName, IsFaultName, IsFaultKnown, IsFaultOf, NamesFaultOfStart, EachBehind}
 use Rattle.loggers.proofs.FilesLeft.{KeepsFiles, spec_at, begun_files, ended_files_kept}
 use Rattle.loggers.proofs.InTurns.{turns_keep}
 use Rattle.loggers.proofs.FirstNamed.{Quiet, OffNamed, none_off, opens_first, first_stays, broken_more, quiet_same, starts_quiet, stop_quiet, pause_quiet, resume_quiet}
@@ -51,7 +51,7 @@ known_moved slots later_slots turns later first old new more named known none na
 fault_of_stays : (specs : List (Option ChannelSpec)) (turns : List MemberTurn) (old new : FilesTold) (run number : ℕ) → ((name : List ℕ) → old.first ≡ Some name → new.first ≡ Some name) → IsFaultOf specs turns old run number → IsFaultOf specs turns new run number
 fault_of_stays specs turns old new run number stays of = record { name = of.name; named = stays of.name of.named; of = of.of }
 
-pub named_stays : (specs : List (Option ChannelSpec)) (first old new : FilesTold) (turns : List MemberTurn) → ((name : List ℕ) → old.first ≡ Some name → new.first ≡ Some name) → EachBehind (NamesFault specs first old) turns → EachBehind (NamesFault specs first new) turns
+pub named_stays : (specs : List (Option ChannelSpec)) (first old new : FilesTold) (turns : List MemberTurn) → ((name : List ℕ) → old.first ≡ Some name → new.first ≡ Some name) → EachBehind (NamesFaultOfStart specs first old) turns → EachBehind (NamesFaultOfStart specs first new) turns
 named_stays specs first old new [] stays each = tt
 named_stays specs first old new (t ∷ ts) stays each = (λ none number answered. fault_of_stays specs ts old new t.order.run number stays (each.0 none number answered), named_stays specs first old new ts stays each.1)
 
@@ -424,8 +424,8 @@ undone_file specs turns later name more o = record { number = o.number; spec = o
 -- what a turn leaves of both
 pub turn_faults : (t : LoggerTurn) (first : FilesTold) (turns : List MemberTurn) → TakesTurn t → IsIdleOutside t.run t.before.slots → OffRuns t turns → specs_in t.after.slots ≡ specs_in t.before.slots
     → ((run : ℕ) (ends : List ChannelEnd) → IsStoppedRunOf turns run ends → IsStoppedRunOf (logger_turn t.transition t.order t.dump t.answer ∷ turns) run ends) → ((run : ℕ) → IsUndoneRun turns run → IsUndoneRun (logger_turn t.transition t.order t.dump t.answer ∷ turns) run)
-    → IsFaultKnown t.before.slots turns first t.before.files → EachBehind (NamesFault (specs_in t.before.slots) first t.before.files) turns
-    → IsFaultKnown t.after.slots (logger_turn t.transition t.order t.dump t.answer ∷ turns) first t.after.files × EachBehind (NamesFault (specs_in t.after.slots) first t.after.files) (logger_turn t.transition t.order t.dump t.answer ∷ turns)
+    → IsFaultKnown t.before.slots turns first t.before.files → EachBehind (NamesFaultOfStart (specs_in t.before.slots) first t.before.files) turns
+    → IsFaultKnown t.after.slots (logger_turn t.transition t.order t.dump t.answer ∷ turns) first t.after.files × EachBehind (NamesFaultOfStart (specs_in t.after.slots) first t.after.files) (logger_turn t.transition t.order t.dump t.answer ∷ turns)
 turn_faults t first turns takes idle runs specs stopped undone known each =
     let later : List MemberTurn = logger_turn t.transition t.order t.dump t.answer ∷ turns in
     let moves : Moves t turns = turn_moves t turns t.transition refl idle runs takes in
@@ -445,16 +445,16 @@ turn_faults t first turns takes idle runs specs stopped undone known each =
       | inl was ↦ inl was
       | inr now ↦ inr (its name now)
     ] in
-    let all : EachBehind (NamesFault (specs_in t.before.slots) first t.after.files) later = (
+    let all : EachBehind (NamesFaultOfStart (specs_in t.before.slots) first t.after.files) later = (
       λ none number answered. turn_names t turns t.transition number idle answered (known none) takes,
       named_stays (specs_in t.before.slots) first t.before.files t.after.files turns moves.stays each,
     ) in
-    (known_moved t.before.slots t.after.slots turns later first t.before.files t.after.files more named known, subst (λ (l : List (Option ChannelSpec)). EachBehind (NamesFault l first t.after.files) later) (sym specs) all)
+    (known_moved t.before.slots t.after.slots turns later first t.before.files t.after.files more named known, subst (λ (l : List (Option ChannelSpec)). EachBehind (NamesFaultOfStart l first t.after.files) later) (sym specs) all)
 
 -- A pull.
 
-pub pull_faults : (a b : LoggerMoment) (first : FilesTold) (turns : List MemberTurn) → OffNamed a b → specs_in b.slots ≡ specs_in a.slots → IsFaultKnown a.slots turns first a.files → EachBehind (NamesFault (specs_in a.slots) first a.files) turns
-    → IsFaultKnown b.slots turns first b.files × EachBehind (NamesFault (specs_in b.slots) first b.files) turns
+pub pull_faults : (a b : LoggerMoment) (first : FilesTold) (turns : List MemberTurn) → OffNamed a b → specs_in b.slots ≡ specs_in a.slots → IsFaultKnown a.slots turns first a.files → EachBehind (NamesFaultOfStart (specs_in a.slots) first a.files) turns
+    → IsFaultKnown b.slots turns first b.files × EachBehind (NamesFaultOfStart (specs_in b.slots) first b.files) turns
 pull_faults a b first turns moved specs known each = (
   known_moved a.slots b.slots turns turns first a.files b.files
       (λ name was. elim was as (λ w. IsFaultName b.slots turns name) [
@@ -468,7 +468,7 @@ pull_faults a b first turns moved specs known each = (
         | inl was ↦ inl was
         | inr off ↦ inr (inr (inl off))
       ]) known,
-  subst (λ (l : List (Option ChannelSpec)). EachBehind (NamesFault l first b.files) turns) (sym specs) (named_stays (specs_in a.slots) first a.files b.files turns moved.stays each),
+  subst (λ (l : List (Option ChannelSpec)). EachBehind (NamesFaultOfStart l first b.files) turns) (sym specs) (named_stays (specs_in a.slots) first a.files b.files turns moved.stays each),
 )
 
 -- A call to finish.
@@ -477,8 +477,8 @@ pull_faults a b first turns moved specs known each = (
 pub finish_faults : (f : LoggerFinish) (first : FilesTold) (latest answered : MemberTurn) (earlier : List MemberTurn) → ((name : List ℕ) → f.files.first ≡ Some name → f.later_files.first ≡ Some name)
     → ((name : List ℕ) → f.later_files.first ≡ Some name → (f.files.first ≡ Some name) ⊎ IsBrokenName (specs_in f.slots) (answered ∷ earlier) name) → ((name : List ℕ) → IsBrokenOffName f.slots name → IsBrokenName (specs_in f.slots) (answered ∷ earlier) name) → specs_in f.later_slots ≡ specs_in f.slots
     → ((run : ℕ) (ends : List ChannelEnd) → IsStoppedRunOf (latest ∷ earlier) run ends → IsStoppedRunOf (answered ∷ earlier) run ends) → ((run : ℕ) → IsUndoneRun (latest ∷ earlier) run → IsUndoneRun (answered ∷ earlier) run) → ((why : Why) → answered.answer ≡ Some (No why) → ⊥)
-    → IsFaultKnown f.slots (latest ∷ earlier) first f.files → EachBehind (NamesFault (specs_in f.slots) first f.files) (latest ∷ earlier)
-    → IsFaultKnown f.later_slots (answered ∷ earlier) first f.later_files × EachBehind (NamesFault (specs_in f.later_slots) first f.later_files) (answered ∷ earlier)
+    → IsFaultKnown f.slots (latest ∷ earlier) first f.files → EachBehind (NamesFaultOfStart (specs_in f.slots) first f.files) (latest ∷ earlier)
+    → IsFaultKnown f.later_slots (answered ∷ earlier) first f.later_files × EachBehind (NamesFaultOfStart (specs_in f.later_slots) first f.later_files) (answered ∷ earlier)
 finish_faults f first latest answered earlier stays named off specs stopped undone never known each =
     let old : List MemberTurn = latest ∷ earlier in
     let later : List MemberTurn = answered ∷ earlier in
@@ -495,6 +495,6 @@ finish_faults f first latest answered earlier stays named off specs stopped undo
             | inl was ↦ inl was
             | inr now ↦ inr (broken name now)
           ]) known,
-      subst (λ (l : List (Option ChannelSpec)). EachBehind (NamesFault l first f.later_files) later) (sym specs)
+      subst (λ (l : List (Option ChannelSpec)). EachBehind (NamesFaultOfStart l first f.later_files) later) (sym specs)
           (λ none number refused. absurd (never (Fault number) refused), named_stays (specs_in f.slots) first f.files f.later_files earlier stays each.1),
     )

@@ -17,7 +17,7 @@ pub mod TurnMore
 pub mod PortSteps
 pub mod MarkMoves
 pub mod MarkLoops
-pub mod NoneTaken
+pub mod GivenOnce
 pub mod OpenSlots
 pub mod TurnedLogger
 pub mod CloseMoves
@@ -26,7 +26,7 @@ pub mod NewStands
 pub mod LoneCalls
 pub mod TurnParts
 pub mod EndedReady
-pub mod KnownBefore
+pub mod OnceBefore
 pub mod OwnCalls
 pub mod TurnsOwn
 pub mod FaultsNoted
@@ -43,4 +43,6 @@ pub mod RefusedAsks
 pub mod NamesTaken
 pub mod FairPorts
 pub mod FairTurns
+pub mod QuietSteps
 pub mod MarksMade
+pub mod MarksInRuns

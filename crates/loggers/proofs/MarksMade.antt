@@ -22,14 +22,12 @@ use Rattle.member_model.specs.SentCalls.{EachCall}
 use Rattle.member_model.specs.EndedRuns.{MakesNoMark}
 use Rattle.mid_logger.specs.declared.channel.Channel.{Channel}
 use Rattle.mid_logger.specs.declared.pulled.Pulled.{Pulled}
-use Rattle.mid_logger.specs.Channels.{reading_run}
-use Rattle.mid_logger.specs.ChannelTurns.{asking_run}
 use Rattle.loggers.specs.declared.logged_run.LoggedRun.{LoggedRun}
 use Rattle.loggers.specs.declared.logged_run.RunDumps.{RunDumps}
 use Rattle.loggers.specs.declared.logged_run.RunPart.{RunPart}
 use Rattle.loggers.specs.declared.logged_run.RunPart.TheVariants.{Started}
-use Rattle.loggers.specs.Moments.{LoggerMoment, StepsChannel, StepsSlot, StepsAt, CallsBuffer, InTurn}
-use Rattle.loggers.specs.ChannelSteps.{OpensChannel, AbortsChannel}
+use Rattle.loggers.specs.Moments.{LoggerMoment, StepsChannel, CallsBuffer, InTurn}
+use Rattle.loggers.specs.ChannelSteps.{OpensChannel}
 use Rattle.loggers.specs.SlotPulls.{PullsSlot, PullsNumbered}
 use Rattle.loggers.specs.NewLoggers.{AreUnused}
 use Rattle.loggers.specs.Turning.{BeginsBuffer, EndsBuffer, PausesBuffer, ResumesBuffer, LoggerTurn, OpensBelow, BeginsBelow, AbortsAll, StartsSo, TakesStart, TakesStop, TakesMark, TakesAbort, TakesTurnBy, TakesTurn, is_run_on, is_started, is_of_start, buffers_begun}
@@ -40,7 +38,7 @@ use Rattle.loggers.proofs.PortSteps.{which_port}
 use Rattle.loggers.proofs.SameShape.{turn_ports}
 use Rattle.loggers.proofs.TurnsKnown.{of_current, in_started, started_run}
 use Rattle.loggers.proofs.FairPorts.{CallsQuietly}
-use Rattle.loggers.proofs.FairTurns.{opens_quietly, cancels_quietly, pulls_quietly}
+use Rattle.loggers.proofs.QuietSteps.{same_kept, opened_kept, pull_kept, opens_kept, aborts_kept}
 
 -- Calls.
 
@@ -92,34 +90,19 @@ module _ (Are : (buffer : ℕ) → List Mark → Type 0) where
       put_marks Are Are ports buffer p q calls.more there calls.own (none_more buffer calls.more (quiet_marks calls.more calls.quiet)) (λ k was other is. is) have
 
   same_have : (a b : LoggerMoment) → b ≡ a → Have a → Have b
-  same_have a b same have = subst Have (sym same) have
+  same_have = same_kept (HaveMarks Are) quiet_ports
 
   opened_have : (order : Order) (dump : List ℕ) (r : Result ⊤ Why) (n : ℕ) (before : Channel) (a b : LoggerMoment) → StepsChannel (OpensChannel order dump r) n before a b → Have a → Have b
-  opened_have order dump r n before a b s have =
-      subst (λ (ports : List Access). HaveMarks Are ports) (sym s.ports)
-      (quiet_ports a.ports before.spec.buffer s.port s.later_port before.client s.after.client s.at_port (opens_quietly before.spec order dump r _ _ s.step.opens) have)
-
-  open_have : (order : Order) (dump : List ℕ) (n : ℕ) (slot : Option Channel) (a b : LoggerMoment) → StepsSlot (OpensChannel order dump (Ok tt)) n slot a b → Have a → Have b
-  open_have order dump n None a b same have = same_have a b same have
-  open_have order dump n (Some before) a b s have = opened_have order dump (Ok tt) n before a b s have
-
-  abort_have : (n : ℕ) (slot : Option Channel) (a b : LoggerMoment) → StepsSlot AbortsChannel n slot a b → Have a → Have b
-  abort_have n None a b same have = same_have a b same have
-  abort_have n (Some before) a b s have =
-      let calls : CallsQuietly s.port s.later_port before.client before.client = cancels_quietly before.client (asking_run before.stage) s.port s.later_port s.step.cancels in
-      subst (λ (ports : List Access). HaveMarks Are ports) (sym s.ports) (quiet_ports a.ports before.spec.buffer s.port s.later_port before.client before.client s.at_port calls have)
+  opened_have = opened_kept (HaveMarks Are) quiet_ports
 
   pull_have : (dump : List ℕ) (n : ℕ) (answer : Pulled) (slot : Option Channel) (a b : LoggerMoment) → PullsSlot dump slot n answer a b → Have a → Have b
-  pull_have dump n answer None a b pulls have = same_have a b pulls.1 have
-  pull_have dump n answer (Some before) a b s have =
-      let calls : CallsQuietly s.port s.later_port before.client before.client = pulls_quietly before.client _ before.event.room (reading_run before.stage) s.step.pulls in
-      subst (λ (ports : List Access). HaveMarks Are ports) (sym s.ports) (quiet_ports a.ports before.spec.buffer s.port s.later_port before.client before.client s.at_port calls have)
+  pull_have = pull_kept (HaveMarks Are) quiet_ports
 
   opens_have : (order : Order) (dump : List ℕ) (count : ℕ) (a b : LoggerMoment) → OpensBelow order dump count a b → Have a → Have b
-  opens_have order dump count a b opens have = turns_keep (λ k. StepsAt (OpensChannel order dump (Ok tt)) k) Have count a b (λ k x y step kept. open_have order dump k (slot_at x.slots k) x y step kept) opens have
+  opens_have = opens_kept (HaveMarks Are) quiet_ports
 
   aborts_have : (a b : LoggerMoment) → AbortsAll a b → Have a → Have b
-  aborts_have a b aborts have = turns_keep (λ k. StepsAt AbortsChannel k) Have (length a.slots) a b (λ k x y step kept. abort_have k (slot_at x.slots k) x y step kept) aborts have
+  aborts_have = aborts_kept (HaveMarks Are) quiet_ports
 
   other_have : (e : BufferEntry) (buffer : ℕ) (a b : LoggerMoment) → mark_called e ≡ [] → CallsBuffer e buffer a b → Have a → Have b
   other_have e buffer a b none c have = call_marks Are Are e buffer a b c (none_more buffer (e ∷ []) (ap (λ (l : List Mark). l ++ []) none)) (λ k was other is. is) have

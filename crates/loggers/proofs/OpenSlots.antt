@@ -18,13 +18,13 @@ use Rattle.sub_files.specs.declared.open_file.OpenFile.{OpenFile}
 use Rattle.sub_files.specs.Patterns.{piece_name_by}
 use Rattle.sub_files.specs.RecordFiles.{IsGone}
 use Rattle.mid_logger.specs.Patterns.{file_name_by}
-use Rattle.mid_logger.specs.Channels.{FileHead, channel_run, written_run, files_by as files_made}
+use Rattle.mid_logger.specs.Channels.{FileHead, GivesEachOnce, channel_run, written_run, files_by as files_made}
 use Rattle.mid_logger.specs.Beside.{LeavesRunFiles, FilesBeside, OpensBeside, LeftBeside}
 use Rattle.mid_logger.specs.Keeping.{OpensRunFile, OpensKeep, OpensAlone, OpensChange, FilesThere, order_head}
 use Rattle.loggers.specs.Moments.{LoggerMoment, ChannelStep, StepsChannel, StepsSlot, HaveFilesOpen, IsLoggerReady}
 use Rattle.loggers.specs.ChannelSteps.{OpensChannel}
 use Rattle.loggers.specs.Turning.{OpensBelow, RefusesOpen}
-use Rattle.loggers.specs.NewLoggers.{NoneTakenBack}
+use Rattle.loggers.specs.NewLoggers.{GiveEachOnce}
 use Rattle.loggers.specs.LoggerStands.{ChannelKept, SlotsStand}
 use Rattle.loggers.proofs.SlotLists.{same_or_other, one_changed, got_there}
 use Rattle.loggers.proofs.ReadySteps.{last_used, used_apart, open_fresh, opened_ready}
@@ -32,7 +32,7 @@ use Rattle.loggers.proofs.Moved.{Moves, moved}
 use Rattle.loggers.proofs.PullMoves.{GrowsOn, IsThere, all_there, grown_on, port_grown, apart_on, number_left}
 use Rattle.loggers.proofs.OpenMoves.{IsOrderHead, open_client, open_grows, not_new, there_stays}
 use Rattle.loggers.proofs.MarkMoves.{IsAskingStage}
-use Rattle.loggers.proofs.NoneTaken.{none_opened, none_opened_slot}
+use Rattle.loggers.proofs.GivenOnce.{once_opened, once_opened_slot}
 
 -- One channel.
 
@@ -61,17 +61,17 @@ open_made order dump (Ok done) s opens idle o is =
 open_made order dump (Err why) s opens idle o is = absurd (let never : None ≡ Some o = sym (ap (λ (x : ChannelStage). channel_run x) (opens.opens.0 ∙ idle)) ∙ is in cc (never))
 
 -- the channel itself, behind the opening or its refusal
-open_self : OpensKeep → (order : Order) (dump : List ℕ) (r : Result ⊤ Why) (s : ChannelStep) → OpensChannel order dump r s → s.before.stage ≡ Idle → length dump ≤ record_limit → s.later_port.taken_back ≡ []
+open_self : OpensKeep → (order : Order) (dump : List ℕ) (r : Result ⊤ Why) (s : ChannelStep) → OpensChannel order dump r s → s.before.stage ≡ Idle → length dump ≤ record_limit → GivesEachOnce s.later_port.own
     → ChannelKept (IsOrderHead order dump) s.files.seen s.before s.port → ChannelKept (IsOrderHead order dump) s.later_files.seen s.after s.later_port
-open_self keep order dump (Ok done) s opens idle small none k =
-    let both = keep s.before.spec order dump (Ok done) _ _ k.head opens.opens idle small none k.stands in
+open_self keep order dump (Ok done) s opens idle small once k =
+    let both = keep s.before.spec order dump (Ok done) _ _ k.head opens.opens idle small once k.stands in
     record {
       head = order_head order dump;
       stands = rw opens.spec both.0;
       headed = λ o is. ((open_made order dump (Ok done) s opens idle o is).start, refl);
     }
-open_self keep order dump (Err why) s opens idle small none k =
-    let both = keep s.before.spec order dump (Err why) _ _ k.head opens.opens idle small none k.stands in
+open_self keep order dump (Err why) s opens idle small once k =
+    let both = keep s.before.spec order dump (Err why) _ _ k.head opens.opens idle small once k.stands in
     record {
       head = k.head;
       stands = rw opens.spec both.1;
@@ -91,9 +91,9 @@ open_leaves spec (Some s) written many fresh old new opens there used = record {
 
 -- the opening of a run by one channel, or its refusal, as a step among all channels
 pub open_moves : OpensKeep → OpensAlone → OpensChange → FilesThere → OpensBeside → FilesBeside → (order : Order) (dump : List ℕ) (r : Result ⊤ Why) (turns : List MemberTurn) (slots : List (Option Channel)) (ports : List Access) (n : ℕ) (s : ChannelStep) → slot_at slots n ≡ Some s.before
-    → slice_get ports s.before.spec.buffer ≡ Some s.port → ((m : ℕ) (d : Channel) → slot_at slots m ≡ Some d → d.spec.buffer < length ports) → s.before.stage ≡ Idle → length dump ≤ record_limit → s.later_port.taken_back ≡ [] → HaveFilesOpen slots s.files.seen
+    → slice_get ports s.before.spec.buffer ≡ Some s.port → ((m : ℕ) (d : Channel) → slot_at slots m ≡ Some d → d.spec.buffer < length ports) → s.before.stage ≡ Idle → length dump ≤ record_limit → GivesEachOnce s.later_port.own → HaveFilesOpen slots s.files.seen
     → SlotsStand (IsOrderHead order dump) turns slots ports s.files.seen → OpensChannel order dump r s → Moves (IsOrderHead order dump) turns slots n s.before s.after s.port s.later_port s.files.seen s.later_files.seen
-open_moves keep alone change file_there beside files order dump r turns slots ports n s there at_port served idle small none open_files stands opens =
+open_moves keep alone change file_there beside files order dump r turns slots ports n s there at_port served idle small once open_files stands opens =
     let old : Seen = s.files.seen in
     let new : Seen = s.later_files.seen in
     let before : Channel = s.before in
@@ -102,7 +102,7 @@ open_moves keep alone change file_there beside files order dump r turns slots po
     let file : OpensRunFile name old new = (change before.spec order dump r _ _ opens.opens).0 in
     let grows : GrowsOn s.port s.later_port = open_grows before.spec order dump r _ _ opens.opens in
     let kept : ChannelKept H old before s.port = stands.channels n before s.port there at_port in
-    let now : ChannelKept H new s.after s.later_port = open_self keep order dump r s opens idle small none kept in
+    let now : ChannelKept H new s.after s.later_port = open_self keep order dump r s opens idle small once kept in
     let used : (m : ℕ) (d : Channel) → slot_at slots m ≡ Some d → (o : ChannelRun) → written_run d.stage ≡ Some o → IsTrue (old.writes o.at.file) = λ m d stood o is. last_used d.spec old (written_run d.stage) (open_files.files m d stood) o is in
     let is_there : (m : ℕ) (d : Channel) → slot_at slots m ≡ Some d → IsThere old d = all_there file_there H turns slots ports old served stands in
     -- a file that is there is not the one that was made
@@ -117,10 +117,10 @@ open_moves keep alone change file_there beside files order dump r turns slots po
       client = λ k is. open_client before.spec order dump r _ _ k opens.opens is;
       names = file.touches.names;
       on = file.on;
-      self = λ k. open_self keep order dump r s opens idle small none k;
+      self = λ k. open_self keep order dump r s opens idle small once k;
       beside = λ m d other stood same b k. record {
         head = k.head;
-        stands = (beside before.spec order dump r _ _ b.head d.spec d.client d.stage k.head opens.opens none idle b.stands (apart_on old before d (sym same) (stands.apart n m before d (λ e. other (sym e)) there stood)) k.stands).0;
+        stands = (beside before.spec order dump r _ _ b.head d.spec d.client d.stage k.head opens.opens once idle b.stands (apart_on old before d (sym same) (stands.apart n m before d (λ e. other (sym e)) there stood)) k.stands).0;
         headed = k.headed;
       };
       elsewhere = λ m d a other stood k. record {
@@ -132,13 +132,13 @@ open_moves keep alone change file_there beside files order dump r turns slots po
         clients = λ same.
             let on_buffer : before.spec.buffer ≡ d.spec.buffer = ap (λ (x : ChannelSpec). x.buffer) (sym opens.spec) ∙ same in
             let k : ChannelKept H old d s.port = stands.channels m d s.port stood (subst (λ (j : ℕ). slice_get ports j ≡ Some s.port) on_buffer at_port) in
-            (beside before.spec order dump r _ _ kept.head d.spec d.client d.stage k.head opens.opens none idle kept.stands (apart_on old before d on_buffer was) k.stands).1.clients;
+            (beside before.spec order dump r _ _ kept.head d.spec d.client d.stage k.head opens.opens once idle kept.stands (apart_on old before d on_buffer was) k.stands).1.clients;
         names = λ o q is other_is told i j low below same.
             let told_before : IsTrue old.names = subst (λ (b : Bool). IsTrue b) file.touches.names told in
             no_new (piece_name_by d.spec.pattern q.run j) told_before (is_there m d stood q other_is told_before j below) o is i low (sym same);
         numbers = λ o q is other_is. used_apart old o.at.file q.at.file (open_fresh order dump r s opens idle o is) (used m d stood q other_is);
       };
-      calls = λ calls. port_grown turns s.port s.later_port grows now.stands.port (alone before.spec order dump r _ _ kept.head opens.opens idle none kept.stands) calls;
+      calls = λ calls. port_grown turns s.port s.later_port grows now.stands.port (alone before.spec order dump r _ _ kept.head opens.opens idle once kept.stands) calls;
       grows = grown_on s.port s.later_port grows;
       left = λ other told stays. (there_stays old new name other file told stays.there, λ o is i low. no_new other told stays.there o is i low);
     }
@@ -161,14 +161,14 @@ pub record OpenedTo (order : Order) (dump : List ℕ) (turns : List MemberTurn) 
 
 -- what stands behind the step of one channel
 open_stepped : LeftBeside → OpensKeep → OpensAlone → OpensChange → FilesThere → OpensBeside → FilesBeside → (order : Order) (dump : List ℕ) (r : Result ⊤ Why) (turns : List MemberTurn) (n : ℕ) (before : Channel) (a b : LoggerMoment) → slot_at a.slots n ≡ Some before → before.stage ≡ Idle
-    → length dump ≤ record_limit → NoneTakenBack b.ports → IsLoggerReady a.slots a.ports a.files.seen → StepsChannel (OpensChannel order dump r) n before a b → SlotsStand (IsOrderHead order dump) turns a.slots a.ports a.files.seen
+    → length dump ≤ record_limit → GiveEachOnce b.ports → IsLoggerReady a.slots a.ports a.files.seen → StepsChannel (OpensChannel order dump r) n before a b → SlotsStand (IsOrderHead order dump) turns a.slots a.ports a.files.seen
     → SlotsStand (IsOrderHead order dump) turns b.slots b.ports b.files.seen
-open_stepped law keep alone change file_there beside files order dump r turns n before a b there idle small none ready s stands =
+open_stepped law keep alone change file_there beside files order dump r turns n before a b there idle small once ready s stands =
     let step : ChannelStep = record { before = before; after = s.after; port = s.port; later_port = s.later_port; files = a.files; later_files = b.files } in
     let put : slice_get (slice_set a.ports before.spec.buffer s.later_port) before.spec.buffer ≡ Some s.later_port = got_there a.ports before.spec.buffer s.port s.later_port s.at_port in
     let at_last : slice_get b.ports before.spec.buffer ≡ Some s.later_port = subst (λ (l : List Access). slice_get l before.spec.buffer ≡ Some s.later_port) (sym s.ports) put in
     let moves : Moves (IsOrderHead order dump) turns a.slots n before s.after s.port s.later_port a.files.seen b.files.seen =
-    open_moves keep alone change file_there beside files order dump r turns a.slots a.ports n step there s.at_port ready.served idle small (none before.spec.buffer s.later_port at_last) ready.files stands s.step in
+    open_moves keep alone change file_there beside files order dump r turns a.slots a.ports n step there s.at_port ready.served idle small (once before.spec.buffer s.later_port at_last) ready.files stands s.step in
     rw (s.slots, s.ports) (moved law (IsOrderHead order dump) turns a.slots a.ports n before s.after s.port s.later_port a.files.seen b.files.seen there s.at_port moves stands)
 
 untaken_now : (order : Order) (dump : List ℕ) (s : ChannelStep) → OpensChannel order dump (Ok tt) s → s.before.stage ≡ Idle → (o : ChannelRun) → channel_run s.after.stage ≡ Some o → IsTrue o.at.taken → ⊥
@@ -177,9 +177,9 @@ untaken_now order dump s opens idle o is taken = let never : true ≡ false = sy
 asks_now : (order : Order) (dump : List ℕ) (s : ChannelStep) → OpensChannel order dump (Ok tt) s → IsAskingStage order.start s.after.stage
 asks_now order dump s opens = subst (λ (x : ChannelStage). IsAskingStage order.start x) (sym opens.opens.asks.stage) refl
 
-opened_slot : LeftBeside → OpensKeep → OpensAlone → OpensChange → FilesThere → OpensBeside → FilesBeside → (order : Order) (dump : List ℕ) (turns : List MemberTurn) (many wide k : ℕ) (slot : Option Channel) (a b : LoggerMoment) → slot_at a.slots k ≡ slot → length dump ≤ record_limit → NoneTakenBack b.ports
+opened_slot : LeftBeside → OpensKeep → OpensAlone → OpensChange → FilesThere → OpensBeside → FilesBeside → (order : Order) (dump : List ℕ) (turns : List MemberTurn) (many wide k : ℕ) (slot : Option Channel) (a b : LoggerMoment) → slot_at a.slots k ≡ slot → length dump ≤ record_limit → GiveEachOnce b.ports
     → StepsSlot (OpensChannel order dump (Ok tt)) k slot a b → OpenedTo order dump turns many wide k a → OpenedTo order dump turns many wide (suc k) b
-opened_slot law keep alone change file_there beside files order dump turns many wide k None a b there small none same to =
+opened_slot law keep alone change file_there beside files order dump turns many wide k None a b there small once same to =
     let now : OpenedTo order dump turns many wide (suc k) a = record {
       standing = to.standing;
       ready = to.ready;
@@ -193,10 +193,10 @@ opened_slot law keep alone change file_there beside files order dump turns many 
       found = to.found;
     } in
     subst (λ (m : LoggerMoment). OpenedTo order dump turns many wide (suc k) m) (sym same) now
-opened_slot law keep alone change file_there beside files order dump turns many wide k (Some before) a b there small none s to =
+opened_slot law keep alone change file_there beside files order dump turns many wide k (Some before) a b there small once s to =
     let idle : before.stage ≡ Idle = to.idle k before there (omega arith) in
     let now : OpenedTo order dump turns many wide (suc k) (record { slots = slice_set a.slots k (Some s.after); ports = b.ports; files = b.files }) = record {
-      standing = rw (← s.slots) (open_stepped law keep alone change file_there beside files order dump (Ok tt) turns k before a b there idle small none to.ready s to.standing);
+      standing = rw (← s.slots) (open_stepped law keep alone change file_there beside files order dump (Ok tt) turns k before a b there idle small once to.ready s to.standing);
       ready = rw (← s.slots) (opened_ready change order dump (Ok tt) k before a b there idle s to.ready);
       long = length-set a.slots k (Some s.after) ∙ to.long;
       ports = ap (λ (l : List Access). length l) s.ports ∙ (length-set a.ports before.spec.buffer s.later_port ∙ to.ports);
@@ -208,13 +208,13 @@ opened_slot law keep alone change file_there beside files order dump turns many 
     } in
     subst (λ (l : List (Option Channel)). OpenedTo order dump turns many wide (suc k) (record { slots = l; ports = b.ports; files = b.files })) (sym s.slots) now
 
-pub opened_below : LeftBeside → OpensKeep → OpensAlone → OpensChange → FilesThere → OpensBeside → FilesBeside → (order : Order) (dump : List ℕ) (turns : List MemberTurn) (many wide count : ℕ) (a b : LoggerMoment) → length dump ≤ record_limit → NoneTakenBack b.ports → OpensBelow order dump count a b
+pub opened_below : LeftBeside → OpensKeep → OpensAlone → OpensChange → FilesThere → OpensBeside → FilesBeside → (order : Order) (dump : List ℕ) (turns : List MemberTurn) (many wide count : ℕ) (a b : LoggerMoment) → length dump ≤ record_limit → GiveEachOnce b.ports → OpensBelow order dump count a b
     → OpenedTo order dump turns many wide 0 a → OpenedTo order dump turns many wide count b
-opened_below law keep alone change file_there beside files order dump turns many wide zero a b small none steps to = subst (λ (m : LoggerMoment). OpenedTo order dump turns many wide 0 m) (sym steps) to
-opened_below law keep alone change file_there beside files order dump turns many wide (suc n) a b small none steps to =
+opened_below law keep alone change file_there beside files order dump turns many wide zero a b small once steps to = subst (λ (m : LoggerMoment). OpenedTo order dump turns many wide 0 m) (sym steps) to
+opened_below law keep alone change file_there beside files order dump turns many wide (suc n) a b small once steps to =
     let middle : LoggerMoment = steps.0 in
-    opened_slot law keep alone change file_there beside files order dump turns many wide n (slot_at middle.slots n) middle b refl small none steps.2
-    (opened_below law keep alone change file_there beside files order dump turns many wide n a middle small (none_opened_slot order dump (Ok tt) n (slot_at middle.slots n) middle b steps.2 none) steps.1 to)
+    opened_slot law keep alone change file_there beside files order dump turns many wide n (slot_at middle.slots n) middle b refl small once steps.2
+    (opened_below law keep alone change file_there beside files order dump turns many wide n a middle small (once_opened_slot order dump (Ok tt) n (slot_at middle.slots n) middle b steps.2 once) steps.1 to)
 
 -- What stands where a channel refused to open the run; and the calls have what they need.
 pub record StandsRefused (H : ChannelRun → FileHead → Type 0) (turns : List MemberTurn) (m : LoggerMoment) : Type 0 where
@@ -222,14 +222,14 @@ pub record StandsRefused (H : ChannelRun → FileHead → Type 0) (turns : List 
   pub ready : IsLoggerReady m.slots m.ports m.files.seen
 
 -- where a channel refuses to open the run
-pub open_refused : LeftBeside → OpensKeep → OpensAlone → OpensChange → FilesThere → OpensBeside → FilesBeside → (order : Order) (dump : List ℕ) (why : Why) (turns : List MemberTurn) (many wide : ℕ) (a b : LoggerMoment) → length dump ≤ record_limit → NoneTakenBack b.ports → RefusesOpen order dump why a b
+pub open_refused : LeftBeside → OpensKeep → OpensAlone → OpensChange → FilesThere → OpensBeside → FilesBeside → (order : Order) (dump : List ℕ) (why : Why) (turns : List MemberTurn) (many wide : ℕ) (a b : LoggerMoment) → length dump ≤ record_limit → GiveEachOnce b.ports → RefusesOpen order dump why a b
     → OpenedTo order dump turns many wide 0 a → StandsRefused (IsOrderHead order dump) turns b
-open_refused law keep alone change file_there beside files order dump why turns many wide a b small none refuses to =
+open_refused law keep alone change file_there beside files order dump why turns many wide a b small once refuses to =
     let n : ℕ = refuses.number in
     let to_here : OpenedTo order dump turns many wide n refuses.opened =
-    opened_below law keep alone change file_there beside files order dump turns many wide n a refuses.opened small (none_opened order dump (Err why) n refuses.channel refuses.opened b refuses.refuses none) refuses.opens to in
+    opened_below law keep alone change file_there beside files order dump turns many wide n a refuses.opened small (once_opened order dump (Err why) n refuses.channel refuses.opened b refuses.refuses once) refuses.opens to in
     let idle : refuses.channel.stage ≡ Idle = to_here.idle n refuses.channel refuses.there (omega arith) in
     record {
-      standing = open_stepped law keep alone change file_there beside files order dump (Err why) turns n refuses.channel refuses.opened b refuses.there idle small none to_here.ready refuses.refuses to_here.standing;
+      standing = open_stepped law keep alone change file_there beside files order dump (Err why) turns n refuses.channel refuses.opened b refuses.there idle small once to_here.ready refuses.refuses to_here.standing;
       ready = opened_ready change order dump (Err why) n refuses.channel refuses.opened b refuses.there idle refuses.refuses to_here.ready;
     }

@@ -37,7 +37,7 @@ use Rattle.loggers.specs.declared.logged_run.RunPart.TheVariants.{Refused, Start
 use Rattle.loggers.specs.Moments.{LoggerMoment, InTurn, StepsAt, IsLoggerReady, AreIdleChannels}
 use Rattle.loggers.specs.ChannelSteps.{AbortsChannel}
 use Rattle.loggers.specs.Turning.{LoggerTurn, LeavesLogger, BeginsBuffer, PausesBuffer, ResumesBuffer, AbortsAll, StartsAll, UndoesOpens, UndoesBegins, StartsSo, TakesStart, TakesStop, TakesMark, TakesAbort, TakesTurnBy, TakesTurn, is_run_on, IsIdleOutside, is_started, is_of_start, buffers_begun, start_answer, start_part, start_dumps, no_dumps, EndsBuffer}
-use Rattle.loggers.specs.NewLoggers.{NoneTakenBack}
+use Rattle.loggers.specs.NewLoggers.{GiveEachOnce}
 use Rattle.loggers.specs.FairAsks.{HasStart}
 use Rattle.loggers.specs.LoggerStands.{logger_turn, IsStartedStage, IsStoppingStage, IsStagePart, IsStageOf, HasEndTurn, IsEndTold, HasHead, IsHeadTold, SlotsStand, IsInStarted, IsPartTold, IsRunTold, LoggerHolds}
 use Rattle.loggers.proofs.InTurns.{turns_keep}
@@ -49,7 +49,7 @@ use Rattle.loggers.proofs.TurnsKnown.{TurnsKnown, no_end_turn, of_current, start
 use Rattle.loggers.proofs.TurnMore.{TellsNone, heads_as, heads_idle, told_more}
 use Rattle.loggers.proofs.MarkMoves.{MayEnd, NoneTold}
 use Rattle.loggers.proofs.MarkLoops.{HaveStayed, paused_all, resumed_all, BegunTo, begun_below, begin_refused, EndedTo, ended_below}
-use Rattle.loggers.proofs.NoneTaken.{none_called, none_aborted, none_turns}
+use Rattle.loggers.proofs.GivenOnce.{once_called, once_aborted, once_turns}
 use Rattle.loggers.proofs.OpenSlots.{OpenedTo, FoundNone, StandsRefused, opened_below, open_refused}
 
 -- what is known of each channel's steps
@@ -142,8 +142,8 @@ aborted_all laws H turns count a b steps stands =
     }) steps stands in
     done.standing
 
-pub none_aborts : (a b : LoggerMoment) → AbortsAll a b → NoneTakenBack b.ports → NoneTakenBack a.ports
-none_aborts a b aborts none = none_turns (λ number. StepsAt AbortsChannel number) (length a.slots) a b (λ k x y step. none_aborted k (slot_at x.slots k) x y step) aborts none
+pub once_aborts : (a b : LoggerMoment) → AbortsAll a b → GiveEachOnce b.ports → GiveEachOnce a.ports
+once_aborts a b aborts once = once_turns (λ number. StepsAt AbortsChannel number) (length a.slots) a b (λ k x y step. once_aborted k (slot_at x.slots k) x y step) aborts once
 
 -- A start.
 
@@ -174,35 +174,35 @@ record HaveStarted (order : Order) (dump : List ℕ) (turns : List MemberTurn) (
   stages : (n : ℕ) → (c : Channel) → slot_at m.slots n ≡ Some c → IsStartedStage order.start c.stage
   found : FoundNone m.slots
 
-started_all : ChannelLaws → (order : Order) (dump : List ℕ) (begun : ℕ) (turns : List MemberTurn) (a b : LoggerMoment) → length dump ≤ record_limit → NoneTakenBack b.ports → IsLoggerReady b.slots b.ports b.files.seen → StartsAll order dump begun a b
+started_all : ChannelLaws → (order : Order) (dump : List ℕ) (begun : ℕ) (turns : List MemberTurn) (a b : LoggerMoment) → length dump ≤ record_limit → GiveEachOnce b.ports → IsLoggerReady b.slots b.ports b.files.seen → StartsAll order dump begun a b
     → OpenedTo order dump turns (length a.slots) (length a.ports) 0 a → HaveStarted order dump turns b
-started_all laws order dump begun turns a b small none ready starts to =
+started_all laws order dump begun turns a b small once ready starts to =
     let opened : LoggerMoment = starts.opened in
-    let none_opened : NoneTakenBack opened.ports = none_turns (λ buffer. BeginsBuffer order.start buffer) (length a.ports) opened b
-    (λ k x y step. none_called (Begin order.start (Ok step.0)) k x (record y { slots = x.slots }) step.1.marks) starts.begins none in
+    let once_opened : GiveEachOnce opened.ports = once_turns (λ buffer. BeginsBuffer order.start buffer) (length a.ports) opened b
+    (λ k x y step. once_called (Begin order.start (Ok step.0)) k x (record y { slots = x.slots }) step.1.marks) starts.begins once in
     let all : OpenedTo order dump turns (length a.slots) (length a.ports) (length a.slots) opened =
-    opened_below laws.left laws.opens_keep laws.opens_alone laws.opens_change laws.file_there laws.opens_beside laws.files order dump turns (length a.slots) (length a.ports) (length a.slots) a opened small none_opened starts.opens to in
+    opened_below laws.left laws.opens_keep laws.opens_alone laws.opens_change laws.file_there laws.opens_beside laws.files order dump turns (length a.slots) (length a.ports) (length a.slots) a opened small once_opened starts.opens to in
     let end : BegunTo (IsOrderHead order dump) turns order.start (length a.ports) (length a.ports) b =
     begun_below laws.left laws.begun (IsOrderHead order dump) turns order.start (length a.ports) (length a.ports) opened b starts.begins (all_asking order dump turns (length a.slots) (length a.ports) opened all) in
     record { standing = end.standing; stages = λ n c stood. end.done n c stood (omega (arith, ready.served n c stood, end.ports)); found = end.found }
 
-undone_opens : ChannelLaws → (order : Order) (dump : List ℕ) (why : Why) (begun : ℕ) (turns : List MemberTurn) (a b : LoggerMoment) → length dump ≤ record_limit → NoneTakenBack b.ports → UndoesOpens order dump why begun a b
+undone_opens : ChannelLaws → (order : Order) (dump : List ℕ) (why : Why) (begun : ℕ) (turns : List MemberTurn) (a b : LoggerMoment) → length dump ≤ record_limit → GiveEachOnce b.ports → UndoesOpens order dump why begun a b
     → OpenedTo order dump turns (length a.slots) (length a.ports) 0 a → SlotsStand (IsOrderHead order dump) turns b.slots b.ports b.files.seen
-undone_opens laws order dump why begun turns a b small none undoes to =
+undone_opens laws order dump why begun turns a b small once undoes to =
     aborted_all laws (IsOrderHead order dump) turns (length undoes.refused.slots) undoes.refused b undoes.aborts
-    (open_refused laws.left laws.opens_keep laws.opens_alone laws.opens_change laws.file_there laws.opens_beside laws.files order dump why turns (length a.slots) (length a.ports) a undoes.refused small (none_aborts undoes.refused b undoes.aborts none) undoes.opens to)
+    (open_refused laws.left laws.opens_keep laws.opens_alone laws.opens_change laws.file_there laws.opens_beside laws.files order dump why turns (length a.slots) (length a.ports) a undoes.refused small (once_aborts undoes.refused b undoes.aborts once) undoes.opens to)
 
-undone_begins : ChannelLaws → (order : Order) (dump : List ℕ) (why : Why) (begun : ℕ) (turns : List MemberTurn) (a b : LoggerMoment) → length dump ≤ record_limit → NoneTakenBack b.ports → UndoesBegins order dump why begun a b
+undone_begins : ChannelLaws → (order : Order) (dump : List ℕ) (why : Why) (begun : ℕ) (turns : List MemberTurn) (a b : LoggerMoment) → length dump ≤ record_limit → GiveEachOnce b.ports → UndoesBegins order dump why begun a b
     → OpenedTo order dump turns (length a.slots) (length a.ports) 0 a → SlotsStand (IsOrderHead order dump) turns b.slots b.ports b.files.seen
-undone_begins laws order dump why begun turns a b small none undoes to =
+undone_begins laws order dump why begun turns a b small once undoes to =
     let opened : LoggerMoment = undoes.opened in
     let refused : LoggerMoment = undoes.refused in
-    let none_refused : NoneTakenBack refused.ports = none_aborts refused b undoes.aborts none in
-    let none_begun : NoneTakenBack undoes.begins.begun.ports = none_called (Begin order.start (Err undoes.begins.refuses.0)) begun undoes.begins.begun refused undoes.begins.refuses.1 none_refused in
-    let none_opened : NoneTakenBack opened.ports = none_turns (λ buffer. BeginsBuffer order.start buffer) begun opened undoes.begins.begun
-    (λ k x y step. none_called (Begin order.start (Ok step.0)) k x (record y { slots = x.slots }) step.1.marks) undoes.begins.begins none_begun in
+    let once_refused : GiveEachOnce refused.ports = once_aborts refused b undoes.aborts once in
+    let once_begun : GiveEachOnce undoes.begins.begun.ports = once_called (Begin order.start (Err undoes.begins.refuses.0)) begun undoes.begins.begun refused undoes.begins.refuses.1 once_refused in
+    let once_opened : GiveEachOnce opened.ports = once_turns (λ buffer. BeginsBuffer order.start buffer) begun opened undoes.begins.begun
+    (λ k x y step. once_called (Begin order.start (Ok step.0)) k x (record y { slots = x.slots }) step.1.marks) undoes.begins.begins once_begun in
     let all : OpenedTo order dump turns (length a.slots) (length a.ports) (length a.slots) opened =
-    opened_below laws.left laws.opens_keep laws.opens_alone laws.opens_change laws.file_there laws.opens_beside laws.files order dump turns (length a.slots) (length a.ports) (length a.slots) a opened small none_opened undoes.opens to in
+    opened_below laws.left laws.opens_keep laws.opens_alone laws.opens_change laws.file_there laws.opens_beside laws.files order dump turns (length a.slots) (length a.ports) (length a.slots) a opened small once_opened undoes.opens to in
     let ready_begun : IsLoggerReady undoes.begins.begun.slots undoes.begins.begun.ports undoes.begins.begun.files.seen =
     turns_keep (λ buffer. BeginsBuffer order.start buffer) (λ (m : LoggerMoment). IsLoggerReady m.slots m.ports m.files.seen) begun opened undoes.begins.begun (λ k x y step kept. begins_ready order.start k x y step kept) undoes.begins.begins all.ready in
     aborted_all laws (IsOrderHead order dump) turns (length refused.slots) refused b undoes.aborts
@@ -225,7 +225,7 @@ order_told order dump turns opened head is =
 -- what is given of a turn
 record TurnGiven (t : LoggerTurn) (turns : List MemberTurn) : Type 0 where
   open_before : NoneOpen turns
-  none : NoneTakenBack t.after.ports
+  once : GiveEachOnce t.after.ports
   ready : IsLoggerReady t.before.slots t.before.ports t.before.files.seen
   later_ready : IsLoggerReady t.after.slots t.after.ports t.after.files.seen
   idle : IsIdleOutside t.run t.before.slots
@@ -250,7 +250,7 @@ start_result laws t turns (Ok done) begun small given idle starts run =
     let turn : MemberTurn = logger_turn Start t.order t.dump (Some (Yes Plain)) in
     let dump : List ℕ = unwrap_or t.dump [] in
     let have : HaveStarted t.order dump (turn ∷ turns) t.after =
-    started_all laws t.order dump begun (turn ∷ turns) t.before t.after small given.none given.later_ready starts (opening turn t.order dump turns t.before (λ ends told. absurd (cc (told))) idle given.ready t.dumps given.stands.standing) in
+    started_all laws t.order dump begun (turn ∷ turns) t.before t.after small given.once given.later_ready starts (opening turn t.order dump turns t.before (λ ends told. absurd (cc (told))) idle given.ready t.dumps given.stands.standing) in
     all_of (Some (record { start = t.order.start; begun = begun; part = Started })) (record { start = t.dump; stop = None }) t.after (turn ∷ turns) (start_known t.run t.dumps begun turns t.order t.dump (known_of t.run t.dumps t.before turns given.stands)) given.later_ready
     (heads_as (IsOrderHead t.order dump) (IsHeadTold (turn ∷ turns) (record { start = t.dump; stop = None })) (turn ∷ turns) t.after.slots t.after.ports t.after.files.seen (λ n c stood opened head is has. order_told t.order t.dump turns opened head has) have.standing)
     (found_knows t.after.slots t.after.files.seen have.found)
@@ -265,8 +265,8 @@ start_result laws t turns (Err why) begun small given idle starts run =
       | inr begins ↦ λ is. (let never : BufferRefused ≡ NotReady = sym begins.why_is ∙ is in cc (never))
     ] in
     let standing : SlotsStand (IsOrderHead t.order dump) (turn ∷ turns) t.after.slots t.after.ports t.after.files.seen = elim starts as (λ w. SlotsStand (IsOrderHead t.order dump) (turn ∷ turns) t.after.slots t.after.ports t.after.files.seen) [
-      | inl opens ↦ undone_opens laws t.order dump why begun (turn ∷ turns) t.before t.after small given.none opens first
-      | inr begins ↦ undone_begins laws t.order dump why begun (turn ∷ turns) t.before t.after small given.none begins first
+      | inl opens ↦ undone_opens laws t.order dump why begun (turn ∷ turns) t.before t.after small given.once opens first
+      | inr begins ↦ undone_begins laws t.order dump why begun (turn ∷ turns) t.before t.after small given.once begins first
     ] in
     all_of (Some (record { start = t.order.start; begun = begun; part = Refused })) no_dumps t.after (turn ∷ turns) (start_refused t.run t.dumps begun turns t.order t.dump why ready (known_of t.run t.dumps t.before turns given.stands)) given.later_ready
     (heads_idle (IsOrderHead t.order dump) (IsHeadTold (turn ∷ turns) no_dumps) (turn ∷ turns) t.after.slots t.after.ports t.after.files.seen idle_now standing)
@@ -449,7 +449,7 @@ turn_by laws StartAbort t turns is small given takes = abort_turn laws t turns (
 
 -- what a logger keeps before a turn it keeps behind it, with its answer
 pub turn_stands : ChannelLaws → (t : LoggerTurn) (turns : List MemberTurn) → TakesTurn t → length (unwrap_or t.dump []) ≤ record_limit → IsLoggerReady t.before.slots t.before.ports t.before.files.seen → IsLoggerReady t.after.slots t.after.ports t.after.files.seen
-    → IsIdleOutside t.run t.before.slots → IsIdleOutside t.later_run t.after.slots → NoneOpen turns → NoneTakenBack t.after.ports → LoggerHolds t.run t.dumps t.before.slots t.before.ports turns t.before.files.seen
+    → IsIdleOutside t.run t.before.slots → IsIdleOutside t.later_run t.after.slots → NoneOpen turns → GiveEachOnce t.after.ports → LoggerHolds t.run t.dumps t.before.slots t.before.ports turns t.before.files.seen
     → LoggerHolds t.later_run t.later_dumps t.after.slots t.after.ports (logger_turn t.transition t.order t.dump t.answer ∷ turns) t.after.files.seen
-turn_stands laws t turns takes small ready later_ready idle later_idle open_before none stands =
-    turn_by laws t.transition t turns refl small (record { open_before = open_before; none = none; ready = ready; later_ready = later_ready; idle = idle; later_idle = later_idle; stands = stands }) takes
+turn_stands laws t turns takes small ready later_ready idle later_idle open_before once stands =
+    turn_by laws t.transition t turns refl small (record { open_before = open_before; once = once; ready = ready; later_ready = later_ready; idle = idle; later_idle = later_idle; stands = stands }) takes

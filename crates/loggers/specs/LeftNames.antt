@@ -239,16 +239,17 @@ pub record IsFaultOf (specs : List (Option ChannelSpec)) (turns : List MemberTur
   pub named : now.first ≡ Some name
   pub of : IsGivenBy specs number run name ⊎ (IsBrokenName specs turns name ⊎ IsUndoneFile specs turns name)
 
--- Where no fault was named at first, and a start behind these turns was refused for a fault of a channel, the first fault was that of
--- this channel, or it was there before.
-abbrev pub NamesFault : List (Option ChannelSpec) → (first now : FilesTold) → List MemberTurn → MemberTurn → Type 0
-NamesFault specs first now turns t = first.first ≡ None → (number : ℕ) → t.answer ≡ Some (No (Fault number)) →
+-- Where no fault was named at first, and a start behind these turns was refused for a fault of a channel, the file of the first fault is
+-- the one that this channel was to make in the run, or one of these turns.
+abbrev pub NamesFaultOfStart : List (Option ChannelSpec) → (first now : FilesTold) → List MemberTurn → MemberTurn → Type 0
+NamesFaultOfStart specs first now turns t = first.first ≡ None → (number : ℕ) → t.answer ≡ Some (No (Fault number)) →
     IsFaultOf specs turns now t.order.run number
 
 -- A logger with these channels and these turns, whose run files were so at first, and are so now: where names are told, it left all
 -- names so but those of the runs that it has. A start that was refused, or called off, left nothing, unless a fault was counted that no
--- answer tells; and it was refused for a name only where that was taken. And where no turn undid what was opened, the file of the first
--- fault is that of a channel that broke off; it is that of the channel for which a start was refused, where no fault was there before.
+-- answer tells; and it was refused for a name only where that was taken. And where no fault was named at first, the file of the first
+-- fault is one of a channel that broke off, or, where a turn undid what was opened, one of such a run; and where a start was refused for
+-- a fault of a channel, it is the one that this channel was to make, or one of the turns before.
 pub record KeepsNames (slots : List (Option Channel)) (first now : FilesTold) (turns : List MemberTurn) : Type 0 where
   pub told : now.seen.names ≡ first.seen.names
   pub names : IsTrue first.seen.names →
@@ -256,7 +257,7 @@ pub record KeepsNames (slots : List (Option Channel)) (first now : FilesTold) (t
   pub found : IsTrue first.seen.names → EachFindsNames (HasUntoldFault slots turns first now) (specs_in slots) first.seen turns
   pub first_fault : IsFaultTold slots turns first now
   pub fault_known : IsFaultKnown slots turns first now
-  pub faults_named : EachBehind (NamesFault (specs_in slots) first now) turns
+  pub faults_named : EachBehind (NamesFaultOfStart (specs_in slots) first now) turns
 
 -- A turn and a pull keep that.
 abbrev pub TurnsKeepNames : Type 0

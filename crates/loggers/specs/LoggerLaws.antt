@@ -9,14 +9,14 @@ use Rattle.loggers.specs.Moments.{LoggerMoment, HaveFilesOpen, IsLoggerReady}
 use Rattle.loggers.specs.SlotPulls.{PullsNumbered}
 use Rattle.loggers.specs.Turning.{LoggerTurn, TakesTurn, IsIdleOutside}
 use Rattle.loggers.specs.Finishing.{LoggerFinish, FinishesLogger}
-use Rattle.loggers.specs.NewLoggers.{NoneTakenBack}
+use Rattle.loggers.specs.NewLoggers.{GiveEachOnce}
 use Rattle.loggers.specs.LoggerFaults.{NotesFaults}
 use Rattle.loggers.specs.LoggerStands.{logger_turn, LoggerStands}
 
 -- Where the logger stood before a turn that comes once the latest was answered, it stands behind it, with that turn and its
--- answer, if no client of it is known to be detached by another.
+-- answer, if its ports gave it no client that it has.
 abbrev pub StandsAfterTurn : LoggerTurn → Type 0
-StandsAfterTurn t = (turns : List MemberTurn) → NoneOpen turns → NoneTakenBack t.after.ports →
+StandsAfterTurn t = (turns : List MemberTurn) → NoneOpen turns → GiveEachOnce t.after.ports →
     LoggerStands t.run t.dumps t.before.slots t.before.ports turns t.before.files.seen →
     LoggerStands t.later_run t.later_dumps t.after.slots t.after.ports
     (logger_turn t.transition t.order t.dump t.answer ∷ turns) t.after.files.seen
@@ -27,14 +27,14 @@ StandsAfterFinish f = (ports : List Access) → (turns : List MemberTurn) →
     LoggerStands f.run f.dumps f.slots ports turns f.files.seen →
     LoggerStands f.later_run f.later_dumps f.later_slots ports (latest_answered turns f.answer) f.later_files.seen
 
--- Behind a turn that comes once the latest was answered the logger stands with that turn and its answer, where no
--- client of it is known to be detached by another.
+-- Behind a turn that comes once the latest was answered the logger stands with that turn and its answer, where its ports gave it no
+-- client that it has.
 abbrev pub TurnsKeep : Type 0
 TurnsKeep = (t : LoggerTurn) → (turns : List MemberTurn) → TakesTurn t → length (unwrap_or t.dump []) ≤ record_limit →
     IsLoggerReady t.before.slots t.before.ports t.before.files.seen →
     IsLoggerReady t.after.slots t.after.ports t.after.files.seen →
     IsIdleOutside t.run t.before.slots → IsIdleOutside t.later_run t.after.slots →
-    NoneOpen turns → NoneTakenBack t.after.ports →
+    NoneOpen turns → GiveEachOnce t.after.ports →
     LoggerStands t.run t.dumps t.before.slots t.before.ports turns t.before.files.seen →
     LoggerStands t.later_run t.later_dumps t.after.slots t.after.ports
     (logger_turn t.transition t.order t.dump t.answer ∷ turns) t.after.files.seen
@@ -45,14 +45,14 @@ FinishesKeep = (f : LoggerFinish) → (ports : List Access) → (turns : List Me
     HaveFilesOpen f.slots f.files.seen → LoggerStands f.run f.dumps f.slots ports turns f.files.seen →
     LoggerStands f.later_run f.later_dumps f.later_slots ports (latest_answered turns f.answer) f.later_files.seen
 
--- Where behind a turn no client of the logger is known to be detached by another, none was known before it.
-abbrev pub TurnsLeaveKnown : Type 0
-TurnsLeaveKnown = (t : LoggerTurn) → TakesTurn t → NoneTakenBack t.after.ports → NoneTakenBack t.before.ports
+-- Where behind a turn the ports gave the logger no client that it has, they gave it none before.
+abbrev pub TurnsGiveOnce : Type 0
+TurnsGiveOnce = (t : LoggerTurn) → TakesTurn t → GiveEachOnce t.after.ports → GiveEachOnce t.before.ports
 
 -- The same of a pull.
-abbrev pub PullsLeaveKnown : Type 0
-PullsLeaveKnown = (dump : List ℕ) → (number : ℕ) → (answer : Pulled) → (a b : LoggerMoment) → PullsNumbered dump number answer a b →
-    NoneTakenBack b.ports → NoneTakenBack a.ports
+abbrev pub PullsGiveOnce : Type 0
+PullsGiveOnce = (dump : List ℕ) → (number : ℕ) → (answer : Pulled) → (a b : LoggerMoment) → PullsNumbered dump number answer a b →
+    GiveEachOnce b.ports → GiveEachOnce a.ports
 
 -- A turn, a pull and a call to finish each note the faults of the files.
 abbrev pub TurnsNote : Type 0

@@ -1,5 +1,5 @@
 -- What a logger keeps of its calls on buffers, its turns and the run files, between its calls.
-use Rattle.std.specs.Prelude.{◌≡◌, ◌≢◌, ◌≤◌, ◌<◌, ◌+◌, ℕ, suc, IsTrue, IsSome, List, [], ◌∷◌, length, slice_get, unwrap_or, Option, Some, None, ⊤, ◌⊎◌}
+use Rattle.std.specs.Prelude.{◌≡◌, ◌≢◌, ◌≤◌, ◌<◌, ◌+◌, ℕ, suc, true, IsTrue, IsSome, List, [], ◌∷◌, length, slice_get, unwrap_or, Option, Some, None, ⊤, ◌⊎◌}
 use Rattle.daq_types.specs.declared.runs.Order.{Order}
 use Rattle.daq_types.specs.declared.runs.ChannelEnd.{ChannelEnd}
 use Rattle.daq_types.specs.declared.runs.ChannelState.TheVariants.{Broken as IsBroken}
@@ -17,7 +17,7 @@ use Rattle.transitions.specs.declared.answers.Tally.TheVariants.{Channels}
 use Rattle.member_model.specs.Turns.{MemberTurn, HasTurn, IsAcceptedStart, NoneOpen, current_run, AreEngineTurns}
 use Rattle.member_model.specs.SentCalls.{EachCall}
 use Rattle.member_model.specs.OwnCalls.{calls_after}
-use Rattle.member_model.specs.FairCalls.{AreLoneRequests}
+use Rattle.member_model.specs.FairCalls.{AreLoneRequests, is_left_open}
 use Rattle.member_model.specs.CutRuns.{MarksEnd, RefusesEnd}
 use Rattle.member_model.specs.EndedRuns.{EndsBegun}
 use Rattle.member_model.specs.LoggerKept.{LoggerChannel, LoggerPort, AreFramedSo, IsStartAnswer, KeepsLogger}
@@ -36,7 +36,7 @@ use Rattle.loggers.specs.declared.logged_run.RunPart.{RunPart}
 use Rattle.loggers.specs.declared.logged_run.RunPart.TheVariants.{Refused, Started, Stopping}
 use Rattle.loggers.specs.Moments.{HaveNumbersApart, channel_limit}
 use Rattle.loggers.specs.FairAsks.{HasStart, AsksFairly}
-use Rattle.loggers.specs.TurnMarks.{MarksAsAsked}
+use Rattle.loggers.specs.TurnMarks.{MarksAsAsked, AreMarksInRuns}
 
 -- The logger as its contract sees it.
 
@@ -298,12 +298,19 @@ pub record LoggerHolds (run : Option LoggedRun) (dumps : RunDumps) (slots : List
   pub going : AreEngineTurns turns → IsStillGoing run turns
   pub unready : AreEngineTurns turns → AreUnreadyInRuns turns
 
--- A logger between its calls: it keeps all that, and gives no buffer a cause to refuse a call of it; and it marked each pause and
--- each resume of its runs in every buffer, and nothing else as one.
+-- The logger marked pauses and resumes in a buffer only of runs that its calls there, the latest first, had left open; and they leave
+-- open the run that goes on.
+pub record MarksOpenRuns (run : Option LoggedRun) (calls : List BufferEntry) : Type 0 where
+  pub marks : AreMarksInRuns calls
+  pub goes_on : (start : ℕ) → IsInStarted run start → is_left_open calls start ≡ true
+
+-- A logger between its calls: it keeps all that, and gives no buffer a cause to refuse a call of it; and in every buffer it called
+-- for a mark of each pause and each resume of its runs, and for no other, while the run was open there.
 pub record LoggerStands (run : Option LoggedRun) (dumps : RunDumps) (slots : List (Option Channel)) (ports : List Access) (turns : List MemberTurn) (seen : Seen) : Type 0 where
   pub holds : LoggerHolds run dumps slots ports turns seen
   pub asks : AsksFairly run slots ports turns
   pub marks : AreEngineTurns turns → MarksAsAsked ports turns
+  pub in_runs : (buffer : ℕ) → (a : Access) → slice_get ports buffer ≡ Some a → MarksOpenRuns run (calls_after [] a.own)
 
 -- It keeps the logger's contract, whatever numbers stand for clients that are not attached yet.
 abbrev pub StandingLoggerKeeps : Type 0

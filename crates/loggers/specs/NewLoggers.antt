@@ -7,6 +7,7 @@ use Rattle.buffer_core.specs.Slots.{slot_at}
 use Rattle.mid_logger.specs.declared.channel.Channel.{Channel}
 use Rattle.mid_logger.specs.declared.channel_spec.ChannelSpec.{ChannelSpec}
 use Rattle.mid_logger.specs.declared.stage.ChannelStage.TheVariants.{Idle}
+use Rattle.mid_logger.specs.Channels.{GivesEachOnce}
 use Rattle.loggers.specs.Moments.{channel_limit}
 
 -- the numbers of the channels are below their limit, and differ
@@ -48,8 +49,7 @@ HaveRooms specs rooms ports = (place room : ℕ) → (s : ChannelSpec) → (a : 
     slice_get specs place ≡ Some s → slice_get rooms place ≡ Some room → slice_get ports s.buffer ≡ Some a →
     min event_limit (a.size - 24) ≤ room
 
--- What is known of other callers is that they took no client of the logger. What is known stays known at each call, so
--- that behind the last call this says it of all calls before. It holds where no other caller detaches a client of the
--- logger.
-abbrev pub NoneTakenBack : List Access → Type 0
-NoneTakenBack ports = (buffer : ℕ) → (a : Access) → slice_get ports buffer ≡ Some a → a.taken_back ≡ []
+-- No port gave the logger a client that it has. What was called stays called, so that behind the last call this says it of all
+-- calls before.
+abbrev pub GiveEachOnce : List Access → Type 0
+GiveEachOnce ports = (buffer : ℕ) → (a : Access) → slice_get ports buffer ≡ Some a → GivesEachOnce a.own

@@ -1,5 +1,5 @@
--- The marks of pause and of resume in the buffers, and the turns that ask for them.
-use Rattle.std.specs.Prelude.{◌≡◌, ◌==◌, ◌&&◌, ◌||◌, ℕ, Bool, true, false, if◌then◌else◌, List, [], ◌∷◌, ◌++◌, slice_get, Option, Some}
+-- The marks of pause and of resume in the buffers, the turns that ask for them, and the runs that they are of.
+use Rattle.std.specs.Prelude.{◌≡◌, ◌==◌, ◌&&◌, ◌||◌, ℕ, Bool, true, false, if◌then◌else◌, List, [], ◌∷◌, ◌++◌, slice_get, Option, Some, ⊤}
 use Rattle.daq_types.specs.declared.runs.Transition.{Transition}
 use Rattle.daq_types.specs.declared.runs.Transition.TheVariants.{Start, Pause, Resume}
 use Rattle.buffer_core.specs.declared.entry.BufferEntry.{BufferEntry}
@@ -10,6 +10,7 @@ use Rattle.member_model.specs.RunEngines.{Answer}
 use Rattle.transitions.specs.declared.answers.Answer.TheVariants.{Yes}
 use Rattle.transitions.specs.declared.answers.Tally.TheVariants.{Plain}
 use Rattle.member_model.specs.Turns.{MemberTurn}
+use Rattle.member_model.specs.FairCalls.{is_left_open}
 
 -- the mark of pause or of resume for which this call asks, whatever it was replied
 abbrev pub mark_called : BufferEntry → List Mark
@@ -49,3 +50,14 @@ marks_asked (t ∷ turns) =
 abbrev pub MarksAsAsked : List Access → List MemberTurn → Type 0
 MarksAsAsked ports turns = (buffer : ℕ) → (a : Access) → slice_get ports buffer ≡ Some a →
     marks_called a.own ≡ marks_asked turns
+
+-- where the call is to mark a pause or a resume, whatever it is replied, the calls before it, the latest first, leave its run open
+abbrev pub IsMarkInRun : BufferEntry → (before : List BufferEntry) → Type 0
+IsMarkInRun (PausesRun start reply) before = is_left_open before start ≡ true
+IsMarkInRun (ResumesRun start reply) before = is_left_open before start ≡ true
+IsMarkInRun entry before = ⊤
+
+-- each of these calls, the latest first, is so
+abbrev pub AreMarksInRuns : List BufferEntry → Type 0
+AreMarksInRuns [] = ⊤
+AreMarksInRuns (e ∷ es) = IsMarkInRun e es × AreMarksInRuns es

@@ -1,6 +1,6 @@
 //! What a logger keeps: each function does nothing, and its contract is the law.
 
-ghost use Rattle.loggers.specs.LoggerLaws.{FinishesKeep, TurnsKeep, TurnsLeaveKnown, PullsLeaveKnown, TurnsNote, PullsNote, FinishesNote, NotesFollow};
+ghost use Rattle.loggers.specs.LoggerLaws.{FinishesKeep, TurnsKeep, TurnsGiveOnce, PullsGiveOnce, TurnsNote, PullsNote, FinishesNote, NotesFollow};
 ghost use Rattle.loggers.specs.LoggerStands.{StandingLoggerKeeps};
 ghost use Rattle.loggers.specs.Reasons.{TurnsGiveReasons, PullsGiveReasons, FinishesGiveReasons, ReasonsTell, ClashesAreTold};
 ghost use Rattle.loggers.specs.LeftNames.{TurnsKeepNames, PullsKeepNames, FinishesKeepNames, StandingHasStarted, StandingHasStopped, PullsKeepStopped};
@@ -38,10 +38,10 @@ pub fn finishes_keep()
     channel_laws::closes_kept();
 }
 
-/// What was known before a turn or a pull of clients that others detached is known behind it.
-pub fn still_known()
-    ensures turns { TurnsLeaveKnown }
-    ensures pulls { PullsLeaveKnown }
+/// Where behind a turn or a pull the ports gave the logger no client that it has, they gave it none before.
+pub fn given_once()
+    ensures turns { TurnsGiveOnce }
+    ensures pulls { PullsGiveOnce }
 {}
 
 /// A turn, a pull and a call to finish leave all files but those of the channels in the runs that the logger was told to

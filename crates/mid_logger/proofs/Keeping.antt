@@ -21,7 +21,7 @@ use Rattle.mid_logger.specs.declared.stage.ChannelRun.{ChannelRun}
 use Rattle.mid_logger.specs.declared.stage.ChannelStage.{ChannelStage}
 use Rattle.mid_logger.specs.declared.stage.ChannelStage.TheVariants.{Idle, Asking, Writing, Draining, Drained, Broken}
 use Rattle.mid_logger.specs.Patterns.{file_name_by}
-use Rattle.mid_logger.specs.Channels.{FileHead, ChannelStands, HasLastOpen, IsLastOpen, KnowsTaken, channel_run, written_run, files_by, series_at}
+use Rattle.mid_logger.specs.Channels.{FileHead, GivesEachOnce, ChannelStands, HasLastOpen, IsLastOpen, KnowsTaken, channel_run, written_run, files_by, series_at}
 use Rattle.mid_logger.specs.Pulls.{PullOf, Pulls}
 use Rattle.mid_logger.specs.ChannelTurns.{ChannelAt, OpensBy, RefusesRun, drained_run}
 use Rattle.mid_logger.specs.ChannelEnds.{DropsFiles, RemovesRun, ClosesRead, ClosesFile, HasLeft, end_of, last_bytes}
@@ -215,8 +215,8 @@ open_changes spec order dump r a b opens =
     let changes : OpensRunFile (file_name_by spec.pattern order.run) a.files b.files = open_file_changes spec order dump r a b opens in
     (changes, opened_there (file_name_by spec.pattern order.run) a.files b.files changes)
 
-pub opening_kept : (spec : ChannelSpec) (order : Order) (dump : List ℕ) (r : Result ⊤ Why) (a b : ChannelAt) (head : FileHead) → OpensBy r spec order dump a b → a.stage ≡ Idle → length dump ≤ record_limit → b.port.taken_back ≡ []
+pub opening_kept : (spec : ChannelSpec) (order : Order) (dump : List ℕ) (r : Result ⊤ Why) (a b : ChannelAt) (head : FileHead) → OpensBy r spec order dump a b → a.stage ≡ Idle → length dump ≤ record_limit → GivesEachOnce b.port.own
     → ChannelStands spec a.client a.stage head a.port.own a.port.got a.files
     → OnOk r (ChannelStands spec b.client b.stage (order_head order dump) b.port.own b.port.got b.files) × OnErr r (ChannelStands spec b.client b.stage head b.port.own b.port.got b.files)
-opening_kept spec order dump (Ok done) a b head opens idle small none stands = (opened_kept spec order dump (Ok done) a b opens idle small head none stands, tt)
-opening_kept spec order dump (Err why) a b head opens idle small none stands = (tt, not_opened_kept spec order dump (Err why) a b opens idle head none stands)
+opening_kept spec order dump (Ok done) a b head opens idle small once stands = (opened_kept spec order dump (Ok done) a b opens idle small head once stands, tt)
+opening_kept spec order dump (Err why) a b head opens idle small once stands = (tt, not_opened_kept spec order dump (Err why) a b opens idle head once stands)

@@ -15,9 +15,9 @@ use Rattle.member_model.proofs.FairLaws.{lone-push}
 use Rattle.mid_logger.specs.declared.channel_spec.ChannelSpec.{ChannelSpec}
 use Rattle.mid_logger.specs.declared.stage.ChannelStage.{ChannelStage}
 use Rattle.mid_logger.specs.declared.stage.ChannelStage.TheVariants.{Idle}
-use Rattle.mid_logger.specs.Channels.{FileHead, ChannelStands}
+use Rattle.mid_logger.specs.Channels.{FileHead, GivesEachOnce, ChannelStands}
 use Rattle.mid_logger.specs.ChannelTurns.{logger_name, HasClient, MakesRequest, AsksEvents, ChannelAt, RefusesRun, OpensBy}
-use Rattle.mid_logger.proofs.OpenSteps.{NoneTaken, attach_kept, still_none, none_in}
+use Rattle.mid_logger.proofs.OpenSteps.{attach_kept, once_asked}
 
 abbrev AreLone : Access → Type 0
 AreLone a = AreLoneRequests (calls_after [] a.own)
@@ -41,23 +41,23 @@ request_alone spec (Some c) None head seen a b makes stands are =
 request_alone spec None (Some r) head seen a b makes stands are = absurd makes
 request_alone spec None None head seen a b makes stands are = lone_same a b makes are
 
-asks_alone : (spec : ChannelSpec) (client later request : Option ℕ) (head : FileHead) (seen : Seen) (a b : Access) → AsksEvents spec client later request a b → NoneTaken b → ChannelStands spec client Idle head a.own a.got seen → AreLone a → AreLone b
-asks_alone spec client later request head seen a b asks none stands are =
+asks_alone : (spec : ChannelSpec) (client later request : Option ℕ) (head : FileHead) (seen : Seen) (a b : Access) → AsksEvents spec client later request a b → GivesEachOnce b.own → ChannelStands spec client Idle head a.own a.got seen → AreLone a → AreLone b
+asks_alone spec client later request head seen a b asks once stands are =
     request_alone spec later request head seen asks.middle b asks.asked
-    (attach_kept spec client later a asks.middle head seen asks.attached (still_none spec later request asks.middle b asks.asked none) stands)
+    (attach_kept spec client later a asks.middle head seen asks.attached (once_asked spec later request asks.middle b asks.asked once) stands)
     (attach_alone client later a asks.middle asks.attached are)
 
-refusal_alone : (spec : ChannelSpec) (name : List ℕ) (why : Why) (head : FileHead) (seen : Seen) (a b : ChannelAt) → RefusesRun why spec name a b → NoneTaken b.port → ChannelStands spec a.client Idle head a.port.own a.port.got seen → AreLone a.port → AreLone b.port
-refusal_alone spec name NotReady head seen a b refuses none stands are = absurd refuses
-refusal_alone spec name (Exists channel) head seen a b refuses none stands are = lone_same a.port b.port refuses.1.port are
-refusal_alone spec name (Fault channel) head seen a b refuses none stands are = lone_same a.port b.port refuses.1.port are
-refusal_alone spec name BufferRefused head seen a b refuses none stands are = asks_alone spec a.client b.client None head seen a.port b.port refuses.0 none stands are
+refusal_alone : (spec : ChannelSpec) (name : List ℕ) (why : Why) (head : FileHead) (seen : Seen) (a b : ChannelAt) → RefusesRun why spec name a b → GivesEachOnce b.port.own → ChannelStands spec a.client Idle head a.port.own a.port.got seen → AreLone a.port → AreLone b.port
+refusal_alone spec name NotReady head seen a b refuses once stands are = absurd refuses
+refusal_alone spec name (Exists channel) head seen a b refuses once stands are = lone_same a.port b.port refuses.1.port are
+refusal_alone spec name (Fault channel) head seen a b refuses once stands are = lone_same a.port b.port refuses.1.port are
+refusal_alone spec name BufferRefused head seen a b refuses once stands are = asks_alone spec a.client b.client None head seen a.port b.port refuses.0 once stands are
 
-pub opens_alone : (spec : ChannelSpec) (order : Order) (dump : List ℕ) (r : Result ⊤ Why) (a b : ChannelAt) (head : FileHead) → OpensBy r spec order dump a b → a.stage ≡ Idle → b.port.taken_back ≡ []
+pub opens_alone : (spec : ChannelSpec) (order : Order) (dump : List ℕ) (r : Result ⊤ Why) (a b : ChannelAt) (head : FileHead) → OpensBy r spec order dump a b → a.stage ≡ Idle → GivesEachOnce b.port.own
     → ChannelStands spec a.client a.stage head a.port.own a.port.got a.files → AreLoneRequests (calls_after [] a.port.own) → AreLoneRequests (calls_after [] b.port.own)
-opens_alone spec order dump (Ok done) a b head opens idle none stands are =
+opens_alone spec order dump (Ok done) a b head opens idle once stands are =
     let idle_stands : ChannelStands spec a.client Idle head a.port.own a.port.got a.files = subst (λ (s : ChannelStage). ChannelStands spec a.client s head a.port.own a.port.got a.files) idle stands in
-    asks_alone spec a.client b.client (Some opens.asks.request) head a.files a.port b.port opens.asks.asks (none_in b.port.taken_back none) idle_stands are
-opens_alone spec order dump (Err why) a b head opens idle none stands are =
+    asks_alone spec a.client b.client (Some opens.asks.request) head a.files a.port b.port opens.asks.asks once idle_stands are
+opens_alone spec order dump (Err why) a b head opens idle once stands are =
     let idle_stands : ChannelStands spec a.client Idle head a.port.own a.port.got a.files = subst (λ (s : ChannelStage). ChannelStands spec a.client s head a.port.own a.port.got a.files) idle stands in
-    refusal_alone spec _ why head a.files a b opens.1 (none_in b.port.taken_back none) idle_stands are
+    refusal_alone spec _ why head a.files a b opens.1 once idle_stands are

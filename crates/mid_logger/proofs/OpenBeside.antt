@@ -21,12 +21,12 @@ use Rattle.mid_logger.specs.declared.stage.ChannelStage.TheVariants.{Idle, Askin
 use Rattle.mid_logger.specs.Patterns.{file_name_by}
 use Rattle.sub_files.specs.declared.open_file.OpenFile.{OpenFile}
 use Rattle.sub_files.specs.Patterns.{piece_name_by}
-use Rattle.mid_logger.specs.Channels.{FileHead, IsOwnClient, ChannelStands, channel_run, written_run, files_by}
+use Rattle.mid_logger.specs.Channels.{FileHead, GivesEachOnce, IsOwnClient, ChannelStands, channel_run, written_run, files_by}
 use Rattle.mid_logger.specs.RecordFiles.{IsGone, UndoesFile}
 use Rattle.mid_logger.specs.ChannelTurns.{logger_name, HasClient, MakesRequest, AsksEvents, ChannelAt, StartsAsking, RefusesRun, OpensBy}
 use Rattle.mid_logger.specs.Beside.{LeavesClient, ChannelsApart}
 use Rattle.mid_logger.proofs.StageSteps.{leaves_run, call_beside, files_beside, made_there, last_used}
-use Rattle.mid_logger.proofs.OpenSteps.{NoneTaken, never_given, gave_now, still_none, none_in}
+use Rattle.mid_logger.proofs.OpenSteps.{never_given, gave_now, once_asked}
 use Rattle.mid_logger.proofs.FileMoves.{not_free}
 use Rattle.mid_logger.proofs.Keeping.{not_gone}
 use Rattle.mid_logger.proofs.BesideSteps.{OtherAt, run_leaves, changed_beside}
@@ -57,13 +57,13 @@ record Attached (spec : ChannelSpec) (later : Option ℕ) (b : Access) (other : 
   differ : Differ later other_client
   is_own : IsOwnClient later b.own
 
-attach_beside : (spec other : ChannelSpec) (client later other_client : Option ℕ) (other_stage : ChannelStage) (other_head : FileHead) (a b : Access) (seen : Seen) → HasClient client later a b → NoneTaken b → IsOwnClient client a.own → Differ client other_client
+attach_beside : (spec other : ChannelSpec) (client later other_client : Option ℕ) (other_stage : ChannelStage) (other_head : FileHead) (a b : Access) (seen : Seen) → HasClient client later a b → GivesEachOnce b.own → IsOwnClient client a.own → Differ client other_client
     → OtherAt other other_client other_stage other_head a seen → Attached spec later b other other_client other_stage other_head seen
-attach_beside spec other (Some c) later other_client other_stage other_head a b seen has none is_own differ stands =
+attach_beside spec other (Some c) later other_client other_stage other_head a b seen has once is_own differ stands =
     record { stands = rw has.1 stands; differ = λ x d is other_is. differ x d (sym has.0 ∙ is) other_is; is_own = rw (has.0, has.1) is_own }
-attach_beside spec other None (Some n) other_client other_stage other_head a b seen has none is_own differ stands =
+attach_beside spec other None (Some n) other_client other_stage other_head a b seen has once is_own differ stands =
     let attach : BufferEntry = Attach logger_name (Ok n) in
-    let fresh : gave_number (calls_after [] a.own) n ≡ false = never_given a b n stands.port has.1 none in
+    let fresh : gave_number (calls_after [] a.own) n ≡ false = never_given a.own logger_name n stands.port (subst (λ (es : List BufferEntry). GivesEachOnce es) has.0.own once) in
     let apart = new_differs a.own n other_client fresh stands.own_client in
     let now : ChannelStands other other_client other_stage other_head (a.own ++ attach ∷ []) a.got seen = call_beside other other_client other_stage other_head a.own a.got seen attach stands tt tt (leaves_attach other_client n apart) (leaves_run other_stage attach tt) refl in
     let own_now : gave_number (calls_after [] (a.own ++ attach ∷ [])) n ≡ true = subst (λ (es : List BufferEntry). gave_number es n ≡ true) (sym (calls_after-push [] a.own attach)) (gave_now (calls_after [] a.own) logger_name n) in
@@ -72,7 +72,7 @@ attach_beside spec other None (Some n) other_client other_stage other_head a b s
       differ = λ x d is other_is. let same : n ≡ x = cc (is) in subst (λ (k : ℕ). k ≢ d) same (apart d other_is);
       is_own = rw has.0.own own_now;
     }
-attach_beside spec other None None other_client other_stage other_head a b seen has none is_own differ stands = record {
+attach_beside spec other None None other_client other_stage other_head a b seen has once is_own differ stands = record {
   stands = rw (has.1.own, has.1.got_is) (call_beside other other_client other_stage other_head a.own a.got seen (Attach logger_name (Err has.0)) stands tt tt (leaves_no_attach other_client has.0) (leaves_run other_stage (Attach logger_name (Err has.0)) tt) refl);
   differ = λ x d is other_is. absurd (cc (is));
   is_own = tt;
@@ -94,10 +94,10 @@ request_beside spec other (Some c) None other_client other_stage other_head a b 
 request_beside spec other None (Some r) other_client other_stage other_head a b seen makes is_own differ stands = absurd makes
 request_beside spec other None None other_client other_stage other_head a b seen makes is_own differ stands = rw makes stands
 
-asks_beside : (spec other : ChannelSpec) (client later request other_client : Option ℕ) (other_stage : ChannelStage) (other_head : FileHead) (a b : Access) (seen : Seen) → AsksEvents spec client later request a b → NoneTaken b → IsOwnClient client a.own → Differ client other_client
+asks_beside : (spec other : ChannelSpec) (client later request other_client : Option ℕ) (other_stage : ChannelStage) (other_head : FileHead) (a b : Access) (seen : Seen) → AsksEvents spec client later request a b → GivesEachOnce b.own → IsOwnClient client a.own → Differ client other_client
     → OtherAt other other_client other_stage other_head a seen → OtherAt other other_client other_stage other_head b seen × Differ later other_client
-asks_beside spec other client later request other_client other_stage other_head a b seen asks none is_own differ stands =
-    let has = attach_beside spec other client later other_client other_stage other_head a asks.middle seen asks.attached (still_none spec later request asks.middle b asks.asked none) is_own differ stands in
+asks_beside spec other client later request other_client other_stage other_head a b seen asks once is_own differ stands =
+    let has = attach_beside spec other client later other_client other_stage other_head a asks.middle seen asks.attached (once_asked spec later request asks.middle b asks.asked once) is_own differ stands in
     (request_beside spec other later request other_client other_stage other_head asks.middle b seen asks.asked has.is_own has.differ has.stands, has.differ)
 
 -- The files of the other channel.
@@ -132,19 +132,19 @@ idle_apart seen spec client stage other other_client other_stage idle differ = r
   numbers = λ r s is other_is. absurd (let never : None ≡ Some r = sym (ap (λ (x : ChannelStage). written_run x) idle) ∙ is in cc (never));
 }
 
-refusal_beside : (spec other : ChannelSpec) (name : List ℕ) (why : Why) (a b : ChannelAt) (other_client : Option ℕ) (other_stage : ChannelStage) (other_head : FileHead) → RefusesRun why spec name a b → NoneTaken b.port → IsOwnClient a.client a.port.own → Differ a.client other_client
+refusal_beside : (spec other : ChannelSpec) (name : List ℕ) (why : Why) (a b : ChannelAt) (other_client : Option ℕ) (other_stage : ChannelStage) (other_head : FileHead) → RefusesRun why spec name a b → GivesEachOnce b.port.own → IsOwnClient a.client a.port.own → Differ a.client other_client
     → OtherAt other other_client other_stage other_head a.port a.files → OtherAt other other_client other_stage other_head b.port b.files × Differ b.client other_client
-refusal_beside spec other name NotReady a b other_client other_stage other_head refuses none is_own differ stands = absurd refuses
-refusal_beside spec other name (Exists channel) a b other_client other_stage other_head refuses none is_own differ stands = (
+refusal_beside spec other name NotReady a b other_client other_stage other_head refuses once is_own differ stands = absurd refuses
+refusal_beside spec other name (Exists channel) a b other_client other_stage other_head refuses once is_own differ stands = (
   rw refuses.1.port (same_beside other other_client other_stage other_head a.port.own a.port.got a.files b.files refuses.2 stands),
   λ c d is other_is. differ c d (sym refuses.1.client ∙ is) other_is,
 )
-refusal_beside spec other name (Fault channel) a b other_client other_stage other_head refuses none is_own differ stands = (
+refusal_beside spec other name (Fault channel) a b other_client other_stage other_head refuses once is_own differ stands = (
   rw refuses.1.port (undone_beside other other_client other_stage other_head a.port.own a.port.got a.files b.files name a.faults b.faults refuses.2 stands),
   λ c d is other_is. differ c d (sym refuses.1.client ∙ is) other_is,
 )
-refusal_beside spec other name BufferRefused a b other_client other_stage other_head refuses none is_own differ stands =
-    let asks = asks_beside spec other a.client b.client None other_client other_stage other_head a.port b.port a.files refuses.0 none is_own differ stands in
+refusal_beside spec other name BufferRefused a b other_client other_stage other_head refuses once is_own differ stands =
+    let asks = asks_beside spec other a.client b.client None other_client other_stage other_head a.port b.port a.files refuses.0 once is_own differ stands in
     (undone_beside other other_client other_stage other_head b.port.own b.port.got a.files b.files name a.faults b.faults refuses.1 asks.0, asks.1)
 
 -- the run that is opened is apart from the other channel's
@@ -167,15 +167,15 @@ opened_apart spec other order a b at bytes other_client other_stage other_head c
     rw starts.stage now
 
 pub opens_beside : (spec : ChannelSpec) (order : Order) (dump : List ℕ) (answer : Result ⊤ Why) (a b : ChannelAt) (head : FileHead) (other : ChannelSpec) (other_client : Option ℕ) (other_stage : ChannelStage) (other_head : FileHead) → OpensBy answer spec order dump a b
-    → b.port.taken_back ≡ [] → a.stage ≡ Idle → ChannelStands spec a.client a.stage head a.port.own a.port.got a.files → ChannelsApart a.files spec a.client a.stage other other_client other_stage → OtherAt other other_client other_stage other_head a.port a.files
+    → GivesEachOnce b.port.own → a.stage ≡ Idle → ChannelStands spec a.client a.stage head a.port.own a.port.got a.files → ChannelsApart a.files spec a.client a.stage other other_client other_stage → OtherAt other other_client other_stage other_head a.port a.files
     → OtherAt other other_client other_stage other_head b.port b.files × ChannelsApart b.files spec b.client b.stage other other_client other_stage
-opens_beside spec order dump (Ok done) a b head other other_client other_stage other_head opens none idle at apart stands =
-    let asks = asks_beside spec other a.client b.client (Some opens.asks.request) other_client other_stage other_head a.port b.port a.files opens.asks.asks (none_in b.port.taken_back none) at.own_client apart.clients stands in (
+opens_beside spec order dump (Ok done) a b head other other_client other_stage other_head opens once idle at apart stands =
+    let asks = asks_beside spec other a.client b.client (Some opens.asks.request) other_client other_stage other_head a.port b.port a.files opens.asks.asks once at.own_client apart.clients stands in (
       changed_beside other other_client other_stage other_head b.port.own b.port.got a.files b.files (file_name_by spec.pattern order.run) opens.makes.touches (on_same opens.makes.done)
           (names_apart other other_client other_stage other_head a.port.own a.port.got a.files (file_name_by spec.pattern order.run) opens.makes.fresh stands)
           (λ s is. opens.makes.others s.at.file (λ same. numbers_apart other other_client other_stage other_head a.port.own a.port.got opens.makes stands s is (sym same))) asks.0,
       opened_apart spec other order a b opens.at _ other_client other_stage other_head opens.makes (ap (λ (x : OpenFile). x.sub) opens.first) opens.asks asks.1 stands,
     )
-opens_beside spec order dump (Err why) a b head other other_client other_stage other_head opens none idle at apart stands =
-    let refused = refusal_beside spec other (file_name_by spec.pattern order.run) why a b other_client other_stage other_head opens.1 (none_in b.port.taken_back none) at.own_client apart.clients stands in
+opens_beside spec order dump (Err why) a b head other other_client other_stage other_head opens once idle at apart stands =
+    let refused = refusal_beside spec other (file_name_by spec.pattern order.run) why a b other_client other_stage other_head opens.1 once at.own_client apart.clients stands in
     (refused.0, idle_apart b.files spec b.client b.stage other other_client other_stage (opens.0 ∙ idle) refused.1)

@@ -1,6 +1,6 @@
 -- What a channel keeps when it asks for the events of a run, and when that is refused.
-use Rattle.std.specs.Prelude.{◌≡◌, ◌≤◌, ℕ, zero, suc, true, false, List, [], ◌∷◌, ◌++◌, length, slice_get, Contains, Option, Some, None, Result, Ok, Err, OnOk, OnErr, IfErr, IsErrOf, ◌⊎◌, ◌↔◌, refl, ⊤}
-use Rattle.std.proofs.Common.{ap, sym, subst, ◌∙◌, inl, inr, arith}
+use Rattle.std.specs.Prelude.{◌≡◌, ◌≤◌, ℕ, zero, suc, true, false, List, [], ◌∷◌, ◌++◌, length, slice_get, Option, Some, None, Result, Ok, Err, OnOk, OnErr, IfErr, IsErrOf, ◌⊎◌, ◌↔◌, refl, ⊤}
+use Rattle.std.proofs.Common.{ap, sym, subst, ◌∙◌, inl, inr, arith, append_assoc}
 use Rattle.std.proofs.lemmas.Bool.Decides.{eqb_tells}
 use Rattle.std.proofs.lemmas.List.Elements.{All-nil}
 use Rattle.daq_types.specs.declared.runs.Kind.TheVariants.{All}
@@ -15,7 +15,7 @@ use Rattle.daq_io.specs.Seen.{Seen}
 use Rattle.buffer_core.specs.declared.replies.Received.TheVariants.{Got, Empty, NoClient, SmallBuf}
 use Rattle.buffer_core.specs.declared.entry.BufferEntry.{BufferEntry}
 use Rattle.buffer_core.specs.declared.entry.BufferEntry.TheVariants.{Attach, Detach, Request, Cancel, Send, SendInRun, Receive, Begin, Pause, Resume, End, Level, Accepted}
-use Rattle.buffer_core.specs.Ports.{Access, GotEvent, Calls, IsNewNumber, knowing}
+use Rattle.buffer_core.specs.Ports.{Access, GotEvent, Calls}
 use Rattle.member_model.specs.OwnCalls.{calls_after, gave_number, IsOwnCall, AreOwnCalls, asks}
 use Rattle.member_model.proofs.ReadLaws.{calls_after-push, asking_made}
 use Rattle.mid_logger.specs.declared.channel_spec.ChannelSpec.{ChannelSpec}
@@ -28,7 +28,7 @@ use Rattle.sub_files.specs.Patterns.{piece_name_by}
 use Rattle.sub_files.specs.Pieces.{HoldsRun}
 use Rattle.sub_files.specs.Rolls.{first_file}
 use Rattle.sub_files.proofs.RunEnds.{begun_holds}
-use Rattle.mid_logger.specs.Channels.{FileHead, KeepsOwnCalls, FilesHold, ChannelStands, IsLastOpen, written_run, files_by, series_at}
+use Rattle.mid_logger.specs.Channels.{FileHead, KeepsOwnCalls, GivesEachOnce, FilesHold, ChannelStands, IsLastOpen, written_run, files_by, series_at}
 use Rattle.mid_logger.specs.ChannelTurns.{logger_name, HasClient, MakesRequest, AsksEvents, ChannelAt, StartsAsking, RefusesRun, OpensBy, IsRefusalOf}
 use Rattle.mid_logger.proofs.OwnSteps.{own_push, own_client_push, gave_stays}
 use Rattle.mid_logger.proofs.StageSteps.{call_beside}
@@ -84,13 +84,18 @@ none_detached past (e ∷ es) zero c own is =
     subst (λ (x : BufferEntry). IsOwnCall x past) same ((own_before (e ∷ past) es own).0)
 none_detached past (e ∷ es) (suc i) c own is = none_detached (e ∷ past) es i c own is
 
--- a number that an attach gives was given by none before, where nothing is known to be taken back
-pub never_given : (a b : Access) (n : ℕ) → KeepsOwnCalls a.own → IsNewNumber (knowing a b) n → ((call : ℕ) → Contains b.taken_back call → ⊥) → gave_number (calls_after [] a.own) n ≡ false
-never_given a b n keeps new none =
-    elim (gave_number (calls_after [] a.own) n) as (λ w. gave_number (calls_after [] a.own) n ≡ w → w ≡ false) [
-      | true ↦ λ gave. elim (given_among [] a.own n gave) as (λ w. true ≡ false) [
+-- what holds of calls and more holds of these calls
+pub once_before : (own more : List BufferEntry) → GivesEachOnce (own ++ more) → GivesEachOnce own
+once_before own more once before after name client call whole given =
+    once before (after ++ more) name client call (ap (λ (l : List BufferEntry). l ++ more) whole ∙ append_assoc before (Attach name (Ok client) ∷ after) more) given
+
+-- a number that the last attach gives was given by none before, where the calls give each client once
+pub never_given : (own : List BufferEntry) (name : List ℕ) (n : ℕ) → KeepsOwnCalls own → GivesEachOnce (own ++ Attach name (Ok n) ∷ []) → gave_number (calls_after [] own) n ≡ false
+never_given own name n keeps once =
+    elim (gave_number (calls_after [] own) n) as (λ w. gave_number (calls_after [] own) n ≡ w → w ≡ false) [
+      | true ↦ λ gave. elim (given_among [] own n gave) as (λ w. true ≡ false) [
         | inl never ↦ sym never
-        | inr given ↦ absurd (none given.0 (new given.0 (record { name = given.1; given = given.2; stays = λ later behind is. none_detached [] a.own later n keeps.own_calls is })))
+        | inr given ↦ absurd (once own [] name n given.0 refl (record { name = given.1; given = given.2; stays = λ later behind is. none_detached [] own later n keeps.own_calls is }))
       ]
       | false ↦ λ gave. refl
     ] refl
@@ -122,27 +127,24 @@ unasked (e ∷ es) c n own none =
 
 -- A client is attached.
 
-abbrev pub NoneTaken : Access → Type 0
-NoneTaken a = (call : ℕ) → Contains a.taken_back call → ⊥
-
 pub gave_now : (past : List BufferEntry) (name : List ℕ) (n : ℕ) → gave_number (Attach name (Ok n) ∷ past) n ≡ true
 gave_now past name n = elim (eqb_tells n n) as (λ w. gave_number (Attach name (Ok n) ∷ past) n ≡ true) [
   | inl same ↦ rw same.0 refl
   | inr other ↦ absurd (other.1 refl)
 ]
 
-pub attach_kept : (spec : ChannelSpec) (client later : Option ℕ) (a b : Access) (head : FileHead) (seen : Seen) → HasClient client later a b → NoneTaken b → ChannelStands spec client Idle head a.own a.got seen → ChannelStands spec later Idle head b.own b.got seen
-attach_kept spec (Some c) later a b head seen has none stands = rw (has.0, has.1) stands
-attach_kept spec None (Some n) a b head seen has none stands =
+pub attach_kept : (spec : ChannelSpec) (client later : Option ℕ) (a b : Access) (head : FileHead) (seen : Seen) → HasClient client later a b → GivesEachOnce b.own → ChannelStands spec client Idle head a.own a.got seen → ChannelStands spec later Idle head b.own b.got seen
+attach_kept spec (Some c) later a b head seen has once stands = rw (has.0, has.1) stands
+attach_kept spec None (Some n) a b head seen has once stands =
     let attach : BufferEntry = Attach logger_name (Ok n) in
-    let fresh : gave_number (calls_after [] a.own) n ≡ false = never_given a b n stands.port has.1 none in
+    let fresh : gave_number (calls_after [] a.own) n ≡ false = never_given a.own logger_name n stands.port (subst (λ (es : List BufferEntry). GivesEachOnce es) has.0.own once) in
     let now : ChannelStands spec (Some n) Idle head (a.own ++ attach ∷ []) a.got seen = record {
       port = own_push a.own attach stands.port tt tt;
       own_client = subst (λ (es : List BufferEntry). gave_number es n ≡ true) (sym (calls_after-push [] a.own attach)) (gave_now (calls_after [] a.own) logger_name n);
       at = λ k. subst (λ (es : List BufferEntry). asks es n k ≡ false) (sym (calls_after-push [] a.own attach)) (unasked (calls_after [] a.own) n k stands.port.own_calls fresh);
     } in
     rw (has.0.own, has.0.got_is) now
-attach_kept spec None None a b head seen has none stands =
+attach_kept spec None None a b head seen has once stands =
     rw (has.1.own, has.1.got_is) (call_beside spec None Idle head a.own a.got seen (Attach logger_name (Err has.0)) stands tt tt tt tt refl)
 
 -- Its request is made.
@@ -158,25 +160,25 @@ no_request_kept spec (Some c) a b head seen makes stands =
     rw (makes.1.own, makes.1.got_is) now
 no_request_kept spec None a b head seen makes stands = rw makes stands
 
-pub still_none : (spec : ChannelSpec) (client request : Option ℕ) (a b : Access) → MakesRequest spec client request a b → NoneTaken b → NoneTaken a
-still_none spec (Some c) (Some r) a b makes none = λ call has. none call (makes.still_known call has)
-still_none spec (Some c) None a b makes none = λ call has. none call (makes.1.still_known call has)
-still_none spec None (Some r) a b makes none = absurd makes
-still_none spec None None a b makes none = λ call has. none call (subst (λ (x : Access). Contains x.taken_back call) (sym makes) has)
+pub once_asked : (spec : ChannelSpec) (client request : Option ℕ) (a b : Access) → MakesRequest spec client request a b → GivesEachOnce b.own → GivesEachOnce a.own
+once_asked spec (Some c) (Some r) a b makes once = once_before a.own (Request c spec.id spec.mask All (Ok r) ∷ []) (subst (λ (es : List BufferEntry). GivesEachOnce es) makes.own once)
+once_asked spec (Some c) None a b makes once = once_before a.own (Request c spec.id spec.mask All (Err makes.0) ∷ []) (subst (λ (es : List BufferEntry). GivesEachOnce es) makes.1.own once)
+once_asked spec None (Some r) a b makes once = absurd makes
+once_asked spec None None a b makes once = subst (λ (x : Access). GivesEachOnce x.own) makes once
 
-refused_kept : (spec : ChannelSpec) (client later : Option ℕ) (a b : Access) (head : FileHead) (seen : Seen) → AsksEvents spec client later None a b → NoneTaken b → ChannelStands spec client Idle head a.own a.got seen → ChannelStands spec later Idle head b.own b.got seen
-refused_kept spec client later a b head seen asks none stands =
-    no_request_kept spec later asks.middle b head seen asks.asked (attach_kept spec client later a asks.middle head seen asks.attached (still_none spec later None asks.middle b asks.asked none) stands)
+refused_kept : (spec : ChannelSpec) (client later : Option ℕ) (a b : Access) (head : FileHead) (seen : Seen) → AsksEvents spec client later None a b → GivesEachOnce b.own → ChannelStands spec client Idle head a.own a.got seen → ChannelStands spec later Idle head b.own b.got seen
+refused_kept spec client later a b head seen asks once stands =
+    no_request_kept spec later asks.middle b head seen asks.asked (attach_kept spec client later a asks.middle head seen asks.attached (once_asked spec later None asks.middle b asks.asked once) stands)
 
-asking_kept : (spec : ChannelSpec) (order : Order) (at : OpenFile) (a b : ChannelAt) (before head : FileHead) (seen : Seen) (starts : StartsAsking spec order at a b) → NoneTaken b.port
+asking_kept : (spec : ChannelSpec) (order : Order) (at : OpenFile) (a b : ChannelAt) (before head : FileHead) (seen : Seen) (starts : StartsAsking spec order at a b) → GivesEachOnce b.port.own
     → FilesHold spec head seen (record { run = order.run; start = order.start; time = order.time; at = at; client = starts.client; request = starts.request }) [] → ChannelStands spec a.client Idle before a.port.own a.port.got seen
     → ChannelStands spec b.client b.stage head b.port.own b.port.got seen
-asking_kept spec order at a b before head seen starts none holds stands =
+asking_kept spec order at a b before head seen starts once holds stands =
     let opened : ChannelRun = record { run = order.run; start = order.start; time = order.time; at = at; client = starts.client; request = starts.request } in
     let middle : Access = starts.asks.middle in
     let request : BufferEntry = Request starts.client spec.id spec.mask All (Ok starts.request) in
     let has : ChannelStands spec b.client Idle before middle.own middle.got seen =
-    attach_kept spec a.client b.client a.port middle before seen starts.asks.attached (still_none spec b.client (Some starts.request) middle b.port starts.asks.asked none) stands in
+    attach_kept spec a.client b.client a.port middle before seen starts.asks.attached (once_asked spec b.client (Some starts.request) middle b.port starts.asks.asked once) stands in
     let idle : ChannelStands spec (Some starts.client) Idle before middle.own middle.got seen = subst (λ (c : Option ℕ). ChannelStands spec c Idle before middle.own middle.got seen) starts.client_is has in
     let calls : Calls middle b.port request = subst (λ (c : Option ℕ). MakesRequest spec c (Some starts.request) middle b.port) starts.client_is starts.asks.asked in
     let now : ChannelStands spec (Some starts.client) (Asking opened) head (middle.own ++ request ∷ []) middle.got seen = record {
@@ -198,33 +200,30 @@ StandsAt spec a head = ChannelStands spec a.client a.stage head a.port.own a.por
 idle_elsewhere : (spec : ChannelSpec) (client : Option ℕ) (head other : FileHead) (own : List BufferEntry) (got : List GotEvent) (seen later : Seen) → ChannelStands spec client Idle head own got seen → ChannelStands spec client Idle other own got later
 idle_elsewhere spec client head other own got seen later stands = record { port = stands.port; own_client = stands.own_client; at = stands.at }
 
-pub none_in : {X : Type 0} (xs : List X) → xs ≡ [] → (x : X) → Contains xs x → ⊥
-none_in {X} xs is x has = let never : Contains [] x = subst (λ (l : List X). Contains l x) is has in omega (arith, never.1)
-
 pub opened_kept : (spec : ChannelSpec) (order : Order) (dump : List ℕ) (r : Result ⊤ Why) (a b : ChannelAt) → OpensBy r spec order dump a b → a.stage ≡ Idle → length dump ≤ record_limit
-    → OnOk r ((before : FileHead) → b.port.taken_back ≡ [] → StandsAt spec a before → StandsAt spec b (head_of order dump))
+    → OnOk r ((before : FileHead) → GivesEachOnce b.port.own → StandsAt spec a before → StandsAt spec b (head_of order dump))
 opened_kept spec order dump (Err why) a b opens idle small = tt
-opened_kept spec order dump (Ok u) a b opens idle small = λ before none stands.
+opened_kept spec order dump (Ok u) a b opens idle small = λ before once stands.
     let first : HoldsRun b.files (series_at spec (head_of order dump)) (first_file dump opens.at.file) [] =
     begun_holds a.files b.files spec.pattern spec.sub_bytes (record { run = order.run; time = order.time }) dump opens.at.file opens.within small opens.makes in
     let at_idle : ChannelStands spec a.client Idle before a.port.own a.port.got a.files = subst (λ (s : ChannelStage). ChannelStands spec a.client s before a.port.own a.port.got a.files) idle stands in
-    asking_kept spec order opens.at a b before (head_of order dump) b.files opens.asks (none_in b.port.taken_back none)
+    asking_kept spec order opens.at a b before (head_of order dump) b.files opens.asks once
     (record { run = refl; time = refl; fine = All-nil IsFileEvent; holds = subst (λ (x : OpenFile). HoldsRun b.files (series_at spec (head_of order dump)) x []) (sym opens.first) first })
     (idle_elsewhere spec a.client before before a.port.own a.port.got a.files b.files at_idle)
 
-refusal_kept : (spec : ChannelSpec) (name : List ℕ) (why : Why) (a b : ChannelAt) (head : FileHead) → RefusesRun why spec name a b → NoneTaken b.port → ChannelStands spec a.client Idle head a.port.own a.port.got a.files
+refusal_kept : (spec : ChannelSpec) (name : List ℕ) (why : Why) (a b : ChannelAt) (head : FileHead) → RefusesRun why spec name a b → GivesEachOnce b.port.own → ChannelStands spec a.client Idle head a.port.own a.port.got a.files
     → ChannelStands spec b.client Idle head b.port.own b.port.got b.files
-refusal_kept spec name NotReady a b head refuses none stands = absurd refuses
-refusal_kept spec name (Exists channel) a b head refuses none stands = rw (refuses.1.client, refuses.1.port) (idle_elsewhere spec a.client head head a.port.own a.port.got a.files b.files stands)
-refusal_kept spec name (Fault channel) a b head refuses none stands = rw (refuses.1.client, refuses.1.port) (idle_elsewhere spec a.client head head a.port.own a.port.got a.files b.files stands)
-refusal_kept spec name BufferRefused a b head refuses none stands =
-    refused_kept spec a.client b.client a.port b.port head b.files refuses.0 none (idle_elsewhere spec a.client head head a.port.own a.port.got a.files b.files stands)
+refusal_kept spec name NotReady a b head refuses once stands = absurd refuses
+refusal_kept spec name (Exists channel) a b head refuses once stands = rw (refuses.1.client, refuses.1.port) (idle_elsewhere spec a.client head head a.port.own a.port.got a.files b.files stands)
+refusal_kept spec name (Fault channel) a b head refuses once stands = rw (refuses.1.client, refuses.1.port) (idle_elsewhere spec a.client head head a.port.own a.port.got a.files b.files stands)
+refusal_kept spec name BufferRefused a b head refuses once stands =
+    refused_kept spec a.client b.client a.port b.port head b.files refuses.0 once (idle_elsewhere spec a.client head head a.port.own a.port.got a.files b.files stands)
 
-pub not_opened_kept : (spec : ChannelSpec) (order : Order) (dump : List ℕ) (r : Result ⊤ Why) (a b : ChannelAt) → OpensBy r spec order dump a b → a.stage ≡ Idle → OnErr r ((head : FileHead) → b.port.taken_back ≡ [] → StandsAt spec a head → StandsAt spec b head)
+pub not_opened_kept : (spec : ChannelSpec) (order : Order) (dump : List ℕ) (r : Result ⊤ Why) (a b : ChannelAt) → OpensBy r spec order dump a b → a.stage ≡ Idle → OnErr r ((head : FileHead) → GivesEachOnce b.port.own → StandsAt spec a head → StandsAt spec b head)
 not_opened_kept spec order dump (Ok u) a b opens idle = tt
-not_opened_kept spec order dump (Err why) a b opens idle = λ head none stands.
+not_opened_kept spec order dump (Err why) a b opens idle = λ head once stands.
     let at_idle : ChannelStands spec a.client Idle head a.port.own a.port.got a.files = subst (λ (s : ChannelStage). ChannelStands spec a.client s head a.port.own a.port.got a.files) idle stands in
-    rw (opens.0, idle) (refusal_kept spec (file_name_by spec.pattern order.run) why a b head opens.1 (none_in b.port.taken_back none) at_idle)
+    rw (opens.0, idle) (refusal_kept spec (file_name_by spec.pattern order.run) why a b head opens.1 once at_idle)
 
 -- the file of the run that was opened is in use for writing, under its name
 pub opened_file : (spec : ChannelSpec) (order : Order) (dump : List ℕ) (r : Result ⊤ Why) (a b : ChannelAt) → OpensBy r spec order dump a b → a.stage ≡ Idle → IsLastOpen b.files spec (written_run b.stage)

@@ -16,7 +16,7 @@ use Rattle.mid_logger.specs.declared.stage.BegunRun.{BegunRun}
 use Rattle.mid_logger.specs.declared.stage.ChannelRun.{ChannelRun}
 use Rattle.mid_logger.specs.declared.stage.ChannelStage.{ChannelStage}
 use Rattle.mid_logger.specs.declared.stage.ChannelStage.TheVariants.{Idle, Asking, Writing, Draining}
-use Rattle.mid_logger.specs.Channels.{FileHead, ChannelStands, IsLastOpen, channel_run, written_run, files_by}
+use Rattle.mid_logger.specs.Channels.{FileHead, GivesEachOnce, ChannelStands, IsLastOpen, channel_run, written_run, files_by}
 use Rattle.mid_logger.specs.Pulls.{PullOf, Pulls}
 use Rattle.mid_logger.specs.ChannelTurns.{ChannelAt, OpensBy, asking_run, drained_run}
 use Rattle.mid_logger.specs.ChannelEnds.{CancelsStanding, RemovesRun, ClosesFile, HasLeftRead}
@@ -117,12 +117,12 @@ ClosesBeside = (spec : ChannelSpec) → (client : Option ℕ) → (stage : Chann
     ChannelStands other other_client other_stage other_head own got old →
     ChannelStands other other_client other_stage other_head own got new
 
--- So does the opening of a run, or its refusal, where no client of the logger is known to be detached by another; and the two
--- channels are apart then.
+-- So does the opening of a run, or its refusal, where the port gives no client that the logger has; and the two channels are apart
+-- then.
 abbrev pub OpensBeside : Type 0
 OpensBeside = (spec : ChannelSpec) → (order : Order) → (dump : List ℕ) → (answer : Result ⊤ Why) → (a b : ChannelAt) → (head : FileHead) →
     (other : ChannelSpec) → (other_client : Option ℕ) → (other_stage : ChannelStage) → (other_head : FileHead) →
-    OpensBy answer spec order dump a b → b.port.taken_back ≡ [] → a.stage ≡ Idle →
+    OpensBy answer spec order dump a b → GivesEachOnce b.port.own → a.stage ≡ Idle →
     ChannelStands spec a.client a.stage head a.port.own a.port.got a.files →
     ChannelsApart a.files spec a.client a.stage other other_client other_stage →
     ChannelStands other other_client other_stage other_head a.port.own a.port.got a.files →

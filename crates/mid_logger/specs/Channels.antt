@@ -1,13 +1,13 @@
 -- A channel of the logger: its calls on the buffer that it reads, what it got there, and its files.
-use Rattle.std.specs.Prelude.{◌≡◌, ◌≤◌, ◌+◌, ℕ, nat_le, Bool, false, true, IsTrue, IsSome, All, Result, Ok, Err, List, [], Option, Some, None, ⊤}
+use Rattle.std.specs.Prelude.{◌≡◌, ◌≤◌, ◌+◌, ℕ, nat_le, Bool, false, true, IsTrue, IsSome, All, Result, Ok, Err, List, [], ◌∷◌, ◌++◌, Option, Some, None, ⊤}
 use Rattle.daq_types.specs.declared.events.Event.{Event}
 use Rattle.event.specs.RunFile.{IsFileEvent}
 use Rattle.daq_io.specs.Seen.{Seen}
 use Rattle.buffer_core.specs.declared.entry.BufferEntry.{BufferEntry}
-use Rattle.buffer_core.specs.declared.entry.BufferEntry.TheVariants.{Cancel}
+use Rattle.buffer_core.specs.declared.entry.BufferEntry.TheVariants.{Attach, Cancel}
 use Rattle.buffer_core.specs.declared.replies.RequestRefusal.{RequestRefusal}
 use Rattle.buffer_core.specs.declared.replies.MarkRefusal.{MarkRefusal}
-use Rattle.buffer_core.specs.Ports.{Access, GotEvent, Calls}
+use Rattle.buffer_core.specs.Ports.{Access, GotEvent, Calls, IsGivenAt}
 use Rattle.member_model.specs.SentCalls.{EachCall}
 use Rattle.member_model.specs.OwnCalls.{calls_after, gave_number, AreOwnCalls, SendsNone, asks, is_place_within}
 use Rattle.member_model.specs.ReadRuns.{IsAskingFor, IsReading, IsDraining, HasReadRun}
@@ -34,6 +34,12 @@ pub record FileHead : Type 0 where
 pub record KeepsOwnCalls (own : List BufferEntry) : Type 0 where
   pub sends_none : EachCall SendsNone own
   pub own_calls : AreOwnCalls (calls_after [] own)
+
+-- No attach among these calls gave a client that the caller has: one that an earlier attach among them gave, and that no call of its
+-- own detached since. So it is where no other caller detaches a client of this one.
+abbrev pub GivesEachOnce : (own : List BufferEntry) → Type 0
+GivesEachOnce own = (before after : List BufferEntry) → (name : List ℕ) → (client call : ℕ) →
+    own ≡ before ++ Attach name (Ok client) ∷ after → IsGivenAt before call client → ⊥
 
 -- the client, if there is one, is the caller's own
 abbrev pub IsOwnClient : Option ℕ → List BufferEntry → Type 0

@@ -21,7 +21,7 @@ use Rattle.mid_logger.specs.declared.stage.ChannelRun.{ChannelRun}
 use Rattle.mid_logger.specs.declared.stage.ChannelStage.{ChannelStage}
 use Rattle.mid_logger.specs.declared.stage.ChannelStage.TheVariants.{Idle, Asking, Writing}
 use Rattle.mid_logger.specs.Patterns.{file_name_by}
-use Rattle.mid_logger.specs.Channels.{FileHead, ChannelStands, IsLastOpen, KnowsTaken, channel_run, written_run, files_by, stage_ended, place_marked, EndsOnce}
+use Rattle.mid_logger.specs.Channels.{FileHead, GivesEachOnce, ChannelStands, IsLastOpen, KnowsTaken, channel_run, written_run, files_by, stage_ended, place_marked, EndsOnce}
 use Rattle.mid_logger.specs.Pulls.{PullOf, Pulls}
 use Rattle.mid_logger.specs.ChannelTurns.{ChannelAt, OpensBy, asking_run, drained_run}
 use Rattle.mid_logger.specs.ChannelEnds.{CancelsStanding, RemovesRun, ClosesFile, HasLeft, left_run, end_of, stage_settled}
@@ -129,7 +129,7 @@ order_head order dump = record { run = order.run; time = order.time; dump = dump
 abbrev pub OpensKeep : Type 0
 OpensKeep = (spec : ChannelSpec) → (order : Order) → (dump : List ℕ) → (r : Result ⊤ Why) → (a b : ChannelAt) →
     (head : FileHead) →
-    OpensBy r spec order dump a b → a.stage ≡ Idle → length dump ≤ record_limit → b.port.taken_back ≡ [] →
+    OpensBy r spec order dump a b → a.stage ≡ Idle → length dump ≤ record_limit → GivesEachOnce b.port.own →
     ChannelStands spec a.client a.stage head a.port.own a.port.got a.files →
     OnOk r (ChannelStands spec b.client b.stage (order_head order dump) b.port.own b.port.got b.files)
     × OnErr r (ChannelStands spec b.client b.stage head b.port.own b.port.got b.files)
@@ -138,7 +138,7 @@ OpensKeep = (spec : ChannelSpec) → (order : Order) → (dump : List ℕ) → (
 abbrev pub OpensAlone : Type 0
 OpensAlone = (spec : ChannelSpec) → (order : Order) → (dump : List ℕ) → (r : Result ⊤ Why) → (a b : ChannelAt) →
     (head : FileHead) →
-    OpensBy r spec order dump a b → a.stage ≡ Idle → b.port.taken_back ≡ [] →
+    OpensBy r spec order dump a b → a.stage ≡ Idle → GivesEachOnce b.port.own →
     ChannelStands spec a.client a.stage head a.port.own a.port.got a.files →
     AreLoneRequests (calls_after [] a.port.own) → AreLoneRequests (calls_after [] b.port.own)
 

@@ -1,13 +1,13 @@
 //! How a channel opens the file of a run and asks for its events, and how it calls a run off.
 
-ghost use Rattle.std.specs.Prelude.{◌≡◌, ◌≢◌, ◌≤◌, ◌<◌, ◌^◌, ◌⊎◌, ◌↔◌, [], IsTrue, IsSome, IsErrOf, OnOk, OnErr, IfErr, IfSome, Some, None, codes, length};
+ghost use Rattle.std.specs.Prelude.{◌≡◌, ◌≢◌, ◌≤◌, ◌<◌, ◌^◌, ◌⊎◌, ◌↔◌, IsTrue, IsSome, IsErrOf, OnOk, OnErr, IfErr, IfSome, Some, None, codes, length};
 ghost use Rattle.std.specs.Option.{option_map};
 ghost use Rattle.daq_types.specs.declared.runs.Why.TheVariants.{Exists};
 ghost use Rattle.event.specs.Events.{record_limit};
 ghost use Rattle.daq_io.specs.Counts.{Rose};
 ghost use Rattle.mid_logger.specs.declared.stage.ChannelStage.TheVariants.{Idle};
 ghost use Rattle.mid_logger.specs.Patterns.{file_name_by};
-ghost use Rattle.mid_logger.specs.Channels.{FileHead, ChannelStands, IsLastOpen, written_run, files_by};
+ghost use Rattle.mid_logger.specs.Channels.{FileHead, GivesEachOnce, ChannelStands, IsLastOpen, written_run, files_by};
 ghost use Rattle.mid_logger.specs.Pulls.{NamesMore};
 ghost use Rattle.mid_logger.specs.RecordFiles.{DropsFile, IsUndone};
 ghost use Rattle.mid_logger.specs.ChannelTurns.{AsksEvents, StartsAsking, HasClient, OpensBy, OpenFaults, OpenClashes, OpenFirst, NotesFault, IsRefusalOf, failed_at};
@@ -222,7 +222,7 @@ impl Channel {
             (F.told files.old).first (F.told files.new).first }
         ensures file { IsLastOpen (F.told files.new).seen self.new.spec (written_run self.new.stage) }
         ensures few { files_by self.new.stage ≤ 10000 }
-        ensures asking { OnOk result ((before : FileHead) → (P.access port.new).taken_back ≡ [] →
+        ensures asking { OnOk result ((before : FileHead) → GivesEachOnce (P.access port.new).own →
             ChannelStands self.old.spec self.old.client self.old.stage before
             (P.access port.old).own (P.access port.old).got (F.told files.old).seen →
             ChannelStands self.new.spec self.new.client self.new.stage (record {
@@ -230,7 +230,7 @@ impl Channel {
               time = order.now.time;
               dump = dump.now;
             }) (P.access port.new).own (P.access port.new).got (F.told files.new).seen) }
-        ensures idle { OnErr result ((head : FileHead) → (P.access port.new).taken_back ≡ [] →
+        ensures idle { OnErr result ((head : FileHead) → GivesEachOnce (P.access port.new).own →
             ChannelStands self.old.spec self.old.client self.old.stage head
             (P.access port.old).own (P.access port.old).got (F.told files.old).seen →
             ChannelStands self.new.spec self.new.client self.new.stage head

@@ -1,6 +1,7 @@
 use Rattle.loggers.proofs.TurnedLogger.{ChannelLaws, turn_stands}
 use Rattle.loggers.proofs.FairTurns.{turn_fair}
 use Rattle.loggers.proofs.MarksMade.{turn_marks}
+use Rattle.loggers.proofs.MarksInRuns.{turn_in_runs}
 use Rattle.loggers.proofs.laws.turns_keep.Goals as goal
 
 pub returns : goal.returns
@@ -24,4 +25,5 @@ returns c =
       holds = turn_stands laws t turns takes small ready later_ready idle later_idle answered none stands.holds;
       asks = turn_fair t turns takes stands.asks;
       marks = turn_marks t turns takes stands.holds.told stands.holds.current stands.marks;
+      in_runs = turn_in_runs t takes stands.in_runs;
     }

@@ -2,7 +2,7 @@ use Rattle.std.specs.Prelude.{◌≡◌, refl}
 use Rattle.std.proofs.Common.{subst}
 use Rattle.loggers.specs.OtherFiles.{specs_in}
 use Rattle.daq_members.specs.LoggerSeats.{LoggerSeen, IsSameLogger, logger_by}
-use Rattle.daq_members.proofs.LoggerSeatLaws.{known_before, caller_kept}
+use Rattle.daq_members.proofs.LoggerSeatLaws.{once_before, caller_kept}
 use Rattle.daq_members.proofs.OtherFilesKept.{LoggerLeaves, specs_stay, others_kept}
 use Rattle.daq_members.proofs.LoggerReasons.{ReasonLaws, reasons_kept}
 use Rattle.daq_members.proofs.LoggerNames.{NameLaws, names_stay}
@@ -46,15 +46,15 @@ invariant_of-self g c =
         idle = now.idle;
         begun = now.begun;
         small = now.small;
-        stands = λ none. rw did.client (did.keeps none (before.stands (known_before c.still_known.ensures.turns c.still_known.ensures.pulls _ did.takes none)));
-        others = λ none.
-            let known = known_before c.still_known.ensures.turns c.still_known.ensures.pulls _ did.takes none in
-            rw did.client (others_kept laws _ _ did.takes before.ready (before.stands known) (before.others known));
+        stands = λ once. rw did.client (did.keeps once (before.stands (once_before c.given_once.ensures.turns c.given_once.ensures.pulls _ did.takes once)));
+        others = λ once.
+            let earlier = once_before c.given_once.ensures.turns c.given_once.ensures.pulls _ did.takes once in
+            rw did.client (others_kept laws _ _ did.takes before.ready (before.stands earlier) (before.others earlier));
       };
       reasons = rw did.client (reasons_kept reasons _ _ did.takes c.self.invariant.reasons);
-      names = λ none.
-          let known = known_before c.still_known.ensures.turns c.still_known.ensures.pulls _ did.takes none in
-          rw did.client (names_stay names _ _ did.takes before.ready before.idle (before.stands known) c.self.invariant.reasons (c.self.invariant.names known));
+      names = λ once.
+          let earlier = once_before c.given_once.ensures.turns c.given_once.ensures.pulls _ did.takes once in
+          rw did.client (names_stay names _ _ did.takes before.ready before.idle (before.stands earlier) c.self.invariant.reasons (c.self.invariant.names earlier));
     }
 
 pub returns-clause-keeps : goal.returns-clause-keeps

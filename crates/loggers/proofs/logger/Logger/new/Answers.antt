@@ -5,6 +5,7 @@ use Rattle.loggers.specs.Turning.{no_dumps}
 use Rattle.loggers.proofs.NewStands.{new_stands, new_room, new_own, new_failed}
 use Rattle.loggers.proofs.FairTurns.{new_fair}
 use Rattle.loggers.proofs.MarksMade.{new_marks}
+use Rattle.loggers.proofs.MarksInRuns.{new_in_runs}
 use Rattle.loggers.proofs.ReasonsKept.{idle_reasons, new_idle}
 use Rattle.loggers.proofs.logger.Logger.new.Goals as goal
 
@@ -14,6 +15,7 @@ returns-clause-stands c = λ ports seen served unused.
       holds = new_stands c.args.specs c.args.rooms.now c.in_ok-channels.channels ports seen c.in_ok-channels.ensures served unused;
       asks = new_fair c.in_ok-channels.channels ports unused;
       marks = λ are. new_marks ports unused;
+      in_runs = new_in_runs ports unused;
     } in
     subst (λ (dumps : RunDumps). LoggerStands None dumps c.in_ok-channels.channels ports [] seen) (sym c.without_dumps.ensures) stands
 

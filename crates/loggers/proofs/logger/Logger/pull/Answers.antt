@@ -5,6 +5,7 @@ use Rattle.loggers.proofs.SameShape.{pull_ports, pull_room, pull_idle}
 use Rattle.loggers.proofs.TurnsOwn.{pull_own}
 use Rattle.loggers.proofs.FairTurns.{pull_fair}
 use Rattle.loggers.proofs.MarksMade.{pull_marks}
+use Rattle.loggers.proofs.MarksInRuns.{pull_in_runs}
 use Rattle.loggers.proofs.FaultsNoted.{pull_faults}
 use Rattle.loggers.proofs.logger.Logger.pull.Goals as goal
 
@@ -32,6 +33,7 @@ returns-clause-keeps g c =
       holds = pulled_stands laws c.args.self.now.run c.args.self.now.dumps turns c.bytes_of-dump.result.now c.pull_at.result c.args.channel _ _ _ c.bytes_of-dump.ensures refl c.requires.ready c.pull_at.ensures.pulls stands.holds;
       asks = pull_fair c.args.self.now.run _ c.args.channel c.pull_at.result _ _ turns c.pull_at.ensures.pulls stands.asks;
       marks = pull_marks _ c.args.channel c.pull_at.result _ _ turns c.pull_at.ensures.pulls stands.marks;
+      in_runs = pull_in_runs c.args.self.now.run _ c.args.channel c.pull_at.result _ _ c.pull_at.ensures.pulls stands.in_runs;
     }
 
 pub returns-clause-own : goal.returns-clause-own
