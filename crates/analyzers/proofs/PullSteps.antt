@@ -27,7 +27,7 @@ use Rattle.analyzers.specs.AnalyzerTurns.{analyzer_turn, report_in, report_answe
 use Rattle.analyzers.specs.AnalyzerPulls.{ReceivesFor, EndsReading, CountsOnce, CountsIn, PullsBy, drains_by, ends_reading}
 use Rattle.member_model.specs.GotRuns.{events_of_start}
 use Rattle.analyzers.specs.CountedRuns.{CountRequest, IsCounted, IsWhollyCounted, requests_made, accepts_made}
-use Rattle.analyzers.specs.AnalyzerKept.{KeepsAnalyzerCalls, HasOwnClient, AsksForNone, starts_accepted, stops_reported, HasTurnBehind, HasStopBehind, IsReportOfRun, ReportsHold, IsStopOpen, StageCounts, CountsRun, CountsSoFar, count_request}
+use Rattle.analyzers.specs.AnalyzerKept.{KeepsAnalyzerCalls, HasOwnClient, AsksForNone, starts_accepted, stops_reported, HasTurnBehind, IsReportOfRun, ReportsHold, IsStopOpen, StageCounts, CountsRun, CountsSoFar, count_request}
 use Rattle.analyzers.proofs.OwnCallSteps.{analyzer_push, requests_stay, accepts_stay, client_stays, given_by_reply, got_after_is, given_named}
 use Rattle.analyzers.proofs.CountSteps.{CountsGiven, given_counted, count_push, cancelled_asks_none, wholly_counted}
 use Rattle.analyzers.proofs.ReportSteps.{reports_calls, report_turns}
@@ -52,7 +52,7 @@ record ReceivedFor (wanted : EventRequest) (client : Option ℕ) (r counted : An
   pub is_start : HasTurnOf turns Start r.start begin_turn
   pub accepted : begin_turn.answer ≡ Some (Yes Plain)
   pub earlier : ℕ
-  pub of_start : HasTurnBehind turns begin_turn earlier
+  pub of_start : HasTurnBehind starts_accepted turns begin_turn earlier
   pub run_is : CountsGiven r counted events
   pub counts : IsCounted own got (count_request wanted r.client r.request r.start earlier asked_before) calls events
 
@@ -211,8 +211,8 @@ across before t earlier start u other of =
     let old : HasTurnOf earlier Start start u = HasTurnOf-earlier of other in
     record { stands = inr old.stands; is = old.is; of = old.of }
 
-across_behind : (before t : MemberTurn) (earlier : List MemberTurn) (u : MemberTurn) (starts : ℕ) → before.transition ≢ Start → u.transition ≡ Start → HasTurnBehind (before ∷ earlier) u starts → HasTurnBehind (t ∷ earlier) u starts
-across_behind before t earlier u starts other is has = elim has as (λ w. HasTurnBehind (t ∷ earlier) u starts) [
+across_behind : (before t : MemberTurn) (earlier : List MemberTurn) (u : MemberTurn) (starts : ℕ) → before.transition ≢ Start → u.transition ≡ Start → HasTurnBehind starts_accepted (before ∷ earlier) u starts → HasTurnBehind starts_accepted (t ∷ earlier) u starts
+across_behind before t earlier u starts other is has = elim has as (λ w. HasTurnBehind starts_accepted (t ∷ earlier) u starts) [
   | inl here ↦ absurd (other (ap (λ (v : MemberTurn). v.transition) here.0 ∙ is))
   | inr old ↦ inr old
 ]
@@ -228,8 +228,8 @@ across_stop before t earlier start u told waits is of = record {
   of = of.of;
 }
 
-across_stop_behind : (before t : MemberTurn) (earlier : List MemberTurn) (u : MemberTurn) (stops : ℕ) (told : Answer) → before.answer ≡ None → u.answer ≡ Some told → HasStopBehind (before ∷ earlier) u stops → HasStopBehind (t ∷ earlier) u stops
-across_stop_behind before t earlier u stops told waits is has = elim has as (λ w. HasStopBehind (t ∷ earlier) u stops) [
+across_stop_behind : (before t : MemberTurn) (earlier : List MemberTurn) (u : MemberTurn) (stops : ℕ) (told : Answer) → before.answer ≡ None → u.answer ≡ Some told → HasTurnBehind stops_reported (before ∷ earlier) u stops → HasTurnBehind stops_reported (t ∷ earlier) u stops
+across_stop_behind before t earlier u stops told waits is has = elim has as (λ w. HasTurnBehind stops_reported (t ∷ earlier) u stops) [
   | inl here ↦ absurd (let never : None ≡ Some told = sym waits ∙ (ap (λ (v : MemberTurn). v.answer) here.0 ∙ is) in cc (never))
   | inr old ↦ inr old
 ]
@@ -239,7 +239,7 @@ record BeganBehind (turns : List MemberTurn) (start starts : ℕ) : Type 0 where
   begin_turn : MemberTurn
   is_start : HasTurnOf turns Start start begin_turn
   accepted : begin_turn.answer ≡ Some (Yes Plain)
-  of_start : HasTurnBehind turns begin_turn starts
+  of_start : HasTurnBehind starts_accepted turns begin_turn starts
 
 reported : (dump : Option (List ℕ)) (wanted : EventRequest) (client : Option ℕ) (r : AnalyzerRun) (own : List BufferEntry) (got : List GotEvent) (order : Order) (earlier : List MemberTurn) (requests asked_before : ℕ) (events : List Event) → BeganBehind (analyzer_turn dump Stop order None ∷ earlier) r.start requests → order.start ≡ r.start
     → AsksForNone (Some r.client) own → (whole : IsWhollyCounted own got (count_request wanted r.client r.request r.start requests asked_before) events) → asked_before + accepts_made whole.reading ≡ stops_reported earlier → r.report ≡ report_of events → CountsSoFar wanted client (Some r) own got (analyzer_turn dump Stop order None ∷ earlier)

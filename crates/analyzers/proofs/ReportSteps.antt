@@ -15,7 +15,7 @@ use Rattle.analyzers.specs.declared.analyzer_run.AnalyzerRun.{AnalyzerRun}
 use Rattle.analyzers.specs.declared.analyzer_run.AnalyzerStage.{AnalyzerStage}
 use Rattle.analyzers.specs.declared.analyzer_run.AnalyzerStage.TheVariants.{Counting, Draining, Drained}
 use Rattle.analyzers.specs.CountedRuns.{CountRequest, accepts_made}
-use Rattle.analyzers.specs.AnalyzerKept.{accepted_by, reported_by, HasTurnBehind, HasStopBehind, IsReportOfRun, ReportsHold, IsStopOpen, StageCounts, RunCounts, CountsSoFar, count_request}
+use Rattle.analyzers.specs.AnalyzerKept.{accepted_by, reported_by, starts_accepted, stops_reported, HasTurnBehind, IsReportOfRun, ReportsHold, IsStopOpen, StageCounts, RunCounts, CountsSoFar, count_request}
 use Rattle.analyzers.proofs.CountSteps.{wholly_push}
 
 -- one report
@@ -42,9 +42,9 @@ report_calls wanted own got turns start report more gs is = record {
 }
 
 pub report_turns : (wanted : EventRequest) (own : List BufferEntry) (got : List GotEvent) (turns later : List MemberTurn) (start : ℕ) (report : Totals) → ((t : MemberTurn) → HasTurnOf turns Start start t → HasTurnOf later Start start t)
-    → ((t : MemberTurn) (starts : ℕ) → t.transition ≡ Start → HasTurnBehind turns t starts → HasTurnBehind later t starts)
+    → ((t : MemberTurn) (starts : ℕ) → t.transition ≡ Start → HasTurnBehind starts_accepted turns t starts → HasTurnBehind starts_accepted later t starts)
     → ((t : MemberTurn) → t.answer ≡ Some (Yes (Report report)) → HasTurnOf turns Stop start t → HasTurnOf later Stop start t)
-    → ((t : MemberTurn) (stops : ℕ) → t.answer ≡ Some (Yes (Report report)) → HasStopBehind turns t stops → HasStopBehind later t stops)
+    → ((t : MemberTurn) (stops : ℕ) → t.answer ≡ Some (Yes (Report report)) → HasTurnBehind stops_reported turns t stops → HasTurnBehind stops_reported later t stops)
     → IsReportOfRun wanted own got turns start report → IsReportOfRun wanted own got later start report
 report_turns wanted own got turns later start report more behind more_stop behind_stop is = record {
   begin_turn = is.begin_turn;

@@ -75,15 +75,10 @@ abbrev pub stops_reported : List MemberTurn → ℕ
 stops_reported [] = 0
 stops_reported (t ∷ turns) = reported_by t.transition t.answer + stops_reported turns
 
--- the turn stands among these, and so many starts were accepted before it
-abbrev pub HasTurnBehind : List MemberTurn → MemberTurn → (starts : ℕ) → Type 0
-HasTurnBehind [] t starts = ⊥
-HasTurnBehind (u ∷ turns) t starts = ((u ≡ t) × (starts_accepted turns ≡ starts)) ⊎ HasTurnBehind turns t starts
-
--- the turn stands among these, and so many stops that wait for their report, or were answered with it, stood before it
-abbrev pub HasStopBehind : List MemberTurn → MemberTurn → (stops : ℕ) → Type 0
-HasStopBehind [] t stops = ⊥
-HasStopBehind (u ∷ turns) t stops = ((u ≡ t) × (stops_reported turns ≡ stops)) ⊎ HasStopBehind turns t stops
+-- the turn stands among these, and of those before it so many are counted
+abbrev pub HasTurnBehind : (count : List MemberTurn → ℕ) → List MemberTurn → MemberTurn → (many : ℕ) → Type 0
+HasTurnBehind count [] t many = ⊥
+HasTurnBehind count (u ∷ turns) t many = ((u ≡ t) × (count turns ≡ many)) ⊎ HasTurnBehind count turns t many
 
 -- A report of a run: its start was accepted, a client counted it wholly by the request of this start, behind as many earlier ones
 -- as starts were accepted before this one; the number up to which it counted was asked for behind as many such questions as stops
@@ -96,14 +91,14 @@ pub record IsReportOfRun (wanted : EventRequest) (own : List BufferEntry) (got :
   pub client : ℕ
   pub number : ℕ
   pub earlier : ℕ
-  pub of_start : HasTurnBehind turns begin_turn earlier
+  pub of_start : HasTurnBehind starts_accepted turns begin_turn earlier
   pub asked_before : ℕ
   pub events : List Event
   pub counted : IsWhollyCounted own got (count_request wanted client number start earlier asked_before) events
   pub stop_turn : MemberTurn
   pub is_stop : HasTurnOf turns Stop start stop_turn
   pub answered : stop_turn.answer ≡ Some (Yes (Report report))
-  pub of_stop : HasStopBehind turns stop_turn (asked_before + accepts_made counted.reading)
+  pub of_stop : HasTurnBehind stops_reported turns stop_turn (asked_before + accepts_made counted.reading)
   pub report_is : report ≡ report_of events
 
 -- each turn that was answered with a report is a stop, and the report is that of its run
@@ -138,7 +133,7 @@ pub record CountsRun (wanted : EventRequest) (client : Option ℕ) (r : Analyzer
   pub is_start : HasTurnOf turns Start r.start begin_turn
   pub accepted : begin_turn.answer ≡ Some (Yes Plain)
   pub earlier : ℕ
-  pub of_start : HasTurnBehind turns begin_turn earlier
+  pub of_start : HasTurnBehind starts_accepted turns begin_turn earlier
   pub asked_before : ℕ
   pub events : List Event
   pub report_is : r.report ≡ report_of events

@@ -21,7 +21,7 @@ use Rattle.member_model.specs.SentCalls.{EachCall}
 use Rattle.member_model.specs.OwnCalls.{calls_after, AreOwnCalls, SendsNone, AreGivenBy, LeavesAsking, KeepsAsking}
 use Rattle.front_ends.specs.FrontKept.{KeepsFront, KeepsMoments}
 use Rattle.analyzers.specs.CountedRuns.{requests_by, requests_made}
-use Rattle.analyzers.specs.AnalyzerKept.{HasTurnBehind}
+use Rattle.analyzers.specs.AnalyzerKept.{starts_accepted, HasTurnBehind}
 use Rattle.history_laws.specs.OneCaller.{WasSentAt}
 use Rattle.composition.specs.SentSets.{AreTurnSets}
 use Rattle.composition.specs.Sessions.{SessionFront, SessionAnalyzer, IsMemberCaller, turns_of, buffer_calls, database_calls, IsRegistered}
@@ -146,10 +146,10 @@ not_first client number accepted id mask (x ∷ y ∷ before) reading more later
     omega (arith, one, never)
 
 -- its one start has none before it
-none_before : (turns : List MemberTurn) (stop start t : MemberTurn) (starts : ℕ) → turns ≡ stop ∷ start ∷ [] → stop.transition ≡ Stop → t.transition ≡ Start → HasTurnBehind turns t starts → starts ≡ 0
-none_before turns stop start t starts are stops is has = by_place (subst (λ (ts : List MemberTurn). HasTurnBehind ts t starts) are has)
+none_before : (turns : List MemberTurn) (stop start t : MemberTurn) (starts : ℕ) → turns ≡ stop ∷ start ∷ [] → stop.transition ≡ Stop → t.transition ≡ Start → HasTurnBehind starts_accepted turns t starts → starts ≡ 0
+none_before turns stop start t starts are stops is has = by_place (subst (λ (ts : List MemberTurn). HasTurnBehind starts_accepted ts t starts) are has)
   where
-    by_place : HasTurnBehind (stop ∷ start ∷ []) t starts → starts ≡ 0
+    by_place : HasTurnBehind starts_accepted (stop ∷ start ∷ []) t starts → starts ≡ 0
     by_place (inl here) = absurd (let e : Stop ≡ Start = sym stops ∙ (ap (λ (v : MemberTurn). v.transition) here.0 ∙ is) in cc (e))
     by_place (inr (inl here)) = sym here.1
     by_place (inr (inr none)) = absurd none
