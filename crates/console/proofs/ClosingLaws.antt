@@ -21,7 +21,7 @@ use Rattle.console.specs.declared.replies.Reply.{Reply}
 use Rattle.console.specs.Console.{console_text, text_of}
 use Rattle.console.proofs.ConsoleLaws.{console_text-more}
 use Rattle.console.specs.Endings.{SinkByEnding}
-use Rattle.console.specs.Playing.{Played, Prints, Wrote, WroteUpTo, WroteBut}
+use Rattle.console.specs.Playing.{Played, Prints, Wrote, WroteAll, WroteUpTo, WroteBut}
 use Rattle.console.specs.Closing.{ClosesBy, Finished, MayFail, SinkBehind, WroteBehind, WroteMore, ended_by, prints, reply_list, script_text}
 use Rattle.console.proofs.PlayingLaws.{keeps_same, wrote_whole}
 
@@ -53,8 +53,8 @@ up_to first now replies w =
     subst (AppendsPart first now) (sym (ap (console_text 1) w.replies_are ∙ console_text-more 1 w.before w.last))
     (part_behind first w.told now (console_text 1 w.before) (text_of (1 + length w.before) w.last) w.whole w.part)
 
-all_but : (first now : Option (List ℕ)) (replies : List Reply) → WroteBut first now replies → AppendsPart first now (console_text 1 replies)
-all_but first now replies w =
+all_but : {St : Type 0} (withdraws : ℕ → St → St → Type 0) (first now : Option (List ℕ)) (replies : List Reply) (s t : St) → WroteBut withdraws first now replies s t → AppendsPart first now (console_text 1 replies)
+all_but withdraws first now replies s t w =
     subst (AppendsPart first now) (sym (ap (console_text 1) w.replies_are ∙ console_text-more 1 w.before w.last))
     (part_longer first now (console_text 1 w.before) (text_of (1 + length w.before) w.last) (wrote_whole first now (console_text 1 w.before) w.whole))
 
@@ -64,16 +64,16 @@ more_part None first told now text behind before here =
 more_part (Some SinkFault) first told now text behind before here = part_behind first told now text (console_text 0 behind) before here.0
 more_part (Some NoMemory) first told now text behind before here = part_longer first now text (console_text 0 behind) (wrote_whole first now text (Appends-kept first told now text before here))
 
-pub text_part : (ending : Ending) (closing : Option Halt) (first told now : Option (List ℕ)) (replies behind : List Reply) → Wrote ending first told replies → WroteBehind ending closing told now behind
+pub text_part : {St : Type 0} (withdraws : ℕ → St → St → Type 0) (ending : Ending) (closing : Option Halt) (first told now : Option (List ℕ)) (replies behind : List Reply) (s t : St) → Wrote withdraws ending first told replies s t → WroteBehind ending closing told now behind
     → AppendsPart first now (script_text replies behind)
-text_part End closing first told now replies behind lines more = more_part closing first told now (console_text 1 replies) behind lines more
-text_part TooLong closing first told now replies behind lines more = more_part closing first told now (console_text 1 replies) behind lines more
-text_part SourceFault closing first told now replies behind lines more = more_part closing first told now (console_text 1 replies) behind lines more
-text_part (Halted SinkFault) closing first told now replies behind lines more =
-    part_longer first now (console_text 1 replies) (console_text 0 behind) (part_kept first told now (console_text 1 replies) (up_to first told replies lines) more)
-text_part (Halted NoMemory) closing first told now replies behind lines more =
+text_part withdraws End closing first told now replies behind s t lines more = more_part closing first told now (console_text 1 replies) behind lines.whole more
+text_part withdraws TooLong closing first told now replies behind s t lines more = more_part closing first told now (console_text 1 replies) behind lines.whole more
+text_part withdraws SourceFault closing first told now replies behind s t lines more = more_part closing first told now (console_text 1 replies) behind lines.whole more
+text_part withdraws (Halted SinkFault) closing first told now replies behind s t lines more =
+    part_longer first now (console_text 1 replies) (console_text 0 behind) (part_kept first told now (console_text 1 replies) (up_to first told replies lines.0) more)
+text_part withdraws (Halted NoMemory) closing first told now replies behind s t lines more =
     part_longer first now (console_text 1 replies) (console_text 0 behind) (part_kept first told now (console_text 1 replies)
-    (⊎_elim (λ (all : Appends first told (console_text 1 replies)). wrote_whole first told (console_text 1 replies) all) (λ (but : WroteBut first told replies). all_but first told replies but) lines) more)
+    (⊎_elim (λ (all : WroteAll first told replies s t). wrote_whole first told (console_text 1 replies) all.whole) (λ (but : WroteBut withdraws first told replies s t). all_but withdraws first told replies s t but) lines) more)
 
 -- where the sink did not fail and memory was not wanting it is all
 more_whole : (ending : Ending) (closing : Option Halt) (first told now : Option (List ℕ)) (replies behind : List Reply) (s t u : ℕ) → ended_by ending closing ≢ Halted NoMemory → ¬ Rose s u
@@ -96,16 +96,16 @@ memory_first (Some halt) = refl
 wants : (ending : Ending) (closing : Option Halt) (halt : Halt) → ((h : Halt) → h ≡ NoMemory → ended_by ending (Some h) ≡ Halted NoMemory) → closing ≡ Some halt → halt ≡ NoMemory → ended_by ending closing ≡ Halted NoMemory
 wants ending closing halt by is memory = ap (ended_by ending) is ∙ by halt memory
 
-pub text_whole : (ending : Ending) (closing : Option Halt) (first told now : Option (List ℕ)) (replies behind : List Reply) (s t u : ℕ) → MayFail ending closing → ended_by ending closing ≢ Halted NoMemory
-    → ¬ Rose s u → SinkByEnding ending s t → SinkBehind closing t u → Wrote ending first told replies → WroteBehind ending closing told now behind → Appends first now (script_text replies behind)
-text_whole End closing first told now replies behind s t u may memory calm lines_sink sink lines more =
-    more_whole End closing first told now replies behind s t u memory calm lines_sink sink (λ halt. wants End closing halt (λ h is. ap Halted is)) lines more
-text_whole TooLong closing first told now replies behind s t u may memory calm lines_sink sink lines more =
-    more_whole TooLong closing first told now replies behind s t u memory calm lines_sink sink (λ halt. wants TooLong closing halt (λ h is. ap Halted is)) lines more
-text_whole SourceFault closing first told now replies behind s t u may memory calm lines_sink sink lines more =
-    more_whole SourceFault closing first told now replies behind s t u memory calm lines_sink sink (λ halt. wants SourceFault closing halt (λ h is. rw is refl)) lines more
-text_whole (Halted NoMemory) closing first told now replies behind s t u may memory calm lines_sink sink lines more = absurd (memory (memory_first closing))
-text_whole (Halted SinkFault) closing first told now replies behind s t u may memory calm lines_sink sink lines more = absurd (calm (sink_behind closing s t u may lines_sink sink))
+pub text_whole : {St : Type 0} (withdraws : ℕ → St → St → Type 0) (ending : Ending) (closing : Option Halt) (first told now : Option (List ℕ)) (replies behind : List Reply) (s t u : ℕ) (a b : St) → MayFail ending closing → ended_by ending closing ≢ Halted NoMemory
+    → ¬ Rose s u → SinkByEnding ending s t → SinkBehind closing t u → Wrote withdraws ending first told replies a b → WroteBehind ending closing told now behind → Appends first now (script_text replies behind)
+text_whole withdraws End closing first told now replies behind s t u a b may memory calm lines_sink sink lines more =
+    more_whole End closing first told now replies behind s t u memory calm lines_sink sink (λ halt. wants End closing halt (λ h is. ap Halted is)) lines.whole more
+text_whole withdraws TooLong closing first told now replies behind s t u a b may memory calm lines_sink sink lines more =
+    more_whole TooLong closing first told now replies behind s t u memory calm lines_sink sink (λ halt. wants TooLong closing halt (λ h is. ap Halted is)) lines.whole more
+text_whole withdraws SourceFault closing first told now replies behind s t u a b may memory calm lines_sink sink lines more =
+    more_whole SourceFault closing first told now replies behind s t u memory calm lines_sink sink (λ halt. wants SourceFault closing halt (λ h is. rw is refl)) lines.whole more
+text_whole withdraws (Halted NoMemory) closing first told now replies behind s t u a b may memory calm lines_sink sink lines more = absurd (memory (memory_first closing))
+text_whole withdraws (Halted SinkFault) closing first told now replies behind s t u a b may memory calm lines_sink sink lines more = absurd (calm (sink_behind closing s t u may lines_sink sink))
 
 -- The ways to close.
 
@@ -153,16 +153,19 @@ may_print ending NoMemory printing = tt
 may_print ending SinkFault printing = printing
 
 module _ {St : Type 0} (does : (number : ℕ) → Read Command → St → Reply → St → Type 0) (breaks : (number : ℕ) → Read Command → St → St → Type 0)
-    (closes : St → Option Reply → St → Type 0) (gives_up : St → St → Type 0) where
+    (withdraws : ℕ → St → St → Type 0) (closes : St → Option Reply → St → Type 0) (gives_up : St → St → Type 0) where
   -- the lines were played, and behind them this was done and written
   pub finished : (first : St) (ending : Ending) (closing : Option Halt) (source left : SourceTold) (told_first told_old told_new : Option (List ℕ)) (old new : St) (refusals : Refusals) (behind : List Reply)
-      → Played does breaks first ending source left told_first told_old old refusals → ClosesBy closes gives_up closing behind old new → WroteBehind ending closing told_old told_new behind
-      → Finished does breaks closes gives_up first ending closing source left told_first told_new new refusals
+      → Played does breaks withdraws first ending source left told_first told_old old refusals → ClosesBy closes gives_up closing behind old new → WroteBehind ending closing told_old told_new behind
+      → Finished does breaks withdraws closes gives_up first ending closing source left told_first told_new new refusals
   finished first ending closing source left told_first told_old told_new old new refusals behind played closed wrote = record {
     lines = played.lines;
     replies = played.replies;
     between = played.behind;
     plays = played.plays;
+    told_lines = told_old;
+    noted = played.noted;
+    wrote_lines = played.wrote;
     cut = old;
     is_cut = played.cut;
     behind = behind;
@@ -171,7 +174,5 @@ module _ {St : Type 0} (does : (number : ℕ) → Read Command → St → Reply 
     are_lines = played.are_lines;
     given = played.given;
     numbered = played.numbered;
-    told_lines = told_old;
-    wrote_lines = played.wrote;
     wrote_behind = wrote;
   }

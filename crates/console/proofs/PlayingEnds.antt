@@ -27,7 +27,7 @@ use Rattle.console.specs.declared.refusals.Refusals.{Refusals}
 use Rattle.console.specs.Console.{text_of, console_text}
 use Rattle.console.proofs.Refused.{counts_noted}
 use Rattle.console.specs.Reading.{ReadsNext, ReadsLineOrEnd}
-use Rattle.console.specs.Playing.{AreFirst, AreLines, AreOfGiven, CutBy, DoesLine, HasLine, IsBetween, IsNext, OpensAt, Played, PlaysFrom, Replied, Unanswered, Wrote}
+use Rattle.console.specs.Playing.{AreFirst, AreLines, AreOfGiven, CutBy, DoesLine, HasLine, IsBetween, IsNext, OpensAt, Played, PlaysFrom, Replied, Unanswered, Unprinted, Wrote}
 use Rattle.console.proofs.PlayingLaws.{answered_more, between_more, keeps_same, wrote_more}
 
 -- of a line as it is kept, whether the script ends with it
@@ -156,7 +156,7 @@ is_next last first now after old new lines line read on reads =
     let given : AreOfGiven (Halted NoMemory) first after (lines ++ line ∷ []) = halted_given NoMemory last first now after old new lines line read on reads in
     record { of_text = first_next last first now after old new lines line read on reads; came = given.came; gave = given.gave; of_came = given.are }
 
-module _ {St : Type 0} (does : ℕ → Read Command → St → Reply → St → Type 0) (breaks : ℕ → Read Command → St → St → Type 0) where
+module _ {St : Type 0} (does : ℕ → Read Command → St → Reply → St → Type 0) (breaks : ℕ → Read Command → St → St → Type 0) (withdraws : ℕ → St → St → Type 0) where
   -- nothing was cut off
   cut_none : (ending : Ending) (source left : SourceTold) (lines : List (List ℕ)) (s : St) → CutBy does breaks ending source left lines s s
   cut_none End source left lines s = refl
@@ -167,55 +167,57 @@ module _ {St : Type 0} (does : ℕ → Read Command → St → Reply → St → 
 
   -- the lines were answered, and nothing else was done
   between_played : (ending : Ending) (first : St) (source_first source_old left : SourceTold) (told_first told_now : Option (List ℕ)) (reading : Reading) (now : St) (refusals : Refusals) (number : ℕ)
-      → (between : IsBetween does first source_first source_old told_first told_now reading now refusals number) → ((text : List ℕ) → source_first.left ≡ Some text → AreLines ending text left.left between.lines) → AreOfGiven ending source_first left between.lines → Wrote ending told_first told_now between.replies
-      → Played does breaks first ending source_first left told_first told_now now refusals
+      → (between : IsBetween does first source_first source_old told_first told_now reading now refusals number) → ((text : List ℕ) → source_first.left ≡ Some text → AreLines ending text left.left between.lines) → AreOfGiven ending source_first left between.lines → Wrote withdraws ending told_first told_now between.replies now now
+      → Played does breaks withdraws first ending source_first left told_first told_now now refusals
   between_played ending first source_first source_old left told_first told_now reading now refusals number between are given wrote = record {
     lines = between.lines;
     replies = between.replies;
     behind = now;
     plays = between.plays;
+    noted = now;
+    wrote = wrote;
     cut = cut_none ending source_first left between.lines now;
     counts = between.counts;
     are_lines = are;
     given = given;
-    wrote = wrote;
     numbered = between.numbered;
   }
 
   -- where they ended without a line more, all that the others print was written
-  all_written : (ending : Ending) (last : Bool) (before after : SourceTold) (told_first told_now : Option (List ℕ)) (old new : Reading) (replies : List Reply) → ReadsLineOrEnd (Some ending) last old new before after
-      → Appends told_first told_now (console_text 1 replies) → Wrote ending told_first told_now replies
-  all_written End last before after told_first told_now old new replies reads wrote = wrote
-  all_written TooLong last before after told_first told_now old new replies reads wrote = wrote
-  all_written SourceFault last before after told_first told_now old new replies reads wrote = wrote
-  all_written (Halted halt) last before after told_first told_now old new replies reads wrote = absurd reads
+  all_written : (ending : Ending) (last : Bool) (before after : SourceTold) (told_first told_now : Option (List ℕ)) (old new : Reading) (replies : List Reply) (s : St) → ReadsLineOrEnd (Some ending) last old new before after
+      → Appends told_first told_now (console_text 1 replies) → Wrote withdraws ending told_first told_now replies s s
+  all_written End last before after told_first told_now old new replies s reads wrote = record { whole = wrote; stays = refl }
+  all_written TooLong last before after told_first told_now old new replies s reads wrote = record { whole = wrote; stays = refl }
+  all_written SourceFault last before after told_first told_now old new replies s reads wrote = record { whole = wrote; stays = refl }
+  all_written (Halted halt) last before after told_first told_now old new replies s reads wrote = absurd reads
 
   -- no line was read, and the lines ended so
   pub ended_played : (ending : Ending) (last : Bool) (first : St) (source_first source_old source_new : SourceTold) (told_first told_now : Option (List ℕ)) (old new : Reading) (now : St) (refusals : Refusals) (number : ℕ)
-      → IsBetween does first source_first source_old told_first told_now old now refusals number → ReadsLineOrEnd (Some ending) last old new source_old source_new → Played does breaks first ending source_first source_new told_first told_now now refusals
+      → IsBetween does first source_first source_old told_first told_now old now refusals number → ReadsLineOrEnd (Some ending) last old new source_old source_new → Played does breaks withdraws first ending source_first source_new told_first told_now now refusals
   ended_played ending last first source_first source_old source_new told_first told_now old new now refusals number between reads =
       between_played ending first source_first source_old source_new told_first told_now old now refusals number between
       (ended_lines ending last source_first source_old source_new old new between.lines between.read between.go_on reads)
       (ended_given ending last source_first source_old source_new old new between.lines between.read between.go_on reads)
-      (all_written ending last source_old source_new told_first told_now old new between.replies reads between.wrote)
+      (all_written ending last source_old source_new told_first told_now old new between.replies now reads between.wrote)
 
   -- one line more was answered, and it was the last that was played
-  behind_played : (ending : Ending) (first : St) (source_first source_old left : SourceTold) (told_first told_old told_new : Option (List ℕ)) (reading : Reading) (old new : St) (was now : Refusals) (number place : ℕ) (line : List ℕ) (reply : Reply)
-      → place ≡ number + 1 → (between : IsBetween does first source_first source_old told_first told_old reading old was number) → Replied does (kept line) place reply old new was now
-      → ((text : List ℕ) → source_first.left ≡ Some text → AreLines ending text left.left (between.lines ++ line ∷ [])) → AreOfGiven ending source_first left (between.lines ++ line ∷ []) → Wrote ending told_first told_new (between.replies ++ reply ∷ [])
-      → Played does breaks first ending source_first left told_first told_new new now
-  behind_played ending first source_first source_old left told_first told_old told_new reading old new was now number place line reply is between replied are given wrote =
+  behind_played : (ending : Ending) (first : St) (source_first source_old left : SourceTold) (told_first told_old told_new : Option (List ℕ)) (reading : Reading) (old mid new : St) (was now : Refusals) (number place : ℕ) (line : List ℕ) (reply : Reply)
+      → place ≡ number + 1 → (between : IsBetween does first source_first source_old told_first told_old reading old was number) → Replied does (kept line) place reply old mid was now
+      → ((text : List ℕ) → source_first.left ≡ Some text → AreLines ending text left.left (between.lines ++ line ∷ [])) → AreOfGiven ending source_first left (between.lines ++ line ∷ []) → Wrote withdraws ending told_first told_new (between.replies ++ reply ∷ []) mid new
+      → Played does breaks withdraws first ending source_first left told_first told_new new now
+  behind_played ending first source_first source_old left told_first told_old told_new reading old mid new was now number place line reply is between replied are given wrote =
       let behind : place ≡ 1 + length between.replies = omega (arith, is, between.is_number, between.numbered) in
       record {
         lines = between.lines ++ line ∷ [];
         replies = between.replies ++ reply ∷ [];
-        behind = new;
-        plays = answered_more does first source_first source_old told_first told_old reading old new was now number place line reply is between replied;
+        behind = mid;
+        plays = answered_more does first source_first source_old told_first told_old reading old mid was now number place line reply is between replied;
+        noted = new;
+        wrote = wrote;
         cut = cut_none ending source_first left (between.lines ++ line ∷ []) new;
         counts = rw (replied.is_noted, behind) (counts_noted between.replies reply was between.counts);
         are_lines = are;
         given = given;
-        wrote = wrote;
         numbered = omega (arith, between.numbered, length-append between.replies (reply ∷ []), length-append between.lines (line ∷ []));
       }
 
@@ -223,22 +225,30 @@ module _ {St : Type 0} (does : ℕ → Read Command → St → Reply → St → 
   pub stop_played : (last : Bool) (first : St) (source_first source_old source_new : SourceTold) (told_first told_old told_new : Option (List ℕ)) (reading_old reading_new : Reading) (old new : St) (was now : Refusals) (number place : ℕ) (line : List ℕ) (reply : Reply)
       → place ≡ number + 1 → IsBetween does first source_first source_old told_first told_old reading_old old was number → ReadsNext last reading_old reading_new source_old source_new line
       → Replied does (kept line) place reply old new was now → Appends told_old told_new (text_of place reply) → (is_exit (command_of (kept line)) ≡ true) ⊎ (last ≡ true)
-      → Played does breaks first End source_first source_new told_first told_new new now
+      → Played does breaks withdraws first End source_first source_new told_first told_new new now
   stop_played last first source_first source_old source_new told_first told_old told_new reading_old reading_new old new was now number place line reply is between reads replied here stop =
-      behind_played End first source_first source_old source_new told_first told_old told_new reading_old old new was now number place line reply is between replied
+      behind_played End first source_first source_old source_new told_first told_old told_new reading_old old new new was now number place line reply is between replied
       (stop_lines last source_first source_old source_new reading_old reading_new between.lines line between.read between.go_on reads stop)
       (stop_given last source_first source_old source_new reading_old reading_new between.lines line between.read between.go_on reads stop)
-      (wrote_more told_first told_old told_new between.replies reply place (omega (arith, is, between.is_number, between.numbered)) between.wrote here)
+      (record {
+        whole = wrote_more told_first told_old told_new between.replies reply place (omega (arith, is, between.is_number, between.numbered)) between.wrote here;
+        stays = refl;
+      })
 
   -- a line was not answered
   broken_played : (last : Bool) (first : St) (source_first source_old left : SourceTold) (told_first told_old told_new : Option (List ℕ)) (reading_old reading_new : Reading) (old new : St) (was now : Refusals) (number place : ℕ) (line : List ℕ)
       → place ≡ number + 1 → IsBetween does first source_first source_old told_first told_old reading_old old was number → ReadsNext last reading_old reading_new source_old left line
-      → Unanswered does breaks (kept line) place old new told_old told_new was now → Played does breaks first (Halted NoMemory) source_first left told_first told_new new now
+      → Unanswered does breaks (kept line) place old new told_old told_new was now → Played does breaks withdraws first (Halted NoMemory) source_first left told_first told_new new now
   broken_played last first source_first source_old left told_first told_old told_new reading_old reading_new old new was now number place line is between reads unanswered = record {
     lines = between.lines;
     replies = between.replies;
     behind = old;
     plays = between.plays;
+    noted = old;
+    wrote = inl (record {
+      whole = Appends-kept told_first told_old told_new (console_text 1 between.replies) between.wrote unanswered.kept;
+      stays = refl;
+    });
     cut = inr (record {
       line = line;
       next = is_next last source_first source_old left reading_old reading_new between.lines line between.read between.go_on reads;
@@ -248,35 +258,43 @@ module _ {St : Type 0} (does : ℕ → Read Command → St → Reply → St → 
     counts = rw unanswered.same between.counts;
     are_lines = λ text told. lines_first text source_first source_old reading_old between.lines told between.read between.go_on;
     given = cut_given NoMemory last source_first source_old left reading_old reading_new between.lines line between.read between.go_on reads;
-    wrote = inl (Appends-kept told_first told_old told_new (console_text 1 between.replies) between.wrote unanswered.kept);
     numbered = between.numbered;
   }
 
   -- the lines could not go on
   pub halted_played : (leaves : Read Command → Bool) (halt : Halt) (last : Bool) (first : St) (source_first source_old left : SourceTold) (told_first told_old told_new : Option (List ℕ)) (reading_old reading_new : Reading) (old new : St) (was now : Refusals) (number place : ℕ) (line : List ℕ)
       → place ≡ number + 1 → IsBetween does first source_first source_old told_first told_old reading_old old was number → ReadsNext last reading_old reading_new source_old left line
-      → DoesLine does breaks leaves (kept line) place last old new told_old told_new was now (Err halt) → Played does breaks first (Halted halt) source_first left told_first told_new new now
+      → DoesLine does breaks withdraws leaves (kept line) place last old new told_old told_new was now (Err halt) → Played does breaks withdraws first (Halted halt) source_first left told_first told_new new now
   halted_played leaves SinkFault last first source_first source_old left told_first told_old told_new reading_old reading_new old new was now number place line is between reads line_does =
-      behind_played (Halted SinkFault) first source_first source_old left told_first told_old told_new reading_old old new was now number place line line_does.0 is between line_does.1
+      behind_played (Halted SinkFault) first source_first source_old left told_first told_old told_new reading_old old new new was now number place line line_does.0 is between line_does.1
       (first_next last source_first source_old left reading_old reading_new between.lines line between.read between.go_on reads)
-      (halted_given SinkFault last source_first source_old left reading_old reading_new between.lines line between.read between.go_on reads)
-      (record {
-        before = between.replies;
-        last = line_does.0;
-        replies_are = refl;
-        told = told_old;
-        whole = between.wrote;
-        part = let behind : place ≡ 1 + length between.replies = omega (arith, is, between.is_number, between.numbered) in
-            subst (λ (n : ℕ). AppendsPart told_old told_new (text_of n line_does.0)) behind line_does.2;
-        short = let behind : place ≡ 1 + length between.replies = omega (arith, is, between.is_number, between.numbered) in
-            subst (λ (n : ℕ). LeavesOver told_old told_new (text_of n line_does.0)) behind line_does.3;
-      })
+      (halted_given SinkFault last source_first source_old left reading_old reading_new between.lines line between.read between.go_on reads) (
+        record {
+          before = between.replies;
+          last = line_does.0;
+          replies_are = refl;
+          told = told_old;
+          whole = between.wrote;
+          part = let behind : place ≡ 1 + length between.replies = omega (arith, is, between.is_number, between.numbered) in
+              subst (λ (n : ℕ). AppendsPart told_old told_new (text_of n line_does.0)) behind line_does.2;
+          short = let behind : place ≡ 1 + length between.replies = omega (arith, is, between.is_number, between.numbered) in
+              subst (λ (n : ℕ). LeavesOver told_old told_new (text_of n line_does.0)) behind line_does.3;
+        },
+        refl,
+      )
   halted_played leaves NoMemory last first source_first source_old left told_first told_old told_new reading_old reading_new old new was now number place line is between reads line_does = ⊎_elim
-      (λ answered. behind_played (Halted NoMemory) first source_first source_old left told_first told_old told_new reading_old old new was now number place line answered.0 is between answered.1
+      (λ (unprinted : Unprinted does breaks withdraws (kept line) place old new told_old told_new was now). behind_played (Halted NoMemory) first source_first source_old left told_first told_old told_new reading_old old unprinted.answered new was now number place line unprinted.reply is between unprinted.replied
       (first_next last source_first source_old left reading_old reading_new between.lines line between.read between.go_on reads)
       (halted_given NoMemory last source_first source_old left reading_old reading_new between.lines line between.read between.go_on reads)
-      (inr (record { before = between.replies; last = answered.0; replies_are = refl; whole = Appends-kept told_first told_old told_new (console_text 1 between.replies) between.wrote answered.2 })))
-      (λ unanswered. broken_played last first source_first source_old left told_first told_old told_new reading_old reading_new old new was now number place line is between reads unanswered)
+      (inr (record {
+        before = between.replies;
+        last = unprinted.reply;
+        replies_are = refl;
+        whole = Appends-kept told_first told_old told_new (console_text 1 between.replies) between.wrote unprinted.kept;
+        withdrew = let behind : place ≡ 1 + length between.replies = omega (arith, is, between.is_number, between.numbered) in
+            subst (λ (n : ℕ). withdraws n unprinted.answered new) behind unprinted.withdrew;
+      })))
+      (λ (unanswered : Unanswered does breaks (kept line) place old new told_old told_new was now). broken_played last first source_first source_old left told_first told_old told_new reading_old reading_new old new was now number place line is between reads unanswered)
       line_does
 
   -- The line that was read was handled: what it did as things stood it does as the lines before it left them.
@@ -313,20 +331,26 @@ module _ {St : Type 0} (does : ℕ → Read Command → St → Reply → St → 
 
   pub halted_at : (leaves : Read Command → Bool) (halt : Halt) (last : Bool) (first : St) (source_first left : SourceTold) (told_first told_old told_new : Option (List ℕ)) (reading : Reading) (old new : St) (was now : Refusals) (number : ℕ)
       → HasLine does breaks first source_first left told_first told_old reading last old was number
-      → DoesLine does breaks leaves reading.line (number + 1) last old new told_old told_new was now (Err halt) → Played does breaks first (Halted halt) source_first left told_first told_new new now
+      → DoesLine does breaks withdraws leaves reading.line (number + 1) last old new told_old told_new was now (Err halt) → Played does breaks withdraws first (Halted halt) source_first left told_first told_new new now
   halted_at leaves SinkFault last first source_first left told_first told_old told_new reading old new was now number has line_does =
       halted_played leaves SinkFault last first source_first has.source_old left told_first told_old told_new has.reading_old reading has.stood new was now number (number + 1) has.line refl has.between has.next
       (line_does.0, stood_replied first source_first left told_first told_old reading last old new was now number line_does.0 has line_does.1, line_does.2, line_does.3)
   halted_at leaves NoMemory last first source_first left told_first told_old told_new reading old new was now number has line_does =
       halted_played leaves NoMemory last first source_first has.source_old left told_first told_old told_new has.reading_old reading has.stood new was now number (number + 1) has.line refl has.between has.next
       (⊎_elim
-      (λ answered. inl (answered.0, stood_replied first source_first left told_first told_old reading last old new was now number answered.0 has answered.1, answered.2))
-      (λ unanswered. inr (stood_unanswered first source_first left told_first told_old told_new reading last old new was now number has unanswered))
+      (λ (unprinted : Unprinted does breaks withdraws reading.line (number + 1) old new told_old told_new was now). inl (record {
+        reply = unprinted.reply;
+        answered = unprinted.answered;
+        replied = stood_replied first source_first left told_first told_old reading last old unprinted.answered was now number unprinted.reply has unprinted.replied;
+        withdrew = unprinted.withdrew;
+        kept = unprinted.kept;
+      }))
+      (λ (unanswered : Unanswered does breaks reading.line (number + 1) old new told_old told_new was now). inr (stood_unanswered first source_first left told_first told_old told_new reading last old new was now number has unanswered))
       line_does)
 
   pub stopped_at : (leaves : Read Command → Bool) (last : Bool) (first : St) (source_first left : SourceTold) (told_first told_old told_new : Option (List ℕ)) (reading : Reading) (old new : St) (was now : Refusals) (number : ℕ)
       → HasLine does breaks first source_first left told_first told_old reading last old was number
-      → DoesLine does breaks leaves reading.line (number + 1) last old new told_old told_new was now (Ok going.End) → Played does breaks first End source_first left told_first told_new new now
+      → DoesLine does breaks withdraws leaves reading.line (number + 1) last old new told_old told_new was now (Ok going.End) → Played does breaks withdraws first End source_first left told_first told_new new now
   stopped_at leaves last first source_first left told_first told_old told_new reading old new was now number has line_does =
       stop_played last first source_first has.source_old left told_first told_old told_new has.reading_old reading has.stood new was now number (number + 1) has.line line_does.0 refl has.between has.next
       (stood_replied first source_first left told_first told_old reading last old new was now number line_does.0 has line_does.1) line_does.2
@@ -335,7 +359,7 @@ module _ {St : Type 0} (does : ℕ → Read Command → St → Reply → St → 
   -- it goes on behind it
   pub goes_on_at : (leaves : Read Command → Bool) (last : Bool) (first : St) (source_first left : SourceTold) (told_first told_old told_new : Option (List ℕ)) (reading : Reading) (old new : St) (was now : Refusals) (number : ℕ)
       → HasLine does breaks first source_first left told_first told_old reading last old was number
-      → DoesLine does breaks leaves reading.line (number + 1) last old new told_old told_new was now (Ok going.On) → IsBetween does first source_first left told_first told_new reading new now (number + 1)
+      → DoesLine does breaks withdraws leaves reading.line (number + 1) last old new told_old told_new was now (Ok going.On) → IsBetween does first source_first left told_first told_new reading new now (number + 1)
   goes_on_at leaves last first source_first left told_first told_old told_new reading old new was now number has line_does =
       between_more does first source_first has.source_old left told_first told_old told_new has.reading_old reading has.stood new was now number (number + 1) has.line line_does.0 refl has.between
       (subst (λ (b : Bool). ReadsNext b has.reading_old reading has.source_old left has.line) line_does.3.1 has.next)
@@ -345,7 +369,7 @@ module _ {St : Type 0} (does : ℕ → Read Command → St → Reply → St → 
   -- it is left to another
   pub left_at : (leaves : Read Command → Bool) (last : Bool) (first : St) (source_first left : SourceTold) (told_first told_old told_new : Option (List ℕ)) (reading : Reading) (old new : St) (was now : Refusals) (number : ℕ)
       → HasLine does breaks first source_first left told_first told_old reading last old was number
-      → DoesLine does breaks leaves reading.line (number + 1) last old new told_old told_new was now (Ok going.Opens) → OpensAt does breaks leaves first source_first left told_first told_new reading last new now number
+      → DoesLine does breaks withdraws leaves reading.line (number + 1) last old new told_old told_new was now (Ok going.Opens) → OpensAt does breaks leaves first source_first left told_first told_new reading last new now number
   left_at leaves last first source_first left told_first told_old told_new reading old new was now number has line_does =
       let here : OpensAt does breaks leaves first source_first left told_first told_old reading last old was number = record {
         has = has;
@@ -371,7 +395,7 @@ module _ {St : Type 0} (does : ℕ → Read Command → St → Reply → St → 
 
   pub goes_next : (leaves : Read Command → Bool) (last last_new : Bool) (first : St) (source_first source_old source_new : SourceTold) (told_first told_old told_new : Option (List ℕ)) (reading_old reading_mid reading_new : Reading) (old new : St) (was mid now : Refusals) (number_old number_mid number_new : ℕ)
       → HasLine does breaks first source_first source_old told_first told_old reading_old last old was number_old
-      → DoesLine does breaks leaves reading_old.line (number_old + 1) last old new told_old told_new was mid (Ok going.On) → reading_mid ≡ reading_old → number_mid ≡ number_old + 1
+      → DoesLine does breaks withdraws leaves reading_old.line (number_old + 1) last old new told_old told_new was mid (Ok going.On) → reading_mid ≡ reading_old → number_mid ≡ number_old + 1
       → ReadsLineOrEnd None last_new reading_mid reading_new source_old source_new → number_new ≡ number_mid → now ≡ mid
       → HasLine does breaks first source_first source_new told_first told_new reading_new last_new new now number_new
   goes_next leaves last last_new first source_first source_old source_new told_first told_old told_new reading_old reading_mid reading_new old new was mid now number_old number_mid number_new has line_does same_reading is_mid reads is_number is_refusals =
@@ -382,9 +406,9 @@ module _ {St : Type 0} (does : ℕ → Read Command → St → Reply → St → 
 
   pub ends_next : (leaves : Read Command → Bool) (ending : Ending) (last last_new : Bool) (first : St) (source_first source_old source_new : SourceTold) (told_first told_old told_new : Option (List ℕ)) (reading_old reading_mid reading_new : Reading) (old new : St) (was mid now : Refusals) (number_old : ℕ)
       → HasLine does breaks first source_first source_old told_first told_old reading_old last old was number_old
-      → DoesLine does breaks leaves reading_old.line (number_old + 1) last old new told_old told_new was mid (Ok going.On) → reading_mid ≡ reading_old
+      → DoesLine does breaks withdraws leaves reading_old.line (number_old + 1) last old new told_old told_new was mid (Ok going.On) → reading_mid ≡ reading_old
       → ReadsLineOrEnd (Some ending) last_new reading_mid reading_new source_old source_new → now ≡ mid
-      → Played does breaks first ending source_first source_new told_first told_new new now
+      → Played does breaks withdraws first ending source_first source_new told_first told_new new now
   ends_next leaves ending last last_new first source_first source_old source_new told_first told_old told_new reading_old reading_mid reading_new old new was mid now number_old has line_does same_reading reads is_refusals =
       let between : IsBetween does first source_first source_old told_first told_new reading_old new mid (number_old + 1) =
       goes_on_at leaves last first source_first source_old told_first told_old told_new reading_old old new was mid number_old has line_does in
@@ -393,7 +417,7 @@ module _ {St : Type 0} (does : ℕ → Read Command → St → Reply → St → 
 
   pub left_next : (leaves : Read Command → Bool) (last last_new : Bool) (first : St) (source_first left : SourceTold) (told_first told_old told_new : Option (List ℕ)) (reading reading_new : Reading) (old new : St) (was now : Refusals) (number number_new : ℕ)
       → HasLine does breaks first source_first left told_first told_old reading last old was number
-      → DoesLine does breaks leaves reading.line (number + 1) last old new told_old told_new was now (Ok going.Opens) → reading_new ≡ reading → last_new ≡ last → number_new ≡ number
+      → DoesLine does breaks withdraws leaves reading.line (number + 1) last old new told_old told_new was now (Ok going.Opens) → reading_new ≡ reading → last_new ≡ last → number_new ≡ number
       → OpensAt does breaks leaves first source_first left told_first told_new reading_new last_new new now number_new
   left_next leaves last last_new first source_first left told_first told_old told_new reading reading_new old new was now number number_new has line_does same_reading same_last same_number =
       rw (same_reading, same_last, same_number) (left_at leaves last first source_first left told_first told_old told_new reading old new was now number has line_does)
@@ -401,7 +425,7 @@ module _ {St : Type 0} (does : ℕ → Read Command → St → Reply → St → 
   -- the line that was read found no memory, and nothing was written of it
   pub broken_at : (first now new : St) (source left : SourceTold) (told_first told : Option (List ℕ)) (reading : Reading) (last : Bool) (refusals : Refusals) (number : ℕ)
       → (has : HasLine does breaks first source left told_first told reading last now refusals number) → breaks (number + 1) (command_of has.line) now new
-      → Played does breaks first (Halted NoMemory) source left told_first told new refusals
+      → Played does breaks withdraws first (Halted NoMemory) source left told_first told new refusals
   broken_at first now new source left told_first told reading last refusals number has broke =
       broken_played last first source has.source_old left told_first told told has.reading_old reading has.stood new refusals refusals number (number + 1) has.line refl has.between has.next
       (record {

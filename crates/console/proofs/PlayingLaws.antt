@@ -1,6 +1,6 @@
 -- A script played line by line.
-use Rattle.std.proofs.Common.{◌≡◌, ℕ, ◌+◌, Bool, true, false, List, [], ◌∷◌, ◌++◌, Option, Some, None, length, take, refl, ap, sym, subst, ◌∙◌, arith, length-append, inl, inr}
-use Rattle.std.specs.Prelude.{Result, Ok, Err, ◌⊎◌}
+use Rattle.std.proofs.Common.{◌≡◌, ℕ, ◌+◌, Bool, true, false, List, [], ◌∷◌, ◌++◌, Option, Some, None, length, take, refl, ap, sym, subst, ◌∙◌, arith, length-append}
+use Rattle.std.specs.Prelude.{Ok}
 use Rattle.std.proofs.lemmas.List.{take_all}
 use Rattle.std.specs.Io.KnownBytes.{Appends, Keeps}
 use Rattle.daq_io.specs.Streams.{AppendsPart}
@@ -15,14 +15,12 @@ use Rattle.odb_script.proofs.Exits.{GoOn-none, GoOn-more, ends_script-kept}
 use Rattle.odb_script.proofs.ReadLines.{has_read_none, has_read_line}
 use Rattle.console.specs.declared.going.Going.{Going}
 use Rattle.console.specs.declared.going.Going.TheVariants as going
-use Rattle.console.specs.declared.halts.Halt.{Halt}
-use Rattle.console.specs.declared.halts.Halt.TheVariants.{NoMemory, SinkFault}
 use Rattle.console.specs.declared.replies.Reply.{Reply}
 use Rattle.console.specs.declared.refusals.Refusals.{Refusals}
 use Rattle.console.specs.Console.{text_of, console_text}
 use Rattle.console.proofs.ConsoleLaws.{console_text-more}
 use Rattle.console.proofs.Refused.{counts_noted}
-use Rattle.console.specs.Playing.{DoesLine, GoesBehind, IsBetween, PlaysFrom, Prints, Replied, Unanswered, number_behind}
+use Rattle.console.specs.Playing.{DoesLine, GoesBehind, IsBetween, PlaysFrom, Replied, number_behind}
 
 -- one line more
 pub plays_more : {St : Type 0} (does : ℕ → Read Command → St → Reply → St → Type 0) (number place : ℕ) (lines : List (List ℕ)) (replies : List Reply) (line : List ℕ) (reply : Reply) (old between new : St) → place ≡ number + length lines
@@ -92,18 +90,12 @@ between_more does first source_first source_old source_new told_first told_old t
       numbered = omega (arith, between.numbered, length-append between.replies (reply ∷ []), length-append between.lines (line ∷ []));
     }
 
--- a line was answered, and its text was not printed whole
-pub halts_line : {St : Type 0} (does : ℕ → Read Command → St → Reply → St → Type 0) (breaks : ℕ → Read Command → St → St → Type 0) (leaves : Read Command → Bool) (line : List ℕ) (number : ℕ) (last : Bool) (old new : St) (told_old told_new : Option (List ℕ)) (was now : Refusals) (reply : Reply) (halt : Halt)
-    → Replied does line number reply old new was now → Prints told_old told_new (text_of number reply) (Err halt) → DoesLine does breaks leaves line number last old new told_old told_new was now (Err halt)
-halts_line does breaks leaves line number last old new told_old told_new was now reply SinkFault replied prints = (reply, replied, prints.0, prints.1)
-halts_line does breaks leaves line number last old new told_old told_new was now reply NoMemory replied prints = inl (reply, replied, prints)
-
 -- a line was answered, and its text was
-pub goes_line : {St : Type 0} (does : ℕ → Read Command → St → Reply → St → Type 0) (breaks : ℕ → Read Command → St → St → Type 0) (leaves : Read Command → Bool) (line : List ℕ) (number : ℕ) (last : Bool) (old new : St) (told_old told_new : Option (List ℕ)) (was now : Refusals) (reply : Reply) (going : Going)
-    → Replied does line number reply old new was now → Appends told_old told_new (text_of number reply) → GoesBehind going last (command_of line) → DoesLine does breaks leaves line number last old new told_old told_new was now (Ok going)
-goes_line does breaks leaves line number last old new told_old told_new was now reply going.On replied here on = (reply, replied, here, on)
-goes_line does breaks leaves line number last old new told_old told_new was now reply going.End replied here on = (reply, replied, here, on)
-goes_line does breaks leaves line number last old new told_old told_new was now reply going.Opens replied here on = absurd on
+pub goes_line : {St : Type 0} (does : ℕ → Read Command → St → Reply → St → Type 0) (breaks : ℕ → Read Command → St → St → Type 0) (withdraws : ℕ → St → St → Type 0) (leaves : Read Command → Bool) (line : List ℕ) (number : ℕ) (last : Bool) (old new : St) (told_old told_new : Option (List ℕ)) (was now : Refusals) (reply : Reply) (going : Going)
+    → Replied does line number reply old new was now → Appends told_old told_new (text_of number reply) → GoesBehind going last (command_of line) → DoesLine does breaks withdraws leaves line number last old new told_old told_new was now (Ok going)
+goes_line does breaks withdraws leaves line number last old new told_old told_new was now reply going.On replied here on = (reply, replied, here, on)
+goes_line does breaks withdraws leaves line number last old new told_old told_new was now reply going.End replied here on = (reply, replied, here, on)
+goes_line does breaks withdraws leaves line number last old new told_old told_new was now reply going.Opens replied here on = absurd on
 
 -- and it counts among those that were answered
 pub number_goes : (going : Going) (last : Bool) (command : Read Command) (number : ℕ) → GoesBehind going last command → number + 1 ≡ number_behind going number

@@ -99,27 +99,28 @@ module _ {St : Type 0} (closes : St → Option Reply → St → Type 0) (gives_u
   ClosesBy closing behind old new = IsClosed behind old new ⊎ GaveUp closing behind old new
 
 module _ {St : Type 0} (does : (number : ℕ) → Read Command → St → Reply → St → Type 0) (breaks : (number : ℕ) → Read Command → St → St → Type 0)
-    (closes : St → Option Reply → St → Type 0) (gives_up : St → St → Type 0) where
+    (withdraws : (number : ℕ) → (old new : St) → Type 0) (closes : St → Option Reply → St → Type 0) (gives_up : St → St → Type 0) where
   -- A script was played to its end: the replies to its lines, and behind them that of what was done then.
   pub record Finished (first : St) (ending : Ending) (closing : Option Halt) (source left : SourceTold) (told_first told_now : Option (List ℕ)) (final : St) (refusals : Refusals) : Type 0 where
     pub lines : List (List ℕ)
     pub replies : List Reply
     pub between : St
     pub plays : PlaysFrom does 1 lines replies first between
+    pub told_lines : Option (List ℕ)
+    pub noted : St
+    pub wrote_lines : Wrote withdraws ending told_first told_lines replies between noted
     pub cut : St
-    pub is_cut : CutBy does breaks ending source left lines between cut
+    pub is_cut : CutBy does breaks ending source left lines noted cut
     pub behind : List Reply
     pub closed : ClosesBy closes gives_up closing behind cut final
     pub counts : CountsRefusals (refused_lines 1 replies) refusals
     pub are_lines : (text : List ℕ) → source.left ≡ Some text → AreLines ending text left.left lines
     pub given : AreOfGiven ending source left lines
     pub numbered : length replies ≡ length lines
-    pub told_lines : Option (List ℕ)
-    pub wrote_lines : Wrote ending told_first told_lines replies
     pub wrote_behind : WroteBehind ending closing told_lines told_now behind
 
   -- Whatever was played before, the script is finished so.
   abbrev pub Finishes : (ending : Ending) (closing : Option Halt) (told_old told_new : Option (List ℕ)) (old new : St) (refusals : Refusals) → Type 0
   Finishes ending closing told_old told_new old new refusals =
-      (first : St) (source left : SourceTold) (told_first : Option (List ℕ)) → Played does breaks first ending source left told_first told_old old refusals
+      (first : St) (source left : SourceTold) (told_first : Option (List ℕ)) → Played does breaks withdraws first ending source left told_first told_old old refusals
       → Finished first ending closing source left told_first told_new new refusals

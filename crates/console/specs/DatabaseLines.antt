@@ -1,5 +1,5 @@
 -- What the commands of the online database do, and what they are answered.
-use Rattle.std.specs.Prelude.{◌≡◌, ℕ, ◌⊎◌, List, [], ◌∷◌, ◌++◌, Option, Some, None}
+use Rattle.std.specs.Prelude.{◌≡◌, ◌≢◌, ℕ, ◌⊎◌, List, [], ◌∷◌, ◌++◌, Option, Some, None}
 use Rattle.daq_io.specs.Seen.{Same}
 use Rattle.odb_script.specs.declared.commands.DatabaseCommand.{DatabaseCommand}
 use Rattle.odb_script.specs.declared.commands.DatabaseCommand.TheVariants.{Rows, Watches}
@@ -37,6 +37,19 @@ pub record PerformsDump (number : ℕ) (command : WatchCommand) (old : DatabaseS
   pub faults : FaultsIf answer.file old.files.faults new.files.faults
   pub clashes : ClashesIf answer.file old.files.clashes new.files.clashes
   pub first : NamesFaultIf answer.file (file_word command) old.files.first new.files.first
+
+-- the last entry is not that of the line of this number
+abbrev pub LacksEntry : (number : ℕ) → List (ℕ × FileReply) → Type 0
+LacksEntry number replies = (before : List (ℕ × FileReply)) (came : FileReply) → replies ≢ before ++ (number, came) ∷ []
+
+-- The last entry is that of the line of this number, and is taken out; or it is not, and stays.
+abbrev pub TakesEntry : (number : ℕ) → (old new : List (ℕ × FileReply)) → Type 0
+TakesEntry number old new = ((came : FileReply) × (old ≡ new ++ (number, came) ∷ [])) ⊎ (LacksEntry number old × (new ≡ old))
+
+-- The line of this number is the last that was answered: its entry is taken out again, where it has one, and nothing else changes.
+pub record WithdrawsEntry (number : ℕ) (old new : DatabaseStage) : Type 0 where
+  pub entry : TakesEntry number old.replies new.replies
+  pub rest : new ≡ record old { replies = new.replies }
 
 -- what the command of the line of this number does
 abbrev pub DoesDatabase : (number : ℕ) → DatabaseCommand → (old : DatabaseStage) → Reply → (new : DatabaseStage) → Type 0

@@ -129,21 +129,29 @@ pub record WroteUpTo (told_first told_now : Option (List ℕ)) (replies : List R
   pub part : AppendsPart told told_now (text_of (1 + length before) last)
   pub short : LeavesOver told told_now (text_of (1 + length before) last)
 
--- The replies but for the last were written whole, and nothing of the last.
-pub record WroteBut (told_first told_now : Option (List ℕ)) (replies : List Reply) : Type 0 where
-  pub before : List Reply
-  pub last : Reply
-  pub replies_are : replies ≡ before ++ last ∷ []
-  pub whole : Appends told_first told_now (console_text 1 before)
+-- All replies were written, and what was noted of their lines stays.
+pub record WroteAll {St : Type 0} (told_first told_now : Option (List ℕ)) (replies : List Reply) (old new : St) : Type 0 where
+  pub whole : Appends told_first told_now (console_text 1 replies)
+  pub stays : new ≡ old
 
--- What was written of the replies to the lines, by how these ended: all; of the last only a first part where the sink
--- failed, with which the lines end; and maybe nothing of the last where there was no memory.
-abbrev pub Wrote : Ending → (told_first told_now : Option (List ℕ)) → List Reply → Type 0
-Wrote End told_first told_now replies = Appends told_first told_now (console_text 1 replies)
-Wrote TooLong told_first told_now replies = Appends told_first told_now (console_text 1 replies)
-Wrote SourceFault told_first told_now replies = Appends told_first told_now (console_text 1 replies)
-Wrote (Halted SinkFault) told_first told_now replies = WroteUpTo told_first told_now replies
-Wrote (Halted NoMemory) told_first told_now replies = Appends told_first told_now (console_text 1 replies) ⊎ WroteBut told_first told_now replies
+module _ {St : Type 0} (withdraws : (number : ℕ) → (old new : St) → Type 0) where
+  -- The replies but for the last were written whole, and nothing of the last; what was noted of its line is taken out again.
+  pub record WroteBut (told_first told_now : Option (List ℕ)) (replies : List Reply) (old new : St) : Type 0 where
+    pub before : List Reply
+    pub last : Reply
+    pub replies_are : replies ≡ before ++ last ∷ []
+    pub whole : Appends told_first told_now (console_text 1 before)
+    pub withdrew : withdraws (1 + length before) old new
+
+  -- What was written of the replies to the lines, by how these ended: all; of the last only a first part where the sink failed, with
+  -- which the lines end; and maybe nothing of the last where there was no memory: then what was noted of its line does not stay.
+  abbrev pub Wrote : Ending → (told_first told_now : Option (List ℕ)) → List Reply → (old new : St) → Type 0
+  Wrote End told_first told_now replies old new = WroteAll told_first told_now replies old new
+  Wrote TooLong told_first told_now replies old new = WroteAll told_first told_now replies old new
+  Wrote SourceFault told_first told_now replies old new = WroteAll told_first told_now replies old new
+  Wrote (Halted SinkFault) told_first told_now replies old new = WroteUpTo told_first told_now replies × (new ≡ old)
+  Wrote (Halted NoMemory) told_first told_now replies old new =
+      WroteAll told_first told_now replies old new ⊎ WroteBut told_first told_now replies old new
 
 module _ {St : Type 0} (does : (number : ℕ) → Read Command → St → Reply → St → Type 0) (breaks : (number : ℕ) → Read Command → St → St → Type 0) where
   -- Behind the lines that were answered one more was read, which is not answered yet. What it does as things stand now it does
@@ -164,17 +172,6 @@ module _ {St : Type 0} (does : (number : ℕ) → Read Command → St → Reply 
     pub same : now ≡ was
     pub kept : Keeps told_old told_new
 
-  -- What becomes of the line of this number: it is answered and its text is written; or it is left to another; or it is answered
-  -- and its text is not written whole; or it is not answered.
-  abbrev pub DoesLine : (leaves : Read Command → Bool) → (line : List ℕ) (number : ℕ) (last : Bool) (old new : St) (told_old told_new : Option (List ℕ)) (was now : Refusals) → Result Going Halt → Type 0
-  DoesLine leaves line number last old new told_old told_new was now (Ok going.On) = (reply : Reply) × Replied does line number reply old new was now × Appends told_old told_new (text_of number reply) × GoesBehind going.On last (command_of line)
-  DoesLine leaves line number last old new told_old told_new was now (Ok going.End) = (reply : Reply) × Replied does line number reply old new was now × Appends told_old told_new (text_of number reply) × GoesBehind going.End last (command_of line)
-  DoesLine leaves line number last old new told_old told_new was now (Ok going.Opens) = LeavesLine leaves line old new told_old told_new was now
-  DoesLine leaves line number last old new told_old told_new was now (Err SinkFault) =
-      (reply : Reply) × Replied does line number reply old new was now × AppendsPart told_old told_new (text_of number reply) × LeavesOver told_old told_new (text_of number reply)
-  DoesLine leaves line number last old new told_old told_new was now (Err NoMemory) =
-      ((reply : Reply) × Replied does line number reply old new was now × Keeps told_old told_new) ⊎ Unanswered line number old new told_old told_new was now
-
   -- the next line found no memory, and so much was done of it
   pub record BreaksAt (source left : SourceTold) (lines : List (List ℕ)) (old new : St) : Type 0 where
     pub line : List ℕ
@@ -189,35 +186,58 @@ module _ {St : Type 0} (does : (number : ℕ) → Read Command → St → Reply 
   CutBy (Halted NoMemory) source left lines old new = (new ≡ old) ⊎ BreaksAt source left lines old new
   CutBy (Halted SinkFault) source left lines old new = new ≡ old
 
+  -- A line was read that is left to another.
+  pub record OpensAt (leaves : Read Command → Bool) (first : St) (source_first source_now : SourceTold) (told_first told_now : Option (List ℕ)) (reading : Reading) (last : Bool) (now : St) (refusals : Refusals) (number : ℕ) : Type 0 where
+    pub has : HasLine first source_first source_now told_first told_now reading last now refusals number
+    pub left : leaves (command_of has.line) ≡ true
+
+module _ {St : Type 0} (does : (number : ℕ) → Read Command → St → Reply → St → Type 0) (breaks : (number : ℕ) → Read Command → St → St → Type 0)
+    (withdraws : (number : ℕ) → (old new : St) → Type 0) where
+  -- The line was answered, and there was no memory for its text: nothing was written, and what was noted of it is taken out again.
+  pub record Unprinted (line : List ℕ) (number : ℕ) (old new : St) (told_old told_new : Option (List ℕ)) (was now : Refusals) : Type 0 where
+    pub reply : Reply
+    pub answered : St
+    pub replied : Replied does line number reply old answered was now
+    pub withdrew : withdraws number answered new
+    pub kept : Keeps told_old told_new
+
+  -- What becomes of the line of this number: it is answered and its text is written; or it is left to another; or it is answered
+  -- and its text is not written whole; or it is answered, and there is no memory for its text, so what was noted of it is taken out
+  -- again; or it is not answered.
+  abbrev pub DoesLine : (leaves : Read Command → Bool) → (line : List ℕ) (number : ℕ) (last : Bool) (old new : St) (told_old told_new : Option (List ℕ)) (was now : Refusals) → Result Going Halt → Type 0
+  DoesLine leaves line number last old new told_old told_new was now (Ok going.On) = (reply : Reply) × Replied does line number reply old new was now × Appends told_old told_new (text_of number reply) × GoesBehind going.On last (command_of line)
+  DoesLine leaves line number last old new told_old told_new was now (Ok going.End) = (reply : Reply) × Replied does line number reply old new was now × Appends told_old told_new (text_of number reply) × GoesBehind going.End last (command_of line)
+  DoesLine leaves line number last old new told_old told_new was now (Ok going.Opens) = LeavesLine leaves line old new told_old told_new was now
+  DoesLine leaves line number last old new told_old told_new was now (Err SinkFault) =
+      (reply : Reply) × Replied does line number reply old new was now × AppendsPart told_old told_new (text_of number reply) × LeavesOver told_old told_new (text_of number reply)
+  DoesLine leaves line number last old new told_old told_new was now (Err NoMemory) =
+      Unprinted line number old new told_old told_new was now ⊎ Unanswered does breaks line number old new told_old told_new was now
+
   -- A script was played up to this ending, and this is left in the source.
   pub record Played (first : St) (ending : Ending) (source left : SourceTold) (told_first told_now : Option (List ℕ)) (now : St) (refusals : Refusals) : Type 0 where
     pub lines : List (List ℕ)
     pub replies : List Reply
     pub behind : St
     pub plays : PlaysFrom does 1 lines replies first behind
-    pub cut : CutBy ending source left lines behind now
+    pub noted : St
+    pub wrote : Wrote withdraws ending told_first told_now replies behind noted
+    pub cut : CutBy does breaks ending source left lines noted now
     pub counts : CountsRefusals (refused_lines 1 replies) refusals
     pub are_lines : (text : List ℕ) → source.left ≡ Some text → AreLines ending text left.left lines
     pub given : AreOfGiven ending source left lines
-    pub wrote : Wrote ending told_first told_now replies
     pub numbered : length replies ≡ length lines
-
-  -- A line was read that is left to another.
-  pub record OpensAt (leaves : Read Command → Bool) (first : St) (source_first source_now : SourceTold) (told_first told_now : Option (List ℕ)) (reading : Reading) (last : Bool) (now : St) (refusals : Refusals) (number : ℕ) : Type 0 where
-    pub has : HasLine first source_first source_now told_first told_now reading last now refusals number
-    pub left : leaves (command_of has.line) ≡ true
 
   -- where the lines of a script stand that are not answered on
   abbrev pub PlaysTo : (leaves : Read Command → Bool) (first : St) (source_first : SourceTold) (told_first : Option (List ℕ)) → PlayEnd → (source_now : SourceTold) (told_now : Option (List ℕ)) (reading : Reading) (last : Bool) (now : St) (refusals : Refusals) (number : ℕ) → Type 0
   PlaysTo leaves first source_first told_first (ends.Ended ending) source_now told_now reading last now refusals number =
       Played first ending source_first source_now told_first told_now now refusals
   PlaysTo leaves first source_first told_first ends.Opens source_now told_now reading last now refusals number =
-      OpensAt leaves first source_first source_now told_first told_now reading last now refusals number
+      OpensAt does breaks leaves first source_first source_now told_first told_now reading last now refusals number
 
   -- The lines are answered on from the one that was read, wherever the script began.
   abbrev pub PlaysOn : (leaves : Read Command → Bool) → PlayEnd → (source_old source_new : SourceTold) (told_old told_new : Option (List ℕ)) (reading_old reading_new : Reading) (last_old last_new : Bool) (old new : St) (was now : Refusals) (number_old number_new : ℕ) → Type 0
   PlaysOn leaves end source_old source_new told_old told_new reading_old reading_new last_old last_new old new was now number_old number_new =
-      (first : St) (source_first : SourceTold) (told_first : Option (List ℕ)) → HasLine first source_first source_old told_first told_old reading_old last_old old was number_old
+      (first : St) (source_first : SourceTold) (told_first : Option (List ℕ)) → HasLine does breaks first source_first source_old told_first told_old reading_old last_old old was number_old
       → PlaysTo leaves first source_first told_first end source_new told_new reading_new last_new new now number_new
 
 -- a line that is left to another is counted among the bytes that were read

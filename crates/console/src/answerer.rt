@@ -24,6 +24,9 @@ pub trait Answerer {
 
     ghost breaks: { ℕ → Read Command → Stage → Stage → Type 0 };
 
+    // What was noted of the line of this number is taken out again.
+    ghost withdraws: { ℕ → Stage → Stage → Type 0 };
+
     // What is done behind all lines, with the reply of that, if anything is; and what of that where there was no memory.
     ghost closes: { Stage → Option Reply → Stage → Type 0 };
 
@@ -49,6 +52,12 @@ pub trait Answerer {
             (stage self.new)) }
         ensures broke { OnErr result (breaks number line.entry (stage self.old)
             (stage self.new)) }
+        ensures stays { stays self.old self.new };
+
+    /// Takes out again what was noted of the line of this number, the last that was answered, where there was no memory for its
+    /// text. Takes no memory.
+    fn withdraw(&mut self, number: u64)
+        ensures withdrew { withdraws number (stage self.old) (stage self.new) }
         ensures stays { stays self.old self.new };
 
     /// Ends what the lines left on, behind all of them.

@@ -25,7 +25,7 @@ pub fn close_lines<R: Wait, A: Answerer, O: Sink>(
     answerer: &mut A,
     out: &mut O,
 ) -> Option<Halt>
-    ensures finishes { Finishes A.does A.breaks A.closes A.gives_up ending result
+    ensures finishes { Finishes A.does A.breaks A.withdraws A.closes A.gives_up ending result
         (O.told out.old).written (O.told out.new).written (A.stage answerer.old) (A.stage answerer.new)
         line_loop.old.refusals }
     ensures refusals { line_loop.new.refusals ≡ line_loop.old.refusals }
@@ -63,7 +63,7 @@ pub fn play_out<R: Wait, A: Answerer, S: Source, O: Sink>(
         → HasLine A.does A.breaks first source_first (S.told source.old) told_first
         (O.told out.old).written line_loop.old.reader line_loop.old.last (A.stage answerer.old)
         line_loop.old.refusals line_loop.old.number
-        → Finished A.does A.breaks A.closes A.gives_up first result.0 result.1 source_first
+        → Finished A.does A.breaks A.withdraws A.closes A.gives_up first result.0 result.1 source_first
         (S.told source.new) told_first (O.told out.new).written (A.stage answerer.new)
         line_loop.new.refusals }
     ensures counts { EndCounts result.0 result.1 (S.told source.old).faults (S.told source.new).faults

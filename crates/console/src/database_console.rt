@@ -25,7 +25,7 @@ pub struct DatabaseConsole<D: WatchPort, E: Files> {
 }
 
 impl<D: WatchPort, E: Files> DatabaseConsole<D, E> {
-    ghost use Rattle.console.specs.DatabaseLines.{BreaksDatabase, DoesDatabase};
+    ghost use Rattle.console.specs.DatabaseLines.{BreaksDatabase, DoesDatabase, WithdrawsEntry};
     ghost use Rattle.console.specs.DatabaseStages.{database_stage};
 
     /// Answers a command of the online database in the line of this number.
@@ -63,6 +63,23 @@ impl<D: WatchPort, E: Files> DatabaseConsole<D, E> {
                 )?;
                 note_file(&mut self.replies, number, file);
                 Ok(Reply::Watch { reply })
+            }
+        }
+    }
+
+    /// Takes out again what came of the line of this number, the last that was answered, if that was noted. Takes no memory.
+    pub fn withdraw(&mut self, number: u64)
+        ensures withdrew { WithdrawsEntry number
+            (database_stage (D.access self.old.access) (E.told self.old.files)
+            self.old.replies.replies)
+            (database_stage (D.access self.new.access) (E.told self.new.files)
+            self.new.replies.replies) }
+        ensures same { IsSamePort (D.access self.old.access)
+            (D.access self.new.access) }
+    {
+        if let Some((line, came)) = self.replies.pop() {
+            if line != number {
+                self.replies.push(line, came);
             }
         }
     }

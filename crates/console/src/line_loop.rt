@@ -90,7 +90,7 @@ impl LineLoop {
         }
     }
 
-    /// Answers the line that was read, and writes what it prints.
+    /// Answers the line that was read, and writes what it prints. Where there is no memory for that, nothing is noted of the line.
     pub fn handle<R: Wait, A: Answerer, O: Sink>(
         &mut self,
         rt: &R,
@@ -99,7 +99,7 @@ impl LineLoop {
         out: &mut O,
     ) -> Result<Going, Halt>
         requires fits { self.old.number + 1 ≤ self.old.reader.taken }
-        ensures did { DoesLine A.does A.breaks A.leaves self.old.reader.line (self.old.number + 1)
+        ensures did { DoesLine A.does A.breaks A.withdraws A.leaves self.old.reader.line (self.old.number + 1)
             self.old.last (A.stage answerer.old) (A.stage answerer.new) (O.told out.old).written
             (O.told out.new).written self.old.refusals self.new.refusals result }
         ensures reader { self.new.reader ≡ self.old.reader }
@@ -118,7 +118,13 @@ impl LineLoop {
         let reply = answerer.answer(rt, alloc, number, command)?;
         self.refusals.note(number, &reply);
         self.number = number;
-        print_reply(&mut self.text, number, &reply, out)?;
-        Ok(going)
+        match print_reply(&mut self.text, number, &reply, out) {
+            Ok(()) => Ok(going),
+            Err(Halt::SinkFault) => Err(Halt::SinkFault),
+            Err(Halt::NoMemory) => {
+                answerer.withdraw(number);
+                Err(Halt::NoMemory)
+            }
+        }
     }
 }

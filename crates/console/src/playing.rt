@@ -24,7 +24,7 @@ pub fn play_on<R: Wait, A: Answerer, S: Source, O: Sink>(
     out: &mut O,
 ) -> PlayEnd
     requires fits { line_loop.old.number + 1 ≤ line_loop.old.reader.taken }
-    ensures did { PlaysOn A.does A.breaks A.leaves result (S.told source.old) (S.told source.new)
+    ensures did { PlaysOn A.does A.breaks A.withdraws A.leaves result (S.told source.old) (S.told source.new)
         (O.told out.old).written (O.told out.new).written line_loop.old.reader line_loop.new.reader line_loop.old.last
         line_loop.new.last (A.stage answerer.old) (A.stage answerer.new) line_loop.old.refusals
         line_loop.new.refusals line_loop.old.number line_loop.new.number }
@@ -64,7 +64,7 @@ pub fn play_script<R: Wait, A: Answerer, S: Source, O: Sink>(
     out: &mut O,
 ) -> PlayEnd
     requires unread { IsUnreadScript line_loop.old }
-    ensures did { PlaysTo A.does A.breaks A.leaves (A.stage answerer.old) (S.told source.old)
+    ensures did { PlaysTo A.does A.breaks A.withdraws A.leaves (A.stage answerer.old) (S.told source.old)
         (O.told out.old).written result (S.told source.new) (O.told out.new).written line_loop.new.reader
         line_loop.new.last (A.stage answerer.new) line_loop.new.refusals line_loop.new.number }
     ensures ends { EndsLines A.leaves result line_loop.new (S.told source.old) (S.told source.new)

@@ -25,26 +25,29 @@ pub fn lines_end<A: Answerer>()
         (reading : Reading) (last : Bool) (refusals : Refused) (number : ℕ)
         → (has : HasLine A.does A.breaks first source left told_first told reading last now
         refusals number) → A.breaks (number + 1) (command_of has.line) now new
-        → Played A.does A.breaks first (Halted no_memory) source left told_first told new refusals }
+        → Played A.does A.breaks A.withdraws first (Halted no_memory) source left told_first told new refusals }
     ensures quiet { (first now new : A.Stage) (ending : Ending)
         (source left : SourceTold) (told_first told : Option (List ℕ)) (refusals : Refused)
-        → Played A.does A.breaks first ending source left told_first told now refusals
+        → Played A.does A.breaks A.withdraws first ending source left told_first told now refusals
         → A.closes now None new
-        → Finished A.does A.breaks A.closes A.gives_up first ending None source left told_first
+        → Finished A.does A.breaks A.withdraws A.closes A.gives_up first ending None source left told_first
         told new refusals }
 {}
 
 /// What was written is a first part of the text of a script's replies; and where the sink did not fail and memory was not wanting,
 /// it is all of it.
-pub fn texts_are_written()
+pub fn texts_are_written<A: Answerer>()
     ensures part { (ending : Ending) (closing : Option Halt) (first told now : Option (List ℕ))
-        (replies behind : List Reply) → Wrote ending first told replies
+        (replies behind : List Reply) (stood noted : A.Stage)
+        → Wrote A.withdraws ending first told replies stood noted
         → WroteBehind ending closing told now behind
         → AppendsPart first now (script_text replies behind) }
     ensures whole { (ending : Ending) (closing : Option Halt) (first told now : Option (List ℕ))
-        (replies behind : List Reply) (old lines new : ℕ) → MayFail ending closing
+        (replies behind : List Reply) (old lines new : ℕ) (stood noted : A.Stage)
+        → MayFail ending closing
         → ended_by ending closing ≢ Halted no_memory → ¬ Rose old new
         → SinkByEnding ending old lines → SinkBehind closing lines new
-        → Wrote ending first told replies → WroteBehind ending closing told now behind
+        → Wrote A.withdraws ending first told replies stood noted
+        → WroteBehind ending closing told now behind
         → Appends first now (script_text replies behind) }
 {}

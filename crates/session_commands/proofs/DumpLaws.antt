@@ -25,14 +25,16 @@ use Rattle.console.specs.declared.refusals.Refusals.{Refusals}
 use Rattle.session_runs.specs.KeptRuns.{RunsSeen}
 use Rattle.console.specs.DatabaseStages.{DatabaseStage}
 use Rattle.console.specs.DatabaseLines.{BreaksDatabase, CutsDump, DoesDatabase}
+use Rattle.console.proofs.KeepingLaws.{wrote_keeps}
+use Rattle.session_commands.proofs.WithdrawnLaws.{withdrawn}
 use Rattle.session_commands.specs.Stages.{SessionStage}
 use Rattle.session_commands.specs.RunLines.{BreaksStart, BreaksStop, ClosesRun, CutsOpening, DoesPause, DoesResume, DoesStart, DoesStop}
-use Rattle.session_commands.specs.ScriptLines.{BreaksScriptLine, CallsDatabase, ClosesScript, DoesScriptLine, GivesUp}
+use Rattle.session_commands.specs.ScriptLines.{BreaksScriptLine, CallsDatabase, ClosesScript, DoesScriptLine, GivesUp, WithdrawsLine}
 use Rattle.console.specs.declared.endings.Ending.{Ending}
 use Rattle.console.specs.declared.endings.Ending.TheVariants.{End, TooLong as too_long, SourceFault as source_fault, Halted}
 use Rattle.console.specs.declared.halts.Halt.{Halt}
 use Rattle.console.specs.declared.halts.Halt.TheVariants.{NoMemory as no_memory, SinkFault as sink_fault}
-use Rattle.console.specs.Playing.{BreaksAt, CutBy, PlaysFrom}
+use Rattle.console.specs.Playing.{BreaksAt, CutBy, PlaysFrom, Wrote}
 use Rattle.console.specs.Closing.{ClosesBy, Finished, GaveUp, IsClosed}
 use Rattle.session_commands.proofs.LineKinds.{LineCut, CutsCalls, CutsStartLine, CutsStopLine, LineKind, CallsRows, Declares, IsPause, IsResume, IsStart, IsStill, IsStop, SetsQuota, line_cut, line_kind}
 use Rattle.session_commands.specs.KeptDumps.{IsSavedBy, KeepsDumps}
@@ -237,6 +239,13 @@ cut_keeps (Halted no_memory) source left lines old new cut = ⊎_elim
     (λ (at : BreaksAt DoesScriptLine BreaksScriptLine source left lines old new). cut_files old new (line_cut (1 + length lines) (command_of at.line) old new at.broke))
     cut
 
+-- nor where what was noted of a line is taken out again
+noted_keeps : (ending : Ending) (told_first told_now : Option (List ℕ)) (replies : List Reply) (old new : SessionStage) → Wrote WithdrawsLine ending told_first told_now replies old new → KeepsFiles (files_seen old) (files_seen new)
+noted_keeps ending told_first told_now replies old new wrote =
+    wrote_keeps DoesScriptLine BreaksScriptLine WithdrawsLine ClosesScript GivesUp (λ (s : SessionStage). KeepsFiles (files_seen old) (files_seen s))
+    (λ number was now withdrew kept. KeepsFiles-trans kept (same_files was now (ap (λ (s : SessionStage). s.database.files) (withdrawn number was now withdrew))))
+    ending told_first told_now replies old new wrote (same_files old old refl)
+
 run_closed : (runs : Option RunsSeen) (old : SessionStage) (reply : Option Reply) (new : SessionStage) → ClosesRun runs old reply new → new.database.files ≡ old.database.files
 run_closed None old reply new closed = ap (λ (s : SessionStage). s.database.files) closed.1
 run_closed (Some runs) old None new closed = ap (λ (s : SessionStage). s.database.files) closed.1
@@ -264,11 +273,13 @@ kept_behind lines a b c keeps files = record {
 
 -- A whole script.
 pub script_keeps : (first final : SessionStage) (ending : Ending) (closing : Option Halt) (source left : SourceTold) (told_first told : Option (List ℕ)) (refusals : Refusals)
-    → (finished : Finished DoesScriptLine BreaksScriptLine ClosesScript GivesUp first ending closing source left told_first told final refusals)
+    → (finished : Finished DoesScriptLine BreaksScriptLine WithdrawsLine ClosesScript GivesUp first ending closing source left told_first told final refusals)
     → KeepsDumps finished.lines first.database.files.seen final.database.files.seen
 script_keeps first final ending closing source left told_first told refusals finished =
     kept_behind finished.lines (files_seen first) (files_seen finished.between) (files_seen final)
     (lines_keep 1 finished.lines finished.replies first finished.between finished.plays)
     (KeepsFiles-trans
-    (cut_keeps ending source left finished.lines finished.between finished.cut finished.is_cut)
-    (closing_keeps closing finished.behind finished.cut final finished.closed))
+    (noted_keeps ending told_first finished.told_lines finished.replies finished.between finished.noted finished.wrote_lines)
+    (KeepsFiles-trans
+    (cut_keeps ending source left finished.lines finished.noted finished.cut finished.is_cut)
+    (closing_keeps closing finished.behind finished.cut final finished.closed)))

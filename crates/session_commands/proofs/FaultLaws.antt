@@ -11,7 +11,7 @@ use Rattle.odb_commands.specs.WatchCalls.{FaultsIf}
 use Rattle.console.specs.declared.refusals.Refusals.{Refusals}
 use Rattle.console.specs.DatabaseLines.{file_replied}
 use Rattle.session_commands.specs.Stages.{SessionStage}
-use Rattle.session_commands.specs.ScriptLines.{BreaksScriptLine, ClosesScript, DoesScriptLine, GivesUp}
+use Rattle.session_commands.specs.ScriptLines.{BreaksScriptLine, ClosesScript, DoesScriptLine, GivesUp, WithdrawsLine}
 use Rattle.console.specs.declared.endings.Ending.{Ending}
 use Rattle.console.specs.declared.endings.Ending.TheVariants.{Halted}
 use Rattle.console.specs.declared.halts.Halt.{Halt}
@@ -64,7 +64,7 @@ notes_told false old new same = omega (arith, same)
 
 -- Where the files are asked behind a whole script, what came of its lines tells whether their count rose.
 pub script_told : (first final : SessionStage) (ending : Ending) (closing : Option Halt) (source left : SourceTold) (told_first told : Option (List ℕ)) (refusals : Refusals)
-    → Finished DoesScriptLine BreaksScriptLine ClosesScript GivesUp first ending closing source left told_first told final refusals
+    → Finished DoesScriptLine BreaksScriptLine WithdrawsLine ClosesScript GivesUp first ending closing source left told_first told final refusals
     → first.database.replies ≡ [] → asks_files (ended_by ending closing) ≡ true
     → NotesFailed (list_any is_fault final.database.replies) first.database.files.faults final.database.files.faults
 script_told first final ending closing source left told_first told refusals finished none asks =

@@ -10,6 +10,7 @@ pub mod SpareLines
 pub mod StageLaws
 pub mod DumpLaws
 pub mod WholeSaves
+mod WithdrawnLaws
 pub mod FilesWalk
 pub mod FaultLaws
 pub mod CountLaws

@@ -23,7 +23,7 @@ use Rattle.session_commands.specs.declared.passed_over.PassedOver.{PassedOver}
 use Rattle.session_commands.specs.NothingSaid.{NothingSaid, own_point}
 use Rattle.session_commands.specs.Stages.{SessionStage}
 use Rattle.session_commands.specs.RunLines.{BreaksStop, ClosesRun, RunsCommand, StopsBy}
-use Rattle.session_commands.specs.ScriptLines.{BreaksScriptLine, ClosesScript, DoesScriptLine, GivesUp}
+use Rattle.session_commands.specs.ScriptLines.{BreaksScriptLine, ClosesScript, DoesScriptLine, GivesUp, WithdrawsLine}
 use Rattle.console.specs.declared.endings.Ending.{Ending}
 use Rattle.console.specs.declared.halts.Halt.{Halt}
 use Rattle.console.specs.Closing.{Finished, GaveUp, IsClosed}
@@ -97,7 +97,7 @@ gave_over (Some runs) old new broke = λ last is knows.
 
 -- A whole script.
 pub script_over : (first final : SessionStage) (ending : Ending) (closing : Option Halt) (source left : SourceTold) (told_first told : Option (List ℕ)) (refusals : Refusals)
-    → Finished DoesScriptLine BreaksScriptLine ClosesScript GivesUp first ending closing source left told_first told final refusals → EndsOver final
+    → Finished DoesScriptLine BreaksScriptLine WithdrawsLine ClosesScript GivesUp first ending closing source left told_first told final refusals → EndsOver final
 script_over first final ending closing source left told_first told refusals finished = ⊎_elim
     (λ (is : IsClosed ClosesScript GivesUp finished.behind finished.cut final). closed_over finished.cut.runs finished.cut is.reply final refl is.closed)
     (λ (gave : GaveUp ClosesScript GivesUp closing finished.behind finished.cut final). gave_over finished.cut.runs finished.cut final gave.gave_up.1)

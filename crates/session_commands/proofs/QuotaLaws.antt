@@ -14,7 +14,7 @@ use Rattle.daq_types.specs.declared.runs.Transition.TheVariants.{Start as start_
 use Rattle.odb_script.specs.declared.commands.Command.{Command}
 use Rattle.odb_script.specs.declared.commands.Command.TheVariants.{Nothing, Exit, Declare, Run, Database}
 use Rattle.odb_script.specs.declared.commands.Declaration.{Declaration}
-use Rattle.odb_script.specs.declared.commands.Declaration.TheVariants.{Buffer, Equip, Channel, Analyzer}
+use Rattle.odb_script.specs.declared.commands.Declaration.TheVariants.{Channel}
 use Rattle.odb_script.specs.declared.commands.RunCommand.TheVariants.{Events, Start, Stop, Pause, Resume}
 use Rattle.odb_script.specs.declared.commands.DatabaseCommand.{DatabaseCommand}
 use Rattle.odb_script.specs.declared.commands.DatabaseCommand.TheVariants.{Rows, Watches}
@@ -38,15 +38,16 @@ use Rattle.session_runs.specs.RunAnswers.{AnswersPause, AnswersResume, AnswersSt
 use Rattle.console.specs.DatabaseLines.{DoesDatabase}
 use Rattle.session_commands.specs.declared.passed_over.PassedOver.{PassedOver}
 use Rattle.session_commands.specs.NothingSaid.{NothingSaid, own_point}
+use Rattle.session_commands.proofs.WithdrawnLaws.{withdrawn}
 use Rattle.session_commands.specs.Stages.{SessionStage, members_declared, runs_with_quota, with_quota}
 use Rattle.session_commands.specs.SetupReplies.{SetupUnless, TakesChannel, TakesDeclaration, TakesSetup}
 use Rattle.session_commands.specs.RunLines.{BreaksStart, BreaksStop, ClosesRun, CutsOpening, CutsRun, DoesPause, DoesResume, DoesStart, DoesStop, OpensSession, PausesBy, ResumesBy, RunsCommand, StartsBy, StopsBy, reply_for}
-use Rattle.session_commands.specs.ScriptLines.{BreaksScriptLine, CallsDatabase, ClosesScript, DoesCommand, DoesScriptLine, GivesUp}
+use Rattle.session_commands.specs.ScriptLines.{BreaksScriptLine, CallsDatabase, ClosesScript, DoesCommand, DoesScriptLine, GivesUp, WithdrawsLine}
 use Rattle.console.specs.declared.endings.Ending.{Ending}
 use Rattle.console.specs.declared.halts.Halt.{Halt}
 use Rattle.console.specs.Playing.{PlaysFrom}
 use Rattle.console.specs.Closing.{Finished}
-use Rattle.console.proofs.KeepingLaws.{closing_keeps, cut_keeps}
+use Rattle.console.proofs.KeepingLaws.{behind_keeps}
 use Rattle.session_commands.specs.Quotas.{quota_begun, quota_behind, quota_told, quotas_asked, quotas_begun, quotas_so_far}
 use Rattle.session_commands.proofs.LineKinds.{LineCut, CutsCalls, CutsStartLine, CutsStopLine, line_cut}
 
@@ -308,10 +309,8 @@ calls_line number command old said new does = other_line (Ok (Database command))
     (ap (λ (s : SessionStage). s.quota) does.1) (ap (λ (s : SessionStage). s.runs) does.1)
 
 declared_none : (declaration : Declaration) (old : Declared) (said : Reply) (new : Declared) → TakesDeclaration declaration old said new → (q : ℕ) → quota_told said q ≡ []
-declared_none (Buffer name size) old said new does q = taken_none _ _ old said new does.2 q
-declared_none (Equip name id mask buffer limit) old said new does q = taken_none _ _ old said new does.2 q
 declared_none (Channel n pattern buffer id mask sub_bytes) old said new does q = channel_none _ n pattern buffer id mask sub_bytes old said new does.2 q
-declared_none (Analyzer name buffer id mask kind) old said new does q = taken_none _ _ old said new does.2 q
+declared_none declaration old said new does q = taken_none _ _ old said new does.2 q
 
 command_asks : (number : ℕ) (command : Command) (old : SessionStage) (said : Reply) (new : SessionStage) → DoesCommand number command old said new → LineAsks (Ok command) old said new
 command_asks number Nothing old said new does = still_line (Ok Nothing) old said new (λ q. refl) (as_said said reply.Silent does.0 (λ n. refl)) does.1
@@ -393,16 +392,16 @@ HaveBegun asked s = quotas_so_far s.runs ≡ asked
 
 -- A whole script, however it ended.
 pub script_asks : (first final : SessionStage) (ending : Ending) (closing : Option Halt) (source left : SourceTold) (told_first told : Option (List ℕ)) (refusals : Refusals)
-    → (finished : Finished DoesScriptLine BreaksScriptLine ClosesScript GivesUp first ending closing source left told_first told final refusals)
+    → (finished : Finished DoesScriptLine BreaksScriptLine WithdrawsLine ClosesScript GivesUp first ending closing source left told_first told final refusals)
     → first.runs ≡ None → quotas_so_far final.runs ≡ quotas_asked first.quota finished.lines finished.replies
 script_asks first final ending closing source left told_first told refusals finished none =
     let asked : List ℕ = quotas_asked first.quota finished.lines finished.replies in
     let played : quotas_so_far finished.between.runs ≡ asked =
     lines_ask 1 finished.lines finished.replies first finished.between finished.plays (subst (MayAsk first.quota) (sym none) tt)
     ∙ ap (λ (runs : Option RunsSeen). quotas_so_far runs ++ asked) none in
-    closing_keeps DoesScriptLine BreaksScriptLine ClosesScript GivesUp (HaveBegun asked)
+    behind_keeps DoesScriptLine BreaksScriptLine WithdrawsLine ClosesScript GivesUp (HaveBegun asked)
+    (λ number old new withdrew kept. subst (HaveBegun asked) (sym (withdrawn number old new withdrew)) kept)
+    (λ number line old new broke kept. cut_same old new (line_cut number line old new broke) ∙ kept)
     (λ old new said closes kept. closed_same old.runs old said new refl closes ∙ kept)
     (λ old new gave kept. stop_cut old.runs old new refl gave.1 ∙ kept)
-    closing finished.behind finished.cut final finished.closed
-    (cut_keeps DoesScriptLine BreaksScriptLine ClosesScript GivesUp (HaveBegun asked) (λ number line old new broke kept. cut_same old new (line_cut number line old new broke) ∙ kept)
-    ending source left finished.lines finished.between finished.cut finished.is_cut played)
+    first final ending closing source left told_first told refusals finished played

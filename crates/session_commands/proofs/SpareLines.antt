@@ -1,5 +1,5 @@
 -- No line of a script removes anything of `/Runinfo`, and each that is answered gets the text of the database where it asks for it.
-use Rattle.std.proofs.Common.{◌≡◌, ◌≢◌, ℕ, List, Option, Some, None, ap}
+use Rattle.std.proofs.Common.{◌≡◌, ◌≢◌, ℕ, List, Option, Some, None, ap, sym, subst}
 use Rattle.std.proofs.Math.Logic.{⊎_elim}
 use Rattle.daq_io.specs.Told.{SourceTold}
 use Rattle.odb_script.specs.declared.commands.Command.{Command}
@@ -11,15 +11,16 @@ use Rattle.console.specs.declared.refusals.Refusals.{Refusals}
 use Rattle.session_runs.specs.declared.replies.RunReply.TheVariants as answer
 use Rattle.session_runs.specs.KeptRuns.{RunsSeen}
 use Rattle.session_commands.specs.NothingSaid.{NothingSaid, own_point}
+use Rattle.session_commands.proofs.WithdrawnLaws.{withdrawn}
 use Rattle.session_commands.specs.Stages.{SessionStage}
 use Rattle.session_commands.specs.RunLines.{BreaksStart, BreaksStop, ClosesRun, CutsOpening, CutsRun, DoesPause, DoesResume, DoesStart, DoesStop, OpensSession}
-use Rattle.session_commands.specs.ScriptLines.{BreaksScriptLine, CallsDatabase, ClosesScript, DoesScriptLine, GivesUp}
+use Rattle.session_commands.specs.ScriptLines.{BreaksScriptLine, CallsDatabase, ClosesScript, DoesScriptLine, GivesUp, WithdrawsLine}
 use Rattle.console.specs.declared.endings.Ending.{Ending}
 use Rattle.console.specs.declared.endings.Ending.TheVariants.{Halted}
 use Rattle.console.specs.declared.halts.Halt.{Halt}
 use Rattle.console.specs.declared.halts.Halt.TheVariants.{NoMemory}
 use Rattle.console.specs.Closing.{Finished, ended_by}
-use Rattle.console.proofs.KeepingLaws.{closing_keeps, cut_keeps, plays_keep}
+use Rattle.console.proofs.KeepingLaws.{behind_keeps, plays_keep}
 use Rattle.session_commands.specs.Keeping.{SavesDump, StageSaved, StageSpares}
 use Rattle.session_commands.proofs.AnsweredLaws.{answered_keeps}
 use Rattle.session_commands.proofs.CallsOn.{all_on}
@@ -114,18 +115,19 @@ run_closes laws (Some runs) old (Some reply) new closed = stop_line laws (Some r
 
 -- A whole script.
 pub script_spares : SpareLaws → (first final : SessionStage) (ending : Ending) (closing : Option Halt) (source left : SourceTold) (told_first told : Option (List ℕ)) (refusals : Refusals)
-    → Finished DoesScriptLine BreaksScriptLine ClosesScript GivesUp first ending closing source left told_first told final refusals → StageSpares first → StageSpares final
+    → Finished DoesScriptLine BreaksScriptLine WithdrawsLine ClosesScript GivesUp first ending closing source left told_first told final refusals → StageSpares first → StageSpares final
 script_spares laws first final ending closing source left told_first told refusals finished spares =
-    closing_keeps DoesScriptLine BreaksScriptLine ClosesScript GivesUp StageSpares
+    behind_keeps DoesScriptLine BreaksScriptLine WithdrawsLine ClosesScript GivesUp StageSpares
+    (λ number old new withdrew kept. subst StageSpares (sym (withdrawn number old new withdrew)) kept)
+    (λ number line old new broke kept. moved old new (line_breaks laws number line old new broke) kept)
     (λ old new reply closed kept. moved old new (run_closes laws old.runs old reply new closed).spares kept)
     (λ old new gave kept. moved old new (stop_breaks laws old.runs old new gave.1) kept)
-    closing finished.behind finished.cut final finished.closed
-    (cut_keeps DoesScriptLine BreaksScriptLine ClosesScript GivesUp StageSpares (λ number line old new broke kept. moved old new (line_breaks laws number line old new broke) kept) ending source left finished.lines finished.between finished.cut finished.is_cut
-    (plays_keep DoesScriptLine BreaksScriptLine ClosesScript GivesUp StageSpares (λ number line old new reply does kept. moved old new (line_answered laws number line old new reply does).spares kept) 1 finished.lines finished.replies first finished.between finished.plays spares))
+    first final ending closing source left told_first told refusals finished
+    (plays_keep DoesScriptLine BreaksScriptLine WithdrawsLine ClosesScript GivesUp StageSpares (λ number line old new reply does kept. moved old new (line_answered laws number line old new reply does).spares kept) 1 finished.lines finished.replies first finished.between finished.plays spares)
 
 -- One for which memory was not wanting.
 pub script_saved : SpareLaws → (first final : SessionStage) (ending : Ending) (closing : Option Halt) (source left : SourceTold) (told_first told : Option (List ℕ)) (refusals : Refusals)
-    → Finished DoesScriptLine BreaksScriptLine ClosesScript GivesUp first ending closing source left told_first told final refusals
+    → Finished DoesScriptLine BreaksScriptLine WithdrawsLine ClosesScript GivesUp first ending closing source left told_first told final refusals
     → ended_by ending closing ≢ Halted NoMemory → StageSaved first → StageSaved final
 script_saved laws first final ending closing source left told_first told refusals finished found saved = answered_keeps StageSaved
     (λ number line old new reply does kept. all_on SavesDump old.database.access new.database.access (line_answered laws number line old new reply does).saved kept)

@@ -21,9 +21,10 @@ use Rattle.session_runs.specs.RunAnswers.{AnswersPause, AnswersResume, AnswersSt
 use Rattle.console.specs.DatabaseLines.{BreaksDatabase}
 use Rattle.session_commands.specs.declared.passed_over.PassedOver.{PassedOver}
 use Rattle.session_commands.specs.NothingSaid.{NothingSaid, own_point}
+use Rattle.session_commands.proofs.WithdrawnLaws.{withdrawn}
 use Rattle.session_commands.specs.Stages.{SessionStage, members_declared, opened_runs, runs_with_quota, with_quota}
 use Rattle.session_commands.specs.RunLines.{BreaksStart, BreaksStop, ClosesRun, CutsOpening, CutsRun, DoesPause, DoesResume, DoesStart, DoesStop, OpensSession, PausesBy, ResumesBy, RunsCommand, StartsBy, StopsBy}
-use Rattle.session_commands.specs.ScriptLines.{BreaksScriptLine, CallsDatabase, ClosesScript, DoesScriptLine, GivesUp}
+use Rattle.session_commands.specs.ScriptLines.{BreaksScriptLine, CallsDatabase, ClosesScript, DoesScriptLine, GivesUp, WithdrawsLine}
 use Rattle.session_commands.specs.Keeping.{MayKeep, RunsKept, StageKept}
 use Rattle.session_commands.proofs.LineKinds.{LineCut, CutsCalls, CutsStartLine, CutsStopLine, LineKind, CallsRows, Declares, IsPause, IsResume, IsStart, IsStill, IsStop, SetsQuota, line_cut, line_kind}
 use Rattle.session_commands.proofs.SpareLaws.{SpareLaws, SparesOn, broken_on, cut_on, database_on}
@@ -235,6 +236,10 @@ cut_keeps laws old new (CutsCalls command broke same) kept = other_breaks laws c
 
 pub line_breaks : FitLaws → (number : ℕ) (line : Read Command) (old new : SessionStage) → BreaksScriptLine number line old new → StageKept old → StageKept new
 line_breaks laws number line old new broke kept = cut_keeps laws old new (line_cut number line old new broke) kept
+
+-- Where what was noted of a line is taken out again.
+pub withdraw_keeps : (number : ℕ) (old new : SessionStage) → WithdrawsLine number old new → StageKept old → StageKept new
+withdraw_keeps number old new withdrew kept = subst StageKept (sym (withdrawn number old new withdrew)) kept
 
 -- Behind all lines.
 

@@ -29,9 +29,10 @@ use Rattle.console.specs.DatabaseStages.{DatabaseStage}
 use Rattle.console.specs.DatabaseLines.{PerformsDump}
 use Rattle.console.specs.Playing.{PlaysFrom}
 use Rattle.console.specs.Closing.{Finished}
-use Rattle.console.proofs.KeepingLaws.{closing_keeps, cut_keeps, plays_keep}
+use Rattle.console.proofs.KeepingLaws.{behind_keeps, plays_keep}
+use Rattle.session_commands.proofs.WithdrawnLaws.{withdrawn}
 use Rattle.session_commands.specs.Stages.{SessionStage}
-use Rattle.session_commands.specs.ScriptLines.{BreaksScriptLine, ClosesScript, DoesScriptLine, GivesUp}
+use Rattle.session_commands.specs.ScriptLines.{BreaksScriptLine, ClosesScript, DoesScriptLine, GivesUp, WithdrawsLine}
 use Rattle.session_commands.specs.KeptDumps.{EachSavesWhole, IsSavedWhole}
 use Rattle.session_commands.proofs.DumpLaws.{closed_goes_on, cut_goes_on, files_seen, given_up_goes_on, line_goes_on}
 use Rattle.session_commands.proofs.SpareLaws.{SpareLaws, SparesOn}
@@ -104,22 +105,21 @@ lines_saved laws number [] replies old new final plays behind = tt
 lines_saved laws number (line ∷ lines) [] old new final plays behind = tt
 lines_saved laws number (line ∷ lines) (reply ∷ replies) old new final plays behind = (
   λ name bytes at is. behind name bytes
-      (plays_keep DoesScriptLine BreaksScriptLine ClosesScript GivesUp (SavedIn name bytes) (line_keeps laws name bytes) (number + 1) lines replies plays.0 new plays.2
+      (plays_keep DoesScriptLine BreaksScriptLine WithdrawsLine ClosesScript GivesUp (SavedIn name bytes) (line_keeps laws name bytes) (number + 1) lines replies plays.0 new plays.2
       (line_saved laws number (command_of line) old reply plays.0 plays.1 name bytes at is)),
   lines_saved laws (number + 1) lines replies plays.0 new final plays.2 behind,
 )
 
 -- A whole script.
 pub script_saves : SpareLaws → (first final : SessionStage) (ending : Ending) (closing : Option Halt) (source left : SourceTold) (told_first told : Option (List ℕ)) (refusals : Refusals)
-    → (finished : Finished DoesScriptLine BreaksScriptLine ClosesScript GivesUp first ending closing source left told_first told final refusals)
+    → (finished : Finished DoesScriptLine BreaksScriptLine WithdrawsLine ClosesScript GivesUp first ending closing source left told_first told final refusals)
     → EachSavesWhole finished.lines finished.replies (own_watched final.database.access) final.database.files.seen.done
 script_saves laws first final ending closing source left told_first told refusals finished =
     lines_saved laws 1 finished.lines finished.replies first finished.between final finished.plays
     (λ name bytes saved.
-    closing_keeps DoesScriptLine BreaksScriptLine ClosesScript GivesUp (SavedIn name bytes)
+    behind_keeps DoesScriptLine BreaksScriptLine WithdrawsLine ClosesScript GivesUp (SavedIn name bytes)
+    (λ number old new withdrew saved. subst (SavedIn name bytes) (sym (withdrawn number old new withdrew)) saved)
+    (λ number line old new broke. saved_on name bytes old new (line_breaks laws number line old new broke) (cut_goes_on number line old new broke))
     (λ old new reply closed. saved_on name bytes old new (run_closes laws old.runs old reply new closed).spares (closed_goes_on old reply new closed))
     (λ old new gave. saved_on name bytes old new (stop_breaks laws old.runs old new gave.1) (given_up_goes_on old new gave))
-    closing finished.behind finished.cut final finished.closed
-    (cut_keeps DoesScriptLine BreaksScriptLine ClosesScript GivesUp (SavedIn name bytes)
-    (λ number line old new broke. saved_on name bytes old new (line_breaks laws number line old new broke) (cut_goes_on number line old new broke))
-    ending source left finished.lines finished.between finished.cut finished.is_cut saved))
+    first final ending closing source left told_first told refusals finished saved)

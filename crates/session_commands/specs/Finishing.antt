@@ -12,7 +12,7 @@ use Rattle.session_runs.specs.KeptRuns.{RunsSeen}
 use Rattle.console.specs.declared.refusals.Refusals.{Refusals}
 use Rattle.console.specs.DatabaseStages.{DatabaseStage}
 use Rattle.session_commands.specs.Stages.{SessionStage, open_stage, unopened_stage}
-use Rattle.session_commands.specs.ScriptLines.{BreaksScriptLine, ClosesScript, DoesScriptLine, GivesUp, opens_session}
+use Rattle.session_commands.specs.ScriptLines.{BreaksScriptLine, ClosesScript, DoesScriptLine, GivesUp, opens_session, WithdrawsLine}
 use Rattle.console.specs.declared.endings.Ending.{Ending}
 use Rattle.console.specs.declared.halts.Halt.{Halt}
 use Rattle.console.specs.Playing.{HasLine, OpensAt, Played}
@@ -77,7 +77,7 @@ script_point source sink script =
 abbrev pub FinishedAt : (first : SessionStage) (source : SourceTold) (written : Option (List ℕ)) (ending : Ending) (closing : Option Halt)
     (behind : ScriptAt) (final : SessionStage) → Type 0
 FinishedAt first source written ending closing behind final =
-    Finished DoesScriptLine BreaksScriptLine ClosesScript GivesUp first ending closing source behind.source written behind.written
+    Finished DoesScriptLine BreaksScriptLine WithdrawsLine ClosesScript GivesUp first ending closing source behind.source written behind.written
     final behind.refusals
 
 -- From the line that was read on, a script is played to its end, however it began.
@@ -99,8 +99,8 @@ FinishesOpening at behind now final ending closing =
 abbrev pub UnopenedFinish : Type 0
 UnopenedFinish = (first now : SessionStage) (ending : Ending) (source left : SourceTold) (told_first told : Option (List ℕ))
     (refusals : Refusals) →
-    Played DoesScriptLine BreaksScriptLine first ending source left told_first told now refusals → now.runs ≡ None →
-    Finished DoesScriptLine BreaksScriptLine ClosesScript GivesUp first ending None source left told_first told now refusals
+    Played DoesScriptLine BreaksScriptLine WithdrawsLine first ending source left told_first told now refusals → now.runs ≡ None →
+    Finished DoesScriptLine BreaksScriptLine WithdrawsLine ClosesScript GivesUp first ending None source left told_first told now refusals
 
 -- An open session was played from the line that opened it to the end of its script, and its engine was closed by the main
 -- thread's last call there: these are the records of its runs, and the main thread's own calls on the engine.

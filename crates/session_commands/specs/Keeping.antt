@@ -60,6 +60,6 @@ SavesDump entry = ⊤
 abbrev pub AllSaved : List WatchEntry → Type 0
 AllSaved calls = AllByRecursion SavesDump calls
 
--- So it is with the calls of the main thread on the database.
+-- Each call of the main thread that asked for the database's text got it.
 abbrev pub StageSaved : SessionStage → Type 0
 StageSaved s = AllSaved (own_watched s.database.access)

@@ -11,7 +11,7 @@ use Rattle.console.specs.declared.refusals.Refusals.{Refusals}
 use Rattle.console.specs.declared.replies.Reply.{Reply}
 use Rattle.odb_watch.specs.DatabasePorts.{own_watched}
 use Rattle.session_commands.specs.Stages.{SessionStage}
-use Rattle.session_commands.specs.ScriptLines.{BreaksScriptLine, ClosesScript, DoesScriptLine, GivesUp}
+use Rattle.session_commands.specs.ScriptLines.{BreaksScriptLine, ClosesScript, DoesScriptLine, GivesUp, WithdrawsLine}
 use Rattle.session_commands.specs.Endings.{NotesFailed, OneReply, asks_files, is_fault}
 use Rattle.session_commands.specs.Keeping.{EndsOver, StageKept, StageSaved, StageSpares}
 use Rattle.session_commands.specs.KeptDumps.{EachSavesWhole, KeepsDumps}
@@ -43,6 +43,6 @@ pub record KeptByScript (lines : List (List ℕ)) (replies : List Reply) (ending
 abbrev pub ScriptsKeep : Type 0
 ScriptsKeep = (first final : SessionStage) (ending : Ending) (closing : Option Halt) (source left : SourceTold)
     (told_first told : Option (List ℕ)) (refusals : Refusals) →
-    (finished : Finished DoesScriptLine BreaksScriptLine ClosesScript GivesUp first ending closing source left told_first told final
+    (finished : Finished DoesScriptLine BreaksScriptLine WithdrawsLine ClosesScript GivesUp first ending closing source left told_first told final
     refusals) →
     KeptByScript finished.lines finished.replies ending closing first final

@@ -36,7 +36,7 @@ abbrev pub SavesWhole : Read Command → Reply → (calls : List WatchEntry) →
 SavesWhole line reply calls done =
     (name : List ℕ) (bytes : ℕ) → line ≡ Ok (on_watches (Save name)) → reply ≡ Watch (Saved bytes) → IsSavedWhole calls done name bytes
 
--- So it is of each of these lines, by its reply.
+-- Of each of these lines a `save` that was answered to be done made its file whole.
 abbrev pub EachSavesWhole : (lines : List (List ℕ)) → (replies : List Reply) → (calls : List WatchEntry) → (done : List FileDone) →
     Type 0
 EachSavesWhole [] replies calls done = ⊤

@@ -5,9 +5,11 @@ use Rattle.odb_watch.specs.DatabasePorts.{DatabaseAccess}
 use Rattle.session_runs.specs.KeptRuns.{RunsSeen}
 use Rattle.session_runs.specs.RunAnswers.{CommandPoint, point_of}
 
+-- Nothing is said here of what the members did meanwhile: their own contracts say it.
 abbrev pub NothingSaid : (before after : PassedOver) → Type 0
 NothingSaid before after = ⊤
 
+-- the members, passed over
 abbrev pub nobody : PassedOver
 nobody = record {}
 

@@ -86,16 +86,20 @@ pub record RunsCommand (Does : RunReply → (old new : SessionStage) → (before
   pub files : new.database.files ≡ old.database.files
   pub replies : new.database.replies ≡ old.database.replies
 
+-- A start of an open session, as its calls on the clock, the database and the engine answer it.
 abbrev pub StartsBy : RunReply → (old new : SessionStage) → (before after : RunsSeen) → Type 0
 StartsBy reply old new before after = AnswersStart NothingSaid reply old.clock new.clock (own_point before old.database.access) (own_point after new.database.access)
 
+-- A stop of an open session, likewise.
 abbrev pub StopsBy : RunReply → (old new : SessionStage) → (before after : RunsSeen) → Type 0
 StopsBy reply old new before after = AnswersStop NothingSaid reply old.clock new.clock (own_point before old.database.access) (own_point after new.database.access)
 
+-- A pause of an open session, likewise: it reads no clock.
 abbrev pub PausesBy : RunReply → (old new : SessionStage) → (before after : RunsSeen) → Type 0
 PausesBy reply old new before after =
     AnswersPause NothingSaid reply (own_point before old.database.access) (own_point after new.database.access) × (new.clock ≡ old.clock)
 
+-- A resume of an open session, likewise: it reads no clock.
 abbrev pub ResumesBy : RunReply → (old new : SessionStage) → (before after : RunsSeen) → Type 0
 ResumesBy reply old new before after =
     AnswersResume NothingSaid reply (own_point before old.database.access) (own_point after new.database.access) × (new.clock ≡ old.clock)
@@ -146,22 +150,27 @@ pub record CutsOpening (old new : SessionStage) : Type 0 where
 
 -- The commands, by whether the session is open. One that is not open is stopped.
 
+-- A start: where the session is not open, it is opened first, and then started.
 abbrev pub DoesStart : Option RunsSeen → (old : SessionStage) → Reply → (new : SessionStage) → Type 0
 DoesStart None old reply new =
     (ready : SessionStage) × (opened : RunsSeen) × (ready.runs ≡ Some opened) × OpensSession old ready × RunsCommand StartsBy opened ready reply new
 DoesStart (Some runs) old reply new = RunsCommand StartsBy runs old reply new
 
+-- There is no session open, so that nothing is on that could be stopped, paused or resumed: nothing is done.
 abbrev pub IsStopped : (old : SessionStage) → Reply → (new : SessionStage) → Type 0
 IsStopped old reply new = (reply ≡ WrongState Stopped) × (new ≡ old)
 
+-- A stop: of an open session, by the calls that answer it.
 abbrev pub DoesStop : Option RunsSeen → (old : SessionStage) → Reply → (new : SessionStage) → Type 0
 DoesStop None old reply new = IsStopped old reply new
 DoesStop (Some runs) old reply new = RunsCommand StopsBy runs old reply new
 
+-- A pause, likewise.
 abbrev pub DoesPause : Option RunsSeen → (old : SessionStage) → Reply → (new : SessionStage) → Type 0
 DoesPause None old reply new = IsStopped old reply new
 DoesPause (Some runs) old reply new = RunsCommand PausesBy runs old reply new
 
+-- A resume, likewise.
 abbrev pub DoesResume : Option RunsSeen → (old : SessionStage) → Reply → (new : SessionStage) → Type 0
 DoesResume None old reply new = IsStopped old reply new
 DoesResume (Some runs) old reply new = RunsCommand ResumesBy runs old reply new
@@ -171,6 +180,7 @@ pub record CutsRun (before : RunsSeen) (old new : SessionStage) : Type 0 where
   pub cut : CutsStart old.clock new.clock (own_point before old.database.access) (own_point before new.database.access)
   pub same : new ≡ record old { clock = new.clock; database = record old.database { access = new.database.access } }
 
+-- A start for which memory was wanting: as the session was opened, or behind that, before its run was begun.
 abbrev pub BreaksStart : Option RunsSeen → (old new : SessionStage) → Type 0
 BreaksStart None old new =
     CutsOpening old new ⊎ ((ready : SessionStage) × (opened : RunsSeen) × (ready.runs ≡ Some opened) × OpensSession old ready × CutsRun opened ready new)
@@ -190,10 +200,12 @@ BreaksStop (Some runs) old new = (after : RunsSeen) × (new ≡ behind_command o
 
 -- What is done behind all lines: where a run is on, it is stopped as by the command.
 
+-- A session is open, and a run is on in it.
 abbrev pub runs_on : Option RunsSeen → Type 0
 runs_on None = ⊥
 runs_on (Some runs) = (run : _) × (runs.on ≡ Some run)
 
+-- With no session, or no run on, nothing is done and nothing replied.
 abbrev pub ClosesRun : Option RunsSeen → (old : SessionStage) → Option Reply → (new : SessionStage) → Type 0
 ClosesRun None old reply new = (reply ≡ None) × (new ≡ old)
 ClosesRun (Some runs) old None new = (runs.on ≡ None) × (new ≡ old)

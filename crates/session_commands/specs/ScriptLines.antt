@@ -12,14 +12,14 @@ use Rattle.console.specs.declared.replies.Reply.{Reply}
 use Rattle.console.specs.declared.replies.Reply.TheVariants.{Silent, BadCommand}
 use Rattle.session_commands.specs.Stages.{SessionStage, with_quota}
 use Rattle.session_commands.specs.SetupReplies.{DoesDeclaration}
-use Rattle.console.specs.DatabaseLines.{BreaksDatabase, DoesDatabase}
+use Rattle.console.specs.DatabaseLines.{BreaksDatabase, DoesDatabase, WithdrawsEntry}
 use Rattle.session_commands.specs.RunLines.{BreaksStart, BreaksStop, ClosesRun, DoesPause, DoesResume, DoesStart, DoesStop, runs_on}
 
--- a declaration
+-- A declaration: what is declared changes as it says, and nothing else.
 abbrev pub SetsUp : Declaration → (old : SessionStage) → Reply → (new : SessionStage) → Type 0
 SetsUp declaration old reply new = DoesDeclaration declaration old.declared reply new.declared × (new ≡ record old { declared = new.declared })
 
--- a command for runs
+-- A command for runs: `events` sets how many events the next runs have, and the others are done as above.
 abbrev pub DoesRunCommand : RunCommand → (old : SessionStage) → Reply → (new : SessionStage) → Type 0
 DoesRunCommand (Events count) old reply new = (reply ≡ Silent) × (new ≡ with_quota count old)
 DoesRunCommand Start old reply new = DoesStart old.runs old reply new
@@ -47,6 +47,7 @@ DoesScriptLine number (Ok command) old reply new = DoesCommand number command ol
 -- Memory ended before the line of this number was answered, and so much was done of it. Only a start, a stop and the commands of
 -- the online database take memory.
 
+-- of a command for runs
 abbrev pub BreaksRunCommand : RunCommand → (old new : SessionStage) → Type 0
 BreaksRunCommand (Events count) old new = ⊥
 BreaksRunCommand Start old new = BreaksStart old.runs old new
@@ -54,6 +55,7 @@ BreaksRunCommand Stop old new = BreaksStop old.runs old new
 BreaksRunCommand Pause old new = ⊥
 BreaksRunCommand Resume old new = ⊥
 
+-- of any command
 abbrev pub BreaksCommand : Command → (old new : SessionStage) → Type 0
 BreaksCommand Nothing old new = ⊥
 BreaksCommand Exit old new = ⊥
@@ -61,9 +63,14 @@ BreaksCommand (Declare declaration) old new = ⊥
 BreaksCommand (Run command) old new = BreaksRunCommand command old new
 BreaksCommand (Database command) old new = BreaksDatabase command old.database new.database × (new ≡ record old { database = new.database })
 
+-- Memory was wanting in a line, by its command: never in one that could not be read.
 abbrev pub BreaksScriptLine : (number : ℕ) → Read Command → (old new : SessionStage) → Type 0
 BreaksScriptLine number (Err refusal) old new = ⊥
 BreaksScriptLine number (Ok command) old new = BreaksCommand command old new
+
+-- There was no memory for the text of the line of this number, the last that was answered: what was noted of it is taken out again.
+abbrev pub WithdrawsLine : (number : ℕ) → (old new : SessionStage) → Type 0
+WithdrawsLine number old new = WithdrawsEntry number old.database new.database × (new ≡ record old { database = new.database })
 
 -- the first start of a session opens it
 abbrev pub opens_session : Read Command → Bool

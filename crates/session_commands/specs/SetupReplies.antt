@@ -59,5 +59,6 @@ abbrev pub SetupUnless : (opened : Bool) → Type 0 → (old : Declared) → Rep
 SetupUnless true Then old reply new = (reply ≡ Setup Opened) × (new ≡ old)
 SetupUnless false Then old reply new = Then
 
+-- What a line that declares does: it is answered by what it declares, and refused once the session is open.
 abbrev pub DoesDeclaration : Declaration → (old : Declared) → Reply → (new : Declared) → Type 0
 DoesDeclaration declaration old reply new = SetupUnless old.opened (TakesDeclaration declaration old reply new) old reply new

@@ -2,14 +2,15 @@
 use Rattle.daq_io.specs.Told.{AheadTold, FilesTold}
 use Rattle.std.specs.Prelude.{ℕ, List, [], map, Option, Some, None}
 use Rattle.std.specs.Option.{option_map}
-use Rattle.mid_logger.specs.ChannelTurns.{logger_name}
 use Rattle.transition_lock.specs.declared.shared.SharedEngine.{SharedEngine}
 use Rattle.odb_watch.specs.DatabasePorts.{DatabaseAccess}
 use Rattle.console.specs.DatabaseStages.{DatabaseStage}
 use Rattle.session_runs.specs.declared.opening.MemberName.{MemberName}
-use Rattle.session_runs.specs.Members.{members_named, registrations}
+use Rattle.session_runs.specs.Members.{member_in, registrations}
 use Rattle.session_runs.specs.MainSeats.{MainSeen}
-use Rattle.session_setup.specs.Setup.{Declared, nothing_declared}
+use Rattle.session_setup.specs.declared.member.MemberDeclared.{MemberDeclared}
+use Rattle.session_setup.specs.DeclaredMembers.{declared_members, name_of_member, role_of_member}
+use Rattle.session_setup.specs.Setup.{Declared, lists_declared, nothing_declared}
 use Rattle.session_runs.specs.KeptRuns.{RunsSeen, channels_of}
 
 -- Where a session stands.
@@ -68,7 +69,8 @@ front_names d = map (λ front. front.name) d.fronts
 
 -- the members of a session of these declarations, as they are registered
 abbrev pub members_declared : Declared → List MemberName
-members_declared d = members_named (front_names d) logger_name (map (λ analyzer. analyzer.name) d.analyzers)
+members_declared d =
+    map (λ (m : MemberDeclared). member_in (role_of_member m) (name_of_member m)) (declared_members (lists_declared d))
 
 -- what the main thread keeps as a session opens: no run yet, the members and the channels as they were declared, and the engine,
 -- on which it registered the members

@@ -44,7 +44,7 @@ fn begin_line<R: Wait, M: Rounds>(rt: &R, members: &mut M, begun: &mut bool)
 impl<'a, D: WatchPort, M: Rounds, E: Files, C: Clock> Answerer for Opened<'a, D, M, E, C> {
     ghost use Rattle.session_commands.specs.Stages.{SessionStage, open_stage};
     ghost use Rattle.session_setup.specs.Setup.{declared_by};
-    ghost use Rattle.session_commands.specs.ScriptLines.{BreaksScriptLine, ClosesScript, DoesScriptLine, GivesUp};
+    ghost use Rattle.session_commands.specs.ScriptLines.{BreaksScriptLine, ClosesScript, DoesScriptLine, GivesUp, WithdrawsLine};
     ghost use Rattle.console.specs.DatabaseStages.{database_stage};
     ghost use Rattle.session_commands.specs.Staying.{StaysOpen, stays_open, stays_open_on};
 
@@ -60,6 +60,8 @@ impl<'a, D: WatchPort, M: Rounds, E: Files, C: Clock> Answerer for Opened<'a, D,
     ghost does = { DoesScriptLine };
 
     ghost breaks = { BreaksScriptLine };
+
+    ghost withdraws = { WithdrawsLine };
 
     ghost closes = { ClosesScript };
 
@@ -117,6 +119,11 @@ impl<'a, D: WatchPort, M: Rounds, E: Files, C: Clock> Answerer for Opened<'a, D,
                 self.side.database.answer(rt, alloc, number, &command)
             }
         }
+    }
+
+    /// What came of a line that called the files of the database.
+    fn withdraw(&mut self, number: u64) {
+        self.side.database.withdraw(number);
     }
 
     /// Where a run is on, it is stopped as by the command.

@@ -24,7 +24,7 @@ pub struct Unopened<D: WatchPort, E: Files, C: Clock> {
 
 impl<D: WatchPort, E: Files, C: Clock> Answerer for Unopened<D, E, C> {
     ghost use Rattle.session_commands.specs.Stages.{SessionStage, unopened_stage};
-    ghost use Rattle.session_commands.specs.ScriptLines.{BreaksScriptLine, ClosesScript, DoesScriptLine, GivesUp, opens_session};
+    ghost use Rattle.session_commands.specs.ScriptLines.{BreaksScriptLine, ClosesScript, DoesScriptLine, GivesUp, WithdrawsLine, opens_session};
     ghost use Rattle.console.specs.DatabaseStages.{database_stage};
     ghost use Rattle.odb_watch.specs.DatabasePorts.{IsSamePort};
     ghost use Rattle.std.proofs.Common.{refl, ◌∙◌};
@@ -41,6 +41,8 @@ impl<D: WatchPort, E: Files, C: Clock> Answerer for Unopened<D, E, C> {
     ghost does = { DoesScriptLine };
 
     ghost breaks = { BreaksScriptLine };
+
+    ghost withdraws = { WithdrawsLine };
 
     ghost closes = { ClosesScript };
 
@@ -97,6 +99,11 @@ impl<D: WatchPort, E: Files, C: Clock> Answerer for Unopened<D, E, C> {
                 self.side.database.answer(rt, alloc, number, &command)
             }
         }
+    }
+
+    /// What came of a line that called the files of the database.
+    fn withdraw(&mut self, number: u64) {
+        self.side.database.withdraw(number);
     }
 
     /// There is no run to be stopped.

@@ -8,27 +8,27 @@ use Rattle.console.proofs.playing.play_on.Goals as goal
 
 pub returns-in-Err-clause-did : goal.returns-in-Err-clause-did
 returns-in-Err-clause-did g c = λ first source_first told_first has.
-    halted_at _ _ g.A.Answerer.leaves c.in-Err.halt _ first source_first _ told_first _ _ _ _ _ _ _ _ (c.loop-line.invariant.has first source_first told_first has) c.in-Err.ensures.did
+    halted_at _ _ g.A.Answerer.withdraws g.A.Answerer.leaves c.in-Err.halt _ first source_first _ told_first _ _ _ _ _ _ _ _ (c.loop-line.invariant.has first source_first told_first has) c.in-Err.ensures.did
 
 pub returns-in-Ok-Opens-clause-did : goal.returns-in-Ok-Opens-clause-did
 returns-in-Ok-Opens-clause-did g c = λ first source_first told_first has.
     let opens = c.in-Ok-Opens.field-0-is in
     let given : c.handle.result ≡ Ok going.Opens = c.in-Ok-Opens.is ∙ ap Ok opens in
-    left_next _ _ g.A.Answerer.leaves _ _ first source_first _ told_first _ _ _ _ _ _ _ _ _ _ (c.loop-line.invariant.has first source_first told_first has)
+    left_next _ _ g.A.Answerer.withdraws g.A.Answerer.leaves _ _ first source_first _ told_first _ _ _ _ _ _ _ _ _ _ (c.loop-line.invariant.has first source_first told_first has)
     (rw given at c.handle.ensures.did) c.handle.ensures.reader c.handle.ensures.last (rw given at c.handle.ensures.number)
 
 pub returns-in-Ok-End-clause-did : goal.returns-in-Ok-End-clause-did
 returns-in-Ok-End-clause-did g c = λ first source_first told_first has.
     let ends = c.in-Ok-End.field-0-is in
     let given : c.handle.result ≡ Ok going.End = c.in-Ok-End.is ∙ ap Ok ends in
-    stopped_at _ _ g.A.Answerer.leaves _ first source_first _ told_first _ _ _ _ _ _ _ _ (c.loop-line.invariant.has first source_first told_first has)
+    stopped_at _ _ g.A.Answerer.withdraws g.A.Answerer.leaves _ first source_first _ told_first _ _ _ _ _ _ _ _ (c.loop-line.invariant.has first source_first told_first has)
     (rw given at c.handle.ensures.did)
 
 pub returns-in-Some-clause-did : goal.returns-in-Some-clause-did
 returns-in-Some-clause-did g c = λ first source_first told_first has.
     let on = c.in-Ok-On.field-0-is in
     let given : c.handle.result ≡ Ok going.On = c.in-Ok-On.is ∙ ap Ok on in
-    ends_next _ _ g.A.Answerer.leaves c.in-Some.ending _ _ first source_first _ _ told_first _ _ _ _ _ _ _ _ _ _ _ (c.loop-line.invariant.has first source_first told_first has)
+    ends_next _ _ g.A.Answerer.withdraws g.A.Answerer.leaves c.in-Some.ending _ _ first source_first _ _ told_first _ _ _ _ _ _ _ _ _ _ _ (c.loop-line.invariant.has first source_first told_first has)
     (rw given at c.handle.ensures.did) c.handle.ensures.reader c.in-Some.ensures.read c.next_line.ensures.refusals
 
 pub loop-line-preserved : goal.loop-line-preserved
@@ -38,7 +38,7 @@ loop-line-preserved g c =
     let number = rw given at c.handle.ensures.number in
     record {
       has = λ first source_first told_first has.
-          goes_next _ _ g.A.Answerer.leaves _ _ first source_first _ _ told_first _ _ _ _ _ _ _ _ _ _ _ _ _ (c.loop-line.invariant.has first source_first told_first has)
+          goes_next _ _ g.A.Answerer.withdraws g.A.Answerer.leaves _ _ first source_first _ _ told_first _ _ _ _ _ _ _ _ _ _ _ _ _ (c.loop-line.invariant.has first source_first told_first has)
           (rw given at c.handle.ensures.did) c.handle.ensures.reader number c.in-None.ensures.read c.next_line.ensures.number c.next_line.ensures.refusals;
       fits = c.in-None.ensures.fits;
       count = omega (arith, c.loop-line.invariant.count, number, c.next_line.ensures.number);

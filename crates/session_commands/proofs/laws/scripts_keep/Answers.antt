@@ -1,5 +1,5 @@
-use Rattle.console.proofs.KeepingLaws.{closing_keeps, cut_keeps, plays_keep}
-use Rattle.session_commands.specs.ScriptLines.{BreaksScriptLine, ClosesScript, DoesScriptLine, GivesUp}
+use Rattle.console.proofs.KeepingLaws.{behind_keeps, plays_keep}
+use Rattle.session_commands.specs.ScriptLines.{BreaksScriptLine, ClosesScript, DoesScriptLine, GivesUp, WithdrawsLine}
 use Rattle.session_commands.specs.Keeping.{StageKept}
 use Rattle.session_commands.proofs.CountLaws.{script_counted}
 use Rattle.session_commands.proofs.DumpLaws.{script_keeps}
@@ -8,7 +8,7 @@ use Rattle.session_commands.proofs.OverLaws.{script_over}
 use Rattle.session_commands.proofs.QuotaLaws.{script_asks}
 use Rattle.session_commands.proofs.SpareLaws.{SpareLaws}
 use Rattle.session_commands.proofs.SpareLines.{script_saved, script_spares}
-use Rattle.session_commands.proofs.StageLaws.{FitLaws, line_breaks, line_keeps, script_closes, script_gives_up}
+use Rattle.session_commands.proofs.StageLaws.{FitLaws, line_breaks, line_keeps, script_closes, script_gives_up, withdraw_keeps}
 use Rattle.session_commands.proofs.WholeSaves.{script_saves}
 use Rattle.session_commands.proofs.laws.scripts_keep.Goals as goal
 
@@ -34,10 +34,9 @@ returns c = λ first final ending closing source left told_first told refusals f
     } in
     record {
       kept = λ kept.
-          closing_keeps DoesScriptLine BreaksScriptLine ClosesScript GivesUp StageKept (λ old new reply. script_closes fits old new reply) (script_gives_up fits)
-          closing finished.behind finished.cut final finished.closed
-          (cut_keeps DoesScriptLine BreaksScriptLine ClosesScript GivesUp StageKept (line_breaks fits) ending source left finished.lines finished.between finished.cut finished.is_cut
-          (plays_keep DoesScriptLine BreaksScriptLine ClosesScript GivesUp StageKept (line_keeps fits) 1 finished.lines finished.replies first finished.between finished.plays kept));
+          behind_keeps DoesScriptLine BreaksScriptLine WithdrawsLine ClosesScript GivesUp StageKept withdraw_keeps (line_breaks fits) (λ old new reply. script_closes fits old new reply) (script_gives_up fits)
+          first final ending closing source left told_first told refusals finished
+          (plays_keep DoesScriptLine BreaksScriptLine WithdrawsLine ClosesScript GivesUp StageKept (line_keeps fits) 1 finished.lines finished.replies first finished.between finished.plays kept);
       over = script_over first final ending closing source left told_first told refusals finished;
       spares = script_spares spares first final ending closing source left told_first told refusals finished;
       saved = script_saved spares first final ending closing source left told_first told refusals finished;
